@@ -1,0 +1,9 @@
+pub mod Name
+pub mod Segment
+pub mod SegmentRefused
+pub mod Status
+pub mod Function
+pub mod PaddedName
+pub mod Key
+pub mod PaddedKey
+pub mod SegTypes

@@ -1,0 +1,5 @@
+/// The user code of an abnormal end, printed with four digits behind a U.
+#[derive(Clone, Copy, Debug, PartialEq, Eq, Hash)]
+pub struct AbendCode {
+    pub number: u16,
+}

@@ -1,0 +1,27 @@
+//! The small types that every crate of the transaction manager speaks of: names, segments,
+//! messages and replies, the status codes and the functions of a call.
+#![tactic(auto)]
+
+pub use abend::AbendCode;
+pub use bytes::Bytes;
+pub use dbd::{Dbd, SegType, SegTypes};
+pub use function::Function;
+pub use key::Key;
+pub use message::{Message, Reply};
+pub use name::Name;
+pub use segment::{Segment, SegmentRefused, Segments, is_printable};
+pub use status::Status;
+/// No memory was left. A call that answers this has changed nothing.
+pub use std::alloc::AllocError as Memory;
+
+mod abend;
+mod bytes;
+mod dbd;
+mod function;
+mod key;
+mod message;
+mod name;
+mod segment;
+mod status;
+#[cfg(test)]
+mod tests;

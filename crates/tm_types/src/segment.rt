@@ -1,0 +1,193 @@
+ghost use Rattle.std.specs.Prelude.{◌≡◌, ◌≤◌, ◌<◌, ◌^◌, ◌↔◌, [], ◌∷◌, ◌++◌, length, slice_get, IsTrue, IfOk, IfErr, not, position, OnOk, OnErr};
+ghost use Rattle.std.specs.Option.{option_copied};
+ghost use Rattle.std.specs.Slice.Iter.{iter_rest};
+ghost use Rattle.tm_types.specs.Segment.{IsSegmentText, is_printable, counted_bytes, segment_length};
+ghost use Rattle.tm_types.specs.SegmentRefused.{RefusesText};
+
+use std::alloc::{AllocError, Global};
+use std::marker::Model;
+use std::slice;
+use thiserror::Error;
+
+/// The most bytes that the text of a segment has.
+pub const SEGMENT_LIMIT: usize = 1996;
+
+/// Why a text is no segment.
+#[derive(Debug, Drop, Error)]
+pub enum SegmentRefused {
+    /// The text is longer than 1,996 bytes; its length.
+    #[error("a text of {0} bytes is longer than 1996")]
+    TooLong(usize),
+    /// The place, counted from 0, of the first byte that is not printable.
+    #[error("the byte at place {0} is not printable")]
+    BadByte(usize),
+    #[error("no memory")]
+    Memory,
+}
+
+/// The text of a segment: at most 1,996 bytes, each of them printable, from 32 to 126.
+#[derive(Debug, Drop)]
+pub struct Segment {
+    text: Vec<u8>,
+}
+
+impl Model for Segment {
+    ghost use Rattle.std.specs.Prelude.{ℕ, List};
+    ghost use Rattle.tm_types.specs.Segment.{IsSegmentText};
+
+    ghost Value = { List ℕ };
+
+    ghost view = { λ s. s.text.items };
+
+    ghost invariant = { λ s. IsSegmentText s.text.items };
+}
+
+impl Segment {
+    /// The segment with this text.
+    ///
+    /// It is refused as `TooLong` where the text is longer than 1,996 bytes, else as `BadByte`
+    /// where a byte isn't printable; `Memory` comes only for a text that is neither.
+    #[tactic(auto, using(crate::proofs::Printable::printable_from_position))]
+    pub fn make(alloc: Global, text: &[u8]) -> Result<Segment, SegmentRefused>
+        ensures made { IfOk result (λ segment. segment ≡ text.now) }
+        ensures refused { IfErr result (RefusesText text.now) }
+        ensures valid { OnOk result (IsSegmentText text.now) }
+    {
+        if text.len() > SEGMENT_LIMIT {
+            return Err(SegmentRefused::TooLong(text.len()));
+        }
+        if let Some(place) = first_unprintable(text) {
+            return Err(SegmentRefused::BadByte(place));
+        }
+        match Vec::from_slice(alloc, text) {
+            Ok(text) => Ok(Segment { text }),
+            Err(_) => Err(SegmentRefused::Memory),
+        }
+    }
+
+    /// The text of the segment.
+    pub fn text(&self) -> &[u8]
+        ensures value { result.now ≡ self.now }
+        ensures valid { IsSegmentText self.now }
+    {
+        &self.text
+    }
+}
+
+impl Segment {
+    /// LL, the length that a segment counts: 4 more than its text.
+    pub fn counted_length(&self) -> u64
+        ensures { result ≡ segment_length self.now }
+    {
+        4 + self.text().len() as u64
+    }
+}
+
+impl Clone for Segment {
+    ghost is_clone = { λ segment copy. copy ≡ segment };
+
+    fn clone(&self) -> Result<Segment, AllocError>
+        ensures { IfOk result (λ copy. copy ≡ self.now) }
+    {
+        Ok(Segment {
+            text: Vec::from_slice(*self.text.allocator(), &self.text)?,
+        })
+    }
+}
+
+fn first_unprintable(text: &[u8]) -> Option<usize>
+    ensures { result ≡ position (λ b. not (is_printable b)) text.now }
+{
+    text.iter().position(|&b| !is_printable(b))
+}
+
+/// Whether the byte is printable, from 32 to 126.
+pub fn is_printable(b: u8) -> bool
+    ensures { result ≡ is_printable b }
+{
+    b >= 32 && b <= 126
+}
+
+/// The segments of a message or reply, in order.
+#[derive(Debug, Drop)]
+pub struct Segments {
+    items: Vec<Segment>,
+}
+
+impl Model for Segments {
+    ghost use Rattle.std.specs.Prelude.{ℕ, List};
+
+    ghost Value = { List (List ℕ) };
+
+    ghost view = { λ s. s.items.items };
+}
+
+impl Segments {
+    /// No segments. This takes no memory.
+    pub fn new(alloc: Global) -> Segments
+        ensures { result ≡ [] }
+    {
+        Segments {
+            items: Vec::new(alloc),
+        }
+    }
+
+    /// Adds a segment at the end.
+    pub fn push(&mut self, segment: Segment) -> Result<(), AllocError>
+        ensures ok { OnOk result (self.new ≡ self.old ++ segment ∷ []) }
+        ensures err { OnErr result (self.new ≡ self.old) }
+    {
+        self.items.push(segment)?;
+        Ok(())
+    }
+
+    /// How many segments these are.
+    pub fn len(&self) -> usize
+        ensures { result ≡ length self.now }
+    {
+        self.items.len()
+    }
+
+    pub fn is_empty(&self) -> bool
+        ensures { IsTrue result ↔ (self.now ≡ []) }
+    {
+        self.items.is_empty()
+    }
+
+    /// The segment at this index, counted from 0.
+    pub fn get(&self, index: usize) -> Option<&Segment>
+        ensures { option_copied result ≡ slice_get self.now index }
+    {
+        self.items.get(index)
+    }
+
+    /// The bytes that a message or a reply with these segments counts: 48 plus the LLs.
+    pub fn counted_bytes(&self) -> u64
+        requires { counted_bytes self.now < 2 ^ 64 }
+        ensures { result ≡ counted_bytes self.now }
+    {
+        48 + self
+            .items
+            .iter()
+            .map(|segment| segment.counted_length())
+            .sum::<u64>()
+    }
+
+    pub fn iter(&self) -> slice::Iter<'_, Segment>
+        ensures { iter_rest result ≡ self.now }
+    {
+        self.items.iter()
+    }
+}
+
+impl Clone for Segments {
+    ghost is_clone = { λ segments copy. copy ≡ segments };
+
+    fn clone(&self) -> Result<Segments, AllocError>
+        ensures { IfOk result (λ copy. copy ≡ self.now) }
+    {
+        Ok(Segments {
+            items: self.items.clone()?,
+        })
+    }
+}
