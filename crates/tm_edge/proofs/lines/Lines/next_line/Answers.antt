@@ -1,0 +1,26 @@
+use Rattle.std.proofs.Common.{◌≡◌, ◌∙◌, ap, subst, List, ℕ, length, rules}
+use Rattle.std.specs.Prelude.{Option, IfSome}
+use Rattle.std.specs.Io.KnownBytes.{prepend_known, IsAtEnd}
+use Rattle.tm_edge.specs.Buffer.{held_bytes}
+use Rattle.tm_edge.specs.Lines.{line_size, unread, IsTooLong, ServesTold}
+use Rattle.tm_edge.proofs.Served.{serves_told, too_long_told}
+use Rattle.tm_edge.proofs.lines.Lines.next_line.Goals as goal
+
+pub returns-in-Ok-read_line-clause-line : goal.returns-in-Ok-read_line-clause-line
+returns-in-Ok-read_line-clause-line g c =
+    let left : Option (List ℕ) = g.S.Source.left c.read_line.new.source in
+    let before : prepend_known (held_bytes c.read_line.new.buffer) left ≡ unread c.args.self.now (g.S.Source.left c.args.source.now) =
+    c.read_line.ensures.told ∙ ap (λ (xs : List ℕ). prepend_known xs (g.S.Source.left c.args.source.now)) (c.reserve.ensures.held ∙ c.self.view_is) in
+    let whole : line_size (held_bytes c.read_line.new.buffer) ≡ length (held_bytes c.read_line.new.buffer) → IsAtEnd left =
+    λ h. c.in-Ok-read_line.ensures.whole (c.in-Ok-read_line.ensures.size ∙ h) in
+    let P : Option (List ℕ) → Type 0 = λ told. ServesTold told c.serve.result (prepend_known (held_bytes c.serve.new.buffer) left) in
+    subst P before (serves_told _ _ c.serve.result left whole c.serve.ensures)
+
+pub returns-clause-too_long : goal.returns-clause-too_long
+returns-clause-too_long g c = λ _.
+    let left : Option (List ℕ) = g.S.Source.left c.read_line.new.source in
+    let before : prepend_known (held_bytes c.read_line.new.buffer) left ≡ unread c.args.self.now (g.S.Source.left c.args.source.now) =
+    c.read_line.ensures.told ∙ ap (λ (xs : List ℕ). prepend_known xs (g.S.Source.left c.args.source.now)) (c.reserve.ensures.held ∙ c.self.view_is) in
+    let long : IsTooLong (held_bytes c.read_line.new.buffer) = search rules in
+    let P : Option (List ℕ) → Type 0 = λ told. IfSome told IsTooLong in
+    subst P before (too_long_told _ left long)

@@ -1,0 +1,4 @@
+pub mod Fault
+pub mod Feed
+pub mod Lines
+pub mod Buffer
