@@ -1,0 +1,16 @@
+//! The one-message machine: what the control region's calls mean.
+//!
+//! The crate holds definitions and the small types that they speak of, and almost no code. A
+//! control region is proved to be this machine: each of its calls adds one entry to its history,
+//! and the history is legal.
+#![tactic(auto)]
+
+pub use built_in::{code_name, terminal_name};
+pub use entry::{Accepted, AckAnswer, ControlCall, Entry, ShowAnswer};
+pub use lasting::{Lasting, Replies, Terminal};
+pub use script::{CallText, Need, ScriptLine, Variable};
+
+mod built_in;
+mod entry;
+mod lasting;
+mod script;
