@@ -1,0 +1,5 @@
+pub mod Printed
+pub mod Serving
+pub mod Outcome
+pub mod Driving
+pub mod Headline

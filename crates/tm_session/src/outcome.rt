@@ -1,0 +1,41 @@
+use std::marker::Model;
+use tm_control::Life;
+
+/// How a session ended. Each has a status number and, mostly, a last line.
+#[derive(Clone, Copy, Debug)]
+pub enum Ended {
+    /// The source was read to its end.
+    Done,
+    /// The words are not in the grammar: the number of the word, counted from 1, and the rule.
+    Words(u32, u32),
+    /// The source failed.
+    Read,
+    /// The sink failed.
+    Write,
+    /// No memory was left.
+    Memory,
+    /// A limit was met: 4097, a line of that many bytes or more; 1000001, a line past a million.
+    Limit(u64),
+}
+
+/// The lives of a session, in their order.
+#[derive(Debug, Drop)]
+pub struct Lives {
+    pub items: Vec<Life>,
+}
+
+impl Model for Lives {
+    ghost use Rattle.std.specs.Prelude.{List};
+    ghost use Rattle.tm_control.specs.declared.life.Life.{Life};
+
+    ghost Value = { List Life };
+
+    ghost view = { λ l. l.items.items };
+}
+
+/// What a session came to.
+#[derive(Debug, Drop)]
+pub struct Outcome {
+    pub status: Ended,
+    pub lives: Lives,
+}
