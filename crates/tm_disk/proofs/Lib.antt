@@ -1,0 +1,5 @@
+pub mod Crash
+pub mod Picks
+pub mod Keeping
+pub mod Past
+pub mod States

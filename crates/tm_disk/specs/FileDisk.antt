@@ -1,0 +1,37 @@
+-- A disk in a file, of which nothing is told but its size and its counts.
+use Rattle.std.specs.Prelude.{ℕ, ◌<◌, ◌^◌, false, replicate, [], None}
+use Rattle.std.proofs.lemmas.Bool.{false≢true}
+use Rattle.std.proofs.lemmas.List.{length-replicate}
+use Rattle.model_disk.specs.Disk.{DiskState, IsDisk}
+use Rattle.tm_disk.specs.declared.file_disk.FileDisk.{FileDisk}
+
+abbrev pub silent_state : ℕ → ℕ → ℕ → DiskState
+silent_state size faults writes = record {
+  size = size;
+  tells = false;
+  shown = replicate size [];
+  may_leave = λ image. ⊥;
+  clock = 0;
+  left_since = λ time image. ⊥;
+  faults = faults;
+  writes = writes;
+  can_arm = false;
+  until_stop = None;
+}
+
+pub silent_law : (size faults writes : ℕ) → size < 2 ^ 32 → IsDisk (silent_state size faults writes)
+silent_law size faults writes fits = record {
+  size_fits = fits;
+  shown_size = length-replicate size [];
+  image_size = λ time image left. absurd left;
+  shown_left = λ tells. false≢true tells;
+  silent = λ silent time image left. left;
+  now_counts = λ time image early left. left;
+  now_alone = λ image left. left;
+}
+
+abbrev pub state_of : FileDisk → DiskState
+state_of disk = silent_state disk.size disk.faults disk.writes
+
+pub disk_law : (disk : FileDisk) → IsDisk (state_of disk)
+disk_law disk = silent_law disk.size disk.faults disk.writes disk.size_fits

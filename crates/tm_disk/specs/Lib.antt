@@ -1,0 +1,9 @@
+pub mod Contents
+pub mod Count
+pub mod FileDisk
+pub mod MemDisk
+pub mod MemState
+pub mod MomentLaws
+pub mod Moments
+pub mod Plan
+pub mod Sector

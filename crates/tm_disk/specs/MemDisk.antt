@@ -1,0 +1,67 @@
+-- What a disk in memory shows of itself.
+use Rattle.std.specs.Prelude.{◌≡◌, ◌⊎◌, ℕ, ◌+◌, List, length, Bool, IsTrue, if◌then◌else◌}
+use Rattle.std.proofs.Common.{◌∙◌}
+use Rattle.std.proofs.lemmas.List.{length-replicate}
+use Rattle.model_disk.specs.Disk.{DiskState, IsDisk, is_due, is_stopped}
+use Rattle.tm_disk.specs.Sector.{blank}
+use Rattle.tm_disk.specs.Moments.{Moment, zero_disk, after_write}
+use Rattle.tm_disk.specs.Count.{raised}
+use Rattle.tm_disk.specs.declared.record.Before.{Before}
+use Rattle.tm_disk.specs.MomentLaws.{size-moments_past}
+use Rattle.tm_disk.specs.Contents.{now_of, past_of}
+use Rattle.tm_disk.specs.Plan.{IsListed}
+use Rattle.tm_disk.specs.MemState.{mem_state, mem_is_disk}
+use Rattle.tm_disk.specs.declared.mem_disk.MemDisk.{MemDisk}
+
+-- the moment at which it is
+abbrev pub moment_of : MemDisk → Moment
+moment_of disk = now_of disk.contents
+
+abbrev pub state_of : MemDisk → DiskState
+state_of disk = mem_state (now_of disk.contents) (past_of disk.contents) disk.plan.faults disk.plan.writes disk.plan.until_stop
+
+-- the calls that fail, and how many calls there were
+abbrev pub fails_at : MemDisk → List ℕ
+fails_at disk = disk.plan.fail_at.items
+
+abbrev pub calls_of : MemDisk → ℕ
+calls_of disk = disk.plan.calls
+
+-- how many writes met want of memory
+abbrev pub starved_of : MemDisk → ℕ
+starved_of disk = disk.plan.starved
+
+-- how many writes its record has
+abbrev pub recorded : MemDisk → ℕ
+recorded disk = length disk.contents.writes.items
+
+-- the next call is listed, or the disk has stopped
+abbrev pub MustFail : MemDisk → Type 0
+MustFail disk = IsListed disk.plan ⊎ IsTrue (is_stopped disk.plan.until_stop)
+
+-- the next call is listed, or meets the stop as a write, or its record is full
+abbrev pub MustFailToWrite : MemDisk → Type 0
+MustFailToWrite disk = IsListed disk.plan ⊎ IsTrue (is_due disk.plan.until_stop) ⊎ (recorded disk ≡ 262144)
+
+-- What each call of `read`, `write` and `sync` counts.
+pub record CountsCall (old new : MemDisk) (failed : Bool) : Type 0 where
+  pub fails_at : fails_at new ≡ fails_at old
+  pub calls : calls_of new ≡ raised (calls_of old)
+  pub faults : (state_of new).faults ≡ (if failed then raised (state_of old).faults else (state_of old).faults)
+
+-- One more write was made, or may have been.
+pub record AddsWrite (at : ℕ) (sector : List ℕ) (old new : MemDisk) : Type 0 where
+  pub before : Before
+  pub moment : moment_of new ≡ after_write (record { at = at; content = sector; before = before }) (moment_of old)
+  pub recorded : recorded new ≡ recorded old + 1
+
+-- What no call but a write changes.
+pub record SameRecord (old new : MemDisk) : Type 0 where
+  pub starved : starved_of new ≡ starved_of old
+  pub recorded : recorded new ≡ recorded old
+
+pub disk_law : (disk : MemDisk) → IsDisk (state_of disk)
+disk_law disk =
+    let c = disk.contents in
+    mem_is_disk (now_of c) (past_of c) disk.plan.faults disk.plan.writes disk.plan.until_stop c.sound.size_fits
+    (λ image left. size-moments_past (zero_disk (length c.synced.items)) c.writes.items c.pending image left ∙ length-replicate (length c.synced.items) blank)

@@ -1,0 +1,33 @@
+-- A disk in memory as its trait sees it.
+use Rattle.std.specs.Prelude.{◌≡◌, ◌⊎◌, ℕ, ◌<◌, ◌^◌, true, List, length, drop, Option}
+use Rattle.std.proofs.Common.{⊎_elim, inl}
+use Rattle.std.proofs.lemmas.Bool.{true≢false}
+use Rattle.model_disk.specs.Disk.{Image, DiskState, IsDisk}
+use Rattle.tm_disk.specs.Moments.{Moment, shown_of, IsLeft, WasLeft}
+use Rattle.tm_disk.specs.MomentLaws.{length-shown_of, shown_is_left, none_left, WasLeft-drop}
+
+-- It tells its contents, and can be armed. Time counts the moments past.
+abbrev pub mem_state : Moment → List Moment → ℕ → ℕ → Option ℕ → DiskState
+mem_state now past faults writes until_stop = record {
+  size = length now.synced;
+  tells = true;
+  shown = shown_of now.synced now.since;
+  may_leave = IsLeft now;
+  clock = length past;
+  left_since = λ time image. IsLeft now image ⊎ WasLeft (drop time past) image;
+  faults = faults;
+  writes = writes;
+  can_arm = true;
+  until_stop = until_stop;
+}
+
+pub mem_is_disk : (now : Moment) (past : List Moment) (faults writes : ℕ) (until_stop : Option ℕ) → length now.synced < 2 ^ 32 → ((image : Image) → WasLeft past image → length image ≡ length now.synced) → IsDisk (mem_state now past faults writes until_stop)
+mem_is_disk now past faults writes until_stop fits size = record {
+  size_fits = fits;
+  shown_size = length-shown_of now.synced now.since;
+  image_size = λ time image left. ⊎_elim (λ (l : IsLeft now image). l.size) (λ (w : WasLeft (drop time past) image). size image (WasLeft-drop time past image w)) left;
+  shown_left = λ tells. shown_is_left now;
+  silent = λ silent time image left. true≢false silent;
+  now_counts = λ time image early left. inl left;
+  now_alone = λ image left. ⊎_elim (λ l. l) (λ (w : WasLeft (drop (length past) past) image). absurd (none_left past image w)) left;
+}

@@ -1,0 +1,25 @@
+-- What a disk in memory counts, and when it fails.
+use Rattle.std.specs.Prelude.{Contains}
+use Rattle.model_disk.specs.Disk.{one_less}
+use Rattle.tm_disk.specs.Count.{raised}
+use Rattle.tm_disk.specs.declared.plan.Plan.{Plan}
+
+-- the call to come is listed
+abbrev pub IsListed : Plan → Type 0
+IsListed plan = Contains plan.fail_at.items (raised plan.calls)
+
+-- after a read or a sync began
+abbrev pub called : Plan → Plan
+called plan = record plan { calls = raised plan.calls }
+
+-- after a write began, which counts towards the stop
+abbrev pub told_to_write : Plan → Plan
+told_to_write plan = record plan { calls = raised plan.calls; writes = raised plan.writes; until_stop = one_less plan.until_stop }
+
+-- after a fault
+abbrev pub faulted : Plan → Plan
+faulted plan = record plan { faults = raised plan.faults }
+
+-- after a write that met want of memory
+abbrev pub starved : Plan → Plan
+starved plan = record plan { faults = raised plan.faults; starved = raised plan.starved }

@@ -1,0 +1,112 @@
+// The sectors of a disk in memory, and each write that was made. Since a sync and a cut only note that they came,
+// neither takes memory.
+ghost use Rattle.std.specs.Prelude.{◌≡◌, ◌+◌, ◌<◌, length};
+ghost use Rattle.tm_disk.specs.Moments.{IsSound};
+
+use crate::Sector;
+use crate::images::{choose, make, take_back};
+use crate::record::{Before, Written};
+use std::alloc::{AllocError, Global};
+
+/// How many writes the record holds.
+pub const RECORD: usize = 262_144;
+
+#[derive(Drop)]
+pub struct Contents {
+    pub shown: Vec<Sector>,
+    pub synced: Vec<Sector>,
+    pub writes: Vec<Written>,
+    // How many of the writes are synced or cut off.
+    pub settled: usize,
+    // What came since the last write.
+    pub pending: Before,
+    // As many numbers as there are sectors, for a cut to count with.
+    pub counts: Vec<u32>,
+    ghost counts_size: { length counts.items ≡ length synced.items },
+    ghost sound: { IsSound shown.items synced.items writes.items settled pending },
+}
+
+impl Contents {
+    ghost use Rattle.std.specs.Prelude.{[], ◌∷◌, ◌++◌, IfOk, OnOk, OnErr, IsTrue, ◌↔◌};
+    ghost use Rattle.model_disk.specs.Disk.{sector_at};
+    ghost use Rattle.tm_disk.specs.Moments.{zero_disk, shown_of, after_write, settled_by};
+    ghost use Rattle.tm_disk.specs.Contents.{now_of, past_of, GoesOn, StaysAt, Settles};
+    ghost use Rattle.tm_disk.specs.declared.record.Before.TheVariants.{Synced, Cut};
+
+    pub fn new(alloc: Global, sectors: u32) -> Result<Contents, AllocError>
+        ensures now { IfOk result (λ c. now_of c ≡ zero_disk sectors) }
+        ensures past { IfOk result (λ c. past_of c ≡ []) }
+        ensures empty { IfOk result (λ c. length c.writes.items ≡ 0) }
+    {
+        let size = sectors as usize;
+        Ok(Contents {
+            shown: vec![in alloc; Sector::blank(); size]?,
+            synced: vec![in alloc; Sector::blank(); size]?,
+            writes: Vec::new(alloc),
+            settled: 0,
+            pending: Before::Nothing,
+            counts: vec![in alloc; 0; size]?,
+        })
+    }
+
+    pub fn size(&self) -> u32
+        ensures { result ≡ length (now_of self.now).synced }
+    {
+        self.synced.len() as u32
+    }
+
+    pub fn get(&self, at: u32) -> Sector
+        requires { at < length (now_of self.now).synced }
+        ensures { result ≡ sector_at (shown_of (now_of self.now).synced (now_of self.now).since) at }
+    {
+        self.shown[at as usize]
+    }
+
+    pub fn is_full(&self) -> bool
+        ensures { IsTrue result ↔ (length self.now.writes.items ≡ 262144) }
+    {
+        self.writes.len() == RECORD
+    }
+
+    pub fn write(&mut self, at: u32, content: Sector) -> Result<(), AllocError>
+        requires in_range { at < length (now_of self.old).synced }
+        requires room { length self.old.writes.items < 262144 }
+        ensures ok { OnOk result (GoesOn self.old self.new (after_write (record { at = at; content = content; before = self.old.pending }) (now_of self.old))) }
+        ensures count { OnOk result (length self.new.writes.items ≡ length self.old.writes.items + 1) }
+        ensures err { OnErr result (StaysAt self.old self.new) }
+        ensures same_count { OnErr result (length self.new.writes.items ≡ length self.old.writes.items) }
+    {
+        self.writes.push(Written {
+            at,
+            content,
+            before: self.pending,
+        })?;
+        self.shown[at as usize] = content;
+        self.pending = Before::Nothing;
+        Ok(())
+    }
+
+    pub fn sync(&mut self)
+        ensures settles { Settles Synced self.old self.new }
+        ensures same_count { length self.new.writes.items ≡ length self.old.writes.items }
+    {
+        if let Before::Nothing = self.pending {
+            make(&mut self.synced, &self.writes[self.settled..]);
+            self.settled = self.writes.len();
+            self.pending = Before::Synced;
+        }
+    }
+
+    pub fn cut(&mut self, pick: u64)
+        ensures settles { Settles (Cut pick) self.old self.new }
+        ensures same_count { length self.new.writes.items ≡ length self.old.writes.items }
+    {
+        if let Before::Nothing = self.pending {
+            let since = &self.writes[self.settled..];
+            choose(&mut self.synced, &mut self.counts, since, pick);
+            take_back(&mut self.shown, &self.synced, since);
+            self.settled = self.writes.len();
+            self.pending = Before::Cut(pick);
+        }
+    }
+}

@@ -1,0 +1,164 @@
+ghost use Rattle.std.specs.Prelude.{◌≡◌, ◌⊎◌, ◌+◌, ◌<◌, ◌↔◌, IsTrue, IsFalse, IfOk, OnOk, OnErr, IsErr, is_err, if◌then◌else◌, None};
+ghost use Rattle.model_disk.specs.Disk.{Keeps, MayHaveWritten, HasWritten, IsCut, Only, FailedSince, sector_at, is_stopped, is_due, armed};
+
+use crate::contents::Contents;
+use crate::plan::Plan;
+use crate::{Disk, Failed, Sector};
+use std::alloc::{AllocError, Global};
+
+/// A disk in memory. It keeps each write that was made, so that a crash can be tried at any moment.
+#[derive(Drop)]
+pub struct MemDisk {
+    contents: Contents,
+    plan: Plan,
+}
+
+impl MemDisk {
+    ghost use Rattle.std.specs.Prelude.{replicate};
+    ghost use Rattle.tm_disk.specs.Sector.{blank};
+    ghost use Rattle.tm_disk.specs.Moments.{zero_disk};
+    ghost use Rattle.tm_disk.specs.MemDisk.{state_of, moment_of, fails_at, calls_of, starved_of, recorded};
+
+    /// A disk of zero bytes. The calls of `read`, `write` and `sync` are counted together, from 1, and those that
+    /// are listed fail.
+    pub fn new(alloc: Global, sectors: u32, fail_at: Vec<u64>) -> Result<MemDisk, AllocError>
+        ensures zeros { IfOk result (λ disk. (state_of disk).shown ≡ replicate sectors blank) }
+        ensures synced { IfOk result (λ disk. Only (state_of disk).shown (state_of disk)) }
+        ensures moment { IfOk result (λ disk. moment_of disk ≡ zero_disk sectors) }
+        ensures listed { IfOk result (λ disk. fails_at disk ≡ fail_at.items) }
+        ensures calls { IfOk result (λ disk. calls_of disk ≡ 0) }
+        ensures counts { IfOk result (λ disk. ((state_of disk).faults ≡ 0) × ((state_of disk).writes ≡ 0) × (starved_of disk ≡ 0) × (recorded disk ≡ 0)) }
+        ensures not_armed { IfOk result (λ disk. (state_of disk).until_stop ≡ None) }
+    {
+        Ok(MemDisk {
+            contents: Contents::new(alloc, sectors)?,
+            plan: Plan {
+                fail_at,
+                calls: 0,
+                faults: 0,
+                writes: 0,
+                starved: 0,
+                until_stop: None,
+            },
+        })
+    }
+
+    /// How many writes met want of memory.
+    pub fn starved(&self) -> u64
+        ensures { result ≡ starved_of self.now }
+    {
+        self.plan.starved
+    }
+}
+
+impl Disk for MemDisk {
+    ghost use Rattle.tm_disk.specs.Count.{raised};
+    ghost use Rattle.tm_disk.specs.Moments.{settled_by};
+    ghost use Rattle.tm_disk.specs.MemDisk.{state_of, moment_of, calls_of, starved_of, fails_at, MustFail, MustFailToWrite, CountsCall, AddsWrite, SameRecord, disk_law};
+    ghost use Rattle.tm_disk.specs.declared.record.Before.TheVariants.{Synced, Cut};
+
+    ghost state = { state_of };
+
+    ghost is_disk = { disk_law };
+
+    fn sectors(&self) -> u32 {
+        self.contents.size()
+    }
+
+    fn faults(&self) -> u64 {
+        self.plan.faults
+    }
+
+    fn read(&mut self, at: u32, into: &mut Sector) -> Result<(), Failed>
+        requires { at < (state_of self.old).size }
+        ensures value { OnOk result (IsTrue (state_of self.old).tells → into.new ≡ sector_at (state_of self.old).shown at) }
+        ensures keeps { Keeps (state_of self.old) (state_of self.new) }
+        ensures until_stop { (state_of self.new).until_stop ≡ (state_of self.old).until_stop }
+        ensures stopped { IsTrue (is_stopped (state_of self.old).until_stop) → IsErr result }
+        ensures failed { OnErr result (FailedSince (state_of self.old) (state_of self.new)) }
+
+        // It fails where it is to fail, and nowhere else.
+        ensures fails { IsErr result ↔ MustFail self.old }
+        ensures counts { CountsCall self.old self.new (is_err result) }
+        ensures moment { moment_of self.new ≡ moment_of self.old }
+        ensures same { SameRecord self.old self.new }
+    {
+        if self.plan.call() {
+            self.plan.fault();
+            return Err(Failed);
+        }
+        *into = self.contents.get(at);
+        Ok(())
+    }
+
+    fn write(&mut self, at: u32, from: &Sector) -> Result<(), Failed>
+        requires { at < (state_of self.old).size }
+        ensures tried { MayHaveWritten at from.now (state_of self.old) (state_of self.new) }
+        ensures done { OnOk result (HasWritten at from.now (state_of self.old) (state_of self.new)) }
+        ensures stopped { IsTrue (is_due (state_of self.old).until_stop) → IsErr result }
+        ensures failed { OnErr result (FailedSince (state_of self.old) (state_of self.new)) }
+
+        // It fails where it is to fail and where its record is full, and else for want of memory alone.
+        ensures fails { MustFailToWrite self.old → IsErr result }
+        ensures starves { IsErr result → MustFailToWrite self.old ⊎ (starved_of self.new ≡ raised (starved_of self.old)) }
+        ensures counts { CountsCall self.old self.new (is_err result) }
+        ensures adds { OnOk result (AddsWrite at from.now self.old self.new × (starved_of self.new ≡ starved_of self.old)) }
+        ensures counted { (state_of self.new).writes ≡ raised (state_of self.old).writes }
+    {
+        let stopped = self.plan.has_stopped();
+        let fails = self.plan.tell();
+        if stopped || self.contents.is_full() {
+            self.plan.fault();
+            return Err(Failed);
+        }
+        if self.contents.write(at, *from).is_err() {
+            self.plan.starve();
+            return Err(Failed);
+        }
+        if fails {
+            self.plan.fault();
+            return Err(Failed);
+        }
+        Ok(())
+    }
+
+    fn sync(&mut self) -> Result<(), Failed>
+        ensures synced { OnOk result (Only (state_of self.new).shown (state_of self.new)) }
+        ensures keeps { Keeps (state_of self.old) (state_of self.new) }
+        ensures until_stop { (state_of self.new).until_stop ≡ (state_of self.old).until_stop }
+        ensures stopped { IsTrue (is_stopped (state_of self.old).until_stop) → IsErr result }
+        ensures failed { OnErr result (FailedSince (state_of self.old) (state_of self.new)) }
+
+        // It fails where it is to fail, and nowhere else.
+        ensures fails { IsErr result ↔ MustFail self.old }
+        ensures counts { CountsCall self.old self.new (is_err result) }
+        ensures settled { OnOk result (moment_of self.new ≡ settled_by Synced (moment_of self.old)) }
+        ensures unchanged { OnErr result (moment_of self.new ≡ moment_of self.old) }
+        ensures same { SameRecord self.old self.new }
+    {
+        if self.plan.call() {
+            self.plan.fault();
+            return Err(Failed);
+        }
+        self.contents.sync();
+        Ok(())
+    }
+
+    fn arm(&mut self, n: u64) -> bool {
+        self.plan.arm(n);
+        true
+    }
+
+    fn cut(&mut self, pick: u64)
+        ensures cut { IsCut (state_of self.old) (state_of self.new) }
+
+        // The sectors that were written take the digits of the pick in ascending order.
+        ensures picked { moment_of self.new ≡ settled_by (Cut pick) (moment_of self.old) }
+        ensures same { SameRecord self.old self.new }
+        ensures calls { (calls_of self.new ≡ calls_of self.old) × (fails_at self.new ≡ fails_at self.old) }
+        ensures faults { (state_of self.new).faults ≡ (state_of self.old).faults }
+    {
+        self.contents.cut(pick);
+        self.plan.disarm();
+    }
+}
