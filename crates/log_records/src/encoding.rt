@@ -1,0 +1,262 @@
+ghost use Rattle.std.specs.Prelude.{◌≡◌, ◌<◌, ◌≤◌, ◌^◌, ◌++◌, ◌∷◌, [], length, OnOk, OnErr};
+ghost use Rattle.std.specs.List.{AllByRecursion, flat_map};
+ghost use Rattle.tm_types.specs.Name.{IsName};
+ghost use Rattle.tm_types.specs.Segment.{IsSegmentText};
+ghost use Rattle.log_records.specs.Spelling.{number2, number8, flag, name, text, segs, pad_change, conversation_field, content, spelling, IsText, IsCount, AreSegments, IsPadChange, IsShortPad, IsConversation, KeepsLimits, AreInRange, IsEncodable, IsRecord};
+
+use crate::record::{Conversation, PadChange, Record};
+use std::alloc::Global;
+use tm_types::{Bytes, Memory, Name, Segments};
+
+#[tactic(auto, unfolding(crate::specs::Spelling::number2))]
+fn put_number2(out: &mut Vec<u8>, number: u16) -> Result<(), Memory>
+    ensures { OnOk result (out.new.items ≡ out.old.items ++ number2 number) }
+{
+    out.extend_from_slice(&number.to_be_bytes())
+}
+
+#[tactic(auto, unfolding(crate::specs::Spelling::number8))]
+fn put_number8(out: &mut Vec<u8>, number: u64) -> Result<(), Memory>
+    ensures { OnOk result (out.new.items ≡ out.old.items ++ number8 number) }
+{
+    out.extend_from_slice(&number.to_be_bytes())
+}
+
+fn put_flag(out: &mut Vec<u8>, is_set: bool) -> Result<(), Memory>
+    ensures { OnOk result (out.new.items ≡ out.old.items ++ flag is_set) }
+{
+    out.push(if is_set { 1 } else { 0 })?;
+    Ok(())
+}
+
+fn put_name(out: &mut Vec<u8>, value: &Name) -> Result<(), Memory>
+    ensures ok { OnOk result (out.new.items ≡ out.old.items ++ name value.now) }
+    ensures valid { OnOk result (IsName value.now) }
+{
+    let bytes = value.as_bytes();
+    out.push(bytes.len() as u8)?;
+    out.extend_from_slice(bytes)
+}
+
+fn put_ids(out: &mut Vec<u8>, unit: u64, id: u64) -> Result<(), Memory>
+    ensures { OnOk result (out.new.items ≡ out.old.items ++ (number8 unit ++ number8 id)) }
+{
+    put_number8(out, unit)?;
+    put_number8(out, id)
+}
+
+fn put_names(out: &mut Vec<u8>, origin: &Name, code: &Name) -> Result<(), Memory>
+    ensures ok { OnOk result (out.new.items ≡ out.old.items ++ (name origin.now ++ name code.now)) }
+    ensures origin_valid { OnOk result (IsName origin.now) }
+    ensures code_valid { OnOk result (IsName code.now) }
+{
+    put_name(out, origin)?;
+    put_name(out, code)
+}
+
+fn put_text(out: &mut Vec<u8>, bytes: &[u8]) -> Result<(), Memory>
+    requires { length bytes.now < 2 ^ 16 }
+    ensures { OnOk result (out.new.items ≡ out.old.items ++ text bytes.now) }
+{
+    put_number2(out, bytes.len() as u16)?;
+    out.extend_from_slice(bytes)
+}
+
+fn put_texts(out: &mut Vec<u8>, segments: &Segments) -> Result<(), Memory>
+    ensures ok { OnOk result (out.new.items ≡ out.old.items ++ flat_map text segments.now) }
+    ensures valid { OnOk result (AllByRecursion IsSegmentText segments.now) }
+{
+    for index in 0..segments.len() {
+        let Some(segment) = segments.get(index) else {
+            unreachable!()
+        };
+        put_text(out, segment.text())?;
+    }
+    Ok(())
+}
+
+fn put_segments(out: &mut Vec<u8>, segments: &Segments) -> Result<(), Memory>
+    requires { IsCount segments.now }
+    ensures ok { OnOk result (out.new.items ≡ out.old.items ++ segs segments.now) }
+    ensures valid { OnOk result (AreSegments segments.now) }
+{
+    out.push(segments.len() as u8)?;
+    put_texts(out, segments)
+}
+
+fn put_pad_change(out: &mut Vec<u8>, change: &PadChange) -> Result<(), Memory>
+    requires { IsPadChange change.now }
+    ensures { OnOk result (out.new.items ≡ out.old.items ++ pad_change change.now) }
+{
+    match change {
+        PadChange::Stays => {
+            out.push(0)?;
+            put_text(out, &[])
+        }
+        PadChange::New(pad) => {
+            out.push(1)?;
+            put_text(out, pad.as_slice())
+        }
+        PadChange::Ends => {
+            out.push(2)?;
+            put_text(out, &[])
+        }
+    }
+}
+
+fn put_conversation(out: &mut Vec<u8>, conversation: &Option<Conversation>) -> Result<(), Memory>
+    requires { IsShortPad conversation.now }
+    ensures ok { OnOk result (out.new.items ≡ out.old.items ++ conversation_field conversation.now) }
+    ensures valid { OnOk result (IsConversation conversation.now) }
+{
+    match conversation {
+        None => {
+            out.push(0)?;
+            put_text(out, &[])
+        }
+        Some(found) => {
+            out.push(1)?;
+            put_name(out, &found.code)?;
+            put_text(out, found.pad.as_slice())
+        }
+    }
+}
+
+fn put_content(out: &mut Vec<u8>, value: &Record) -> Result<(), Memory>
+    requires { KeepsLimits value.now }
+    ensures ok { OnOk result (out.new.items ≡ out.old.items ++ content value.now) }
+    ensures valid { OnOk result (AreInRange value.now) }
+{
+    match value {
+        Record::Input {
+            unit,
+            id,
+            origin,
+            code,
+            number,
+            conversation,
+            segments,
+        } => {
+            out.push(0x01)?;
+            put_ids(out, *unit, *id)?;
+            put_names(out, origin, code)?;
+            put_number8(out, *number)?;
+            put_flag(out, *conversation)?;
+            put_segments(out, segments)
+        }
+        Record::Command { text } => {
+            out.push(0x02)?;
+            put_text(out, text.as_slice())
+        }
+        Record::Reply {
+            unit,
+            terminal,
+            number,
+            segments,
+        } => {
+            out.push(0x03)?;
+            put_number8(out, *unit)?;
+            put_name(out, terminal)?;
+            put_number8(out, *number)?;
+            put_segments(out, segments)
+        }
+        Record::Discarded {
+            unit,
+            id,
+            abend,
+            number,
+        } => {
+            out.push(0x07)?;
+            put_ids(out, *unit, *id)?;
+            put_number2(out, abend.number)?;
+            put_number8(out, *number)
+        }
+        Record::Completed { unit, id } => {
+            out.extend_from_slice(&[0x36, 0])?;
+            put_ids(out, *unit, *id)
+        }
+        Record::Acknowledged { terminal, number } => {
+            out.extend_from_slice(&[0x36, 1])?;
+            put_name(out, terminal)?;
+            put_number8(out, *number)
+        }
+        Record::SyncPoint { unit, pad } => {
+            out.push(0x37)?;
+            put_number8(out, *unit)?;
+            put_pad_change(out, pad)
+        }
+        Record::Checkpoint {
+            checkpoint,
+            next_id,
+            next_unit,
+            lasting_steps,
+        } => {
+            out.extend_from_slice(&[0x40, 0])?;
+            put_number8(out, *checkpoint)?;
+            put_number8(out, *next_id)?;
+            put_number8(out, *next_unit)?;
+            put_number8(out, *lasting_steps)
+        }
+        Record::Terminal {
+            terminal,
+            last_input,
+            next_output,
+            stopped,
+            conversation,
+        } => {
+            out.extend_from_slice(&[0x40, 1])?;
+            put_name(out, terminal)?;
+            put_number8(out, *last_input)?;
+            put_number8(out, *next_output)?;
+            put_flag(out, *stopped)?;
+            put_conversation(out, conversation)
+        }
+        Record::Code {
+            code,
+            stopped,
+            class,
+            priority,
+        } => {
+            out.extend_from_slice(&[0x40, 2])?;
+            put_name(out, code)?;
+            put_flag(out, *stopped)?;
+            out.push(*class)?;
+            out.push(*priority)?;
+            Ok(())
+        }
+        Record::Change {
+            unit,
+            database,
+            slot,
+            before,
+            after,
+        } => {
+            out.push(0x50)?;
+            put_number8(out, *unit)?;
+            out.push(*database)?;
+            put_number2(out, *slot)?;
+            put_text(out, before.as_slice())?;
+            put_text(out, after.as_slice())
+        }
+    }
+}
+
+/// Appends the one spelling of the record. After `Memory` the vector is as it was before.
+///
+/// A message and a reply must have 1 to 32 segments, a command at most 80 bytes, an image at most
+/// 4,000, and an abend a number from 1 to 4095. A record with a pad must have at most 65,535
+/// bytes; no other is longer.
+pub fn encode(alloc: Global, value: &Record, out: &mut Vec<u8>) -> Result<(), Memory>
+    requires { IsEncodable value.now }
+    ensures ok { OnOk result (out.new.items ≡ out.old.items ++ spelling value.now) }
+    ensures valid { OnOk result (IsRecord value.now) }
+    ensures err { OnErr result (out.new.items ≡ out.old.items) }
+{
+    let mut content = Vec::new(alloc);
+    put_content(&mut content, value)?;
+    let length = content.len() as u16 + 2;
+    let mut spelled = Vec::new(alloc);
+    put_number2(&mut spelled, length)?;
+    spelled.extend_from_slice(&content)?;
+    out.extend_from_slice(&spelled)
+}
