@@ -1,0 +1,13 @@
+use Rattle.std.proofs.Common.{◌≡◌, ◌+◌, ◌-◌, ◌++◌, length, IsTrue}
+use Rattle.model_disk.specs.Disk.{Keeps}
+use Rattle.log_sectors.specs.Chain.{chain, joined}
+use Rattle.log_sectors.proofs.chain.read_chain.Given as goal
+
+abbrev pub invariant-loop-place : goal.invariant-loop-place
+invariant-loop-place g l =
+    record {
+      keeps : Keeps (g.D.Disk.state l.initial.disk) (g.D.Disk.state l.disk);
+      until_stop : (g.D.Disk.state l.disk).until_stop ≡ (g.D.Disk.state l.initial.disk).until_stop;
+      payload : IsTrue (g.D.Disk.state l.initial.disk).tells → joined (chain l.count (g.D.Disk.state l.initial.disk).shown l.first l.sequence l.epoch) ≡ l.payload ++ joined (chain (l.count - l.place) (g.D.Disk.state l.initial.disk).shown (l.first + l.place) (l.sequence + l.place) l.epoch);
+      sectors : IsTrue (g.D.Disk.state l.initial.disk).tells → length (chain l.count (g.D.Disk.state l.initial.disk).shown l.first l.sequence l.epoch) ≡ l.place + length (chain (l.count - l.place) (g.D.Disk.state l.initial.disk).shown (l.first + l.place) (l.sequence + l.place) l.epoch);
+    }

@@ -1,0 +1,69 @@
+ghost use Rattle.std.specs.Prelude.{◌≡◌, ◌+◌, ◌<◌, ◌≤◌, ◌^◌, length, IsTrue, IfOk, IsErrOf};
+ghost use Rattle.model_disk.specs.Disk.{Keeps, FailedSince};
+ghost use Rattle.log_sectors.specs.Chain.{chain, joined};
+
+use crate::unseal;
+use std::alloc::Global;
+use thiserror::Error;
+use tm_disk::{Disk, Sector};
+use tm_types::Bytes;
+
+/// The joined payload of a chain, and of how many sectors it is.
+#[derive(Debug, Drop)]
+pub struct Chain {
+    pub payload: Bytes,
+    pub sectors: u32,
+}
+
+/// Why a chain wasn't read.
+#[derive(Clone, Copy, Debug, Drop, Error, PartialEq, Eq)]
+pub enum ChainFault {
+    #[error("the disk failed")]
+    Disk,
+    #[error("out of memory")]
+    Memory,
+}
+
+/// Reads the chain of an area of a disk, as the disk reads: the area begins at `first` and has `count` sectors, and
+/// the chain's first sector has this sequence.
+pub fn read_chain<D: Disk>(
+    alloc: Global,
+    disk: &mut D,
+    first: u32,
+    count: u32,
+    sequence: u64,
+    epoch: u64,
+) -> Result<Chain, ChainFault>
+    requires within { first + count ≤ (D.state disk.old).size }
+    requires sequences { sequence + count < 2 ^ 64 }
+    ensures payload { IfOk result (λ read. IsTrue (D.state disk.old).tells → read.payload ≡ joined (chain count (D.state disk.old).shown first sequence epoch)) }
+    ensures sectors { IfOk result (λ read. IsTrue (D.state disk.old).tells → read.sectors ≡ length (chain count (D.state disk.old).shown first sequence epoch)) }
+    ensures keeps { Keeps (D.state disk.old) (D.state disk.new) }
+    ensures until_stop { (D.state disk.new).until_stop ≡ (D.state disk.old).until_stop }
+    ensures disk { IsErrOf result ChainFault.Disk → FailedSince (D.state disk.old) (D.state disk.new) }
+{
+    let mut payload = Bytes::new(alloc);
+    let mut sector = Sector::blank();
+    for place in 0..count {
+        if disk.read(first + place, &mut sector).is_err() {
+            return Err(ChainFault::Disk);
+        }
+        match unseal(&sector, epoch, sequence + place as u64) {
+            Some(bytes) => {
+                if payload.append(bytes).is_err() {
+                    return Err(ChainFault::Memory);
+                }
+            }
+            None => {
+                return Ok(Chain {
+                    payload,
+                    sectors: place,
+                });
+            }
+        }
+    }
+    Ok(Chain {
+        payload,
+        sectors: count,
+    })
+}

@@ -1,0 +1,12 @@
+//! The log on sectors: a sector is sealed with the epoch and the sequence that belong to it, and a chain of them is
+//! read up to the first that isn't.
+#![tactic(auto)]
+
+mod chain;
+mod log_sector;
+
+pub use chain::{Chain, ChainFault, read_chain};
+pub use log_sector::{PAYLOAD_BYTES, seal, unseal};
+
+#[cfg(test)]
+mod tests;
