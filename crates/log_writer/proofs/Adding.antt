@@ -1,0 +1,119 @@
+-- What forcing adds to the log.
+use Rattle.std.proofs.Common.{◌≡◌, ◌⊎◌, ℕ, suc, zero, ◌+◌, ◌-◌, ◌*◌, ◌/◌, ◌<◌, ◌≤◌, List, [], ◌∷◌, ◌++◌, length, take, drop, refl, sym, ◌∙◌, ap, subst, inl, inr, ⊎_elim, arith, Option, Some, None, IsSome}
+use Rattle.std.proofs.lemmas.Bool.{cases_lt}
+use Rattle.std.proofs.lemmas.List.{length-take, length-drop}
+use Rattle.model_disk.specs.Disk.{Image, sector_at}
+use Rattle.log_sectors.specs.Sealed.{sealed, opened}
+use Rattle.log_sectors.specs.Chain.{chain, joined}
+use Rattle.log_sectors.proofs.Sealing.{opened-sealed}
+use Rattle.log_writer.specs.Writer.{Writer}
+use Rattle.log_writer.specs.Log.{log_of, sectors_of, IsAtEnd, ChangesOnly, AddsFront, AddsAll, pieces, piece, Lays, HasLaid}
+use Rattle.log_writer.proofs.Laying.{length-pieces, piece-pieces, joined-pieces}
+use Rattle.log_writer.proofs.Gaining.{link, link_at, chain-front, chain-all, Front, joined-append, joined-front, sectors-enough, log-split, log-old}
+
+-- each piece has bytes, and not too many
+pub piece-some : (bytes : List ℕ) (x : ℕ) → x < sectors_of (length bytes) → 0 < length (piece (pieces (sectors_of (length bytes)) bytes) x)
+piece-some bytes x lt =
+    let is = piece-pieces (sectors_of (length bytes)) x bytes lt in
+    subst (λ (l : List ℕ). 0 < length l) (sym is) (omega (arith, lt, length-take 4064 (drop (x * 4064) bytes), length-drop (x * 4064) bytes))
+
+pub piece-fits : (bytes : List ℕ) (x : ℕ) → x < sectors_of (length bytes) → length (piece (pieces (sectors_of (length bytes)) bytes) x) ≤ 4064
+piece-fits bytes x lt =
+    let is = piece-pieces (sectors_of (length bytes)) x bytes lt in
+    subst (λ (l : List ℕ). length l ≤ 4064) (sym is) (omega (arith, length-take 4064 (drop (x * 4064) bytes)))
+
+pub sectors-fit : (n k : ℕ) → n ≤ k * 4064 → sectors_of n ≤ k
+sectors-fit n k le = omega (arith, le)
+
+abbrev pub at_of : Writer → ℕ
+at_of w = w.first + w.place
+
+abbrev pub sequence_of : Writer → ℕ
+sequence_of w = w.sequence + w.place
+
+abbrev pub count_of : Writer → ℕ
+count_of w = sectors_of (length w.appended)
+
+abbrev pub payloads_of : Writer → List (List ℕ)
+payloads_of w = pieces (sectors_of (length w.appended)) w.appended
+
+-- a sector that stays isn't of the chain
+stays_free : (w : Writer) (old new : Image) (x : ℕ) → IsAtEnd w old → w.place + x < w.count → sector_at new (at_of w + x) ≡ sector_at old (at_of w + x) → link new (at_of w) (sequence_of w) w.epoch x ≡ None
+stays_free w old new x end lt same =
+    ap (λ (s : List ℕ). opened w.epoch (sequence_of w + x) s) same ∙ link_at w old x ∙ end.free (w.place + x) (omega arith) lt
+
+-- a sector that was laid holds its payload
+laid_some : (w : Writer) (new : Image) (x : ℕ) → x < count_of w → sector_at new (at_of w + x) ≡ sealed w.epoch (sequence_of w + x) (piece (payloads_of w) x) → link new (at_of w) (sequence_of w) w.epoch x ≡ Some (piece (payloads_of w) x)
+laid_some w new x lt is =
+    ap (λ (s : List ℕ). opened w.epoch (sequence_of w + x) s) is
+    ∙ opened-sealed w.epoch (sequence_of w + x) (piece (payloads_of w) x) (piece-some w.appended x lt) (piece-fits w.appended x lt)
+
+length-payloads : (w : Writer) → length (payloads_of w) ≡ count_of w
+length-payloads w = length-pieces (count_of w) w.appended
+
+-- the logs before and after, by the payloads of the chain behind the writer's place
+log-gains : (w : Writer) (old new : Image) (tail : List (List ℕ)) → IsAtEnd w old → w.place ≤ w.count → ((x : ℕ) → x < w.place → sector_at new (w.first + x) ≡ sector_at old (w.first + x)) → chain (w.count - w.place) new (at_of w) (sequence_of w) w.epoch ≡ tail → log_of w new ≡ log_of w old ++ joined tail
+log-gains w old new tail end le same is =
+    ap joined (log-split w old new end new le same ∙ ap (λ (l : List (List ℕ)). chain w.place old w.first w.sequence w.epoch ++ l) is)
+    ∙ joined-append (chain w.place old w.first w.sequence w.epoch) tail
+    ∙ ap (λ (l : List ℕ). l ++ joined tail) (sym (ap joined (log-old w old new end le)))
+
+pub adds-front : (w : Writer) (old new : Image) → IsAtEnd w old → w.place + count_of w ≤ w.count → Lays (at_of w) (sequence_of w) w.epoch (payloads_of w) (count_of w) old new → AddsFront w old new
+adds-front w old new end room lays =
+    let size = length-payloads w in
+    let front = chain-front (payloads_of w) (w.count - w.place) new (at_of w) (sequence_of w) w.epoch
+    (λ x lt. ⊎_elim
+    (λ same. inl (stays_free w old new x end (omega (arith, size, lt)) same))
+    (λ is. inr (laid_some w new x (omega (arith, size, lt)) is))
+    (lays.each x (omega (arith, size, lt))))
+    (λ x far lt. stays_free w old new x end (omega arith) (lays.above (at_of w + x) (omega (arith, size, far)))) in
+    let tail = take front.count (payloads_of w) in
+    let log : log_of w new ≡ log_of w old ++ joined tail = log-gains w old new tail end (omega arith) (λ x lt. lays.below (w.first + x) (omega arith)) front.is in
+    let bytes : joined (payloads_of w) ≡ w.appended = joined-pieces (count_of w) w.appended (sectors-enough (length w.appended)) in
+    record {
+      changes = record { size = lays.size; below = lays.below; above = lays.above };
+      front = length (joined tail);
+      log = log ∙ ap (λ (l : List ℕ). log_of w old ++ l) (joined-front front.count (payloads_of w) ∙ ap (λ (l : List ℕ). take (length (joined tail)) l) bytes);
+    }
+
+pub adds-all : (w : Writer) (old new : Image) → IsAtEnd w old → w.place + count_of w ≤ w.count → HasLaid (at_of w) (sequence_of w) w.epoch (payloads_of w) (count_of w) old new → AddsAll w old new
+adds-all w old new end room laid =
+    let size = length-payloads w in
+    let all : chain (w.count - w.place) new (at_of w) (sequence_of w) w.epoch ≡ payloads_of w =
+    chain-all (payloads_of w) (w.count - w.place) new (at_of w) (sequence_of w) w.epoch (omega (arith, size))
+    (λ x lt. laid_some w new x (omega (arith, size, lt)) (laid.each x (omega (arith, size, lt))))
+    (λ x far lt. stays_free w old new x end (omega arith) (laid.above (at_of w + x) (omega (arith, size, far)))) in
+    let bytes : joined (payloads_of w) ≡ w.appended = joined-pieces (count_of w) w.appended (sectors-enough (length w.appended)) in
+    record {
+      changes = record { size = laid.size; below = laid.below; above = laid.above };
+      log = log-gains w old new (payloads_of w) end (omega arith) (λ x lt. laid.below (w.first + x) (omega arith)) all ∙ ap (λ (l : List ℕ). log_of w old ++ l) bytes;
+    }
+
+-- the writer behind what it wrote
+abbrev pub moved : Writer → Writer
+moved w = record w { place = w.place + count_of w; appended = [] }
+
+some_is : (o : Option (List ℕ)) (p : List ℕ) → o ≡ Some p → IsSome o
+some_is None p e = cc
+some_is (Some q) p e = refl
+
+pub at_end-moved : (w : Writer) (old new : Image) → IsAtEnd w old → w.place + count_of w ≤ w.count → HasLaid (at_of w) (sequence_of w) w.epoch (payloads_of w) (count_of w) old new → IsAtEnd (moved w) new
+at_end-moved w old new end room laid = record {
+  written = λ x lt.
+      ⊎_elim
+      (λ (near : x < w.place). subst (λ (s : List ℕ). IsSome (opened w.epoch (w.sequence + x) s)) (sym (laid.below (w.first + x) (omega arith))) (end.written x near))
+      (λ (far : w.place ≤ x).
+      let y = x - w.place in
+      let is : w.place + y ≡ x = omega arith in
+      let less : y < count_of w = omega (arith, lt, far) in
+      some_is (link new w.first w.sequence w.epoch x) (piece (payloads_of w) y)
+      (ap (λ k. link new w.first w.sequence w.epoch k) (sym is) ∙ sym (link_at w new y) ∙ laid_some w new y less (laid.each y less)))
+      (cases_lt x w.place);
+  free = λ x far lt.
+      let same : sector_at new (w.first + x) ≡ sector_at old (w.first + x) = laid.above (w.first + x) (omega (arith, far)) in
+      ap (λ (s : List ℕ). opened w.epoch (w.sequence + x) s) same ∙ end.free x (omega (arith, far)) lt;
+}
+
+-- what was appended fits where the writer's own sectors end
+pub room_for : (w : Writer) → w.place ≤ w.count → length w.appended ≤ (w.count - w.place) * 4064 → w.place + count_of w ≤ w.count
+room_for w le fits = omega (arith, le, sectors-fit (length w.appended) (w.count - w.place) fits)

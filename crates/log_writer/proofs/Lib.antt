@@ -1,0 +1,5 @@
+pub mod Laying
+pub mod Starting
+pub mod Calls
+pub mod Adding
+pub mod Gaining

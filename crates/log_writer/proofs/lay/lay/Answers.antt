@@ -1,0 +1,55 @@
+use Rattle.std.proofs.Common.{◌≡◌, ℕ, ◌+◌, ◌<◌, ◌≤◌, List, length, refl, sym, ◌∙◌, ap, subst, arith, IsTrue}
+use Rattle.model_disk.specs.Disk.{HasWritten}
+use Rattle.model_disk.proofs.Words.{stays_on}
+use Rattle.log_sectors.specs.Sealed.{sealed}
+use Rattle.log_sectors.proofs.Links.{at_ok}
+use Rattle.log_writer.specs.Log.{sectors_of, pieces, piece, Lays, HasLaid}
+use Rattle.log_writer.proofs.Laying.{has_laid_step}
+use Rattle.log_writer.proofs.Calls.{lays_follows, lays_within}
+use Rattle.log_writer.proofs.lay.lay.Goals as goal
+
+pub returns-then-is_err-clause-any_moment : goal.returns-then-is_err-clause-any_moment
+returns-then-is_err-clause-any_moment g c =
+    let old = g.D.Disk.state c.args.disk.now in
+    let mid = g.D.Disk.state c.loop-place.disk in
+    let new = g.D.Disk.state c.write.new.self in
+    let count = sectors_of (length c.args.bytes.now) in
+    let payloads = pieces count c.args.bytes.now in
+    let is : c.seal-sector.result ≡ sealed c.args.epoch (c.args.sequence + c.loop-place.place) (piece payloads c.loop-place.place) =
+    c.seal-sector.ensures ∙ ap (λ (p : List ℕ). sealed c.args.epoch (c.args.sequence + c.loop-place.place) p) c.piece.ensures.value in
+    lays_within c.args.at c.args.sequence c.args.epoch payloads c.loop-place.place count c.seal-sector.result old mid new is (omega arith) c.loop-place.invariant.within c.loop-place.invariant.follows c.write.ensures.tried.elapses c.write.ensures.tried.follows
+
+pub returns-then-is_err-clause-follows : goal.returns-then-is_err-clause-follows
+returns-then-is_err-clause-follows g c =
+    let old = g.D.Disk.state c.args.disk.now in
+    let mid = g.D.Disk.state c.loop-place.disk in
+    let new = g.D.Disk.state c.write.new.self in
+    let count = sectors_of (length c.args.bytes.now) in
+    let payloads = pieces count c.args.bytes.now in
+    let is : c.seal-sector.result ≡ sealed c.args.epoch (c.args.sequence + c.loop-place.place) (piece payloads c.loop-place.place) =
+    c.seal-sector.ensures ∙ ap (λ (p : List ℕ). sealed c.args.epoch (c.args.sequence + c.loop-place.place) p) c.piece.ensures.value in
+    lays_follows c.args.at c.args.sequence c.args.epoch payloads c.loop-place.place count c.seal-sector.result old mid new is (omega arith) c.loop-place.invariant.follows c.write.ensures.tried.follows
+
+pub loop-place-preserved : goal.loop-place-preserved
+loop-place-preserved g c =
+    let old = g.D.Disk.state c.args.disk.now in
+    let mid = g.D.Disk.state c.loop-place.disk in
+    let new = g.D.Disk.state c.write.new.self in
+    let n = c.loop-place.place in
+    let count = sectors_of (length c.args.bytes.now) in
+    let payloads = pieces count c.args.bytes.now in
+    let is : c.seal-sector.result ≡ sealed c.args.epoch (c.args.sequence + n) (piece payloads n) =
+    c.seal-sector.ensures ∙ ap (λ (p : List ℕ). sealed c.args.epoch (c.args.sequence + n) p) c.piece.ensures.value in
+    let stays = c.loop-place.invariant.stays in
+    let disk = g.met.D.Disk.is_disk c.loop-place.disk in
+    let done = at_ok c.write.result (HasWritten (c.args.at + n) c.seal-sector.result mid new) (sym c.if-is_err.ensures.value) c.write.ensures.done in
+    record {
+      stays = stays_on old mid new stays c.write.ensures.tried.stays;
+      within = lays_within c.args.at c.args.sequence c.args.epoch payloads n (n + 1) c.seal-sector.result old mid new is (omega arith) c.loop-place.invariant.within c.loop-place.invariant.follows c.write.ensures.tried.elapses c.write.ensures.tried.follows;
+      follows = lays_follows c.args.at c.args.sequence c.args.epoch payloads n (n + 1) c.seal-sector.result old mid new is (omega arith) c.loop-place.invariant.follows c.write.ensures.tried.follows;
+      shown = λ tells.
+          has_laid_step c.args.at c.args.sequence c.args.epoch payloads n (c.args.at + n) old.shown mid.shown new.shown c.seal-sector.result refl
+          (omega (arith, disk.shown_size, stays.size, c.requires.within, c.loop-place-test.true, c.sectors_of-count.ensures))
+          is (c.loop-place.invariant.shown tells) (done.shown (subst (λ b. IsTrue b) (sym stays.tells) tells));
+      writes = omega (arith, c.loop-place.invariant.writes, c.write.ensures.tried.writes);
+    }

@@ -1,0 +1,113 @@
+ghost use Rattle.std.specs.Prelude.{◌≡◌, ◌+◌, ◌<◌, ◌≤◌, ◌^◌, ◌++◌, [], length, IsTrue, IsOk, IfOk, OnOk, OnErr};
+ghost use Rattle.model_disk.specs.Disk.{Stays, Within, Follows, Only, WritesAtMost, FailedSince};
+ghost use Rattle.log_writer.specs.Log.{sectors_of, room_of, IsReady, AddsFront, AddsAll};
+
+use crate::lay::{lay, sectors_of};
+use log_sectors::PAYLOAD_BYTES;
+use std::alloc::Global;
+use std::marker::Model;
+use tm_disk::{Disk, DiskFault};
+use tm_types::Memory;
+
+/// The end of a log area. What is appended is on the disk once it was forced.
+#[derive(Drop)]
+pub struct LogWriter {
+    first: u32,
+    count: u32,
+    sequence: u64,
+    epoch: u64,
+    // How many sectors were written.
+    place: u32,
+    // What is to be written.
+    appended: Vec<u8>,
+}
+
+impl Model for LogWriter {
+    ghost use Rattle.std.specs.Prelude.{◌≤◌, ◌+◌, ◌-◌, ◌*◌, length};
+    ghost use Rattle.log_writer.specs.Writer.{Writer};
+
+    ghost Value = { Writer };
+
+    ghost view = { λ w. record { first = w.first; count = w.count; sequence = w.sequence; epoch = w.epoch; place = w.place; appended = w.appended.items } };
+
+    ghost invariant = { λ w. (w.place ≤ w.count) × (length w.appended.items ≤ (w.count - w.place) * 4064) };
+}
+
+impl LogWriter {
+    /// A writer at the start of an area, whose first sector is to have this sequence.
+    pub fn new(alloc: Global, first: u32, count: u32, sequence: u64, epoch: u64) -> LogWriter
+        ensures { result ≡ record { first = first; count = count; sequence = sequence; epoch = epoch; place = 0; appended = [] } }
+    {
+        LogWriter {
+            first,
+            count,
+            sequence,
+            epoch,
+            place: 0,
+            appended: Vec::new(alloc),
+        }
+    }
+
+    /// How many bytes may still be appended.
+    pub fn room(&self) -> u64
+        ensures { result ≡ room_of self.now }
+    {
+        (self.count - self.place) as u64 * PAYLOAD_BYTES as u64 - self.appended.len() as u64
+    }
+
+    /// Appends bytes.
+    pub fn append(&mut self, bytes: &[u8]) -> Result<(), Memory>
+        requires { length bytes.now ≤ room_of self.old }
+        ensures ok { OnOk result (self.new ≡ record self.old { appended = self.old.appended ++ bytes.now }) }
+        ensures err { OnErr result (self.new ≡ self.old) }
+    {
+        self.appended.extend_from_slice(bytes)
+    }
+
+    /// Writes what was appended into sectors of its own, and syncs. The answer is how many sectors they are. After a
+    /// fault the writer is of no use.
+    pub fn force<D: Disk>(&mut self, disk: &mut D) -> Result<u32, DiskFault>
+        requires area { self.old.first + self.old.count ≤ (D.state disk.old).size }
+        requires sequences { self.old.sequence + self.old.count < 2 ^ 64 }
+        requires ready { IsReady self.old (D.state disk.old) }
+
+        ensures stays { Stays (D.state disk.old) (D.state disk.new) }
+        // Whenever a crash comes, the log has gained a front of what was appended.
+        ensures any_moment { Within (AddsFront self.old) (D.state disk.old) (D.state disk.new) }
+        // Then it has gained all.
+        ensures done { OnOk result (Follows (AddsAll self.old) (D.state disk.old) (D.state disk.new)) }
+        ensures shown { OnOk result (IsTrue (D.state disk.old).tells → AddsAll self.old (D.state disk.old).shown (D.state disk.new).shown) }
+        // What was written stands the same in each image.
+        ensures synced { OnOk result (0 < length self.old.appended → Only (D.state disk.new).shown (D.state disk.new)) }
+        ensures ready { OnOk result (IsReady self.new (D.state disk.new)) }
+        ensures sectors { IfOk result (λ n. n ≡ sectors_of (length self.old.appended)) }
+        ensures moves { IfOk result (λ n. self.new ≡ record self.old { place = self.old.place + n; appended = [] }) }
+
+        ensures writes { WritesAtMost (sectors_of (length self.old.appended)) (D.state disk.old) (D.state disk.new) }
+        ensures nothing { self.old.appended ≡ [] → IsOk result × (disk.new ≡ disk.old) }
+        ensures cause { OnErr result (FailedSince (D.state disk.old) (D.state disk.new)) }
+    {
+        if self.appended.is_empty() {
+            return Ok(0);
+        }
+        let sectors = sectors_of(self.appended.len()) as u32;
+        let sequence = self.sequence + self.place as u64;
+        if lay(
+            disk,
+            self.first + self.place,
+            sequence,
+            self.epoch,
+            &self.appended,
+        )
+        .is_err()
+        {
+            return Err(DiskFault::Disk);
+        }
+        if disk.sync().is_err() {
+            return Err(DiskFault::Disk);
+        }
+        self.place += sectors;
+        self.appended.clear();
+        Ok(sectors)
+    }
+}
