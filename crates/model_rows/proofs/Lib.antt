@@ -1,0 +1,12 @@
+pub mod Order
+pub mod Lists
+pub mod Paths
+pub mod Under
+pub mod Reading
+pub mod NextRow
+pub mod Prefixes
+pub mod Filters
+pub mod Records
+pub mod Whole
+pub mod Entries
+pub mod Roots

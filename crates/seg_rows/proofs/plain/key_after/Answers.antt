@@ -1,0 +1,14 @@
+use Rattle.std.specs.Ordering.{is_lt}
+use Rattle.model_rows.specs.Path.{key_cmp}
+use Rattle.seg_rows.proofs.Kept.{range_first, range_empty}
+use Rattle.seg_rows.proofs.plain.key_after.Goals as goal
+
+pub returns-in-Some : goal.returns-in-Some
+returns-in-Some c =
+    range_first (λ other. is_lt (key_cmp c.args.key.now other)) c.args.records.now.entries c.range-later.result c.next.new.self c.in-Some.other.now c.in-Some.field-0-1.now
+    (c.range-later.ensures.between tt) c.in-Some.ensures.steps
+
+pub returns-in-None : goal.returns-in-None
+returns-in-None c =
+    range_empty (λ other. is_lt (key_cmp c.args.key.now other)) c.args.records.now.entries c.range-later.result
+    (c.range-later.ensures.between tt) c.in-None.ensures.steps.0

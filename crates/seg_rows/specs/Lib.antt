@@ -1,0 +1,4 @@
+pub mod EncodeRefused
+pub mod DecodeFault
+pub mod StoreRefused
+pub mod PlainRows

@@ -1,0 +1,17 @@
+//! Records of a database: their images, their bytes, and the rows that a database holds.
+#![tactic(auto)]
+
+pub use decode::{DecodeFault, decode_record};
+pub use encode::{EncodeRefused, encode_record};
+pub use image::RecordImage;
+pub use model_rows::{Path, Row};
+pub use plain::PlainRows;
+pub use rows::{Rows, StoreRefused};
+
+mod decode;
+mod encode;
+mod image;
+mod plain;
+mod rows;
+#[cfg(test)]
+mod tests;
