@@ -1,0 +1,3 @@
+pub mod FirstPiece
+pub mod CappedNumber
+pub mod Reading

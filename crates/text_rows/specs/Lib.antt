@@ -1,0 +1,8 @@
+pub mod Pieces
+pub mod Lowest
+pub mod Numbers
+pub mod Lines
+pub mod Operands
+pub mod Names
+pub mod Lists
+pub mod Refusals
