@@ -1,0 +1,8 @@
+use Rattle.std.proofs.Common.{◌≡◌, ◌++◌}
+use Rattle.std.specs.Vec.Iter.{into_iter_items}
+use Rattle.sysdef_check.specs.Systems as spec
+use Rattle.sysdef_check.proofs.build.programs_in.Given as goal
+
+abbrev pub invariant-loop-line : goal.invariant-loop-line
+invariant-loop-line l =
+    l.programs.items ++ spec.programs_in (into_iter_items l.line-iterator) ≡ spec.programs_in l.fn.lines.items

@@ -1,0 +1,129 @@
+-- The rules that macros keep among each other.
+use Rattle.std.specs.Prelude.{ℕ, Bool, true, false, ◌||◌, ◌==◌, not, List, [], ◌∷◌, ◌++◌, count_by, nat_le, Option, Some, None, Result, Ok, Err, if◌then◌else◌}
+use Rattle.std.specs.List.{list_any}
+use Rattle.std.specs.Str.{bytes_eq}
+use Rattle.sysdef_check.specs.declared.definition.Macro.{Macro}
+use Rattle.sysdef_check.specs.declared.definition.Macro.TheVariants.{Application, Transaction, Terminal, Region, Program, End}
+use Rattle.sysdef_check.specs.declared.definition.MacroLine.{MacroLine}
+use Rattle.sysdef_check.specs.declared.cross.CrossRule.{CrossRule}
+use Rattle.sysdef_check.specs.declared.cross.CrossRule.TheVariants.{PsbTwice, CodeTwice, TerminalTwice, ProgramMissing, ProgramAstray, WrongCount}
+
+-- the macros of one kind with a name
+abbrev pub is_application : List ℕ → Macro → Bool
+is_application name (Application psb) = bytes_eq psb name
+is_application name _ = false
+
+abbrev pub is_code : List ℕ → Macro → Bool
+is_code name (Transaction transaction) = bytes_eq transaction.code name
+is_code name _ = false
+
+abbrev pub is_terminal : List ℕ → Macro → Bool
+is_terminal name (Terminal terminal) = bytes_eq terminal name
+is_terminal name _ = false
+
+abbrev pub is_program : List ℕ → Macro → Bool
+is_program name (Program program lines) = bytes_eq program name
+is_program name _ = false
+
+-- the macros of one kind
+abbrev pub is_any_code : Macro → Bool
+is_any_code (Transaction transaction) = true
+is_any_code _ = false
+
+abbrev pub is_any_terminal : Macro → Bool
+is_any_terminal (Terminal name) = true
+is_any_terminal _ = false
+
+abbrev pub is_any_program : Macro → Bool
+is_any_program (Program name lines) = true
+is_any_program _ = false
+
+abbrev pub is_any_region : Macro → Bool
+is_any_region (Region classes) = true
+is_any_region _ = false
+
+-- some of the lines has such a macro; how many have
+abbrev pub has : (Macro → Bool) → List MacroLine → Bool
+has test lines = list_any (λ line. test line.content) lines
+
+abbrev pub count : (Macro → Bool) → List MacroLine → ℕ
+count test lines = count_by (λ line. test line.content) lines
+
+-- Each rule says whether a macro breaks it, among all macros and behind those before it.
+
+-- a PSB stands once
+unfoldable pub breaks_psb : List MacroLine → Macro → Bool
+breaks_psb before (Application psb) = has (is_application psb) before
+breaks_psb before _ = false
+
+-- a code stands once, and is no terminal
+unfoldable pub breaks_code : List MacroLine → List MacroLine → Macro → Bool
+breaks_code all before (Transaction transaction) = has (is_code transaction.code) before || has (is_terminal transaction.code) all
+breaks_code all before _ = false
+
+-- a terminal stands once
+unfoldable pub breaks_terminal : List MacroLine → Macro → Bool
+breaks_terminal before (Terminal name) = has (is_terminal name) before
+breaks_terminal before _ = false
+
+-- an APPLCTN has its PROGRAM
+unfoldable pub breaks_application : List MacroLine → Macro → Bool
+breaks_application all (Application psb) = not (has (is_program psb) all)
+breaks_application all _ = false
+
+-- a PROGRAM has its APPLCTN, and stands once
+unfoldable pub breaks_program : List MacroLine → List MacroLine → Macro → Bool
+breaks_program all before (Program name lines) = not (has (is_application name) all) || has (is_program name) before
+breaks_program all before _ = false
+
+-- There are at most 256 codes, 64 terminals, 8 regions and 64 programs. The line of END breaks the
+-- rule where there is no terminal or no region.
+unfoldable pub breaks_count : List MacroLine → List MacroLine → Macro → Bool
+breaks_count all before (Transaction transaction) = nat_le 256 (count is_any_code before)
+breaks_count all before (Terminal name) = nat_le 64 (count is_any_terminal before)
+breaks_count all before (Region classes) = nat_le 8 (count is_any_region before)
+breaks_count all before (Program name lines) = nat_le 64 (count is_any_program before)
+breaks_count all before End = (count is_any_terminal all == 0) || (count is_any_region all == 0)
+breaks_count all before _ = false
+
+unfoldable pub breaks : CrossRule → List MacroLine → List MacroLine → Macro → Bool
+breaks PsbTwice all before content = breaks_psb before content
+breaks CodeTwice all before content = breaks_code all before content
+breaks TerminalTwice all before content = breaks_terminal before content
+breaks ProgramMissing all before content = breaks_application all content
+breaks ProgramAstray all before content = breaks_program all before content
+breaks WrongCount all before content = breaks_count all before content
+
+-- the number of a rule
+abbrev pub number_of : CrossRule → ℕ
+number_of PsbTwice = 6
+number_of CodeTwice = 9
+number_of TerminalTwice = 10
+number_of ProgramMissing = 11
+number_of ProgramAstray = 12
+number_of WrongCount = 17
+
+-- the lowest line that breaks a rule
+abbrev pub first_line : CrossRule → List MacroLine → List MacroLine → List MacroLine → Option ℕ
+first_line rule all before [] = None
+first_line rule all before (line ∷ lines) = if breaks rule all before line.content then Some line.number else first_line rule all (before ++ line ∷ []) lines
+
+abbrev pub unless_broken : CrossRule → Option ℕ → Result (Unit {0}) (ℕ × ℕ)
+unless_broken rule (Some line) = Err (line, number_of rule)
+unless_broken rule None = Ok tt
+
+unfoldable pub keeps : CrossRule → List MacroLine → Result (Unit {0}) (ℕ × ℕ)
+keeps rule all = unless_broken rule (first_line rule all [] all)
+
+abbrev pub before_others : Result (Unit {0}) (ℕ × ℕ) → Result (Unit {0}) (ℕ × ℕ) → Result (Unit {0}) (ℕ × ℕ)
+before_others (Ok _) others = others
+before_others (Err fault) others = Err fault
+
+-- the lowest rule of the list that is broken, and of it the lowest line
+abbrev pub keeps_all : List CrossRule → List MacroLine → Result (Unit {0}) (ℕ × ℕ)
+keeps_all [] all = Ok tt
+keeps_all (rule ∷ rules) all = before_others (keeps rule all) (keeps_all rules all)
+
+-- the rules in the order of their numbers
+abbrev pub cross_rules : List MacroLine → Result (Unit {0}) (ℕ × ℕ)
+cross_rules all = keeps_all (PsbTwice ∷ CodeTwice ∷ TerminalTwice ∷ ProgramMissing ∷ ProgramAstray ∷ WrongCount ∷ []) all

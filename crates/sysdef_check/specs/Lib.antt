@@ -1,0 +1,4 @@
+pub mod SystemLists
+pub mod Cross
+pub mod Systems
+pub mod Codes

@@ -1,0 +1,83 @@
+ghost use Rattle.std.specs.Prelude.{◌≡◌};
+
+use crate::{Classes, Transaction};
+use script_text::Program;
+use std::marker::Model;
+use tm_types::Name;
+
+/// A program under the name of its PSB.
+#[derive(Debug, Drop)]
+pub struct SystemProgram {
+    pub psb: Name,
+    pub program: Program,
+}
+
+/// A transaction code with the PSB of its program.
+#[derive(Clone, Copy, Debug)]
+pub struct Code {
+    pub psb: Name,
+    pub transaction: Transaction,
+}
+
+/// What a definition defines. Its lists have the order of the lines.
+#[derive(Debug, Drop)]
+pub struct System {
+    pub(crate) qbytes: u32,
+    pub(crate) logs: u32,
+    pub(crate) programs: Vec<SystemProgram>,
+    pub(crate) codes: Vec<Code>,
+    pub(crate) terminals: Vec<Name>,
+    pub(crate) regions: Vec<Classes>,
+}
+
+impl Model for System {
+    ghost use Rattle.sysdef_check.specs.SystemLists.{SystemLists};
+
+    ghost Value = { SystemLists };
+
+    ghost view = { λ s. record { qbytes = s.qbytes; logs = s.logs; programs = s.programs.items; codes = s.codes.items; terminals = s.terminals.items; regions = s.regions.items } };
+}
+
+impl System {
+    /// The bytes of the queues.
+    pub fn qbytes(&self) -> u32
+        ensures { result ≡ self.now.qbytes }
+    {
+        self.qbytes
+    }
+
+    /// The sectors of a log area.
+    pub fn logs(&self) -> u32
+        ensures { result ≡ self.now.logs }
+    {
+        self.logs
+    }
+
+    /// The programs, in the order of their PROGRAM lines.
+    pub fn programs(&self) -> &[SystemProgram]
+        ensures { result.now ≡ self.now.programs }
+    {
+        &self.programs
+    }
+
+    /// The transaction codes.
+    pub fn codes(&self) -> &[Code]
+        ensures { result.now ≡ self.now.codes }
+    {
+        &self.codes
+    }
+
+    /// The terminals.
+    pub fn terminals(&self) -> &[Name]
+        ensures { result.now ≡ self.now.terminals }
+    {
+        &self.terminals
+    }
+
+    /// The classes of each region; the first region has number 1.
+    pub fn regions(&self) -> &[Classes]
+        ensures { result.now ≡ self.now.regions }
+    {
+        &self.regions
+    }
+}

@@ -1,0 +1,35 @@
+ghost use Rattle.std.specs.Prelude.{◌≡◌};
+ghost use Rattle.sysdef_check.specs.Systems.{Answers, checked};
+
+use crate::build::system_of;
+use crate::cross::cross_rules;
+use crate::{Definition, System};
+use std::alloc::Global;
+use thiserror::Error;
+
+/// Why a definition is refused.
+#[derive(Debug, Drop, Error)]
+pub enum CrossRefused {
+    /// The lowest line that breaks the lowest rule that is broken, and this rule.
+    #[error("line {0} breaks cross rule {1}")]
+    BadCross(u32, u8),
+    #[error("no memory")]
+    Memory,
+}
+
+/// The system that the definition defines.
+///
+/// The answer is the system exactly where the macros break no rule among each other, else the
+/// lowest rule that is broken with the lowest line that breaks it, or want of memory.
+#[tactic(auto, unfolding(crate::specs::Systems::checked))]
+pub fn check(alloc: Global, definition: Definition) -> Result<System, CrossRefused>
+    ensures { Answers result (checked definition) }
+{
+    if let Err((line, rule)) = cross_rules(definition.items()) {
+        return Err(CrossRefused::BadCross(line, rule));
+    }
+    match system_of(alloc, definition.into_items()) {
+        Ok(system) => Ok(system),
+        Err(_) => Err(CrossRefused::Memory),
+    }
+}

@@ -1,0 +1,3 @@
+pub mod ClassSteps
+pub mod LineCounts
+pub mod FirstLine

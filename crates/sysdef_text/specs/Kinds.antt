@@ -1,0 +1,43 @@
+-- The macros and their keys.
+use Rattle.std.specs.Prelude.{ℕ, Bool, false, List, [], ◌∷◌, codes, Option, Some, None, Result, Ok, Err, if◌then◌else◌}
+use Rattle.std.specs.List.{list_all, list_any}
+use Rattle.std.specs.Str.{bytes_eq}
+use Rattle.text_rows.specs.declared.rules.TheConstants.{UNKNOWN_MACRO, UNKNOWN_OPERAND}
+use Rattle.text_rows.specs.Lines.{split_at}
+use Rattle.sysdef_text.specs.declared.kinds.Kind.{Kind}
+use Rattle.sysdef_text.specs.declared.kinds.Kind.TheVariants.{Control, Application, Transaction, Terminal, Region, End}
+
+-- Rule 1: the name is one of these.
+unfoldable pub kind_of : List ℕ → Result Kind ℕ
+kind_of name =
+    if bytes_eq name (codes "IMSCTRL") then Ok Control
+    else (if bytes_eq name (codes "APPLCTN") then Ok Application
+    else (if bytes_eq name (codes "TRANSACT") then Ok Transaction
+    else (if bytes_eq name (codes "NAME") then Ok Terminal
+    else (if bytes_eq name (codes "REGION") then Ok Region
+    else (if bytes_eq name (codes "END") then Ok End
+    else Err UNKNOWN_MACRO)))))
+
+abbrev pub transaction_keys : List (List ℕ)
+transaction_keys = codes "CODE" ∷ codes "MSGTYPE" ∷ codes "PRTY" ∷ codes "PROCLIM" ∷ codes "SEGNO" ∷ codes "SEGSIZE" ∷ codes "SERIAL" ∷ []
+
+-- the keys that a macro has
+abbrev pub keys : Kind → List (List ℕ)
+keys Control = codes "QBYTES" ∷ codes "LOGS" ∷ []
+keys Application = codes "PSB" ∷ []
+keys Transaction = transaction_keys
+keys Terminal = codes "LTERM" ∷ []
+keys Region = codes "CLASS" ∷ []
+keys End = []
+
+abbrev pub is_among : List (List ℕ) → Option (List ℕ × List ℕ) → Bool
+is_among words None = false
+is_among words (Some (word, value)) = list_any (bytes_eq word) words
+
+-- an operand without = has no key
+unfoldable pub has_key : Kind → List ℕ → Bool
+has_key kind operand = is_among (keys kind) (split_at 61 operand)
+
+-- Rule 2: each operand has one of the macro's keys.
+unfoldable pub known : Kind → List (List ℕ) → Result (Unit {0}) ℕ
+known kind operands = if list_all (has_key kind) operands then Ok tt else Err UNKNOWN_OPERAND

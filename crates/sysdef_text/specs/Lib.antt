@@ -1,0 +1,7 @@
+pub mod Kinds
+pub mod Values
+pub mod Rows
+pub mod Places
+pub mod Programs
+pub mod Steps
+pub mod Definitions

@@ -1,0 +1,57 @@
+-- Where a macro may stand.
+use Rattle.std.specs.Prelude.{ℕ, Bool, true, List, [], codes, Result, Ok, Err}
+use Rattle.std.specs.Str.{bytes_eq}
+use Rattle.text_rows.specs.Lines.{printable_line}
+use Rattle.text_rows.specs.Lowest.{also}
+use Rattle.text_rows.specs.Operands.{macro_name, macro_operands}
+use Rattle.text_rows.specs.declared.rules.TheConstants.{OUT_OF_PLACE, TEXT_TOO_LONG, CONTROL_NOT_FIRST}
+use Rattle.sysdef_check.specs.declared.definition.Macro.{Macro}
+use Rattle.sysdef_text.specs.declared.kinds.Kind.{Kind}
+use Rattle.sysdef_text.specs.declared.kinds.Kind.TheVariants.{Control, Application, Transaction}
+use Rattle.sysdef_text.specs.declared.modes.Mode.{Mode}
+use Rattle.sysdef_text.specs.declared.modes.Mode.TheVariants.{Start, BehindApplication, Elsewhere}
+use Rattle.sysdef_text.specs.Kinds.{known}
+use Rattle.sysdef_text.specs.Rows.{row, program_name}
+
+-- what has come behind a macro
+abbrev pub mode_after : Kind → Mode
+mode_after Application = BehindApplication
+mode_after Transaction = BehindApplication
+mode_after _ = Elsewhere
+
+-- Rule 10: TRANSACT stands right behind APPLCTN or TRANSACT.
+abbrev pub transaction_place : Mode → Kind → Result (Unit {0}) ℕ
+transaction_place BehindApplication kind = Ok tt
+transaction_place _ Transaction = Err OUT_OF_PLACE
+transaction_place _ _ = Ok tt
+
+-- Rule 14: IMSCTRL is the first macro, and no other.
+abbrev pub control_place : Mode → Kind → Result (Unit {0}) ℕ
+control_place Start Control = Ok tt
+control_place Start _ = Err CONTROL_NOT_FIRST
+control_place _ Control = Err CONTROL_NOT_FIRST
+control_place _ _ = Ok tt
+
+abbrev pub program_place : Mode → Result (Unit {0}) ℕ
+program_place Start = Err CONTROL_NOT_FIRST
+program_place _ = Ok tt
+
+-- Rule 12: no line passes 262,144 bytes. Where the text is longer its last line is the one that
+-- passes; the lines behind a line tell whether it is the last.
+abbrev pub within : Bool → List (List ℕ) → Result (Unit {0}) ℕ
+within true [] = Err TEXT_TOO_LONG
+within _ _ = Ok tt
+
+-- a macro with operands, or the lowest rule that its line breaks
+unfoldable pub macro_line : Kind → Mode → Bool → List ℕ → List (List ℕ) → Result Macro ℕ
+macro_line kind mode over line behind =
+    also (also (also (row kind (macro_operands line)) (known kind (macro_operands line))) (printable_line line))
+    (also (also (transaction_place mode kind) (control_place mode kind)) (within over behind))
+
+-- the name of a PROGRAM, or the lowest rule that its line breaks
+unfoldable pub program_line : Mode → Bool → List ℕ → List (List ℕ) → Result (List ℕ) ℕ
+program_line mode over line behind =
+    also (also (program_name line) (printable_line line)) (also (program_place mode) (within over behind))
+
+abbrev pub is_program : List ℕ → Bool
+is_program line = bytes_eq (macro_name line) (codes "PROGRAM")

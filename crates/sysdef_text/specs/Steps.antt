@@ -1,0 +1,53 @@
+-- What one line of a definition does.
+use Rattle.std.specs.Prelude.{ℕ, suc, Bool, List, Result, Ok, Err, if◌then◌else◌}
+use Rattle.text_rows.specs.Lines.{is_passed_over}
+use Rattle.text_rows.specs.Operands.{macro_name}
+use Rattle.text_rows.specs.Refusals.{at_line}
+use Rattle.script_text.specs.declared.program.ScriptLine.{ScriptLine}
+use Rattle.script_text.specs.Scripts.{is_last}
+use Rattle.sysdef_check.specs.declared.definition.Macro.{Macro}
+use Rattle.sysdef_check.specs.declared.definition.Macro.TheVariants.{Program}
+use Rattle.sysdef_text.specs.declared.kinds.Kind.{Kind}
+use Rattle.sysdef_text.specs.declared.kinds.Kind.TheVariants.{End}
+use Rattle.sysdef_text.specs.declared.modes.Mode.{Mode}
+use Rattle.sysdef_text.specs.declared.modes.Mode.TheVariants.{InProgram, Elsewhere}
+use Rattle.sysdef_text.specs.declared.modes.Step.{Step}
+use Rattle.sysdef_text.specs.declared.modes.Step.TheVariants.{Pass, Item, Last}
+use Rattle.sysdef_text.specs.Kinds.{kind_of}
+use Rattle.sysdef_text.specs.Places.{mode_after, within, macro_line, program_line, is_program}
+use Rattle.sysdef_text.specs.Programs.{program_block}
+
+-- A line that is passed over leaves all as it was.
+abbrev pub passed : Mode → Result (Unit {0}) (ℕ × ℕ) → Result Step (ℕ × ℕ)
+passed mode (Ok _) = Ok (Pass mode)
+passed mode (Err fault) = Err fault
+
+-- A PROGRAM has the lines behind it, which are then passed up to and with ENDPROG.
+abbrev pub program_read : Result (List ℕ) (ℕ × ℕ) → Result (List ScriptLine) (ℕ × ℕ) → Result Step (ℕ × ℕ)
+program_read (Ok name) (Ok lines) = Ok (Item (Program name lines) InProgram)
+program_read (Ok name) (Err fault) = Err fault
+program_read (Err fault) lines = Err fault
+
+abbrev pub program_step : Mode → Bool → ℕ → List ℕ → List (List ℕ) → Result Step (ℕ × ℕ)
+program_step mode over number line behind = program_read (at_line number (program_line mode over line behind)) (program_block over (suc number) behind)
+
+-- END is the last macro.
+abbrev pub macro_read : Kind → Result Macro (ℕ × ℕ) → Result Step (ℕ × ℕ)
+macro_read End (Ok macro) = Ok (Last macro)
+macro_read kind (Ok macro) = Ok (Item macro (mode_after kind))
+macro_read kind (Err fault) = Err fault
+
+abbrev pub macro_step : Result Kind ℕ → Mode → Bool → ℕ → List ℕ → List (List ℕ) → Result Step (ℕ × ℕ)
+macro_step (Ok kind) mode over number line behind = macro_read kind (at_line number (macro_line kind mode over line behind))
+macro_step (Err rule) mode over number line behind = Err (number, rule)
+
+abbrev pub outside_step : Mode → Bool → ℕ → List ℕ → List (List ℕ) → Result Step (ℕ × ℕ)
+outside_step mode over number line behind =
+    if is_passed_over line then passed mode (at_line number (within over behind))
+    else (if is_program line then program_step mode over number line behind
+    else macro_step (kind_of (macro_name line)) mode over number line behind)
+
+-- The step of a line with this number, before the lines behind it.
+unfoldable pub step : Mode → Bool → ℕ → List ℕ → List (List ℕ) → Result Step (ℕ × ℕ)
+step InProgram over number line behind = Ok (Pass (if is_last line then Elsewhere else InProgram))
+step mode over number line behind = outside_step mode over number line behind

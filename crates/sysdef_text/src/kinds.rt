@@ -1,0 +1,94 @@
+ghost use Rattle.std.specs.Prelude.{◌≡◌};
+ghost use Rattle.std.specs.List.{list_any};
+ghost use Rattle.std.specs.Str.{bytes_eq};
+ghost use Rattle.sysdef_text.specs.Kinds as spec;
+
+use text_rows::rules::{UNKNOWN_MACRO, UNKNOWN_OPERAND};
+use text_rows::{Operands, is_word, split_at};
+
+/// The macros that have operands with keys.
+#[derive(Clone, Copy, Debug)]
+pub enum Kind {
+    /// IMSCTRL.
+    Control,
+    /// APPLCTN.
+    Application,
+    /// TRANSACT.
+    Transaction,
+    /// NAME.
+    Terminal,
+    /// REGION.
+    Region,
+    /// END.
+    End,
+}
+
+/// The kind that a name stands for: rule 1 where it stands for none.
+#[tactic(auto, unfolding(crate::specs::Kinds::kind_of))]
+pub(crate) fn kind_of(name: &[u8]) -> Result<Kind, u8>
+    ensures { result ≡ spec.kind_of name.now }
+{
+    if is_word(name, b"IMSCTRL") {
+        Ok(Kind::Control)
+    } else if is_word(name, b"APPLCTN") {
+        Ok(Kind::Application)
+    } else if is_word(name, b"TRANSACT") {
+        Ok(Kind::Transaction)
+    } else if is_word(name, b"NAME") {
+        Ok(Kind::Terminal)
+    } else if is_word(name, b"REGION") {
+        Ok(Kind::Region)
+    } else if is_word(name, b"END") {
+        Ok(Kind::End)
+    } else {
+        Err(UNKNOWN_MACRO)
+    }
+}
+
+/// Rule 2 where an operand isn't one of the macro's.
+#[tactic(auto, unfolding(crate::specs::Kinds::known))]
+pub(crate) fn known(kind: Kind, operands: &Operands<'_>) -> Result<(), u8>
+    ensures { result ≡ spec.known kind operands.now }
+{
+    for operand in operands.pieces() {
+        if !has_key(kind, operand) {
+            return Err(UNKNOWN_OPERAND);
+        }
+    }
+    Ok(())
+}
+
+#[tactic(auto, unfolding(crate::specs::Kinds::has_key))]
+fn has_key(kind: Kind, operand: &[u8]) -> bool
+    ensures { result ≡ spec.has_key kind operand.now }
+{
+    match split_at(b'=', operand) {
+        Some((word, _)) => is_key(kind, word),
+        None => false,
+    }
+}
+
+fn is_key(kind: Kind, word: &[u8]) -> bool
+    ensures { result ≡ list_any (bytes_eq word.now) (spec.keys kind) }
+{
+    match kind {
+        Kind::Control => is_word(word, b"QBYTES") || is_word(word, b"LOGS"),
+        Kind::Application => is_word(word, b"PSB"),
+        Kind::Transaction => is_transaction_key(word),
+        Kind::Terminal => is_word(word, b"LTERM"),
+        Kind::Region => is_word(word, b"CLASS"),
+        Kind::End => false,
+    }
+}
+
+fn is_transaction_key(word: &[u8]) -> bool
+    ensures { result ≡ list_any (bytes_eq word.now) spec.transaction_keys }
+{
+    is_word(word, b"CODE")
+        || is_word(word, b"MSGTYPE")
+        || is_word(word, b"PRTY")
+        || is_word(word, b"PROCLIM")
+        || is_word(word, b"SEGNO")
+        || is_word(word, b"SEGSIZE")
+        || is_word(word, b"SERIAL")
+}

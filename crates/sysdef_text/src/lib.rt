@@ -1,0 +1,21 @@
+//! The reader of system definitions, which names the first rule broken.
+//!
+//! A definition has one macro a line: its name, one blank, and operands `KEY=value` that commas part.
+//! Lines that are empty or begin with `*` are passed over. It ends at the macro END; between PROGRAM
+//! and ENDPROG stand the lines of a script.
+#![tactic(auto)]
+
+pub use kinds::Kind;
+pub use modes::{Mode, Step};
+pub use reader::read_definition;
+
+mod kinds;
+mod modes;
+mod places;
+mod programs;
+mod reader;
+mod rows;
+mod source;
+#[cfg(test)]
+mod tests;
+mod values;

@@ -1,0 +1,25 @@
+use sysdef_check::Macro;
+
+/// What has come before a line.
+#[derive(Clone, Copy, Debug)]
+pub enum Mode {
+    /// No macro.
+    Start,
+    /// An APPLCTN or a TRANSACT.
+    BehindApplication,
+    /// Another macro.
+    Elsewhere,
+    /// A PROGRAM whose ENDPROG is still to come.
+    InProgram,
+}
+
+/// What a line does.
+#[derive(Debug, Drop)]
+pub enum Step {
+    /// It has no macro.
+    Pass(Mode),
+    /// It has a macro.
+    Item(Macro, Mode),
+    /// It has the last macro.
+    Last(Macro),
+}

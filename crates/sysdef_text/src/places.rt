@@ -1,0 +1,97 @@
+ghost use Rattle.std.specs.Prelude.{◌≡◌};
+ghost use Rattle.sysdef_text.specs.Places as spec;
+
+use crate::kinds::known;
+use crate::rows::{program_name, row};
+use crate::{Kind, Mode};
+use sysdef_check::Macro;
+use text_rows::rules::{CONTROL_NOT_FIRST, OUT_OF_PLACE, TEXT_TOO_LONG};
+use text_rows::{also, is_word, printable_line, split_macro};
+use tm_edge::Line;
+use tm_types::Name;
+
+pub(crate) fn mode_after(kind: Kind) -> Mode
+    ensures { result ≡ spec.mode_after kind }
+{
+    match kind {
+        Kind::Application | Kind::Transaction => Mode::BehindApplication,
+        _ => Mode::Elsewhere,
+    }
+}
+
+fn transaction_place(mode: Mode, kind: Kind) -> Result<(), u8>
+    ensures { result ≡ spec.transaction_place mode kind }
+{
+    match (mode, kind) {
+        (Mode::BehindApplication, _) => Ok(()),
+        (_, Kind::Transaction) => Err(OUT_OF_PLACE),
+        _ => Ok(()),
+    }
+}
+
+fn control_place(mode: Mode, kind: Kind) -> Result<(), u8>
+    ensures { result ≡ spec.control_place mode kind }
+{
+    match (mode, kind) {
+        (Mode::Start, Kind::Control) => Ok(()),
+        (Mode::Start, _) | (_, Kind::Control) => Err(CONTROL_NOT_FIRST),
+        _ => Ok(()),
+    }
+}
+
+fn program_place(mode: Mode) -> Result<(), u8>
+    ensures { result ≡ spec.program_place mode }
+{
+    match mode {
+        Mode::Start => Err(CONTROL_NOT_FIRST),
+        _ => Ok(()),
+    }
+}
+
+/// Rule 12 where the text is too long and no line is behind.
+pub(crate) fn within(over: bool, behind: &[Line]) -> Result<(), u8>
+    ensures { result ≡ spec.within over behind.now }
+{
+    match (over, behind) {
+        (true, []) => Err(TEXT_TOO_LONG),
+        _ => Ok(()),
+    }
+}
+
+/// The macro that a line spells, or the lowest rule that it breaks.
+#[tactic(auto, unfolding(crate::specs::Places::macro_line))]
+pub(crate) fn macro_line(
+    kind: Kind,
+    mode: Mode,
+    over: bool,
+    line: &[u8],
+    behind: &[Line],
+) -> Result<Macro, u8>
+    ensures { result ≡ spec.macro_line kind mode over line.now behind.now }
+{
+    let (_, operands) = split_macro(line);
+    let values = also(row(kind, &operands), known(kind, &operands));
+    let place = also(transaction_place(mode, kind), control_place(mode, kind));
+    also(
+        also(values, printable_line(line)),
+        also(place, within(over, behind)),
+    )
+}
+
+/// The name of a PROGRAM, or the lowest rule that its line breaks.
+#[tactic(auto, unfolding(crate::specs::Places::program_line))]
+pub(crate) fn program_line(mode: Mode, over: bool, line: &[u8], behind: &[Line]) -> Result<Name, u8>
+    ensures { result ≡ spec.program_line mode over line.now behind.now }
+{
+    also(
+        also(program_name(line), printable_line(line)),
+        also(program_place(mode), within(over, behind)),
+    )
+}
+
+pub(crate) fn is_program(line: &[u8]) -> bool
+    ensures { result ≡ spec.is_program line.now }
+{
+    let (name, _) = split_macro(line);
+    is_word(name, b"PROGRAM")
+}

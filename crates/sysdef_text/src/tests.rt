@@ -1,0 +1,250 @@
+use crate::read_definition;
+use std::alloc::{AllocError, Global};
+use std::test::Fail;
+use sysdef_check::{Codes, CrossRefused, SegmentKind, System, check};
+use text_rows::LineRefused;
+use tm_types::Name;
+
+/// The line and the rule that a text breaks first; rule 0 where it breaks none.
+fn refusal(alloc: Global, text: &[u8]) -> Result<(u32, u8), AllocError> {
+    match read_definition(alloc, text) {
+        Ok(_) => Ok((0, 0)),
+        Err(LineRefused::BadLine(line, rule)) => Ok((line, rule)),
+        Err(LineRefused::Memory) => Err(AllocError),
+    }
+}
+
+/// The same of a line between IMSCTRL, an APPLCTN and END.
+fn line_refusal(alloc: Global, line: &[u8]) -> Result<(u32, u8), AllocError> {
+    let mut text = Vec::new(alloc);
+    text.extend_from_slice(b"IMSCTRL\nAPPLCTN PSB=P\n")?;
+    text.extend_from_slice(line)?;
+    text.extend_from_slice(b"\nEND\n")?;
+    refusal(alloc, &text)
+}
+
+/// A line behind an APPLCTN, and the rule that it breaks.
+#[test]
+fn lines(rt: HostRuntime) -> Result<(), Fail> {
+    let table = [
+        (b"TRANSACT CODE=C".as_slice(), 0),
+        (
+            b"TRANSACT CODE=C,MSGTYPE=(SNGLSEG,NONRESPONSE,255),PRTY=(0,14,1),PROCLIM=(1,500),SEGNO=32,SEGSIZE=5,SERIAL=NO".as_slice(),
+            0,
+        ),
+        (b"NAME LTERM=ABCDEFGH\r".as_slice(), 0),
+        (b"REGION CLASS=(1,2,3,255)".as_slice(), 0),
+        (b"* anything \x01".as_slice(), 0),
+        (b"DBD NAME=D".as_slice(), 1),
+        (b"ENDPROG".as_slice(), 1),
+        (b"NAME LTERM=T1,FORMAT=F".as_slice(), 2),
+        (b"NAME LTERM".as_slice(), 2),
+        (b"NAME LTERM=T1,".as_slice(), 2),
+        (b"NAME LTERM=T1,LTERM=T2".as_slice(), 3),
+        (b"NAME".as_slice(), 4),
+        (b"PROGRAM".as_slice(), 4),
+        (b"TRANSACT CODE=C,SEGNO=A".as_slice(), 5),
+        (b"TRANSACT CODE=C,SEGNO=000000000000000000001".as_slice(), 5),
+        (b"TRANSACT CODE=C,SEGNO=33".as_slice(), 6),
+        (b"TRANSACT CODE=C,SEGSIZE=4".as_slice(), 6),
+        (b"TRANSACT CODE=C,PROCLIM=(1,499)".as_slice(), 6),
+        (b"TRANSACT CODE=C,PRTY=(15,0,1)".as_slice(), 6),
+        (b"REGION CLASS=(0)".as_slice(), 6),
+        (b"NAME LTERM=ABCDEFGHI".as_slice(), 7),
+        (b"PROGRAM p".as_slice(), 7),
+        (b"REGION CLASS=()".as_slice(), 8),
+        (b"REGION CLASS=(1,2,3,4,X)".as_slice(), 8),
+        (b"REGION CLASS=(1)x".as_slice(), 8),
+        (b"TRANSACT CODE=C,SERIAL=YES".as_slice(), 9),
+        (
+            b"TRANSACT CODE=C,MSGTYPE=(MULTSEG,RESPONSE,1)".as_slice(),
+            9,
+        ),
+        (
+            b"TRANSACT CODE=C,MSGTYPE=(MANY,NONRESPONSE,256)".as_slice(),
+            6,
+        ),
+        (b"NAME LTERM=T1\nTRANSACT CODE=C".as_slice(), 10),
+        (b"REGION CLASS=(1),\x7f".as_slice(), 2),
+        (b"IMSCTRL".as_slice(), 14),
+    ];
+    for (line, want) in table {
+        let (_, rule) = line_refusal(rt.alloc(), line)?;
+        assert_eq!(rt; rule, want);
+    }
+    Ok(())
+}
+
+/// Whole texts, and the line and rule that they break first.
+#[test]
+fn texts(rt: HostRuntime) -> Result<(), Fail> {
+    let table = [
+        (b"".as_slice(), (1, 13)),
+        (b"IMSCTRL\n*\n".as_slice(), (3, 13)),
+        (b"IMSCTRL\nEND".as_slice(), (0, 0)),
+        (b"IMSCTRL\nEND\r".as_slice(), (2, 1)),
+        (b"\n\nREGION CLASS=(1)\nEND\n".as_slice(), (3, 14)),
+        (b"IMSCTRL\nREGION CLASS=(0)\nFOO\nEND\n".as_slice(), (2, 6)),
+        (b"IMSCTRL\nEND X\nFOO\n".as_slice(), (2, 2)),
+        (
+            b"IMSCTRL\nPROGRAM P\nEND\nENDPROG\nEND\n".as_slice(),
+            (0, 0),
+        ),
+        (b"IMSCTRL\nPROGRAM P\nEND\nEND\n".as_slice(), (5, 13)),
+        (
+            b"IMSCTRL\nPROGRAM P\n* x\nCALL GU 1 A\nENDPROG\nEND\n".as_slice(),
+            (4, 30),
+        ),
+        (
+            b"IMSCTRL\nPROGRAM P\nFOO \x01\nENDPROG\nEND\n".as_slice(),
+            (3, 11),
+        ),
+        (b"IMSCTRL\nPROGRAM P\nENDPROG x\nEND\n".as_slice(), (3, 22)),
+        (b"IMSCTRL\nPROGRAM P\nFOO\nENDPROG\n".as_slice(), (3, 21)),
+        (
+            b"IMSCTRL\nAPPLCTN PSB=P\nPROGRAM P\nENDPROG\nTRANSACT CODE=C\nEND\n".as_slice(),
+            (5, 10),
+        ),
+    ];
+    for (text, want) in table {
+        let found = refusal(rt.alloc(), text)?;
+        assert_eq!(rt; found, want);
+    }
+    Ok(())
+}
+
+/// The line that passes 262,144 bytes.
+#[test]
+fn length(rt: HostRuntime) -> Result<(), Fail> {
+    let alloc = rt.alloc();
+    let mut text = Vec::new(alloc);
+    text.extend_from_slice(b"IMSCTRL\n*")?;
+    for _count in 0..262_130u32 {
+        text.push(b' ')?;
+    }
+    text.extend_from_slice(b"\nEND\n")?;
+    assert_eq!(rt; text.len(), 262_144);
+    let fits = refusal(alloc, &text)?;
+    assert_eq!(rt; fits, (0, 0));
+    text.insert(9, b' ')?;
+    let passes = refusal(alloc, &text)?;
+    assert_eq!(rt; passes, (3, 12));
+    text.insert(9, b'\n')?;
+    let unknown = refusal(alloc, &text)?;
+    assert_eq!(rt; unknown, (3, 1));
+    Ok(())
+}
+
+const SYSTEM: &[u8] = b"IMSCTRL QBYTES=1048576,LOGS=256
+APPLCTN PSB=ECHOP
+TRANSACT CODE=ECHO,PRTY=(5,9,3)
+APPLCTN PSB=SEGSP
+TRANSACT CODE=SEGS,PRTY=(7,7,65535)
+APPLCTN PSB=LOOPP
+TRANSACT CODE=LOOP,MSGTYPE=(MULTSEG,NONRESPONSE,2),PRTY=(9,9,65535),PROCLIM=(1,1000)
+NAME LTERM=T1
+NAME LTERM=T2
+NAME LTERM=T9
+REGION CLASS=(1,2)
+REGION CLASS=(1,2)
+PROGRAM ECHOP
+CALL GU 0 A
+CALL ISRT 0 A
+END
+ENDPROG
+PROGRAM SEGSP
+CALL GU 0 A
+CALL ISRT 0 A
+END
+ENDPROG
+PROGRAM LOOPP
+CALL GU 0 A
+CALL ISRT 0 A
+CALL GU 0 A
+ENDPROG
+END
+";
+
+fn system_of(alloc: Global, text: &[u8]) -> Result<System, Fail> {
+    let definition = read_definition(alloc, text)?;
+    let system = check(alloc, definition)?;
+    Ok(system)
+}
+
+/// A system of three codes, three terminals and two regions.
+#[test]
+fn system(rt: HostRuntime) -> Result<(), Fail> {
+    let alloc = rt.alloc();
+    let system = system_of(alloc, SYSTEM)?;
+    assert_eq!(rt; system.qbytes(), 1_048_576);
+    assert_eq!(rt; system.logs(), 256);
+    assert_eq!(rt; system.terminals().len(), 3);
+    assert_eq!(rt; system.regions().len(), 2);
+    for classes in system.regions() {
+        assert_eq!(rt; classes.as_slice(), [1, 2].as_slice());
+    }
+    assert_eq!(rt; system.programs().len(), 3);
+    assert_eq!(rt; system.programs()[2].psb.as_bytes(), b"LOOPP".as_slice());
+    assert_eq!(rt; system.programs()[2].program.lines().len(), 3);
+    assert_eq!(rt; system.codes().len(), 3);
+    let looping = &system.codes()[2];
+    assert_eq!(rt; looping.psb.as_bytes(), b"LOOPP".as_slice());
+    assert_eq!(rt; looping.transaction.code.as_bytes(), b"LOOP".as_slice());
+    assert_eq!(rt; looping.transaction.segment_kind, SegmentKind::Multiple);
+    assert_eq!(rt; looping.transaction.class, 2);
+    assert_eq!(rt; looping.transaction.normal_priority, 9);
+    assert_eq!(rt; looping.transaction.limit_count, 65535);
+    assert_eq!(rt; looping.transaction.processing_count, 1);
+    assert_eq!(rt; looping.transaction.statement_limit, 1000);
+    assert_eq!(rt; looping.transaction.segment_count, 32);
+    assert_eq!(rt; looping.transaction.segment_size, 2000);
+    assert!(rt; !looping.transaction.serial);
+    let mut codes = Codes::of(alloc, &system)?;
+    let echo = Name::read(b"ECHO").ok_or("no name")?;
+    let place = codes.place_of(&echo).ok_or("no place")?;
+    assert_eq!(rt; codes.states()[place].priority, 5);
+    codes.set_raised(place, true);
+    let none = Name::read(b"NONE").ok_or("no name")?;
+    assert_eq!(rt; codes.place_of(&none), None);
+    Ok(())
+}
+
+/// Texts without a fault in a line, and the line and cross rule that they break first.
+#[test]
+fn cross_rules(rt: HostRuntime) -> Result<(), Fail> {
+    let table = [
+        (
+            b"IMSCTRL\nAPPLCTN PSB=P\nAPPLCTN PSB=P\nPROGRAM P\nENDPROG\nEND\n".as_slice(),
+            (3, 6),
+        ),
+        (
+            b"IMSCTRL\nAPPLCTN PSB=P\nTRANSACT CODE=C\nTRANSACT CODE=C\nEND\n".as_slice(),
+            (4, 9),
+        ),
+        (
+            b"IMSCTRL\nAPPLCTN PSB=P\nTRANSACT CODE=C\nNAME LTERM=C\nEND\n".as_slice(),
+            (3, 9),
+        ),
+        (
+            b"IMSCTRL\nNAME LTERM=T\nNAME LTERM=T\nEND\n".as_slice(),
+            (3, 10),
+        ),
+        (
+            b"IMSCTRL\nAPPLCTN PSB=P\nPROGRAM Q\nENDPROG\nEND\n".as_slice(),
+            (2, 11),
+        ),
+        (b"IMSCTRL\nPROGRAM Q\nENDPROG\nEND\n".as_slice(), (2, 12)),
+        (b"IMSCTRL\nNAME LTERM=T\n\nEND\n".as_slice(), (4, 17)),
+        (b"IMSCTRL\nREGION CLASS=(1)\nEND\n".as_slice(), (3, 17)),
+    ];
+    for (text, want) in table {
+        let definition = read_definition(rt.alloc(), text)?;
+        let found = match check(rt.alloc(), definition) {
+            Ok(_) => (0, 0),
+            Err(CrossRefused::BadCross(line, rule)) => (line, rule),
+            Err(CrossRefused::Memory) => (0, 1),
+        };
+        assert_eq!(rt; found, want);
+    }
+    Ok(())
+}
