@@ -10,6 +10,7 @@ pub use key::Key;
 pub use message::{Message, Reply};
 pub use name::Name;
 pub use segment::{Segment, SegmentRefused, Segments, is_printable};
+pub use ssa::{KeyTest, Ssa, Ssas};
 pub use status::Status;
 /// No memory was left. A call that answers this has changed nothing.
 pub use std::alloc::AllocError as Memory;
@@ -22,6 +23,7 @@ mod key;
 mod message;
 mod name;
 mod segment;
+mod ssa;
 mod status;
 #[cfg(test)]
 mod tests;
