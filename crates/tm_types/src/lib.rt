@@ -22,6 +22,7 @@ mod function;
 mod key;
 mod message;
 mod name;
+pub mod processing;
 mod segment;
 mod ssa;
 mod status;

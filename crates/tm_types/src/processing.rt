@@ -1,0 +1,10 @@
+//! The processing options of a database PCB, each a bit of one number. All four are 15.
+
+/// The PCB may get segments. Options that replace or delete include it.
+pub const GET: u8 = 1;
+/// The PCB may insert segments.
+pub const INSERT: u8 = 2;
+/// The PCB may replace segments, and get them with hold.
+pub const REPLACE: u8 = 4;
+/// The PCB may delete segments, and get them with hold.
+pub const DELETE: u8 = 8;
