@@ -1,8 +1,14 @@
-//! Scripts: programs as they are served, and the machine that runs one.
+//! The machine that runs a script: from call to call, in place.
 #![tactic(auto)]
 
 pub use machine::Machine;
-pub use program::Program;
+pub use model_script::{CallText, Need, Program};
 
+mod arithmetic;
 mod machine;
-mod program;
+mod script;
+mod statements;
+mod steps;
+#[cfg(test)]
+mod tests;
+mod texts;

@@ -1,103 +1,124 @@
-ghost use Rattle.std.specs.Prelude.{◌≡◌, ◌+◌, ◌<◌, ◌^◌, OnOk, OnErr, OnSome, IfOk, IsOk, IsSome, None, slice_get, length};
+ghost use Rattle.std.specs.Prelude.{◌≡◌, ◌<◌, false, IfOk, OnOk, OnErr, IsOk, IsSome, IfSome, None, slice_get};
 ghost use Rattle.std.specs.Borrow.{Bor};
-ghost use Rattle.std.specs.Option.{option_copied, option_map};
-ghost use Rattle.model_machine.specs.Script.{script_start, need_at, sets_variable};
-ghost use Rattle.script_run.specs.Running.{variable_of, moved_on};
+ghost use Rattle.std.specs.Option.{option_map};
+ghost use Rattle.tm_types.specs.Segment.{IsSegmentText};
+ghost use Rattle.model_script.specs.Script as spec;
+ghost use Rattle.script_run.specs.Running.{HasTexts, GivesRoom, Waits, WaitsWithRoom};
 
-use crate::Program;
-use model_machine::{CallText, Need, ScriptLine};
+use crate::script::Script;
+use crate::steps::go_on;
+use model_script::{Need, Program, Statement};
 use std::alloc::Global;
 use std::marker::Model;
-use tm_types::{Bytes, Memory, Status};
+use tm_types::{Function, Memory, Status};
 
-/// How many variables a script has: A to Z.
-const VARIABLES: usize = 26;
-
-/// A script that runs. Contracts see where it stands, and the variable of the call that waits for
-/// its answer.
+/// A script that runs. Contracts see where it stands, how many statements it may execute, and, while
+/// a call waits for its answer, the variable that the call may set.
 #[derive(Debug, Drop)]
 pub struct Machine {
     alloc: Global,
-    place: usize,
-    variables: Vec<Bytes>,
-    waiting: Option<u8>,
+    limit: u32,
+    script: Script,
+    waiting: Option<Option<u8>>,
 }
 
 impl Model for Machine {
-    ghost use Rattle.std.specs.Prelude.{◌≡◌, length};
-    ghost use Rattle.script_run.specs.Running.{Running, IsVariable};
+    ghost use Rattle.script_run.specs.Running.{Running, WaitsWithRoom};
 
     ghost Value = { Running };
 
-    ghost view = { λ m. record { script = record { place = m.place; variables = m.variables.items }; waiting = m.waiting } };
+    ghost view = { λ m. record { script = m.script; limit = m.limit; waiting = m.waiting } };
 
-    ghost invariant = { λ m. (length m.variables.items ≡ 26) × IsVariable m.waiting };
+    ghost invariant = { λ m. WaitsWithRoom m.waiting m.script };
 }
 
 impl Machine {
-    /// A script at its first line, with empty variables.
-    pub fn new(alloc: Global) -> Result<Machine, Memory>
-        ensures { IfOk result (λ machine. machine ≡ record { script = script_start; waiting = None }) }
+    /// The machine that is to run the program from its start, with at most so many statements.
+    pub fn new(alloc: Global, _program: &Program, limit: u32) -> Result<Machine, Memory>
+        ensures { IfOk result (λ machine. machine ≡ record { script = spec.script_start; limit = limit; waiting = None }) }
     {
-        let mut variables = Vec::with_capacity(alloc, VARIABLES)?;
-        for _place in 0..26u8 {
-            variables.push(Bytes::new(alloc))?;
-        }
         Ok(Machine {
             alloc,
-            place: 0,
-            variables,
+            limit,
+            script: Script::start(alloc)?,
             waiting: None,
         })
     }
 
-    /// What the script needs next. A call that it gives is to be answered.
+    #[tactic(auto, using(crate::proofs::GoingOn::waits_for))]
+    /// What the program needs next: a call, which is then to be answered, or its end. The area and
+    /// the keys of a call are at most 1,996 printable bytes.
+    ///
+    /// Want of memory loses nothing: the program may have gone on towards its next call, and may be
+    /// asked again.
     pub fn next(&mut self, program: &Program) -> Result<Need, Memory>
-        ensures need { IfOk result (λ need. need ≡ need_at program.now self.old.script) }
-        ensures waiting { OnOk result (self.new.waiting ≡ variable_of (slice_get program.now self.old.script.place)) }
-        ensures script { self.new.script ≡ self.old.script }
-        ensures room { OnOk result (OnSome self.new.waiting (self.old.script.place + 1 < 2 ^ 64)) }
+        ensures need { IfOk result (λ need. need ≡ spec.need_at program.now self.old.limit self.old.script) }
+        ensures texts { IfOk result HasTexts }
+        ensures script { OnOk result (self.new.script ≡ spec.settled program.now self.old.limit self.old.script) }
+        ensures waiting { OnOk result (self.new.waiting ≡ spec.waiting_at program.now self.old.limit self.old.script) }
+        ensures waits { IfOk result (λ need. Waits need self.new.waiting) }
+        ensures limit { self.new.limit ≡ self.old.limit }
+        ensures err { OnErr result (spec.settled program.now self.old.limit self.new.script ≡ spec.settled program.now self.old.limit self.old.script) }
     {
-        match program.line(self.place) {
-            Some(ScriptLine::Call(function, pcb, variable)) => {
-                let place = variable.place();
-                let area = self.variables[place as usize].clone()?;
-                self.waiting = Some(place);
-                Ok(Need::Call(CallText {
-                    function: *function,
-                    pcb: *pcb,
-                    area,
-                }))
-            }
-            Some(ScriptLine::End) | None => {
-                self.waiting = None;
-                Ok(Need::Ended)
-            }
-        }
+        self.waiting = None;
+        let need = go_on(self.alloc, self.limit, program, &mut self.script)?;
+        self.waiting = waiting_for(program, self.script.place(), &need);
+        Ok(need)
     }
 
-    /// Answers the call that the last `next` gave. Without an area it takes no memory.
+    /// Answers the call that the last `next` gave. Its variable becomes the area where there is one,
+    /// the call brings a text, and the status is blank, GA or GK. Want of memory changes nothing;
+    /// without an area, or with another status, the answer takes no memory.
     pub fn answer(&mut self, status: Status, area: Option<&[u8]>) -> Result<(), Memory>
         requires waits { IsSome self.old.waiting }
-        requires room { self.old.script.place + 1 < 2 ^ 64 }
-        ensures ok { OnOk result (self.new ≡ record { script = moved_on self.old.script self.old.waiting (record { status = status; area = option_map (λ (text : Bor _). text.now) area.entry }); waiting = None }) }
+        requires text { IfSome (option_map (λ (text : Bor _). text.now) area) IsSegmentText }
+        ensures ok { OnOk result (self.new ≡ record { script = spec.moved_on self.old.script self.old.waiting (record { status = status; area = option_map (λ (text : Bor _). text.now) area.entry }); limit = self.old.limit; waiting = None }) }
         ensures err { OnErr result (self.new ≡ self.old) }
         ensures no_area { area.entry ≡ None → IsOk result }
+        ensures not_set { spec.sets_variable status ≡ false → IsOk result }
     {
-        if let (Some(variable), Some(text)) = (self.waiting, area)
-            && sets_variable(status)
-        {
-            self.variables[variable as usize] = Bytes::copied(self.alloc, text)?;
-        }
-        self.place += 1;
+        let Some(set) = self.waiting else {
+            return Ok(());
+        };
+        self.script.answer(self.alloc, set, status, area)?;
         self.waiting = None;
         Ok(())
     }
 }
 
-/// Whether a call that is answered so sets its variable.
-fn sets_variable(status: Status) -> bool
-    ensures { result ≡ sets_variable status }
+#[tactic(auto, using(crate::proofs::GoingOn::waits_with_room))]
+/// The variable that a call on the line at this place may set, where this is what the script needs.
+fn waiting_for(program: &Program, place: usize, need: &Need) -> Option<Option<u8>>
+    ensures value { result ≡ spec.waiting_by (slice_get program.now place) need.now }
+    ensures room { (state : spec.ScriptState) → GivesRoom need.now state → WaitsWithRoom result state }
 {
-    matches!(status, Status::Blank | Status::GA | Status::GK)
+    match (program.line(place), need) {
+        (Some(line), Need::Call(_)) => Some(set_by(&line.statement)),
+        _ => None,
+    }
+}
+
+fn set_by(statement: &Statement) -> Option<u8>
+    ensures value { result ≡ spec.set_by statement.now }
+    ensures variable { IfSome result (λ x. x < 26) }
+{
+    match statement {
+        Statement::Call(function, _, Some(x), _) if brings_text(*function) => Some(x.place()),
+        _ => None,
+    }
+}
+
+fn brings_text(function: Function) -> bool
+    ensures { result ≡ spec.brings_text function }
+{
+    matches!(
+        function,
+        Function::GU
+            | Function::GN
+            | Function::GNP
+            | Function::GHU
+            | Function::GHN
+            | Function::GHNP
+            | Function::ROLB
+    )
 }

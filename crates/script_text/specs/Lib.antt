@@ -1,4 +1,7 @@
-pub mod Statements
-pub mod Programs
-pub mod Scripts
+pub mod Good
 pub mod LowRules
+pub mod Scripts
+pub mod Statements
+pub mod Values
+pub mod WordLists
+pub mod Kept

@@ -1,15 +1,15 @@
 -- The lines of a program, up to its ENDPROG.
-use Rattle.std.specs.Prelude.{ℕ, suc, Bool, List, [], ◌∷◌, nat_lt, codes, Result, Ok, Err, if◌then◌else◌}
+use Rattle.std.specs.Prelude.{ℕ, suc, Bool, List, [], ◌∷◌, nat_lt, codes, Option, Some, None, Result, Ok, Err, if◌then◌else◌}
 use Rattle.std.specs.Str.{bytes_eq}
 use Rattle.text_rows.specs.declared.pieces.Place.TheVariants.{WordStart}
 use Rattle.text_rows.specs.Lowest.{also}
 use Rattle.text_rows.specs.Lines.{is_passed_over, printable_line}
 use Rattle.text_rows.specs.Pieces.{pieces}
 use Rattle.text_rows.specs.Refusals.{at_line, then_lines}
-use Rattle.script_text.specs.declared.program.ScriptLine.{ScriptLine}
-use Rattle.script_text.specs.declared.program.Statement.{Statement}
+use Rattle.model_script.specs.declared.program.ScriptLine.{ScriptLine}
+use Rattle.model_script.specs.declared.statement.Statement.{Statement}
 use Rattle.script_text.specs.declared.rules.TheConstants.{TOO_MANY_STATEMENTS, ENDPROG_MISSING}
-use Rattle.script_text.specs.Statements.{statement_of, nothing_behind}
+use Rattle.script_text.specs.Statements.{label_in, has_label_word, statement_of, nothing_behind}
 
 -- A line is words that blanks part; a literal in quotes is one word.
 abbrev pub words : List ℕ → List (List ℕ)
@@ -30,13 +30,34 @@ is_last line = begins_with (codes "ENDPROG") (words line)
 unfoldable pub last_line : List ℕ → Result (Unit {0}) ℕ
 last_line line = also (nothing_behind (behind_first (words line))) (printable_line line)
 
+abbrev pub label_here : ℕ → Option (List ℕ) → List ℕ → Option ℕ
+label_here place (Some label) name = if bytes_eq label name then Some place else None
+label_here place None name = None
+
+abbrev pub first_or : Option ℕ → Option ℕ → Option ℕ
+first_or (Some place) others = Some place
+first_or None others = others
+
+-- The first place of a label among the lines up to ENDPROG, the first of them having this place.
+-- Lines that are passed over have none.
+abbrev pub label_from : ℕ → List (List ℕ) → List ℕ → Option ℕ
+label_from place [] name = None
+label_from place (line ∷ lines) name =
+    if is_passed_over line then label_from place lines name
+    else (if is_last line then None
+    else first_or (label_here place (label_in (words line)) name) (label_from (suc place) lines name))
+
 -- Rule 8: a statement has at most 499 before it.
 unfoldable pub room_for : ℕ → Result (Unit {0}) ℕ
 room_for before = if nat_lt before 500 then Ok tt else Err TOO_MANY_STATEMENTS
 
--- the statement of a line that has so many statements before it
-unfoldable pub statement_line : ℕ → List ℕ → Result Statement ℕ
-statement_line before line = also (also (statement_of (words line)) (printable_line line)) (room_for before)
+abbrev pub room_before : ℕ → List ℕ → Result (Unit {0}) ℕ
+room_before before line = if has_label_word (words line) then Ok tt else room_for before
+
+-- What a line reads as, or the lowest rule that it breaks. Labels stand at these places, this is the
+-- line's own, and it has so many statements before it.
+unfoldable pub statement_line : (List ℕ → Option ℕ) → ℕ → ℕ → List ℕ → Result Statement ℕ
+statement_line places here before line = also (also (statement_of places here (words line)) (printable_line line)) (room_before before line)
 
 abbrev pub numbered : ℕ → Result Statement (ℕ × ℕ) → Result ScriptLine (ℕ × ℕ)
 numbered number (Ok statement) = Ok (record { number = number; statement = statement })
@@ -46,12 +67,19 @@ abbrev pub nothing_more : Result (Unit {0}) (ℕ × ℕ) → Result (List Script
 nothing_more (Ok _) = Ok []
 nothing_more (Err fault) = Err fault
 
--- The lines of a program from the one of this number on, with so many statements before them.
--- Rule 9: they end by ENDPROG; where they don't, it is missing one past the last.
-abbrev pub script : ℕ → ℕ → List (List ℕ) → Result (List ScriptLine) (ℕ × ℕ)
-script number before [] = Err (number, ENDPROG_MISSING)
-script number before (line ∷ lines) = if is_passed_over line then script (suc number) before lines else (if is_last line then nothing_more (at_line number (last_line line)) else then_lines (numbered number (at_line number (statement_line before line))) (script (suc number) (suc before) lines))
+-- how many statements stand before the line behind this one
+abbrev pub counted : ℕ → List ℕ → ℕ
+counted before line = if has_label_word (words line) then before else suc before
+
+-- The lines of a program from the one of this number on, with so many lines and statements before
+-- them. Rule 9: they end by ENDPROG; where they don't, it is missing one past the last.
+abbrev pub script : (List ℕ → Option ℕ) → ℕ → ℕ → ℕ → List (List ℕ) → Result (List ScriptLine) (ℕ × ℕ)
+script places number here before [] = Err (number, ENDPROG_MISSING)
+script places number here before (line ∷ lines) =
+    if is_passed_over line then script places (suc number) here before lines
+    else (if is_last line then nothing_more (at_line number (last_line line))
+    else then_lines (numbered number (at_line number (statement_line places here before line))) (script places (suc number) (suc here) (counted before line) lines))
 
 -- the program that these lines spell, the first of them having this number
 unfoldable pub program_of : ℕ → List (List ℕ) → Result (List ScriptLine) (ℕ × ℕ)
-program_of first lines = script first 0 lines
+program_of first lines = script (label_from 0 lines) first 0 0 lines

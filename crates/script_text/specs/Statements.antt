@@ -1,64 +1,221 @@
 -- The lines of a script, each by its words.
-use Rattle.std.specs.Prelude.{ℕ, ◌&&◌, List, [], ◌∷◌, ◌==◌, nat_le, codes, Result, Ok, Err, if◌then◌else◌}
+use Rattle.std.specs.Prelude.{ℕ, ◌==◌, ◌&&◌, ◌||◌, nat_le, Bool, true, false, List, [], ◌∷◌, codes, Option, Some, None, Result, Ok, Err, if◌then◌else◌}
 use Rattle.std.specs.Str.{bytes_eq}
 use Rattle.tm_types.specs.declared.function.Function.{Function}
-use Rattle.tm_types.specs.declared.function.Function.TheVariants.{GU, GN, ISRT}
 use Rattle.text_rows.specs.Lowest.{both, also}
-use Rattle.text_rows.specs.Numbers.{number_between}
-use Rattle.script_text.specs.declared.program.Statement.{Statement}
-use Rattle.script_text.specs.declared.program.Statement.TheVariants.{Call, End}
-use Rattle.script_text.specs.declared.rules.TheConstants.{UNKNOWN_WORD, WRONG_COUNT, NO_VARIABLE, WRONG_NUMBER, UNKNOWN_FUNCTION}
+use Rattle.text_rows.specs.Names.{name_of}
+use Rattle.model_script.specs.Programs.{is_function_of, takes_area, takes_ssas}
+use Rattle.model_script.specs.declared.script_ssa.ScriptSsa.{ScriptSsa}
+use Rattle.model_script.specs.declared.statement.Comparison.{Comparison}
+use Rattle.model_script.specs.declared.statement.Statement.{Statement}
+use Rattle.model_script.specs.declared.statement.Statement.TheVariants as line
+use Rattle.model_script.specs.declared.statement.Target.{Target}
+use Rattle.model_script.specs.declared.text.Text.{Text}
+use Rattle.script_text.specs.declared.line_word.LineWord.{LineWord}
+use Rattle.script_text.specs.declared.line_word.LineWord.TheVariants.{Label, Set, Word, Cut, Pad, Add, Less, If, Goto, Call, Abend, End}
+use Rattle.script_text.specs.declared.rules.TheConstants.{UNKNOWN_WORD, WRONG_COUNT, NO_LABEL, LABEL_TWICE, UNKNOWN_FUNCTION}
+use Rattle.script_text.specs.Values.{variable_of, text_of, texts_of, number_of, comparison_of, goto_word, target_of, ssas_of, function_of}
 
--- Rule 3: a variable is one letter, A to Z.
-unfoldable pub variable_of : List ℕ → Result ℕ ℕ
-variable_of [] = Err NO_VARIABLE
-variable_of (letter ∷ []) = if nat_le 65 letter && nat_le letter 90 then Ok letter else Err NO_VARIABLE
-variable_of (letter ∷ other ∷ letters) = Err NO_VARIABLE
+-- Rule 1: the first word of a line.
+unfoldable pub line_word : List ℕ → Option LineWord
+line_word word =
+    if bytes_eq word (codes "LABEL") then Some Label
+    else (if bytes_eq word (codes "SET") then Some Set
+    else (if bytes_eq word (codes "WORD") then Some Word
+    else (if bytes_eq word (codes "CUT") then Some Cut
+    else (if bytes_eq word (codes "PAD") then Some Pad
+    else (if bytes_eq word (codes "ADD") then Some Add
+    else (if bytes_eq word (codes "LESS") then Some Less
+    else (if bytes_eq word (codes "IF") then Some If
+    else (if bytes_eq word (codes "GOTO") then Some Goto
+    else (if bytes_eq word (codes "CALL") then Some Call
+    else (if bytes_eq word (codes "ABEND") then Some Abend
+    else (if bytes_eq word (codes "END") then Some End
+    else None)))))))))))
 
--- Rule 10: the functions are GU, GN and ISRT.
-unfoldable pub function_of : List ℕ → Result Function ℕ
-function_of word = if bytes_eq word (codes "GU") then Ok GU else (if bytes_eq word (codes "GN") then Ok GN else (if bytes_eq word (codes "ISRT") then Ok ISRT else Err UNKNOWN_FUNCTION))
+abbrev pub if_name : Result (List ℕ) ℕ → Option (List ℕ)
+if_name (Ok name) = Some name
+if_name (Err rule) = None
 
--- Rule 7: the number of a PCB is 0 to 8.
-abbrev pub or_wrong_number : Result ℕ ℕ → Result ℕ ℕ
-or_wrong_number (Ok number) = Ok number
-or_wrong_number (Err rule) = Err WRONG_NUMBER
+-- the label that a line sets: the word LABEL and a name alone
+abbrev pub label_by : Option LineWord → List (List ℕ) → Option (List ℕ)
+label_by (Some Label) (name ∷ []) = if_name (name_of name)
+label_by _ _ = None
 
-unfoldable pub pcb_of : List ℕ → Result ℕ ℕ
-pcb_of text = or_wrong_number (number_between 0 8 text)
+abbrev pub label_in : List (List ℕ) → Option (List ℕ)
+label_in [] = None
+label_in (word ∷ words) = label_by (line_word word) words
 
--- Rule 10: only PCB 0 is there.
-abbrev pub on_message_pcb : Result ℕ ℕ → Result ℕ ℕ
-on_message_pcb (Ok number) = if number == 0 then Ok number else Err UNKNOWN_FUNCTION
-on_message_pcb (Err rule) = Err rule
+-- whether a line has the word LABEL; it is no statement then
+abbrev pub is_label_word : Option LineWord → Bool
+is_label_word (Some Label) = true
+is_label_word _ = false
 
--- the call, or the lowest rule that its parts break
-abbrev pub call_made : Function → Result (ℕ × ℕ) ℕ → Result Statement ℕ
-call_made function (Ok (pcb, variable)) = Ok (Call function pcb variable)
+abbrev pub has_label_word : List (List ℕ) → Bool
+has_label_word [] = false
+has_label_word (word ∷ words) = is_label_word (line_word word)
+
+-- Rule 6: a label stands at the first place where there is one of its name.
+abbrev pub stands_at : Option ℕ → ℕ → Bool
+stands_at (Some place) here = place == here
+stands_at None here = false
+
+abbrev pub label_at : (List ℕ → Option ℕ) → ℕ → Result (List ℕ) ℕ → Result Statement ℕ
+label_at places here (Ok name) = if stands_at (places name) here then Ok (line.Label name) else Err LABEL_TWICE
+label_at places here (Err rule) = Err NO_LABEL
+
+-- Rule 2: a line has as many operands as its word takes.
+unfoldable pub label_of : (List ℕ → Option ℕ) → ℕ → List (List ℕ) → Result Statement ℕ
+label_of places here (name ∷ []) = label_at places here (name_of name)
+label_of places here _ = Err WRONG_COUNT
+
+abbrev pub set_made : Result (ℕ × List Text) ℕ → Result Statement ℕ
+set_made (Ok (x, texts)) = Ok (line.Set x texts)
+set_made (Err rule) = Err rule
+
+unfoldable pub set_of : List (List ℕ) → Result Statement ℕ
+set_of (x ∷ word ∷ words) = set_made (both (variable_of x) (texts_of (word ∷ words)))
+set_of _ = Err WRONG_COUNT
+
+abbrev pub word_made : Result (ℕ × (ℕ × ℕ)) ℕ → Result Statement ℕ
+word_made (Ok (x, (y, number))) = Ok (line.Word x y number)
+word_made (Err rule) = Err rule
+
+unfoldable pub word_of : List (List ℕ) → Result Statement ℕ
+word_of (x ∷ y ∷ number ∷ []) = word_made (both (variable_of x) (both (variable_of y) (number_of 1 100 number)))
+word_of _ = Err WRONG_COUNT
+
+abbrev pub cut_made : Result ((ℕ × ℕ) × (ℕ × ℕ)) ℕ → Result Statement ℕ
+cut_made (Ok ((x, y), (start, count))) = Ok (line.Cut x y start count)
+cut_made (Err rule) = Err rule
+
+unfoldable pub cut_of : List (List ℕ) → Result Statement ℕ
+cut_of (x ∷ y ∷ start ∷ count ∷ []) = cut_made (both (both (variable_of x) (variable_of y)) (both (number_of 1 1996 start) (number_of 1 1996 count)))
+cut_of _ = Err WRONG_COUNT
+
+abbrev pub pad_made : Result (ℕ × ℕ) ℕ → Result Statement ℕ
+pad_made (Ok (x, width)) = Ok (line.Pad x width)
+pad_made (Err rule) = Err rule
+
+unfoldable pub pad_of : List (List ℕ) → Result Statement ℕ
+pad_of (x ∷ width ∷ []) = pad_made (both (variable_of x) (number_of 1 18 width))
+pad_of _ = Err WRONG_COUNT
+
+-- the two variables of ADD and LESS
+unfoldable pub pair_of : List (List ℕ) → Result (ℕ × ℕ) ℕ
+pair_of (x ∷ y ∷ []) = both (variable_of x) (variable_of y)
+pair_of _ = Err WRONG_COUNT
+
+abbrev pub add_made : Result (ℕ × ℕ) ℕ → Result Statement ℕ
+add_made (Ok (x, y)) = Ok (line.Add x y)
+add_made (Err rule) = Err rule
+
+abbrev pub less_made : Result (ℕ × ℕ) ℕ → Result Statement ℕ
+less_made (Ok (x, y)) = Ok (line.Less x y)
+less_made (Err rule) = Err rule
+
+abbrev pub if_made : Result ((Text × Comparison) × (Text × Target)) ℕ → Result Statement ℕ
+if_made (Ok ((left, comparison), (right, target))) = Ok (line.If left comparison right target)
+if_made (Err rule) = Err rule
+
+-- an IF with another count than five operands
+abbrev pub if_miscounted : List (List ℕ) → Result Statement ℕ
+if_miscounted (left ∷ comparison ∷ right ∷ goto ∷ words) = also (also (Err WRONG_COUNT) (comparison_of comparison)) (goto_word goto)
+if_miscounted (left ∷ comparison ∷ words) = also (Err WRONG_COUNT) (comparison_of comparison)
+if_miscounted _ = Err WRONG_COUNT
+
+unfoldable pub if_of : (List ℕ → Option ℕ) → List (List ℕ) → Result Statement ℕ
+if_of places (left ∷ comparison ∷ right ∷ goto ∷ label ∷ []) =
+    also (if_made (both (both (text_of left) (comparison_of comparison)) (both (text_of right) (target_of places label)))) (goto_word goto)
+if_of places words = if_miscounted words
+
+abbrev pub goto_made : Result Target ℕ → Result Statement ℕ
+goto_made (Ok target) = Ok (line.Goto target)
+goto_made (Err rule) = Err rule
+
+unfoldable pub goto_of : (List ℕ → Option ℕ) → List (List ℕ) → Result Statement ℕ
+goto_of places (label ∷ []) = goto_made (target_of places label)
+goto_of places _ = Err WRONG_COUNT
+
+-- Rule 10: PCB 0 has other functions than the others.
+abbrev pub on_pcb : Function → Result ℕ ℕ → Result ℕ ℕ
+on_pcb function (Ok pcb) = if is_function_of pcb function then Ok pcb else Err UNKNOWN_FUNCTION
+on_pcb function (Err rule) = Err rule
+
+abbrev pub is_above_0 : Result ℕ ℕ → Bool
+is_above_0 (Ok pcb) = nat_le 1 pcb
+is_above_0 (Err rule) = false
+
+abbrev pub with_area : Result (ℕ × List ScriptSsa) ℕ → Result (Option ℕ × List ScriptSsa) ℕ
+with_area (Ok (x, ssas)) = Ok (Some x, ssas)
+with_area (Err rule) = Err rule
+
+abbrev pub is_empty : List (List ℕ) → Bool
+is_empty [] = true
+is_empty (word ∷ words) = false
+
+-- Rule 2: the area is missing for the functions that take none, and only a get or ISRT on a PCB
+-- above 0 has segment search arguments.
+abbrev pub area_taken : Bool → List (List ℕ) → Result (Option ℕ × List ScriptSsa) ℕ
+area_taken ssas [] = Err WRONG_COUNT
+area_taken ssas (x ∷ words) = if is_empty words || ssas then with_area (both (variable_of x) (ssas_of words)) else Err WRONG_COUNT
+
+abbrev pub no_area : List (List ℕ) → Result (Option ℕ × List ScriptSsa) ℕ
+no_area [] = Ok (None, [])
+no_area (word ∷ words) = Err WRONG_COUNT
+
+abbrev pub area_of : Function → Result ℕ ℕ → List (List ℕ) → Result (Option ℕ × List ScriptSsa) ℕ
+area_of function pcb words = if takes_area function then area_taken (takes_ssas function && is_above_0 pcb) words else no_area words
+
+abbrev pub call_made : Function → Result (ℕ × (Option ℕ × List ScriptSsa)) ℕ → Result Statement ℕ
+call_made function (Ok (pcb, (area, ssas))) = Ok (line.Call function pcb area ssas)
 call_made function (Err rule) = Err rule
 
--- Rule 2: a known function takes the number and one variable. Of a call of an unknown function
--- only the number is judged besides.
+-- Of a call of an unknown function only the number is judged besides.
 abbrev pub call_with : Result Function ℕ → Result ℕ ℕ → List (List ℕ) → Result Statement ℕ
-call_with (Ok function) pcb (name ∷ []) = call_made function (both (on_message_pcb pcb) (variable_of name))
-call_with (Ok function) pcb _ = Err WRONG_COUNT
-call_with (Err rule) pcb operands = also (Err rule) pcb
+call_with (Ok function) pcb words = call_made function (both (on_pcb function pcb) (area_of function pcb words))
+call_with (Err rule) pcb words = also (Err rule) pcb
 
--- the words behind CALL
 unfoldable pub call_of : List (List ℕ) → Result Statement ℕ
-call_of (word ∷ number ∷ operands) = call_with (function_of word) (pcb_of number) operands
+call_of (word ∷ number ∷ words) = call_with (function_of word) (number_of 0 8 number) words
 call_of _ = Err WRONG_COUNT
 
--- Rule 2: nothing stands behind END and ENDPROG.
+abbrev pub abend_made : Result ℕ ℕ → Result Statement ℕ
+abend_made (Ok number) = Ok (line.Abend (record { number = number }))
+abend_made (Err rule) = Err rule
+
+unfoldable pub abend_of : List (List ℕ) → Result Statement ℕ
+abend_of (number ∷ []) = abend_made (number_of 1 4095 number)
+abend_of _ = Err WRONG_COUNT
+
+-- nothing stands behind END and ENDPROG
 unfoldable pub nothing_behind : List (List ℕ) → Result (Unit {0}) ℕ
 nothing_behind [] = Ok tt
 nothing_behind (word ∷ words) = Err WRONG_COUNT
 
 abbrev pub ended : Result (Unit {0}) ℕ → Result Statement ℕ
-ended (Ok _) = Ok End
+ended (Ok _) = Ok line.End
 ended (Err rule) = Err rule
 
--- Rule 1: a statement is a CALL or END.
-unfoldable pub statement_of : List (List ℕ) → Result Statement ℕ
-statement_of [] = Err UNKNOWN_WORD
-statement_of (word ∷ operands) = if bytes_eq word (codes "CALL") then call_of operands else (if bytes_eq word (codes "END") then ended (nothing_behind operands) else Err UNKNOWN_WORD)
+-- a line by its word; labels stand at these places, and this is the line's own
+abbrev pub by_word : LineWord → (List ℕ → Option ℕ) → ℕ → List (List ℕ) → Result Statement ℕ
+by_word Label places here words = label_of places here words
+by_word Set places here words = set_of words
+by_word Word places here words = word_of words
+by_word Cut places here words = cut_of words
+by_word Pad places here words = pad_of words
+by_word Add places here words = add_made (pair_of words)
+by_word Less places here words = less_made (pair_of words)
+by_word If places here words = if_of places words
+by_word Goto places here words = goto_of places words
+by_word Call places here words = call_of words
+by_word Abend places here words = abend_of words
+by_word End places here words = ended (nothing_behind words)
+
+abbrev pub known_word : Option LineWord → (List ℕ → Option ℕ) → ℕ → List (List ℕ) → Result Statement ℕ
+known_word (Some word) places here words = by_word word places here words
+known_word None places here words = Err UNKNOWN_WORD
+
+unfoldable pub statement_of : (List ℕ → Option ℕ) → ℕ → List (List ℕ) → Result Statement ℕ
+statement_of places here [] = Err UNKNOWN_WORD
+statement_of places here (word ∷ words) = known_word (line_word word) places here words

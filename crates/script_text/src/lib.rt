@@ -1,18 +1,19 @@
 //! The scripts of programs: their grammar, and the reader that names the first rule broken.
 //!
-//! A line is the word CALL with a function, the number of a PCB and a variable, or the word END.
-//! Lines that are empty or begin with `*` are passed over. A program ends at its line ENDPROG.
+//! A line is a word and its operands, parted by blanks. Lines that are empty or begin with `*` are
+//! passed over. A program ends at its line ENDPROG.
 #![tactic(auto)]
 
-pub use program::{Program, ScriptLine, Statement};
+pub use lines::is_last;
+pub use model_script::{Program, ScriptLine, Statement, Variable};
 pub use reader::read_program;
-pub use statements::is_last;
-pub use variable::Variable;
 
-mod program;
+mod labels;
+mod line_word;
+mod lines;
 mod reader;
 pub mod rules;
 mod statements;
 #[cfg(test)]
 mod tests;
-mod variable;
+mod values;

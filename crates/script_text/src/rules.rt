@@ -1,12 +1,19 @@
 //! The rules of a script line, by their numbers. A byte that isn't printable has the number that it
 //! has in a definition.
 
-/// The first word isn't one of the language.
+/// The first word isn't one of the language; or, in an IF, the word between the texts, or the one
+/// before the label.
 pub const UNKNOWN_WORD: u8 = 1;
 /// Operands are missing, or there are too many.
 pub const WRONG_COUNT: u8 = 2;
-/// An operand is no variable.
-pub const NO_VARIABLE: u8 = 3;
+/// An operand is no variable, no text or no segment search argument.
+pub const WRONG_OPERAND: u8 = 3;
+/// A literal isn't closed.
+pub const OPEN_LITERAL: u8 = 4;
+/// A label is no name, or stands nowhere.
+pub const NO_LABEL: u8 = 5;
+/// A label stands twice.
+pub const LABEL_TWICE: u8 = 6;
 /// An operand is no number, or one out of its range.
 pub const WRONG_NUMBER: u8 = 7;
 /// The program has more than 500 statements.

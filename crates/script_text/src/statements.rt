@@ -1,161 +1,458 @@
-ghost use Rattle.std.specs.Prelude.{◌≡◌, ◌<◌, Ok, IfOk, OnOk, IsTrue};
+ghost use Rattle.std.specs.Prelude.{◌≡◌, ◌≤◌, ◌∷◌, [], ℕ, true, false, Ok, Some, None, IfOk, IfSome, IsTrue, is_some, is_none};
+ghost use Rattle.model_script.specs.Programs.{is_call, is_statement, is_function_of, ssas_allowed, takes_area, takes_ssas};
+ghost use Rattle.script_text.specs.Good.{places_in, are_printable, is_free, IsGood};
 ghost use Rattle.script_text.specs.Statements as spec;
-ghost use Rattle.script_text.specs.Programs.{is_message_function, is_statement};
-ghost use Rattle.script_text.specs.Scripts as script;
+ghost use Rattle.script_text.specs.Values as values;
+ghost use Rattle.text_rows.specs.Lowest as lowest;
+ghost use Rattle.text_rows.specs.Names as names;
+ghost use Rattle.script_text.specs.declared.line_word.LineWord.TheVariants as words_of_lines;
 
-use crate::Statement;
-use crate::rules::{
-    TOO_MANY_STATEMENTS, UNKNOWN_FUNCTION, UNKNOWN_WORD, WRONG_COUNT, WRONG_NUMBER,
+use crate::line_word::{LineWord, line_word};
+use crate::rules::{LABEL_TWICE, NO_LABEL, UNKNOWN_FUNCTION, UNKNOWN_WORD, WRONG_COUNT};
+use crate::values::{
+    byte_of, comparison_of, function_of, goto_word, place_of, short_of, ssas_of, target_of,
+    text_of, texts_of, variable_of,
 };
-use crate::variable::variable_of;
-use text_rows::{Pieces, Place, also, both, is_word, number_between, printable_line};
-use tm_types::Function;
+use model_script::{Comparison, ScriptSsas, Statement, Target, Text, Variable};
+use std::alloc::Global;
+use std::collections::BTreeMap;
+use text_rows::{Pieces, also, both, name_of};
+use tm_types::{AbendCode, Function, Memory, Name};
 
-#[tactic(auto, unfolding(crate::specs::Statements::function_of))]
-fn function_of(word: &[u8]) -> Result<Function, u8>
-    ensures value { result ≡ spec.function_of word.now }
-    ensures allowed { IfOk result (λ function. IsTrue (is_message_function function)) }
+/// What the words read as, or the lowest rule that they break. The line stands at this place among
+/// the lines of the program, and the labels at theirs.
+#[tactic(auto, unfolding(crate::specs::Statements::statement_of))]
+pub(crate) fn statement_of(
+    alloc: Global,
+    labels: &BTreeMap<Name, u32>,
+    here: u32,
+    mut words: Pieces<'_>,
+) -> Result<Result<Statement, u8>, Memory>
+    ensures value { IfOk result (λ read. read ≡ spec.statement_of (places_in labels.now) here words.entry) }
+    ensures good { IfOk result (λ read. IfOk read (IsGood (places_in labels.now) here words.entry (spec.has_label_word words.entry) (spec.label_in words.entry))) }
 {
-    if is_word(word, b"GU") {
-        Ok(Function::GU)
-    } else if is_word(word, b"GN") {
-        Ok(Function::GN)
-    } else if is_word(word, b"ISRT") {
-        Ok(Function::ISRT)
+    let Some(word) = words.next() else {
+        return Ok(Err(UNKNOWN_WORD));
+    };
+    match line_word(word) {
+        Some(word) => by_word(alloc, word, labels, here, words),
+        None => Ok(Err(UNKNOWN_WORD)),
+    }
+}
+
+#[tactic(auto, using(crate::proofs::GoodStatements::free_read))]
+fn by_word(
+    alloc: Global,
+    word: LineWord,
+    labels: &BTreeMap<Name, u32>,
+    here: u32,
+    words: Pieces<'_>,
+) -> Result<Result<Statement, u8>, Memory>
+    ensures value { IfOk result (λ read. read ≡ spec.by_word word (places_in labels.now) here words.entry) }
+    ensures good { IfOk result (λ read. IfOk read (IsGood (places_in labels.now) here words.entry (spec.is_label_word (Some word)) (spec.label_by (Some word) words.entry))) }
+{
+    match word {
+        LineWord::Label => Ok(label_of(labels, here, words)),
+        LineWord::Set => set_of(alloc, words),
+        LineWord::Word => Ok(word_of(words)),
+        LineWord::Cut => Ok(cut_of(words)),
+        LineWord::Pad => Ok(pad_of(words)),
+        LineWord::Add => Ok(add_of(words)),
+        LineWord::Less => Ok(less_of(words)),
+        LineWord::If => if_of(alloc, labels, words),
+        LineWord::Goto => Ok(goto_of(labels, words)),
+        LineWord::Call => call_of(alloc, words),
+        LineWord::Abend => Ok(abend_of(words)),
+        LineWord::End => Ok(end_of(words)),
+    }
+}
+
+/// Whether the words set a label, or would; they are no statement then.
+pub(crate) fn has_label_word(mut words: Pieces<'_>) -> bool
+    ensures { result ≡ spec.has_label_word words.entry }
+{
+    match words.next() {
+        Some(word) => matches!(line_word(word), Some(LineWord::Label)),
+        None => false,
+    }
+}
+
+/// The label that the words set.
+pub(crate) fn label_in(mut words: Pieces<'_>) -> Option<Name>
+    ensures { result ≡ spec.label_in words.entry }
+{
+    let word = words.next()?;
+    match (line_word(word), words.next(), words.next()) {
+        (Some(LineWord::Label), Some(name), None) => if_name(name),
+        _ => None,
+    }
+}
+
+fn if_name(word: &[u8]) -> Option<Name>
+    ensures { result ≡ spec.if_name (names.name_of word.now) }
+{
+    match name_of(word) {
+        Ok(name) => Some(name),
+        Err(_) => None,
+    }
+}
+
+#[tactic(auto, unfolding(crate::specs::Statements::label_of))]
+fn label_of(labels: &BTreeMap<Name, u32>, here: u32, mut words: Pieces<'_>) -> Result<Statement, u8>
+    ensures value { result ≡ spec.label_of (places_in labels.now) here words.entry }
+    ensures good { IfOk result (IsGood (places_in labels.now) here words.entry true (spec.label_by (Some words_of_lines.Label) words.entry)) }
+{
+    match (words.next(), words.next()) {
+        (Some(word), None) => label_at(labels, here, word),
+        _ => Err(WRONG_COUNT),
+    }
+}
+
+fn label_at(labels: &BTreeMap<Name, u32>, here: u32, word: &[u8]) -> Result<Statement, u8>
+    ensures value { result ≡ spec.label_at (places_in labels.now) here (names.name_of word.now) }
+    ensures good { IfOk result (IsGood (places_in labels.now) here (word.now ∷ []) true (spec.if_name (names.name_of word.now))) }
+{
+    let Ok(label) = name_of(word) else {
+        return Err(NO_LABEL);
+    };
+    if stands_at(place_of(labels, &label), here) {
+        Ok(Statement::Label(label))
     } else {
-        Err(UNKNOWN_FUNCTION)
+        Err(LABEL_TWICE)
     }
 }
 
-#[tactic(auto, unfolding(crate::specs::Statements::pcb_of))]
-fn pcb_of(text: &[u8]) -> Result<u8, u8>
-    ensures { result ≡ spec.pcb_of text.now }
+fn stands_at(place: Option<u32>, here: u32) -> bool
+    ensures value { result ≡ spec.stands_at place here }
+    ensures place { IsTrue result → place ≡ Some here }
 {
-    match number_between(0, 8, text) {
-        Ok(number) => Ok(number as u8),
-        Err(_) => Err(WRONG_NUMBER),
+    match place {
+        Some(place) => place == here,
+        None => false,
     }
 }
 
-fn on_message_pcb(pcb: Result<u8, u8>) -> Result<u8, u8>
-    ensures value { result ≡ spec.on_message_pcb pcb }
-    ensures allowed { IfOk result (λ number. number ≡ 0) }
+#[tactic(auto, unfolding(crate::specs::Statements::set_of))]
+fn set_of(alloc: Global, mut words: Pieces<'_>) -> Result<Result<Statement, u8>, Memory>
+    ensures value { IfOk result (λ read. read ≡ spec.set_of words.entry) }
+    ensures free { IfOk result (λ read. IfOk read (λ statement. IsTrue (is_free statement))) }
+    ensures allowed { IfOk result (λ read. IfOk read (λ statement. IsTrue (are_printable words.entry) → IsTrue (is_statement statement))) }
+{
+    let (Some(x), Some(first)) = (words.next(), words.next()) else {
+        return Ok(Err(WRONG_COUNT));
+    };
+    match both(variable_of(x), texts_of(alloc, first, words)?) {
+        Ok((x, texts)) => Ok(Ok(Statement::Set(x, texts))),
+        Err(rule) => Ok(Err(rule)),
+    }
+}
+
+#[tactic(auto, unfolding(crate::specs::Statements::word_of))]
+fn word_of(mut words: Pieces<'_>) -> Result<Statement, u8>
+    ensures value { result ≡ spec.word_of words.entry }
+    ensures free { IfOk result (λ statement. IsTrue (is_free statement)) }
+    ensures allowed { IfOk result (λ statement. IsTrue (is_statement statement)) }
+{
+    match (words.next(), words.next(), words.next(), words.next()) {
+        (Some(x), Some(y), Some(number), None) => {
+            let (x, (y, number)) = both(
+                variable_of(x),
+                both(variable_of(y), byte_of(1, 100, number)),
+            )?;
+            Ok(Statement::Word(x, y, number))
+        }
+        _ => Err(WRONG_COUNT),
+    }
+}
+
+#[tactic(auto, unfolding(crate::specs::Statements::cut_of))]
+fn cut_of(mut words: Pieces<'_>) -> Result<Statement, u8>
+    ensures value { result ≡ spec.cut_of words.entry }
+    ensures free { IfOk result (λ statement. IsTrue (is_free statement)) }
+    ensures allowed { IfOk result (λ statement. IsTrue (is_statement statement)) }
+{
+    match (
+        words.next(),
+        words.next(),
+        words.next(),
+        words.next(),
+        words.next(),
+    ) {
+        (Some(x), Some(y), Some(start), Some(count), None) => {
+            let variables = both(variable_of(x), variable_of(y));
+            let numbers = both(short_of(1, 1996, start), short_of(1, 1996, count));
+            let ((x, y), (start, count)) = both(variables, numbers)?;
+            Ok(Statement::Cut(x, y, start, count))
+        }
+        _ => Err(WRONG_COUNT),
+    }
+}
+
+#[tactic(auto, unfolding(crate::specs::Statements::pad_of))]
+fn pad_of(mut words: Pieces<'_>) -> Result<Statement, u8>
+    ensures value { result ≡ spec.pad_of words.entry }
+    ensures free { IfOk result (λ statement. IsTrue (is_free statement)) }
+    ensures allowed { IfOk result (λ statement. IsTrue (is_statement statement)) }
+{
+    match (words.next(), words.next(), words.next()) {
+        (Some(x), Some(width), None) => {
+            let (x, width) = both(variable_of(x), byte_of(1, 18, width))?;
+            Ok(Statement::Pad(x, width))
+        }
+        _ => Err(WRONG_COUNT),
+    }
+}
+
+#[tactic(auto, unfolding(crate::specs::Statements::pair_of))]
+fn pair_of(mut words: Pieces<'_>) -> Result<(Variable, Variable), u8>
+    ensures { result ≡ spec.pair_of words.entry }
+{
+    match (words.next(), words.next(), words.next()) {
+        (Some(x), Some(y), None) => both(variable_of(x), variable_of(y)),
+        _ => Err(WRONG_COUNT),
+    }
+}
+
+fn add_of(words: Pieces<'_>) -> Result<Statement, u8>
+    ensures value { result ≡ spec.add_made (spec.pair_of words.entry) }
+    ensures free { IfOk result (λ statement. IsTrue (is_free statement)) }
+    ensures allowed { IfOk result (λ statement. IsTrue (is_statement statement)) }
+{
+    let (x, y) = pair_of(words)?;
+    Ok(Statement::Add(x, y))
+}
+
+fn less_of(words: Pieces<'_>) -> Result<Statement, u8>
+    ensures value { result ≡ spec.less_made (spec.pair_of words.entry) }
+    ensures free { IfOk result (λ statement. IsTrue (is_free statement)) }
+    ensures allowed { IfOk result (λ statement. IsTrue (is_statement statement)) }
+{
+    let (x, y) = pair_of(words)?;
+    Ok(Statement::Less(x, y))
+}
+
+#[tactic(auto, unfolding(crate::specs::Statements::goto_of))]
+fn goto_of(labels: &BTreeMap<Name, u32>, mut words: Pieces<'_>) -> Result<Statement, u8>
+    ensures value { result ≡ spec.goto_of (places_in labels.now) words.entry }
+    ensures good { (here : ℕ) → IfOk result (IsGood (places_in labels.now) here words.entry false None) }
+{
+    match (words.next(), words.next()) {
+        (Some(label), None) => {
+            let target = target_of(labels, label)?;
+            Ok(Statement::Goto(target))
+        }
+        _ => Err(WRONG_COUNT),
+    }
+}
+
+#[tactic(auto, unfolding(crate::specs::Statements::if_of))]
+fn if_of(
+    alloc: Global,
+    labels: &BTreeMap<Name, u32>,
+    mut words: Pieces<'_>,
+) -> Result<Result<Statement, u8>, Memory>
+    ensures value { IfOk result (λ read. read ≡ spec.if_of (places_in labels.now) words.entry) }
+    ensures good { (here : ℕ) → IfOk result (λ read. IfOk read (IsGood (places_in labels.now) here words.entry false None)) }
+{
+    match (
+        words.next(),
+        words.next(),
+        words.next(),
+        words.next(),
+        words.next(),
+        words.next(),
+    ) {
+        (Some(left), Some(comparison), Some(right), Some(goto), Some(label), None) => {
+            if_with(alloc, labels, left, comparison, right, goto, label)
+        }
+        (Some(_), Some(comparison), Some(_), Some(goto), _, _) => {
+            let compared = also(Err(WRONG_COUNT), comparison_of(comparison));
+            Ok(also(compared, goto_word(goto)))
+        }
+        (Some(_), Some(comparison), _, _, _, _) => {
+            Ok(also(Err(WRONG_COUNT), comparison_of(comparison)))
+        }
+        _ => Ok(Err(WRONG_COUNT)),
+    }
+}
+
+fn if_with(
+    alloc: Global,
+    labels: &BTreeMap<Name, u32>,
+    left: &[u8],
+    comparison: &[u8],
+    right: &[u8],
+    goto: &[u8],
+    label: &[u8],
+) -> Result<Result<Statement, u8>, Memory>
+    ensures value { IfOk result (λ read. read ≡ lowest.also (spec.if_made (lowest.both (lowest.both (values.text_of left.now) (values.comparison_of comparison.now)) (lowest.both (values.text_of right.now) (values.target_of (places_in labels.now) label.now)))) (values.goto_word goto.now)) }
+    ensures good { (here : ℕ) → IfOk result (λ read. IfOk read (IsGood (places_in labels.now) here (left.now ∷ comparison.now ∷ right.now ∷ goto.now ∷ label.now ∷ []) false None)) }
+{
+    let front = both(text_of(alloc, left)?, comparison_of(comparison));
+    let behind = both(text_of(alloc, right)?, target_of(labels, label));
+    Ok(if_made(also(both(front, behind), goto_word(goto))))
+}
+
+fn if_made(parts: Result<((Text, Comparison), (Text, Target)), u8>) -> Result<Statement, u8>
+    ensures { result ≡ spec.if_made parts }
+{
+    match parts {
+        Ok(((left, comparison), (right, target))) => {
+            Ok(Statement::If(left, comparison, right, target))
+        }
+        Err(rule) => Err(rule),
+    }
+}
+
+fn on_pcb(function: Function, pcb: Result<u8, u8>) -> Result<u8, u8>
+    ensures value { result ≡ spec.on_pcb function pcb }
+    ensures allowed { IfOk result (λ number. IsTrue (is_function_of number function)) }
+    ensures kept { IfOk result (λ number. pcb ≡ Ok number) }
 {
     match pcb {
-        Ok(number) if number != 0 => Err(UNKNOWN_FUNCTION),
+        Ok(number) if !is_function_of(number, function) => Err(UNKNOWN_FUNCTION),
         _ => pcb,
     }
 }
 
+fn is_function_of(pcb: u8, function: Function) -> bool
+    ensures { result ≡ is_function_of pcb function }
+{
+    if pcb == 0 {
+        matches!(function, Function::GU | Function::GN | Function::ISRT)
+    } else {
+        !matches!(
+            function,
+            Function::PURG | Function::CHNG | Function::ROLB | Function::ROLL
+        )
+    }
+}
+
+fn takes_area(function: Function) -> bool
+    ensures { result ≡ takes_area function }
+{
+    !matches!(function, Function::PURG | Function::DLET | Function::ROLL)
+}
+
+fn takes_ssas(function: Function) -> bool
+    ensures { result ≡ takes_ssas function }
+{
+    !matches!(function, Function::REPL | Function::DLET)
+}
+
+fn is_above_0(pcb: &Result<u8, u8>) -> bool
+    ensures { result ≡ spec.is_above_0 pcb.now }
+{
+    match pcb {
+        Ok(number) => 1 <= *number,
+        Err(_) => false,
+    }
+}
+
+/// The area and the arguments of a call.
+fn area_of(
+    alloc: Global,
+    function: Function,
+    pcb: &Result<u8, u8>,
+    mut words: Pieces<'_>,
+) -> Result<Result<(Option<Variable>, ScriptSsas), u8>, Memory>
+    ensures value { IfOk result (λ read. read ≡ spec.area_of function pcb.now words.entry) }
+{
+    if !takes_area(function) {
+        return match words.next() {
+            None => Ok(Ok((None, ScriptSsas::new(alloc)))),
+            Some(_) => Ok(Err(WRONG_COUNT)),
+        };
+    }
+    let Some(x) = words.next() else {
+        return Ok(Err(WRONG_COUNT));
+    };
+    if takes_ssas(function) && is_above_0(pcb) {
+        Ok(with_area(variable_of(x), ssas_of(alloc, words)?))
+    } else {
+        match words.next() {
+            None => Ok(with_area(variable_of(x), Ok(ScriptSsas::new(alloc)))),
+            Some(_) => Ok(Err(WRONG_COUNT)),
+        }
+    }
+}
+
+fn with_area(
+    x: Result<Variable, u8>,
+    ssas: Result<ScriptSsas, u8>,
+) -> Result<(Option<Variable>, ScriptSsas), u8>
+    ensures { result ≡ spec.with_area (lowest.both x ssas) }
+{
+    let (x, ssas) = both(x, ssas)?;
+    Ok((Some(x), ssas))
+}
+
+#[tactic(auto, using(crate::proofs::GoodStatements::call_allowed))]
 fn call_with(
+    alloc: Global,
     function: Function,
     pcb: Result<u8, u8>,
-    mut operands: Pieces<'_>,
-) -> Result<Statement, u8>
-    requires { IsTrue (is_message_function function) }
-    ensures value { result ≡ spec.call_with (Ok function) pcb operands.entry }
-    ensures allowed { IfOk result (λ statement. IsTrue (is_statement statement)) }
+    words: Pieces<'_>,
+) -> Result<Result<Statement, u8>, Memory>
+    requires { IfOk pcb (λ number. number ≤ 8) }
+    ensures value { IfOk result (λ read. read ≡ spec.call_with (Ok function) pcb words.entry) }
+    ensures free { IfOk result (λ read. IfOk read (λ statement. IsTrue (is_free statement))) }
+    ensures allowed { IfOk result (λ read. IfOk read (λ statement. IsTrue (is_statement statement))) }
 {
-    match (operands.next(), operands.next()) {
-        (Some(name), None) => {
-            let (pcb, variable) = both(on_message_pcb(pcb), variable_of(name))?;
-            Ok(Statement::Call {
-                function,
-                pcb,
-                variable,
-            })
-        }
-        _ => Err(WRONG_COUNT),
+    let operands = area_of(alloc, function, &pcb, words)?;
+    match both(on_pcb(function, pcb), operands) {
+        Ok((pcb, (area, ssas))) => Ok(Ok(Statement::Call(function, pcb, area, ssas))),
+        Err(rule) => Ok(Err(rule)),
     }
 }
 
 #[tactic(auto, unfolding(crate::specs::Statements::call_of))]
-fn call_of(mut operands: Pieces<'_>) -> Result<Statement, u8>
-    ensures value { result ≡ spec.call_of operands.entry }
+fn call_of(alloc: Global, mut words: Pieces<'_>) -> Result<Result<Statement, u8>, Memory>
+    ensures value { IfOk result (λ read. read ≡ spec.call_of words.entry) }
+    ensures free { IfOk result (λ read. IfOk read (λ statement. IsTrue (is_free statement))) }
+    ensures allowed { IfOk result (λ read. IfOk read (λ statement. IsTrue (is_statement statement))) }
+{
+    let (Some(word), Some(number)) = (words.next(), words.next()) else {
+        return Ok(Err(WRONG_COUNT));
+    };
+    let pcb = byte_of(0, 8, number);
+    match function_of(word) {
+        Ok(function) => call_with(alloc, function, pcb, words),
+        Err(rule) => Ok(also(Err(rule), pcb)),
+    }
+}
+
+#[tactic(auto, unfolding(crate::specs::Statements::abend_of))]
+fn abend_of(mut words: Pieces<'_>) -> Result<Statement, u8>
+    ensures value { result ≡ spec.abend_of words.entry }
+    ensures free { IfOk result (λ statement. IsTrue (is_free statement)) }
     ensures allowed { IfOk result (λ statement. IsTrue (is_statement statement)) }
 {
-    match (operands.next(), operands.next()) {
-        (Some(word), Some(number)) => {
-            let pcb = pcb_of(number);
-            match function_of(word) {
-                Ok(function) => call_with(function, pcb, operands),
-                Err(rule) => also(Err(rule), pcb),
-            }
+    match (words.next(), words.next()) {
+        (Some(number), None) => {
+            let number = short_of(1, 4095, number)?;
+            Ok(Statement::Abend(AbendCode { number }))
         }
         _ => Err(WRONG_COUNT),
     }
 }
 
+/// Rule 2 where something stands behind a word that has no operands.
 #[tactic(auto, unfolding(crate::specs::Statements::nothing_behind))]
-fn nothing_behind(mut operands: Pieces<'_>) -> Result<(), u8>
-    ensures { result ≡ spec.nothing_behind operands.entry }
+pub(crate) fn nothing_behind(mut words: Pieces<'_>) -> Result<(), u8>
+    ensures { result ≡ spec.nothing_behind words.entry }
 {
-    match operands.next() {
+    match words.next() {
         None => Ok(()),
         Some(_) => Err(WRONG_COUNT),
     }
 }
 
-#[tactic(auto, unfolding(crate::specs::Statements::statement_of))]
-fn statement_of(mut words: Pieces<'_>) -> Result<Statement, u8>
-    ensures value { result ≡ spec.statement_of words.entry }
+fn end_of(words: Pieces<'_>) -> Result<Statement, u8>
+    ensures value { result ≡ spec.ended (spec.nothing_behind words.entry) }
+    ensures free { IfOk result (λ statement. IsTrue (is_free statement)) }
     ensures allowed { IfOk result (λ statement. IsTrue (is_statement statement)) }
 {
-    let Some(word) = words.next() else {
-        return Err(UNKNOWN_WORD);
-    };
-    if is_word(word, b"CALL") {
-        call_of(words)
-    } else if is_word(word, b"END") {
-        nothing_behind(words)?;
-        Ok(Statement::End)
-    } else {
-        Err(UNKNOWN_WORD)
-    }
-}
-
-#[tactic(auto, unfolding(crate::specs::Scripts::room_for))]
-fn room_for(before: usize) -> Result<(), u8>
-    ensures value { result ≡ script.room_for before }
-    ensures room { OnOk result (before < 500) }
-{
-    if before < 500 {
-        Ok(())
-    } else {
-        Err(TOO_MANY_STATEMENTS)
-    }
-}
-
-/// The statement of a line that has so many statements before it, or the lowest rule that the line
-/// breaks.
-#[tactic(auto, unfolding(crate::specs::Scripts::statement_line))]
-pub fn statement_line(before: usize, line: &[u8]) -> Result<Statement, u8>
-    ensures value { result ≡ script.statement_line before line.now }
-    ensures allowed { IfOk result (λ statement. IsTrue (is_statement statement)) }
-    ensures room { OnOk result (before < 500) }
-{
-    let statement = statement_of(Pieces::of(Place::WordStart, line));
-    let printable = also(statement, printable_line(line));
-    also(printable, room_for(before))
-}
-
-/// Whether the line ends the program.
-#[tactic(auto, unfolding(crate::specs::Scripts::is_last))]
-pub fn is_last(line: &[u8]) -> bool
-    ensures { result ≡ script.is_last line.now }
-{
-    match Pieces::of(Place::WordStart, line).next() {
-        Some(word) => is_word(word, b"ENDPROG"),
-        None => false,
-    }
-}
-
-/// The lowest rule that the last line breaks.
-#[tactic(auto, unfolding(crate::specs::Scripts::last_line))]
-pub fn last_line(line: &[u8]) -> Result<(), u8>
-    ensures { result ≡ script.last_line line.now }
-{
-    let mut words = Pieces::of(Place::WordStart, line);
-    let _ = words.next();
-    also(nothing_behind(words), printable_line(line))
+    nothing_behind(words)?;
+    Ok(Statement::End)
 }

@@ -1,4 +1,5 @@
-use crate::{Program, Statement, read_program};
+use crate::read_program;
+use model_script::{Comparison, Program, ScriptSsa, Statement, Text};
 use std::alloc::{AllocError, Global};
 use std::test::Fail;
 use text_rows::LineRefused;
@@ -30,35 +31,123 @@ fn read(alloc: Global, texts: &[&[u8]]) -> Result<Result<usize, (u32, u8)>, Allo
     Ok(answer(alloc, &lines, 10))
 }
 
-/// One line before ENDPROG, and what is answered.
+/// The rule that a line between LABEL L and ENDPROG breaks, or 0.
+fn rule_of(alloc: Global, text: &[u8]) -> Result<u8, AllocError> {
+    match read(alloc, &[b"LABEL L".as_slice(), text, b"ENDPROG".as_slice()])? {
+        Ok(2) => Ok(0),
+        Err((11, rule)) => Ok(rule),
+        _ => Ok(255),
+    }
+}
+
 #[test]
-fn rules(rt: HostRuntime) -> Result<(), Fail> {
+fn texts_and_words(rt: HostRuntime) -> Result<(), Fail> {
     let table = [
-        (b"CALL GU 0 A".as_slice(), Ok(1)),
-        (b"CALL ISRT 00 Z".as_slice(), Ok(1)),
-        (b"END".as_slice(), Ok(1)),
-        (b"".as_slice(), Ok(0)),
-        (b"* CALL".as_slice(), Ok(0)),
-        (b"LABEL L".as_slice(), Err((10, 1))),
-        (b" END".as_slice(), Err((10, 1))),
-        (b"END X".as_slice(), Err((10, 2))),
-        (b"CALL GU 0".as_slice(), Err((10, 2))),
-        (b"CALL GU  0 A".as_slice(), Err((10, 2))),
-        (b"CALL GU 0 A \"b c\"".as_slice(), Err((10, 2))),
-        (b"CALL PURG".as_slice(), Err((10, 2))),
-        (b"CALL GU 0 a".as_slice(), Err((10, 3))),
-        (b"CALL GU 9 \"A".as_slice(), Err((10, 3))),
-        (b"CALL GU 9 A".as_slice(), Err((10, 7))),
-        (b"CALL FOO X A".as_slice(), Err((10, 7))),
-        (b"CALL GU 1 A".as_slice(), Err((10, 10))),
-        (b"CALL PURG 0".as_slice(), Err((10, 10))),
-        (b"CALL GU 0 A\t".as_slice(), Err((10, 3))),
-        (b"*\t".as_slice(), Ok(0)),
-        (b"ENDPROG X".as_slice(), Err((10, 2))),
+        (b"SET A B".as_slice(), 0u8),
+        (b"SET A \"b c\" STATUS Z \"\"".as_slice(), 0),
+        (b"SET A".as_slice(), 2),
+        (b"SET A  B".as_slice(), 3),
+        (b"SET a B".as_slice(), 3),
+        (b"SET A b".as_slice(), 3),
+        (b"SET A \"b\"c".as_slice(), 3),
+        (b"SET A \"b c".as_slice(), 4),
+        (b"SET \"b c".as_slice(), 2),
+        (b"WORD A B 1".as_slice(), 0),
+        (b"WORD A B 100".as_slice(), 0),
+        (b"WORD A B 0".as_slice(), 7),
+        (b"WORD A B 101".as_slice(), 7),
+        (b"WORD A B".as_slice(), 2),
+        (b"WORD A b 0".as_slice(), 3),
+        (b"CUT A B 1 1996".as_slice(), 0),
+        (b"CUT A B 0 1".as_slice(), 7),
+        (b"CUT A B 1 1997".as_slice(), 7),
+        (b"CUT A B 1".as_slice(), 2),
+        (b"CUT A B 1 1 1".as_slice(), 2),
+        (b"PAD A 18".as_slice(), 0),
+        (b"PAD A 19".as_slice(), 7),
+        (b"PAD STATUS 1".as_slice(), 3),
+        (b"ADD A B".as_slice(), 0),
+        (b"ADD A".as_slice(), 2),
+        (b"LESS A B".as_slice(), 0),
+        (b"LESS A 1".as_slice(), 3),
+        (b"FOO".as_slice(), 1),
+        (b" END".as_slice(), 1),
+        (b"END".as_slice(), 0),
+        (b"END X".as_slice(), 2),
+        (b"SET A \"\t\"".as_slice(), 11),
     ];
-    for (text, want) in table {
-        let found = read(rt.alloc(), &[text, b"ENDPROG".as_slice()])?;
-        assert_eq!(rt; found, want);
+    for (text, rule) in table {
+        assert_eq!(rt; rule_of(rt.alloc(), text)?, rule);
+    }
+    Ok(())
+}
+
+#[test]
+fn places_and_ends(rt: HostRuntime) -> Result<(), Fail> {
+    let table = [
+        (b"GOTO L".as_slice(), 0u8),
+        (b"GOTO M".as_slice(), 5),
+        (b"GOTO l".as_slice(), 5),
+        (b"GOTO".as_slice(), 2),
+        (b"LABEL M".as_slice(), 0),
+        (b"LABEL L".as_slice(), 6),
+        (b"LABEL ABCDEFGHI".as_slice(), 5),
+        (b"LABEL M M".as_slice(), 2),
+        (b"IF A = \"x\" GOTO L".as_slice(), 0),
+        (b"IF STATUS <> \"  \" GOTO L".as_slice(), 0),
+        (b"IF A < B GOTO L".as_slice(), 0),
+        (b"IF A > B GOTO L".as_slice(), 1),
+        (b"IF A > B".as_slice(), 1),
+        (b"IF A = B".as_slice(), 2),
+        (b"IF A = B GO".as_slice(), 1),
+        (b"IF A = B GOTO".as_slice(), 2),
+        (b"IF A = B THEN L".as_slice(), 1),
+        (b"IF a = B GOTO L".as_slice(), 3),
+        (b"IF A = B GOTO M".as_slice(), 5),
+        (b"IF A = B GOTO L L".as_slice(), 2),
+        (b"IF A = \"x GOTO L".as_slice(), 2),
+        (b"ABEND 0001".as_slice(), 0),
+        (b"ABEND 4095".as_slice(), 0),
+        (b"ABEND 0".as_slice(), 7),
+        (b"ABEND 4096".as_slice(), 7),
+        (b"ABEND".as_slice(), 2),
+    ];
+    for (text, rule) in table {
+        assert_eq!(rt; rule_of(rt.alloc(), text)?, rule);
+    }
+    Ok(())
+}
+
+#[test]
+fn calls(rt: HostRuntime) -> Result<(), Fail> {
+    let table = [
+        (b"CALL GU 0 A".as_slice(), 0u8),
+        (b"CALL ISRT 00 Z".as_slice(), 0),
+        (b"CALL GU 1 A".as_slice(), 0),
+        (b"CALL GHU 1 A ACCT=B".as_slice(), 0),
+        (b"CALL ISRT 8 A ACCT>=B MOVE".as_slice(), 0),
+        (b"CALL REPL 1 A".as_slice(), 0),
+        (b"CALL DLET 1".as_slice(), 0),
+        (b"CALL DLET 1 A".as_slice(), 2),
+        (b"CALL REPL 1 A ACCT".as_slice(), 2),
+        (b"CALL GU 0 A ACCT".as_slice(), 2),
+        (b"CALL GU 9 A ACCT".as_slice(), 2),
+        (b"CALL GU 1".as_slice(), 2),
+        (b"CALL FOO".as_slice(), 2),
+        (b"CALL GU 1 A ACCT=".as_slice(), 3),
+        (b"CALL GU 1 A ACCT<B".as_slice(), 3),
+        (b"CALL GU 1 A =B".as_slice(), 3),
+        (b"CALL GU 9 \"A".as_slice(), 3),
+        (b"CALL GU 9 A".as_slice(), 7),
+        (b"CALL FOO X A".as_slice(), 7),
+        (b"CALL FOO 0 a b".as_slice(), 10),
+        (b"CALL GHU 0 A".as_slice(), 10),
+        (b"CALL DLET 0".as_slice(), 10),
+        (b"CALL PURG 1".as_slice(), 10),
+        (b"CALL ROLB 0 A".as_slice(), 10),
+    ];
+    for (text, rule) in table {
+        assert_eq!(rt; rule_of(rt.alloc(), text)?, rule);
     }
     Ok(())
 }
@@ -72,21 +161,31 @@ fn ends(rt: HostRuntime) -> Result<(), Fail> {
     assert_eq!(rt; read(rt.alloc(), &none)?, Err((10, 9)));
     let behind = [b"ENDPROG".as_slice(), b"FOO".as_slice()];
     assert_eq!(rt; read(rt.alloc(), &behind)?, Ok(0));
+    let operand = [b"ENDPROG X".as_slice()];
+    assert_eq!(rt; read(rt.alloc(), &operand)?, Err((10, 2)));
+    let unreached = [
+        b"GOTO L".as_slice(),
+        b"ENDPROG".as_slice(),
+        b"LABEL L".as_slice(),
+    ];
+    assert_eq!(rt; read(rt.alloc(), &unreached)?, Err((10, 5)));
     Ok(())
 }
 
-/// The 501st statement has no room.
+/// The 501st statement has no room; labels are no statements.
 #[test]
 fn statements(rt: HostRuntime) -> Result<(), Fail> {
     let alloc = rt.alloc();
     let mut lines = Vec::new(alloc);
+    lines.push(Line::make(alloc, b"LABEL L")?)?;
     for _count in 0..500u16 {
         lines.push(Line::make(alloc, b"END")?)?;
     }
+    lines.push(Line::make(alloc, b"LABEL M")?)?;
     lines.push(Line::make(alloc, b"ENDPROG")?)?;
-    assert_eq!(rt; answer(alloc, &lines, 1), Ok(500));
+    assert_eq!(rt; answer(alloc, &lines, 1), Ok(502));
     lines.insert(0, Line::make(alloc, b"END")?)?;
-    assert_eq!(rt; answer(alloc, &lines, 1), Err((501, 8)));
+    assert_eq!(rt; answer(alloc, &lines, 1), Err((502, 8)));
     Ok(())
 }
 
@@ -98,26 +197,39 @@ fn holds(rt: HostRuntime) -> Result<(), Fail> {
         alloc,
         &[
             b"*".as_slice(),
-            b"CALL ISRT 0 C".as_slice(),
+            b"IF A < \"x y\" GOTO END1".as_slice(),
+            b"CALL GHU 3 C ACCT>=B".as_slice(),
+            b"".as_slice(),
+            b"LABEL END1".as_slice(),
             b"ENDPROG".as_slice(),
         ],
     )?;
-    assert_eq!(rt; lines.len(), 3);
+    assert_eq!(rt; lines.len(), 6);
     let program: Program = read_program(alloc, &lines, 7)?;
+    assert_eq!(rt; program.lines().len(), 3);
     for line in program.lines() {
-        assert_eq!(rt; line.number, 8);
-        match line.statement {
-            Statement::Call {
-                function,
-                pcb,
-                variable,
-            } => {
-                assert_eq!(rt; function, Function::ISRT);
-                assert_eq!(rt; pcb, 0);
-                assert_eq!(rt; variable.letter(), b'C');
-                assert_eq!(rt; variable.index(), 2);
+        match &line.statement {
+            Statement::If(Text::Variable(x), comparison, Text::Literal(bytes), target) => {
+                assert_eq!(rt; line.number, 8);
+                assert_eq!(rt; x.letter(), b'A');
+                assert_eq!(rt; *comparison, Comparison::LessThan);
+                assert_eq!(rt; bytes.as_slice(), b"x y".as_slice());
+                assert_eq!(rt; target.place, 2);
             }
-            Statement::End => assert!(rt; false),
+            Statement::Call(function, pcb, Some(area), ssas) => {
+                assert_eq!(rt; line.number, 9);
+                assert_eq!(rt; *function, Function::GHU);
+                assert_eq!(rt; *pcb, 3);
+                assert_eq!(rt; area.place(), 2);
+                for ssa in ssas.as_slice() {
+                    assert!(rt; matches!(ssa, ScriptSsa::AtLeast(_, _)));
+                }
+            }
+            Statement::Label(name) => {
+                assert_eq!(rt; line.number, 11);
+                assert_eq!(rt; name.as_bytes(), b"END1".as_slice());
+            }
+            _ => assert!(rt; false),
         }
     }
     Ok(())

@@ -1,0 +1,4 @@
+pub mod Programs
+pub mod Texts
+pub mod Arithmetic
+pub mod Script

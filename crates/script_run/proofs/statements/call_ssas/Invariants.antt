@@ -1,0 +1,11 @@
+-- the arguments so far
+use Rattle.std.proofs.Common.{◌≡◌, take, map}
+use Rattle.model_script.specs.Script.{call_ssa}
+use Rattle.script_run.specs.Running.{AreKeyTexts}
+use Rattle.script_run.proofs.statements.call_ssas.Given as goal
+
+abbrev pub invariant-loop-ssa : goal.invariant-loop-ssa
+invariant-loop-ssa l = record {
+  so_far : l.made ≡ map (call_ssa l.script) (take l.ssa-index l.ssas);
+  texts : AreKeyTexts l.made;
+}

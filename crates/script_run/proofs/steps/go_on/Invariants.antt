@@ -1,0 +1,10 @@
+-- the script settles as it would have from its start
+use Rattle.std.proofs.Common.{◌≡◌, ◌-◌}
+use Rattle.model_script.specs.Script.{settled}
+use Rattle.script_run.proofs.steps.go_on.Given as goal
+
+abbrev pub invariant-loop-need : goal.invariant-loop-need
+invariant-loop-need l = settled l.program l.limit l.script ≡ settled l.program l.limit l.initial.script
+
+abbrev pub decreases-loop-need : goal.decreases-loop-need
+decreases-loop-need l = l.limit - l.script.executed
