@@ -1,1 +1,2 @@
 pub mod RaisedFlag
+pub mod Counted

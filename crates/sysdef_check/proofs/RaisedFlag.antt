@@ -1,6 +1,6 @@
 -- A flag that is set at a place.
 use Rattle.std.proofs.Common.{ℕ, zero, suc, ◌≡◌, ◌<◌, Bool, List, [], ◌∷◌, length, get_or, set, ap, arith}
-use Rattle.sysdef_check.specs.declared.codes.CodeState.{CodeState}
+use Rattle.model_system.specs.declared.code_state.CodeState.{CodeState}
 use Rattle.sysdef_check.specs.Codes.{with_raised}
 
 pub raised_is_set : (place : ℕ) (raised : Bool) (states : List CodeState) (state : CodeState) → place < length states → state ≡ get_or states place state → set states place (record state { raised = raised }) ≡ with_raised place raised states

@@ -1,8 +1,9 @@
 -- The states of codes.
 use Rattle.std.specs.Prelude.{ℕ, Bool, false, List, [], ◌∷◌, zero, suc}
 use Rattle.std.specs.Str.{bytes_eq}
-use Rattle.sysdef_check.specs.declared.codes.CodeState.{CodeState}
-use Rattle.sysdef_check.specs.declared.system.Code.{Code}
+pub use Rattle.model_system.specs.CodeStates.{with_raised}
+use Rattle.model_system.specs.declared.code_state.CodeState.{CodeState}
+use Rattle.model_system.specs.declared.code.Code.{Code}
 
 -- the state that a code begins with
 abbrev pub first_state : Code → CodeState
@@ -16,9 +17,3 @@ first_state code = record {
 
 abbrev pub is_state_of : List ℕ → CodeState → Bool
 is_state_of code state = bytes_eq state.code code
-
--- the states with the flag at a place set or cleared
-abbrev pub with_raised : ℕ → Bool → List CodeState → List CodeState
-with_raised place raised [] = []
-with_raised zero raised (state ∷ states) = record state { raised = raised } ∷ states
-with_raised (suc place) raised (state ∷ states) = state ∷ with_raised place raised states

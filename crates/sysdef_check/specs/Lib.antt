@@ -1,4 +1,3 @@
-pub mod SystemLists
 pub mod Cross
 pub mod Systems
 pub mod Codes

@@ -5,9 +5,9 @@ use Rattle.sysdef_check.specs.declared.system_check.CrossRefused.TheVariants.{Ba
 use Rattle.sysdef_check.specs.declared.definition.Macro.{Macro}
 use Rattle.sysdef_check.specs.declared.definition.Macro.TheVariants.{Control, Application, Transaction, Terminal, Region, Program}
 use Rattle.sysdef_check.specs.declared.definition.MacroLine.{MacroLine}
-use Rattle.sysdef_check.specs.declared.system.Code.{Code}
-use Rattle.sysdef_check.specs.declared.system.SystemProgram.{SystemProgram}
-use Rattle.sysdef_check.specs.SystemLists.{SystemLists}
+use Rattle.model_system.specs.declared.code.Code.{Code}
+use Rattle.model_system.specs.declared.system_program.SystemProgram.{SystemProgram}
+use Rattle.model_system.specs.System.{System}
 use Rattle.sysdef_check.specs.Cross.{cross_rules}
 
 -- the value before those that follow, where there is one
@@ -16,7 +16,7 @@ and_then (Some value) values = value ∷ values
 and_then None values = values
 
 abbrev pub program_in : Macro → Option SystemProgram
-program_in (Program name lines) = Some (record { psb = name; program = lines })
+program_in (Program name lines) = Some (record { psb = name; pcbs = []; program = lines })
 program_in _ = None
 
 abbrev pub terminal_in : Macro → Option (List ℕ)
@@ -62,22 +62,23 @@ abbrev pub control_in : List MacroLine → ℕ × ℕ
 control_in [] = (0, 0)
 control_in (line ∷ lines) = control_of line.content
 
-abbrev pub system_of : List MacroLine → SystemLists
+abbrev pub system_of : List MacroLine → System
 system_of lines = record {
   qbytes = (control_in lines).0;
   logs = (control_in lines).1;
+  databases = [];
   programs = programs_in lines;
   codes = codes_in None lines;
   terminals = terminals_in lines;
   regions = regions_in lines;
 }
 
-abbrev pub made : SystemLists → Result (Unit {0}) (ℕ × ℕ) → Result SystemLists (ℕ × ℕ)
+abbrev pub made : System → Result (Unit {0}) (ℕ × ℕ) → Result System (ℕ × ℕ)
 made system (Ok _) = Ok system
 made system (Err fault) = Err fault
 
 -- the system, or the rule that is broken first and its line
-unfoldable pub checked : List MacroLine → Result SystemLists (ℕ × ℕ)
+unfoldable pub checked : List MacroLine → Result System (ℕ × ℕ)
 checked lines = made (system_of lines) (cross_rules lines)
 
 -- The answer is the system, or the rule that is broken first, unless memory ran out.

@@ -1,7 +1,8 @@
 ghost use Rattle.std.specs.Prelude.{◌≡◌, None, IfOk};
 ghost use Rattle.sysdef_check.specs.Systems as spec;
 
-use crate::{Classes, Code, Macro, MacroLine, System, SystemProgram};
+use crate::{Macro, MacroLine, System};
+use model_system::{Classes, Code, Pcbs, SystemProgram};
 use std::alloc::{AllocError, Global};
 use tm_types::Name;
 
@@ -17,6 +18,7 @@ pub(crate) fn system_of(alloc: Global, lines: Vec<MacroLine>) -> Result<System, 
     Ok(System {
         qbytes,
         logs,
+        databases: Vec::new(alloc),
         programs,
         codes,
         terminals,
@@ -106,18 +108,22 @@ fn programs_in(alloc: Global, lines: Vec<MacroLine>) -> Result<Vec<SystemProgram
 {
     let mut programs = Vec::new(alloc);
     for line in lines {
-        if let Some(program) = program_in(line.content) {
+        if let Some(program) = program_in(alloc, line.content) {
             programs.push(program)?;
         }
     }
     Ok(programs)
 }
 
-fn program_in(content: Macro) -> Option<SystemProgram>
+fn program_in(alloc: Global, content: Macro) -> Option<SystemProgram>
     ensures { result ≡ spec.program_in content }
 {
     match content {
-        Macro::Program { name, program } => Some(SystemProgram { psb: name, program }),
+        Macro::Program { name, program } => Some(SystemProgram {
+            psb: name,
+            pcbs: Pcbs::new(alloc),
+            program,
+        }),
         _ => None,
     }
 }

@@ -2,21 +2,11 @@ ghost use Rattle.std.specs.Prelude.{◌≡◌, ◌<◌, IfOk, IfSome, length, sl
 ghost use Rattle.std.specs.Str.{bytes_eq};
 ghost use Rattle.sysdef_check.specs.Codes as spec;
 
-use crate::{Code, System};
+use crate::System;
+use model_system::{Code, CodeState};
 use std::alloc::{AllocError, Global};
 use std::marker::Model;
 use tm_types::Name;
-
-/// The state of a transaction code.
-#[derive(Clone, Copy, Debug)]
-pub struct CodeState {
-    pub code: Name,
-    pub stopped: bool,
-    pub class: u8,
-    pub priority: u8,
-    /// Whether the limit priority counts.
-    pub raised: bool,
-}
 
 /// The states of a system's codes, in the order of the definition; seen as a list.
 #[derive(Debug, Drop)]
@@ -26,7 +16,7 @@ pub struct Codes {
 
 impl Model for Codes {
     ghost use Rattle.std.specs.Prelude.{List};
-    ghost use Rattle.sysdef_check.specs.declared.codes.CodeState.{CodeState};
+    ghost use Rattle.model_system.specs.declared.code_state.CodeState.{CodeState};
 
     ghost Value = { List CodeState };
 

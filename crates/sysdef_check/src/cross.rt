@@ -2,6 +2,7 @@ ghost use Rattle.std.specs.Prelude.{◌≡◌, []};
 ghost use Rattle.sysdef_check.specs.Cross as spec;
 
 use crate::{Macro, MacroLine};
+use model_script::{ScriptLine, Statement};
 use tm_types::Name;
 
 fn has_application(name: &Name, lines: &[MacroLine]) -> bool
@@ -77,6 +78,8 @@ pub enum CrossRule {
     ProgramMissing,
     /// A PROGRAM has no APPLCTN, or stands twice.
     ProgramAstray,
+    /// A PROGRAM calls a PCB that isn't there.
+    PcbMissing,
     /// There are too many codes, terminals, regions or programs, or no terminal or no region.
     WrongCount,
 }
@@ -133,91 +136,109 @@ fn breaks_program(all: &[MacroLine], before: &[MacroLine], content: &Macro) -> b
     }
 }
 
+fn calls_missing(statement: &Statement) -> bool
+    ensures { result ≡ spec.calls_missing statement.now }
+{
+    match statement {
+        Statement::Call(_, pcb, _, _) => 1 <= *pcb,
+        _ => false,
+    }
+}
+
+/// The line of the first call of a PCB that isn't there.
+fn missing_call(lines: &[ScriptLine]) -> Option<u32>
+    ensures { result ≡ spec.missing_call lines.now }
+{
+    for line in lines {
+        if calls_missing(&line.statement) {
+            return Some(line.number);
+        }
+    }
+    None
+}
+
+#[tactic(auto, unfolding(crate::specs::Cross::broken_by_call))]
+fn broken_by_call(content: &Macro) -> Option<u32>
+    ensures { result ≡ spec.broken_by_call content.now }
+{
+    match content {
+        Macro::Program { program, .. } => missing_call(program.lines()),
+        _ => None,
+    }
+}
+
 #[tactic(auto, unfolding(crate::specs::Cross::breaks_count))]
 fn breaks_count(all: &[MacroLine], before: &[MacroLine], content: &Macro) -> bool
     ensures { result ≡ spec.breaks_count all.now before.now content.now }
 {
     match content {
-        Macro::Transaction(_) => 256 <= count_codes(before),
-        Macro::Terminal { .. } => 64 <= count_terminals(before),
-        Macro::Region { .. } => 8 <= count_regions(before),
-        Macro::Program { .. } => 64 <= count_programs(before),
-        Macro::End => count_terminals(all) == 0 || count_regions(all) == 0,
+        Macro::Transaction(_) => 256 <= count(Counted::Codes, before),
+        Macro::Terminal { .. } => 64 <= count(Counted::Terminals, before),
+        Macro::Region { .. } => 8 <= count(Counted::Regions, before),
+        Macro::Program { .. } => 64 <= count(Counted::Programs, before),
+        Macro::End => count(Counted::Terminals, all) == 0 || count(Counted::Regions, all) == 0,
         _ => false,
     }
 }
 
-fn count_codes(lines: &[MacroLine]) -> usize
-    ensures { result ≡ spec.count spec.is_any_code lines.now }
-{
-    lines
-        .iter()
-        .filter(|line| is_any_code(&line.content))
-        .count()
+/// Which macros are counted together.
+#[derive(Clone, Copy, Debug)]
+pub enum Counted {
+    Codes,
+    Terminals,
+    Regions,
+    Programs,
 }
 
-fn is_any_code(content: &Macro) -> bool
-    ensures { result ≡ spec.is_any_code content.now }
+/// How many of the lines are of this kind.
+#[tactic(auto, using(crate::proofs::Counted::counted_steps))]
+fn count(kind: Counted, lines: &[MacroLine]) -> usize
+    ensures { result ≡ spec.count kind lines.now }
 {
-    matches!(content, Macro::Transaction(_))
+    let mut count = 0;
+    for line in lines {
+        if is_counted(kind, &line.content) {
+            count += 1;
+        }
+    }
+    count
 }
 
-fn count_terminals(lines: &[MacroLine]) -> usize
-    ensures { result ≡ spec.count spec.is_any_terminal lines.now }
+fn is_counted(kind: Counted, content: &Macro) -> bool
+    ensures { result ≡ spec.is_counted kind content.now }
 {
-    lines
-        .iter()
-        .filter(|line| is_any_terminal(&line.content))
-        .count()
+    match kind {
+        Counted::Codes => matches!(content, Macro::Transaction(_)),
+        Counted::Terminals => matches!(content, Macro::Terminal { .. }),
+        Counted::Regions => matches!(content, Macro::Region { .. }),
+        Counted::Programs => matches!(content, Macro::Program { .. }),
+    }
 }
 
-fn is_any_terminal(content: &Macro) -> bool
-    ensures { result ≡ spec.is_any_terminal content.now }
+fn own_line(line: &MacroLine, broken: bool) -> Option<u32>
+    ensures { result ≡ spec.own_line line.now broken }
 {
-    matches!(content, Macro::Terminal { .. })
+    if broken { Some(line.number) } else { None }
 }
 
-fn count_regions(lines: &[MacroLine]) -> usize
-    ensures { result ≡ spec.count spec.is_any_region lines.now }
-{
-    lines
-        .iter()
-        .filter(|line| is_any_region(&line.content))
-        .count()
-}
-
-fn is_any_region(content: &Macro) -> bool
-    ensures { result ≡ spec.is_any_region content.now }
-{
-    matches!(content, Macro::Region { .. })
-}
-
-fn count_programs(lines: &[MacroLine]) -> usize
-    ensures { result ≡ spec.count spec.is_any_program lines.now }
-{
-    lines
-        .iter()
-        .filter(|line| is_any_program(&line.content))
-        .count()
-}
-
-fn is_any_program(content: &Macro) -> bool
-    ensures { result ≡ spec.is_any_program content.now }
-{
-    matches!(content, Macro::Program { .. })
-}
-
-#[tactic(auto, unfolding(crate::specs::Cross::breaks))]
-fn breaks(rule: CrossRule, all: &[MacroLine], before: &[MacroLine], content: &Macro) -> bool
-    ensures { result ≡ spec.breaks rule all.now before.now content.now }
+/// The lowest line of the macro that breaks the rule.
+#[tactic(auto, unfolding(crate::specs::Cross::broken_line))]
+fn broken_line(
+    rule: CrossRule,
+    all: &[MacroLine],
+    before: &[MacroLine],
+    line: &MacroLine,
+) -> Option<u32>
+    ensures { result ≡ spec.broken_line rule all.now before.now line.now }
 {
     match rule {
-        CrossRule::PsbTwice => breaks_psb(before, content),
-        CrossRule::CodeTwice => breaks_code(all, before, content),
-        CrossRule::TerminalTwice => breaks_terminal(before, content),
-        CrossRule::ProgramMissing => breaks_application(all, content),
-        CrossRule::ProgramAstray => breaks_program(all, before, content),
-        CrossRule::WrongCount => breaks_count(all, before, content),
+        CrossRule::PsbTwice => own_line(line, breaks_psb(before, &line.content)),
+        CrossRule::CodeTwice => own_line(line, breaks_code(all, before, &line.content)),
+        CrossRule::TerminalTwice => own_line(line, breaks_terminal(before, &line.content)),
+        CrossRule::ProgramMissing => own_line(line, breaks_application(all, &line.content)),
+        CrossRule::ProgramAstray => own_line(line, breaks_program(all, before, &line.content)),
+        CrossRule::PcbMissing => broken_by_call(&line.content),
+        CrossRule::WrongCount => own_line(line, breaks_count(all, before, &line.content)),
     }
 }
 
@@ -230,6 +251,7 @@ fn number_of(rule: CrossRule) -> u8
         CrossRule::TerminalTwice => 10,
         CrossRule::ProgramMissing => 11,
         CrossRule::ProgramAstray => 12,
+        CrossRule::PcbMissing => 13,
         CrossRule::WrongCount => 17,
     }
 }
@@ -239,8 +261,8 @@ fn first_line(rule: CrossRule, all: &[MacroLine]) -> Option<u32>
     ensures { result ≡ spec.first_line rule all.now [] all.now }
 {
     for (index, line) in all.iter().enumerate() {
-        if breaks(rule, all, &all[..index], &line.content) {
-            return Some(line.number);
+        if let Some(number) = broken_line(rule, all, &all[..index], line) {
+            return Some(number);
         }
     }
     None
@@ -266,5 +288,6 @@ pub(crate) fn cross_rules(all: &[MacroLine]) -> Result<(), (u32, u8)>
     keeps(CrossRule::TerminalTwice, all)?;
     keeps(CrossRule::ProgramMissing, all)?;
     keeps(CrossRule::ProgramAstray, all)?;
+    keeps(CrossRule::PcbMissing, all)?;
     keeps(CrossRule::WrongCount, all)
 }

@@ -2,15 +2,16 @@
 //! that they define.
 #![tactic(auto)]
 
-pub use classes::Classes;
-pub use codes::{CodeState, Codes};
+pub use codes::Codes;
 pub use cross::CrossRule;
-pub use definition::{Definition, Macro, MacroLine, SegmentKind, Transaction};
-pub use system::{Code, System, SystemProgram};
+pub use definition::{Definition, Macro, MacroLine};
+pub use model_system::{
+    Classes, Code, CodeState, Pcb, Pcbs, SegmentKind, SystemProgram, Transaction,
+};
+pub use system::System;
 pub use system_check::{CrossRefused, check};
 
 mod build;
-mod classes;
 mod codes;
 mod cross;
 mod definition;

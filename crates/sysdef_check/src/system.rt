@@ -1,29 +1,15 @@
 ghost use Rattle.std.specs.Prelude.{◌≡◌};
 
-use crate::{Classes, Transaction};
-use script_text::Program;
+use model_system::{Classes, Code, SystemProgram};
 use std::marker::Model;
-use tm_types::Name;
-
-/// A program under the name of its PSB.
-#[derive(Debug, Drop)]
-pub struct SystemProgram {
-    pub psb: Name,
-    pub program: Program,
-}
-
-/// A transaction code with the PSB of its program.
-#[derive(Clone, Copy, Debug)]
-pub struct Code {
-    pub psb: Name,
-    pub transaction: Transaction,
-}
+use tm_types::{Dbd, Name};
 
 /// What a definition defines. Its lists have the order of the lines.
 #[derive(Debug, Drop)]
 pub struct System {
     pub(crate) qbytes: u32,
     pub(crate) logs: u32,
+    pub(crate) databases: Vec<Dbd>,
     pub(crate) programs: Vec<SystemProgram>,
     pub(crate) codes: Vec<Code>,
     pub(crate) terminals: Vec<Name>,
@@ -31,11 +17,11 @@ pub struct System {
 }
 
 impl Model for System {
-    ghost use Rattle.sysdef_check.specs.SystemLists.{SystemLists};
+    ghost use Rattle.model_system.specs.System as model;
 
-    ghost Value = { SystemLists };
+    ghost Value = { model.System };
 
-    ghost view = { λ s. record { qbytes = s.qbytes; logs = s.logs; programs = s.programs.items; codes = s.codes.items; terminals = s.terminals.items; regions = s.regions.items } };
+    ghost view = { λ s. record { qbytes = s.qbytes; logs = s.logs; databases = s.databases.items; programs = s.programs.items; codes = s.codes.items; terminals = s.terminals.items; regions = s.regions.items } };
 }
 
 impl System {
@@ -51,6 +37,13 @@ impl System {
         ensures { result ≡ self.now.logs }
     {
         self.logs
+    }
+
+    /// The databases, numbered from 1 in their order.
+    pub fn databases(&self) -> &[Dbd]
+        ensures { result.now ≡ self.now.databases }
+    {
+        &self.databases
     }
 
     /// The programs, in the order of their PROGRAM lines.

@@ -1,5 +1,5 @@
 -- Definitions.
-use Rattle.std.specs.Prelude.{ℕ, suc, ◌+◌, nat_lt, Bool, List, [], ◌∷◌, take, drop, length, ◌==◌, Result, Ok, Err, if◌then◌else◌}
+use Rattle.std.specs.Prelude.{ℕ, suc, ◌+◌, ◌-◌, nat_lt, Bool, true, false, List, [], ◌∷◌, take, drop, length, ◌==◌, Result, Ok, Err, if◌then◌else◌}
 use Rattle.std.specs.Str.Lines.{lines}
 use Rattle.text_rows.specs.Refusals.{then_lines}
 use Rattle.text_rows.specs.declared.rules.TheConstants.{END_MISSING}
@@ -40,3 +40,12 @@ kept text = take (262144 + through_line (drop 262144 text)) text
 -- the macros that the text spells, or the line and the rule that it breaks first
 unfoldable pub definition_of : List ℕ → Result (List MacroLine) (ℕ × ℕ)
 definition_of text = definition Start (nat_lt 262144 (length text)) 1 (text_lines (kept text))
+
+-- these lines have more bytes than there is room for, each with the LF that ends it
+abbrev pub passes : ℕ → List (List ℕ) → Bool
+passes room [] = false
+passes room (line ∷ lines) = if nat_lt room (length line + 1) then true else passes (room - (length line + 1)) lines
+
+-- the macros that the lines of a text spell, or the line and the rule that it breaks first
+unfoldable pub definition_in : List (List ℕ) → Result (List MacroLine) (ℕ × ℕ)
+definition_in lines = definition Start (passes 262144 lines) 1 lines

@@ -4,7 +4,7 @@ use Rattle.text_rows.specs.Lines.{is_passed_over, printable_line}
 use Rattle.text_rows.specs.Lowest.{also}
 use Rattle.text_rows.specs.Refusals.{at_line}
 use Rattle.text_rows.specs.declared.rules.TheConstants.{NOT_PRINTABLE, END_MISSING}
-use Rattle.script_text.specs.declared.program.ScriptLine.{ScriptLine}
+use Rattle.model_script.specs.declared.program.ScriptLine.{ScriptLine}
 use Rattle.script_text.specs.declared.rules.TheConstants.{ENDPROG_MISSING}
 use Rattle.script_text.specs.Scripts.{is_last, program_of}
 use Rattle.sysdef_text.specs.Places.{within}

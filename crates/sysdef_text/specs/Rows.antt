@@ -6,8 +6,8 @@ use Rattle.text_rows.specs.Names.{name_of}
 use Rattle.text_rows.specs.Numbers.{number_between}
 use Rattle.text_rows.specs.Operands.{needed, or_as}
 use Rattle.text_rows.specs.declared.rules.TheConstants.{OPERAND_MISSING}
-use Rattle.sysdef_check.specs.declared.definition.SegmentKind.{SegmentKind}
-use Rattle.sysdef_check.specs.declared.definition.SegmentKind.TheVariants.{Multiple}
+use Rattle.model_system.specs.declared.code.SegmentKind.{SegmentKind}
+use Rattle.model_system.specs.declared.code.SegmentKind.TheVariants.{Multiple}
 use Rattle.sysdef_check.specs.declared.definition.Macro.{Macro}
 use Rattle.sysdef_check.specs.declared.definition.Macro.TheVariants as macro
 use Rattle.sysdef_text.specs.declared.kinds.Kind.{Kind}

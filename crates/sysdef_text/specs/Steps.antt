@@ -3,7 +3,7 @@ use Rattle.std.specs.Prelude.{ℕ, suc, Bool, List, Result, Ok, Err, if◌then�
 use Rattle.text_rows.specs.Lines.{is_passed_over}
 use Rattle.text_rows.specs.Operands.{macro_name}
 use Rattle.text_rows.specs.Refusals.{at_line}
-use Rattle.script_text.specs.declared.program.ScriptLine.{ScriptLine}
+use Rattle.model_script.specs.declared.program.ScriptLine.{ScriptLine}
 use Rattle.script_text.specs.Scripts.{is_last}
 use Rattle.sysdef_check.specs.declared.definition.Macro.{Macro}
 use Rattle.sysdef_check.specs.declared.definition.Macro.TheVariants.{Program}

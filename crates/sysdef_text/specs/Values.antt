@@ -5,8 +5,8 @@ use Rattle.text_rows.specs.declared.rules.TheConstants.{WRONG_LIST, WRONG_WORD}
 use Rattle.text_rows.specs.Lists.{list_of, two_of, three_of}
 use Rattle.text_rows.specs.Lowest.{both, also}
 use Rattle.text_rows.specs.Numbers.{number_between}
-use Rattle.sysdef_check.specs.declared.definition.SegmentKind.{SegmentKind}
-use Rattle.sysdef_check.specs.declared.definition.SegmentKind.TheVariants.{Multiple, Single}
+use Rattle.model_system.specs.declared.code.SegmentKind.{SegmentKind}
+use Rattle.model_system.specs.declared.code.SegmentKind.TheVariants.{Multiple, Single}
 
 -- Rule 9: the words of MSGTYPE and SERIAL.
 unfoldable pub segment_kind_of : List ℕ → Result SegmentKind ℕ
@@ -34,9 +34,9 @@ priorities_in (Err rule) = Err rule
 unfoldable pub priorities_of : List ℕ → Result (ℕ × (ℕ × ℕ)) ℕ
 priorities_of text = priorities_in (three_of text)
 
--- PROCLIM: a count of 1 to 65,535, and 500 to 65,535 statements
+-- PROCLIM: a count of messages and a count of statements, each 1 to 65,535
 abbrev pub limits_in : Result (List ℕ × List ℕ) ℕ → Result (ℕ × ℕ) ℕ
-limits_in (Ok (count, statements)) = both (number_between 1 65535 count) (number_between 500 65535 statements)
+limits_in (Ok (count, statements)) = both (number_between 1 65535 count) (number_between 1 65535 statements)
 limits_in (Err rule) = Err rule
 
 unfoldable pub limits_of : List ℕ → Result (ℕ × ℕ) ℕ

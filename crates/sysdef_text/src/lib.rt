@@ -7,7 +7,7 @@
 
 pub use kinds::Kind;
 pub use modes::{Mode, Step};
-pub use reader::read_definition;
+pub use reader::{read_definition, read_definition_lines};
 
 mod kinds;
 mod modes;

@@ -30,6 +30,34 @@ pub fn read_definition(alloc: Global, text: &[u8]) -> Result<Definition, LineRef
     definition(alloc, TEXT_LIMIT < text.len(), &lines)
 }
 
+/// Reads the definition that stands in these lines, up to and with its END.
+///
+/// The lines are those of a text, up to the one with which it passes 262,144 bytes, if one does; each
+/// line counts with an LF. The answer is the definition exactly where no line breaks a rule, else the
+/// lowest line that breaks one with the lowest rule that it breaks, or want of memory.
+#[tactic(auto, unfolding(crate::specs::Definitions::definition_in))]
+pub fn read_definition_lines(alloc: Global, lines: &[Line]) -> Result<Definition, LineRefused>
+    requires { 1 + length lines.now < 2 ^ 32 }
+    ensures { Answers result (spec.definition_in lines.now) }
+{
+    definition(alloc, passes_limit(lines), lines)
+}
+
+/// Whether the lines have more bytes than a text may have, each with its LF.
+fn passes_limit(lines: &[Line]) -> bool
+    ensures { result ≡ spec.passes TEXT_LIMIT lines.now }
+{
+    let mut room = TEXT_LIMIT;
+    for line in lines {
+        let size = line.bytes().len() + 1;
+        if room < size {
+            return true;
+        }
+        room -= size;
+    }
+    false
+}
+
 fn definition(alloc: Global, over: bool, lines: &[Line]) -> Result<Definition, LineRefused>
     requires { 1 + length lines.now < 2 ^ 32 }
     ensures { Answers result (spec.definition Start over 1 lines.now) }

@@ -3,7 +3,7 @@ ghost use Rattle.std.specs.Prelude.{false};
 ghost use Rattle.text_rows.specs.Numbers.{number_between};
 ghost use Rattle.text_rows.specs.Names as names;
 ghost use Rattle.text_rows.specs.Operands.{needed, or_as};
-ghost use Rattle.sysdef_check.specs.declared.definition.SegmentKind.TheVariants.{Multiple};
+ghost use Rattle.model_system.specs.declared.code.SegmentKind.TheVariants.{Multiple};
 ghost use Rattle.sysdef_text.specs.Values as values;
 ghost use Rattle.sysdef_text.specs.Rows as spec;
 

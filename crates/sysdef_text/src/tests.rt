@@ -29,7 +29,7 @@ fn lines(rt: HostRuntime) -> Result<(), Fail> {
     let table = [
         (b"TRANSACT CODE=C".as_slice(), 0),
         (
-            b"TRANSACT CODE=C,MSGTYPE=(SNGLSEG,NONRESPONSE,255),PRTY=(0,14,1),PROCLIM=(1,500),SEGNO=32,SEGSIZE=5,SERIAL=NO".as_slice(),
+            b"TRANSACT CODE=C,MSGTYPE=(SNGLSEG,NONRESPONSE,255),PRTY=(0,14,1),PROCLIM=(1,10),SEGNO=32,SEGSIZE=5,SERIAL=NO".as_slice(),
             0,
         ),
         (b"NAME LTERM=ABCDEFGH\r".as_slice(), 0),
@@ -47,7 +47,8 @@ fn lines(rt: HostRuntime) -> Result<(), Fail> {
         (b"TRANSACT CODE=C,SEGNO=000000000000000000001".as_slice(), 5),
         (b"TRANSACT CODE=C,SEGNO=33".as_slice(), 6),
         (b"TRANSACT CODE=C,SEGSIZE=4".as_slice(), 6),
-        (b"TRANSACT CODE=C,PROCLIM=(1,499)".as_slice(), 6),
+        (b"TRANSACT CODE=C,PROCLIM=(1,0)".as_slice(), 6),
+        (b"TRANSACT CODE=C,PROCLIM=(1,65536)".as_slice(), 6),
         (b"TRANSACT CODE=C,PRTY=(15,0,1)".as_slice(), 6),
         (b"REGION CLASS=(0)".as_slice(), 6),
         (b"NAME LTERM=ABCDEFGHI".as_slice(), 7),
@@ -92,7 +93,7 @@ fn texts(rt: HostRuntime) -> Result<(), Fail> {
         ),
         (b"IMSCTRL\nPROGRAM P\nEND\nEND\n".as_slice(), (5, 13)),
         (
-            b"IMSCTRL\nPROGRAM P\n* x\nCALL GU 1 A\nENDPROG\nEND\n".as_slice(),
+            b"IMSCTRL\nPROGRAM P\n* x\nCALL GHU 0 A\nENDPROG\nEND\n".as_slice(),
             (4, 30),
         ),
         (
@@ -233,7 +234,14 @@ fn cross_rules(rt: HostRuntime) -> Result<(), Fail> {
             b"IMSCTRL\nAPPLCTN PSB=P\nPROGRAM Q\nENDPROG\nEND\n".as_slice(),
             (2, 11),
         ),
-        (b"IMSCTRL\nPROGRAM Q\nENDPROG\nEND\n".as_slice(), (2, 12)),
+        (
+            b"IMSCTRL\nPROGRAM Q\nCALL DLET 1\nENDPROG\nEND\n".as_slice(),
+            (2, 12),
+        ),
+        (
+            b"IMSCTRL\nAPPLCTN PSB=P\nPROGRAM P\n* x\nCALL GU 0 A\nCALL GU 1 A\nCALL DLET 2\nENDPROG\nEND\n".as_slice(),
+            (6, 13),
+        ),
         (b"IMSCTRL\nNAME LTERM=T\n\nEND\n".as_slice(), (4, 17)),
         (b"IMSCTRL\nREGION CLASS=(1)\nEND\n".as_slice(), (3, 17)),
     ];

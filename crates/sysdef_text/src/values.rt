@@ -95,7 +95,7 @@ pub(crate) fn limits_of(text: &[u8]) -> Result<(u16, u16), u8>
     let (count, statements) = two_of(text)?;
     both(
         short_between(1, 65535, count),
-        short_between(500, 65535, statements),
+        short_between(1, 65535, statements),
     )
 }
 

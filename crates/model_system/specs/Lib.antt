@@ -1,0 +1,3 @@
+pub mod Pcbs
+pub mod System
+pub mod CodeStates

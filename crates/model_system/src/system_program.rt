@@ -1,0 +1,11 @@
+use crate::Pcbs;
+use model_script::Program;
+use tm_types::Name;
+
+/// A program under the name of its PSB, with its PCBs.
+#[derive(Debug, Drop)]
+pub struct SystemProgram {
+    pub psb: Name,
+    pub pcbs: Pcbs,
+    pub program: Program,
+}
