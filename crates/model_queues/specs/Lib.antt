@@ -1,0 +1,4 @@
+pub mod Room
+pub mod Waiting
+pub mod Queue
+pub mod Outputs

@@ -1,0 +1,4 @@
+pub mod Kept
+pub mod Refused
+pub mod Places
+pub mod Index

@@ -1,0 +1,218 @@
+ghost use Rattle.std.specs.Prelude.{◌≡◌, ◌+◌, ◌<◌, ◌≤◌, ◌^◌, [], Some, None, OnOk, OnErr, IfErr, IfOk, slice_get, find, nat_lt, IsSomeAnd, IsSome};
+ghost use Rattle.std.specs.Option.{option_copied, option_and_then};
+ghost use Rattle.model_queues.specs.Room.{message_bytes, messages_bytes, input_needs};
+ghost use Rattle.model_queues.specs.Queue.{IsNewId, AreInOrder, messages_of, queued_at, message_at, with_message, with_holder, without, first_free, free_count};
+ghost use Rattle.msg_queues.specs.Refused.{RefusesInput};
+
+use crate::code_queue::CodeQueue;
+use crate::{entries, index};
+use model_queues::Queued;
+use std::alloc::{AllocFailed, Global};
+use std::collections::BTreeMap;
+use std::marker::Model;
+use thiserror::Error;
+use tm_types::{Message, Name, Segment};
+
+/// The bytes that are kept free for each busy region.
+pub const SLOT_ROOM: u64 = 65_536;
+
+/// Why an input isn't taken. Either way the message comes back.
+#[derive(Debug, Drop, Error)]
+pub enum QueueRefused {
+    /// The bytes that the input needs, and the limit, which is less.
+    #[error("{0} bytes are needed, and {1} may be used")]
+    Full(u64, u64, Message),
+    #[error("no memory")]
+    Memory(Message),
+}
+
+/// The queues: messages in the order of their ids, each with the region that has it.
+#[derive(Debug, Drop)]
+pub struct Queues {
+    limit: u32,
+    content: u64,
+    messages: BTreeMap<u64, Queued>,
+    by_code: BTreeMap<Name, CodeQueue>,
+    alloc: Global,
+}
+
+impl Model for Queues {
+    ghost use Rattle.std.specs.Map.{values_of};
+    ghost use Rattle.model_queues.specs.Queue.{QueuesState};
+    ghost use Rattle.msg_queues.specs.Kept.{AreKept};
+
+    ghost Value = { QueuesState };
+
+    ghost view = { λ q. record { limit = q.limit; queued = values_of q.messages.entries } };
+
+    ghost invariant = { λ q. AreKept q.messages.entries q.content q.by_code.entries };
+}
+
+impl Queues {
+    /// No messages. They and the replies may take this many bytes. This takes no memory.
+    pub fn new(alloc: Global, limit: u32) -> Queues
+        ensures limit { result.limit ≡ limit }
+        ensures empty { result.queued ≡ [] }
+    {
+        Queues {
+            limit,
+            content: 0,
+            messages: BTreeMap::new(alloc),
+            by_code: BTreeMap::new(alloc),
+            alloc,
+        }
+    }
+
+    /// Takes an input, which no region has yet.
+    ///
+    /// `busy` is the number of busy regions, and `replies` the bytes of all replies. The input is
+    /// refused as `Full` exactly where all these and the messages here, with 65,536 bytes for each
+    /// busy region but at least for one, pass the limit. After a refusal nothing has changed.
+    pub fn accept(&mut self, message: Message, busy: u32, replies: u64) -> Result<(), QueueRefused>
+        requires above { IsNewId message.id self.old.queued }
+        requires fits { messages_bytes (messages_of self.old.queued) + message_bytes message + replies < 2 ^ 62 }
+        ensures ok { OnOk result (self.new ≡ record self.old { queued = with_message message self.old.queued }) }
+        ensures room { OnOk result (input_needs (messages_bytes (messages_of self.old.queued) + replies) (message_bytes message) busy ≤ self.old.limit) }
+        ensures refused { IfErr result (RefusesInput self.old message busy replies) }
+        ensures err { OnErr result (self.new ≡ self.old) }
+    {
+        let bytes = message.segments.counted_bytes();
+        let needed = self.content + replies + bytes + SLOT_ROOM * u64::from(busy.max(1));
+        let limit = u64::from(self.limit);
+        if needed > limit {
+            return Err(QueueRefused::Full(needed, limit, message));
+        }
+        match self.add(message) {
+            Ok(()) => Ok(()),
+            Err(failed) => Err(QueueRefused::Memory(failed.value)),
+        }
+    }
+
+    /// Adds a switched message, whatever the limit is. Where no memory is left the message comes
+    /// back and nothing has changed.
+    pub fn add(&mut self, message: Message) -> Result<(), AllocFailed<Message>>
+        requires above { IsNewId message.id self.old.queued }
+        requires fits { messages_bytes (messages_of self.old.queued) + message_bytes message < 2 ^ 62 }
+        ensures ok { OnOk result (self.new ≡ record self.old { queued = with_message message self.old.queued }) }
+        ensures back { IfErr result (λ failed. failed.value ≡ message) }
+        ensures err { OnErr result (self.new ≡ self.old) }
+    {
+        let bytes = message.segments.counted_bytes();
+        let id = message.id;
+        let code = message.code;
+        let Ok(()) = index::push(&mut self.by_code, self.alloc, &code, id) else {
+            return Err(AllocFailed { value: message });
+        };
+        match entries::add(&mut self.messages, message) {
+            Ok(()) => {
+                self.content += bytes;
+                Ok(())
+            }
+            Err(failed) => {
+                index::remove(&mut self.by_code, &code, id);
+                Err(failed)
+            }
+        }
+    }
+
+    /// The id of the code's first message that no region has, or None where there is none.
+    pub fn first_free(&self, code: &Name) -> Option<u64>
+        ensures value { result ≡ first_free code.now self.now.queued }
+        ensures ordered { AreInOrder self.now.queued }
+    {
+        index::first_free(&self.by_code, code)
+    }
+
+    /// How many messages of the code no region has.
+    pub fn waiting(&self, code: &Name) -> u64
+        ensures { result ≡ free_count code.now self.now.queued }
+    {
+        index::free_count(&self.by_code, code) as u64
+    }
+
+    /// The bytes of all messages.
+    pub fn content(&self) -> u64
+        ensures value { result ≡ messages_bytes (messages_of self.now.queued) }
+        ensures small { result < 2 ^ 62 }
+    {
+        self.content
+    }
+
+    /// How many bytes messages and replies may take.
+    pub fn limit(&self) -> u32
+        ensures { result ≡ self.now.limit }
+    {
+        self.limit
+    }
+
+    /// Gives a message to a region. This takes no memory.
+    pub fn hold(&mut self, id: u64, region: u32)
+        requires { IsSomeAnd (queued_at id self.old.queued) (λ q. q.holder ≡ None) }
+        ensures { self.new ≡ record self.old { queued = with_holder id (Some region) self.old.queued } }
+    {
+        let Some(code) = entries::set_holder(&mut self.messages, id, Some(region)) else {
+            return;
+        };
+        index::set_held(&mut self.by_code, &code, id, true);
+    }
+
+    /// Takes a message back from its region; it keeps its place. This takes no memory.
+    pub fn give_back(&mut self, id: u64)
+        requires { IsSomeAnd (queued_at id self.old.queued) (λ q. IsSome q.holder) }
+        ensures { self.new ≡ record self.old { queued = with_holder id None self.old.queued } }
+    {
+        let Some(code) = entries::set_holder(&mut self.messages, id, None) else {
+            return;
+        };
+        index::set_held(&mut self.by_code, &code, id, false);
+    }
+
+    /// Removes a message, whether a region has it or none. This takes no memory.
+    pub fn remove(&mut self, id: u64)
+        requires { IsSome (queued_at id self.old.queued) }
+        ensures { self.new ≡ record self.old { queued = without id self.old.queued } }
+    {
+        let Some(removed) = entries::remove(&mut self.messages, id) else {
+            return;
+        };
+        index::remove(&mut self.by_code, &removed.code, id);
+        self.content -= removed.bytes;
+    }
+
+    /// The message of this id.
+    pub fn find(&self, id: u64) -> Option<&Message>
+        ensures { option_copied result ≡ message_at id self.now.queued }
+    {
+        match self.messages.get(&id) {
+            Some(queued) => Some(&queued.message),
+            None => None,
+        }
+    }
+
+    /// The segment of a message at this place, counted from 0.
+    pub fn segment(&self, id: u64, place: u32) -> Option<&Segment>
+        ensures { option_copied result ≡ option_and_then (λ message. slice_get message.segments place) (message_at id self.now.queued) }
+    {
+        match self.find(id) {
+            Some(message) => message.segments.get(place as usize),
+            None => None,
+        }
+    }
+
+    /// The message at this place, counted from 0, in the order of the ids.
+    pub fn message(&self, place: u32) -> Option<&Message>
+        ensures { option_copied result ≡ slice_get (messages_of self.now.queued) place }
+    {
+        match self.messages.values().nth(place as usize) {
+            Some(queued) => Some(&queued.message),
+            None => None,
+        }
+    }
+
+    /// The first message whose id is above this one. To go over all messages, begin with 0.
+    pub fn message_after(&self, id: u64) -> Option<&Message>
+        ensures { option_copied result ≡ find (λ message. nat_lt id message.id) (messages_of self.now.queued) }
+    {
+        entries::after(&self.messages, id)
+    }
+}

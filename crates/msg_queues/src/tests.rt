@@ -1,0 +1,81 @@
+ghost use Rattle.std.specs.Prelude.{◌≡◌, ◌<◌, IfOk};
+ghost use Rattle.model_queues.specs.Room.{message_bytes};
+
+use super::*;
+use std::alloc::Global;
+use std::test::Fail;
+use tm_types::{Message, Name, Segment, Segments};
+
+// A message of one segment.
+fn message(alloc: Global, id: u64, code: &[u8], text: &[u8]) -> Result<Message, Fail>
+    ensures id { IfOk result (λ m. m.id ≡ id) }
+    ensures bytes { IfOk result (λ m. message_bytes m < 4096) }
+{
+    let mut segments = Segments::new(alloc);
+    segments.push(Segment::make(alloc, text)?)?;
+    Ok(Message {
+        id,
+        origin: Name::read(b"T1").ok_or("no name")?,
+        code: Name::read(code).ok_or("no name")?,
+        conversation: false,
+        segments,
+    })
+}
+
+// Whether an input of this text is taken beside 64,096 bytes of replies; the bytes that it needs
+// where it isn't.
+fn needed(alloc: Global, busy: u32, text: &[u8]) -> Result<Option<u64>, Fail> {
+    let mut queues = Queues::new(alloc, 131_072);
+    let input = message(alloc, 1, b"ECHO", text)?;
+    match queues.accept(input, busy, 64_096) {
+        Ok(()) => Ok(None),
+        Err(QueueRefused::Full(needed, limit, back)) => {
+            if limit == 131_072 && back.id == 1 {
+                return Ok(Some(needed));
+            }
+            Err("another limit or message")?
+        }
+        Err(QueueRefused::Memory(_)) => Err("no memory")?,
+    }
+}
+
+#[test]
+fn leaves_room_for_busy_regions(rt: HostRuntime) -> Result<(), Fail> {
+    let text = vec![in rt.alloc(); b'x'; 1389]?;
+    assert_eq!(rt; text.len(), 1389);
+    assert_eq!(rt; needed(rt.alloc(), 0, &text[..1388])?, None);
+    assert_eq!(rt; needed(rt.alloc(), 1, &text[..1388])?, None);
+    assert_eq!(rt; needed(rt.alloc(), 0, &text)?, Some(131_073));
+    assert_eq!(rt; needed(rt.alloc(), 1, &text)?, Some(131_073));
+    assert_eq!(rt; needed(rt.alloc(), 2, b"")?, Some(195_220));
+    Ok(())
+}
+
+#[test]
+fn serves_codes_in_the_order_of_ids(rt: HostRuntime) -> Result<(), Fail> {
+    let echo = Name::read(b"ECHO").ok_or("no name")?;
+    let segs = Name::read(b"SEGS").ok_or("no name")?;
+    let mut queues = Queues::new(rt.alloc(), 131_072);
+    queues.add(message(rt.alloc(), 2, b"ECHO", b"ECHO A")?)?;
+    queues.add(message(rt.alloc(), 5, b"SEGS", b"SEGS B")?)?;
+    queues.add(message(rt.alloc(), 7, b"ECHO", b"ECHO C")?)?;
+    assert_eq!(rt; queues.content(), 174);
+    assert_eq!(rt; queues.first_free(&echo), Some(2));
+    assert_eq!(rt; queues.waiting(&echo), 2);
+
+    queues.hold(2, 1);
+    assert_eq!(rt; queues.first_free(&echo), Some(7));
+    assert_eq!(rt; queues.waiting(&echo), 1);
+    queues.give_back(2);
+    assert_eq!(rt; queues.first_free(&echo), Some(2));
+
+    queues.remove(2);
+    assert_eq!(rt; queues.content(), 116);
+    assert_eq!(rt; queues.first_free(&segs), Some(5));
+    assert_eq!(rt; queues.message(1).map(|message| message.id), Some(7));
+    assert_eq!(rt; queues.message_after(0).map(|message| message.id), Some(5));
+    let segment = queues.segment(5, 0).ok_or("no segment")?;
+    assert_eq!(rt; segment.text(), b"SEGS B".as_slice());
+    assert!(rt; queues.find(2).is_none());
+    Ok(())
+}
