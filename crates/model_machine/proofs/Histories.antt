@@ -1,7 +1,8 @@
 -- Histories that go on by one entry.
 use Rattle.std.proofs.Common.{◌≡◌, List, [], ◌∷◌, ◌++◌, refl}
 use Rattle.model_machine.specs.declared.entry.Entry.{Entry}
-use Rattle.model_machine.specs.Machine.{System, Moment}
+use Rattle.model_system.specs.System.{System}
+use Rattle.model_machine.specs.Machine.{Moment}
 use Rattle.model_machine.specs.Steps.{May, After}
 use Rattle.model_machine.specs.History.{moment_after, IsLegal}
 

@@ -1,10 +1,11 @@
 -- Whole lives: which histories are legal, and where they lead.
 use Rattle.std.specs.Prelude.{◌≡◌, ℕ, List, [], ◌∷◌, ◌++◌}
 use Rattle.model_machine.specs.declared.entry.Entry.{Entry}
-use Rattle.model_machine.specs.declared.entry.Entry.TheVariants.{Accept, Show, Acked, Took, Idle, Called, Done}
+use Rattle.model_machine.specs.declared.entry.Entry.TheVariants.{Accept, Show, Acked, Took, Held, Idle, Called, Done, Abended}
 use Rattle.model_machine.specs.declared.entry.ControlCall.{ControlCall}
 use Rattle.model_machine.specs.declared.entry.ControlCall.TheVariants.{Input, Receive, Acknowledge, Turn}
-use Rattle.model_machine.specs.Machine.{System, LastingState, Moment, start_of}
+use Rattle.model_system.specs.System.{System}
+use Rattle.model_machine.specs.Machine.{LastingState, Moment, start_of}
 use Rattle.model_machine.specs.Steps.{May, After}
 
 -- the moment that these entries lead to
@@ -23,9 +24,11 @@ call_of (Accept terminal number segments answer) = Input terminal number segment
 call_of (Show terminal answer) = Receive terminal
 call_of (Acked terminal number answer) = Acknowledge terminal number
 call_of (Took region code id) = Turn region
+call_of (Held region need limit) = Turn region
 call_of (Idle region) = Turn region
 call_of (Called region function pcb status) = Turn region
-call_of (Done region code id) = Turn region
+call_of (Done region code id answer) = Turn region
+call_of (Abended region code id abend) = Turn region
 
 -- A control region as contracts see it: its system, what it opened with, the entries since, and for
 -- how many more entries it has room. The state of its machine follows from these.

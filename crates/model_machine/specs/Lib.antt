@@ -1,6 +1,5 @@
-pub mod Script
 pub mod Unit
 pub mod Machine
+pub mod Pick
 pub mod Steps
 pub mod History
-pub mod BuiltIn

@@ -1,31 +1,31 @@
--- The system as it is defined, and the state of the machine that serves it.
-use Rattle.std.specs.Prelude.{ℕ, ◌-◌, ◌≤◌, ◌==◌, nat_eq, Bool, false, not, Option, Some, None, List, [], map, replicate, slice_get, slice_set, position, find}
-use Rattle.std.specs.Option.{option_map_or, option_and_then, unwrap_or}
-use Rattle.std.specs.List.{list_any}
-use Rattle.std.specs.Cmp.Lexicographic.{pointwise}
+-- The state of the machine that serves a system.
+use Rattle.std.specs.Prelude.{ℕ, ◌+◌, ◌-◌, ◌*◌, ◌≤◌, ◌==◌, nat_eq, nat_le, Bool, true, false, not, ◌&&◌, if◌then◌else◌, Option, Some, None, List, [], map, replicate, length, slice_get, slice_set, position, find, sum_by}
+use Rattle.std.specs.Option.{option_map, option_map_or, option_and_then, unwrap_or, is_some}
+use Rattle.std.specs.List.{list_any, count_by}
+use Rattle.std.specs.Str.{bytes_eq}
 use Rattle.tm_types.specs.declared.message.Message.{Message}
-use Rattle.model_machine.specs.declared.script.ScriptLine.{ScriptLine}
-use Rattle.model_machine.specs.declared.lasting.Terminal.{Terminal}
-use Rattle.model_machine.specs.Unit.{Trial, trial_of}
+use Rattle.model_queues.specs.declared.replies.TerminalReplies.{TerminalReplies}
+use Rattle.model_queues.specs.Outputs.{fresh_terminal, replies_at, outputs_bytes}
+use Rattle.model_queues.specs.Room.{messages_bytes}
+use Rattle.model_queues.specs.Waiting.{count_waiting}
+use Rattle.model_script.specs.declared.program.ScriptLine.{ScriptLine}
+use Rattle.model_system.specs.CodeStates.{with_raised}
+use Rattle.model_system.specs.declared.code_state.CodeState.{CodeState}
+use Rattle.model_system.specs.declared.code.Code.{Code}
+use Rattle.model_system.specs.declared.system_program.SystemProgram.{SystemProgram}
+use Rattle.model_system.specs.declared.code.Transaction.{Transaction}
+use Rattle.model_system.specs.System.{System}
+use Rattle.model_machine.specs.declared.lasting.TerminalInput.{TerminalInput}
+use Rattle.model_machine.specs.Unit.{Job, Trial, trial_of}
 
--- a transaction code, and the script that serves its messages
-pub record Code : Type 0 where
-  pub name : List ℕ
-  pub program : List ScriptLine
-
--- the system: its codes, its terminals, and how many message regions it has, numbered from 1
-pub record System : Type 0 where
-  pub codes : List Code
-  pub terminals : List (List ℕ)
-  pub regions : ℕ
-
--- What lasts of the machine: the messages in the order of their ids and the next id; the terminals,
--- each with its last input number, its next output number and the replies kept; and how many
--- lasting steps were done.
+-- What lasts of the machine: the messages in the order of their ids and the next id; per terminal
+-- the last input number, and the replies kept with the next number; and how many lasting steps were
+-- done.
 pub record LastingState : Type 0 where
   pub messages : List Message
   pub next_id : ℕ
-  pub terminals : List Terminal
+  pub inputs : List TerminalInput
+  pub outputs : List TerminalReplies
   pub steps : ℕ
 
 -- a region's message: its code, how many messages the region took in a row, its id, and how many
@@ -36,59 +36,60 @@ pub record Slot : Type 0 where
   pub id : ℕ
   pub calls : ℕ
 
--- the machine at a moment: what lasts of it, and for each region its slot, which may be empty
+-- the machine at a moment: what lasts of it; for each region its slot, which may be empty; and the
+-- states of the codes, in the order of the definition
 pub record Moment : Type 0 where
   pub lasting : LastingState
   pub slots : List (Option Slot)
-
-abbrev pub fresh_terminal : List ℕ → Terminal
-fresh_terminal name = record { name = name; last_input = 0; next_output = 1; replies = [] }
-
--- the empty machine: no message, no number used
-abbrev pub empty_state : System → LastingState
-empty_state system = record { messages = []; next_id = 1; terminals = map fresh_terminal system.terminals; steps = 0 }
-
--- a life starts with what lasted, and empty slots
-abbrev pub start_of : System → LastingState → Moment
-start_of system lasting = record { lasting = lasting; slots = replicate system.regions None }
-
-abbrev pub same_name : List ℕ → List ℕ → Bool
-same_name a b = pointwise nat_eq a b
+  pub codes : List CodeState
 
 -- Look-ups by name and by id, each the first that there is.
-abbrev pub terminal_place : List Terminal → List ℕ → Option ℕ
-terminal_place terminals name = position (λ terminal. same_name terminal.name name) terminals
+abbrev pub input_place : List TerminalInput → List ℕ → Option ℕ
+input_place inputs name = position (λ input. bytes_eq input.name name) inputs
 
-abbrev pub terminal_at : List Terminal → List ℕ → Option Terminal
-terminal_at terminals name = option_and_then (slice_get terminals) (terminal_place terminals name)
+abbrev pub input_at : List TerminalInput → List ℕ → Option TerminalInput
+input_at inputs name = find (λ input. bytes_eq input.name name) inputs
 
-abbrev pub change_at : List Terminal → Option ℕ → (Terminal → Terminal) → List Terminal
-change_at terminals (Some place) change = option_map_or (λ found. slice_set terminals place (change found)) (slice_get terminals place) terminals
-change_at terminals None change = terminals
+abbrev pub output_at : List TerminalReplies → List ℕ → Option TerminalReplies
+output_at outputs name = replies_at name outputs
 
--- the terminals with the one of this name changed
-abbrev pub change_terminal : List Terminal → List ℕ → (Terminal → Terminal) → List Terminal
-change_terminal terminals name change = change_at terminals (terminal_place terminals name) change
+abbrev pub code_place : List Code → List ℕ → Option ℕ
+code_place codes name = position (λ code. bytes_eq code.transaction.code name) codes
 
 abbrev pub code_at : List Code → List ℕ → Option Code
-code_at codes name = option_and_then (slice_get codes) (position (λ code. same_name code.name name) codes)
+code_at codes name = find (λ code. bytes_eq code.transaction.code name) codes
 
--- the script of a code
-abbrev pub program_of : System → List ℕ → List ScriptLine
-program_of system name = option_map_or (λ code. code.program) (code_at system.codes name) []
-
-abbrev pub message_place : List Message → ℕ → Option ℕ
-message_place messages id = position (λ message. message.id == id) messages
+abbrev pub program_at : List SystemProgram → List ℕ → Option SystemProgram
+program_at programs psb = find (λ program. bytes_eq program.psb psb) programs
 
 abbrev pub message_at : List Message → ℕ → Option Message
-message_at messages id = option_and_then (slice_get messages) (message_place messages id)
+message_at messages id = find (λ message. message.id == id) messages
+
+-- a list with the element at a place changed, if there is one
+abbrev pub change_at : {X : Type 0} → List X → Option ℕ → (X → X) → List X
+change_at xs (Some place) change = option_map_or (λ found. slice_set xs place (change found)) (slice_get xs place) xs
+change_at xs None change = xs
+
+-- the script of a PSB; one without a program has none
+abbrev pub lines_of : System → List ℕ → List ScriptLine
+lines_of system psb = option_map_or (λ program. program.program) (program_at system.programs psb) []
+
+-- what serves a code's messages: its operands and the script of its program
+abbrev pub job_by : System → Code → Job
+job_by system code = record { transaction = code.transaction; lines = lines_of system code.psb }
+
+abbrev pub job_of : System → List ℕ → Option Job
+job_of system name = option_map (job_by system) (code_at system.codes name)
 
 -- a region of the system has a number from 1
 abbrev pub IsRegion : System → ℕ → Type 0
-IsRegion system region = (1 ≤ region) × (region ≤ system.regions)
+IsRegion system region = (1 ≤ region) × (region ≤ length system.regions)
+
+abbrev pub slot_in : List (Option Slot) → ℕ → Option Slot
+slot_in slots region = unwrap_or (slice_get slots (region - 1)) None
 
 abbrev pub slot_at : Moment → ℕ → Option Slot
-slot_at moment region = unwrap_or (slice_get moment.slots (region - 1)) None
+slot_at moment region = slot_in moment.slots region
 
 abbrev pub with_slot : Moment → ℕ → Option Slot → Moment
 with_slot moment region slot = record moment { slots = slice_set moment.slots (region - 1) slot }
@@ -101,11 +102,63 @@ has_message id None = false
 abbrev pub is_held : List (Option Slot) → ℕ → Bool
 is_held slots id = list_any (has_message id) slots
 
--- the message that an empty region takes: of those that no slot has, the one of the lowest id
-abbrev pub pick_of : Moment → Option Message
-pick_of moment = find (λ message. not (is_held moment.slots message.id)) moment.lasting.messages
+-- how many regions have a message
+abbrev pub busy_slots : List (Option Slot) → ℕ
+busy_slots slots = count_by is_some slots
 
--- what this many calls give for a slot's message, by the script of its code
+-- the bytes of the messages and of the replies that are kept
+abbrev pub content : LastingState → ℕ
+content lasting = messages_bytes lasting.messages + outputs_bytes lasting.outputs
+
+-- what k calls give for a slot's message, by the script of its code
+abbrev pub message_trial : System → List ℕ → Message → ℕ → Option Trial
+message_trial system code message calls = option_and_then (λ job. trial_of job message.segments calls) (job_of system code)
+
 abbrev pub slot_trial : System → Moment → Slot → ℕ → Option Trial
 slot_trial system moment slot calls =
-    option_and_then (λ message. trial_of (program_of system slot.code) message.segments calls) (message_at moment.lasting.messages slot.id)
+    option_and_then (λ message. message_trial system slot.code message calls) (message_at moment.lasting.messages slot.id)
+
+-- The limit priority counts from the moment when as many messages of the code wait as its limit
+-- count says, until none waits; 65,535 is no limit. `count` messages wait now.
+abbrev pub raised_by : Transaction → ℕ → Bool → Bool
+raised_by transaction count raised =
+    if count == 0 then false
+    else if not (transaction.limit_count == 65535) && nat_le transaction.limit_count count then true
+    else raised
+
+abbrev pub is_raised : List CodeState → ℕ → Bool
+is_raised states place = option_map_or (λ state. state.raised) (slice_get states place) false
+
+abbrev pub followed_by : ℕ → Option Code → List CodeState → ℕ → List CodeState
+followed_by count (Some code) states place = with_raised place (raised_by code.transaction count (is_raised states place)) states
+followed_by count None states place = states
+
+-- the states once the flag of the code of this name follows how many of its messages wait
+abbrev pub followed : System → List ℕ → ℕ → List CodeState → List CodeState
+followed system name count states =
+    option_map_or (λ place. followed_by count (slice_get system.codes place) states place) (code_place system.codes name) states
+
+abbrev pub flagged : System → List ℕ → Moment → Moment
+flagged system name moment =
+    record moment { codes = followed system name (count_waiting (is_held moment.slots) name moment.lasting.messages) moment.codes }
+
+-- the state that a code begins a life with, as many messages of it waiting
+abbrev pub first_state : LastingState → Code → CodeState
+first_state lasting code = record {
+  code = code.transaction.code;
+  stopped = false;
+  class = code.transaction.class;
+  priority = code.transaction.normal_priority;
+  raised = raised_by code.transaction (count_waiting (λ _. false) code.transaction.code lasting.messages) false;
+}
+
+abbrev pub fresh_input : List ℕ → TerminalInput
+fresh_input name = record { name = name; last = 0 }
+
+-- the empty machine: no message, no number used
+abbrev pub empty_state : System → LastingState
+empty_state system = record { messages = []; next_id = 1; inputs = map fresh_input system.terminals; outputs = map fresh_terminal system.terminals; steps = 0 }
+
+-- a life starts with what lasted, empty slots, and the flags by what waits
+abbrev pub start_of : System → LastingState → Moment
+start_of system lasting = record { lasting = lasting; slots = replicate (length system.regions) None; codes = map (first_state lasting) system.codes }

@@ -1,50 +1,88 @@
 -- The work of one message: what its script's calls give when nothing else happens.
-use Rattle.std.specs.Prelude.{◌≡◌, ℕ, zero, suc, ◌+◌, nat_lt, if◌then◌else◌, Option, Some, None, List, [], ◌∷◌, ◌++◌, length, slice_get}
+use Rattle.std.specs.Prelude.{◌≡◌, ℕ, zero, suc, ◌+◌, nat_lt, nat_le, ◌==◌, ◌&&◌, Bool, true, false, if◌then◌else◌, Option, Some, None, List, [], ◌∷◌, ◌++◌, length, slice_get}
 use Rattle.std.specs.Option.{option_and_then}
+use Rattle.tm_types.specs.declared.abend.AbendCode.{AbendCode}
 use Rattle.tm_types.specs.declared.function.Function.{Function}
 use Rattle.tm_types.specs.declared.function.Function.TheVariants.{GU, GN, ISRT}
 use Rattle.tm_types.specs.declared.status.Status.{Status}
-use Rattle.tm_types.specs.declared.status.Status.TheVariants.{Blank, QD}
-use Rattle.model_machine.specs.declared.script.ScriptLine.{ScriptLine}
-use Rattle.model_machine.specs.declared.script.CallText.{CallText}
-use Rattle.model_machine.specs.declared.script.Need.{Need}
-use Rattle.model_machine.specs.declared.script.Need.TheVariants.{Call, Ended}
-use Rattle.model_machine.specs.Script.{Answer, next_need}
+use Rattle.tm_types.specs.declared.status.Status.TheVariants.{Blank, QD, A6, A7, AM}
+use Rattle.tm_types.specs.Segment.{segment_length}
+use Rattle.model_script.specs.declared.need.CallText.{CallText}
+use Rattle.model_script.specs.declared.need.Need.{Need}
+use Rattle.model_script.specs.declared.need.Need.TheVariants.{Call, Ended, Abend}
+use Rattle.model_script.specs.declared.program.ScriptLine.{ScriptLine}
+use Rattle.model_script.specs.Script.{Answer, next_need}
+use Rattle.model_system.specs.declared.code.Transaction.{Transaction}
 
--- The work on a message: its segments, how many of them were given, and the segments that were
--- inserted into the reply to its origin.
+-- what serves the messages of a code: the code's operands, and the script of its program
+pub record Job : Type 0 where
+  pub transaction : Transaction
+  pub lines : List ScriptLine
+
+-- The work on a message: its segments, whether the script has got it, how many segments were given
+-- since, and the segments that were inserted into the reply to its origin.
 pub record Work : Type 0 where
   pub segments : List (List ℕ)
+  pub begun : Bool
   pub place : ℕ
   pub reply : List (List ℕ)
 
 abbrev pub work_start : List (List ℕ) → Work
-work_start segments = record { segments = segments; place = 0; reply = [] }
+work_start segments = record { segments = segments; begun = false; place = 0; reply = [] }
+
+abbrev pub status_alone : Status → Answer
+status_alone status = record { status = status; area = None }
 
 -- a segment that is there is given with a blank status; where there is none the status is QD
 abbrev pub given : Option (List ℕ) → Answer
 given (Some text) = record { status = Blank; area = Some text }
-given None = record { status = QD; area = None }
+given None = status_alone QD
 
--- GU gives the first segment and GN the next one; ISRT gives none. (Programs make no other call.)
-abbrev pub answer_by : Function → Work → Answer
-answer_by GU work = given (slice_get work.segments 0)
-answer_by GN work = given (slice_get work.segments work.place)
-answer_by _ work = record { status = Blank; area = None }
+-- A segment that is longer than the code's limit is refused with A6, one more than its count with
+-- A7, in this order.
+abbrev pub insert_status : Transaction → Work → List ℕ → Status
+insert_status transaction work text =
+    if nat_lt transaction.segment_size (segment_length text) then A6
+    else if nat_le transaction.segment_count (length work.reply) then A7
+    else Blank
 
--- GU and GN move on behind the segment that they give; ISRT adds its text to the reply
-abbrev pub work_by : Function → Work → List ℕ → Work
-work_by GU work text = record work { place = 1 }
-work_by GN work text = record work { place = if nat_lt work.place (length work.segments) then work.place + 1 else work.place }
-work_by ISRT work text = record work { reply = work.reply ++ text ∷ [] }
-work_by _ work text = work
+abbrev pub is_blank : Status → Bool
+is_blank Blank = true
+is_blank _ = false
 
--- what a call on PCB 0 is answered, and the work after it
-abbrev pub message_answer : Work → CallText → Answer
-message_answer work call = answer_by call.function work
+-- GU gives the first segment, and GN the next one behind those that were given; before a GU there
+-- is none. ISRT adds its text to the reply.
+abbrev pub answer_by : Function → Transaction → Work → List ℕ → Answer
+answer_by GU transaction work text = given (slice_get work.segments 0)
+answer_by GN transaction work text = if work.begun then given (slice_get work.segments work.place) else status_alone QD
+answer_by ISRT transaction work text = status_alone (insert_status transaction work text)
+answer_by _ transaction work text = status_alone AM
 
-abbrev pub message_work : Work → CallText → Work
-message_work work call = work_by call.function work call.area
+abbrev pub work_by : Function → Transaction → Work → List ℕ → Work
+work_by GU transaction work text = record work { begun = true; place = 1 }
+work_by GN transaction work text =
+    if work.begun && nat_lt work.place (length work.segments) then record work { place = work.place + 1 } else work
+work_by ISRT transaction work text =
+    if is_blank (insert_status transaction work text) then record work { reply = work.reply ++ text ∷ [] } else work
+work_by _ transaction work text = work
+
+-- What a call is answered, and the work after it. Calls on PCB 0 are those for messages; no other
+-- PCB is served, and a call on one is answered AM.
+abbrev pub call_answer : Transaction → Work → CallText → Answer
+call_answer transaction work call =
+    if call.pcb == 0 then answer_by call.function transaction work call.area else status_alone AM
+
+abbrev pub call_work : Transaction → Work → CallText → Work
+call_work transaction work call =
+    if call.pcb == 0 then work_by call.function transaction work call.area else work
+
+abbrev pub is_get_unique : Function → Bool
+is_get_unique GU = true
+is_get_unique _ = false
+
+-- a further GU on PCB 0 ends the work on the message
+abbrev pub is_sync : Work → CallText → Bool
+is_sync work call = work.begun && (call.pcb == 0) && is_get_unique call.function
 
 -- a call that was made, with its status
 pub record CalledWith : Type 0 where
@@ -61,24 +99,43 @@ pub record Trial : Type 0 where
 abbrev pub trial_start : List (List ℕ) → Trial
 trial_start segments = record { answers = []; work = work_start segments; last = None }
 
-abbrev pub trial_by : Need → Trial → Option Trial
-trial_by (Call call) trial = Some (record {
-  answers = trial.answers ++ message_answer trial.work call ∷ [];
-  work = message_work trial.work call;
-  last = Some (record { function = call.function; pcb = call.pcb; status = (message_answer trial.work call).status });
-})
-trial_by Ended trial = None
+abbrev pub trial_called : Transaction → Trial → CallText → Trial
+trial_called transaction trial call = record {
+  answers = trial.answers ++ call_answer transaction trial.work call ∷ [];
+  work = call_work transaction trial.work call;
+  last = Some (record { function = call.function; pcb = call.pcb; status = (call_answer transaction trial.work call).status });
+}
 
--- one more call: the one that the script then needs; none where it has ended
-abbrev pub trial_step : List ScriptLine → Trial → Option Trial
-trial_step lines trial = trial_by (next_need lines trial.answers) trial
+abbrev pub trial_by : Transaction → Trial → Need → Option Trial
+trial_by transaction trial (Call call) = if is_sync trial.work call then None else Some (trial_called transaction trial call)
+trial_by transaction trial Ended = None
+trial_by transaction trial (Abend code) = None
+
+-- what the script needs behind these calls
+abbrev pub trial_need : Job → Trial → Need
+trial_need job trial = next_need job.lines job.transaction.statement_limit trial.answers
+
+-- one more call: the one that the script then needs; none where the work ends
+abbrev pub trial_step : Job → Trial → Option Trial
+trial_step job trial = trial_by job.transaction trial (trial_need job trial)
 
 -- What k calls of the script give for a message of these segments, when nothing else happens: from
--- the script's start, one call after another. There is no such trial where the script ends before.
-abbrev pub trial_of : List ScriptLine → List (List ℕ) → ℕ → Option Trial
-trial_of lines segments zero = Some (trial_start segments)
-trial_of lines segments (suc calls) = option_and_then (trial_step lines) (trial_of lines segments calls)
+-- the script's start, one call after another. There is no such trial where the work ends before.
+abbrev pub trial_of : Job → List (List ℕ) → ℕ → Option Trial
+trial_of job segments zero = Some (trial_start segments)
+trial_of job segments (suc calls) = option_and_then (trial_step job) (trial_of job segments calls)
 
--- the script ends behind these calls
-abbrev pub IsEnd : List ScriptLine → Trial → Type 0
-IsEnd lines trial = next_need lines trial.answers ≡ Ended
+-- how the work on a message ends: with the script, at a further GU, or abnormally
+pub data UnitEnd : Type 0 where
+  Ends : UnitEnd
+  Syncs : UnitEnd
+  Abends : AbendCode → UnitEnd
+
+abbrev pub end_by : Work → Need → Option UnitEnd
+end_by work (Call call) = if is_sync work call then Some Syncs else None
+end_by work Ended = Some Ends
+end_by work (Abend code) = Some (Abends code)
+
+-- how the work ends behind these calls, if it does
+abbrev pub trial_end : Job → Trial → Option UnitEnd
+trial_end job trial = end_by trial.work (trial_need job trial)

@@ -1,4 +1,4 @@
-use tm_types::{Function, Name, Segments, Status};
+use tm_types::{AbendCode, Function, Name, Segments, Status};
 
 /// What a control call was asked for.
 #[derive(Debug, Drop)]
@@ -26,6 +26,10 @@ pub enum Accepted {
     Expected(u64),
     /// The input's first word is no transaction code.
     Code,
+    /// The input has so many segments, and its code takes at most so many.
+    SegmentsOver(u32, u32),
+    /// With the input the queues would need so many bytes, and have so many.
+    QueueFull(u64, u64),
 }
 
 /// The answer to a request to see a reply.
@@ -52,6 +56,17 @@ pub enum AckAnswer {
     Ahead(u64),
 }
 
+/// How a completed message's work ended, and how its region goes on.
+#[derive(Clone, Copy, Debug)]
+pub enum SyncPoint {
+    /// At the end of the script. The region is empty.
+    End,
+    /// At a further GU. The region goes on with the message of this id.
+    Next(u64),
+    /// At a further GU, for which there is no message. The region is empty.
+    NoMore,
+}
+
 /// One call of the control region, with its answer.
 #[derive(Debug, Drop)]
 pub enum Entry {
@@ -63,10 +78,14 @@ pub enum Entry {
     Acked(Name, u64, AckAnswer),
     /// The region took the message of this code and id.
     Took(u32, Name, u64),
+    /// The region could take a message, but the queues would need so many bytes, and have so many.
+    Held(u32, u64, u64),
     /// The region had nothing to do.
     Idle(u32),
     /// The region's script made this call on this PCB and was answered with this status.
     Called(u32, Function, u8, Status),
     /// The region completed the message of this code and id.
-    Done(u32, Name, u64),
+    Done(u32, Name, u64, SyncPoint),
+    /// The region's script ended abnormally on the message of this code and id.
+    Abended(u32, Name, u64, AbendCode),
 }

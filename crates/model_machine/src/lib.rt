@@ -5,12 +5,8 @@
 //! and the history is legal.
 #![tactic(auto)]
 
-pub use built_in::{code_name, terminal_name};
-pub use entry::{Accepted, AckAnswer, ControlCall, Entry, ShowAnswer};
-pub use lasting::{Lasting, Replies, Terminal};
-pub use script::{CallText, Need, ScriptLine, Variable};
+pub use entry::{Accepted, AckAnswer, ControlCall, Entry, ShowAnswer, SyncPoint};
+pub use lasting::{Lasting, TerminalInput};
 
-mod built_in;
 mod entry;
 mod lasting;
-mod script;

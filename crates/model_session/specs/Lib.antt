@@ -1,4 +1,6 @@
 pub mod Numbers
+pub mod Blocks
 pub mod Lines
 pub mod Text
+pub mod Turns
 pub mod Session

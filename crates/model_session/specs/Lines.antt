@@ -1,82 +1,139 @@
--- What a session line asks for.
-use Rattle.std.specs.Prelude.{◌≡◌, ◌<◌, ⊤, ℕ, ◌==◌, nat_le, Bool, true, ◌&&◌, if◌then◌else◌, Option, List, [], ◌∷◌, length, codes}
+-- What a block of session lines asks for.
+use Rattle.std.specs.Prelude.{ℕ, ◌<◌, ◌≤◌, ⊤, ◌==◌, nat_lt, nat_le, Bool, ◌&&◌, if◌then◌else◌, Option, Some, None, Result, Ok, Err, List, [], ◌∷◌, length, map, codes}
+use Rattle.std.specs.List.{list_all, count_by}
 use Rattle.std.specs.Option.{option_map_or}
-use Rattle.std.specs.List.{after_first, list_all}
+use Rattle.std.specs.Str.{bytes_eq}
+use Rattle.text_rows.specs.Lowest.{both, also}
 use Rattle.tm_types.specs.Segment.{is_printable}
 use Rattle.model_machine.specs.declared.entry.ControlCall.{ControlCall}
 use Rattle.model_machine.specs.declared.entry.ControlCall.TheVariants.{Input, Receive, Acknowledge, Turn}
-use Rattle.model_machine.specs.Machine.{same_name}
-use Rattle.model_machine.specs.BuiltIn.{terminal_name, code_name}
-use Rattle.model_machine.specs.Steps.{first_word}
+use Rattle.model_session.specs.declared.asked.Form.{Form}
+use Rattle.model_session.specs.declared.asked.Form.TheVariants.{Input as InputForm, Receive as ReceiveForm, Acknowledge as AcknowledgeForm, Turn as TurnForm, Quiet as QuietForm}
 use Rattle.model_session.specs.declared.asked.Asked.{Asked}
-use Rattle.model_session.specs.declared.asked.Asked.TheVariants.{Passed, Bad, Call}
-use Rattle.model_session.specs.Numbers.{number_in}
+use Rattle.model_session.specs.declared.asked.Asked.TheVariants.{Bad, TooLong, Call, Quiet}
+use Rattle.model_session.specs.declared.rules.TheConstants.{UNKNOWN_WORD, WRONG_OPERANDS, NO_LINE, NOT_PRINTABLE}
+use Rattle.model_session.specs.Numbers.{number_operand, name_operand}
+use Rattle.model_session.specs.Blocks.{Block, first_word, operands, is_further, blocks_of}
 
-abbrev pub is_terminal : List ℕ → Bool
-is_terminal word = same_name word terminal_name
+-- ---- the form of one line
 
--- what stands behind the first blank
-abbrev pub operands : List ℕ → List ℕ
-operands text = after_first (λ b. b == 32) text
+-- words are parted by one blank, so a line has as many operands as blanks
+abbrev pub operand_count : List ℕ → ℕ
+operand_count line = count_by (λ b. b == 32) line
 
--- a number of an input or a reply, from 1 to 999,999,999,999
-abbrev pub message_number : List ℕ → Option ℕ
-message_number text = number_in 1 999999999999 text
+-- the number of an input or a reply
+abbrev pub message_number : List ℕ → Result ℕ ℕ
+message_number text = number_operand 1 999999999999 text
 
--- the text of an input: at most 1,996 printable bytes, the first word being the code
-abbrev pub is_input_text : List ℕ → Bool
-is_input_text text = nat_le (length text) 1996 && list_all is_printable text && same_name (first_word text) code_name
+abbrev pub numbered : (List ℕ → ℕ → Form) → Result (List ℕ × ℕ) ℕ → Result Form ℕ
+numbered form (Ok (terminal, number)) = Ok (form terminal number)
+numbered form (Err rule) = Err rule
 
--- a call, where a number is one
-abbrev pub call_with : (ℕ → ControlCall) → Option ℕ → Asked
-call_with make number = option_map_or (λ n. Call (make n)) number (Bad 1)
+abbrev pub named : Result (List ℕ) ℕ → Result Form ℕ
+named (Ok terminal) = Ok (ReceiveForm terminal)
+named (Err rule) = Err rule
 
--- IN T1 n text
-abbrev pub input_asked : List ℕ → List ℕ → Asked
-input_asked terminal rest =
-    if is_terminal terminal && is_input_text (operands rest)
-    then call_with (λ n. Input terminal_name n (operands rest ∷ [])) (message_number (first_word rest))
-    else Bad 1
+abbrev pub counted : (ℕ → Form) → Result ℕ ℕ → Result Form ℕ
+counted form (Ok number) = Ok (form number)
+counted form (Err rule) = Err rule
 
--- TURN 1
-abbrev pub turn_asked : List ℕ → Asked
-turn_asked rest = call_with (λ n. Turn n) (number_in 1 1 rest)
+-- IN t n text: the text is all that follows the blank behind n, and may be empty
+unfoldable pub input_form : List ℕ → Result Form ℕ
+input_form line =
+    if nat_le 3 (operand_count line)
+    then numbered (λ t n. InputForm t n) (both (name_operand (first_word (operands line))) (message_number (first_word (operands (operands line)))))
+    else Err WRONG_OPERANDS
 
--- RECV T1
-abbrev pub receive_asked : List ℕ → Asked
-receive_asked rest = if is_terminal rest then Call (Receive terminal_name) else Bad 1
+-- RECV t
+unfoldable pub receive_form : List ℕ → Result Form ℕ
+receive_form line = if operand_count line == 1 then named (name_operand (operands line)) else Err WRONG_OPERANDS
 
--- ACK T1 n
-abbrev pub acknowledge_asked : List ℕ → Asked
-acknowledge_asked rest =
-    if is_terminal (first_word rest)
-    then call_with (λ n. Acknowledge terminal_name n) (message_number (operands rest))
-    else Bad 1
+-- ACK t n
+unfoldable pub acknowledge_form : List ℕ → Result Form ℕ
+acknowledge_form line =
+    if operand_count line == 2
+    then numbered (λ t n. AcknowledgeForm t n) (both (name_operand (first_word (operands line))) (message_number (operands (operands line))))
+    else Err WRONG_OPERANDS
 
--- by its first word and what stands behind it
-abbrev pub asked_by : List ℕ → List ℕ → Asked
-asked_by word rest =
-    if same_name word (codes "IN") then input_asked (first_word rest) (operands rest)
-    else if same_name word (codes "TURN") then turn_asked rest
-    else if same_name word (codes "RECV") then receive_asked rest
-    else if same_name word (codes "ACK") then acknowledge_asked rest
-    else Bad 1
+-- TURN r, of so many regions
+unfoldable pub turn_form : ℕ → List ℕ → Result Form ℕ
+turn_form regions line =
+    if operand_count line == 1 then counted (λ r. TurnForm r) (number_operand 1 regions (operands line)) else Err WRONG_OPERANDS
 
--- empty lines and comments are passed over
-abbrev pub is_passed : List ℕ → Bool
-is_passed [] = true
-is_passed (b ∷ bytes) = b == 42
+-- QUIET n
+unfoldable pub quiet_form : List ℕ → Result Form ℕ
+quiet_form line =
+    if operand_count line == 1 then counted (λ n. QuietForm n) (number_operand 1 1000000 (operands line)) else Err WRONG_OPERANDS
 
--- What a line asks for. Every line that is not passed over and has none of the four forms breaks
--- rule 1.
-abbrev pub asked_of : List ℕ → Asked
-asked_of line = if is_passed line then Passed else asked_by (first_word line) (operands line)
+-- a `+` line that belongs to no line
+unfoldable pub lone_form : List ℕ → Result Form ℕ
+lone_form line = if operand_count line == 0 then Err WRONG_OPERANDS else Err NO_LINE
 
--- What is asked of a control region can be asked: an input has a segment, and the region is there.
-abbrev pub CanAsk : Asked → Type 0
-CanAsk (Call (Input terminal number segments)) = 0 < length segments
-CanAsk (Call (Turn region)) = region ≡ 1
-CanAsk (Call (Receive terminal)) = ⊤
-CanAsk (Call (Acknowledge terminal number)) = ⊤
-CanAsk (Bad rule) = ⊤
-CanAsk Passed = ⊤
+-- by its first word
+unfoldable pub form_of : ℕ → List ℕ → Result Form ℕ
+form_of regions line =
+    if bytes_eq (first_word line) (codes "IN") then input_form line
+    else if bytes_eq (first_word line) (codes "TURN") then turn_form regions line
+    else if bytes_eq (first_word line) (codes "RECV") then receive_form line
+    else if bytes_eq (first_word line) (codes "ACK") then acknowledge_form line
+    else if bytes_eq (first_word line) (codes "QUIET") then quiet_form line
+    else if is_further line then lone_form line
+    else Err UNKNOWN_WORD
+
+-- ---- a whole block
+
+-- + text: the text is all that follows the blank, and may be empty
+abbrev pub has_operand : List ℕ → Bool
+has_operand line = nat_le 1 (operand_count line)
+
+unfoldable pub further_forms : List (List ℕ) → Result (Unit {0}) ℕ
+further_forms lines = if list_all has_operand lines then Ok tt else Err WRONG_OPERANDS
+
+abbrev pub is_text : List ℕ → Bool
+is_text line = list_all is_printable line
+
+unfoldable pub printable_block : Block → Result (Unit {0}) ℕ
+printable_block block = if is_text block.line && list_all is_text block.further then Ok tt else Err NOT_PRINTABLE
+
+-- the form of the first line, where no line of the block breaks a rule; else the lowest rule that one of them breaks
+unfoldable pub block_form : ℕ → Block → Result Form ℕ
+block_form regions block = also (form_of regions block.line) (also (further_forms block.further) (printable_block block))
+
+-- the texts of an input's segments: the first is the third operand of its line
+abbrev pub input_text : List ℕ → List ℕ
+input_text line = operands (operands (operands line))
+
+abbrev pub input_texts : Block → List (List ℕ)
+input_texts block = input_text block.line ∷ map operands block.further
+
+-- the length of the first text that is too long
+abbrev pub first_long : List (List ℕ) → Option ℕ
+first_long [] = None
+first_long (text ∷ texts) = if nat_lt 1996 (length text) then Some (length text) else first_long texts
+
+abbrev pub input_asked : List ℕ → ℕ → List (List ℕ) → Option ℕ → Asked
+input_asked terminal number texts (Some long) = TooLong terminal number long
+input_asked terminal number texts None = Call (Input terminal number texts)
+
+abbrev pub asked_by : List (List ℕ) → Result Form ℕ → Asked
+asked_by texts (Ok (InputForm terminal number)) = input_asked terminal number texts (first_long texts)
+asked_by texts (Ok (ReceiveForm terminal)) = Call (Receive terminal)
+asked_by texts (Ok (AcknowledgeForm terminal number)) = Call (Acknowledge terminal number)
+asked_by texts (Ok (TurnForm region)) = Call (Turn region)
+asked_by texts (Ok (QuietForm most)) = Quiet most
+asked_by texts (Err rule) = Bad rule
+
+-- What a block asks for, of a system with so many regions. A block that breaks a rule asks for nothing.
+unfoldable pub asked_of : ℕ → Block → Asked
+asked_of regions block = asked_by (input_texts block) (block_form regions block)
+
+-- What is asked can be asked of a system with so many regions: an input has a segment, and the region
+-- is there.
+abbrev pub CanAsk : ℕ → Asked → Type 0
+CanAsk regions (Call (Input terminal number segments)) = 0 < length segments
+CanAsk regions (Call (Turn region)) = (1 ≤ region) × (region ≤ regions)
+CanAsk regions (Call (Receive terminal)) = ⊤
+CanAsk regions (Call (Acknowledge terminal number)) = ⊤
+CanAsk regions (Quiet most) = ⊤
+CanAsk regions (TooLong terminal number long) = ⊤
+CanAsk regions (Bad rule) = ⊤

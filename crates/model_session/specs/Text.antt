@@ -1,23 +1,28 @@
 -- What is printed for an entry.
-use Rattle.std.specs.Prelude.{ℕ, Option, List, [], ◌∷◌, ◌++◌, take, slice_get, codes, decimal}
+use Rattle.std.specs.Prelude.{ℕ, Bool, if◌then◌else◌, Option, List, [], ◌∷◌, ◌++◌, take, slice_get, codes, decimal}
 use Rattle.std.specs.Option.{option_map_or, option_and_then}
-use Rattle.std.specs.List.{flat_map}
+use Rattle.std.specs.List.{flat_map, list_any}
+use Rattle.std.specs.Str.{bytes_eq}
 use Rattle.tm_types.specs.declared.function.Function.{Function}
 use Rattle.tm_types.specs.Function.{function_name}
 use Rattle.tm_types.specs.declared.status.Status.{Status}
 use Rattle.tm_types.specs.declared.status.Status.TheVariants.{Blank}
 use Rattle.tm_types.specs.Status.{status_text}
 use Rattle.tm_types.specs.declared.message.Reply.{Reply}
+use Rattle.tm_types.specs.declared.abend.AbendCode.{AbendCode}
+use Rattle.model_system.specs.System.{System}
 use Rattle.model_machine.specs.declared.entry.Entry.{Entry}
-use Rattle.model_machine.specs.declared.entry.Entry.TheVariants.{Accept, Show, Acked, Took, Idle, Called, Done}
+use Rattle.model_machine.specs.declared.entry.Entry.TheVariants.{Accept, Show, Acked, Took, Held, Idle, Called, Done, Abended}
 use Rattle.model_machine.specs.declared.entry.Accepted.{Accepted}
-use Rattle.model_machine.specs.declared.entry.Accepted.TheVariants.{New, Already, Terminal as NoTerminal, Expected, Code as NoCode}
+use Rattle.model_machine.specs.declared.entry.Accepted.TheVariants.{New, Already, Terminal as NoTerminal, Expected, Code as NoCode, SegmentsOver, QueueFull}
 use Rattle.model_machine.specs.declared.entry.ShowAnswer.{ShowAnswer}
 use Rattle.model_machine.specs.declared.entry.ShowAnswer.TheVariants.{Reply as Showed, Empty, Unknown as ShowUnknown}
 use Rattle.model_machine.specs.declared.entry.AckAnswer.{AckAnswer}
 use Rattle.model_machine.specs.declared.entry.AckAnswer.TheVariants.{Removed, Already as AckAlready, Unknown as AckUnknown, Ahead}
-use Rattle.model_machine.specs.Machine.{Moment, terminal_at}
-use Rattle.model_machine.specs.Steps.{code_word}
+use Rattle.model_machine.specs.declared.entry.SyncPoint.{SyncPoint}
+use Rattle.model_machine.specs.declared.entry.SyncPoint.TheVariants.{End, Next, NoMore}
+use Rattle.model_machine.specs.Machine.{Moment, output_at}
+use Rattle.model_machine.specs.Steps.{code_word, four_digits}
 
 -- a word and a blank
 abbrev pub spaced : List ℕ → List ℕ
@@ -41,6 +46,8 @@ accepted_text terminal number segments (New id) = about (codes "ACK") terminal n
 accepted_text terminal number segments Already = about (codes "ALREADY") terminal number ++ line_end
 accepted_text terminal number segments NoTerminal = about (codes "REFUSED") terminal number ++ codes " TERMINAL" ++ line_end
 accepted_text terminal number segments (Expected next) = about (codes "REFUSED") terminal number ++ codes " EXPECTED " ++ decimal next ++ line_end
+accepted_text terminal number segments (SegmentsOver count most) = about (codes "REFUSED") terminal number ++ codes " SEGMENTS " ++ decimal count ++ 32 ∷ [] ++ decimal most ++ line_end
+accepted_text terminal number segments (QueueFull need limit) = about (codes "REFUSED") terminal number ++ codes " QUEUE FULL " ++ decimal need ++ 32 ∷ [] ++ decimal limit ++ line_end
 accepted_text terminal number segments NoCode = about (codes "REFUSED") terminal number ++ codes " CODE " ++ shown_word (code_word segments) ++ line_end
 
 -- a further segment stands on a line of its own
@@ -63,7 +70,7 @@ unknown_text terminal = spaced (codes "REFUSED") ++ terminal ++ codes " TERMINAL
 
 -- the first reply that a terminal has at the moment
 abbrev pub first_reply : Moment → List ℕ → Option Reply
-first_reply moment terminal = option_and_then (λ found. slice_get found.replies 0) (terminal_at moment.lasting.terminals terminal)
+first_reply moment terminal = option_and_then (λ found. slice_get found.replies 0) (output_at moment.lasting.outputs terminal)
 
 -- the entry keeps the number of the reply that was shown; the text is that of the reply
 abbrev pub show_text : Moment → List ℕ → ShowAnswer → List ℕ
@@ -96,8 +103,18 @@ abbrev pub called_text : ℕ → Function → ℕ → Status → List ℕ
 called_text region function pcb status =
     region_text region ++ spaced (function_name function) ++ spaced (decimal pcb) ++ printed_status status ++ line_end
 
-abbrev pub done_text : ℕ → List ℕ → ℕ → List ℕ
-done_text region code id = region_text region ++ about (codes "DONE") code id ++ line_end
+-- a message was completed, and how its region goes on
+abbrev pub done_text : ℕ → List ℕ → ℕ → SyncPoint → List ℕ
+done_text region code id End = region_text region ++ about (codes "DONE") code id ++ line_end
+done_text region code id (Next next) = region_text region ++ about (codes "NEXT") code id ++ 32 ∷ [] ++ decimal next ++ line_end
+done_text region code id NoMore = region_text region ++ about (codes "QC") code id ++ line_end
+
+abbrev pub abended_text : ℕ → List ℕ → ℕ → AbendCode → List ℕ
+abended_text region code id abend =
+    region_text region ++ about (codes "ABENDED") code id ++ codes " U" ++ four_digits abend.number ++ line_end
+
+abbrev pub held_text : ℕ → ℕ → ℕ → List ℕ
+held_text region need limit = region_text region ++ codes "HELD " ++ decimal need ++ 32 ∷ [] ++ decimal limit ++ line_end
 
 -- what is printed for an entry at the moment before it
 abbrev pub entry_text : Moment → Entry → List ℕ
@@ -105,10 +122,23 @@ entry_text moment (Accept terminal number segments answer) = accepted_text termi
 entry_text moment (Show terminal answer) = show_text moment terminal answer
 entry_text moment (Acked terminal number answer) = ack_text terminal number answer
 entry_text moment (Took region code id) = scheduled_text region code id
+entry_text moment (Held region need limit) = held_text region need limit
 entry_text moment (Idle region) = idle_text region
 entry_text moment (Called region function pcb status) = called_text region function pcb status
-entry_text moment (Done region code id) = done_text region code id
+entry_text moment (Done region code id answer) = done_text region code id answer
+entry_text moment (Abended region code id abend) = abended_text region code id abend
 
--- what is printed for a line that breaks a rule
+-- what is printed for a block that breaks a rule
 abbrev pub bad_line_text : ℕ → List ℕ
 bad_line_text rule = codes "BAD LINE " ++ decimal rule ++ line_end
+
+-- What is printed for an input with a segment of so many bytes, which are too many; a name that is no
+-- terminal's is refused as such.
+abbrev pub is_terminal : System → List ℕ → Bool
+is_terminal system name = list_any (λ terminal. bytes_eq terminal name) system.terminals
+
+abbrev pub too_long_text : System → List ℕ → ℕ → ℕ → List ℕ
+too_long_text system terminal number long =
+    if is_terminal system terminal
+    then about (codes "REFUSED") terminal number ++ codes " LENGTH " ++ decimal long ++ codes " 1996" ++ line_end
+    else about (codes "REFUSED") terminal number ++ codes " TERMINAL" ++ line_end

@@ -1,8 +1,9 @@
 //! What a session's lines ask for, and what is printed for them.
 //!
-//! The crate holds definitions and the small type that they speak of.
+//! The crate holds definitions and the small types that they speak of.
 #![tactic(auto)]
 
-pub use asked::Asked;
+pub use asked::{Asked, Form};
 
 mod asked;
+pub mod rules;
