@@ -1,0 +1,3 @@
+pub mod Better
+pub mod Found
+pub mod Law

@@ -1,0 +1,8 @@
+use tm_types::Name;
+
+/// The message that a region takes.
+#[derive(Clone, Copy, Debug, PartialEq, Eq)]
+pub struct Pick {
+    pub code: Name,
+    pub id: u64,
+}
