@@ -1,6 +1,2 @@
-pub mod Region
-pub mod Parts
 pub mod Calls
-pub mod PartsView
-pub mod Showing
 pub mod ControlView

@@ -1,5 +1,4 @@
 use thiserror::Error;
-use tm_types::{Function, Name, Reply, Status};
 
 /// Why a call could not be done.
 #[derive(Clone, Copy, Debug, Error)]
@@ -27,19 +26,12 @@ pub enum InputRefused {
     Expected(u64),
     #[error("the first word is no transaction code")]
     Code,
+    #[error("the input has {0} segments, and its code takes at most {1}")]
+    SegmentsOver(u32, u32),
+    #[error("{0} bytes are needed, and {1} may be used")]
+    QueueFull(u64, u64),
     #[error("{0}")]
     Fault(ControlFault),
-}
-
-/// The reply that a terminal is shown.
-#[derive(Clone, Copy, Debug)]
-pub enum Shown<'a> {
-    /// The lowest reply that is kept.
-    Reply(&'a Reply),
-    /// No reply is kept.
-    Empty,
-    /// No terminal has this name.
-    Unknown,
 }
 
 /// An acknowledgement that was taken.
@@ -60,17 +52,4 @@ pub enum AckRefused {
     Ahead(u64),
     #[error("{0}")]
     Fault(ControlFault),
-}
-
-/// What a region did in its turn.
-#[derive(Clone, Copy, Debug)]
-pub enum Turned {
-    /// It took the message of this code and id.
-    Scheduled(Name, u64),
-    /// Its script made this call on this PCB, and was answered with this status.
-    Called(Function, u8, Status),
-    /// It completed the message of this code and id.
-    Done(Name, u64),
-    /// It had nothing to do.
-    Idle,
 }

@@ -1,27 +1,28 @@
 ghost use Rattle.std.specs.Prelude.{◌≡◌, ◌+◌, ◌<◌, ◌≤◌, [], length, IfOk, OnOk, OnErr};
-ghost use Rattle.model_machine.specs.BuiltIn.{built_in};
-ghost use Rattle.model_machine.specs.Machine.{empty_state, start_of, terminal_at, IsRegion};
+ghost use Rattle.model_machine.specs.Machine.{empty_state, start_of, output_at, IsRegion};
+ghost use Rattle.model_machine.specs.Steps.{is_quiet};
 ghost use Rattle.model_machine.specs.History.{AddsEntry, AddsNothing, IsLegal, now_of};
 ghost use Rattle.std.specs.Borrow.{sem};
 ghost use Rattle.std.specs.Io.BufRead.{Rests};
 ghost use Rattle.tm_control.specs.contracts.control.Control.{the_row};
-ghost use Rattle.tm_control.specs.Showing.{IsShown, show_entry};
-ghost use Rattle.tm_control.specs.Calls.{InputAdds, AcknowledgeAdds, TurnAdds, turned_entry};
+ghost use Rattle.tm_tables.specs.Showing.{IsShown, show_entry};
+ghost use Rattle.tm_parts.specs.Turns.{turned_entry};
+ghost use Rattle.tm_control.specs.Calls.{InputAdds, AcknowledgeAdds, TurnAdds};
 
-use crate::answers::{AckRefused, Acked, ControlFault, InputRefused, Shown, Taken, Turned};
+use crate::answers::{AckRefused, Acked, ControlFault, InputRefused, Taken};
 use crate::life::{History, Life};
-use crate::parts::{Parts, empty_lasting};
-use model_machine::{Accepted, AckAnswer, Entry, Lasting};
-use script_run::Program;
+use model_machine::{Accepted, AckAnswer, Entry, Lasting, SyncPoint};
 use std::alloc::Global;
 use std::marker::Model;
+use sysdef_check::System;
+use tm_parts::{Parts, Turned};
+use tm_tables::{Shown, empty_lasting};
 use tm_types::{Memory, Name, Segments};
 
 /// The control region. Contracts see its system, what it opened with, its history and the room for
 /// further entries; what its machine has come to follows from these.
 #[derive(Debug, Drop)]
 pub struct Control {
-    alloc: Global,
     parts: Parts,
     opening: Lasting,
     history: Vec<Entry>,
@@ -42,21 +43,33 @@ impl Model for Control {
 }
 
 impl Control {
-    /// An empty control region for the terminal T1 and the code ECHO, served by one region with
-    /// this program.
-    pub fn start(alloc: Global, program: Program) -> Result<Control, Memory>
-        ensures system { IfOk result (λ control. control.system ≡ built_in program) }
-        ensures opening { IfOk result (λ control. control.opening ≡ empty_state (built_in program)) }
+    /// An empty control region of this system.
+    pub fn start(alloc: Global, system: System) -> Result<Control, Memory>
+        ensures system { IfOk result (λ control. control.system ≡ system) }
+        ensures opening { IfOk result (λ control. control.opening ≡ empty_state system) }
         ensures history { IfOk result (λ control. control.history ≡ []) }
     {
-        let parts = Parts::new(alloc, program)?;
-        let opening = empty_lasting(alloc)?;
+        let opening = empty_lasting(alloc, &system)?;
+        let parts = Parts::new(alloc, system)?;
         Ok(Control {
-            alloc,
             parts,
             opening,
             history: Vec::new(alloc),
         })
+    }
+
+    /// The system that is served.
+    pub fn system(&self) -> &System
+        ensures { result.now ≡ self.now.system }
+    {
+        self.parts.system()
+    }
+
+    /// Whether nothing is left to do: all regions are empty, and none could take a message.
+    pub fn quiet(&self) -> bool
+        ensures { result ≡ is_quiet self.now.system (now_of self.now) }
+    {
+        self.parts.is_quiet()
     }
 
     /// Makes room for this many history entries.
@@ -97,12 +110,14 @@ impl Control {
             Accepted::Terminal => Err(InputRefused::Terminal),
             Accepted::Expected(next) => Err(InputRefused::Expected(next)),
             Accepted::Code => Err(InputRefused::Code),
+            Accepted::SegmentsOver(count, most) => Err(InputRefused::SegmentsOver(count, most)),
+            Accepted::QueueFull(need, limit) => Err(InputRefused::QueueFull(need, limit)),
         }
     }
 
     /// What the terminal is to be shown; this adds no entry.
     pub fn showing(&self, terminal: &Name) -> Shown<'_>
-        ensures { IsShown (terminal_at (now_of self.now).lasting.terminals terminal.now) result }
+        ensures { IsShown (output_at (now_of self.now).lasting.outputs terminal.now) result }
     {
         self.parts.showing(terminal)
     }
@@ -111,7 +126,7 @@ impl Control {
     /// memory; the room for its entry was made by `reserve`.
     pub fn receive(&mut self, terminal: &Name) -> Shown<'_>
         requires { 0 < self.old.room }
-        ensures shown { IsShown (terminal_at (now_of self.old).lasting.terminals terminal.now) result }
+        ensures shown { IsShown (output_at (now_of self.old).lasting.outputs terminal.now) result }
         ensures* adds { sem 𝓛 (Rests the_row self.entry (λ new. AddsEntry self.old new (show_entry self.old terminal.now))) }
     {
         let answer = self.parts.show_answer(terminal);
@@ -142,7 +157,9 @@ impl Control {
         if self.history.reserve(1).is_err() {
             return Err(AckRefused::Fault(ControlFault::Memory));
         }
-        let answer = self.parts.acknowledge(terminal, number);
+        let Ok(answer) = self.parts.acknowledge(terminal, number) else {
+            return Err(AckRefused::Fault(ControlFault::Memory));
+        };
         self.history
             .push_reserved(Entry::Acked(*terminal, number, answer));
         match answer {
@@ -163,7 +180,7 @@ impl Control {
         if self.history.reserve(1).is_err() {
             return Err(ControlFault::Memory);
         }
-        let Ok(turned) = self.parts.turn() else {
+        let Ok(turned) = self.parts.turn(region) else {
             return Err(ControlFault::Memory);
         };
         self.history.push_reserved(turned_entry(region, &turned));
@@ -178,7 +195,11 @@ fn turned_entry(region: u32, turned: &Turned) -> Entry
     match turned {
         Turned::Scheduled(code, id) => Entry::Took(region, *code, *id),
         Turned::Called(function, pcb, status) => Entry::Called(region, *function, *pcb, *status),
-        Turned::Done(code, id) => Entry::Done(region, *code, *id),
+        Turned::Next(code, id, next) => Entry::Done(region, *code, *id, SyncPoint::Next(*next)),
+        Turned::QC(code, id) => Entry::Done(region, *code, *id, SyncPoint::NoMore),
+        Turned::Done(code, id) => Entry::Done(region, *code, *id, SyncPoint::End),
+        Turned::Abended(code, id, abend) => Entry::Abended(region, *code, *id, *abend),
         Turned::Idle => Entry::Idle(region),
+        Turned::Held(need, limit) => Entry::Held(region, *need, *limit),
     }
 }

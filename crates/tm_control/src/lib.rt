@@ -2,16 +2,12 @@
 //! their numbers until they are acknowledged. Each call adds one entry to a legal history.
 #![tactic(auto)]
 
-pub use answers::{AckRefused, Acked, ControlFault, InputRefused, Shown, Taken, Turned};
+pub use answers::{AckRefused, Acked, ControlFault, InputRefused, Taken};
 pub use control::Control;
 pub use life::{History, Life};
+pub use tm_parts::Turned;
+pub use tm_tables::Shown;
 
 mod answers;
 mod control;
-mod input;
 mod life;
-mod output;
-mod parts;
-mod tables;
-mod turn;
-mod unit;

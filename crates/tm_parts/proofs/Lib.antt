@@ -1,0 +1,8 @@
+mod Linked
+mod Named
+mod Started
+mod Stepped
+mod Going
+mod Scheduled
+mod Resting
+mod Finished

@@ -1,0 +1,16 @@
+-- What is found by a name has it.
+use Rattle.std.proofs.Common.{◌≡◌, Bool, true, false, List, [], ◌∷◌, ℕ, refl, subst}
+use Rattle.std.specs.Prelude.{Some, if◌then◌else◌}
+use Rattle.std.specs.Str.{bytes_eq}
+use Rattle.std.proofs.lemmas.Slice.Eq.{bytes_eq-Decides}
+use Rattle.model_system.specs.declared.code.Code.{Code}
+use Rattle.model_machine.specs.Machine.{code_at}
+
+pub code_named : (codes : List Code) (name : List ℕ) (code : Code) → code_at codes name ≡ Some code → code.transaction.code ≡ name
+code_named [] name code e = cc
+code_named (c ∷ codes) name code e = by (bytes_eq c.transaction.code name) refl e (code_named codes name code)
+  where
+    by : (b : Bool) → bytes_eq c.transaction.code name ≡ b → (if b then Some c else code_at codes name) ≡ Some code
+        → (code_at codes name ≡ Some code → code.transaction.code ≡ name) → code.transaction.code ≡ name
+    by true same h rest = let here : c ≡ code = cc in subst (λ d. d.transaction.code ≡ name) here ((bytes_eq-Decides c.transaction.code name).0 same)
+    by false same h rest = rest h

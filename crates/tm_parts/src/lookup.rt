@@ -1,0 +1,54 @@
+//! The codes, programs and terminals of a system by their names.
+ghost use Rattle.std.specs.Prelude.{◌≡◌, ◌<◌, length, IfSome};
+ghost use Rattle.std.specs.Option.{option_copied};
+ghost use Rattle.model_machine.specs.Machine.{code_place, code_at, program_at};
+ghost use Rattle.model_machine.specs.Steps.{first_word};
+
+use model_system::{Code, SystemProgram};
+use tm_types::Name;
+
+/// The place of the code of this name.
+pub fn code_place(codes: &[Code], name: &[u8]) -> Option<usize>
+    ensures value { result ≡ code_place codes.now name.now }
+    ensures within { IfSome result (λ place. place < length codes.now) }
+{
+    codes
+        .iter()
+        .position(|code| code.transaction.code.as_bytes() == name)
+}
+
+/// The code of this name.
+#[tactic(auto, using(crate::proofs::Named::code_named))]
+pub fn find_code<'a>(codes: &'a [Code], name: &[u8]) -> Option<&'a Code>
+    ensures value { option_copied result ≡ code_at codes.now name.now }
+    ensures named { IfSome result (λ code. code.now.transaction.code ≡ name.now) }
+{
+    code_named(codes, name)
+}
+
+fn code_named<'a>(codes: &'a [Code], name: &[u8]) -> Option<&'a Code>
+    ensures { option_copied result ≡ code_at codes.now name.now }
+{
+    codes
+        .iter()
+        .find(|code| code.transaction.code.as_bytes() == name)
+}
+
+/// The program of this PSB.
+pub fn find_program<'a>(programs: &'a [SystemProgram], psb: &Name) -> Option<&'a SystemProgram>
+    ensures { option_copied result ≡ program_at programs.now psb.now }
+{
+    programs.iter().find(|program| program.psb == *psb)
+}
+
+/// The first word of a text, which a blank or the end ends.
+pub fn first_word(text: &[u8]) -> &[u8]
+    ensures { result.now ≡ first_word text.now }
+{
+    for (place, byte) in text.iter().enumerate() {
+        if *byte == b' ' {
+            return &text[..place];
+        }
+    }
+    text
+}

@@ -1,0 +1,153 @@
+//! What a region works on.
+ghost use Rattle.std.specs.Prelude.{◌≡◌, ◌≤◌, ◌-◌, None, slice_set, ◌<◌, ◌^◌, [], length, count_by, is_some, IfOk, OnErr, OnOk, IfSome, Some, IsSome, IsSomeAnd};
+ghost use Rattle.model_queues.specs.Queue.{message_at, queued_at, free_count};
+ghost use Rattle.tm_tables.specs.Tables.{held};
+ghost use Rattle.model_machine.specs.Machine.{lines_of, job_of, code_at, followed};
+ghost use Rattle.tm_unit.specs.Ahead.{IsAhead, IsStart};
+ghost use Rattle.tm_parts.specs.Region.{IsQueuedWork, Steps, SameWork, reply_of, with_reply};
+
+use crate::flags::follow;
+use crate::lookup::{find_code, find_program};
+use model_script::Program;
+use msg_queues::Queues;
+use std::alloc::Global;
+use sysdef_check::{Codes, System};
+use tm_tables::Tables;
+use tm_types::{Memory, Name, Segments};
+use tm_unit::{Advanced, Unit};
+
+/// The work of a region on a message.
+#[derive(Debug, Drop)]
+pub struct Busy {
+    pub code: Name,
+    /// How many messages the region has taken in a row, this one among them.
+    pub taken: u64,
+    /// The message's id.
+    pub id: u64,
+    pub unit: Unit,
+}
+
+/// The script of a PSB; one without a program has no lines.
+fn script_of<'a>(system: &'a System, no_program: &'a Program, psb: &Name) -> &'a Program
+    requires { no_program.now ≡ [] }
+    ensures { result.now ≡ lines_of system.now psb.now }
+{
+    match find_program(system.programs(), psb) {
+        Some(program) => &program.program,
+        None => no_program,
+    }
+}
+
+/// The work on a message of a code, whose script has made no call yet.
+pub fn start_unit(
+    alloc: Global,
+    system: &System,
+    no_program: &Program,
+    code: &Name,
+) -> Result<Unit, Memory>
+    requires program { no_program.now ≡ [] }
+    requires code { IsSome (code_at system.now.codes code.now) }
+    ensures { IfOk result (λ unit. IsSomeAnd (job_of system.now code.now) (λ job. IsStart job unit)) }
+{
+    let Some(code) = find_code(system.codes(), code.as_bytes()) else {
+        unreachable!()
+    };
+    let program = script_of(system, no_program, &code.psb);
+    Unit::start(alloc, &code.transaction, program)
+}
+
+/// Lets the script of a region go on to its next call, and answers that; nothing where the region
+/// is empty. After want of memory the work is as far as before.
+pub fn advance(
+    system: &System,
+    no_program: &Program,
+    queues: &Queues,
+    region: &mut Option<Busy>,
+) -> Result<Option<Advanced>, Memory>
+    requires program { no_program.now ≡ [] }
+    requires work { IfSome region.old (IsQueuedWork system.now queues.now.queued) }
+    ensures steps { IfOk result (Steps system.now queues.now.queued region.old region.new) }
+    ensures err { OnErr result (SameWork system.now queues.now.queued region.old region.new) }
+{
+    let Some(busy) = region else {
+        return Ok(None);
+    };
+    let Some(message) = queues.find(busy.id) else {
+        unreachable!()
+    };
+    let Some(code) = find_code(system.codes(), busy.code.as_bytes()) else {
+        unreachable!()
+    };
+    let program = script_of(system, no_program, &code.psb);
+    let advanced = busy
+        .unit
+        .advance(&code.transaction, program, &message.segments)?;
+    Ok(Some(advanced))
+}
+
+/// How many regions have a message.
+pub fn count_busy(regions: &[Option<Busy>]) -> u32
+    requires { length regions.now < 2 ^ 32 }
+    ensures { result ≡ count_by is_some regions.now }
+{
+    regions.iter().filter(|region| region.is_some()).count() as u32
+}
+
+/// Takes the reply of a region's work out of it.
+pub fn take_reply(region: &mut Option<Busy>) -> Segments
+    requires { IsSome region.old }
+    ensures reply { result ≡ reply_of region.old }
+    ensures rest { region.new ≡ with_reply [] region.old }
+{
+    match region {
+        Some(busy) => take_from(busy),
+        None => unreachable!(),
+    }
+}
+
+fn take_from(busy: &mut Busy) -> Segments
+    ensures reply { result ≡ busy.old.unit.reply }
+    ensures rest { busy.new ≡ record busy.old { unit = record busy.old.unit { reply = [] } } }
+{
+    busy.unit.take_reply()
+}
+
+/// Puts the reply of a region's work back.
+pub fn put_reply(region: &mut Option<Busy>, reply: Segments)
+    ensures { region.new ≡ with_reply reply region.old }
+{
+    if let Some(busy) = region {
+        busy.unit.put_reply(reply);
+    }
+}
+
+/// Gives a message that no region has to the region of this number, which is to work on it; the flag
+/// of its code follows.
+pub fn take(
+    system: &System,
+    tables: &mut Tables,
+    codes: &mut Codes,
+    regions: &mut Vec<Option<Busy>>,
+    region: u32,
+    busy: Busy,
+)
+    requires free { IsSomeAnd (queued_at busy.id tables.old.queues.queued) (λ q. q.holder ≡ None) }
+    requires positive { 1 ≤ region }
+    requires defined { region ≤ length regions.old.items }
+    requires states { length codes.old ≡ length system.now.codes }
+    ensures tables { tables.new ≡ held tables.old busy.id region }
+    ensures regions { regions.new.items ≡ slice_set regions.old.items (region - 1) (Some busy) }
+    ensures codes { codes.new ≡ followed system.now busy.code (free_count busy.code tables.new.queues.queued) codes.old }
+{
+    let code = busy.code;
+    tables.hold(busy.id, region);
+    put(&mut regions[region as usize - 1], busy);
+    let waiting = tables.queues().waiting(&code);
+    follow(codes, system, &code, waiting);
+}
+
+fn put(region: &mut Option<Busy>, busy: Busy)
+    ensures { region.new ≡ Some busy }
+{
+    *region = Some(busy);
+}

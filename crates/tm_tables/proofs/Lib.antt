@@ -1,0 +1,2 @@
+mod Terminals
+mod Finished

@@ -1,0 +1,12 @@
+use tm_types::Reply;
+
+/// The reply that a terminal is shown.
+#[derive(Clone, Copy, Debug)]
+pub enum Shown<'a> {
+    /// The lowest reply that is kept.
+    Reply(&'a Reply),
+    /// No reply is kept.
+    Empty,
+    /// No terminal has this name.
+    Unknown,
+}

@@ -1,0 +1,2 @@
+pub mod UnitState
+pub mod Ahead
