@@ -1,6 +1,6 @@
 -- The words that the program is called with.
 use Rattle.std.specs.Prelude.{◌≡◌, ℕ, ⊤, if◌then◌else◌, Option, Some, None, List, [], ◌∷◌, codes}
-use Rattle.model_machine.specs.Machine.{same_name}
+use Rattle.std.specs.Str.{bytes_eq}
 
 -- a word that breaks a rule: its number, counted from 1, and the rule
 pub record WordFault : Type 0 where
@@ -11,9 +11,9 @@ pub record WordFault : Type 0 where
 -- too many. The first word that breaks a rule counts.
 abbrev pub word_fault : List (List ℕ) → Option WordFault
 word_fault [] = Some (record { word = 1; rule = 2 })
-word_fault (command ∷ []) = if same_name command (codes "drill") then None else Some (record { word = 1; rule = 1 })
+word_fault (command ∷ []) = if bytes_eq command (codes "drill") then None else Some (record { word = 1; rule = 1 })
 word_fault (command ∷ other ∷ words) =
-    if same_name command (codes "drill") then Some (record { word = 2; rule = 3 }) else Some (record { word = 1; rule = 1 })
+    if bytes_eq command (codes "drill") then Some (record { word = 2; rule = 3 }) else Some (record { word = 1; rule = 1 })
 
 -- the word fault as a pair
 abbrev pub FaultIs : Option WordFault → Option (ℕ × ℕ) → Type 0

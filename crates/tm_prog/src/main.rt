@@ -20,7 +20,7 @@ fn main(rt: HostRuntime) -> ExitCode {
     let mut source = StdSource::new(rt.reader());
     let mut sink = StdSink::new(std::io::writer(&rt));
     let Ok(words) = words(&rt) else {
-        print_last(&mut sink, Ended::Memory);
+        print_last(&mut sink, b"STATUS 7 MEMORY\n");
         return ExitCode::from(status_number(Ended::Memory));
     };
     let outcome = run(alloc, &words, &mut source, &mut sink);
@@ -40,6 +40,7 @@ fn status_number(status: Ended) -> u8
     match status {
         Ended::Done => 0,
         Ended::Words(_, _) => 1,
+        Ended::BadLine(_, _) | Ended::BadCross(_, _) => 2,
         Ended::Read => 4,
         Ended::Write => 5,
         Ended::Memory => 7,

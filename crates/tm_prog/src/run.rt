@@ -1,22 +1,28 @@
 //! The top call.
-ghost use Rattle.std.specs.Prelude.{◌≡◌, ◌≤◌, ◌⊎◌, map, string_bytes, IsNone, IfSome};
+ghost use Rattle.std.specs.Prelude.{◌≡◌, ◌≤◌, ◌++◌, ◌∷◌, decimal, [], length, map, string_bytes, IsNone, IfSome};
 ghost use Rattle.tm_edge.specs.Fault.{HasRisen};
-ghost use Rattle.tm_session.specs.Outcome.{IsBack, IsReadToEnd};
+ghost use Rattle.tm_session.specs.Outcome.{IsBack, IsReadToEnd, HasCause};
+ghost use Rattle.tm_session.specs.Headline.{IsSession};
 ghost use Rattle.tm_prog.specs.Words.{word_fault, FaultIs};
-ghost use Rattle.tm_prog.specs.Status.{status_text, IsLastLine, IsByWords, IsRun, IsCaused, IsPrintable, IsWithinLimits};
+ghost use Rattle.tm_prog.specs.Status.{status_text, IsLastLine, IsRun, IsDrilled, IsCaused, IsPrintable, IsWithinLimits, IsComplete};
 
 use std::alloc::Global;
 use tm_edge::{Sink, Source};
-use tm_session::{Ended, Lives, Outcome, drill_session};
+use tm_session::{Ended, Lives, Outcome, Printed, drill_session};
+
+/// The room that the last line needs at most.
+const LAST_ROOM: usize = 128;
 
 /// Serves a session by the words that the program is called with; the one word is `drill`.
 ///
-/// The session's answers are printed to the sink, and then the line of the status, where it has
-/// one; a status line that can't be written leaves the status as it is.
+/// The source holds a definition and then the lines of the session, whose answers are printed to the
+/// sink; and then the line of the status, where it has one. A status line that can't be written
+/// leaves the status as it is.
 ///
-/// Status 1 comes exactly where the words break a rule; 4 and 5 only where the source or the sink
-/// failed in this call; 9 where a line has 4,097 bytes or more or is past the millionth; 7 for want
-/// of memory. Status 0 says that the source was read to its end.
+/// Status 1 comes exactly where the words break a rule, and 2 exactly where the definition breaks
+/// one; 4 and 5 only where the source or the sink failed in this call; 9 where a line has 4,097
+/// bytes or more or is past the millionth; 7 for want of memory. Status 0 says that the source was
+/// read to its end.
 pub fn run<S: Source, K: Sink>(
     alloc: Global,
     words: &[String],
@@ -26,48 +32,57 @@ pub fn run<S: Source, K: Sink>(
     ensures headline { IsRun (map (λ word. string_bytes word) words.now) (S.left source.old) (K.written sink.old) (K.written sink.new) result.status result.lives (K.faults sink.old) (K.faults sink.new) }
     ensures taken { IsBack (S.left source.old) (S.left source.new) }
     ensures whole { IsReadToEnd result.status (S.left source.new) }
-    ensures cause { IsCaused (map (λ word. string_bytes word) words.now) result.status (S.faults source.old) (S.faults source.new) (K.faults sink.old) (K.faults sink.new) }
+    ensures cause { IsCaused (map (λ word. string_bytes word) words.now) (S.left source.old) result.status (S.faults source.old) (S.faults source.new) (K.faults sink.old) (K.faults sink.new) }
 
-    // Where the words are valid, no count rose and no limit is met, the session is done, or memory was wanting.
+    // Where the words are valid, no count rose and no limit is met, the status is that of the definition, or memory was wanting.
     ensures complete { IsNone (word_fault (map (λ word. string_bytes word) words.now)) →
         ¬ HasRisen (S.faults source.old) (S.faults source.new) → ¬ HasRisen (K.faults sink.old) (K.faults sink.new) →
-        IsWithinLimits (S.left source.old) → (result.status ≡ Ended.Done) ⊎ (result.status ≡ Ended.Memory) }
-{
-    let outcome = by_words(alloc, words, source, sink);
-    print_last(sink, outcome.status);
-    outcome
-}
-
-/// Does what the words ask for.
-fn by_words<S: Source, K: Sink>(
-    alloc: Global,
-    words: &[String],
-    source: &mut S,
-    sink: &mut K,
-) -> Outcome
-    ensures session { IsByWords (word_fault (map (λ word. string_bytes word) words.now)) (S.left source.old) (K.written sink.old) (K.written sink.new) result.status result.lives }
-    ensures taken { IsBack (S.left source.old) (S.left source.new) }
-    ensures whole { IsReadToEnd result.status (S.left source.new) }
-    ensures cause { IsCaused (map (λ word. string_bytes word) words.now) result.status (S.faults source.old) (S.faults source.new) (K.faults sink.old) (K.faults sink.new) }
-    ensures printable { IsPrintable result.status }
-    ensures reads { S.faults source.old ≤ S.faults source.new }
-    ensures writes { K.faults sink.old ≤ K.faults sink.new }
+        IsWithinLimits (S.left source.old) → IsComplete (S.left source.old) result.status }
 {
     match find_word_fault(words) {
-        Some((word, rule)) => Outcome {
-            status: Ended::Words(word, rule),
-            lives: Lives {
-                items: Vec::new(alloc),
-            },
-        },
-        None => drill_session(alloc, source, sink),
+        Some((word, rule)) => {
+            print_last(sink, word_line(word, rule));
+            unbegun(alloc, Ended::Words(word, rule))
+        }
+        None => run_drill(alloc, source, sink),
     }
+}
+
+/// An outcome without a life.
+fn unbegun(alloc: Global, status: Ended) -> Outcome
+    ensures status { result.status ≡ status }
+    ensures lives { result.lives ≡ [] }
+{
+    Outcome {
+        status,
+        lives: Lives {
+            items: Vec::new(alloc),
+        },
+    }
+}
+
+/// Serves a session, and prints its last line.
+fn run_drill<S: Source, K: Sink>(alloc: Global, source: &mut S, sink: &mut K) -> Outcome
+    ensures headline { IsDrilled (S.left source.old) (K.written sink.old) (K.written sink.new) result.status result.lives (K.faults sink.old) (K.faults sink.new) }
+    ensures taken { IsBack (S.left source.old) (S.left source.new) }
+    ensures whole { IsReadToEnd result.status (S.left source.new) }
+    ensures cause { HasCause result.status (S.faults source.old) (S.faults source.new) (K.faults sink.old) (K.faults sink.new) }
+{
+    let mut line = Printed::new(alloc);
+    if line.make_room(LAST_ROOM).is_err() {
+        print_last(sink, b"STATUS 7 MEMORY\n");
+        return unbegun(alloc, Ended::Memory);
+    }
+    let outcome = drill_session(alloc, source, sink);
+    status_line(&mut line, outcome.status);
+    print_last(sink, line.as_slice());
+    outcome
 }
 
 /// The first word that breaks a rule, counted from 1, and the rule.
 fn find_word_fault(words: &[String]) -> Option<(u32, u32)>
     ensures fault { FaultIs (word_fault (map (λ word. string_bytes word) words.now)) result }
-    ensures printable { IfSome result (λ fault. IsPrintable (Ended.Words fault.0 fault.1)) }
+    ensures printable { IfSome result (λ fault. IsPrintable fault.0 fault.1) }
 {
     let Some(command) = words.first() else {
         return Some((1, 2));
@@ -78,35 +93,68 @@ fn find_word_fault(words: &[String]) -> Option<(u32, u32)>
     if words.len() > 1 { Some((2, 3)) } else { None }
 }
 
-/// Prints the last line of a status.
-pub fn print_last<K: Sink>(sink: &mut K, status: Ended)
-    requires { IsPrintable status }
+/// Prints the last line of a status, where it has one.
+pub fn print_last<K: Sink>(sink: &mut K, line: &[u8])
     ensures count { K.faults sink.old ≤ K.faults sink.new }
-    ensures line { IsLastLine (K.written sink.old) (K.written sink.new) (status_text status) (K.faults sink.old) (K.faults sink.new) }
+    ensures line { IsLastLine (K.written sink.old) (K.written sink.new) line.now (K.faults sink.old) (K.faults sink.new) }
 {
-    let line = status_line(status);
     if !line.is_empty() {
         let _ = sink.put(line);
     }
 }
 
-/// The last line of a status.
-fn status_line(status: Ended) -> &'static [u8]
-    requires { IsPrintable status }
-    ensures { result.now ≡ status_text status }
+/// Adds the last line of a status.
+fn status_line(out: &mut Printed, status: Ended)
+    requires { LAST_ROOM ≤ out.old.room }
+    ensures { out.new.text ≡ out.old.text ++ status_text status }
 {
     match status {
-        Ended::Done | Ended::Write => b"",
-        Ended::Words(word, rule) => word_line(word, rule),
-        Ended::Read => b"STATUS 4 READ\n",
-        Ended::Memory => b"STATUS 7 MEMORY\n",
-        Ended::Limit(n) => limit_line(n),
+        Ended::Done | Ended::Write => {}
+        Ended::Words(word, rule) => {
+            let (word, rule) = (u64::from(word), u64::from(rule));
+            add_two(out, b"STATUS 1 WORD ", word, b" RULE ", rule);
+        }
+        Ended::BadLine(line, rule) => {
+            let (line, rule) = (u64::from(line), u64::from(rule));
+            add_two(out, b"STATUS 2 LINE ", line, b" RULE ", rule);
+        }
+        Ended::BadCross(line, rule) => {
+            let (line, rule) = (u64::from(line), u64::from(rule));
+            add_two(out, b"STATUS 2 LINE ", line, b" CROSS ", rule);
+        }
+        Ended::Read => out.push(b"STATUS 4 READ\n"),
+        Ended::Memory => out.push(b"STATUS 7 MEMORY\n"),
+        Ended::Limit(n) => add_limit(out, n),
     }
+}
+
+/// Adds a line of two words and their numbers.
+fn add_two(out: &mut Printed, word: &[u8], number: u64, other: &[u8], second: u64)
+    requires room { LAST_ROOM ≤ out.old.room }
+    requires short { length word.now ≤ 20 }
+    requires too { length other.now ≤ 20 }
+    ensures { out.new.text ≡ out.old.text ++ (word.now ++ decimal number ++ other.now ++ decimal second ++ 10 ∷ []) }
+{
+    out.push(word);
+    out.push_number(number);
+    out.push(other);
+    out.push_number(second);
+    out.push(b"\n");
+}
+
+/// Adds the last line for a limit.
+fn add_limit(out: &mut Printed, n: u64)
+    requires { LAST_ROOM ≤ out.old.room }
+    ensures { out.new.text ≡ out.old.text ++ status_text (Ended.Limit n) }
+{
+    out.push(b"STATUS 9 LIMIT ");
+    out.push_number(n);
+    out.push(b"\n");
 }
 
 /// The last line for a word that breaks a rule.
 fn word_line(word: u32, rule: u32) -> &'static [u8]
-    requires { IsPrintable (Ended.Words word rule) }
+    requires { IsPrintable word rule }
     ensures { result.now ≡ status_text (Ended.Words word rule) }
 {
     if rule == 1 {
@@ -115,17 +163,5 @@ fn word_line(word: u32, rule: u32) -> &'static [u8]
         b"STATUS 1 WORD 1 RULE 2\n"
     } else {
         b"STATUS 1 WORD 2 RULE 3\n"
-    }
-}
-
-/// The last line for a limit.
-fn limit_line(n: u64) -> &'static [u8]
-    requires { IsPrintable (Ended.Limit n) }
-    ensures { result.now ≡ status_text (Ended.Limit n) }
-{
-    if n == 4097 {
-        b"STATUS 9 LIMIT 4097\n"
-    } else {
-        b"STATUS 9 LIMIT 1000001\n"
     }
 }

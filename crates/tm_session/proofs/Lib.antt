@@ -1,6 +1,11 @@
-pub mod Words
+pub mod Places
 pub mod Digits
 pub mod SegmentLines
-pub mod Driving
-pub mod Ending
+pub mod Printable
+pub mod Turned
+pub mod Driven
+pub mod Steps
+pub mod Reading
 pub mod Taking
+pub mod Opened
+pub mod Whole

@@ -5,7 +5,7 @@ use Rattle.std.specs.Prelude.{Option, Some, None}
 use Rattle.std.specs.Io.KnownBytes.{prepend_known, IsAtEnd}
 use Rattle.tm_edge.specs.Lines.{ServesTold, Serves, line_size, unread}
 use Rattle.tm_session.specs.declared.outcome.Ended.{Ended}
-use Rattle.tm_session.specs.declared.outcome.Ended.TheVariants.{Done, Words, Read, Write, Memory, Limit}
+use Rattle.tm_session.specs.declared.outcome.Ended.TheVariants.{Done, Words, BadLine, BadCross, Read, Write, Memory, Limit}
 use Rattle.tm_session.specs.Outcome.{IsBack, IsReadToEnd}
 
 pub back_same : (old new : Option (List ℕ)) → new ≡ old → IsBack old new
@@ -42,7 +42,15 @@ pub whole_held : (ended : Ended) (held : List ℕ) (left : Option (List ℕ)) �
 whole_held Done held (Some rest) h = none_left held rest h
 whole_held Done held None h = h
 whole_held (Words word rule) held left h = h
+whole_held (BadLine line rule) held left h = h
+whole_held (BadCross line rule) held left h = h
 whole_held Read held left h = h
 whole_held Write held left h = h
 whole_held Memory held left h = h
 whole_held (Limit n) held left h = h
+
+-- a reader that holds no byte at first
+pub back_whole : (held : List ℕ) (old : Option (List ℕ)) (rest : List ℕ) (new : Option (List ℕ)) → held ≡ [] → IsBack (unread held old) (unread rest new) → IsBack old new
+back_whole [] (Some bytes) rest new none h = back_held (Some bytes) rest new h
+back_whole [] None rest new none h = back_held None rest new h
+back_whole (b ∷ held) old rest new none h = cc

@@ -8,6 +8,11 @@ pub enum Ended {
     Done,
     /// The words are not in the grammar: the number of the word, counted from 1, and the rule.
     Words(u32, u32),
+    /// A line of the definition breaks a rule: the line, counted from 1, and the rule.
+    BadLine(u32, u8),
+    /// The macros of the definition break a rule that they keep among each other: the line, and
+    /// the rule.
+    BadCross(u32, u8),
     /// The source failed.
     Read,
     /// The sink failed.

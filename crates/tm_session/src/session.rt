@@ -1,40 +1,57 @@
 //! A whole session.
-ghost use Rattle.std.specs.Prelude.{◌≡◌, ◌<◌, ◌≤◌, [], IfOk, vec_len, vec_capacity};
+ghost use Rattle.std.specs.Prelude.{◌≡◌, ◌<◌, ◌≤◌, ◌^◌, [], length, IfOk, IfErr, IfSome, vec_len, vec_capacity};
 ghost use Rattle.model_machine.specs.Machine.{empty_state};
-ghost use Rattle.model_machine.specs.BuiltIn.{built_in};
-ghost use Rattle.script_run.specs.Program.{echo_lines};
+ghost use Rattle.tm_edge.specs.Lines.{unread};
+ghost use Rattle.tm_session.specs.Opened.{IsOpened, IsOneLife};
 ghost use Rattle.tm_session.specs.Outcome.{HasCause, IsBack, IsReadToEnd};
-ghost use Rattle.tm_session.specs.Headline.{IsSession};
+ghost use Rattle.tm_session.specs.Headline.{IsSession, IsUnbegun};
 
 use crate::driver::serve_lines;
 use crate::outcome::{Ended, Lives, Outcome};
-use script_run::Program;
+use crate::source::{definition_lines, judge};
 use std::alloc::Global;
+use sysdef_check::System;
 use tm_control::{Control, Life};
-use tm_edge::{Sink, Source};
+use tm_edge::{Lines, Sink, Source};
 use tm_types::Memory;
 
-/// Serves the lines of the source on an empty control region, and prints the answers to the sink.
+/// Reads a definition from the source, serves the lines behind it on an empty control region of that
+/// system, and prints the answers to the sink.
 ///
-/// The status is that of the first cause met: the source's end, its failure, the sink's, want of
-/// memory, or a limit.
+/// The status is that of the first cause met: a rule that the definition breaks, the source's end,
+/// its failure, the sink's, want of memory, or a limit.
 pub fn drill_session<S: Source, K: Sink>(alloc: Global, source: &mut S, sink: &mut K) -> Outcome
-    ensures session { IsSession (built_in echo_lines) (S.left source.old) (K.written sink.old) (K.written sink.new) result.status result.lives }
+    ensures session { IsSession (S.left source.old) (K.written sink.old) (K.written sink.new) result.status result.lives }
     ensures taken { IsBack (S.left source.old) (S.left source.new) }
     ensures whole { IsReadToEnd result.status (S.left source.new) }
     ensures cause { HasCause result.status (S.faults source.old) (S.faults source.new) (K.faults sink.old) (K.faults sink.new) }
     ensures reads { S.faults source.old ≤ S.faults source.new }
     ensures writes { K.faults sink.old ≤ K.faults sink.new }
 {
-    let Ok((mut lives, mut control)) = begin(alloc) else {
-        return Outcome {
-            status: Ended::Memory,
+    let mut lines = Lines::new(alloc);
+    match open(alloc, &mut lines, source) {
+        Ok((count, lives, control)) => {
+            let mut control = control;
+            let status = serve_lines(alloc, &mut lines, count, source, sink, &mut control);
+            ended(lives, control, status)
+        }
+        Err(status) => Outcome {
+            status,
             lives: Lives {
                 items: Vec::new(alloc),
             },
-        };
-    };
-    let status = serve_lines(alloc, source, sink, &mut control);
+        },
+    }
+}
+
+/// What a session came to that had a life.
+fn ended(lives: Vec<Life>, control: Control, status: Ended) -> Outcome
+    requires empty { lives.items ≡ [] }
+    requires room { vec_len lives < vec_capacity lives }
+    ensures status { result.status ≡ status }
+    ensures lives { IsOneLife control result.lives }
+{
+    let mut lives = lives;
     lives.push_reserved(control.into_life());
     Outcome {
         status,
@@ -42,14 +59,51 @@ pub fn drill_session<S: Source, K: Sink>(alloc: Global, source: &mut S, sink: &m
     }
 }
 
+/// Reads the definition and opens its system: how many lines were read, room for its life, and the
+/// empty control region. Or says how the run ended.
+fn open<S: Source>(
+    alloc: Global,
+    lines: &mut Lines,
+    source: &mut S,
+) -> Result<(u32, Vec<Life>, Control), Ended>
+    ensures opened { IfOk result (λ opened. IsOpened (unread lines.old (S.left source.old)) (unread lines.new (S.left source.new)) opened.0 opened.2) }
+    ensures few { IfOk result (λ opened. opened.0 ≤ 1000000) }
+    ensures regions { IfOk result (λ opened. length opened.2.system.regions < 2 ^ 32) }
+    ensures empty { IfOk result (λ opened. opened.1.items ≡ []) }
+    ensures room { IfOk result (λ opened. vec_len opened.1 < vec_capacity opened.1) }
+    ensures unbegun { IfErr result (IsUnbegun (unread lines.old (S.left source.old))) }
+    ensures back { IsBack (unread lines.old (S.left source.old)) (unread lines.new (S.left source.new)) }
+    ensures cause { IfErr result (λ ended. HasCause ended (S.faults source.old) (S.faults source.new) 0 0) }
+    ensures reads { S.faults source.old ≤ S.faults source.new }
+{
+    let read = match definition_lines(alloc, lines, source) {
+        Ok(read) => read,
+        Err(ended) => return Err(ended),
+    };
+    let system = match judge(alloc, &read) {
+        Ok(system) => system,
+        Err(ended) => return Err(ended),
+    };
+    match begin(alloc, system) {
+        Ok((lives, control)) => Ok((read.len() as u32, lives, control)),
+        Err(_) => Err(Ended::Memory),
+    }
+}
+
 /// An empty control region, and room for its life.
-fn begin(alloc: Global) -> Result<(Vec<Life>, Control), Memory>
-    ensures room { IfOk result (λ begun. (begun.0.items ≡ []) × (vec_len begun.0 < vec_capacity begun.0)) }
-    ensures system { IfOk result (λ begun. begun.1.system ≡ built_in echo_lines) }
-    ensures opening { IfOk result (λ begun. begun.1.opening ≡ empty_state (built_in echo_lines)) }
+fn begin(alloc: Global, system: System) -> Result<(Vec<Life>, Control), Memory>
+    ensures empty { IfOk result (λ begun. begun.0.items ≡ []) }
+    ensures room { IfOk result (λ begun. vec_len begun.0 < vec_capacity begun.0) }
+    ensures system { IfOk result (λ begun. begun.1.system ≡ system) }
+    ensures regions { IfOk result (λ begun. length begun.1.system.regions < 2 ^ 32) }
+    ensures opening { IfOk result (λ begun. begun.1.opening ≡ empty_state system) }
     ensures history { IfOk result (λ begun. begun.1.history ≡ []) }
 {
+    // A region's number has 32 bits; there is no memory for so many regions.
+    if system.regions().len() > u32::MAX as usize {
+        return Err(Memory);
+    }
     let lives = Vec::with_capacity(alloc, 1)?;
-    let control = Control::start(alloc, Program::echo(alloc)?)?;
+    let control = Control::start(alloc, system)?;
     Ok((lives, control))
 }

@@ -1,12 +1,16 @@
-ghost use Rattle.std.specs.Prelude.{◌≡◌, ◌≤◌, ◌+◌, ◌++◌, [], length, take, OnOk, OnErr, codes, decimal};
-ghost use Rattle.model_machine.specs.Steps.{code_word};
-ghost use Rattle.model_session.specs.Text.{spaced, line_end, about, shown_word, accepted_text, ack_text, none_text, unknown_text, region_text, printed_status, scheduled_text, idle_text, called_text, done_text, bad_line_text};
+ghost use Rattle.std.specs.Prelude.{◌≡◌, ◌≤◌, ◌+◌, ◌++◌, ◌∷◌, [], length, take, OnOk, OnErr, codes, decimal};
+ghost use Rattle.std.specs.List.{list_any};
+ghost use Rattle.std.specs.Str.{bytes_eq};
+ghost use Rattle.model_system.specs.System.{System};
+ghost use Rattle.model_machine.specs.Steps.{code_word, four_digits, digit};
+ghost use Rattle.model_session.specs.Text.{spaced, line_end, about, shown_word, accepted_text, ack_text, none_text, unknown_text, region_text, printed_status, scheduled_text, idle_text, called_text, done_text, abended_text, held_text, bad_line_text, too_long_text};
+ghost use Rattle.model_session.specs.Turns.{turns_text};
 ghost use Rattle.tm_types.specs.Function.{function_name};
 
 use crate::Printed;
-use crate::lines::first_word;
-use model_machine::{Accepted, AckAnswer};
-use tm_types::{Function, Name, Segments, Status};
+use crate::words::first_word;
+use model_machine::{Accepted, AckAnswer, SyncPoint};
+use tm_types::{AbendCode, Function, Name, Segments, Status};
 
 /// The room that the line of an answer needs at most.
 pub const ANSWER_ROOM: usize = 128;
@@ -28,6 +32,13 @@ pub fn accepted_line(
         Accepted::Terminal => add_refused(out, terminal, number, b" TERMINAL"),
         Accepted::Expected(next) => {
             add_refused_with_number(out, terminal, number, b" EXPECTED ", next);
+        }
+        Accepted::SegmentsOver(count, most) => {
+            let (count, most) = (u64::from(count), u64::from(most));
+            add_refused_with_two(out, terminal, number, b" SEGMENTS ", count, most);
+        }
+        Accepted::QueueFull(need, limit) => {
+            add_refused_with_two(out, terminal, number, b" QUEUE FULL ", need, limit);
         }
         Accepted::Code => {
             add_refused_with_word(out, terminal, number, b" CODE ", shown_word(segments));
@@ -102,16 +113,82 @@ pub fn called_line(out: &mut Printed, region: u32, function: Function, pcb: u8, 
 }
 
 /// Adds the line of a turn in which the region completed a message.
-pub fn done_line(out: &mut Printed, region: u32, code: &Name, id: u64)
+pub fn done_line(out: &mut Printed, region: u32, code: &Name, id: u64, answer: SyncPoint)
     requires { ANSWER_ROOM ≤ out.old.room }
-    ensures { out.new.text ≡ out.old.text ++ done_text region code.now id }
+    ensures { out.new.text ≡ out.old.text ++ done_text region code.now id answer }
 {
     add_region(out, region);
-    add_answer(out, b"DONE", code, id);
+    match answer {
+        SyncPoint::End => add_answer(out, b"DONE", code, id),
+        SyncPoint::Next(next) => {
+            add_about(out, b"NEXT", code, id);
+            out.push(b" ");
+            out.push_number(next);
+            out.push(b"\n");
+        }
+        SyncPoint::NoMore => add_answer(out, b"QC", code, id),
+    }
 }
 
-/// Adds the line that answers a line which breaks this rule.
-pub fn bad_line(out: &mut Printed, rule: u32)
+/// Adds the line of a turn in which the region's script ended abnormally.
+pub fn abended_line(out: &mut Printed, region: u32, code: &Name, id: u64, abend: AbendCode)
+    requires { ANSWER_ROOM ≤ out.old.room }
+    ensures { out.new.text ≡ out.old.text ++ abended_text region code.now id abend }
+{
+    add_region(out, region);
+    add_about(out, b"ABENDED", code, id);
+    out.push(b" U");
+    add_four_digits(out, abend.number);
+    out.push(b"\n");
+}
+
+/// Adds the line of a turn in which the queues had no room for the region's next message.
+pub fn held_line(out: &mut Printed, region: u32, need: u64, limit: u64)
+    requires { ANSWER_ROOM ≤ out.old.room }
+    ensures { out.new.text ≡ out.old.text ++ held_text region need limit }
+{
+    add_region(out, region);
+    out.push(b"HELD ");
+    out.push_number(need);
+    out.push(b" ");
+    out.push_number(limit);
+    out.push(b"\n");
+}
+
+/// Adds the line of so many turns, after which nothing or something was left to do.
+pub fn quiet_line(out: &mut Printed, is_quiet: bool, turns: u32)
+    requires { ANSWER_ROOM ≤ out.old.room }
+    ensures { out.new.text ≡ out.old.text ++ turns_text is_quiet turns }
+{
+    add_spaced(out, if is_quiet { b"QUIET" } else { b"TURNS SPENT" });
+    out.push_number(u64::from(turns));
+    out.push(b"\n");
+}
+
+/// Adds the line that refuses an input with a segment of so many bytes, which are too many; one for
+/// a name that is no terminal's is refused for that.
+pub fn too_long_line(out: &mut Printed, terminals: &[Name], terminal: &Name, number: u64, long: u64)
+    requires { ANSWER_ROOM ≤ out.old.room }
+    ensures { (system : System) → system.terminals ≡ terminals.now → out.new.text ≡ out.old.text ++ too_long_text system terminal.now number long }
+{
+    if is_terminal(terminals, terminal) {
+        add_about(out, b"REFUSED", terminal, number);
+        out.push(b" LENGTH ");
+        out.push_number(long);
+        out.push(b" 1996\n");
+    } else {
+        add_refused(out, terminal, number, b" TERMINAL");
+    }
+}
+
+fn is_terminal(terminals: &[Name], name: &Name) -> bool
+    ensures { result ≡ list_any (λ terminal. bytes_eq terminal name.now) terminals.now }
+{
+    terminals.iter().any(|terminal| terminal == name)
+}
+
+/// Adds the line that answers lines which break this rule.
+pub fn bad_line(out: &mut Printed, rule: u8)
     requires { ANSWER_ROOM ≤ out.old.room }
     ensures { out.new.text ≡ out.old.text ++ bad_line_text rule }
 {
@@ -177,6 +254,26 @@ fn add_refused_with_number(
     out.push(b"\n");
 }
 
+/// Adds a line that refuses, with its reason and two numbers: what was wanted, and what there is.
+fn add_refused_with_two(
+    out: &mut Printed,
+    terminal: &Name,
+    number: u64,
+    reason: &[u8],
+    wanted: u64,
+    limit: u64,
+)
+    requires { length reason.now + 79 ≤ out.old.room }
+    ensures { out.new.text ≡ out.old.text ++ (about (codes "REFUSED") terminal.now number ++ reason.now ++ decimal wanted ++ 32 ∷ [] ++ decimal limit ++ line_end) }
+{
+    add_about(out, b"REFUSED", terminal, number);
+    out.push(reason);
+    out.push_number(wanted);
+    out.push(b" ");
+    out.push_number(limit);
+    out.push(b"\n");
+}
+
 /// Adds a line that refuses, with its reason and the word that was not known.
 fn add_refused_with_word(
     out: &mut Printed,
@@ -226,6 +323,26 @@ fn add_region(out: &mut Printed, region: u32)
     out.push(b"R");
     out.push_number(u64::from(region));
     out.push(b" ");
+}
+
+/// Adds the last four digits of a number.
+fn add_four_digits(out: &mut Printed, number: u16)
+    requires { 4 ≤ out.old.room }
+    ensures text { out.new.text ≡ out.old.text ++ four_digits number }
+    ensures room { out.old.room ≤ out.new.room + 4 }
+{
+    out.push(&[
+        digit(number / 1000),
+        digit(number / 100),
+        digit(number / 10),
+        digit(number),
+    ]);
+}
+
+fn digit(number: u16) -> u8
+    ensures { result ≡ digit number }
+{
+    b'0' + (number % 10) as u8
 }
 
 fn add_function(out: &mut Printed, function: Function)

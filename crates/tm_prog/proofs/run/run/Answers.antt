@@ -1,15 +1,20 @@
--- the last line changes neither the status nor what was read; the sink's count may rise further
-use Rattle.std.proofs.Common.{map}
+-- by the words, and by the session
+use Rattle.std.proofs.Common.{rules, map, subst}
 use Rattle.std.specs.Prelude.{string_bytes}
-use Rattle.tm_prog.proofs.Causes.{caused_more, complete}
+use Rattle.tm_prog.specs.Status.{IsLastLine}
+use Rattle.tm_prog.proofs.Causes.{complete}
+use Rattle.tm_prog.proofs.Runs.{run_words}
 use Rattle.tm_prog.proofs.run.run.Goals as goal
 
-pub returns-clause-cause : goal.returns-clause-cause
-returns-clause-cause g c =
-    caused_more (map (λ word. string_bytes word) c.args.words.now) c.by_words-outcome.result.status (g.S.Source.faults c.args.source.now) (g.S.Source.faults c.by_words-outcome.new.source) (g.K.Sink.faults c.args.sink.now) (g.K.Sink.faults c.by_words-outcome.new.sink) (g.K.Sink.faults c.print_last.new.sink) c.by_words-outcome.ensures.cause c.print_last.ensures.count
+pub returns-in-Some-clause-headline : goal.returns-in-Some-clause-headline
+returns-in-Some-clause-headline g c =
+    run_words (map (λ word. string_bytes word) c.args.words.now) (g.S.Source.left c.args.source.now) (g.K.Sink.written c.args.sink.now) (g.K.Sink.written c.print_last.new.sink) c.in-Some.word c.in-Some.rule
+    c.unbegun.result.status c.unbegun.result.lives (g.K.Sink.faults c.args.sink.now) (g.K.Sink.faults c.print_last.new.sink)
+    (search rules) c.unbegun.ensures.status c.unbegun.ensures.lives
+    (subst (λ line. IsLastLine (g.K.Sink.written c.args.sink.now) (g.K.Sink.written c.print_last.new.sink) line (g.K.Sink.faults c.args.sink.now) (g.K.Sink.faults c.print_last.new.sink)) c.word_line.ensures c.print_last.ensures.line)
 
-pub returns-clause-complete : goal.returns-clause-complete
-returns-clause-complete g c valid reads writes within =
-    complete (map (λ word. string_bytes word) c.args.words.now) c.by_words-outcome.result.status (g.S.Source.left c.args.source.now) (g.K.Sink.written c.args.sink.now) (g.K.Sink.written c.by_words-outcome.new.sink) c.by_words-outcome.result.lives
-    (g.S.Source.faults c.args.source.now) (g.S.Source.faults c.by_words-outcome.new.source) (g.K.Sink.faults c.args.sink.now) (g.K.Sink.faults c.print_last.new.sink)
-    c.by_words-outcome.ensures.session (caused_more (map (λ word. string_bytes word) c.args.words.now) c.by_words-outcome.result.status (g.S.Source.faults c.args.source.now) (g.S.Source.faults c.by_words-outcome.new.source) (g.K.Sink.faults c.args.sink.now) (g.K.Sink.faults c.by_words-outcome.new.sink) (g.K.Sink.faults c.print_last.new.sink) c.by_words-outcome.ensures.cause c.print_last.ensures.count) valid reads writes within
+pub returns-in-None-clause-complete : goal.returns-in-None-clause-complete
+returns-in-None-clause-complete g c = λ valid reads writes within.
+    complete c.run_drill.result.status (g.S.Source.left c.args.source.now) (g.K.Sink.written c.args.sink.now) c.run_drill.ensures.headline.before c.run_drill.result.lives
+    (g.S.Source.faults c.args.source.now) (g.S.Source.faults c.run_drill.new.source) (g.K.Sink.faults c.args.sink.now) (g.K.Sink.faults c.run_drill.new.sink)
+    c.run_drill.ensures.headline.session c.run_drill.ensures.cause reads writes within
