@@ -1,0 +1,13 @@
+use Rattle.std.proofs.Common.{◌≡◌, true, subst, sym, ap, ◌∙◌}
+use Rattle.std.specs.List.{list_all}
+use Rattle.tm_types.specs.Segment.{is_printable}
+use Rattle.model_rows.specs.Rows.{AreRows}
+use Rattle.dli_calls.proofs.NewRows.{replace_is_row}
+use Rattle.dli_calls.proofs.change.replace.Goals as goal
+
+pub put_data-requires-clause-row : goal.put_data-requires-clause-row
+put_data-requires-clause-row g c =
+    let rows = g.R.Rows.rows c.args.rows.now in
+    let valid : AreRows c.args.dbd.now rows = subst (λ d. AreRows d rows) c.requires.rows c.in_default-replace_fault.ensures.valid in
+    let printable : list_all is_printable c.as_slice-area.result.now ≡ true = ap (list_all is_printable) c.as_slice-area.ensures ∙ c.requires.area in
+    replace_is_row c.args.dbd.now.types c.as_slice-hierarchy.ensures.valid c.in-Some.held c.as_slice-area.result.now rows valid.each printable (sym c.in_default-replace_fault.ensures.value)

@@ -1,0 +1,21 @@
+-- How a search goes from record to record.
+use Rattle.std.specs.Prelude.{ℕ, suc, not, List, [], Option, None, Some, length, filter}
+use Rattle.std.specs.Ordering.{is_gt}
+use Rattle.model_rows.specs.declared.row.Row.{Row}
+use Rattle.model_rows.specs.Path.{key_cmp, root_of}
+use Rattle.model_rows.specs.Rows.{rows_after, next_root}
+
+-- the root of the record at which a search from a place begins
+abbrev pub first_root : Option (List (ℕ × List ℕ)) → List Row → Option (List ℕ)
+first_root None rows = next_root rows None
+first_root (Some path) rows = Some (root_of path)
+
+-- the rows of the records from this root on
+abbrev pub rows_from : Option (List ℕ) → List Row → List Row
+rows_from None rows = []
+rows_from (Some root) rows = filter (λ row. not (is_gt (key_cmp root (root_of row.path)))) rows
+
+-- how far a search has to go at most: the rows after the record at which it stands
+abbrev pub roots_left : Option (List ℕ) → List Row → ℕ
+roots_left None rows = 0
+roots_left (Some root) rows = suc (length (rows_after root rows))

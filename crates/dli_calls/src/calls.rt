@@ -1,0 +1,199 @@
+//! Database calls.
+ghost use Rattle.std.specs.Prelude.{◌≡◌, ◌≤◌, length, IfOk, IfErr, OnOk, OnErr, None, ◌&&◌, ◌||◌};
+ghost use Rattle.model_dli.specs.Conditions.{IsDbCall, IsPosition, AreInsertSsas};
+ghost use Rattle.model_dli.specs.Dli.{dli, has_option, is_allowed, position_denied, insert, replace, delete};
+ghost use Rattle.model_dli.specs.declared.call.Position.{Position};
+ghost use Rattle.dli_calls.specs.Performs.{Performs, RefusesCall};
+
+use crate::change::{self, delete_fault, replace_fault};
+use crate::get::{answer, fail, get};
+use crate::inserting::{insert_fault, insert_root};
+use model_dli::{DbCall, Performed, Position, Reach};
+use seg_rows::{Rows, StoreRefused};
+use std::alloc::Global;
+use tm_types::processing::{DELETE, GET, INSERT, REPLACE};
+use tm_types::{Dbd, Function, Key, Status};
+
+/// Makes a call on the rows of a database, by a PCB that stands at `position`.
+///
+/// It answers a status, and the data of the segment that a get reached; where it changed a record,
+/// also that record's root. A call that the PCB's options don't allow answers AM, before all else.
+///
+/// A refusal changes neither the rows nor the position. It is `RootLimit` where an ISRT would add
+/// one root more than the database may have, else `RecordTooLong` where the record would be too
+/// long; `Memory` may come in any call.
+pub fn perform<R: Rows>(
+    alloc: Global,
+    dbd: &Dbd,
+    call: &DbCall,
+    position: &mut Position,
+    rows: &mut R,
+) -> Result<Performed, StoreRefused>
+    requires types { length dbd.now.types ≤ 255 }
+    requires rows { R.database rows.old ≡ dbd.now }
+    requires call { IsDbCall dbd.now.types call.now }
+    requires position { IsPosition dbd.now.types position.old }
+    ensures status { IfOk result (λ p. p.status ≡ (dli dbd.now call.now position.old (R.rows rows.old)).status) }
+    ensures area { IfOk result (λ p. p.area ≡ (dli dbd.now call.now position.old (R.rows rows.old)).area) }
+    ensures changed { IfOk result (λ p. p.changed ≡ (dli dbd.now call.now position.old (R.rows rows.old)).changed) }
+    ensures rows { OnOk result (R.rows rows.new ≡ (dli dbd.now call.now position.old (R.rows rows.old)).rows) }
+    ensures position { OnOk result (position.new ≡ (dli dbd.now call.now position.old (R.rows rows.old)).position) }
+    // A call is refused exactly by the limit that it would pass, or for want of memory.
+    ensures accepted { OnOk result ((dli dbd.now call.now position.old (R.rows rows.old)).refusal ≡ None) }
+    ensures refused { IfErr result (RefusesCall (dli dbd.now call.now position.old (R.rows rows.old)).refusal) }
+    ensures kept_rows { OnErr result (R.rows rows.new ≡ R.rows rows.old) }
+    ensures kept_position { OnErr result (position.new ≡ position.old) }
+    ensures database { R.database rows.new ≡ R.database rows.old }
+    ensures valid { IsPosition dbd.now.types position.new }
+{
+    perform_call(alloc, dbd, call, position, rows)
+}
+
+fn perform_call<R: Rows>(
+    alloc: Global,
+    dbd: &Dbd,
+    call: &DbCall,
+    at: &mut Position,
+    rows: &mut R,
+) -> Result<Performed, StoreRefused>
+    requires types { length dbd.now.types ≤ 255 }
+    requires rows { R.database rows.old ≡ dbd.now }
+    requires call { IsDbCall dbd.now.types call.now }
+    requires position { IsPosition dbd.now.types at.old }
+    ensures performed { IfOk result (λ p. Performs (dli dbd.now call.now at.old (R.rows rows.old)) p (R.rows rows.new) at.new) }
+    ensures refused { IfErr result (RefusesCall (dli dbd.now call.now at.old (R.rows rows.old)).refusal) }
+    ensures kept_rows { OnErr result (R.rows rows.new ≡ R.rows rows.old) }
+    ensures kept_position { OnErr result (at.new ≡ at.old) }
+    ensures database { R.database rows.new ≡ R.database rows.old }
+    ensures valid { IsPosition dbd.now.types at.new }
+{
+    if !is_allowed(call.function, call.options) {
+        deny(call.function, at);
+        return Ok(answer(Status::AM));
+    }
+    match call.function {
+        Function::GU => get(Reach::Start, false, dbd, call, at, rows),
+        Function::GN => get(Reach::Next, false, dbd, call, at, rows),
+        Function::GNP => get(Reach::Parent, false, dbd, call, at, rows),
+        Function::GHU => get(Reach::Start, true, dbd, call, at, rows),
+        Function::GHN => get(Reach::Next, true, dbd, call, at, rows),
+        Function::GHNP => get(Reach::Parent, true, dbd, call, at, rows),
+        Function::ISRT => change::insert(alloc, dbd, call, at, rows),
+        Function::REPL => change::replace(alloc, dbd, call, at, rows),
+        Function::DLET => change::delete(alloc, dbd, at, rows),
+        Function::PURG => unreachable!(),
+        Function::CHNG => unreachable!(),
+        Function::ROLB => unreachable!(),
+        Function::ROLL => unreachable!(),
+    }
+}
+
+/// The root of the record that [`perform`] would then change, or refuse to change by
+/// [`StoreRefused`]; None where it would do neither. This takes no memory.
+pub fn would_change<R: Rows>(dbd: &Dbd, call: &DbCall, position: &Position, rows: &R) -> Option<Key>
+    requires types { length dbd.now.types ≤ 255 }
+    requires rows { R.database rows.now ≡ dbd.now }
+    requires call { IsDbCall dbd.now.types call.now }
+    requires position { IsPosition dbd.now.types position.now }
+    ensures { result ≡ (dli dbd.now call.now position.now (R.rows rows.now)).changed }
+{
+    if !is_allowed(call.function, call.options) {
+        return None;
+    }
+    match call.function {
+        Function::GU => None,
+        Function::GN => None,
+        Function::GNP => None,
+        Function::GHU => None,
+        Function::GHN => None,
+        Function::GHNP => None,
+        Function::ISRT => would_insert(dbd, call, rows),
+        Function::REPL => would_replace(dbd, call, position, rows),
+        Function::DLET => would_delete(dbd, position, rows),
+        Function::PURG => unreachable!(),
+        Function::CHNG => unreachable!(),
+        Function::ROLB => unreachable!(),
+        Function::ROLL => unreachable!(),
+    }
+}
+
+fn would_insert<R: Rows>(dbd: &Dbd, call: &DbCall, rows: &R) -> Option<Key>
+    requires types { length dbd.now.types ≤ 255 }
+    requires ssas { AreInsertSsas dbd.now.types 0 call.now.ssas }
+    ensures { (at : Position) → result ≡ (insert dbd.now call.now at (R.rows rows.now)).changed }
+{
+    let ssas = call.ssas.as_slice();
+    let area = call.area.as_slice();
+    match insert_fault(&dbd.types, area, ssas, rows) {
+        Some(_) => None,
+        None => Some(insert_root(&dbd.types, area, ssas)),
+    }
+}
+
+fn would_replace<R: Rows>(dbd: &Dbd, call: &DbCall, at: &Position, rows: &R) -> Option<Key>
+    requires { IsPosition dbd.now.types at.now }
+    ensures { result ≡ (replace dbd.now call.now at.now (R.rows rows.now)).changed }
+{
+    let held = at.hold.as_ref()?;
+    match replace_fault(&dbd.types, held, call.area.as_slice(), rows) {
+        Some(_) => None,
+        None => held.root(),
+    }
+}
+
+fn would_delete<R: Rows>(dbd: &Dbd, at: &Position, rows: &R) -> Option<Key>
+    requires { IsPosition dbd.now.types at.now }
+    ensures { result ≡ (delete dbd.now at.now (R.rows rows.now)).changed }
+{
+    let held = at.hold.as_ref()?;
+    match delete_fault(held, rows) {
+        Some(_) => None,
+        None => held.root(),
+    }
+}
+
+/// Takes from the PCB what a call takes that isn't allowed.
+fn deny(function: Function, at: &mut Position)
+    ensures { at.new ≡ position_denied function at.old }
+{
+    match function {
+        Function::GU => fail(Reach::Start, at),
+        Function::GHU => fail(Reach::Start, at),
+        Function::GN => fail(Reach::Next, at),
+        Function::GHN => fail(Reach::Next, at),
+        _ => at.hold = None,
+    }
+}
+
+/// Whether the options of a PCB allow a call.
+fn is_allowed(function: Function, options: u8) -> bool
+    ensures { result ≡ is_allowed function options }
+{
+    match function {
+        Function::GU => has(options, GET),
+        Function::GN => has(options, GET),
+        Function::GNP => has(options, GET),
+        Function::GHU => may_hold(options),
+        Function::GHN => may_hold(options),
+        Function::GHNP => may_hold(options),
+        Function::ISRT => has(options, INSERT),
+        Function::REPL => has(options, REPLACE),
+        Function::DLET => has(options, DELETE),
+        Function::PURG => false,
+        Function::CHNG => false,
+        Function::ROLB => false,
+        Function::ROLL => false,
+    }
+}
+
+fn may_hold(options: u8) -> bool
+    ensures { result ≡ (has_option options 1 && (has_option options 4 || has_option options 8)) }
+{
+    has(options, GET) && (has(options, REPLACE) || has(options, DELETE))
+}
+
+fn has(options: u8, option: u8) -> bool
+    ensures { result ≡ has_option options option }
+{
+    options & option != 0
+}

@@ -1,0 +1,5 @@
+pub mod Search
+pub mod Get
+pub mod Change
+pub mod Dli
+pub mod Conditions

@@ -1,0 +1,7 @@
+//! Database calls, as every layer that works with databases speaks of them: what a call asks for,
+//! where a PCB stands, and what a call answers and leaves.
+#![tactic(auto)]
+
+pub use call::{DbCall, Performed, Position, Reach, RowsLimit};
+
+mod call;
