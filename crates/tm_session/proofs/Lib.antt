@@ -9,3 +9,4 @@ pub mod Reading
 pub mod Taking
 pub mod Opened
 pub mod Whole
+pub mod Begun
