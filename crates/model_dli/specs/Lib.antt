@@ -3,3 +3,4 @@ pub mod Get
 pub mod Change
 pub mod Dli
 pub mod Conditions
+pub mod Data

@@ -4,4 +4,5 @@
 
 pub use call::{DbCall, Performed, Position, Reach, RowsLimit};
 
+pub mod abends;
 mod call;
