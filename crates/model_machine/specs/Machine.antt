@@ -15,13 +15,16 @@ use Rattle.model_system.specs.declared.code.Code.{Code}
 use Rattle.model_system.specs.declared.system_program.SystemProgram.{SystemProgram}
 use Rattle.model_system.specs.declared.code.Transaction.{Transaction}
 use Rattle.model_system.specs.System.{System}
+use Rattle.model_system.specs.declared.pcb.Pcb.{Pcb}
+use Rattle.model_rows.specs.declared.row.Row.{Row}
 use Rattle.model_machine.specs.declared.lasting.TerminalInput.{TerminalInput}
 use Rattle.model_machine.specs.Unit.{Job, Trial, trial_of}
 
--- What lasts of the machine: the messages in the order of their ids and the next id; per terminal
--- the last input number, and the replies kept with the next number; and how many lasting steps were
--- done.
+-- What lasts of the machine: the rows of each database; the messages in the order of their ids and
+-- the next id; per terminal the last input number, and the replies kept with the next number; and how
+-- many lasting steps were done.
 pub record LastingState : Type 0 where
+  pub rows : List (List Row)
   pub messages : List Message
   pub next_id : ℕ
   pub inputs : List TerminalInput
@@ -74,9 +77,19 @@ change_at xs None change = xs
 abbrev pub lines_of : System → List ℕ → List ScriptLine
 lines_of system psb = option_map_or (λ program. program.program) (program_at system.programs psb) []
 
--- what serves a code's messages: its operands and the script of its program
+-- the PCBs of a PSB; one without a program has none
+abbrev pub pcbs_of : System → List ℕ → List Pcb
+pcbs_of system psb = option_map_or (λ program. program.pcbs) (program_at system.programs psb) []
+
+-- what serves a code's messages: its operands, the script and the PCBs of its program, and the
+-- databases
 abbrev pub job_by : System → Code → Job
-job_by system code = record { transaction = code.transaction; lines = lines_of system code.psb }
+job_by system code = record {
+  transaction = code.transaction;
+  lines = lines_of system code.psb;
+  pcbs = pcbs_of system code.psb;
+  databases = system.databases;
+}
 
 abbrev pub job_of : System → List ℕ → Option Job
 job_of system name = option_map (job_by system) (code_at system.codes name)
@@ -110,13 +123,13 @@ busy_slots slots = count_by is_some slots
 abbrev pub content : LastingState → ℕ
 content lasting = messages_bytes lasting.messages + outputs_bytes lasting.outputs
 
--- what k calls give for a slot's message, by the script of its code
-abbrev pub message_trial : System → List ℕ → Message → ℕ → Option Trial
-message_trial system code message calls = option_and_then (λ job. trial_of job message.segments calls) (job_of system code)
+-- what k calls give for a slot's message on the rows that are committed, by the script of its code
+abbrev pub message_trial : System → List (List Row) → List ℕ → Message → ℕ → Option Trial
+message_trial system rows code message calls = option_and_then (λ job. trial_of job rows message.segments calls) (job_of system code)
 
 abbrev pub slot_trial : System → Moment → Slot → ℕ → Option Trial
 slot_trial system moment slot calls =
-    option_and_then (λ message. message_trial system slot.code message calls) (message_at moment.lasting.messages slot.id)
+    option_and_then (λ message. message_trial system moment.lasting.rows slot.code message calls) (message_at moment.lasting.messages slot.id)
 
 -- The limit priority counts from the moment when as many messages of the code wait as its limit
 -- count says, until none waits; 65,535 is no limit. `count` messages wait now.
@@ -155,9 +168,9 @@ first_state lasting code = record {
 abbrev pub fresh_input : List ℕ → TerminalInput
 fresh_input name = record { name = name; last = 0 }
 
--- the empty machine: no message, no number used
+-- the empty machine: no row, no message, no number used
 abbrev pub empty_state : System → LastingState
-empty_state system = record { messages = []; next_id = 1; inputs = map fresh_input system.terminals; outputs = map fresh_terminal system.terminals; steps = 0 }
+empty_state system = record { rows = map (λ _. []) system.databases; messages = []; next_id = 1; inputs = map fresh_input system.terminals; outputs = map fresh_terminal system.terminals; steps = 0 }
 
 -- a life starts with what lasted, empty slots, and the flags by what waits
 abbrev pub start_of : System → LastingState → Moment

@@ -15,6 +15,7 @@ use Rattle.model_queues.specs.declared.replies.TerminalReplies.{TerminalReplies}
 use Rattle.model_queues.specs.Outputs.{first_number, with_terminal, with_reply, without_first}
 use Rattle.model_queues.specs.Room.{input_needs, slot_needs, slot_room}
 use Rattle.model_queues.specs.Waiting.{first_waiting}
+use Rattle.model_rows.specs.declared.row.Row.{Row}
 use Rattle.model_machine.specs.declared.lasting.TerminalInput.{TerminalInput}
 use Rattle.model_machine.specs.declared.entry.Entry.{Entry}
 use Rattle.model_machine.specs.declared.entry.Entry.TheVariants.{Accept, Show, Acked, Took, Held, Idle, Called, Done, Abended}
@@ -124,9 +125,12 @@ finished_state lasting message reply = record lasting {
   steps = lasting.steps + 1;
 }
 
--- what a completed message leaves, by its work
+-- what a completed message leaves, by its work: the rows as it has changed them are committed
+abbrev pub committed : LastingState → List (List Row) → LastingState
+committed lasting rows = record lasting { rows = rows }
+
 abbrev pub completed_by : LastingState → Option Message → Option Trial → LastingState
-completed_by lasting (Some message) (Some trial) = finished_state lasting message trial.work.reply
+completed_by lasting (Some message) (Some trial) = finished_state (committed lasting trial.databases.rows) message trial.work.reply
 completed_by lasting _ _ = lasting
 
 abbrev pub completed_state : System → Moment → Slot → LastingState

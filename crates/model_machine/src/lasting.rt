@@ -1,4 +1,8 @@
+ghost use Rattle.std.specs.Prelude.{◌≡◌, []};
+
 use model_queues::TerminalReplies;
+use model_rows::Row;
+use std::alloc::Global;
 use std::marker::Model;
 use tm_types::{Message, Name};
 
@@ -10,9 +14,44 @@ pub struct TerminalInput {
     pub last: u64,
 }
 
+/// The rows of a database, in hierarchic order; seen as a list.
+#[derive(Debug, Drop)]
+pub struct DatabaseRows {
+    rows: Vec<Row>,
+}
+
+impl Model for DatabaseRows {
+    ghost use Rattle.std.specs.Prelude.{List};
+    ghost use Rattle.model_rows.specs.declared.row.Row.{Row};
+
+    ghost Value = { List Row };
+
+    ghost view = { λ d. d.rows.items };
+}
+
+impl DatabaseRows {
+    /// No rows. This takes no memory.
+    pub fn new(alloc: Global) -> DatabaseRows
+        ensures { result ≡ [] }
+    {
+        DatabaseRows {
+            rows: Vec::new(alloc),
+        }
+    }
+
+    /// The rows, in hierarchic order.
+    pub fn as_slice(&self) -> &[Row]
+        ensures { result.now ≡ self.now }
+    {
+        &self.rows
+    }
+}
+
 /// What lasts of the machine: a restart begins with it.
 #[derive(Debug, Drop)]
 pub struct Lasting {
+    /// The rows of each database.
+    pub rows: Vec<DatabaseRows>,
     /// The messages that are not completed, in the order of their ids.
     pub messages: Vec<Message>,
     pub next_id: u64,
@@ -28,5 +67,5 @@ impl Model for Lasting {
 
     ghost Value = { LastingState };
 
-    ghost view = { λ l. record { messages = l.messages.items; next_id = l.next_id; inputs = l.inputs.items; outputs = l.outputs.items; steps = l.steps } };
+    ghost view = { λ l. record { rows = l.rows.items; messages = l.messages.items; next_id = l.next_id; inputs = l.inputs.items; outputs = l.outputs.items; steps = l.steps } };
 }

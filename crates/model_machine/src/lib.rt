@@ -6,7 +6,7 @@
 #![tactic(auto)]
 
 pub use entry::{Accepted, AckAnswer, ControlCall, Entry, ShowAnswer, SyncPoint};
-pub use lasting::{Lasting, TerminalInput};
+pub use lasting::{DatabaseRows, Lasting, TerminalInput};
 
 mod entry;
 mod lasting;
