@@ -4,7 +4,6 @@ use Rattle.std.specs.Prelude.{Option, Some, None, IsSomeAnd, IfSome, Result, Ok,
 use Rattle.std.specs.Option.{option_and_then}
 use Rattle.tm_types.specs.declared.message.Message.{Message}
 use Rattle.model_script.specs.declared.program.ScriptLine.{ScriptLine}
-use Rattle.model_queues.specs.declared.queued.Queued.{Queued}
 use Rattle.model_queues.specs.Queue.{message_at}
 use Rattle.model_system.specs.declared.code_state.CodeState.{CodeState}
 use Rattle.model_system.specs.System.{System}
@@ -13,7 +12,7 @@ use Rattle.model_machine.specs.Machine.{Slot, IsRegion, slot_at}
 use Rattle.model_machine.specs.Steps.{called_slot}
 use Rattle.tm_unit.specs.declared.unit.Advanced.{Advanced}
 use Rattle.tm_unit.specs.declared.unit.Advanced.TheVariants.{Called, Ended}
-use Rattle.tm_tables.specs.Tables.{TablesState}
+use Rattle.tm_tables.specs.Tables.{TablesState, rows_of}
 use Rattle.tm_parts.specs.declared.region.Busy.{Busy}
 use Rattle.tm_parts.specs.Region.{IsQueuedWork, StepsOn, Steps, SameWork}
 use Rattle.tm_parts.specs.Parts.{slots_of, AreParts}
@@ -55,7 +54,7 @@ module _ (system : System) (no_program : List ScriptLine) (tables : TablesState)
       ∙ ap (λ n. record { code = old.code; taken = old.taken; id = old.id; calls = n }) count
 
   goes_on : (old new : Busy) (message : Message) (advanced : Advanced) → slice_get regions (region - 1) ≡ Some (Some old) → message_at old.id tables.queues.queued ≡ Some message
-      → StepsOn system message old new advanced
+      → StepsOn system (rows_of tables.databases) message old new advanced
       → Goes (record { system = system; moment = moment_at system no_program tables states regions (region - 1) parts regions })
       (record { system = system; moment = moment_at system no_program tables states regions (region - 1) parts (slice_set regions (region - 1) (Some new)) }) region (Some advanced)
   goes_on old new message (Called function pcb status) e found s = (
@@ -78,7 +77,7 @@ module _ (system : System) (no_program : List ScriptLine) (tables : TablesState)
         (same_slots old new e (slot_same old new old.unit.calls s.same.code s.same.taken s.same.id s.advances.0)),
   )
 
-  pub goes_is : (old new : Option Busy) (advanced : Option Advanced) → slice_get regions (region - 1) ≡ Some old → Steps system tables.queues.queued old new advanced
+  pub goes_is : (old new : Option Busy) (advanced : Option Advanced) → slice_get regions (region - 1) ≡ Some old → Steps system tables old new advanced
       → Goes (record { system = system; moment = moment_at system no_program tables states regions (region - 1) parts regions })
       (record { system = system; moment = moment_at system no_program tables states regions (region - 1) parts (slice_set regions (region - 1) new) }) region advanced
   goes_is None new None e h = (
@@ -92,13 +91,13 @@ module _ (system : System) (no_program : List ScriptLine) (tables : TablesState)
   goes_is (Some old) (Some new) None e h = absurd h
   goes_is (Some old) (Some new) (Some advanced) e h = by (message_at old.id tables.queues.queued) refl h
     where
-      by : (found : Option Message) → message_at old.id tables.queues.queued ≡ found → IsSomeAnd found (λ message. StepsOn system message old new advanced)
+      by : (found : Option Message) → message_at old.id tables.queues.queued ≡ found → IsSomeAnd found (λ message. StepsOn system (rows_of tables.databases) message old new advanced)
           → Goes (record { system = system; moment = moment_at system no_program tables states regions (region - 1) parts regions })
           (record { system = system; moment = moment_at system no_program tables states regions (region - 1) parts (slice_set regions (region - 1) (Some new)) }) region (Some advanced)
       by (Some message) f s = goes_on old new message advanced e f s
       by None f s = absurd s
 
-  pub same_moment : (old new : Option Busy) → slice_get regions (region - 1) ≡ Some old → SameWork system tables.queues.queued old new
+  pub same_moment : (old new : Option Busy) → slice_get regions (region - 1) ≡ Some old → SameWork system tables old new
       → slots_of (slice_set regions (region - 1) new) ≡ slots_of regions
   same_moment None new e h = absurd h
   same_moment (Some old) None e h = absurd h
@@ -108,7 +107,7 @@ pub err_map : {X E : Type 0} {P Q : Type 0} (r : Result X E) → (P → Q) → O
 err_map (Ok x) f h = tt
 err_map (Err e) f h = f h
 
-pub keeps_by : {E : Type 0} (system : System) (queued : List Queued) (old new : Option Busy) (r : Result (Option Advanced) E) → IfSome old (IsQueuedWork system queued)
-    → IfOk r (Steps system queued old new) → OnErr r (SameWork system queued old new) → Keeps system queued old new
-keeps_by system queued old new (Ok advanced) work steps same = steps_keep system queued old new advanced steps
-keeps_by system queued old new (Err e) work steps same = same_keep system queued old new work same
+pub keeps_by : {E : Type 0} (system : System) (tables : TablesState) (old new : Option Busy) (r : Result (Option Advanced) E) → IfSome old (IsQueuedWork system tables)
+    → IfOk r (Steps system tables old new) → OnErr r (SameWork system tables old new) → Keeps system tables old new
+keeps_by system tables old new (Ok advanced) work steps same = steps_keep system tables old new advanced steps
+keeps_by system tables old new (Err e) work steps same = same_keep system tables old new work same

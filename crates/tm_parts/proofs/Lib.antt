@@ -6,3 +6,4 @@ mod Going
 mod Scheduled
 mod Resting
 mod Finished
+pub mod Closed

@@ -18,7 +18,8 @@ use Rattle.model_machine.proofs.Picks.{pick_same}
 use Rattle.tran_pick.specs.declared.picked.Pick.{Pick}
 use Rattle.tm_unit.specs.UnitState.{UnitState}
 use Rattle.tm_unit.specs.Ahead.{IsStart}
-use Rattle.tm_tables.specs.Tables.{TablesState, lasting_of, held}
+use Rattle.model_rows.specs.declared.row.Row.{Row}
+use Rattle.tm_tables.specs.Tables.{TablesState, lasting_of, held, rows_of}
 use Rattle.tm_parts.specs.declared.region.Busy.{Busy}
 use Rattle.tm_parts.specs.Region.{IsWork}
 use Rattle.tm_parts.specs.Parts.{slot_of, slots_of, AreAtWork, AreParts}
@@ -76,17 +77,17 @@ module _ (system : System) (no_program : List ScriptLine) (tables : TablesState)
 
     pub parts_taken : (tables' : TablesState) (count : ℕ) → tables' ≡ held tables busy.id region
         → IsSomeAnd (queued_at busy.id tables.queues.queued) (λ q. q.holder ≡ None)
-        → IsSomeAnd (job_of system busy.code) (λ job. IsStart job busy.unit)
+        → IsSomeAnd (job_of system busy.code) (λ job. IsStart job (rows_of tables.databases) busy.unit)
         → AreParts system no_program tables' (followed system busy.code count states) (slice_set regions (region - 1) (Some busy))
     parts_taken tables' count is free start =
         rw is (by (queued_at busy.id tables.queues.queued) (job_of system busy.code) refl refl free start)
       where
         by : (found : Option Queued) (job : Option Job) → queued_at busy.id tables.queues.queued ≡ found → job_of system busy.code ≡ job
-            → IsSomeAnd found (λ q. q.holder ≡ None) → IsSomeAnd job (λ j. IsStart j busy.unit)
+            → IsSomeAnd found (λ q. q.holder ≡ None) → IsSomeAnd job (λ j. IsStart j (rows_of tables.databases) busy.unit)
             → AreParts system no_program (held tables busy.id region) (followed system busy.code count states) (slice_set regions (region - 1) (Some busy))
         by (Some q) (Some j) f g none s =
             let here : queued_at busy.id tables.queues.queued ≡ Some (record { message = q.message; holder = None }) = f ∙ ap (λ h. Some (record { message = q.message; holder = h })) none in
-            let work : IsWork system q.message busy = record { job = j; serves = g; ahead = s.ahead q.message.segments } in
+            let work : IsWork system (rows_of tables.databases) q.message busy = record { job = j; serves = g; ahead = s.ahead q.message.segments } in
             record {
               no_lines = parts.no_lines;
               limit = parts.limit;
@@ -94,8 +95,10 @@ module _ (system : System) (no_program : List ScriptLine) (tables : TablesState)
               few = rw (set_length regions (region - 1) (Some busy)) parts.few;
               states_are = followed_length system busy.code count states ∙ parts.states_are;
               told = take_told busy.id region tables.queues.queued regions (region - 1) busy empty refl parts.told;
-              at_work = subst (λ n. AreAtWork system (with_holder busy.id (Some n) tables.queues.queued) (slice_set regions (region - 1) (Some busy))) back
-                  (take_at_work system busy.id tables.queues.queued regions (region - 1) busy q.message empty refl here work parts.at_work);
+              at_work = subst (λ n. AreAtWork system (rows_of tables.databases) (with_holder busy.id (Some n) tables.queues.queued) (slice_set regions (region - 1) (Some busy))) back
+                  (take_at_work system (rows_of tables.databases) busy.id tables.queues.queued regions (region - 1) busy q.message empty refl here work parts.at_work);
+              dbds = parts.dbds;
+              alone = parts.alone;
             }
         by (Some q) None f g none s = absurd s
         by None job f g none s = absurd none
@@ -133,6 +136,6 @@ module _ (system : System) (no_program : List ScriptLine) (tables : TablesState)
         ∙ ap (λ n. slice_set (slots_of regions) (region - 1) (Some (record { code = busy.code; taken = n; id = busy.id; calls = busy.unit.calls }))) one
         ∙ ap (λ n. slice_set (slots_of regions) (region - 1) (Some (record { code = busy.code; taken = 1; id = busy.id; calls = n }))) none)
 
-pub calls_of : (job : Option Job) (unit : UnitState) → IsSomeAnd job (λ j. IsStart j unit) → unit.calls ≡ 0
-calls_of (Some j) unit h = h.calls
-calls_of None unit h = absurd h
+pub calls_of : (job : Option Job) (rows : List (List Row)) (unit : UnitState) → IsSomeAnd job (λ j. IsStart j rows unit) → unit.calls ≡ 0
+calls_of (Some j) rows unit h = h.calls
+calls_of None rows unit h = absurd h

@@ -1,15 +1,16 @@
 -- The parts of a control region as its calls see them, and what holds among them.
-use Rattle.std.specs.Prelude.{◌≡◌, ℕ, ◌+◌, ◌<◌, ◌^◌, Option, Some, None, List, [], length, map, slice_get}
+use Rattle.std.specs.Prelude.{◌≡◌, ◌⊎◌, ℕ, ◌+◌, ◌<◌, ◌≤◌, ◌^◌, Option, Some, None, List, [], length, map, slice_get}
 use Rattle.std.specs.Option.{is_some}
 use Rattle.std.specs.List.{AllByRecursion}
 use Rattle.tm_types.specs.declared.message.Message.{Message}
+use Rattle.model_rows.specs.declared.row.Row.{Row}
 use Rattle.model_queues.specs.declared.queued.Queued.{Queued}
 use Rattle.model_queues.specs.Queue.{queued_at}
 use Rattle.model_system.specs.declared.code_state.CodeState.{CodeState}
 use Rattle.model_system.specs.System.{System}
 use Rattle.model_machine.specs.Machine.{Moment, Slot, is_held}
 use Rattle.model_script.specs.declared.program.ScriptLine.{ScriptLine}
-use Rattle.tm_tables.specs.Tables.{TablesState}
+use Rattle.tm_tables.specs.Tables.{TablesState, dbds_of, rows_of}
 use Rattle.tm_parts.specs.declared.region.Busy.{Busy}
 use Rattle.tm_parts.specs.Region.{IsWork}
 
@@ -26,20 +27,20 @@ slot_of None = None
 abbrev pub slots_of : List (Option Busy) → List (Option Slot)
 slots_of regions = map slot_of regions
 
--- a region works on a message that the queues keep for it
-pub record IsAtWork (system : System) (queued : List Queued) (region : ℕ) (busy : Busy) : Type 0 where
+-- a region works on a message that the queues keep for it, on the rows that are committed
+pub record IsAtWork (system : System) (rows : List (List Row)) (queued : List Queued) (region : ℕ) (busy : Busy) : Type 0 where
   pub message : Message
   pub found : queued_at busy.id queued ≡ Some (record { message = message; holder = Some region })
-  pub work : IsWork system message busy
+  pub work : IsWork system rows message busy
 
 -- a message has a holder exactly where a slot has it
 abbrev pub IsTold : List (Option Slot) → List Queued → Type 0
 IsTold slots queued = AllByRecursion (λ q. is_held slots q.message.id ≡ is_some q.holder) queued
 
 -- each region that has a message is at work on it; regions are numbered from 1
-abbrev pub AreAtWork : System → List Queued → List (Option Busy) → Type 0
-AreAtWork system queued regions =
-    (place : ℕ) (busy : Busy) → slice_get regions place ≡ Some (Some busy) → IsAtWork system queued (place + 1) busy
+abbrev pub AreAtWork : System → List (List Row) → List Queued → List (Option Busy) → Type 0
+AreAtWork system rows queued regions =
+    (place : ℕ) (busy : Busy) → slice_get regions place ≡ Some (Some busy) → IsAtWork system rows queued (place + 1) busy
 
 pub record AreParts (system : System) (no_program : List ScriptLine) (tables : TablesState) (states : List CodeState) (regions : List (Option Busy)) : Type 0 where
   pub no_lines : no_program ≡ []
@@ -48,4 +49,7 @@ pub record AreParts (system : System) (no_program : List ScriptLine) (tables : T
   pub few : length regions < 2 ^ 32
   pub states_are : length states ≡ length system.codes
   pub told : IsTold (slots_of regions) tables.queues.queued
-  pub at_work : AreAtWork system tables.queues.queued regions
+  pub at_work : AreAtWork system (rows_of tables.databases) tables.queues.queued regions
+  pub dbds : dbds_of tables.databases ≡ system.databases
+  -- where there are databases, one region works
+  pub alone : (system.databases ≡ []) ⊎ (length system.regions ≤ 1)

@@ -2,25 +2,27 @@
 ghost use Rattle.std.specs.Prelude.{◌≡◌, ◌≤◌, ◌-◌, None, Some, length, slice_get, slice_set, OnOk, OnErr, IsSome, IsSomeAnd};
 ghost use Rattle.model_queues.specs.Queue.{queued_at};
 ghost use Rattle.tm_tables.specs.Tables.{IsFinished};
-ghost use Rattle.tm_parts.specs.Region.{reply_of};
+ghost use Rattle.tm_parts.specs.Region.{databases_of, reply_of};
 
-use crate::region::{Busy, put_reply, take_reply};
+use crate::region::{Busy, put_reply, take_databases, take_reply};
 use tm_tables::Tables;
 use tm_types::{Memory, Segments};
 
-/// Ends a region's work on the message of this id, which goes; its origin is sent the reply of the
-/// work. Want of memory changes nothing.
+/// Ends a region's work on the message of this id, which goes; the rows as the work has left them are
+/// committed, and its origin is sent the reply of the work. Want of memory changes nothing.
+#[tactic(auto, using(crate::proofs::Closed::closed))]
 fn close_one(region: &mut Option<Busy>, tables: &mut Tables, id: u64) -> Result<(), Memory>
     requires busy { IsSome region.old }
     requires found { IsSome (queued_at id tables.old.queues.queued) }
     ensures none { OnOk result (region.new ≡ None) }
-    ensures ok { OnOk result (IsFinished tables.old tables.new id (reply_of region.old)) }
+    ensures ok { OnOk result (IsFinished tables.old tables.new id (databases_of region.old) (reply_of region.old)) }
     ensures same { OnErr result (region.new ≡ region.old) }
     ensures err { OnErr result (tables.new ≡ tables.old) }
 {
     let reply = take_reply(region);
     match tables.finish(id, reply) {
         Ok(()) => {
+            tables.commit(take_databases(region));
             *region = None;
             Ok(())
         }
@@ -31,8 +33,8 @@ fn close_one(region: &mut Option<Busy>, tables: &mut Tables, id: u64) -> Result<
     }
 }
 
-/// Ends a region's work on the message of this id, which goes; its origin is sent this reply. Want of
-/// memory changes nothing.
+/// Ends a region's work on the message of this id, which goes; the committed rows stay, and its
+/// origin is sent this reply. Want of memory changes nothing.
 fn close_one_with(
     region: &mut Option<Busy>,
     tables: &mut Tables,
@@ -41,7 +43,7 @@ fn close_one_with(
 ) -> Result<(), Memory>
     requires found { IsSome (queued_at id tables.old.queues.queued) }
     ensures none { OnOk result (region.new ≡ None) }
-    ensures ok { OnOk result (IsFinished tables.old tables.new id reply) }
+    ensures ok { OnOk result (IsFinished tables.old tables.new id tables.old.databases reply) }
     ensures same { OnErr result (region.new ≡ region.old) }
     ensures err { OnErr result (tables.new ≡ tables.old) }
 {
@@ -66,7 +68,7 @@ pub fn close(
     requires busy { IsSomeAnd (slice_get regions.old (region - 1)) IsSome }
     requires found { IsSome (queued_at id tables.old.queues.queued) }
     ensures regions { OnOk result (regions.new ≡ slice_set regions.old (region - 1) None) }
-    ensures ok { OnOk result (IsSomeAnd (slice_get regions.old (region - 1)) (λ found. IsFinished tables.old tables.new id (reply_of found))) }
+    ensures ok { OnOk result (IsSomeAnd (slice_get regions.old (region - 1)) (λ found. IsFinished tables.old tables.new id (databases_of found) (reply_of found))) }
     ensures same { OnErr result (regions.new ≡ regions.old) }
     ensures err { OnErr result (tables.new ≡ tables.old) }
 {
@@ -85,7 +87,7 @@ pub fn close_with(
     requires defined { region ≤ length regions.old }
     requires found { IsSome (queued_at id tables.old.queues.queued) }
     ensures regions { OnOk result (regions.new ≡ slice_set regions.old (region - 1) None) }
-    ensures ok { OnOk result (IsFinished tables.old tables.new id reply) }
+    ensures ok { OnOk result (IsFinished tables.old tables.new id tables.old.databases reply) }
     ensures same { OnErr result (regions.new ≡ regions.old) }
     ensures err { OnErr result (tables.new ≡ tables.old) }
 {

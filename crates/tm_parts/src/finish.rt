@@ -56,7 +56,8 @@ impl Parts {
         Ok(Turned::Done(code, id))
     }
 
-    /// Completes a message whose script asks for a further one, and goes on with that.
+    /// Completes a message whose script asks for a further one, and goes on with that, on the rows
+    /// that the work on the first one leaves.
     fn go_on(&mut self, region: u32) -> Result<Turned, Memory>
         requires region { IsRegion self.old.system region }
         requires ends { EndsSo self.old region Syncs }
@@ -72,7 +73,13 @@ impl Parts {
         if taken >= COUNT_LIMIT {
             return Err(Memory);
         }
-        let Ok(unit) = start_unit(self.alloc, &self.system, &self.no_program, &code) else {
+        let Ok(unit) = start_unit(
+            self.alloc,
+            &self.system,
+            &self.no_program,
+            &code,
+            busy.unit.databases(),
+        ) else {
             return Err(Memory);
         };
         let count = count_busy(&self.regions);

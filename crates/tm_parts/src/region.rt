@@ -1,15 +1,16 @@
 //! What a region works on.
 ghost use Rattle.std.specs.Prelude.{◌≡◌, ◌≤◌, ◌-◌, None, slice_set, ◌<◌, ◌^◌, [], length, count_by, is_some, IfOk, OnErr, OnOk, IfSome, Some, IsSome, IsSomeAnd};
 ghost use Rattle.model_queues.specs.Queue.{message_at, queued_at, free_count};
-ghost use Rattle.tm_tables.specs.Tables.{held};
-ghost use Rattle.model_machine.specs.Machine.{lines_of, job_of, code_at, followed};
+ghost use Rattle.tm_tables.specs.Tables.{dbds_of, rows_of, held};
+ghost use Rattle.model_machine.specs.Machine.{lines_of, pcbs_of, job_of, code_at, followed};
 ghost use Rattle.tm_unit.specs.Ahead.{IsAhead, IsStart};
-ghost use Rattle.tm_parts.specs.Region.{IsQueuedWork, Steps, SameWork, reply_of, with_reply};
+ghost use Rattle.tm_parts.specs.Region.{IsQueuedWork, Steps, SameWork, databases_of, reply_of, with_reply};
 
 use crate::flags::follow;
 use crate::lookup::{find_code, find_program};
 use model_script::Program;
-use msg_queues::Queues;
+use model_system::Pcbs;
+use seg_rows::PlainRows;
 use std::alloc::Global;
 use sysdef_check::{Codes, System};
 use tm_tables::Tables;
@@ -38,50 +39,72 @@ fn script_of<'a>(system: &'a System, no_program: &'a Program, psb: &Name) -> &'a
     }
 }
 
-/// The work on a message of a code, whose script has made no call yet.
+/// The PCBs of a PSB; one without a program has none.
+fn pcbs_of<'a>(system: &'a System, no_pcbs: &'a Pcbs, psb: &Name) -> &'a Pcbs
+    requires { no_pcbs.now ≡ [] }
+    ensures { result.now ≡ pcbs_of system.now psb.now }
+{
+    match find_program(system.programs(), psb) {
+        Some(program) => &program.pcbs,
+        None => no_pcbs,
+    }
+}
+
+/// The work on a message of a code, whose script has made no call yet, on a copy of these rows.
 pub fn start_unit(
     alloc: Global,
     system: &System,
     no_program: &Program,
     code: &Name,
+    databases: &[PlainRows],
 ) -> Result<Unit, Memory>
     requires program { no_program.now ≡ [] }
     requires code { IsSome (code_at system.now.codes code.now) }
-    ensures { IfOk result (λ unit. IsSomeAnd (job_of system.now code.now) (λ job. IsStart job unit)) }
+    requires databases { dbds_of databases.now ≡ system.now.databases }
+    ensures { IfOk result (λ unit. IsSomeAnd (job_of system.now code.now) (λ job. IsStart job (rows_of databases.now) unit)) }
 {
     let Some(code) = find_code(system.codes(), code.as_bytes()) else {
         unreachable!()
     };
     let program = script_of(system, no_program, &code.psb);
-    Unit::start(alloc, &code.transaction, program)
+    let no_pcbs = Pcbs::new(alloc);
+    let pcbs = pcbs_of(system, &no_pcbs, &code.psb);
+    Unit::start(alloc, &code.transaction, program, pcbs, databases)
 }
 
 /// Lets the script of a region go on to its next call, and answers that; nothing where the region
 /// is empty. After want of memory the work is as far as before.
 pub fn advance(
+    alloc: Global,
     system: &System,
     no_program: &Program,
-    queues: &Queues,
+    tables: &Tables,
     region: &mut Option<Busy>,
 ) -> Result<Option<Advanced>, Memory>
     requires program { no_program.now ≡ [] }
-    requires work { IfSome region.old (IsQueuedWork system.now queues.now.queued) }
-    ensures steps { IfOk result (Steps system.now queues.now.queued region.old region.new) }
-    ensures err { OnErr result (SameWork system.now queues.now.queued region.old region.new) }
+    requires work { IfSome region.old (IsQueuedWork system.now tables.now) }
+    ensures steps { IfOk result (Steps system.now tables.now region.old region.new) }
+    ensures err { OnErr result (SameWork system.now tables.now region.old region.new) }
 {
     let Some(busy) = region else {
         return Ok(None);
     };
-    let Some(message) = queues.find(busy.id) else {
+    let Some(message) = tables.queues().find(busy.id) else {
         unreachable!()
     };
     let Some(code) = find_code(system.codes(), busy.code.as_bytes()) else {
         unreachable!()
     };
     let program = script_of(system, no_program, &code.psb);
-    let advanced = busy
-        .unit
-        .advance(&code.transaction, program, &message.segments)?;
+    let no_pcbs = Pcbs::new(alloc);
+    let pcbs = pcbs_of(system, &no_pcbs, &code.psb);
+    let advanced = busy.unit.advance(
+        &code.transaction,
+        program,
+        pcbs,
+        system.databases(),
+        &message.segments,
+    )?;
     Ok(Some(advanced))
 }
 
@@ -103,6 +126,23 @@ pub fn take_reply(region: &mut Option<Busy>) -> Segments
         Some(busy) => take_from(busy),
         None => unreachable!(),
     }
+}
+
+/// Takes the databases, as a region's work has left them, out of it.
+pub fn take_databases(region: &mut Option<Busy>) -> Vec<PlainRows>
+    requires { IsSome region.old }
+    ensures { result.items ≡ databases_of region.old }
+{
+    match region {
+        Some(busy) => databases_from(busy),
+        None => unreachable!(),
+    }
+}
+
+fn databases_from(busy: &mut Busy) -> Vec<PlainRows>
+    ensures { result.items ≡ busy.old.unit.databases.databases }
+{
+    busy.unit.take_databases()
 }
 
 fn take_from(busy: &mut Busy) -> Segments

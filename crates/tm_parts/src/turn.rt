@@ -41,9 +41,10 @@ impl Parts {
         ensures err { OnErr result (self.new ≡ self.old) }
     {
         advance(
+            self.alloc,
             &self.system,
             &self.no_program,
-            self.tables.queues(),
+            &self.tables,
             &mut self.regions[region as usize - 1],
         )
     }
@@ -74,7 +75,13 @@ impl Parts {
             return Ok(Turned::Held(need, limit));
         }
         let (code, id) = (picked.code, picked.id);
-        let unit = match start_unit(self.alloc, &self.system, &self.no_program, &code) {
+        let unit = match start_unit(
+            self.alloc,
+            &self.system,
+            &self.no_program,
+            &code,
+            self.tables.databases(),
+        ) {
             Ok(unit) => unit,
             Err(error) => return Err(error),
         };

@@ -12,13 +12,13 @@ pub finished_is : (old : TablesState) (queues : QueuesState) (outputs : List Ter
     → Some message ≡ message_at id old.queues.queued
     → queues ≡ record old.queues { queued = without id old.queues.queued }
     → outputs ≡ replied old.outputs message.origin reply
-    → IsFinished old (record { queues = queues; next_id = old.next_id; inputs = old.inputs; outputs = outputs; steps = old.steps + 1 }) id reply
+    → IsFinished old (record { databases = old.databases; queues = queues; next_id = old.next_id; inputs = old.inputs; outputs = outputs; steps = old.steps + 1 }) id old.databases reply
 finished_is old queues outputs id reply message found left sent =
     rw (sym found) (
       same,
-      ap (λ q. record { queues = q; next_id = old.next_id; inputs = old.inputs; outputs = outputs; steps = old.steps + 1 }) left
-          ∙ ap (λ o. record { queues = record old.queues { queued = without id old.queues.queued }; next_id = old.next_id; inputs = old.inputs; outputs = o; steps = old.steps + 1 }) sent
-          ∙ ap (λ n. record { queues = record old.queues { queued = without n old.queues.queued }; next_id = old.next_id; inputs = old.inputs; outputs = replied old.outputs message.origin reply; steps = old.steps + 1 }) (sym same),
+      ap (λ q. record { databases = old.databases; queues = q; next_id = old.next_id; inputs = old.inputs; outputs = outputs; steps = old.steps + 1 }) left
+          ∙ ap (λ o. record { databases = old.databases; queues = record old.queues { queued = without id old.queues.queued }; next_id = old.next_id; inputs = old.inputs; outputs = o; steps = old.steps + 1 }) sent
+          ∙ ap (λ n. record { databases = old.databases; queues = record old.queues { queued = without n old.queues.queued }; next_id = old.next_id; inputs = old.inputs; outputs = replied old.outputs message.origin reply; steps = old.steps + 1 }) (sym same),
     )
   where
     same : message.id ≡ id

@@ -7,14 +7,16 @@ ghost use Rattle.model_queues.specs.Outputs.{fresh_terminal};
 ghost use Rattle.model_queues.specs.Room.{input_needs};
 ghost use Rattle.model_machine.specs.Machine.{content, input_at, output_at, empty_state};
 ghost use Rattle.model_machine.specs.Steps.{replied, finished_state, accepted_state, removed_state, ack_by, show_by};
-ghost use Rattle.tm_tables.specs.Tables.{lasting_of, acknowledged, held, IsEnqueued, IsFinished};
+ghost use Rattle.tm_tables.specs.Tables.{dbds_of, lasting_of, acknowledged, held, IsEnqueued, IsFinished};
 ghost use Rattle.tm_tables.specs.Showing.{IsShown};
 
 use crate::Shown;
+use crate::databases::{empty_databases, empty_rows};
 use crate::inputs::{find_input, fresh_inputs, note_input};
 use model_machine::{AckAnswer, Lasting, TerminalInput};
 use msg_queues::{QueueRefused, Queues};
 use out_queues::{AckAhead, Acked, Outputs, fresh_terminals};
+use seg_rows::PlainRows;
 use std::alloc::Global;
 use std::marker::Model;
 use sysdef_check::System;
@@ -35,9 +37,11 @@ const BYTE_LIMIT: u64 = 1 << 60;
 /// Nor does any other count pass this one.
 pub const COUNT_LIMIT: u64 = 1 << 60;
 
-/// The messages, the replies, and the numbers of inputs and lasting steps.
+/// The committed rows, the messages, the replies, and the numbers of inputs and lasting steps.
 #[derive(Debug, Drop)]
 pub struct Tables {
+    /// Each database with the rows that are committed.
+    databases: Vec<PlainRows>,
     /// The messages, each with the region that works on it.
     queues: Queues,
     next_id: u64,
@@ -55,7 +59,7 @@ impl Model for Tables {
 
     ghost Value = { TablesState };
 
-    ghost view = { λ t. record { queues = t.queues; next_id = t.next_id; inputs = t.inputs.items; outputs = t.outputs; steps = t.steps } };
+    ghost view = { λ t. record { databases = t.databases.items; queues = t.queues; next_id = t.next_id; inputs = t.inputs.items; outputs = t.outputs; steps = t.steps } };
 
     ghost invariant = { λ t. IsNewId t.next_id t.queues.queued };
 }
@@ -65,8 +69,10 @@ impl Tables {
     pub fn new(alloc: Global, system: &System) -> Result<Tables, Memory>
         ensures lasting { IfOk result (λ tables. lasting_of tables ≡ empty_state system.now) }
         ensures queues { IfOk result (λ tables. tables.queues ≡ record { limit = system.now.qbytes; queued = [] }) }
+        ensures databases { IfOk result (λ tables. dbds_of tables.databases ≡ system.now.databases) }
     {
         Ok(Tables {
+            databases: empty_databases(alloc, system.databases())?,
             queues: Queues::new(alloc, system.qbytes()),
             next_id: 1,
             inputs: fresh_inputs(alloc, system.terminals())?,
@@ -91,6 +97,20 @@ impl Tables {
             Some(input) => Some(input.last),
             None => None,
         }
+    }
+
+    /// The databases with the rows that are committed.
+    pub fn databases(&self) -> &[PlainRows]
+        ensures { result.now ≡ self.now.databases }
+    {
+        &self.databases
+    }
+
+    /// The rows of these databases are committed. This takes no memory.
+    pub fn commit(&mut self, databases: Vec<PlainRows>)
+        ensures { self.new ≡ record self.old { databases = databases.items } }
+    {
+        self.databases = databases;
     }
 
     /// The messages, each with the region that works on it.
@@ -156,11 +176,11 @@ impl Tables {
         self.queues.hold(id, region);
     }
 
-    /// Removes a message, and sends a reply to its origin. Where no memory is left the reply comes
+    /// Removes a message, and sends a reply to its origin; the committed rows stay. Where no memory is left the reply comes
     /// back, and nothing has changed.
     pub fn finish(&mut self, id: u64, reply: Segments) -> Result<(), Segments>
         requires { IsSome (queued_at id self.old.queues.queued) }
-        ensures ok { OnOk result (IsFinished self.old self.new id reply) }
+        ensures ok { OnOk result (IsFinished self.old self.new id self.old.databases reply) }
         ensures back { IfErr result (λ back. back ≡ reply) }
         ensures err { OnErr result (self.new ≡ self.old) }
     {
@@ -195,6 +215,7 @@ impl Tables {
         ensures answer { IfOk result (λ answer. answer ≡ ack_by (output_at self.old.outputs terminal.now) number) }
         ensures ok { IfOk result (λ answer. lasting_of self.new ≡ acknowledged answer terminal.now (lasting_of self.old)) }
         ensures queues { self.new.queues ≡ self.old.queues }
+        ensures databases { self.new.databases ≡ self.old.databases }
         ensures err { OnErr result (self.new ≡ self.old) }
     {
         if self.outputs.terminal(terminal).is_none() {
@@ -261,6 +282,7 @@ pub fn empty_lasting(alloc: Global, system: &System) -> Result<Lasting, Memory>
     ensures { IfOk result (λ lasting. lasting ≡ empty_state system.now) }
 {
     Ok(Lasting {
+        rows: empty_rows(alloc, system.databases())?,
         messages: Vec::new(alloc),
         next_id: 1,
         inputs: fresh_inputs(alloc, system.terminals())?,

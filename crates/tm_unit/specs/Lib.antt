@@ -1,2 +1,3 @@
 pub mod UnitState
+pub mod Answering
 pub mod Ahead

@@ -3,4 +3,5 @@
 
 pub use unit::{Advanced, Ending, Unit};
 
+mod answer;
 mod unit;

@@ -1,14 +1,17 @@
-ghost use Rattle.std.specs.Prelude.{◌≡◌, [], IfOk, IsOk, IsSome, OnErr, slice_get};
-ghost use Rattle.tm_types.specs.Segment.{IsSegmentText};
-ghost use Rattle.model_machine.specs.Unit.{is_sync, given, status_alone};
-ghost use Rattle.tm_unit.specs.Ahead.{IsAhead, IsStart, Advances, Answers, Inserts, work_of, answered_machine};
+ghost use Rattle.std.specs.Prelude.{◌≡◌, [], IfOk, OnErr, map};
+ghost use Rattle.model_machine.specs.Unit.{is_sync};
+ghost use Rattle.tm_unit.specs.UnitState.{work_of};
+ghost use Rattle.tm_unit.specs.Ahead.{IsStart, GoesOn, StaysAhead, HasDatabases};
 
+use crate::answer::CallEnd;
 use model_script::{CallText, Need, Program};
-use model_system::Transaction;
+use model_system::{Pcbs, Transaction};
 use script_run::Machine;
+use seg_rows::PlainRows;
 use std::alloc::Global;
 use std::marker::Model;
-use tm_types::{AbendCode, Function, Memory, Segment, Segments, Status};
+use tm_data::UnitData;
+use tm_types::{AbendCode, Dbd, Function, Memory, Segments, Status};
 
 /// How the work on a message ends.
 #[derive(Clone, Copy, Debug)]
@@ -33,16 +36,18 @@ pub enum Advanced {
 /// The work of a region on one message, between two turns.
 #[derive(Debug, Drop)]
 pub struct Unit {
-    alloc: Global,
+    pub(crate) alloc: Global,
     /// How many calls the script has made.
-    calls: u64,
-    machine: Machine,
+    pub(crate) calls: u64,
+    pub(crate) machine: Machine,
     /// Whether the script has got the message.
-    begun: bool,
+    pub(crate) begun: bool,
     /// How many of the message's segments were given.
-    place: usize,
+    pub(crate) place: usize,
     /// What was inserted into the reply.
-    reply: Segments,
+    pub(crate) reply: Segments,
+    /// The databases, as the work has changed them.
+    pub(crate) databases: UnitData,
 }
 
 impl Model for Unit {
@@ -50,25 +55,31 @@ impl Model for Unit {
 
     ghost Value = { UnitState };
 
-    ghost view = { λ u. record { calls = u.calls; machine = u.machine; begun = u.begun; place = u.place; reply = u.reply } };
+    ghost view = { λ u. record { calls = u.calls; machine = u.machine; begun = u.begun; place = u.place; reply = u.reply; databases = u.databases } };
 }
 
 impl Unit {
-    /// The work on a message of this code, whose script has made no call yet.
+    /// The work on a message of this code, whose script has made no call yet, on the rows that are
+    /// committed. It works on a copy of them.
     pub fn start(
         alloc: Global,
         transaction: &Transaction,
         program: &Program,
+        pcbs: &Pcbs,
+        committed: &[PlainRows],
     ) -> Result<Unit, Memory>
-        ensures { IfOk result (IsStart (record { transaction = transaction.now; lines = program.now })) }
+        ensures { IfOk result (IsStart (record { transaction = transaction.now; lines = program.now; pcbs = pcbs.now; databases = map (λ d. d.dbd) committed.now }) (map (λ d. d.rows) committed.now)) }
     {
+        let machine = Machine::new(alloc, program, u32::from(transaction.statement_limit))?;
+        let databases = UnitData::start(alloc, committed, pcbs.len())?;
         Ok(Unit {
             alloc,
             calls: 0,
-            machine: Machine::new(alloc, program, u32::from(transaction.statement_limit))?,
+            machine,
             begun: false,
             place: 0,
             reply: Segments::new(alloc),
+            databases,
         })
     }
 
@@ -85,12 +96,14 @@ impl Unit {
         &mut self,
         transaction: &Transaction,
         program: &Program,
+        pcbs: &Pcbs,
+        databases: &[Dbd],
         segments: &Segments,
     ) -> Result<Advanced, Memory>
-        requires ahead { IsAhead (record { transaction = transaction.now; lines = program.now }) segments.now self.old }
-        ensures advances { IfOk result (Advances (record { transaction = transaction.now; lines = program.now }) segments.now self.old self.new) }
+        requires databases { HasDatabases pcbs.now databases.now self.old }
+        ensures advances { IfOk result (GoesOn (record { transaction = transaction.now; lines = program.now; pcbs = pcbs.now; databases = databases.now }) segments.now self.old self.new) }
         ensures calls { OnErr result (self.new.calls ≡ self.old.calls) }
-        ensures ahead { OnErr result (IsAhead (record { transaction = transaction.now; lines = program.now }) segments.now self.new) }
+        ensures ahead { OnErr result (StaysAhead (record { transaction = transaction.now; lines = program.now; pcbs = pcbs.now; databases = databases.now }) segments.now self.old self.new) }
     {
         if self.calls == u64::MAX {
             return Err(Memory);
@@ -106,11 +119,13 @@ impl Unit {
                 if self.is_sync(&call) {
                     return Ok(Advanced::Ended(Ending::Sync));
                 }
-                match self.answer(transaction, segments, &call) {
-                    Ok(status) => {
+                let (function, pcb) = (call.function, call.pcb);
+                match self.answer(transaction, pcbs, databases, segments, call) {
+                    Ok(CallEnd::Answered(status)) => {
                         self.calls += 1;
-                        Ok(Advanced::Called(call.function, call.pcb, status))
+                        Ok(Advanced::Called(function, pcb, status))
                     }
+                    Ok(CallEnd::Abended(abend)) => Ok(Advanced::Ended(Ending::Abend(abend))),
                     Err(error) => Err(error),
                 }
             }
@@ -124,86 +139,19 @@ impl Unit {
         self.begun && call.pcb == 0 && call.function == Function::GU
     }
 
-    /// Does a call of the script, and answers it. Want of memory changes nothing.
-    fn answer(
-        &mut self,
-        transaction: &Transaction,
-        segments: &Segments,
-        call: &CallText,
-    ) -> Result<Status, Memory>
-        requires waits { IsSome self.old.machine.waiting }
-        requires text { IsSegmentText call.now.area }
-        ensures ok { IfOk result (Answers (record { transaction = transaction.now; lines = [] }) segments.now self.old self.new call.now) }
-        ensures err { OnErr result (self.new ≡ self.old) }
+    /// The databases, as the work has changed them.
+    pub fn databases(&self) -> &[PlainRows]
+        ensures { result.now ≡ self.now.databases.databases }
     {
-        if call.pcb != 0 {
-            return self.tell(Status::AM);
-        }
-        match call.function {
-            Function::GU => {
-                let status = self.give(segments, 0)?;
-                self.begun = true;
-                self.place = 1;
-                Ok(status)
-            }
-            Function::GN => {
-                if !self.begun {
-                    return self.tell(Status::QD);
-                }
-                let status = self.give(segments, self.place)?;
-                if self.place < segments.len() {
-                    self.place += 1;
-                }
-                Ok(status)
-            }
-            Function::ISRT => self.insert(transaction, call.area.as_slice()),
-            _ => self.tell(Status::AM),
-        }
+        self.databases.databases()
     }
 
-    /// Adds a segment to the reply, or refuses it, and answers the script's call.
-    fn insert(&mut self, transaction: &Transaction, text: &[u8]) -> Result<Status, Memory>
-        requires waits { IsSome self.old.machine.waiting }
-        requires text { IsSegmentText text.now }
-        ensures ok { IfOk result (Inserts transaction.now text.now self.old self.new) }
-        ensures err { OnErr result (self.new ≡ self.old) }
+    /// Takes the databases out of the work, as it has changed them.
+    pub fn take_databases(&mut self) -> Vec<PlainRows>
+        ensures databases { result.items ≡ self.old.databases.databases }
+        ensures rest { self.new ≡ record self.old { databases = record self.old.databases { databases = [] } } }
     {
-        if text.len() + 4 > usize::from(transaction.segment_size) {
-            return self.tell(Status::A6);
-        }
-        if self.reply.len() >= usize::from(transaction.segment_count) {
-            return self.tell(Status::A7);
-        }
-        let Ok(segment) = Segment::make(self.alloc, text) else {
-            return Err(Memory);
-        };
-        self.reply.push(segment)?;
-        self.tell(Status::Blank)
-    }
-
-    /// Answers the script's call with a status alone.
-    fn tell(&mut self, status: Status) -> Result<Status, Memory>
-        requires waits { IsSome self.old.machine.waiting }
-        ensures ok { IfOk result (λ told. (told ≡ status) × (self.new ≡ record self.old { machine = answered_machine self.old.machine (status_alone status) })) }
-        ensures always { IsOk result }
-    {
-        self.machine.answer(status, None)?;
-        Ok(status)
-    }
-
-    /// Answers the script's call with the segment at this place, or with QD where there is none.
-    fn give(&mut self, segments: &Segments, place: usize) -> Result<Status, Memory>
-        requires waits { IsSome self.old.machine.waiting }
-        ensures ok { IfOk result (λ status. (status ≡ (given (slice_get segments.now place)).status) × (self.new ≡ record self.old { machine = answered_machine self.old.machine (given (slice_get segments.now place)) })) }
-        ensures err { OnErr result (self.new ≡ self.old) }
-    {
-        match segments.get(place) {
-            Some(segment) => {
-                self.machine.answer(Status::Blank, Some(segment.text()))?;
-                Ok(Status::Blank)
-            }
-            None => self.tell(Status::QD),
-        }
+        self.databases.take_databases()
     }
 
     /// Takes the reply out of the work.

@@ -11,7 +11,7 @@ use Rattle.tm_tables.specs.Tables.{lasting_of, IsFinished}
 use Rattle.tm_parts.specs.declared.region.Busy.{Busy}
 use Rattle.tm_parts.specs.Parts.{slots_of}
 use Rattle.tm_parts.proofs.Started.{followed_length}
-use Rattle.tm_parts.proofs.Finished.{id_there, parts_closed, point_is, may_done, after_done, parts_next, after_next, start_calls, closed_with, whole_one}
+use Rattle.tm_parts.proofs.Finished.{id_there, parts_closed, point_is, may_done, after_done, parts_next, after_next, closed_with, whole_one}
 use Rattle.tm_parts.proofs.parts.Parts.go_on.Goals as goal
 
 pub close-requires-clause-found : goal.close-requires-clause-found
@@ -117,4 +117,4 @@ returns-clause-after c =
     c.take.ensures.codes
     ∙ after_next c.self.inside.system c.self.inside.no_program c.self.inside.tables c.self.inside.codes c.self.inside.regions.items c.args.region c.self.invariant c.busy_at-busy.result.now e
     c.close.new.tables c.take.new.tables new finished c.take.ensures.tables refl (rw (← c.self.view_is) at c.requires.region).0 c.in-Some.ensures.free c.in-Ok.ensures
-    refl (start_calls (job_of c.self.inside.system c.busy_at-busy.result.now.code) c.in-Ok.unit c.in-Ok.ensures))
+    refl (calls_of (job_of c.self.inside.system c.busy_at-busy.result.now.code) c.in-Ok.unit c.in-Ok.ensures))

@@ -13,6 +13,6 @@ invariant_of-self-2 c =
 pub returns-clause-ok : goal.returns-clause-ok
 returns-clause-ok c =
     rw (sym c.self.view_is)
-    (finished_is (record { queues = c.self.inside.queues; next_id = c.self.inside.next_id; inputs = c.self.inside.inputs.items; outputs = c.self.inside.outputs; steps = c.self.inside.steps })
+    (finished_is (record { databases = c.self.inside.databases.items; queues = c.self.inside.queues; next_id = c.self.inside.next_id; inputs = c.self.inside.inputs.items; outputs = c.self.inside.outputs; steps = c.self.inside.steps })
     c.remove.new.self c.send.new.outputs c.args.id c.args.reply c.in-Some.message.now
     c.in-Some.ensures c.remove.ensures c.in_ok-send.ensures.ok)
