@@ -1,7 +1,6 @@
 -- What a call on a unit's databases answers and leaves.
-use Rattle.std.specs.Prelude.{◌≡◌, ℕ, ◌-◌, List, Option, None, Some, IfSome, slice_set}
+use Rattle.std.specs.Prelude.{◌≡◌, ℕ, List, Option, None, Some, IfSome}
 use Rattle.tm_types.specs.declared.abend.AbendCode.{AbendCode}
-use Rattle.tm_types.specs.declared.dbd.Dbd.{Dbd}
 use Rattle.tm_types.specs.Segment.{IsSegmentText}
 use Rattle.model_rows.specs.Rows.{Database}
 use Rattle.model_dli.specs.Data.{Data, with_changed, data_after}

@@ -36,11 +36,7 @@ impl Model for UnitData {
 
 impl UnitData {
     /// A copy of these databases, for a program with so many PCBs.
-    pub fn start(
-        alloc: Global,
-        committed: &[PlainRows],
-        pcbs: usize,
-    ) -> Result<UnitData, Memory>
+    pub fn start(alloc: Global, committed: &[PlainRows], pcbs: usize) -> Result<UnitData, Memory>
         ensures databases { IfOk result (λ u. u.databases ≡ committed.now) }
         ensures positions { IfOk result (λ u. u.positions ≡ replicate pcbs nowhere) }
         ensures changed { IfOk result (λ u. u.changed ≡ []) }

@@ -1,5 +1,5 @@
 //! Whether a call can be made as it stands. For a system that was checked it always can.
-ghost use Rattle.std.specs.Prelude.{◌≡◌, ◌≤◌, length, IsTrue, IfSome};
+ghost use Rattle.std.specs.Prelude.{◌≡◌, ◌↔◌, ◌≤◌, length, IsTrue, IfSome};
 ghost use Rattle.std.specs.List.{list_all};
 ghost use Rattle.std.specs.Option.{option_copied};
 ghost use Rattle.tm_types.specs.Segment.{IsSegmentText, is_printable};
@@ -125,7 +125,7 @@ fn place_named(types: &[SegType], name: &Name) -> Option<usize>
 /// Whether the data that a get gives is the text of a segment. For a system that was checked it
 /// always is: each row of a database is printable, and as long as its type, at most 1,996 bytes.
 pub fn is_text_or_none(area: Option<&Bytes>) -> bool
-    ensures { IsTrue result → IfSome (option_copied area.entry) IsSegmentText }
+    ensures { IsTrue result ↔ IfSome (option_copied area.entry) IsSegmentText }
 {
     match area {
         Some(bytes) => is_text(bytes.as_slice()),
@@ -134,7 +134,7 @@ pub fn is_text_or_none(area: Option<&Bytes>) -> bool
 }
 
 fn is_text(bytes: &[u8]) -> bool
-    ensures { IsTrue result → IsSegmentText bytes.now }
+    ensures { IsTrue result ↔ IsSegmentText bytes.now }
 {
     bytes.len() <= 1996 && are_printable(bytes)
 }

@@ -154,10 +154,7 @@ fn limit_abend(limit: RowsLimit) -> AbendCode
 fn is_changed(number: u8, root: &Key, changed: &[(u8, Key)]) -> bool
     ensures { result ≡ is_changed number root.now changed.now }
 {
-    for entry in changed {
-        if entry.0 == number && entry.1 == *root {
-            return true;
-        }
-    }
-    false
+    changed
+        .iter()
+        .any(|entry| entry.0 == number && entry.1 == *root)
 }
