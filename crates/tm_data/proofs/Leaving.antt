@@ -76,10 +76,11 @@ leaves_by : {E : Type 0} (r : Result DataAnswer E) (number pcb : ℕ) (d : DliRe
     (changed : List (ℕ × List ℕ)) → IsSound old.rows d → old ≡ get_or u.databases (number - 1) old
     → IfOk r (Gives d) → IfOk r (λ a. new ≡ rows_left d old a) → IfOk r (λ a. changed ≡ changed_left number d u.changed a)
     → IfOk r (Leaves number pcb d u (after u (number - 1) new changed))
-leaves_by (Ok (Answered a)) number pcb d u old new changed sound is gives e f = (
-  rows_left_are number pcb d u old new changed e f,
-  data_leaves_all number d u old new changed a.area sound gives.1 is e f,
-)
+leaves_by (Ok (Answered a)) number pcb d u old new changed sound is gives e f =
+    record {
+      unmoved = rows_left_are number pcb d u old new changed e f;
+      same = data_leaves_all number d u old new changed a.area sound gives.area is e f;
+    }
 leaves_by (Ok (Abend code)) number pcb d u old new changed sound is gives e f = nothing_left (number - 1) u old new changed is e f
 leaves_by (Err e) number pcb d u old new changed sound is gives kept_rows f = tt
 

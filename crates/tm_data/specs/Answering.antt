@@ -6,6 +6,7 @@ use Rattle.model_rows.specs.Rows.{Database}
 use Rattle.model_dli.specs.Data.{Data, with_changed, data_after}
 use Rattle.model_dli.specs.Dli.{DliResult}
 use Rattle.tm_data.specs.State.{UnitDataState, data_of}
+use Rattle.tm_data.specs.declared.answer.Answered as answer
 use Rattle.tm_data.specs.declared.answer.DataAnswer.{DataAnswer}
 use Rattle.tm_data.specs.declared.answer.DataAnswer.TheVariants.{Answered, Abend}
 
@@ -14,20 +15,30 @@ abbrev pub abend_of : DataAnswer → Option AbendCode
 abend_of (Answered a) = None
 abend_of (Abend code) = Some code
 
--- an answered call says what the definition says, and its data is the text of a segment
+-- an answer is that of the definition, and its data is the text of a segment
+pub record IsAnswer (d : DliResult) (a : answer.Answered) : Type 0 where
+  pub status : a.status ≡ d.status
+  pub area : a.area ≡ d.area
+  pub position : a.position ≡ d.position
+  pub text : IfSome a.area IsSegmentText
+
 abbrev pub Gives : DliResult → DataAnswer → Type 0
-Gives d (Answered a) =
-    (a.status ≡ d.status) × (a.area ≡ d.area) × (a.position ≡ d.position) × IfSome a.area IsSegmentText
+Gives d (Answered a) = IsAnswer d a
 Gives d (Abend code) = Unit {0}
 
 -- the databases after a call that is answered, while the PCB still stands where it stood
 abbrev pub data_unmoved : ℕ → ℕ → Data → DliResult → Data
 data_unmoved number pcb before d = record (data_after number pcb before d) { positions = before.positions }
 
--- what a call leaves: an abend changes nothing, nor does a call that gives data
+-- an answered call leaves the databases as its definition does, and a call that gives data leaves
+-- all as it was
+pub record IsLeft (number pcb : ℕ) (d : DliResult) (old new : UnitDataState) (a : answer.Answered) : Type 0 where
+  pub unmoved : data_of new ≡ data_unmoved number pcb (data_of old) d
+  pub same : IfSome a.area (λ text. new ≡ old)
+
+-- what a call leaves; an abend changes nothing
 abbrev pub Leaves : ℕ → ℕ → DliResult → UnitDataState → UnitDataState → DataAnswer → Type 0
-Leaves number pcb d old new (Answered a) =
-    (data_of new ≡ data_unmoved number pcb (data_of old) d) × IfSome a.area (λ text. new ≡ old)
+Leaves number pcb d old new (Answered a) = IsLeft number pcb d old new a
 Leaves number pcb d old new (Abend code) = new ≡ old
 
 -- the rows of the one database that a call is made on, after it

@@ -56,6 +56,21 @@ impl UnitData {
         self.positions.len()
     }
 
+    /// The databases, as they are now.
+    pub fn databases(&self) -> &[PlainRows]
+        ensures { result.now ≡ self.now.databases }
+    {
+        &self.databases
+    }
+
+    /// The records that were changed, each once, in the order of their first changes: the number of
+    /// the database, counted from 1, and the key of the root.
+    pub fn changed(&self) -> &[(u8, Key)]
+        ensures { result.now ≡ self.now.changed }
+    {
+        &self.changed
+    }
+
     /// Makes a call on the database of this number, by the PCB of this number, both counted from 1.
     ///
     /// Rows and changed records are then as the call leaves them; where the PCB stands after the
@@ -77,6 +92,7 @@ impl UnitData {
         ensures gives { IfOk result (Gives (data_call dbd.now number pcb call.now (data_of self.old))) }
         ensures leaves { IfOk result (Leaves number pcb (data_call dbd.now number pcb call.now (data_of self.old)) self.old self.new) }
         ensures databases { dbds_of self.new ≡ dbds_of self.old }
+        ensures positions { self.new.positions ≡ self.old.positions }
         ensures kept { OnErr result (self.new ≡ self.old) }
     {
         let place = number as usize - 1;
