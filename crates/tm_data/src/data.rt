@@ -97,6 +97,7 @@ impl UnitData {
     {
         let place = number as usize - 1;
         let at = &self.positions[pcb as usize - 1];
+        // This never fails for a system that was checked.
         if !may_call(&dbd.types, at, call) {
             return Err(Memory);
         }

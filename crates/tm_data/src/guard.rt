@@ -11,10 +11,13 @@ use model_dli::{DbCall, Position};
 use model_rows::Path;
 use tm_types::{Bytes, Function, Key, KeyTest, Name, SegType, SegTypes, Ssa, is_printable};
 
+/// The most bytes of a segment's text.
+const TEXT_LIMIT: usize = 1996;
+
 /// Whether this call can be made by a PCB that stands here: there are at most 255 types, the PCB
 /// stands at paths of them, and the arguments of an ISRT are in order.
 ///
-/// For a system that was checked this never fails.
+/// For a system that was checked this is always so.
 pub fn may_call(types: &SegTypes, at: &Position, call: &DbCall) -> bool
     requires { IsTrue (list_all is_printable call.now.area) }
     ensures types { IsTrue result → length types.now ≤ 255 }
@@ -136,10 +139,10 @@ pub fn is_text_or_none(area: Option<&Bytes>) -> bool
 fn is_text(bytes: &[u8]) -> bool
     ensures { IsTrue result ↔ IsSegmentText bytes.now }
 {
-    bytes.len() <= 1996 && are_printable(bytes)
+    bytes.len() <= TEXT_LIMIT && are_printable(bytes)
 }
 
-fn are_printable(bytes: &[u8]) -> bool
+pub fn are_printable(bytes: &[u8]) -> bool
     ensures { result ≡ list_all is_printable bytes.now }
 {
     bytes.iter().all(|&byte| is_printable(byte))

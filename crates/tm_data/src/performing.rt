@@ -41,6 +41,7 @@ pub fn perform_at(
     let mut position = copied(at)?;
     match perform(alloc, dbd, call, &mut position, rows) {
         Ok(performed) => {
+            // This never fails for a system that was checked.
             if !is_text_or_none(performed.area.as_ref()) {
                 return Err(Memory);
             }
