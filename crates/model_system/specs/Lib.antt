@@ -1,3 +1,4 @@
 pub mod Pcbs
 pub mod System
 pub mod CodeStates
+pub mod Valid

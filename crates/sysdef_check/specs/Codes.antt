@@ -1,5 +1,5 @@
 -- The states of codes.
-use Rattle.std.specs.Prelude.{ℕ, Bool, false, List, [], ◌∷◌, zero, suc}
+use Rattle.std.specs.Prelude.{ℕ, Bool, false, List}
 use Rattle.std.specs.Str.{bytes_eq}
 pub use Rattle.model_system.specs.CodeStates.{with_raised}
 use Rattle.model_system.specs.declared.code_state.CodeState.{CodeState}

@@ -1,58 +1,36 @@
 -- The rules that macros keep among each other.
-use Rattle.std.specs.Prelude.{ℕ, Bool, true, false, ◌||◌, ◌==◌, not, List, [], ◌∷◌, ◌++◌, count_by, nat_le, Option, Some, None, Result, Ok, Err, if◌then◌else◌}
-use Rattle.std.specs.List.{find, list_any}
-use Rattle.std.specs.Option.{option_map, option_or}
-use Rattle.std.specs.Str.{bytes_eq}
-use Rattle.model_script.specs.declared.program.ScriptLine.{ScriptLine}
-use Rattle.model_script.specs.declared.statement.Statement.{Statement}
-use Rattle.model_script.specs.declared.statement.Statement.TheVariants.{Call}
+use Rattle.std.specs.Prelude.{ℕ, Bool, false, ◌&&◌, ◌||◌, not, List, [], ◌∷◌, ◌++◌, nat_le, Option, Some, None, Result, Ok, Err}
+use Rattle.std.specs.Option.{option_or}
 use Rattle.sysdef_check.specs.declared.definition.Macro.{Macro}
-use Rattle.sysdef_check.specs.declared.definition.Macro.TheVariants.{Application, Transaction, Terminal, Region, Program, End}
+use Rattle.sysdef_check.specs.declared.definition.Macro.TheVariants.{Database, Application, DatabasePcb, Transaction, Terminal, Region, Program}
 use Rattle.sysdef_check.specs.declared.definition.MacroLine.{MacroLine}
-use Rattle.sysdef_check.specs.declared.cross.Counted.{Counted}
-use Rattle.sysdef_check.specs.declared.cross.Counted.TheVariants.{Codes, Terminals, Regions, Programs}
+use Rattle.sysdef_check.specs.declared.lookups.MacroKind.TheVariants.{Databases, Regions}
+use Rattle.sysdef_check.specs.declared.segments.SegmentRule.TheVariants.{Twice, ParentAstray, KeyTooLong, LevelTooHigh}
+use Rattle.sysdef_check.specs.declared.calls.CallRule.TheVariants.{PcbMissing, SsaAstray, NoInsertPath}
 use Rattle.sysdef_check.specs.declared.cross.CrossRule.{CrossRule}
-use Rattle.sysdef_check.specs.declared.cross.CrossRule.TheVariants.{PsbTwice, CodeTwice, TerminalTwice, ProgramMissing, ProgramAstray, PcbMissing, WrongCount}
+use Rattle.sysdef_check.specs.declared.cross.CrossRule.TheVariants.{DatabaseTwice, OfSegments, PsbTwice, DatabaseUnknown, CodeTwice, TerminalTwice, ProgramMissing, ProgramAstray, OfCalls, WrongCount, SecondRegion}
+use Rattle.sysdef_check.specs.Lookups.{has, count, is_of, is_database, is_application, is_code, is_terminal, is_program}
+use Rattle.sysdef_check.specs.Segments.{own_line, broken_by_segment}
+use Rattle.sysdef_check.specs.Calls.{broken_by_call}
+use Rattle.sysdef_check.specs.Counts.{broken_by_count}
 
--- the macros of one kind with a name
-abbrev pub is_application : List ℕ → Macro → Bool
-is_application name (Application psb) = bytes_eq psb name
-is_application name _ = false
+-- Each rule says whether a macro breaks it, among all macros and behind those before it. The rules on
+-- segments, on calls and on counts name the line of a segment, of a call or of a PCB too.
 
-abbrev pub is_code : List ℕ → Macro → Bool
-is_code name (Transaction transaction) = bytes_eq transaction.code name
-is_code name _ = false
-
-abbrev pub is_terminal : List ℕ → Macro → Bool
-is_terminal name (Terminal terminal) = bytes_eq terminal name
-is_terminal name _ = false
-
-abbrev pub is_program : List ℕ → Macro → Bool
-is_program name (Program program lines) = bytes_eq program name
-is_program name _ = false
-
--- the macros that are counted together
-abbrev pub is_counted : Counted → Macro → Bool
-is_counted Codes (Transaction transaction) = true
-is_counted Terminals (Terminal name) = true
-is_counted Regions (Region classes) = true
-is_counted Programs (Program name lines) = true
-is_counted _ _ = false
-
--- some of the lines has such a macro; how many have
-abbrev pub has : (Macro → Bool) → List MacroLine → Bool
-has test lines = list_any (λ line. test line.content) lines
-
-abbrev pub count : Counted → List MacroLine → ℕ
-count kind lines = count_by (λ line. is_counted kind line.content) lines
-
--- Each rule says whether a macro breaks it, among all macros and behind those before it. The rule on
--- calls names the line of a call instead.
+-- a database stands once
+unfoldable pub breaks_database : List MacroLine → Macro → Bool
+breaks_database before (Database name roots) = has (is_database name) before
+breaks_database before _ = false
 
 -- a PSB stands once
 unfoldable pub breaks_psb : List MacroLine → Macro → Bool
 breaks_psb before (Application psb) = has (is_application psb) before
 breaks_psb before _ = false
+
+-- the database of a PCB stands somewhere
+unfoldable pub breaks_pcb : List MacroLine → Macro → Bool
+breaks_pcb all (DatabasePcb database options) = not (has (is_database database) all)
+breaks_pcb all _ = false
 
 -- a code stands once, and is no terminal
 unfoldable pub breaks_code : List MacroLine → List MacroLine → Macro → Bool
@@ -74,60 +52,49 @@ unfoldable pub breaks_program : List MacroLine → List MacroLine → Macro → 
 breaks_program all before (Program name lines) = not (has (is_application name) all) || has (is_program name) before
 breaks_program all before _ = false
 
--- a call of a PCB that isn't there: no APPLCTN has a PCB yet, so there is the I/O PCB alone, number 0
-abbrev pub calls_missing : Statement → Bool
-calls_missing (Call function pcb area ssas) = nat_le 1 pcb
-calls_missing _ = false
+-- where there is a database there is one region, until several regions can work on databases
+unfoldable pub breaks_region : List MacroLine → List MacroLine → Macro → Bool
+breaks_region all before (Region classes) = has (is_of Databases) all && nat_le 1 (count Regions before)
+breaks_region all before _ = false
 
--- the line of the first such call of a script
-abbrev pub missing_call : List ScriptLine → Option ℕ
-missing_call lines = option_map (λ line. line.number) (find (λ line. calls_missing line.statement) lines)
-
--- a PROGRAM calls no PCB that isn't there
-unfoldable pub broken_by_call : Macro → Option ℕ
-broken_by_call (Program name lines) = missing_call lines
-broken_by_call _ = None
-
--- There are at most 256 codes, 64 terminals, 8 regions and 64 programs. The line of END breaks the
--- rule where there is no terminal or no region.
-unfoldable pub breaks_count : List MacroLine → List MacroLine → Macro → Bool
-breaks_count all before (Transaction transaction) = nat_le 256 (count Codes before)
-breaks_count all before (Terminal name) = nat_le 64 (count Terminals before)
-breaks_count all before (Region classes) = nat_le 8 (count Regions before)
-breaks_count all before (Program name lines) = nat_le 64 (count Programs before)
-breaks_count all before End = (count Terminals all == 0) || (count Regions all == 0)
-breaks_count all before _ = false
-
--- the line of a macro that breaks a rule
-abbrev pub own_line : MacroLine → Bool → Option ℕ
-own_line line broken = if broken then Some line.number else None
-
--- The lowest line of a macro that breaks the rule: a call's for the rule on calls, its own for each
--- other.
-unfoldable pub broken_line : CrossRule → List MacroLine → List MacroLine → MacroLine → Option ℕ
-broken_line PsbTwice all before line = own_line line (breaks_psb before line.content)
-broken_line CodeTwice all before line = own_line line (breaks_code all before line.content)
-broken_line TerminalTwice all before line = own_line line (breaks_terminal before line.content)
-broken_line ProgramMissing all before line = own_line line (breaks_application all line.content)
-broken_line ProgramAstray all before line = own_line line (breaks_program all before line.content)
-broken_line PcbMissing all before line = broken_by_call line.content
-broken_line WrongCount all before line = own_line line (breaks_count all before line.content)
+-- the lowest line of a macro, and of those that belong to it, that breaks the rule
+unfoldable pub broken_line : CrossRule → List MacroLine → List MacroLine → MacroLine → List MacroLine → Option ℕ
+broken_line DatabaseTwice all before line behind = own_line line (breaks_database before line.content)
+broken_line (OfSegments rule) all before line behind = broken_by_segment rule line line.content behind
+broken_line PsbTwice all before line behind = own_line line (breaks_psb before line.content)
+broken_line DatabaseUnknown all before line behind = own_line line (breaks_pcb all line.content)
+broken_line CodeTwice all before line behind = own_line line (breaks_code all before line.content)
+broken_line TerminalTwice all before line behind = own_line line (breaks_terminal before line.content)
+broken_line ProgramMissing all before line behind = own_line line (breaks_application all line.content)
+broken_line ProgramAstray all before line behind = own_line line (breaks_program all before line.content)
+broken_line (OfCalls rule) all before line behind = broken_by_call rule all line.content
+broken_line WrongCount all before line behind = broken_by_count all before line behind
+broken_line SecondRegion all before line behind = own_line line (breaks_region all before line.content)
 
 -- the number of a rule
 abbrev pub number_of : CrossRule → ℕ
+number_of DatabaseTwice = 1
+number_of (OfSegments Twice) = 2
+number_of (OfSegments ParentAstray) = 3
+number_of (OfSegments KeyTooLong) = 4
+number_of (OfSegments LevelTooHigh) = 5
 number_of PsbTwice = 6
+number_of DatabaseUnknown = 7
 number_of CodeTwice = 9
 number_of TerminalTwice = 10
 number_of ProgramMissing = 11
 number_of ProgramAstray = 12
-number_of PcbMissing = 13
+number_of (OfCalls PcbMissing) = 13
+number_of (OfCalls SsaAstray) = 14
+number_of (OfCalls NoInsertPath) = 15
 number_of WrongCount = 17
+number_of SecondRegion = 19
 
--- The lowest line that breaks a rule. The lines of a script stand behind its PROGRAM and before the
--- macro that follows, so the first macro that breaks the rule has it.
+-- The lowest line that breaks a rule. What belongs to a macro stands behind it and before the next
+-- macro that has such lines, so the first macro that breaks the rule has the lowest line.
 abbrev pub first_line : CrossRule → List MacroLine → List MacroLine → List MacroLine → Option ℕ
 first_line rule all before [] = None
-first_line rule all before (line ∷ lines) = option_or (broken_line rule all before line) (first_line rule all (before ++ line ∷ []) lines)
+first_line rule all before (line ∷ lines) = option_or (broken_line rule all before line lines) (first_line rule all (before ++ line ∷ []) lines)
 
 abbrev pub unless_broken : CrossRule → Option ℕ → Result (Unit {0}) (ℕ × ℕ)
 unless_broken rule (Some line) = Err (line, number_of rule)
@@ -146,5 +113,11 @@ keeps_all [] all = Ok tt
 keeps_all (rule ∷ rules) all = before_others (keeps rule all) (keeps_all rules all)
 
 -- the rules in the order of their numbers
-abbrev pub cross_rules : List MacroLine → Result (Unit {0}) (ℕ × ℕ)
-cross_rules all = keeps_all (PsbTwice ∷ CodeTwice ∷ TerminalTwice ∷ ProgramMissing ∷ ProgramAstray ∷ PcbMissing ∷ WrongCount ∷ []) all
+abbrev pub rules : List CrossRule
+rules =
+    DatabaseTwice ∷ OfSegments Twice ∷ OfSegments ParentAstray ∷ OfSegments KeyTooLong ∷ OfSegments LevelTooHigh ∷ PsbTwice ∷ DatabaseUnknown
+    ∷ CodeTwice ∷ TerminalTwice ∷ ProgramMissing ∷ ProgramAstray ∷ OfCalls PcbMissing ∷ OfCalls SsaAstray ∷ OfCalls NoInsertPath
+    ∷ WrongCount ∷ SecondRegion ∷ []
+
+unfoldable pub cross_rules : List MacroLine → Result (Unit {0}) (ℕ × ℕ)
+cross_rules all = keeps_all rules all

@@ -1,3 +1,7 @@
+pub mod Lookups
+pub mod Segments
+pub mod Calls
+pub mod Counts
 pub mod Cross
 pub mod Systems
 pub mod Codes

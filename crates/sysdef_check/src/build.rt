@@ -1,24 +1,30 @@
-ghost use Rattle.std.specs.Prelude.{◌≡◌, None, IfOk};
+ghost use Rattle.std.specs.Prelude.{◌≡◌, ◌<◌, Ok, None, IfOk, length, map};
+ghost use Rattle.sysdef_check.specs.Cross.{cross_rules};
 ghost use Rattle.sysdef_check.specs.Systems as spec;
 
+use crate::databases::{databases_in, pcbs_in};
+use crate::lookups::pcbs_of;
 use crate::{Macro, MacroLine, System};
 use model_system::{Classes, Code, Pcbs, SystemProgram};
 use std::alloc::{AllocError, Global};
-use tm_types::Name;
+use tm_types::{Dbd, Name};
 
-/// The system that the macros define.
+/// The system that the macros define, which break no rule among each other.
 pub(crate) fn system_of(alloc: Global, lines: Vec<MacroLine>) -> Result<System, AllocError>
+    requires kept { cross_rules lines.items ≡ Ok tt }
     ensures { IfOk result (λ system. system ≡ spec.system_of lines.items) }
 {
     let (qbytes, logs) = control_in(&lines);
+    let databases = databases_in(alloc, &lines)?;
     let codes = codes_in(alloc, &lines)?;
     let terminals = terminals_in(alloc, &lines)?;
     let regions = regions_in(alloc, &lines)?;
-    let programs = programs_in(alloc, lines)?;
+    let pcbs = pcb_lists(alloc, &databases, &lines)?;
+    let programs = programs_in(alloc, lines, pcbs)?;
     Ok(System {
         qbytes,
         logs,
-        databases: Vec::new(alloc),
+        databases,
         programs,
         codes,
         terminals,
@@ -103,25 +109,61 @@ fn regions_in(alloc: Global, lines: &[MacroLine]) -> Result<Vec<Classes>, AllocE
     Ok(regions)
 }
 
-fn programs_in(alloc: Global, lines: Vec<MacroLine>) -> Result<Vec<SystemProgram>, AllocError>
-    ensures { IfOk result (λ programs. programs.items ≡ spec.programs_in lines.items) }
+/// The PCBs for each line, none where it is no PROGRAM.
+fn pcb_lists(alloc: Global, databases: &[Dbd], lines: &[MacroLine]) -> Result<Vec<Pcbs>, AllocError>
+    requires { length databases.now < 256 }
+    ensures { IfOk result (λ lists. lists.items ≡ map (λ line. spec.pcbs_for databases.now lines.now line.content) lines.now) }
+{
+    let mut lists = Vec::new(alloc);
+    for line in lines {
+        lists.push(pcbs_for(alloc, databases, lines, &line.content)?)?;
+    }
+    Ok(lists)
+}
+
+fn pcbs_for(
+    alloc: Global,
+    databases: &[Dbd],
+    lines: &[MacroLine],
+    content: &Macro,
+) -> Result<Pcbs, AllocError>
+    requires { length databases.now < 256 }
+    ensures { IfOk result (λ pcbs. pcbs ≡ spec.pcbs_for databases.now lines.now content.now) }
+{
+    match content {
+        Macro::Program { name, .. } => pcbs_in(alloc, databases, pcbs_of(name, lines)),
+        _ => Ok(Pcbs::new(alloc)),
+    }
+}
+
+/// The programs, with the PCBs that stand in the list for their lines.
+fn programs_in(
+    alloc: Global,
+    lines: Vec<MacroLine>,
+    lists: Vec<Pcbs>,
+) -> Result<Vec<SystemProgram>, AllocError>
+    ensures { IfOk result (λ programs. programs.items ≡ spec.programs_with lines.items lists.items) }
 {
     let mut programs = Vec::new(alloc);
+    let mut lists = lists.into_iter();
     for line in lines {
-        if let Some(program) = program_in(alloc, line.content) {
+        let Some(pcbs) = lists.next() else {
+            return Ok(programs);
+        };
+        if let Some(program) = program_in(pcbs, line.content) {
             programs.push(program)?;
         }
     }
     Ok(programs)
 }
 
-fn program_in(alloc: Global, content: Macro) -> Option<SystemProgram>
-    ensures { result ≡ spec.program_in content }
+fn program_in(pcbs: Pcbs, content: Macro) -> Option<SystemProgram>
+    ensures { result ≡ spec.program_in pcbs content }
 {
     match content {
         Macro::Program { name, program } => Some(SystemProgram {
             psb: name,
-            pcbs: Pcbs::new(alloc),
+            pcbs,
             program,
         }),
         _ => None,

@@ -1,75 +1,27 @@
 ghost use Rattle.std.specs.Prelude.{◌≡◌, []};
+ghost use Rattle.sysdef_check.specs.Segments.{own_line};
 ghost use Rattle.sysdef_check.specs.Cross as spec;
 
+use crate::calls::{CallRule, broken_by_call};
+use crate::counts::broken_by_count;
+use crate::lookups::{
+    MacroKind, count, has_application, has_code, has_database, has_databases, has_program,
+    has_terminal,
+};
+use crate::segments::{SegmentRule, broken_by_segment};
 use crate::{Macro, MacroLine};
-use model_script::{ScriptLine, Statement};
-use tm_types::Name;
-
-fn has_application(name: &Name, lines: &[MacroLine]) -> bool
-    ensures { result ≡ spec.has (spec.is_application name.now) lines.now }
-{
-    lines.iter().any(|line| is_application(name, &line.content))
-}
-
-fn is_application(name: &Name, content: &Macro) -> bool
-    ensures { result ≡ spec.is_application name.now content.now }
-{
-    match content {
-        Macro::Application { psb } => psb == name,
-        _ => false,
-    }
-}
-
-fn has_code(name: &Name, lines: &[MacroLine]) -> bool
-    ensures { result ≡ spec.has (spec.is_code name.now) lines.now }
-{
-    lines.iter().any(|line| is_code(name, &line.content))
-}
-
-fn is_code(name: &Name, content: &Macro) -> bool
-    ensures { result ≡ spec.is_code name.now content.now }
-{
-    match content {
-        Macro::Transaction(transaction) => &transaction.code == name,
-        _ => false,
-    }
-}
-
-fn has_terminal(name: &Name, lines: &[MacroLine]) -> bool
-    ensures { result ≡ spec.has (spec.is_terminal name.now) lines.now }
-{
-    lines.iter().any(|line| is_terminal(name, &line.content))
-}
-
-fn is_terminal(name: &Name, content: &Macro) -> bool
-    ensures { result ≡ spec.is_terminal name.now content.now }
-{
-    match content {
-        Macro::Terminal { name: terminal } => terminal == name,
-        _ => false,
-    }
-}
-
-fn has_program(name: &Name, lines: &[MacroLine]) -> bool
-    ensures { result ≡ spec.has (spec.is_program name.now) lines.now }
-{
-    lines.iter().any(|line| is_program(name, &line.content))
-}
-
-fn is_program(name: &Name, content: &Macro) -> bool
-    ensures { result ≡ spec.is_program name.now content.now }
-{
-    match content {
-        Macro::Program { name: program, .. } => program == name,
-        _ => false,
-    }
-}
 
 /// A rule that the macros of a definition keep among each other.
 #[derive(Clone, Copy, Debug)]
 pub enum CrossRule {
+    /// A database stands in two DBD macros.
+    DatabaseTwice,
+    /// The segments of a database break their rule.
+    OfSegments(SegmentRule),
     /// A PSB stands in two APPLCTN macros.
     PsbTwice,
+    /// A PCB has a database that isn't there.
+    DatabaseUnknown,
     /// A code stands twice, or is the name of a terminal too.
     CodeTwice,
     /// A terminal stands twice.
@@ -78,10 +30,22 @@ pub enum CrossRule {
     ProgramMissing,
     /// A PROGRAM has no APPLCTN, or stands twice.
     ProgramAstray,
-    /// A PROGRAM calls a PCB that isn't there.
-    PcbMissing,
-    /// There are too many codes, terminals, regions or programs, or no terminal or no region.
+    /// The calls of a PROGRAM break their rule.
+    OfCalls(CallRule),
+    /// There are too many macros of a kind, or no terminal or no region.
     WrongCount,
+    /// There is a database and a second region.
+    SecondRegion,
+}
+
+#[tactic(auto, unfolding(crate::specs::Cross::breaks_database))]
+fn breaks_database(before: &[MacroLine], content: &Macro) -> bool
+    ensures { result ≡ spec.breaks_database before.now content.now }
+{
+    match content {
+        Macro::Database { name, .. } => has_database(name, before),
+        _ => false,
+    }
 }
 
 #[tactic(auto, unfolding(crate::specs::Cross::breaks_psb))]
@@ -90,6 +54,16 @@ fn breaks_psb(before: &[MacroLine], content: &Macro) -> bool
 {
     match content {
         Macro::Application { psb } => has_application(psb, before),
+        _ => false,
+    }
+}
+
+#[tactic(auto, unfolding(crate::specs::Cross::breaks_pcb))]
+fn breaks_pcb(all: &[MacroLine], content: &Macro) -> bool
+    ensures { result ≡ spec.breaks_pcb all.now content.now }
+{
+    match content {
+        Macro::DatabasePcb { database, .. } => !has_database(database, all),
         _ => false,
     }
 }
@@ -136,109 +110,45 @@ fn breaks_program(all: &[MacroLine], before: &[MacroLine], content: &Macro) -> b
     }
 }
 
-fn calls_missing(statement: &Statement) -> bool
-    ensures { result ≡ spec.calls_missing statement.now }
-{
-    match statement {
-        Statement::Call(_, pcb, _, _) => 1 <= *pcb,
-        _ => false,
-    }
-}
-
-/// The line of the first call of a PCB that isn't there.
-fn missing_call(lines: &[ScriptLine]) -> Option<u32>
-    ensures { result ≡ spec.missing_call lines.now }
-{
-    for line in lines {
-        if calls_missing(&line.statement) {
-            return Some(line.number);
-        }
-    }
-    None
-}
-
-#[tactic(auto, unfolding(crate::specs::Cross::broken_by_call))]
-fn broken_by_call(content: &Macro) -> Option<u32>
-    ensures { result ≡ spec.broken_by_call content.now }
+#[tactic(auto, unfolding(crate::specs::Cross::breaks_region))]
+fn breaks_region(all: &[MacroLine], before: &[MacroLine], content: &Macro) -> bool
+    ensures { result ≡ spec.breaks_region all.now before.now content.now }
 {
     match content {
-        Macro::Program { program, .. } => missing_call(program.lines()),
-        _ => None,
-    }
-}
-
-#[tactic(auto, unfolding(crate::specs::Cross::breaks_count))]
-fn breaks_count(all: &[MacroLine], before: &[MacroLine], content: &Macro) -> bool
-    ensures { result ≡ spec.breaks_count all.now before.now content.now }
-{
-    match content {
-        Macro::Transaction(_) => 256 <= count(Counted::Codes, before),
-        Macro::Terminal { .. } => 64 <= count(Counted::Terminals, before),
-        Macro::Region { .. } => 8 <= count(Counted::Regions, before),
-        Macro::Program { .. } => 64 <= count(Counted::Programs, before),
-        Macro::End => count(Counted::Terminals, all) == 0 || count(Counted::Regions, all) == 0,
+        Macro::Region { .. } => has_databases(all) && 1 <= count(MacroKind::Regions, before),
         _ => false,
-    }
-}
-
-/// Which macros are counted together.
-#[derive(Clone, Copy, Debug)]
-pub enum Counted {
-    Codes,
-    Terminals,
-    Regions,
-    Programs,
-}
-
-/// How many of the lines are of this kind.
-#[tactic(auto, using(crate::proofs::Counted::counted_steps))]
-fn count(kind: Counted, lines: &[MacroLine]) -> usize
-    ensures { result ≡ spec.count kind lines.now }
-{
-    let mut count = 0;
-    for line in lines {
-        if is_counted(kind, &line.content) {
-            count += 1;
-        }
-    }
-    count
-}
-
-fn is_counted(kind: Counted, content: &Macro) -> bool
-    ensures { result ≡ spec.is_counted kind content.now }
-{
-    match kind {
-        Counted::Codes => matches!(content, Macro::Transaction(_)),
-        Counted::Terminals => matches!(content, Macro::Terminal { .. }),
-        Counted::Regions => matches!(content, Macro::Region { .. }),
-        Counted::Programs => matches!(content, Macro::Program { .. }),
     }
 }
 
 fn own_line(line: &MacroLine, broken: bool) -> Option<u32>
-    ensures { result ≡ spec.own_line line.now broken }
+    ensures { result ≡ own_line line.now broken }
 {
     if broken { Some(line.number) } else { None }
 }
 
-/// The lowest line of the macro that breaks the rule.
+/// The lowest line of the macro, and of those that belong to it, that breaks the rule.
 #[tactic(auto, unfolding(crate::specs::Cross::broken_line))]
 fn broken_line(
     rule: CrossRule,
     all: &[MacroLine],
     before: &[MacroLine],
     line: &MacroLine,
+    behind: &[MacroLine],
 ) -> Option<u32>
-    ensures { result ≡ spec.broken_line rule all.now before.now line.now }
+    ensures { result ≡ spec.broken_line rule all.now before.now line.now behind.now }
 {
     match rule {
+        CrossRule::DatabaseTwice => own_line(line, breaks_database(before, &line.content)),
+        CrossRule::OfSegments(rule) => broken_by_segment(rule, line, behind),
         CrossRule::PsbTwice => own_line(line, breaks_psb(before, &line.content)),
+        CrossRule::DatabaseUnknown => own_line(line, breaks_pcb(all, &line.content)),
         CrossRule::CodeTwice => own_line(line, breaks_code(all, before, &line.content)),
         CrossRule::TerminalTwice => own_line(line, breaks_terminal(before, &line.content)),
         CrossRule::ProgramMissing => own_line(line, breaks_application(all, &line.content)),
         CrossRule::ProgramAstray => own_line(line, breaks_program(all, before, &line.content)),
-        CrossRule::PcbMissing => broken_by_call(&line.content),
-        CrossRule::WrongCount => own_line(line, breaks_count(all, before, &line.content)),
+        CrossRule::OfCalls(rule) => broken_by_call(rule, all, &line.content),
+        CrossRule::WrongCount => broken_by_count(all, before, line, behind),
+        CrossRule::SecondRegion => own_line(line, breaks_region(all, before, &line.content)),
     }
 }
 
@@ -246,13 +156,22 @@ fn number_of(rule: CrossRule) -> u8
     ensures { result ≡ spec.number_of rule }
 {
     match rule {
+        CrossRule::DatabaseTwice => 1,
+        CrossRule::OfSegments(SegmentRule::Twice) => 2,
+        CrossRule::OfSegments(SegmentRule::ParentAstray) => 3,
+        CrossRule::OfSegments(SegmentRule::KeyTooLong) => 4,
+        CrossRule::OfSegments(SegmentRule::LevelTooHigh) => 5,
         CrossRule::PsbTwice => 6,
+        CrossRule::DatabaseUnknown => 7,
         CrossRule::CodeTwice => 9,
         CrossRule::TerminalTwice => 10,
         CrossRule::ProgramMissing => 11,
         CrossRule::ProgramAstray => 12,
-        CrossRule::PcbMissing => 13,
+        CrossRule::OfCalls(CallRule::PcbMissing) => 13,
+        CrossRule::OfCalls(CallRule::SsaAstray) => 14,
+        CrossRule::OfCalls(CallRule::NoInsertPath) => 15,
         CrossRule::WrongCount => 17,
+        CrossRule::SecondRegion => 19,
     }
 }
 
@@ -261,7 +180,7 @@ fn first_line(rule: CrossRule, all: &[MacroLine]) -> Option<u32>
     ensures { result ≡ spec.first_line rule all.now [] all.now }
 {
     for (index, line) in all.iter().enumerate() {
-        if let Some(number) = broken_line(rule, all, &all[..index], line) {
+        if let Some(number) = broken_line(rule, all, &all[..index], line, &all[index + 1..]) {
             return Some(number);
         }
     }
@@ -280,14 +199,24 @@ fn keeps(rule: CrossRule, all: &[MacroLine]) -> Result<(), (u32, u8)>
 }
 
 /// The lowest line that breaks the lowest rule that is broken, and this rule's number.
+#[tactic(auto, unfolding(crate::specs::Cross::cross_rules))]
 pub(crate) fn cross_rules(all: &[MacroLine]) -> Result<(), (u32, u8)>
     ensures { result ≡ spec.cross_rules all.now }
 {
+    keeps(CrossRule::DatabaseTwice, all)?;
+    keeps(CrossRule::OfSegments(SegmentRule::Twice), all)?;
+    keeps(CrossRule::OfSegments(SegmentRule::ParentAstray), all)?;
+    keeps(CrossRule::OfSegments(SegmentRule::KeyTooLong), all)?;
+    keeps(CrossRule::OfSegments(SegmentRule::LevelTooHigh), all)?;
     keeps(CrossRule::PsbTwice, all)?;
+    keeps(CrossRule::DatabaseUnknown, all)?;
     keeps(CrossRule::CodeTwice, all)?;
     keeps(CrossRule::TerminalTwice, all)?;
     keeps(CrossRule::ProgramMissing, all)?;
     keeps(CrossRule::ProgramAstray, all)?;
-    keeps(CrossRule::PcbMissing, all)?;
-    keeps(CrossRule::WrongCount, all)
+    keeps(CrossRule::OfCalls(CallRule::PcbMissing), all)?;
+    keeps(CrossRule::OfCalls(CallRule::SsaAstray), all)?;
+    keeps(CrossRule::OfCalls(CallRule::NoInsertPath), all)?;
+    keeps(CrossRule::WrongCount, all)?;
+    keeps(CrossRule::SecondRegion, all)
 }

@@ -18,13 +18,18 @@ pub struct System {
 
 impl Model for System {
     ghost use Rattle.model_system.specs.System as model;
+    ghost use Rattle.model_system.specs.Valid.{IsSystem};
 
     ghost Value = { model.System };
 
     ghost view = { λ s. record { qbytes = s.qbytes; logs = s.logs; databases = s.databases.items; programs = s.programs.items; codes = s.codes.items; terminals = s.terminals.items; regions = s.regions.items } };
+
+    ghost invariant = { λ s. IsSystem (record { qbytes = s.qbytes; logs = s.logs; databases = s.databases.items; programs = s.programs.items; codes = s.codes.items; terminals = s.terminals.items; regions = s.regions.items }) };
 }
 
 impl System {
+    ghost use Rattle.model_system.specs.Valid.{IsSystem};
+
     /// The bytes of the queues.
     pub fn qbytes(&self) -> u32
         ensures { result ≡ self.now.qbytes }
@@ -41,7 +46,8 @@ impl System {
 
     /// The databases, numbered from 1 in their order.
     pub fn databases(&self) -> &[Dbd]
-        ensures { result.now ≡ self.now.databases }
+        ensures value { result.now ≡ self.now.databases }
+        ensures valid { IsSystem self.now }
     {
         &self.databases
     }
@@ -69,7 +75,8 @@ impl System {
 
     /// The classes of each region; the first region has number 1.
     pub fn regions(&self) -> &[Classes]
-        ensures { result.now ≡ self.now.regions }
+        ensures value { result.now ≡ self.now.regions }
+        ensures valid { IsSystem self.now }
     {
         &self.regions
     }

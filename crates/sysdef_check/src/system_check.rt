@@ -25,11 +25,11 @@ pub enum CrossRefused {
 pub fn check(alloc: Global, definition: Definition) -> Result<System, CrossRefused>
     ensures { Answers result (checked definition) }
 {
-    if let Err((line, rule)) = cross_rules(definition.items()) {
-        return Err(CrossRefused::BadCross(line, rule));
-    }
-    match system_of(alloc, definition.into_items()) {
-        Ok(system) => Ok(system),
-        Err(_) => Err(CrossRefused::Memory),
+    match cross_rules(definition.items()) {
+        Err((line, rule)) => Err(CrossRefused::BadCross(line, rule)),
+        Ok(()) => match system_of(alloc, definition.into_items()) {
+            Ok(system) => Ok(system),
+            Err(_) => Err(CrossRefused::Memory),
+        },
     }
 }

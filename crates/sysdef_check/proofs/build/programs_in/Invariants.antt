@@ -5,4 +5,4 @@ use Rattle.sysdef_check.proofs.build.programs_in.Given as goal
 
 abbrev pub invariant-loop-line : goal.invariant-loop-line
 invariant-loop-line l =
-    l.programs.items ++ spec.programs_in (into_iter_items l.line-iterator) ≡ spec.programs_in l.fn.lines.items
+    l.programs.items ++ spec.programs_with (into_iter_items l.line-iterator) (into_iter_items l.lists) ≡ spec.programs_with l.fn.lines.items l.fn.lists.items

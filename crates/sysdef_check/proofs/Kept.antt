@@ -1,0 +1,107 @@
+-- A rule that no macro breaks is kept by each.
+use Rattle.std.proofs.Common.{ℕ, zero, suc, ◌≡◌, ◌+◌, ◌-◌, ◌<◌, Bool, true, false, List, [], ◌∷◌, ◌++◌, length, take, drop, get_or, slice_get, Option, Some, None, Result, Ok, Err, IsTrue, refl, sym, subst, ap, ◌∙◌, arith, drop-cons, add-one, length-drop, ◌&&◌}
+use Rattle.std.specs.List.{list_all}
+use Rattle.std.specs.Option.{option_or}
+use Rattle.std.proofs.lemmas.Bool.{false≢true}
+use Rattle.std.proofs.lemmas.List.{take_all, take_more}
+use Rattle.sysdef_check.specs.declared.definition.MacroLine.{MacroLine}
+use Rattle.sysdef_check.specs.declared.cross.CrossRule.{CrossRule}
+use Rattle.sysdef_check.specs.declared.cross.CrossRule.TheVariants.{OfSegments, WrongCount, SecondRegion}
+use Rattle.sysdef_check.specs.declared.segments.SegmentRule.{SegmentRule}
+use Rattle.sysdef_check.specs.Segments.{own_line, breaks_segment, broken_by_segment, first_segment}
+use Rattle.sysdef_check.specs.Counts.{breaks_count, past_limit}
+use Rattle.sysdef_check.specs.Cross.{before_others, breaks_region, broken_line, cross_rules, first_line, keeps, keeps_all, rules, unless_broken}
+
+-- neither of two is there
+pub neither : (a b : Option ℕ) → option_or a b ≡ None → (a ≡ None) × (b ≡ None)
+neither None b h = (refl, h)
+neither (Some n) b h = cc
+
+not_broken : (line : MacroLine) (b : Bool) → own_line line b ≡ None → b ≡ false
+not_broken line false h = refl
+not_broken line true h = cc
+
+-- the first of the lines that are left, and the lines up to it
+pub cut_at : (lines : List MacroLine) (index : ℕ) (line : MacroLine) → index < length lines → line ≡ get_or lines index line → drop index lines ≡ line ∷ drop (index + 1) lines
+cut_at lines index line h e = rw (add-one index) (drop-cons lines index line h ∙ ap (λ (l : MacroLine). l ∷ drop (suc index) lines) (sym e))
+
+pub more_at : (lines : List MacroLine) (index : ℕ) (line : MacroLine) → index < length lines → line ≡ get_or lines index line → take (index + 1) lines ≡ take index lines ++ line ∷ []
+more_at lines index line h e = take_more lines index line h ∙ ap (λ (l : MacroLine). take index lines ++ l ∷ []) (sym e)
+
+-- the first of the macros that are left keeps the rule, and so do the others
+pub kept_line : (rule : CrossRule) (all lines : List MacroLine) (index : ℕ) (line : MacroLine) → index < length lines → line ≡ get_or lines index line
+    → first_line rule all (take index lines) (drop index lines) ≡ None
+    → (broken_line rule all (take index lines) line (drop (index + 1) lines) ≡ None) × (first_line rule all (take (index + 1) lines) (drop (index + 1) lines) ≡ None)
+kept_line rule all lines index line h e kept =
+    let cut : drop index lines ≡ line ∷ drop (index + 1) lines = cut_at lines index line h e in
+    let more : take (index + 1) lines ≡ take index lines ++ line ∷ [] = more_at lines index line h e in
+    let both = neither (broken_line rule all (take index lines) line (drop (index + 1) lines)) (first_line rule all (take index lines ++ line ∷ []) (drop (index + 1) lines))
+    (subst (λ (ls : List MacroLine). first_line rule all (take index lines) ls ≡ None) cut kept) in
+    (both.0, subst (λ (ls : List MacroLine). first_line rule all ls (drop (index + 1) lines) ≡ None) (sym more) both.1)
+
+-- the same of segments
+pub kept_segment : (rule : SegmentRule) (segments lines : List MacroLine) (index : ℕ) (line : MacroLine) → index < length lines → line ≡ get_or lines index line
+    → first_segment rule segments (take index lines) (drop index lines) ≡ None
+    → (breaks_segment rule segments (take index lines) line.content ≡ false) × (first_segment rule segments (take (index + 1) lines) (drop (index + 1) lines) ≡ None)
+kept_segment rule segments lines index line h e kept =
+    let cut : drop index lines ≡ line ∷ drop (index + 1) lines = cut_at lines index line h e in
+    let more : take (index + 1) lines ≡ take index lines ++ line ∷ [] = more_at lines index line h e in
+    let both = neither (own_line line (breaks_segment rule segments (take index lines) line.content)) (first_segment rule segments (take index lines ++ line ∷ []) (drop (index + 1) lines))
+    (subst (λ (ls : List MacroLine). first_segment rule segments (take index lines) ls ≡ None) cut kept) in
+    (not_broken line (breaks_segment rule segments (take index lines) line.content) both.0, subst (λ (ls : List MacroLine). first_segment rule segments ls (drop (index + 1) lines) ≡ None) (sym more) both.1)
+
+and_parts : (a b : Bool) → (a && b) ≡ true → (a ≡ true) × (b ≡ true)
+and_parts true b h = (refl, h)
+and_parts false b h = absurd (false≢true h)
+
+-- the first of those that all pass, and the others
+pub kept_test : (test : MacroLine → Bool) (lines : List MacroLine) (index : ℕ) (line : MacroLine) → index < length lines → line ≡ get_or lines index line
+    → IsTrue (list_all test (drop index lines)) → (test line ≡ true) × IsTrue (list_all test (drop (index + 1) lines))
+kept_test test lines index line h e kept =
+    let cut : drop index lines ≡ line ∷ drop (index + 1) lines = cut_at lines index line h e in
+    and_parts (test line) (list_all test (drop (index + 1) lines)) (subst (λ (ls : List MacroLine). IsTrue (list_all test ls)) cut kept)
+
+-- each rule of those that are kept
+both_kept : (a b : Result (Unit {0}) (ℕ × ℕ)) → before_others a b ≡ Ok tt → (a ≡ Ok tt) × (b ≡ Ok tt)
+both_kept (Ok tt) b h = (refl, h)
+both_kept (Err fault) b h = cc
+
+none_broken : (rule : CrossRule) (line : Option ℕ) → unless_broken rule line ≡ Ok tt → line ≡ None
+none_broken rule None h = refl
+none_broken rule (Some line) h = cc
+
+one_kept : (rule : CrossRule) (all : List MacroLine) → keeps rule all ≡ Ok tt → first_line rule all [] all ≡ None
+unfolding keeps
+one_kept rule all h = none_broken rule (first_line rule all [] all) h
+
+each_kept : (list : List CrossRule) (all : List MacroLine) (n : ℕ) (rule : CrossRule) → keeps_all list all ≡ Ok tt → slice_get list n ≡ Some rule → first_line rule all [] all ≡ None
+each_kept [] all n rule h e = cc
+each_kept (first ∷ list) all zero rule h e =
+    let same : first ≡ rule = cc in
+    subst (λ (r : CrossRule). first_line r all [] all ≡ None) same (one_kept first all (both_kept (keeps first all) (keeps_all list all) h).0)
+each_kept (first ∷ list) all (suc n) rule h e = each_kept list all n rule (both_kept (keeps first all) (keeps_all list all) h).1 e
+
+pub rule_kept : (all : List MacroLine) (n : ℕ) (rule : CrossRule) → cross_rules all ≡ Ok tt → slice_get rules n ≡ Some rule → first_line rule all [] all ≡ None
+unfolding cross_rules
+rule_kept all n rule h e = each_kept rules all n rule h e
+
+-- what the rules say of a DBD and the lines behind it
+pub kept_database : (rule : SegmentRule) (all before : List MacroLine) (line : MacroLine) (behind : List MacroLine) → broken_line (OfSegments rule) all before line behind ≡ None
+    → broken_by_segment rule line line.content behind ≡ None
+unfolding broken_line
+kept_database rule all before line behind h = h
+
+pub kept_count : (all before : List MacroLine) (line : MacroLine) (behind : List MacroLine) → broken_line WrongCount all before line behind ≡ None
+    → (breaks_count all before line.content ≡ false) × (past_limit line.content behind ≡ None)
+unfolding broken_line
+kept_count all before line behind h =
+    let both = neither (own_line line (breaks_count all before line.content)) (past_limit line.content behind) h in
+    (not_broken line (breaks_count all before line.content) both.0, both.1)
+
+pub kept_region : (all before : List MacroLine) (line : MacroLine) (behind : List MacroLine) → broken_line SecondRegion all before line behind ≡ None → breaks_region all before line.content ≡ false
+unfolding broken_line
+kept_region all before line behind h = not_broken line (breaks_region all before line.content) h
+
+-- the lines behind an index, as a slice of them
+pub behind_index : (lines : List MacroLine) (index : ℕ) → take (length lines - index) (drop index lines) ≡ drop index lines
+behind_index lines index = take_all (length lines - index) (drop index lines) (omega (arith, length-drop index lines))
