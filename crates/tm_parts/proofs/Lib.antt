@@ -7,3 +7,4 @@ mod Scheduled
 mod Resting
 mod Finished
 pub mod Closed
+pub mod Counting

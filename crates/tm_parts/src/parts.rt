@@ -1,4 +1,4 @@
-ghost use Rattle.std.specs.Prelude.{◌≡◌, ◌⊎◌, ◌<◌, ◌≤◌, ◌^◌, [], None, length, replicate, IfOk, IsTrue, OnOk};
+ghost use Rattle.std.specs.Prelude.{◌≡◌, ◌<◌, ◌^◌, [], None, replicate, IfOk, OnOk};
 ghost use Rattle.model_machine.specs.Machine.{empty_state, start_of};
 
 use crate::region::Busy;
@@ -40,9 +40,6 @@ impl Parts {
         ensures system { IfOk result (λ parts. parts.system ≡ system) }
         ensures moment { IfOk result (λ parts. parts.moment ≡ start_of system (empty_state system)) }
     {
-        if !is_alone(&system) {
-            return Err(Memory);
-        }
         let regions = empty_regions(alloc, system.regions().len())?;
         let tables = Tables::new(alloc, &system)?;
         let codes = Codes::of(alloc, &system)?;
@@ -64,13 +61,6 @@ impl Parts {
     {
         &self.system
     }
-}
-
-/// Whether one region at most works where there are databases.
-fn is_alone(system: &System) -> bool
-    ensures { IsTrue result → (system.now.databases ≡ []) ⊎ (length system.now.regions ≤ 1) }
-{
-    system.databases().is_empty() || system.regions().len() <= 1
 }
 
 /// So many regions, all empty; want of memory where they are 2^32 or more.

@@ -109,11 +109,18 @@ pub fn advance(
 }
 
 /// How many regions have a message.
+#[tactic(auto, using(crate::proofs::Counting::counted_steps))]
 pub fn count_busy(regions: &[Option<Busy>]) -> u32
     requires { length regions.now < 2 ^ 32 }
     ensures { result ≡ count_by is_some regions.now }
 {
-    regions.iter().filter(|region| region.is_some()).count() as u32
+    let mut busy = 0;
+    for region in regions {
+        if region.is_some() {
+            busy += 1;
+        }
+    }
+    busy
 }
 
 /// Takes the reply of a region's work out of it.

@@ -4,6 +4,8 @@
 ghost use Rattle.std.specs.Prelude.{◌≡◌};
 ghost use Rattle.tm_prog.specs.Status.{status_number};
 
+#[cfg(test)]
+mod database_tests;
 mod run;
 #[cfg(test)]
 mod tests;

@@ -77,6 +77,16 @@ fn expect(
     Ok(())
 }
 
+/// The same for a source that is read to its end.
+pub fn expect_source(
+    rt: &impl Abort,
+    alloc: Global,
+    source: &[u8],
+    printed: &[u8],
+) -> Result<(), Fail> {
+    expect(rt, alloc, &["drill"], source, (&[], &[]), (0, printed))
+}
+
 /// The same for a session of the system, to its end.
 fn expect_session(
     rt: &impl Abort,

@@ -16,14 +16,14 @@ pub invariant_of-self-2 : goal.invariant_of-self-2
 invariant_of-self-2 c =
     let e : slice_get c.self.inside.regions.items (c.args.region - 1) ≡ Some (Some c.busy_at-busy.result.now) =
     ap (λ rs. slice_get rs (c.args.region - 1)) (sym c.deref.ensures.value) ∙ c.busy_at-busy.ensures in
-    let finished : IsFinished c.self.inside.tables c.close_with.new.tables c.busy_at-busy.result.now.id (abend_text c.busy_at-busy.result.now.code c.args.abend ∷ []) =
-    subst (IsFinished c.self.inside.tables c.close_with.new.tables c.busy_at-busy.result.now.id) c.in-Ok.ensures c.in-Ok-close_with.ensures.ok in
+    let finished : IsFinished c.self.inside.tables c.close_with.new.tables c.busy_at-busy.result.now.id c.self.inside.tables.databases (abend_text c.busy_at-busy.result.now.code c.args.abend ∷ []) =
+    subst (IsFinished c.self.inside.tables c.close_with.new.tables c.busy_at-busy.result.now.id c.self.inside.tables.databases) c.in-Ok.ensures c.in-Ok-close_with.ensures.ok in
     let regions : c.close_with.new.regions ≡ slice_set c.self.inside.regions.items (c.args.region - 1) None =
     c.in-Ok-close_with.ensures.regions ∙ ap (λ rs. slice_set rs (c.args.region - 1) None) c.deref_mut.ensures.value in
     let len : c.self.inside.regions.len ≡ length c.self.inside.regions.items = omega (arith, c.deref.ensures.len, ap length c.deref.ensures.value) in
     rw (whole_one c.self.inside.regions.items c.close_with.new.regions c.self.inside.regions.len (c.args.region - 1) None len regions)
     (parts_closed c.self.inside.system c.self.inside.no_program c.self.inside.tables c.self.inside.codes c.self.inside.regions.items c.args.region c.self.invariant
-    c.busy_at-busy.result.now e c.close_with.new.tables c.self.inside.codes (abend_text c.busy_at-busy.result.now.code c.args.abend ∷ []) refl finished)
+    c.busy_at-busy.result.now e c.close_with.new.tables c.self.inside.codes c.self.inside.tables.databases (abend_text c.busy_at-busy.result.now.code c.args.abend ∷ []) c.self.invariant.dbds refl finished)
 
 pub returns-clause-may : goal.returns-clause-may
 returns-clause-may c =
@@ -37,8 +37,8 @@ pub returns-clause-after : goal.returns-clause-after
 returns-clause-after c =
     let e : slice_get c.self.inside.regions.items (c.args.region - 1) ≡ Some (Some c.busy_at-busy.result.now) =
     ap (λ rs. slice_get rs (c.args.region - 1)) (sym c.deref.ensures.value) ∙ c.busy_at-busy.ensures in
-    let finished : IsFinished c.self.inside.tables c.close_with.new.tables c.busy_at-busy.result.now.id (abend_text c.busy_at-busy.result.now.code c.args.abend ∷ []) =
-    subst (IsFinished c.self.inside.tables c.close_with.new.tables c.busy_at-busy.result.now.id) c.in-Ok.ensures c.in-Ok-close_with.ensures.ok in
+    let finished : IsFinished c.self.inside.tables c.close_with.new.tables c.busy_at-busy.result.now.id c.self.inside.tables.databases (abend_text c.busy_at-busy.result.now.code c.args.abend ∷ []) =
+    subst (IsFinished c.self.inside.tables c.close_with.new.tables c.busy_at-busy.result.now.id c.self.inside.tables.databases) c.in-Ok.ensures c.in-Ok-close_with.ensures.ok in
     let regions : c.close_with.new.regions ≡ slice_set c.self.inside.regions.items (c.args.region - 1) None =
     c.in-Ok-close_with.ensures.regions ∙ ap (λ rs. slice_set rs (c.args.region - 1) None) c.deref_mut.ensures.value in
     let len : c.self.inside.regions.len ≡ length c.self.inside.regions.items = omega (arith, c.deref.ensures.len, ap length c.deref.ensures.value) in

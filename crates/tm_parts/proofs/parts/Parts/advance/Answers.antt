@@ -1,7 +1,6 @@
-use Rattle.std.proofs.Common.{◌≡◌, ◌-◌, ◌<◌, length, sym, ap, ◌∙◌, subst, arith}
-use Rattle.std.specs.Prelude.{Some, IfSome, slice_get}
+use Rattle.std.proofs.Common.{◌≡◌, ◌-◌, ◌<◌, length, sym, ap, ◌∙◌, arith}
+use Rattle.std.specs.Prelude.{Some, slice_get}
 use Rattle.std.proofs.lemmas.Option.{slice_get-get_or}
-use Rattle.tm_parts.specs.Region.{IsQueuedWork}
 use Rattle.tm_tables.specs.Tables.{lasting_of}
 use Rattle.tm_parts.proofs.Stepped.{queued_work, parts_step}
 use Rattle.tm_parts.proofs.Going.{goes_is, same_moment, ok_map, keeps_by, err_map}
@@ -11,9 +10,8 @@ pub advance-requires-clause-work : goal.advance-requires-clause-work
 advance-requires-clause-work c =
     let region = (rw (← c.self.view_is) at c.requires) in
     let within : c.args.region - 1 < length c.self.inside.regions.items = omega (arith, region.0, region.1, c.self.invariant.regions_are) in
-    subst (λ q. IfSome c.index_mut.result.now (IsQueuedWork c.self.inside.system q.queued)) (sym c.queues.ensures)
-    (queued_work c.self.inside.system c.self.inside.no_program c.self.inside.tables c.self.inside.codes c.self.inside.regions.items (c.args.region - 1) c.self.invariant
-    c.index_mut.result.now (slice_get-get_or c.self.inside.regions.items (c.args.region - 1) _ within ∙ ap Some (sym c.index_mut.ensures.value)))
+    queued_work c.self.inside.system c.self.inside.no_program c.self.inside.tables c.self.inside.codes c.self.inside.regions.items (c.args.region - 1) c.self.invariant
+    c.index_mut.result.now (slice_get-get_or c.self.inside.regions.items (c.args.region - 1) _ within ∙ ap Some (sym c.index_mut.ensures.value))
 
 pub invariant_of-self : goal.invariant_of-self
 invariant_of-self c =
@@ -23,9 +21,9 @@ invariant_of-self c =
     slice_get-get_or c.self.inside.regions.items (c.args.region - 1) _ within ∙ ap Some (sym c.index_mut.ensures.value) in
     parts_step c.self.inside.system c.self.inside.no_program c.self.inside.tables c.self.inside.codes c.self.inside.regions.items (c.args.region - 1) c.self.invariant
     c.index_mut.result.now c.advance.new.region get
-    (keeps_by c.self.inside.system c.self.inside.tables.queues.queued c.index_mut.result.now c.advance.new.region c.advance.result
+    (keeps_by c.self.inside.system c.self.inside.tables c.index_mut.result.now c.advance.new.region c.advance.result
     (queued_work c.self.inside.system c.self.inside.no_program c.self.inside.tables c.self.inside.codes c.self.inside.regions.items (c.args.region - 1) c.self.invariant c.index_mut.result.now get)
-    (rw (ap (λ q. q.queued) c.queues.ensures) at c.advance.ensures.steps) (rw (ap (λ q. q.queued) c.queues.ensures) at c.advance.ensures.err))
+    c.advance.ensures.steps c.advance.ensures.err)
 
 pub returns-clause-ok : goal.returns-clause-ok
 returns-clause-ok c =
@@ -37,7 +35,7 @@ returns-clause-ok c =
     (ok_map _ _ c.advance.result
     (λ advanced h. goes_is c.self.inside.system c.self.inside.no_program c.self.inside.tables c.self.inside.codes c.self.inside.regions.items c.args.region c.self.invariant region
     c.index_mut.result.now c.advance.new.region advanced get h)
-    (rw (ap (λ q. q.queued) c.queues.ensures) at c.advance.ensures.steps))
+    c.advance.ensures.steps)
 
 pub returns-clause-err : goal.returns-clause-err
 returns-clause-err c =
@@ -50,4 +48,4 @@ returns-clause-err c =
     (λ h. ap (λ ss. record { system = c.self.inside.system; moment = record { lasting = lasting_of c.self.inside.tables; slots = ss; codes = c.self.inside.codes } })
     (same_moment c.self.inside.system c.self.inside.no_program c.self.inside.tables c.self.inside.codes c.self.inside.regions.items c.args.region c.self.invariant region
     c.index_mut.result.now c.advance.new.region get h))
-    (rw (ap (λ q. q.queued) c.queues.ensures) at c.advance.ensures.err))
+    c.advance.ensures.err)

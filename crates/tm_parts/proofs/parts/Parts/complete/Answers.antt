@@ -8,7 +8,7 @@ use Rattle.tm_tables.specs.Tables.{lasting_of, IsFinished}
 use Rattle.tm_parts.specs.Parts.{slots_of}
 use Rattle.tm_parts.proofs.Linked.{set_length}
 use Rattle.tm_parts.proofs.Started.{followed_length}
-use Rattle.tm_parts.proofs.Finished.{id_there, parts_closed, may_done, after_done, whole_is, closed_with}
+use Rattle.tm_parts.proofs.Finished.{id_there, dbds_left, parts_closed, may_done, after_done, whole_is, closed_with}
 use Rattle.tm_parts.proofs.parts.Parts.complete.Goals as goal
 
 pub close-requires-clause-found : goal.close-requires-clause-found
@@ -20,7 +20,7 @@ pub invariant_of-self-2 : goal.invariant_of-self-2
 invariant_of-self-2 c =
     let e : slice_get c.self.inside.regions.items (c.args.region - 1) ≡ Some (Some c.busy_at-busy.result.now) =
     ap (λ rs. slice_get rs (c.args.region - 1)) (sym c.deref.ensures.value) ∙ c.busy_at-busy.ensures in
-    let finished : IsFinished c.self.inside.tables c.close.new.tables c.busy_at-busy.result.now.id c.busy_at-busy.result.now.unit.reply =
+    let finished : IsFinished c.self.inside.tables c.close.new.tables c.busy_at-busy.result.now.id c.busy_at-busy.result.now.unit.databases.databases c.busy_at-busy.result.now.unit.reply =
     closed_with c.self.inside.regions.items c.deref_mut.result.now (c.args.region - 1) c.busy_at-busy.result.now c.self.inside.tables c.close.new.tables c.busy_at-busy.result.now.id
     c.deref_mut.ensures.value e c.in-Ok.ensures.ok in
     let regions : c.close.new.regions ≡ slice_set c.self.inside.regions.items (c.args.region - 1) None =
@@ -29,7 +29,8 @@ invariant_of-self-2 c =
     rw (whole_is c.close.new.regions c.self.inside.regions.items c.self.inside.regions.len len (ap length regions ∙ set_length c.self.inside.regions.items (c.args.region - 1) None))
     (rw regions
     (parts_closed c.self.inside.system c.self.inside.no_program c.self.inside.tables c.self.inside.codes c.self.inside.regions.items c.args.region c.self.invariant
-    c.busy_at-busy.result.now e c.close.new.tables c.follow.new.codes c.busy_at-busy.result.now.unit.reply
+    c.busy_at-busy.result.now e c.close.new.tables c.follow.new.codes c.busy_at-busy.result.now.unit.databases.databases c.busy_at-busy.result.now.unit.reply
+    (dbds_left c.self.inside.system c.self.inside.no_program c.self.inside.tables c.self.inside.codes c.self.inside.regions.items c.args.region c.self.invariant c.busy_at-busy.result.now e)
     (ap length c.follow.ensures ∙ followed_length c.self.inside.system c.busy_at-busy.result.now.code c.waiting-waiting.result c.self.inside.codes) finished))
 
 pub returns-clause-may : goal.returns-clause-may
@@ -44,7 +45,7 @@ pub returns-clause-after : goal.returns-clause-after
 returns-clause-after c =
     let e : slice_get c.self.inside.regions.items (c.args.region - 1) ≡ Some (Some c.busy_at-busy.result.now) =
     ap (λ rs. slice_get rs (c.args.region - 1)) (sym c.deref.ensures.value) ∙ c.busy_at-busy.ensures in
-    let finished : IsFinished c.self.inside.tables c.close.new.tables c.busy_at-busy.result.now.id c.busy_at-busy.result.now.unit.reply =
+    let finished : IsFinished c.self.inside.tables c.close.new.tables c.busy_at-busy.result.now.id c.busy_at-busy.result.now.unit.databases.databases c.busy_at-busy.result.now.unit.reply =
     closed_with c.self.inside.regions.items c.deref_mut.result.now (c.args.region - 1) c.busy_at-busy.result.now c.self.inside.tables c.close.new.tables c.busy_at-busy.result.now.id
     c.deref_mut.ensures.value e c.in-Ok.ensures.ok in
     let regions : c.close.new.regions ≡ slice_set c.self.inside.regions.items (c.args.region - 1) None =

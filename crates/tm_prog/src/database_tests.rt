@@ -1,0 +1,214 @@
+use crate::tests::expect_source;
+use std::alloc::{AllocError, Global};
+use std::test::Fail;
+
+/// Accounts with their movements, and codes that open one, tell its balance, abend behind a
+/// replacement, add a movement, and go through all of them.
+const BANK: &[u8] = b"IMSCTRL QBYTES=1048576,LOGS=256
+DBD NAME=ACC,ROOTS=100
+SEGM NAME=ACCT,PARENT=0,KEY=4,BYTES=12
+SEGM NAME=MOVE,PARENT=ACCT,KEY=4,BYTES=12
+APPLCTN PSB=SEGSP
+TRANSACT CODE=SEGS,PRTY=(7,7,65535)
+APPLCTN PSB=SPINP
+TRANSACT CODE=SPIN,PROCLIM=(1,10)
+NAME LTERM=T1
+NAME LTERM=T2
+NAME LTERM=T9
+REGION CLASS=(1,2)
+APPLCTN PSB=OPENP
+PCB TYPE=DB,DBDNAME=ACC,PROCOPT=A
+TRANSACT CODE=OPEN
+APPLCTN PSB=BALP
+PCB TYPE=DB,DBDNAME=ACC,PROCOPT=A
+TRANSACT CODE=BAL
+APPLCTN PSB=ABNDP
+PCB TYPE=DB,DBDNAME=ACC,PROCOPT=A
+TRANSACT CODE=ABND
+APPLCTN PSB=ADDMP
+PCB TYPE=DB,DBDNAME=ACC,PROCOPT=A
+TRANSACT CODE=ADDM
+APPLCTN PSB=SCANP
+PCB TYPE=DB,DBDNAME=ACC,PROCOPT=A
+TRANSACT CODE=SCAN
+PROGRAM SEGSP
+CALL GU 0 A
+LABEL L
+CALL ISRT 0 A
+CALL GN 0 A
+IF STATUS <> \"QD\" GOTO L
+END
+ENDPROG
+PROGRAM SPINP
+LABEL L
+GOTO L
+ENDPROG
+PROGRAM OPENP
+CALL GU 0 A
+WORD B A 2
+WORD C A 3
+PAD C 8
+SET E B C
+CALL ISRT 1 E ACCT
+SET G \"OPENED \" B
+CALL ISRT 0 G
+END
+ENDPROG
+PROGRAM BALP
+CALL GU 0 A
+WORD B A 2
+CALL GU 1 E ACCT=B
+CUT F E 5 8
+SET G B \" \" F
+CALL ISRT 0 G
+END
+ENDPROG
+PROGRAM ABNDP
+CALL GU 0 A
+WORD B A 2
+CALL GHU 1 E ACCT=B
+SET E B \"00000000\"
+CALL REPL 1 E
+CALL ISRT 0 E
+ABEND 0123
+ENDPROG
+PROGRAM ADDMP
+CALL GU 0 A
+WORD B A 2
+SET D \"0001 OPENING\"
+CALL ISRT 1 D ACCT=B MOVE
+END
+ENDPROG
+PROGRAM SCANP
+CALL GU 0 A
+CALL GN 1 E
+CALL GN 1 E
+CALL GN 1 E
+CALL GN 1 E
+CALL GN 1 E
+END
+ENDPROG
+END
+";
+
+/// Two accounts are opened.
+const OPENED: &[u8] = b"IN T9 1 OPEN 0001 1000\nIN T9 2 OPEN 0002 1000\nQUIET 100\n";
+
+const OPENED_PRINTED: &[u8] = b"ACK T9 1\nACK T9 2\nQUIET 10\n";
+
+/// Codes that come to the limits of changed records, of roots and of a record's length.
+const LIMITS: &[u8] = b"IMSCTRL
+DBD NAME=WIDE
+SEGM NAME=ROOT,PARENT=0,KEY=4,BYTES=4
+DBD NAME=SMALL,ROOTS=2
+SEGM NAME=ROOT,PARENT=0,KEY=4,BYTES=4
+DBD NAME=LONG
+SEGM NAME=ROOT,PARENT=0,KEY=4,BYTES=1900
+SEGM NAME=NOTE,PARENT=ROOT,KEY=4,BYTES=1900
+APPLCTN PSB=MANYP
+PCB TYPE=DB,DBDNAME=WIDE,PROCOPT=I
+TRANSACT CODE=MANY
+APPLCTN PSB=ROOTSP
+PCB TYPE=DB,DBDNAME=SMALL,PROCOPT=I
+TRANSACT CODE=ROOTS
+APPLCTN PSB=LONGP
+PCB TYPE=DB,DBDNAME=LONG,PROCOPT=I
+TRANSACT CODE=LONG
+NAME LTERM=T1
+REGION CLASS=(1)
+PROGRAM MANYP
+CALL GU 0 A
+SET N \"0\"
+SET I \"1\"
+LABEL L
+ADD N I
+PAD N 4
+CALL ISRT 1 N ROOT
+GOTO L
+ENDPROG
+PROGRAM ROOTSP
+CALL GU 0 A
+SET N \"0\"
+SET I \"1\"
+LABEL L
+ADD N I
+PAD N 4
+CALL ISRT 1 N ROOT
+GOTO L
+ENDPROG
+PROGRAM LONGP
+CALL GU 0 A
+SET B \"0001\"
+CALL ISRT 1 B ROOT
+SET N \"0\"
+SET I \"1\"
+LABEL L
+ADD N I
+PAD N 4
+CALL ISRT 1 N ROOT=B NOTE
+GOTO L
+ENDPROG
+END
+";
+
+/// These texts, one behind another.
+fn joined(alloc: Global, texts: &[&[u8]]) -> Result<Vec<u8>, AllocError> {
+    let mut all = Vec::new(alloc);
+    for text in texts {
+        all.extend_from_slice(text)?;
+    }
+    Ok(all)
+}
+
+#[test]
+fn accounts(rt: HostRuntime) -> Result<(), Fail> {
+    let alloc = rt.alloc();
+    let table: [(&[u8], &[u8]); 3] = [
+        // An abend behind a replacement leaves the row as it was, and one reply.
+        (
+            b"IN T1 1 ABND 0001\nTURN 1\nTURN 1\nTURN 1\nTURN 1\nTURN 1\nTURN 1\nRECV T1\nACK T1 1\nRECV T1\nIN T2 1 BAL 0001\nQUIET 100\nRECV T2\n",
+            b"ACK T1 1\nR1 SCHEDULED ABND 3\nR1 GU 0 OK\nR1 GHU 1 OK\nR1 REPL 1 OK\nR1 ISRT 0 OK\nR1 ABENDED ABND 3 U0123\nOUT T1 1 DFS555I TRAN ABND ABEND U0123\nACKED T1 1\nNONE T1\nACK T2 1\nQUIET 5\nOUT T2 1 0001 00001000\n",
+        ),
+        // Down to a dependent, up to the next root, to the end, and round again.
+        (
+            b"IN T1 1 ADDM 0001\nQUIET 100\nIN T1 2 SCAN\nTURN 1\nTURN 1\nTURN 1\nTURN 1\nTURN 1\nTURN 1\nTURN 1\nTURN 1\n",
+            b"ACK T1 1\nQUIET 4\nACK T1 2\nR1 SCHEDULED SCAN 4\nR1 GU 0 OK\nR1 GN 1 OK\nR1 GN 1 OK\nR1 GN 1 GA\nR1 GN 1 GB\nR1 GN 1 OK\nR1 DONE SCAN 4\n",
+        ),
+        // Three segments are echoed; a script runs into its limit of statements.
+        (
+            b"IN T1 1 SEGS A\n+ B\n+ C\nTURN 1\nTURN 1\nTURN 1\nTURN 1\nTURN 1\nTURN 1\nTURN 1\nTURN 1\nTURN 1\nRECV T1\nIN T2 1 SPIN\nTURN 1\nTURN 1\n",
+            b"ACK T1 1\nR1 SCHEDULED SEGS 3\nR1 GU 0 OK\nR1 ISRT 0 OK\nR1 GN 0 OK\nR1 ISRT 0 OK\nR1 GN 0 OK\nR1 ISRT 0 OK\nR1 GN 0 QD\nR1 DONE SEGS 3\nOUT T1 1 SEGS A\n+ B\n+ C\nACK T2 1\nR1 SCHEDULED SPIN 4\nR1 ABENDED SPIN 4 U0240\n",
+        ),
+    ];
+    for (lines, printed) in &table {
+        let source = joined(alloc, &[BANK, OPENED, lines])?;
+        let printed = joined(alloc, &[OPENED_PRINTED, printed])?;
+        expect_source(&rt, alloc, &source, &printed)?;
+    }
+    Ok(())
+}
+
+/// An abend at a limit leaves no row, so that the same input comes to it again in as many turns.
+#[test]
+fn limits_of_databases(rt: HostRuntime) -> Result<(), Fail> {
+    let alloc = rt.alloc();
+    let table: [(&[u8], &[u8]); 3] = [
+        (
+            b"IN T1 1 MANY\nQUIET 100\nIN T1 2 MANY\nQUIET 100\nRECV T1\n",
+            b"ACK T1 1\nQUIET 35\nACK T1 2\nQUIET 35\nOUT T1 1 DFS555I TRAN MANY ABEND U0900\n",
+        ),
+        (
+            b"IN T1 1 ROOTS\nQUIET 100\nIN T1 2 ROOTS\nQUIET 100\nRECV T1\n",
+            b"ACK T1 1\nQUIET 5\nACK T1 2\nQUIET 5\nOUT T1 1 DFS555I TRAN ROOTS ABEND U0902\n",
+        ),
+        (
+            b"IN T1 1 LONG\nQUIET 100\nIN T1 2 LONG\nQUIET 100\nRECV T1\n",
+            b"ACK T1 1\nQUIET 5\nACK T1 2\nQUIET 5\nOUT T1 1 DFS555I TRAN LONG ABEND U0903\n",
+        ),
+    ];
+    for (lines, printed) in &table {
+        let source = joined(alloc, &[LIMITS, lines])?;
+        expect_source(&rt, alloc, &source, printed)?;
+    }
+    Ok(())
+}
