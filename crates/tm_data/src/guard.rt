@@ -23,6 +23,7 @@ pub fn may_call(types: &SegTypes, at: &Position, call: &DbCall) -> bool
     ensures types { IsTrue result → length types.now ≤ 255 }
     ensures position { IsTrue result → IsPosition types.now at.now }
     ensures call { IsTrue result → IsDbCall types.now call.now }
+    ensures each { length types.now ≤ 255 → IsPosition types.now at.now → IsDbCall types.now call.now → IsTrue result }
 {
     if types.len() > 255 {
         return false;
@@ -31,7 +32,7 @@ pub fn may_call(types: &SegTypes, at: &Position, call: &DbCall) -> bool
 }
 
 fn is_position(types: &SegTypes, at: &Position) -> bool
-    ensures { IsTrue result → IsPosition types.now at.now }
+    ensures { IsTrue result ↔ IsPosition types.now at.now }
 {
     is_path_or_none(types, at.position.as_ref())
         && is_path_or_none(types, at.parentage.as_ref())
@@ -39,7 +40,7 @@ fn is_position(types: &SegTypes, at: &Position) -> bool
 }
 
 fn is_path_or_none(types: &SegTypes, path: Option<&Path>) -> bool
-    ensures { IsTrue result → IfSome (option_copied path.entry) (IsPath types.now) }
+    ensures { IsTrue result ↔ IfSome (option_copied path.entry) (IsPath types.now) }
 {
     match path {
         Some(path) => is_path(types, path),
@@ -48,13 +49,13 @@ fn is_path_or_none(types: &SegTypes, path: Option<&Path>) -> bool
 }
 
 fn is_path(types: &SegTypes, path: &Path) -> bool
-    ensures { IsTrue result → IsPath types.now path.now }
+    ensures { IsTrue result ↔ IsPath types.now path.now }
 {
     !path.is_empty() && is_path_below(types, 0, path.as_slice())
 }
 
 fn is_path_below(types: &SegTypes, above: u8, path: &[(u8, Key)]) -> bool
-    ensures { IsTrue result → IsPathBelow types.now above path.now }
+    ensures { IsTrue result ↔ IsPathBelow types.now above path.now }
 {
     match path {
         [] => true,
@@ -63,7 +64,7 @@ fn is_path_below(types: &SegTypes, above: u8, path: &[(u8, Key)]) -> bool
 }
 
 fn is_child(types: &SegTypes, above: u8, pair: &(u8, Key)) -> bool
-    ensures { IsTrue result → IsChild types.now above pair.now }
+    ensures { IsTrue result ↔ IsChild types.now above pair.now }
 {
     match types.numbered(pair.0) {
         Some(segment) => {
@@ -75,7 +76,7 @@ fn is_child(types: &SegTypes, above: u8, pair: &(u8, Key)) -> bool
 
 fn are_ssas(types: &SegTypes, function: Function, ssas: &[Ssa]) -> bool
     requires { length types.now ≤ 255 }
-    ensures { IsTrue result → AreSsasOf function types.now ssas.now }
+    ensures { IsTrue result ↔ AreSsasOf function types.now ssas.now }
 {
     match function {
         Function::ISRT => are_insert_ssas(types, 0, ssas),
@@ -85,7 +86,7 @@ fn are_ssas(types: &SegTypes, function: Function, ssas: &[Ssa]) -> bool
 
 fn are_insert_ssas(types: &SegTypes, above: u8, ssas: &[Ssa]) -> bool
     requires { length types.now ≤ 255 }
-    ensures { IsTrue result → AreInsertSsas types.now above ssas.now }
+    ensures { IsTrue result ↔ AreInsertSsas types.now above ssas.now }
 {
     match ssas {
         [] => false,
@@ -100,7 +101,7 @@ fn are_insert_ssas(types: &SegTypes, above: u8, ssas: &[Ssa]) -> bool
 
 fn names_child(types: &SegTypes, above: u8, ssa: &Ssa) -> bool
     requires { length types.now ≤ 255 }
-    ensures { IsTrue result → NamesChild types.now above ssa.now }
+    ensures { IsTrue result ↔ NamesChild types.now above ssa.now }
 {
     match types.numbered(number_named(types, &ssa.segment)) {
         Some(segment) => segment.parent == above,

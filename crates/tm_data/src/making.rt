@@ -71,7 +71,8 @@ fn change_none(
     }
 }
 
-/// A call that changes the record of this root, within the limits.
+/// A call that would change the record of this root. One changed record too many goes before a
+/// limit of the database.
 fn change_record(
     alloc: Global,
     dbd: &Dbd,
