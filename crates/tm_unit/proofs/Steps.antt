@@ -1,12 +1,12 @@
 -- A region's work goes on as the trial does.
-use Rattle.std.proofs.Common.{◌≡◌, ℕ, suc, ◌+◌, Bool, true, false, List, [], ◌∷◌, ◌++◌, length, sym, ◌∙◌, ap, refl, add-one}
+use Rattle.std.proofs.Common.{◌≡◌, ℕ, ◌+◌, Bool, true, false, List, [], ◌∷◌, ◌++◌, length, sym, ◌∙◌, ap, refl, add-one}
 use Rattle.std.specs.Prelude.{Option, Some, None, if◌then◌else◌}
 use Rattle.std.specs.Option.{option_and_then, option_map}
 use Rattle.tm_types.specs.declared.abend.AbendCode.{AbendCode}
 use Rattle.tm_types.specs.declared.status.Status.{Status}
 use Rattle.model_script.specs.declared.need.CallText.{CallText}
 use Rattle.model_script.specs.declared.need.Need.{Need}
-use Rattle.model_script.specs.declared.need.Need.TheVariants.{Call, Ended, Abend}
+use Rattle.model_script.specs.declared.need.Need.TheVariants.{Call}
 use Rattle.model_script.specs.declared.program.ScriptLine.{ScriptLine}
 use Rattle.model_script.specs.Script.{Answer, ScriptState, script_start, script_after, settled, step, need_of, need_at, answered, moved_on, waiting_by, waiting_at}
 use Rattle.std.specs.Prelude.{slice_get}
@@ -16,16 +16,16 @@ use Rattle.model_rows.specs.declared.row.Row.{Row}
 use Rattle.std.specs.Prelude.{map, replicate}
 use Rattle.model_rows.specs.Rows.{Database}
 use Rattle.model_system.specs.declared.pcb.Pcb.{Pcb}
-use Rattle.model_dli.specs.Data.{Data, data_start, nowhere}
+use Rattle.model_dli.specs.Data.{data_start, nowhere}
 use Rattle.tm_data.specs.State.{UnitDataState, data_of, dbds_of}
 use Rattle.tm_unit.specs.declared.unit.Ending.{Ending}
-use Rattle.model_machine.specs.Unit.{Job, Work, Trial, CalledWith, UnitEnd, trial_start, trial_of, trial_step, trial_by, trial_need, trial_called, trial_end, end_by, is_sync, unless_abend, call_answer, call_work, call_data, call_abend}
-use Rattle.model_machine.specs.Unit.UnitEnd.{Ends, Syncs, Abends}
+use Rattle.model_machine.specs.Unit.{Job, Trial, UnitEnd, trial_start, trial_of, trial_step, trial_by, trial_need, trial_called, trial_end, end_by, is_sync, unless_abend, call_answer, call_work, call_data, call_abend}
+use Rattle.model_machine.specs.Unit.UnitEnd.{Syncs, Abends}
 use Rattle.tm_unit.specs.UnitState.{UnitState, work_of}
 use Rattle.tm_unit.specs.Answering.{Answers}
 use Rattle.tm_unit.specs.declared.unit.Advanced.TheVariants.{Called, Ended as WorkEnded}
-use Rattle.tm_unit.specs.declared.unit.Ending.TheVariants.{End, Sync, Abend as AbendEnding}
-use Rattle.tm_unit.specs.Ahead.{IsAhead, IsStart, Advances, GoesOn, StaysAhead, end_of}
+use Rattle.tm_unit.specs.declared.unit.Ending.TheVariants.{Sync, Abend as AbendEnding}
+use Rattle.tm_unit.specs.Ahead.{IsAhead, IsStart, Advances, end_of}
 
 -- one more answer: the script goes on from where it stood
 script_after-append : (lines : List ScriptLine) (limit : ℕ) (state : ScriptState) (answers : List Answer) (answer : Answer)

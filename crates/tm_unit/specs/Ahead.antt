@@ -1,8 +1,8 @@
 -- A region's work is what as many calls of its script, made from the start, lead to.
-use Rattle.std.specs.Prelude.{◌≡◌, ℕ, ◌+◌, Option, Some, List, [], length}
+use Rattle.std.specs.Prelude.{◌≡◌, ℕ, ◌+◌, Some, List, [], length}
 use Rattle.std.specs.Option.{option_and_then}
 use Rattle.model_script.specs.Script.{script_start, script_after, settled}
-use Rattle.model_machine.specs.Unit.{Job, Trial, CalledWith, UnitEnd, trial_of, trial_end}
+use Rattle.model_machine.specs.Unit.{Job, Trial, UnitEnd, trial_of, trial_end}
 use Rattle.model_machine.specs.Unit.UnitEnd.{Ends, Syncs, Abends}
 use Rattle.model_rows.specs.declared.row.Row.{Row}
 use Rattle.model_system.specs.declared.pcb.Pcb.{Pcb}

@@ -153,8 +153,18 @@ impl Unit {
         let Some(dbd) = databases.get(usize::from(number) - 1) else {
             return Ok(CallEnd::Answered(self.tell(Status::AM)?));
         };
-        let CallText { function, pcb, area, ssas } = call;
-        let call = DbCall { function, options, area, ssas };
+        let CallText {
+            function,
+            pcb,
+            area,
+            ssas,
+        } = call;
+        let call = DbCall {
+            function,
+            options,
+            area,
+            ssas,
+        };
         match self.databases.call(dbd, number, pcb, &call) {
             Ok(DataAnswer::Abend(abend)) => Ok(CallEnd::Abended(abend)),
             Ok(DataAnswer::Answered(answered)) => self.tell_answer(pcb, answered),

@@ -1,8 +1,6 @@
-use Rattle.std.proofs.Common.{◌≡◌, ◌+◌, [], sym, ap, refl, ◌∙◌}
-use Rattle.model_machine.specs.Unit.{Job, is_sync, end_by, call_abend, Syncs, Abends, Ends}
-use Rattle.tm_unit.specs.UnitState.{UnitState, work_of}
+use Rattle.std.proofs.Common.{◌+◌, sym, ap, refl, ◌∙◌}
 use Rattle.tm_unit.specs.declared.unit.Ending.TheVariants.{End, Sync, Abend as AbendEnding}
-use Rattle.tm_unit.proofs.Steps.{still_ahead, ended_is, called_is, settled_again, sync_end, abend_end, same_unit_ahead}
+use Rattle.tm_unit.proofs.Steps.{ended_is, called_is, sync_end, abend_end, same_unit_ahead}
 use Rattle.tm_unit.proofs.unit.Unit.advance.Goals as goal
 
 pub returns-in-Ended-clause-advances : goal.returns-in-Ended-clause-advances

@@ -1,4 +1,4 @@
-use Rattle.std.proofs.Common.{◌≡◌, false, ℕ, length, replicate, ap, refl, map, ◌∙◌}
+use Rattle.std.proofs.Common.{false, ℕ, length, replicate, ap, refl, map, ◌∙◌}
 use Rattle.std.proofs.lemmas.List.{length-replicate}
 use Rattle.model_rows.specs.Rows.{Database}
 use Rattle.model_dli.specs.Data.{nowhere}
