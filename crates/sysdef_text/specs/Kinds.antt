@@ -5,18 +5,27 @@ use Rattle.std.specs.Str.{bytes_eq}
 use Rattle.text_rows.specs.declared.rules.TheConstants.{UNKNOWN_MACRO, UNKNOWN_OPERAND}
 use Rattle.text_rows.specs.Lines.{split_at}
 use Rattle.sysdef_text.specs.declared.kinds.Kind.{Kind}
-use Rattle.sysdef_text.specs.declared.kinds.Kind.TheVariants.{Control, Application, Transaction, Terminal, Region, End}
+use Rattle.sysdef_text.specs.declared.kinds.Kind.TheVariants.{Control, Database, Segment, Application, Pcb, Transaction, Terminal, Region, End}
 
 -- Rule 1: the name is one of these.
 unfoldable pub kind_of : List ℕ → Result Kind ℕ
 kind_of name =
     if bytes_eq name (codes "IMSCTRL") then Ok Control
+    else (if bytes_eq name (codes "DBD") then Ok Database
+    else (if bytes_eq name (codes "SEGM") then Ok Segment
     else (if bytes_eq name (codes "APPLCTN") then Ok Application
+    else (if bytes_eq name (codes "PCB") then Ok Pcb
     else (if bytes_eq name (codes "TRANSACT") then Ok Transaction
     else (if bytes_eq name (codes "NAME") then Ok Terminal
     else (if bytes_eq name (codes "REGION") then Ok Region
     else (if bytes_eq name (codes "END") then Ok End
-    else Err UNKNOWN_MACRO)))))
+    else Err UNKNOWN_MACRO))))))))
+
+abbrev pub segment_keys : List (List ℕ)
+segment_keys = codes "NAME" ∷ codes "PARENT" ∷ codes "KEY" ∷ codes "BYTES" ∷ []
+
+abbrev pub pcb_keys : List (List ℕ)
+pcb_keys = codes "TYPE" ∷ codes "DBDNAME" ∷ codes "PROCOPT" ∷ []
 
 abbrev pub transaction_keys : List (List ℕ)
 transaction_keys = codes "CODE" ∷ codes "MSGTYPE" ∷ codes "PRTY" ∷ codes "PROCLIM" ∷ codes "SEGNO" ∷ codes "SEGSIZE" ∷ codes "SERIAL" ∷ []
@@ -24,7 +33,10 @@ transaction_keys = codes "CODE" ∷ codes "MSGTYPE" ∷ codes "PRTY" ∷ codes "
 -- the keys that a macro has
 abbrev pub keys : Kind → List (List ℕ)
 keys Control = codes "QBYTES" ∷ codes "LOGS" ∷ []
+keys Database = codes "NAME" ∷ codes "ROOTS" ∷ []
+keys Segment = segment_keys
 keys Application = codes "PSB" ∷ []
+keys Pcb = pcb_keys
 keys Transaction = transaction_keys
 keys Terminal = codes "LTERM" ∷ []
 keys Region = codes "CLASS" ∷ []

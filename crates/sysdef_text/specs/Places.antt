@@ -7,23 +7,32 @@ use Rattle.text_rows.specs.Operands.{macro_name, macro_operands}
 use Rattle.text_rows.specs.declared.rules.TheConstants.{OUT_OF_PLACE, TEXT_TOO_LONG, CONTROL_NOT_FIRST}
 use Rattle.sysdef_check.specs.declared.definition.Macro.{Macro}
 use Rattle.sysdef_text.specs.declared.kinds.Kind.{Kind}
-use Rattle.sysdef_text.specs.declared.kinds.Kind.TheVariants.{Control, Application, Transaction}
+use Rattle.sysdef_text.specs.declared.kinds.Kind.TheVariants.{Control, Database, Segment, Application, Pcb, Transaction}
 use Rattle.sysdef_text.specs.declared.modes.Mode.{Mode}
-use Rattle.sysdef_text.specs.declared.modes.Mode.TheVariants.{Start, BehindApplication, Elsewhere}
+use Rattle.sysdef_text.specs.declared.modes.Mode.TheVariants.{Start, BehindDatabase, BehindApplication, BehindTransaction, Elsewhere}
 use Rattle.sysdef_text.specs.Kinds.{known}
 use Rattle.sysdef_text.specs.Rows.{row, program_name}
 
 -- what has come behind a macro
 abbrev pub mode_after : Kind → Mode
+mode_after Database = BehindDatabase
+mode_after Segment = BehindDatabase
 mode_after Application = BehindApplication
-mode_after Transaction = BehindApplication
+mode_after Pcb = BehindApplication
+mode_after Transaction = BehindTransaction
 mode_after _ = Elsewhere
 
--- Rule 10: TRANSACT stands right behind APPLCTN or TRANSACT.
-abbrev pub transaction_place : Mode → Kind → Result (Unit {0}) ℕ
-transaction_place BehindApplication kind = Ok tt
-transaction_place _ Transaction = Err OUT_OF_PLACE
-transaction_place _ _ = Ok tt
+-- Rule 10: SEGM stands right behind DBD or SEGM, PCB right behind APPLCTN or PCB, and TRANSACT right
+-- behind APPLCTN, PCB or TRANSACT.
+abbrev pub family_place : Mode → Kind → Result (Unit {0}) ℕ
+family_place BehindDatabase Segment = Ok tt
+family_place BehindApplication Pcb = Ok tt
+family_place BehindApplication Transaction = Ok tt
+family_place BehindTransaction Transaction = Ok tt
+family_place _ Segment = Err OUT_OF_PLACE
+family_place _ Pcb = Err OUT_OF_PLACE
+family_place _ Transaction = Err OUT_OF_PLACE
+family_place _ _ = Ok tt
 
 -- Rule 14: IMSCTRL is the first macro, and no other.
 abbrev pub control_place : Mode → Kind → Result (Unit {0}) ℕ
@@ -46,7 +55,7 @@ within _ _ = Ok tt
 unfoldable pub macro_line : Kind → Mode → Bool → List ℕ → List (List ℕ) → Result Macro ℕ
 macro_line kind mode over line behind =
     also (also (also (row kind (macro_operands line)) (known kind (macro_operands line))) (printable_line line))
-    (also (also (transaction_place mode kind) (control_place mode kind)) (within over behind))
+    (also (also (family_place mode kind) (control_place mode kind)) (within over behind))
 
 -- the name of a PROGRAM, or the lowest rule that its line breaks
 unfoldable pub program_line : Mode → Bool → List ℕ → List (List ℕ) → Result (List ℕ) ℕ

@@ -1,7 +1,7 @@
 -- The table of macros: a row for each, with its operands and their defaults.
 use Rattle.std.specs.Prelude.{ℕ, Bool, false, List, [], ◌∷◌, codes, Option, Some, None, Result, Ok, Err}
 use Rattle.text_rows.specs.Lines.{split_at}
-use Rattle.text_rows.specs.Lowest.{both}
+use Rattle.text_rows.specs.Lowest.{both, also}
 use Rattle.text_rows.specs.Names.{name_of}
 use Rattle.text_rows.specs.Numbers.{number_between}
 use Rattle.text_rows.specs.Operands.{needed, or_as}
@@ -11,8 +11,8 @@ use Rattle.model_system.specs.declared.code.SegmentKind.TheVariants.{Multiple}
 use Rattle.sysdef_check.specs.declared.definition.Macro.{Macro}
 use Rattle.sysdef_check.specs.declared.definition.Macro.TheVariants as macro
 use Rattle.sysdef_text.specs.declared.kinds.Kind.{Kind}
-use Rattle.sysdef_text.specs.declared.kinds.Kind.TheVariants.{Control, Application, Transaction, Terminal, Region, End}
-use Rattle.sysdef_text.specs.Values.{message_type_of, priorities_of, limits_of, serial_of, classes_of}
+use Rattle.sysdef_text.specs.declared.kinds.Kind.TheVariants.{Control, Database, Segment, Application, Pcb, Transaction, Terminal, Region, End}
+use Rattle.sysdef_text.specs.Values.{parent_of, pcb_type_of, options_of, message_type_of, priorities_of, limits_of, serial_of, classes_of}
 
 -- IMSCTRL QBYTES, LOGS
 abbrev pub control_made : Result (ℕ × ℕ) ℕ → Result Macro ℕ
@@ -22,6 +22,28 @@ control_made (Err rule) = Err rule
 unfoldable pub control_row : List (List ℕ) → Result Macro ℕ
 control_row ops = control_made (both (or_as (codes "QBYTES") (number_between 131072 8388608) 8388608 ops) (or_as (codes "LOGS") (number_between 64 2048) 2048 ops))
 
+-- DBD NAME, ROOTS
+abbrev pub database_made : Result (List ℕ × ℕ) ℕ → Result Macro ℕ
+database_made (Ok (name, roots)) = Ok (macro.Database name roots)
+database_made (Err rule) = Err rule
+
+unfoldable pub database_row : List (List ℕ) → Result Macro ℕ
+database_row ops = database_made (both (needed (codes "NAME") name_of ops) (or_as (codes "ROOTS") (number_between 1 4096) 4096 ops))
+
+-- SEGM NAME, PARENT, KEY, BYTES
+abbrev pub segment_made : Result ((List ℕ × Option (List ℕ)) × (ℕ × ℕ)) ℕ → Result Macro ℕ
+segment_made (Ok ((name, parent), (key, bytes))) = Ok (macro.Segment name parent key bytes)
+segment_made (Err rule) = Err rule
+
+unfoldable pub place_part : List (List ℕ) → Result (List ℕ × Option (List ℕ)) ℕ
+place_part ops = both (needed (codes "NAME") name_of ops) (needed (codes "PARENT") parent_of ops)
+
+unfoldable pub length_part : List (List ℕ) → Result (ℕ × ℕ) ℕ
+length_part ops = both (needed (codes "KEY") (number_between 1 32) ops) (needed (codes "BYTES") (number_between 1 1900) ops)
+
+unfoldable pub segment_row : List (List ℕ) → Result Macro ℕ
+segment_row ops = segment_made (both (place_part ops) (length_part ops))
+
 -- APPLCTN PSB
 abbrev pub application_made : Result (List ℕ) ℕ → Result Macro ℕ
 application_made (Ok psb) = Ok (macro.Application psb)
@@ -29,6 +51,31 @@ application_made (Err rule) = Err rule
 
 unfoldable pub application_row : List (List ℕ) → Result Macro ℕ
 application_row ops = application_made (needed (codes "PSB") name_of ops)
+
+-- PCB TYPE, DBDNAME, PROCOPT
+abbrev pub pcb_made : Result (List ℕ × ℕ) ℕ → Result Macro ℕ
+pcb_made (Ok (database, options)) = Ok (macro.DatabasePcb database options)
+pcb_made (Err rule) = Err rule
+
+-- whether a value is one, apart from which
+abbrev pub judged : {A : Type 0} → Result A ℕ → Result (Unit {0}) ℕ
+judged (Ok value) = Ok tt
+judged (Err rule) = Err rule
+
+-- the operands that stand there, of which none is missing
+unfoldable pub standing_part : List (List ℕ) → Result (Unit {0}) ℕ
+standing_part ops = also (or_as (codes "DBDNAME") (λ text. judged (name_of text)) tt ops) (or_as (codes "PROCOPT") (λ text. judged (options_of text)) tt ops)
+
+unfoldable pub database_part : List (List ℕ) → Result (List ℕ × ℕ) ℕ
+database_part ops = both (needed (codes "DBDNAME") name_of ops) (needed (codes "PROCOPT") options_of ops)
+
+-- Where TYPE isn't DB no other operand is missing.
+abbrev pub pcb_values : Result (Unit {0}) ℕ → List (List ℕ) → Result (List ℕ × ℕ) ℕ
+pcb_values (Ok _) ops = database_part ops
+pcb_values (Err rule) ops = also (Err rule) (standing_part ops)
+
+unfoldable pub pcb_row : List (List ℕ) → Result Macro ℕ
+pcb_row ops = pcb_made (pcb_values (needed (codes "TYPE") pcb_type_of ops) ops)
 
 -- NAME LTERM
 abbrev pub terminal_made : Result (List ℕ) ℕ → Result Macro ℕ
@@ -79,7 +126,10 @@ transaction_row ops = transaction_made (both (code_part ops) (limit_part ops))
 -- the row of a kind; END has no operands
 unfoldable pub row : Kind → List (List ℕ) → Result Macro ℕ
 row Control ops = control_row ops
+row Database ops = database_row ops
+row Segment ops = segment_row ops
 row Application ops = application_row ops
+row Pcb ops = pcb_row ops
 row Transaction ops = transaction_row ops
 row Terminal ops = terminal_row ops
 row Region ops = region_row ops

@@ -1,14 +1,17 @@
 -- The values of operands.
-use Rattle.std.specs.Prelude.{ℕ, Bool, false, ◌&&◌, List, [], ◌∷◌, ◌++◌, length, nat_le, codes, Result, Ok, Err, if◌then◌else◌}
+use Rattle.std.specs.Prelude.{ℕ, ◌+◌, ◌==◌, Bool, true, false, ◌&&◌, ◌||◌, not, List, [], ◌∷◌, ◌++◌, length, nat_le, codes, Option, Some, None, Result, Ok, Err, if◌then◌else◌}
+use Rattle.std.specs.List.{list_any}
 use Rattle.std.specs.Str.{bytes_eq}
+use Rattle.tm_types.specs.declared.processing.TheConstants.{GET, INSERT, REPLACE, DELETE}
 use Rattle.text_rows.specs.declared.rules.TheConstants.{WRONG_LIST, WRONG_WORD}
 use Rattle.text_rows.specs.Lists.{list_of, two_of, three_of}
 use Rattle.text_rows.specs.Lowest.{both, also}
+use Rattle.text_rows.specs.Names.{name_of}
 use Rattle.text_rows.specs.Numbers.{number_between}
 use Rattle.model_system.specs.declared.code.SegmentKind.{SegmentKind}
 use Rattle.model_system.specs.declared.code.SegmentKind.TheVariants.{Multiple, Single}
 
--- Rule 9: the words of MSGTYPE and SERIAL.
+-- Rule 9: the words of MSGTYPE, SERIAL, TYPE and PROCOPT.
 unfoldable pub segment_kind_of : List ℕ → Result SegmentKind ℕ
 segment_kind_of word = if bytes_eq word (codes "MULTSEG") then Ok Multiple else (if bytes_eq word (codes "SNGLSEG") then Ok Single else Err WRONG_WORD)
 
@@ -17,6 +20,48 @@ response_of word = if bytes_eq word (codes "NONRESPONSE") then Ok tt else Err WR
 
 unfoldable pub serial_of : List ℕ → Result Bool ℕ
 serial_of word = if bytes_eq word (codes "NO") then Ok false else Err WRONG_WORD
+
+-- PARENT: 0 alone is the root's, and no name
+abbrev pub named : Result (List ℕ) ℕ → Result (Option (List ℕ)) ℕ
+named (Ok name) = Ok (Some name)
+named (Err rule) = Err rule
+
+unfoldable pub parent_of : List ℕ → Result (Option (List ℕ)) ℕ
+parent_of text = if bytes_eq text (codes "0") then Ok None else named (name_of text)
+
+-- TYPE: DB
+unfoldable pub pcb_type_of : List ℕ → Result (Unit {0}) ℕ
+pcb_type_of word = if bytes_eq word (codes "DB") then Ok tt else Err WRONG_WORD
+
+-- one of the bytes is this letter
+abbrev pub has_letter : ℕ → List ℕ → Bool
+has_letter letter word = list_any (λ byte. byte == letter) word
+
+-- G, I, R or D
+abbrev pub is_option_letter : ℕ → Bool
+is_option_letter byte = (byte == 71) || (byte == 73) || (byte == 82) || (byte == 68)
+
+-- different ones of these letters
+abbrev pub are_option_letters : List ℕ → Bool
+are_option_letters [] = true
+are_option_letters (byte ∷ bytes) = is_option_letter byte && not (has_letter byte bytes) && are_option_letters bytes
+
+abbrev pub option_if : Bool → ℕ → ℕ
+option_if allowed option = if allowed then option else 0
+
+-- G, R and D allow to get, I to insert, R to replace and D to delete
+unfoldable pub option_sum : List ℕ → ℕ
+option_sum word =
+    option_if (has_letter 71 word || has_letter 82 word || has_letter 68 word) GET + option_if (has_letter 73 word) INSERT
+    + option_if (has_letter 82 word) REPLACE + option_if (has_letter 68 word) DELETE
+
+abbrev pub letter_options : List ℕ → Result ℕ ℕ
+letter_options [] = Err WRONG_WORD
+letter_options (byte ∷ bytes) = if are_option_letters (byte ∷ bytes) then Ok (option_sum (byte ∷ bytes)) else Err WRONG_WORD
+
+-- PROCOPT: A is all four, else there are one or more different letters
+unfoldable pub options_of : List ℕ → Result ℕ ℕ
+options_of word = if bytes_eq word (codes "A") then Ok (GET + INSERT + REPLACE + DELETE) else letter_options word
 
 -- MSGTYPE: MULTSEG or SNGLSEG, NONRESPONSE, and a class of 1 to 255
 abbrev pub message_type_in : Result (List ℕ × List ℕ × List ℕ) ℕ → Result (SegmentKind × ℕ) ℕ

@@ -11,8 +11,14 @@ use text_rows::{Operands, is_word, split_at};
 pub enum Kind {
     /// IMSCTRL.
     Control,
+    /// DBD.
+    Database,
+    /// SEGM.
+    Segment,
     /// APPLCTN.
     Application,
+    /// PCB.
+    Pcb,
     /// TRANSACT.
     Transaction,
     /// NAME.
@@ -30,8 +36,14 @@ pub(crate) fn kind_of(name: &[u8]) -> Result<Kind, u8>
 {
     if is_word(name, b"IMSCTRL") {
         Ok(Kind::Control)
+    } else if is_word(name, b"DBD") {
+        Ok(Kind::Database)
+    } else if is_word(name, b"SEGM") {
+        Ok(Kind::Segment)
     } else if is_word(name, b"APPLCTN") {
         Ok(Kind::Application)
+    } else if is_word(name, b"PCB") {
+        Ok(Kind::Pcb)
     } else if is_word(name, b"TRANSACT") {
         Ok(Kind::Transaction)
     } else if is_word(name, b"NAME") {
@@ -73,12 +85,30 @@ fn is_key(kind: Kind, word: &[u8]) -> bool
 {
     match kind {
         Kind::Control => is_word(word, b"QBYTES") || is_word(word, b"LOGS"),
+        Kind::Database => is_word(word, b"NAME") || is_word(word, b"ROOTS"),
+        Kind::Segment => is_segment_key(word),
         Kind::Application => is_word(word, b"PSB"),
+        Kind::Pcb => is_pcb_key(word),
         Kind::Transaction => is_transaction_key(word),
         Kind::Terminal => is_word(word, b"LTERM"),
         Kind::Region => is_word(word, b"CLASS"),
         Kind::End => false,
     }
+}
+
+fn is_segment_key(word: &[u8]) -> bool
+    ensures { result ≡ list_any (bytes_eq word.now) spec.segment_keys }
+{
+    is_word(word, b"NAME")
+        || is_word(word, b"PARENT")
+        || is_word(word, b"KEY")
+        || is_word(word, b"BYTES")
+}
+
+fn is_pcb_key(word: &[u8]) -> bool
+    ensures { result ≡ list_any (bytes_eq word.now) spec.pcb_keys }
+{
+    is_word(word, b"TYPE") || is_word(word, b"DBDNAME") || is_word(word, b"PROCOPT")
 }
 
 fn is_transaction_key(word: &[u8]) -> bool

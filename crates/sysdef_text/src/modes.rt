@@ -5,8 +5,12 @@ use sysdef_check::Macro;
 pub enum Mode {
     /// No macro.
     Start,
-    /// An APPLCTN or a TRANSACT.
+    /// A DBD or a SEGM.
+    BehindDatabase,
+    /// An APPLCTN or a PCB.
     BehindApplication,
+    /// A TRANSACT.
+    BehindTransaction,
     /// Another macro.
     Elsewhere,
     /// A PROGRAM whose ENDPROG is still to come.

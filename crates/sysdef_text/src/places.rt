@@ -14,16 +14,23 @@ pub(crate) fn mode_after(kind: Kind) -> Mode
     ensures { result ≡ spec.mode_after kind }
 {
     match kind {
-        Kind::Application | Kind::Transaction => Mode::BehindApplication,
+        Kind::Database | Kind::Segment => Mode::BehindDatabase,
+        Kind::Application | Kind::Pcb => Mode::BehindApplication,
+        Kind::Transaction => Mode::BehindTransaction,
         _ => Mode::Elsewhere,
     }
 }
 
-fn transaction_place(mode: Mode, kind: Kind) -> Result<(), u8>
-    ensures { result ≡ spec.transaction_place mode kind }
+/// Rule 10 where a macro doesn't stand behind those that it belongs to.
+fn family_place(mode: Mode, kind: Kind) -> Result<(), u8>
+    ensures { result ≡ spec.family_place mode kind }
 {
     match (mode, kind) {
-        (Mode::BehindApplication, _) => Ok(()),
+        (Mode::BehindDatabase, Kind::Segment) => Ok(()),
+        (Mode::BehindApplication, Kind::Pcb) => Ok(()),
+        (Mode::BehindApplication | Mode::BehindTransaction, Kind::Transaction) => Ok(()),
+        (_, Kind::Segment) => Err(OUT_OF_PLACE),
+        (_, Kind::Pcb) => Err(OUT_OF_PLACE),
         (_, Kind::Transaction) => Err(OUT_OF_PLACE),
         _ => Ok(()),
     }
@@ -71,7 +78,7 @@ pub(crate) fn macro_line(
 {
     let (_, operands) = split_macro(line);
     let values = also(row(kind, &operands), known(kind, &operands));
-    let place = also(transaction_place(mode, kind), control_place(mode, kind));
+    let place = also(family_place(mode, kind), control_place(mode, kind));
     also(
         also(values, printable_line(line)),
         also(place, within(over, behind)),

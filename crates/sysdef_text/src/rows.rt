@@ -9,11 +9,12 @@ ghost use Rattle.sysdef_text.specs.Rows as spec;
 
 use crate::Kind;
 use crate::values::{
-    byte_between, classes_of, limits_of, message_type_of, priorities_of, serial_of, short_between,
+    byte_between, classes_of, key_of, limits_of, message_type_of, options_of, parent_of,
+    pcb_type_of, priorities_of, serial_of, short_between,
 };
-use sysdef_check::{Classes, Macro, SegmentKind, Transaction};
+use sysdef_check::{Classes, KeyLength, Macro, SegmentKind, Transaction};
 use text_rows::rules::OPERAND_MISSING;
-use text_rows::{Operands, both, name_of, number_between, split_at};
+use text_rows::{Operands, also, both, name_of, number_between, split_at};
 use tm_types::Name;
 
 /// The name under a key that must be there.
@@ -44,6 +45,95 @@ fn logs(operands: &Operands<'_>) -> Result<u32, u8>
     match operands.only_value(b"LOGS")? {
         Some(text) => number_between(64, 2048, text),
         None => Ok(2048),
+    }
+}
+
+#[tactic(auto, unfolding(text_rows::specs::Operands::or_as))]
+fn roots(operands: &Operands<'_>) -> Result<u16, u8>
+    ensures { result ≡ or_as (codes "ROOTS") (number_between 1 4096) 4096 operands.now }
+{
+    match operands.only_value(b"ROOTS")? {
+        Some(text) => short_between(1, 4096, text),
+        None => Ok(4096),
+    }
+}
+
+#[tactic(auto, unfolding(text_rows::specs::Operands::needed))]
+fn parent(operands: &Operands<'_>) -> Result<Option<Name>, u8>
+    ensures { result ≡ needed (codes "PARENT") values.parent_of operands.now }
+{
+    match operands.only_value(b"PARENT")? {
+        Some(text) => parent_of(text),
+        None => Err(OPERAND_MISSING),
+    }
+}
+
+#[tactic(auto, unfolding(text_rows::specs::Operands::needed))]
+fn key(operands: &Operands<'_>) -> Result<KeyLength, u8>
+    ensures { result ≡ needed (codes "KEY") (number_between 1 32) operands.now }
+{
+    match operands.only_value(b"KEY")? {
+        Some(text) => key_of(text),
+        None => Err(OPERAND_MISSING),
+    }
+}
+
+#[tactic(auto, unfolding(text_rows::specs::Operands::needed))]
+fn bytes(operands: &Operands<'_>) -> Result<u16, u8>
+    ensures { result ≡ needed (codes "BYTES") (number_between 1 1900) operands.now }
+{
+    match operands.only_value(b"BYTES")? {
+        Some(text) => short_between(1, 1900, text),
+        None => Err(OPERAND_MISSING),
+    }
+}
+
+#[tactic(auto, unfolding(text_rows::specs::Operands::needed))]
+fn pcb_type(operands: &Operands<'_>) -> Result<(), u8>
+    ensures { result ≡ needed (codes "TYPE") values.pcb_type_of operands.now }
+{
+    match operands.only_value(b"TYPE")? {
+        Some(text) => pcb_type_of(text),
+        None => Err(OPERAND_MISSING),
+    }
+}
+
+#[tactic(auto, unfolding(text_rows::specs::Operands::needed))]
+fn options(operands: &Operands<'_>) -> Result<u8, u8>
+    ensures { result ≡ needed (codes "PROCOPT") values.options_of operands.now }
+{
+    match operands.only_value(b"PROCOPT")? {
+        Some(text) => options_of(text),
+        None => Err(OPERAND_MISSING),
+    }
+}
+
+fn judged<A: Drop>(value: Result<A, u8>) -> Result<(), u8>
+    ensures { result ≡ spec.judged value }
+{
+    match value {
+        Ok(_) => Ok(()),
+        Err(rule) => Err(rule),
+    }
+}
+
+#[tactic(auto, unfolding(text_rows::specs::Operands::or_as))]
+fn standing_database(operands: &Operands<'_>) -> Result<(), u8>
+    ensures { result ≡ or_as (codes "DBDNAME") (λ text. spec.judged (names.name_of text)) tt operands.now }
+{
+    match operands.only_value(b"DBDNAME")? {
+        Some(text) => judged(name_of(text)),
+        None => Ok(()),
+    }
+}
+
+#[tactic(auto, unfolding(text_rows::specs::Operands::or_as))]
+fn standing_options(operands: &Operands<'_>) -> Result<(), u8>
+    ensures { result ≡ or_as (codes "PROCOPT") (λ text. spec.judged (values.options_of text)) tt operands.now }
+{
+    match operands.only_value(b"PROCOPT")? {
+        Some(text) => judged(options_of(text)),
+        None => Ok(()),
     }
 }
 
@@ -123,6 +213,73 @@ fn control_row(operands: &Operands<'_>) -> Result<Macro, u8>
 {
     let (qbytes, logs) = both(qbytes(operands), logs(operands))?;
     Ok(Macro::Control { qbytes, logs })
+}
+
+#[tactic(auto, unfolding(crate::specs::Rows::database_row))]
+fn database_row(operands: &Operands<'_>) -> Result<Macro, u8>
+    ensures { result ≡ spec.database_row operands.now }
+{
+    let (name, roots) = both(needed_name(b"NAME", operands), roots(operands))?;
+    Ok(Macro::Database { name, roots })
+}
+
+#[tactic(auto, unfolding(crate::specs::Rows::place_part))]
+fn place_part(operands: &Operands<'_>) -> Result<(Name, Option<Name>), u8>
+    ensures { result ≡ spec.place_part operands.now }
+{
+    both(needed_name(b"NAME", operands), parent(operands))
+}
+
+#[tactic(auto, unfolding(crate::specs::Rows::length_part))]
+fn length_part(operands: &Operands<'_>) -> Result<(KeyLength, u16), u8>
+    ensures { result ≡ spec.length_part operands.now }
+{
+    both(key(operands), bytes(operands))
+}
+
+#[tactic(auto, unfolding(crate::specs::Rows::segment_row))]
+fn segment_row(operands: &Operands<'_>) -> Result<Macro, u8>
+    ensures { result ≡ spec.segment_row operands.now }
+{
+    let ((name, parent), (key, bytes)) = both(place_part(operands), length_part(operands))?;
+    Ok(Macro::Segment {
+        name,
+        parent,
+        key,
+        bytes,
+    })
+}
+
+#[tactic(auto, unfolding(crate::specs::Rows::standing_part))]
+fn standing_part(operands: &Operands<'_>) -> Result<(), u8>
+    ensures { result ≡ spec.standing_part operands.now }
+{
+    also(standing_database(operands), standing_options(operands))
+}
+
+#[tactic(auto, unfolding(crate::specs::Rows::database_part))]
+fn database_part(operands: &Operands<'_>) -> Result<(Name, u8), u8>
+    ensures { result ≡ spec.database_part operands.now }
+{
+    both(needed_name(b"DBDNAME", operands), options(operands))
+}
+
+/// The values of a PCB. Where its TYPE is refused no other operand is missing.
+fn pcb_values(of_type: Result<(), u8>, operands: &Operands<'_>) -> Result<(Name, u8), u8>
+    ensures { result ≡ spec.pcb_values of_type operands.now }
+{
+    match of_type {
+        Ok(()) => database_part(operands),
+        Err(rule) => also(Err(rule), standing_part(operands)),
+    }
+}
+
+#[tactic(auto, unfolding(crate::specs::Rows::pcb_row))]
+fn pcb_row(operands: &Operands<'_>) -> Result<Macro, u8>
+    ensures { result ≡ spec.pcb_row operands.now }
+{
+    let (database, options) = pcb_values(pcb_type(operands), operands)?;
+    Ok(Macro::DatabasePcb { database, options })
 }
 
 #[tactic(auto, unfolding(crate::specs::Rows::application_row))]
@@ -208,7 +365,10 @@ pub(crate) fn row(kind: Kind, operands: &Operands<'_>) -> Result<Macro, u8>
 {
     match kind {
         Kind::Control => control_row(operands),
+        Kind::Database => database_row(operands),
+        Kind::Segment => segment_row(operands),
         Kind::Application => application_row(operands),
+        Kind::Pcb => pcb_row(operands),
         Kind::Transaction => transaction_row(operands),
         Kind::Terminal => terminal_row(operands),
         Kind::Region => region_row(operands),

@@ -1,7 +1,7 @@
 use crate::read_definition;
 use std::alloc::{AllocError, Global};
 use std::test::Fail;
-use sysdef_check::{Codes, CrossRefused, SegmentKind, System, check};
+use sysdef_check::{Codes, CrossRefused, Pcb, SegmentKind, System, check};
 use text_rows::LineRefused;
 use tm_types::Name;
 
@@ -35,7 +35,36 @@ fn lines(rt: HostRuntime) -> Result<(), Fail> {
         (b"NAME LTERM=ABCDEFGH\r".as_slice(), 0),
         (b"REGION CLASS=(1,2,3,255)".as_slice(), 0),
         (b"* anything \x01".as_slice(), 0),
-        (b"DBD NAME=D".as_slice(), 1),
+        (b"DBD NAME=D".as_slice(), 0),
+        (
+            b"DBD NAME=D,ROOTS=1\nSEGM NAME=R,PARENT=0,KEY=32,BYTES=1900".as_slice(),
+            0,
+        ),
+        (
+            b"PCB TYPE=DB,DBDNAME=D,PROCOPT=DRIG\nTRANSACT CODE=C".as_slice(),
+            0,
+        ),
+        (b"PCB TYPE=TP,LTERM=T1".as_slice(), 2),
+        (b"PCB DBDNAME=D,PROCOPT=A".as_slice(), 4),
+        (b"PCB TYPE=DB,DBDNAME=D".as_slice(), 4),
+        (b"DBD NAME=D\nSEGM NAME=R,KEY=33,BYTES=1901".as_slice(), 4),
+        (b"DBD NAME=D,ROOTS=4097".as_slice(), 6),
+        (
+            b"DBD NAME=D\nSEGM NAME=R,PARENT=0,KEY=33,BYTES=12".as_slice(),
+            6,
+        ),
+        (
+            b"DBD NAME=D\nSEGM NAME=R,PARENT=a,KEY=4,BYTES=12".as_slice(),
+            7,
+        ),
+        (b"PCB TYPE=TP".as_slice(), 9),
+        (b"PCB TYPE=DB,DBDNAME=D,PROCOPT=AG".as_slice(), 9),
+        (b"PCB TYPE=DB,DBDNAME=D,PROCOPT=GIG".as_slice(), 9),
+        (b"SEGM NAME=R,PARENT=0,KEY=4,BYTES=12".as_slice(), 10),
+        (
+            b"TRANSACT CODE=C\nPCB TYPE=DB,DBDNAME=D,PROCOPT=A".as_slice(),
+            10,
+        ),
         (b"ENDPROG".as_slice(), 1),
         (b"NAME LTERM=T1,FORMAT=F".as_slice(), 2),
         (b"NAME LTERM".as_slice(), 2),
@@ -210,6 +239,31 @@ fn system(rt: HostRuntime) -> Result<(), Fail> {
     Ok(())
 }
 
+/// The line and the cross rule that a text breaks first; rule 0 where it breaks none.
+fn cross_refusal(alloc: Global, text: &[u8]) -> Result<(u32, u8), Fail> {
+    let definition = read_definition(alloc, text)?;
+    match check(alloc, definition) {
+        Ok(_) => Ok((0, 0)),
+        Err(CrossRefused::BadCross(line, rule)) => Ok((line, rule)),
+        Err(CrossRefused::Memory) => Ok((0, 1)),
+    }
+}
+
+/// The same of a database of three segments, with this behind it from line 6 on; a program is ended.
+fn body_refusal(alloc: Global, body: &[u8], calls: &[u8]) -> Result<(u32, u8), Fail> {
+    let mut text = Vec::new(alloc);
+    text.extend_from_slice(b"IMSCTRL\nDBD NAME=D\nSEGM NAME=A,PARENT=0,KEY=4,BYTES=12\n")?;
+    text.extend_from_slice(b"SEGM NAME=B,PARENT=A,KEY=4,BYTES=12\n")?;
+    text.extend_from_slice(b"SEGM NAME=C,PARENT=B,KEY=4,BYTES=12\n")?;
+    text.extend_from_slice(body)?;
+    if !calls.is_empty() {
+        text.extend_from_slice(calls)?;
+        text.extend_from_slice(b"\nENDPROG")?;
+    }
+    text.extend_from_slice(b"\nEND\n")?;
+    cross_refusal(alloc, &text)
+}
+
 /// Texts without a fault in a line, and the line and cross rule that they break first.
 #[test]
 fn cross_rules(rt: HostRuntime) -> Result<(), Fail> {
@@ -246,13 +300,93 @@ fn cross_rules(rt: HostRuntime) -> Result<(), Fail> {
         (b"IMSCTRL\nREGION CLASS=(1)\nEND\n".as_slice(), (3, 17)),
     ];
     for (text, want) in table {
-        let definition = read_definition(rt.alloc(), text)?;
-        let found = match check(rt.alloc(), definition) {
-            Ok(_) => (0, 0),
-            Err(CrossRefused::BadCross(line, rule)) => (line, rule),
-            Err(CrossRefused::Memory) => (0, 1),
-        };
+        let found = cross_refusal(rt.alloc(), text)?;
         assert_eq!(rt; found, want);
     }
+    Ok(())
+}
+
+/// What stands behind a database of three levels, and the line and cross rule that it breaks first.
+#[test]
+fn database_rules(rt: HostRuntime) -> Result<(), Fail> {
+    let table = [
+        (b"DBD NAME=D".as_slice(), (6, 1)),
+        (
+            b"DBD NAME=E\nSEGM NAME=A,PARENT=0,KEY=4,BYTES=12\nSEGM NAME=A,PARENT=A,KEY=4,BYTES=12".as_slice(),
+            (8, 2),
+        ),
+        (b"DBD NAME=E".as_slice(), (6, 3)),
+        (
+            b"DBD NAME=E\nSEGM NAME=A,PARENT=A,KEY=4,BYTES=12".as_slice(),
+            (7, 3),
+        ),
+        (
+            b"SEGM NAME=E,PARENT=F,KEY=4,BYTES=12\nSEGM NAME=F,PARENT=A,KEY=4,BYTES=12".as_slice(),
+            (6, 3),
+        ),
+        (b"SEGM NAME=E,PARENT=0,KEY=4,BYTES=12".as_slice(), (6, 3)),
+        (b"SEGM NAME=E,PARENT=A,KEY=13,BYTES=12".as_slice(), (6, 4)),
+        (
+            b"SEGM NAME=L4,PARENT=C,KEY=4,BYTES=12\nSEGM NAME=L5,PARENT=L4,KEY=4,BYTES=12\nSEGM NAME=L6,PARENT=L5,KEY=4,BYTES=12\nSEGM NAME=L7,PARENT=L6,KEY=4,BYTES=12\nSEGM NAME=L8,PARENT=L7,KEY=4,BYTES=12\nSEGM NAME=L9,PARENT=L8,KEY=4,BYTES=12".as_slice(),
+            (11, 5),
+        ),
+        (
+            b"APPLCTN PSB=P\nPCB TYPE=DB,DBDNAME=E,PROCOPT=A".as_slice(),
+            (7, 7),
+        ),
+        (
+            b"NAME LTERM=T\nREGION CLASS=(1)\nREGION CLASS=(1)".as_slice(),
+            (8, 19),
+        ),
+    ];
+    for (body, want) in table {
+        let found = body_refusal(rt.alloc(), body, b"")?;
+        assert_eq!(rt; found, want);
+    }
+    Ok(())
+}
+
+/// Calls of a program with one PCB, which stand in line 9 and behind, and what they break first.
+#[test]
+fn call_rules(rt: HostRuntime) -> Result<(), Fail> {
+    let table = [
+        (b"CALL GU 1 A\nCALL GHU 2 A".as_slice(), (10, 13)),
+        (b"CALL GU 1 A A=A C\nCALL GU 1 A X".as_slice(), (10, 14)),
+        (b"CALL GN 1 A C A".as_slice(), (9, 14)),
+        (b"CALL ISRT 1 A".as_slice(), (9, 15)),
+        (b"CALL ISRT 1 A A=A C".as_slice(), (9, 15)),
+        (b"CALL ISRT 1 A A B".as_slice(), (9, 15)),
+        (b"CALL ISRT 1 A A=A B=B".as_slice(), (9, 15)),
+        (
+            b"CALL ISRT 1 A A\nCALL ISRT 1 A A=A B=B C\nENDPROG\nNAME LTERM=T\nREGION CLASS=(1)\nPROGRAM Q".as_slice(),
+            (14, 12),
+        ),
+    ];
+    for (calls, want) in table {
+        let found = body_refusal(
+            rt.alloc(),
+            b"APPLCTN PSB=P\nPCB TYPE=DB,DBDNAME=D,PROCOPT=A\nPROGRAM P\n",
+            calls,
+        )?;
+        assert_eq!(rt; found, want);
+    }
+    Ok(())
+}
+
+/// A system of one database, on which a program has a PCB.
+#[test]
+fn databases(rt: HostRuntime) -> Result<(), Fail> {
+    let system = system_of(
+        rt.alloc(),
+        b"IMSCTRL\nAPPLCTN PSB=P\nPCB TYPE=DB,DBDNAME=D,PROCOPT=DI\nDBD NAME=D,ROOTS=100\nSEGM NAME=A,PARENT=0,KEY=4,BYTES=12\nSEGM NAME=B,PARENT=A,KEY=2,BYTES=2\nNAME LTERM=T\nREGION CLASS=(1)\nPROGRAM P\nCALL GNP 1 A\nENDPROG\nEND\n",
+    )?;
+    let database = system.databases().first().ok_or("no database")?;
+    assert_eq!(rt; database.name.as_bytes(), b"D".as_slice());
+    assert_eq!(rt; (database.roots, database.sectors), (100, 1));
+    let below = database.types.numbered(2).ok_or("no type")?;
+    assert_eq!(rt; (below.parent, below.key, below.bytes), (1, 2, 2));
+    let program = system.programs().first().ok_or("no program")?;
+    let pcb = program.pcbs.numbered(1).ok_or("no PCB")?;
+    assert!(rt; matches!(pcb, Pcb::Database(1, 11)));
     Ok(())
 }

@@ -1,11 +1,13 @@
-ghost use Rattle.std.specs.Prelude.{◌≡◌, ◌<◌, ◌+◌, length, Ok, IfOk};
+ghost use Rattle.std.specs.Prelude.{◌≡◌, ◌<◌, ◌≤◌, ◌+◌, ◌||◌, length, Ok, IfOk};
 ghost use Rattle.text_rows.specs.Lowest.{both};
 ghost use Rattle.text_rows.specs.Numbers.{number_between};
 ghost use Rattle.sysdef_text.specs.Values as spec;
 
-use sysdef_check::{Classes, SegmentKind};
+use sysdef_check::{Classes, KeyLength, SegmentKind};
 use text_rows::rules::{WRONG_LIST, WRONG_WORD};
-use text_rows::{Pieces, also, both, is_word, list_of, number_between, three_of, two_of};
+use text_rows::{Pieces, also, both, is_word, list_of, name_of, number_between, three_of, two_of};
+use tm_types::Name;
+use tm_types::processing::{DELETE, GET, INSERT, REPLACE};
 
 /// A number that a byte holds.
 pub(crate) fn byte_between(low: u8, high: u8, text: &[u8]) -> Result<u8, u8>
@@ -60,6 +62,110 @@ pub(crate) fn serial_of(word: &[u8]) -> Result<bool, u8>
         Ok(false)
     } else {
         Err(WRONG_WORD)
+    }
+}
+
+/// PARENT: a name, or None for the single digit 0.
+#[tactic(auto, unfolding(crate::specs::Values::parent_of))]
+pub(crate) fn parent_of(text: &[u8]) -> Result<Option<Name>, u8>
+    ensures { result ≡ spec.parent_of text.now }
+{
+    if is_word(text, b"0") {
+        return Ok(None);
+    }
+    match name_of(text) {
+        Ok(name) => Ok(Some(name)),
+        Err(rule) => Err(rule),
+    }
+}
+
+/// KEY: 1 to 32.
+pub(crate) fn key_of(text: &[u8]) -> Result<KeyLength, u8>
+    ensures { result ≡ number_between 1 32 text.now }
+{
+    match number_between(1, 32, text) {
+        Ok(number) => Ok(KeyLength::of(number as u8)),
+        Err(rule) => Err(rule),
+    }
+}
+
+/// TYPE: only DB is there.
+#[tactic(auto, unfolding(crate::specs::Values::pcb_type_of))]
+pub(crate) fn pcb_type_of(word: &[u8]) -> Result<(), u8>
+    ensures { result ≡ spec.pcb_type_of word.now }
+{
+    if is_word(word, b"DB") {
+        Ok(())
+    } else {
+        Err(WRONG_WORD)
+    }
+}
+
+fn has_letter(letter: u8, word: &[u8]) -> bool
+    ensures { result ≡ spec.has_letter letter word.now }
+{
+    word.iter().any(|&byte| byte == letter)
+}
+
+fn is_option_letter(byte: u8) -> bool
+    ensures { result ≡ spec.is_option_letter byte }
+{
+    byte == b'G' || byte == b'I' || byte == b'R' || byte == b'D'
+}
+
+fn are_option_letters(word: &[u8]) -> bool
+    ensures { result ≡ spec.are_option_letters word.now }
+{
+    for (index, &byte) in word.iter().enumerate() {
+        if !is_option_letter(byte) || has_letter(byte, &word[index + 1..]) {
+            return false;
+        }
+    }
+    true
+}
+
+fn option_if(allowed: bool, option: u8) -> u8
+    ensures value { result ≡ spec.option_if allowed option }
+    ensures within { result ≤ option }
+{
+    if allowed { option } else { 0 }
+}
+
+fn may_get(word: &[u8]) -> bool
+    ensures { result ≡ (spec.has_letter 71 word.now || spec.has_letter 82 word.now || spec.has_letter 68 word.now) }
+{
+    has_letter(b'G', word) || has_letter(b'R', word) || has_letter(b'D', word)
+}
+
+#[tactic(auto, unfolding(crate::specs::Values::option_sum))]
+fn option_sum(word: &[u8]) -> u8
+    ensures { result ≡ spec.option_sum word.now }
+{
+    let get = option_if(may_get(word), GET);
+    let insert = option_if(has_letter(b'I', word), INSERT);
+    let replace = option_if(has_letter(b'R', word), REPLACE);
+    let delete = option_if(has_letter(b'D', word), DELETE);
+    get + insert + replace + delete
+}
+
+/// PROCOPT: A, or one or more different letters of G, I, R and D.
+#[tactic(auto, unfolding(crate::specs::Values::options_of))]
+pub(crate) fn options_of(word: &[u8]) -> Result<u8, u8>
+    ensures { result ≡ spec.options_of word.now }
+{
+    if is_word(word, b"A") {
+        return Ok(GET + INSERT + REPLACE + DELETE);
+    }
+    letter_options(word)
+}
+
+fn letter_options(word: &[u8]) -> Result<u8, u8>
+    ensures { result ≡ spec.letter_options word.now }
+{
+    match word {
+        [] => Err(WRONG_WORD),
+        [_, ..] if are_option_letters(word) => Ok(option_sum(word)),
+        [_, ..] => Err(WRONG_WORD),
     }
 }
 
