@@ -1,12 +1,12 @@
 -- A message that is done leaves the tables.
 use Rattle.std.proofs.Common.{◌≡◌, ℕ, ◌+◌, List, sym, ap, ◌∙◌}
-use Rattle.std.specs.Prelude.{Option, Some, IsSomeAnd}
+use Rattle.std.specs.Prelude.{Some}
 use Rattle.tm_types.specs.declared.message.Message.{Message}
 use Rattle.model_queues.specs.declared.replies.TerminalReplies.{TerminalReplies}
 use Rattle.model_queues.specs.Queue.{QueuesState, message_at, without}
 use Rattle.model_queues.proofs.Laws.{found_message}
 use Rattle.model_machine.specs.Steps.{replied}
-use Rattle.tm_tables.specs.Tables.{TablesState, IsFinished, finished}
+use Rattle.tm_tables.specs.Tables.{TablesState, IsFinished}
 
 pub finished_is : (old : TablesState) (queues : QueuesState) (outputs : List TerminalReplies) (id : ℕ) (reply : List (List ℕ)) (message : Message)
     → Some message ≡ message_at id old.queues.queued

@@ -1,6 +1,6 @@
 -- A terminal that isn't there can't be changed.
 use Rattle.std.proofs.Common.{◌≡◌, ℕ, Bool, true, false, List, [], ◌∷◌, refl, ap}
-use Rattle.std.specs.Prelude.{Option, Some, None, if◌then◌else◌}
+use Rattle.std.specs.Prelude.{Some, None, if◌then◌else◌}
 use Rattle.std.specs.List.{find}
 use Rattle.model_queues.specs.declared.replies.TerminalReplies.{TerminalReplies}
 use Rattle.model_queues.specs.Outputs.{is_of, replies_at, with_terminal, with_reply}

@@ -1,4 +1,4 @@
-use Rattle.std.proofs.Common.{◌≡◌, [], ◌++◌, map, drop, take, List}
+use Rattle.std.proofs.Common.{◌≡◌, [], map, take, List}
 use Rattle.tm_types.specs.declared.dbd.Dbd.{Dbd}
 use Rattle.model_rows.specs.declared.row.Row.{Row}
 use Rattle.tm_tables.specs.Tables.{dbds_of, rows_of}

@@ -1,7 +1,6 @@
-use Rattle.std.proofs.Common.{◌≡◌, sym, ap, subst}
+use Rattle.std.proofs.Common.{sym, ap, subst}
 use Rattle.model_queues.specs.Queue.{IsNewId}
 use Rattle.model_queues.proofs.Laws.{new_id_without}
-use Rattle.tm_tables.specs.Tables.{IsFinished}
 use Rattle.tm_tables.proofs.Finished.{finished_is}
 use Rattle.tm_tables.proofs.tables.Tables.finish.Goals as goal
 
