@@ -7,13 +7,13 @@ use Rattle.tm_session.proofs.turns.turn_while_left.Goals as goal
 pub nonzero_rem-region : goal.nonzero_rem-region
 nonzero_rem-region c =
     let some : 1 ≤ length c.loop-turns.control.system.regions = some_region c.loop-turns.control (sym c.quiet.ensures ∙ c.if-quiet.false) in
-    let same : length c.regions-regions.result.now ≡ length c.loop-turns.control.system.regions = ap length (c.regions-regions.ensures ∙ ap (λ s. s.regions) c.system.ensures) in
+    let same : length c.regions-regions.result.now ≡ length c.loop-turns.control.system.regions = ap length (c.regions-regions.ensures.value ∙ ap (λ s. s.regions) c.system.ensures) in
     omega arith
 
 pub turn-requires : goal.turn-requires
 turn-requires c =
     let some : 1 ≤ length c.loop-turns.control.system.regions = some_region c.loop-turns.control (sym c.quiet.ensures ∙ c.if-quiet.false) in
-    let same : length c.regions-regions.result.now ≡ length c.loop-turns.control.system.regions = ap length (c.regions-regions.ensures ∙ ap (λ s. s.regions) c.system.ensures) in
+    let same : length c.regions-regions.result.now ≡ length c.loop-turns.control.system.regions = ap length (c.regions-regions.ensures.value ∙ ap (λ s. s.regions) c.system.ensures) in
     (omega arith, omega arith)
 
 pub returns-in-Err-Memory-clause-err : goal.returns-in-Err-Memory-clause-err
