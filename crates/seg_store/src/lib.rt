@@ -1,0 +1,8 @@
+//! The rows of a database by slots: a store keeps the image of each record in a slot of its own.
+#![tactic(auto)]
+
+pub use store::Store;
+
+mod free;
+mod index;
+mod store;
