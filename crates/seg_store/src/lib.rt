@@ -2,7 +2,11 @@
 #![tactic(auto)]
 
 pub use store::Store;
+pub use stores::Stores;
 
 mod free;
 mod index;
 mod store;
+mod stores;
+#[cfg(test)]
+mod tests;
