@@ -26,7 +26,7 @@ use Rattle.model_rows.proofs.Entries.{entries_record, entries_insert, entries_re
 use Rattle.model_rows.proofs.Roots.{AreRecords, records_rooted, entries_roots, entries_rows}
 use Rattle.seg_rows.specs.StoreRefused.{set_refusal}
 use Rattle.seg_rows.specs.declared.rows.StoreRefused.TheVariants.{RootLimit, RecordTooLong}
-use Rattle.seg_store.specs.Slots.{image_root, has_root, is_free, AtMostOne, slot_of, lowest_free, first_of, with_image, with_root, rows_of_slots, IsSlot, AreSlots, free_slots}
+use Rattle.seg_store.specs.Slots.{image_root, has_root, is_free, AtMostOne, slot_of, lowest_free, first_of, with_image, with_root, rows_of_slots, IsSlot, AreSlots, free_slots, without_root}
 use Rattle.seg_store.proofs.Places as places
 use Rattle.seg_store.proofs.Entries.{insert_sorted, lookup_insert, lookup_remove, remove_sorted, same_entries}
 
@@ -482,3 +482,19 @@ module _ (dbd : Dbd) (slots : List (List Row)) (root : List ℕ) where
 
   pub record_none : AreSlots dbd slots → slot_of root slots ≡ None → record_of root (rows_of_slots slots) ≡ []
   record_none valid absent = slots_record dbd slots root valid.each ∙ ap (λ o. unwrap_or o []) (places.find_none (has_root root) slots absent)
+
+-- slots without a record, by its slot
+pub without_absent : (root : List ℕ) (slots : List (List Row)) → slot_of root slots ≡ None → slots ≡ without_root root slots
+without_absent root [] e = refl
+without_absent root (image ∷ slots) e =
+    let q : has_root root image ≡ false = places.none_head (has_root root) image slots e in
+    λ t. sym (ap (λ b. cond b [] image) q) t ∷ without_absent root slots (places.none_tail (has_root root) image slots e) t
+
+pub without_there : (root : List ℕ) (slots : List (List Row)) (i : ℕ) → AtMostOne (has_root root) slots → slot_of root slots ≡ Some i → set slots i [] ≡ without_root root slots
+without_there root [] i one e = refl
+without_there root (image ∷ slots) zero one e =
+    let q : has_root root image ≡ true = places.first_head (has_root root) image slots e in
+    λ t. sym (ap (λ b. cond b [] image) q) t ∷ without_absent root slots (one.0 q) t
+without_there root (image ∷ slots) (suc i) one e =
+    let q : has_root root image ≡ false = places.later_head (has_root root) image slots i e in
+    λ t. sym (ap (λ b. cond b [] image) q) t ∷ without_there root slots i one.1 (places.later_tail (has_root root) image slots i e) t

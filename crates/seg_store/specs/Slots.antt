@@ -1,5 +1,5 @@
 -- The records of a database by slots: one image a slot, and a slot without rows is free.
-use Rattle.std.specs.Prelude.{◌≡◌, ℕ, Bool, true, false, List, [], ◌∷◌, Option, None, Some, if◌then◌else◌, length, IsTrue, slice_set, ◌⊎◌, suc}
+use Rattle.std.specs.Prelude.{◌≡◌, ℕ, Bool, true, false, List, [], ◌∷◌, Option, None, Some, if◌then◌else◌, length, IsTrue, slice_set, ◌⊎◌, suc, map}
 use lib.ListN.{replicate}
 use Rattle.std.specs.Option.{option_map}
 use Rattle.std.specs.List.{AllByRecursion}
@@ -91,3 +91,7 @@ pub record AreSlots (dbd : Dbd) (slots : List (List Row)) : Type 0 where
 -- so many free slots
 abbrev pub free_slots : ℕ → List (List Row)
 free_slots n = replicate n []
+
+-- the slots without the record of this root, all others staying
+abbrev pub without_root : List ℕ → List (List Row) → List (List Row)
+without_root root slots = map (λ image. if has_root root image then [] else image) slots

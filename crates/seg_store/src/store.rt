@@ -3,7 +3,7 @@ ghost use Rattle.std.specs.Vec.{vec_len};
 ghost use Rattle.model_rows.specs.Record.{IsRecord, IsLongRecord, record_limit};
 ghost use Rattle.model_rows.specs.Rows.{record_of, with_record, IsImage, AreRows};
 ghost use Rattle.seg_rows.specs.StoreRefused.{set_refusal};
-ghost use Rattle.seg_store.specs.Slots.{image_root, slot_of, lowest_free, slot_for, with_root, rows_of_slots, AreSlots, free_slots};
+ghost use Rattle.seg_store.specs.Slots.{image_root, slot_of, lowest_free, slot_for, with_root, rows_of_slots, AreSlots, free_slots, without_root};
 
 use crate::free::{add_slot, all_free, lowest, take_slot};
 use crate::index::{add_root, root_after, root_at, slot_of, take_root};
@@ -69,6 +69,7 @@ impl Store {
     /// This takes no memory.
     pub fn remove(&mut self, root: &Key)
         ensures slots { self.new.slots ≡ with_root root.now [] self.old.slots }
+        ensures freed { self.new.slots ≡ without_root root.now self.old.slots }
         ensures rows { rows_of_slots self.new.slots ≡ with_record root.now [] (rows_of_slots self.old.slots) }
         ensures database { self.new.dbd ≡ self.old.dbd }
         ensures valid { AreSlots self.new.dbd self.new.slots }

@@ -2,11 +2,11 @@ use Rattle.std.proofs.Common.{◌≡◌, [], Some, sym, subst, ap, ◌∙◌, se
 use Rattle.std.specs.List.Sorted.{IsStrictlySortedBy}
 use Rattle.std.specs.Ordering.{nat_cmp}
 use Rattle.model_rows.specs.Rows.{with_record}
-use Rattle.seg_store.specs.Slots.{Stored, slot_of, with_root, rows_of_slots}
+use Rattle.seg_store.specs.Slots.{without_root, Stored, slot_of, with_root, rows_of_slots}
 use Rattle.seg_store.proofs.Entries.{remove_none}
 use Rattle.seg_store.proofs.Indexed.{free_room, indexed_gone, indexed_absent}
 use Rattle.seg_store.proofs.Numbers.{numbers_sorted}
-use Rattle.seg_store.proofs.SlotRows.{root_absent, rows_absent, rows_gone, gone_leaves, slot_within, slots_gone}
+use Rattle.seg_store.proofs.SlotRows.{without_absent, without_there, root_absent, rows_absent, rows_gone, gone_leaves, slot_within, slots_gone}
 use Rattle.seg_store.proofs.store.Store.remove.Goals as goal
 
 pub invariant_of-self : goal.invariant_of-self
@@ -51,3 +51,16 @@ returns-clause-rows c =
 
 pub returns-clause-valid : goal.returns-clause-valid
 returns-clause-valid c = (invariant_of-self-2 c).valid
+
+pub returns-in_default-clause-freed : goal.returns-in_default-clause-freed
+returns-in_default-clause-freed c =
+    without_absent c.args.root.now c.self.inside.slots.items (sym (c.self.invariant.found c.args.root.now) ∙ sym c.in_default.ensures.value)
+    ∙ ap (λ (s : Stored). without_root c.args.root.now s.slots) c.self.view_is
+
+pub returns-clause-freed : goal.returns-clause-freed
+returns-clause-freed c =
+    let there : slot_of c.args.root.now c.self.inside.slots.items ≡ Some c.in-Some.slot = sym (c.self.invariant.found c.args.root.now) ∙ sym c.in-Some.ensures.value in
+    c.put.ensures
+    ∙ (ap (set c.self.inside.slots.items c.in-Some.slot) c.new.ensures
+    ∙ (without_there c.args.root.now c.self.inside.slots.items c.in-Some.slot (c.self.invariant.valid.apart c.args.root.now) there
+    ∙ ap (λ (s : Stored). without_root c.args.root.now s.slots) c.self.view_is))
