@@ -1,0 +1,5 @@
+pub mod Places
+pub mod Entries
+pub mod SlotRows
+pub mod Numbers
+pub mod Indexed

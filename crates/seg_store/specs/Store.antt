@@ -1,0 +1,29 @@
+-- How a store keeps its slots.
+use Rattle.std.specs.Prelude.{◌≡◌, ℕ, suc, ◌≤◌, nat_lt, List, [], ◌∷◌}
+use Rattle.std.specs.List.{prefix_len}
+use Rattle.std.specs.List.Sorted.{IsStrictlySortedBy}
+use Rattle.std.specs.BTreeMap.{is_at}
+use Rattle.std.specs.Map.{keys_of, lookup}
+use Rattle.tm_types.specs.declared.dbd.Dbd.{Dbd}
+use Rattle.model_rows.specs.declared.row.Row.{Row}
+use Rattle.model_rows.specs.Path.{key_cmp}
+use Rattle.seg_store.specs.Slots.{AreSlots, slot_of}
+
+-- the numbers of the free slots, the first slot having this number
+abbrev pub free_numbers : ℕ → List (List Row) → List ℕ
+free_numbers n [] = []
+free_numbers n ([] ∷ slots) = n ∷ free_numbers (suc n) slots
+free_numbers n ((row ∷ image) ∷ slots) = free_numbers (suc n) slots
+
+-- how many of these numbers are lower
+abbrev pub count_below : ℕ → List ℕ → ℕ
+count_below number numbers = prefix_len (λ n. nat_lt n number) numbers
+
+-- the index tells the slot of each root, the free slots are known, and both have room for all
+pub record AreIndexed (dbd : Dbd) (slots : List (List Row)) (index : List (List ℕ × ℕ)) (index_room : ℕ) (free : List ℕ) (free_room : ℕ) : Type 0 where
+  pub valid : AreSlots dbd slots
+  pub ascending : IsStrictlySortedBy key_cmp (keys_of index)
+  pub found : (root : List ℕ) → lookup (is_at (key_cmp root)) index ≡ slot_of root slots
+  pub index_enough : dbd.roots ≤ index_room
+  pub free_is : free ≡ free_numbers 0 slots
+  pub free_enough : dbd.roots ≤ free_room

@@ -1,0 +1,226 @@
+ghost use Rattle.std.specs.Prelude.{◌≡◌, ◌↔◌, ◌*◌, ◌≤◌, ◌<◌, ◌≢◌, ℕ, [], IfOk, IfErr, OnOk, OnErr, IsOk, None, Some, slice_get, slice_set, length};
+ghost use Rattle.std.specs.Vec.{vec_len};
+ghost use Rattle.model_rows.specs.Record.{IsRecord, IsLongRecord, record_limit};
+ghost use Rattle.model_rows.specs.Rows.{record_of, with_record, IsImage, AreRows};
+ghost use Rattle.seg_rows.specs.StoreRefused.{set_refusal};
+ghost use Rattle.seg_store.specs.Slots.{image_root, slot_of, lowest_free, slot_for, with_root, rows_of_slots, AreSlots, free_slots, without_root};
+
+use crate::free::{add_slot, all_free, lowest, take_slot};
+use crate::index::{add_root, root_after, root_at, slot_of, take_root};
+use seg_rows::{RecordImage, Rows, StoreRefused};
+use std::alloc::Global;
+use std::marker::Model;
+use tm_types::{Dbd, Key, Memory};
+
+/// The rows of one database, the image of each record in a slot of its own.
+///
+/// There are as many slots as the database may have roots. A slot without rows is free.
+#[derive(Debug, Drop)]
+pub struct Store {
+    alloc: Global,
+    dbd: Dbd,
+    slots: Vec<RecordImage>,
+    index: Vec<(Key, u16)>,
+    free: Vec<u16>,
+}
+
+impl Model for Store {
+    ghost use Rattle.std.specs.Vec.{vec_capacity};
+    ghost use Rattle.seg_store.specs.Slots.{Stored};
+    ghost use Rattle.seg_store.specs.Store.{AreIndexed};
+
+    ghost Value = { Stored };
+
+    ghost view = { λ s. record { dbd = s.dbd; slots = s.slots.items } };
+
+    ghost invariant = { λ s. AreIndexed s.dbd s.slots.items s.index.items (vec_capacity s.index) s.free.items (vec_capacity s.free) };
+}
+
+impl Store {
+    /// No rows of this database. This takes all the room that roots will need.
+    pub fn empty(alloc: Global, dbd: &Dbd) -> Result<Store, Memory>
+        ensures database { IfOk result (λ s. s.dbd ≡ dbd.now) }
+        ensures free { IfOk result (λ s. s.slots ≡ free_slots dbd.now.roots) }
+        ensures rows { IfOk result (λ s. rows_of_slots s.slots ≡ []) }
+    {
+        let _types = dbd.types.as_slice();
+        Ok(Store {
+            alloc,
+            dbd: dbd.clone()?,
+            slots: no_records(alloc, dbd.roots)?,
+            index: Vec::with_capacity(alloc, dbd.roots as usize)?,
+            free: all_free(alloc, dbd.roots)?,
+        })
+    }
+
+    /// The slot of the record with this root, or else the lowest free slot, which the next `set` of
+    /// that root takes. None exactly where no record has the root and no slot is free.
+    pub fn slot_for(&self, root: &Key) -> Option<u16>
+        ensures value { result ≡ slot_for root.now self.now.slots }
+        ensures valid { AreSlots self.now.dbd self.now.slots }
+    {
+        match slot_of(&self.index, root) {
+            Some(slot) => Some(slot),
+            None => lowest(&self.free),
+        }
+    }
+
+    /// Removes the record with this root, if there is one, and frees its slot. All other slots stay.
+    /// This takes no memory.
+    pub fn remove(&mut self, root: &Key)
+        ensures slots { self.new.slots ≡ with_root root.now [] self.old.slots }
+        ensures freed { self.new.slots ≡ without_root root.now self.old.slots }
+        ensures rows { rows_of_slots self.new.slots ≡ with_record root.now [] (rows_of_slots self.old.slots) }
+        ensures database { self.new.dbd ≡ self.old.dbd }
+        ensures valid { AreSlots self.new.dbd self.new.slots }
+    {
+        let Some(slot) = take_root(&mut self.index, root) else {
+            return;
+        };
+        put(&mut self.slots, slot, RecordImage::new(self.alloc));
+        add_slot(&mut self.free, slot);
+    }
+
+    /// Puts a record into its slot. All other slots stay. This takes no memory.
+    pub fn put_back(&mut self, slot: u16, image: RecordImage)
+        requires free { slice_get self.old.slots slot ≡ Some [] }
+        requires valid { IsRecord self.old.dbd (image_root image) image }
+        requires new { slot_of (image_root image) self.old.slots ≡ None }
+        ensures slots { self.new.slots ≡ slice_set self.old.slots slot image }
+        ensures rows { rows_of_slots self.new.slots ≡ with_record (image_root image) image (rows_of_slots self.old.slots) }
+        ensures database { self.new.dbd ≡ self.old.dbd }
+        ensures valid { AreSlots self.new.dbd self.new.slots }
+    {
+        let Some(root) = image.root() else {
+            unreachable!()
+        };
+        self.fill(&root, slot, image);
+    }
+
+    // Puts a record into a free slot.
+    fn fill(&mut self, root: &Key, slot: u16, image: RecordImage)
+        requires free { slice_get self.old.slots slot ≡ Some [] }
+        requires valid { IsRecord self.old.dbd root.now image }
+        requires new { slot_of root.now self.old.slots ≡ None }
+        ensures slots { self.new.slots ≡ slice_set self.old.slots slot image }
+        ensures rows { rows_of_slots self.new.slots ≡ with_record root.now image (rows_of_slots self.old.slots) }
+        ensures database { self.new.dbd ≡ self.old.dbd }
+        ensures valid { AreSlots self.new.dbd self.new.slots }
+    {
+        add_root(&mut self.index, root, slot);
+        take_slot(&mut self.free, slot);
+        put(&mut self.slots, slot, image);
+    }
+
+    // Adds a record in the lowest free slot.
+    fn add(&mut self, root: &Key, image: RecordImage) -> Result<(), StoreRefused>
+        requires image { IsLongRecord self.old.dbd.types root.now image }
+        requires new { slot_of root.now self.old.slots ≡ None }
+        ensures slots { OnOk result (self.new.slots ≡ with_root root.now image self.old.slots) }
+        ensures rows { OnOk result (rows_of_slots self.new.slots ≡ with_record root.now image (rows_of_slots self.old.slots)) }
+        ensures kept { OnErr result (self.new ≡ self.old) }
+        ensures accepted { OnOk result (set_refusal self.old.dbd root.now image (rows_of_slots self.old.slots) ≡ None) }
+        ensures refused { IfErr result (λ refusal. set_refusal self.old.dbd root.now image (rows_of_slots self.old.slots) ≡ Some refusal) }
+        ensures database { self.new.dbd ≡ self.old.dbd }
+        ensures valid { AreSlots self.new.dbd self.new.slots }
+    {
+        let Some(slot) = lowest(&self.free) else {
+            return Err(StoreRefused::RootLimit);
+        };
+        if !image.fits(record_limit(&self.dbd)) {
+            return Err(StoreRefused::RecordTooLong);
+        }
+        self.fill(root, slot, image);
+        Ok(())
+    }
+
+    // Puts a record in place of the one in its slot.
+    fn replace(&mut self, root: &Key, slot: u16, image: RecordImage) -> Result<(), StoreRefused>
+        requires image { IsLongRecord self.old.dbd.types root.now image }
+        requires there { slot_of root.now self.old.slots ≡ Some slot }
+        ensures slots { OnOk result (self.new.slots ≡ with_root root.now image self.old.slots) }
+        ensures rows { OnOk result (rows_of_slots self.new.slots ≡ with_record root.now image (rows_of_slots self.old.slots)) }
+        ensures kept { OnErr result (self.new ≡ self.old) }
+        ensures accepted { OnOk result (set_refusal self.old.dbd root.now image (rows_of_slots self.old.slots) ≡ None) }
+        ensures refused { IfErr result (λ refusal. set_refusal self.old.dbd root.now image (rows_of_slots self.old.slots) ≡ Some refusal) }
+        ensures database { self.new.dbd ≡ self.old.dbd }
+        ensures valid { AreSlots self.new.dbd self.new.slots }
+    {
+        if !image.fits(record_limit(&self.dbd)) {
+            return Err(StoreRefused::RecordTooLong);
+        }
+        put(&mut self.slots, slot, image);
+        Ok(())
+    }
+}
+
+impl Rows for Store {
+    ghost database = { λ s. s.dbd };
+
+    ghost rows = { λ s. rows_of_slots s.slots };
+
+    fn record(&self, root: &Key) -> Option<&RecordImage> {
+        match slot_of(&self.index, root) {
+            Some(slot) => Some(&self.slots[slot as usize]),
+            None => None,
+        }
+    }
+
+    fn next_root(&self, after: Option<&Key>) -> Option<Key> {
+        match after {
+            None => root_at(&self.index, 0),
+            Some(root) => root_after(&self.index, root),
+        }
+    }
+
+    /// As of all rows. The record keeps its slot, or takes the lowest free one; an image without
+    /// rows frees the slot. This takes no memory.
+    fn set(&mut self, root: &Key, image: RecordImage) -> Result<(), StoreRefused>
+        requires { IsImage self.old.dbd root.now image }
+        ensures replaced { OnOk result (rows_of_slots self.new.slots ≡ with_record root.now image (rows_of_slots self.old.slots)) }
+        ensures kept { OnErr result (self.new ≡ self.old) }
+        ensures accepted { OnOk result (set_refusal self.old.dbd root.now image (rows_of_slots self.old.slots) ≡ None) }
+        ensures refused { IfErr result (λ refusal. set_refusal self.old.dbd root.now image (rows_of_slots self.old.slots) ≡ Some refusal) }
+        ensures database { self.new.dbd ≡ self.old.dbd }
+        ensures valid { AreRows self.new.dbd (rows_of_slots self.new.slots) }
+        // What it leaves in the slots.
+        ensures slots { OnOk result (self.new.slots ≡ with_root root.now image self.old.slots) }
+        ensures valid_slots { AreSlots self.new.dbd self.new.slots }
+        // A record is removed in any case.
+        ensures removed { image ≡ [] → IsOk result }
+    {
+        if image.is_empty() {
+            self.remove(root);
+            return Ok(());
+        }
+        match slot_of(&self.index, root) {
+            Some(slot) => self.replace(root, slot, image),
+            None => self.add(root, image),
+        }
+    }
+}
+
+// A free slot for each root.
+fn no_records(alloc: Global, roots: u16) -> Result<Vec<RecordImage>, Memory>
+    ensures { IfOk result (λ slots. slots.items ≡ free_slots roots) }
+{
+    let mut slots = Vec::with_capacity(alloc, roots as usize)?;
+    for _ in 0..roots {
+        slots.push(RecordImage::new(alloc))?;
+    }
+    Ok(slots)
+}
+
+// The most bytes that a record of the database has: 4,000 for each of its sectors.
+fn record_limit(dbd: &Dbd) -> usize
+    ensures { result ≡ record_limit dbd.now }
+{
+    4000 * dbd.sectors as usize
+}
+
+fn put(slots: &mut Vec<RecordImage>, slot: u16, image: RecordImage)
+    requires { slot < length slots.old.items }
+    ensures { slots.new.items ≡ slice_set slots.old.items slot image }
+{
+    slots[slot as usize] = image;
+}

@@ -1,0 +1,10 @@
+use Rattle.std.proofs.Common.{◌≡◌, length, drop}
+use Rattle.unit_work.specs.BackOut.{cleared}
+use Rattle.unit_work.proofs.unit.remove_all.Given as goal
+
+abbrev pub invariant-loop-change : goal.invariant-loop-change
+invariant-loop-change l =
+    record {
+      count : length l.stores ≡ length l.initial.stores;
+      ahead : cleared (drop l.change-index l.records) l.stores ≡ cleared l.records l.initial.stores;
+    }

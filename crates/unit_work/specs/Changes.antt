@@ -1,0 +1,76 @@
+-- What a unit of work keeps: the records and the slots that it changed.
+use Rattle.std.specs.Prelude.{◌≡◌, ◌≤◌, ℕ, Bool, false, ◌==◌, ◌&&◌, ◌||◌, nat_lt, nat_le, List, [], ◌∷◌, ◌++◌, if◌then◌else◌, length, IsTrue}
+use Rattle.std.specs.List.{AllByRecursion, list_any}
+use Rattle.std.specs.Ordering.{is_eq}
+use Rattle.model_rows.specs.declared.row.Row.{Row}
+use Rattle.model_rows.specs.Path.{key_cmp}
+use Rattle.unit_work.specs.declared.change.Change.{Change}
+
+-- the changed records in the order in which they were first touched, each with its first slot and
+-- image; and the touched slots by database and slot, each with the root last touched in it and its
+-- first image
+pub record Changes : Type 0 where
+  pub records : List Change
+  pub slots : List Change
+
+-- nothing is changed
+abbrev pub no_changes : Changes
+no_changes = record { records = []; slots = [] }
+
+-- whether the change is one of the record of this root
+abbrev pub is_of : ℕ → List ℕ → Change → Bool
+is_of db root c = c.db == db && is_eq (key_cmp c.root root)
+
+-- whether the record of this root is changed
+abbrev pub is_changed : ℕ → List ℕ → List Change → Bool
+is_changed db root records = list_any (is_of db root) records
+
+-- the records with one more that is changed; the first image of a record is kept
+abbrev pub with_change : Change → List Change → List Change
+with_change c records = if is_changed c.db c.root records then records else records ++ c ∷ []
+
+-- whether a slot goes before this one, and whether it is this one
+abbrev pub is_before : ℕ → ℕ → Change → Bool
+is_before db slot c = nat_lt c.db db || (c.db == db && nat_lt c.slot slot)
+
+abbrev pub is_slot : ℕ → ℕ → Change → Bool
+is_slot db slot c = c.db == db && c.slot == slot
+
+-- the slots with one more that is touched, by database and slot; the first image in a slot is kept,
+-- and the root is the last
+abbrev pub with_slot : Change → List Change → List Change
+with_slot c [] = c ∷ []
+with_slot c (s ∷ slots) =
+    if is_before c.db c.slot s then s ∷ with_slot c slots
+    else (if is_slot c.db c.slot s then record s { root = c.root } ∷ slots else c ∷ s ∷ slots)
+
+-- what a touch leaves
+abbrev pub with_touch : Change → Changes → Changes
+with_touch c changes = record { records = with_change c changes.records; slots = with_slot c changes.slots }
+
+-- whether one record more would be changed than a unit may change
+abbrev pub is_full : ℕ → List ℕ → List Change → Bool
+is_full db root records = if is_changed db root records then false else nat_le 32 (length records)
+
+-- these hold of each element and each later one
+abbrev pub Pairs : (Change → Change → Type 0) → List Change → Type 0
+Pairs R [] = Unit {0}
+Pairs R (c ∷ changes) = AllByRecursion (R c) changes × Pairs R changes
+
+-- two changes are of different records
+abbrev pub AreOther : Change → Change → Type 0
+AreOther c d = is_of d.db d.root c ≡ false
+
+-- each record is kept once
+abbrev pub AreOnce : List Change → Type 0
+AreOnce records = Pairs AreOther records
+
+-- whether a slot is among these, which stand by database and slot
+abbrev pub is_seen : ℕ → ℕ → List Change → Bool
+is_seen db slot [] = false
+is_seen db slot (s ∷ slots) = if is_before db slot s then is_seen db slot slots else is_slot db slot s
+
+-- the records of a unit: each is kept once, and there are at most 32
+pub record AreKept (records : List Change) : Type 0 where
+  pub once : AreOnce records
+  pub few : length records ≤ 32

@@ -1,0 +1,4 @@
+pub mod Changes
+pub mod Shown
+pub mod TouchRefused
+pub mod BackOut

@@ -1,0 +1,164 @@
+ghost use Rattle.std.specs.Prelude.{◌≡◌, ◌<◌, [], IfOk, OnOk, OnErr, if◌then◌else◌, slice_get};
+ghost use Rattle.std.specs.Option.{option_copied};
+ghost use Rattle.std.specs.List.{prefix_len};
+ghost use Rattle.std.specs.Vec.{vec_len, vec_capacity};
+ghost use Rattle.unit_work.specs.Changes.{is_of, is_changed, is_before, is_slot, is_seen, with_change, with_slot};
+
+use seg_rows::RecordImage;
+use std::alloc::Global;
+use tm_types::{Key, Memory};
+
+/// A record or a slot that a unit changed: its database and slot, a root, and the image that was
+/// there before, which has no rows where there was none.
+#[derive(Debug, Drop)]
+pub struct Change {
+    /// The number of the database, counted from 1.
+    pub db: u8,
+    pub slot: u16,
+    pub root: Key,
+    pub before: RecordImage,
+}
+
+/// A slot that a unit touched, as it is lent.
+#[derive(Debug)]
+pub struct UnitSlot<'a> {
+    /// The number of the database, counted from 1.
+    pub db: u8,
+    pub slot: u16,
+    /// The root last touched in the slot.
+    pub root: Key,
+    /// The image in the slot before the unit, which has no rows where the slot was free.
+    pub before: &'a RecordImage,
+}
+
+/// Keeps a change among those of records and of slots; at an Err both stay.
+pub fn keep(
+    alloc: Global,
+    records: &mut Vec<Change>,
+    slots: &mut Vec<Change>,
+    db: u8,
+    slot: u16,
+    root: Key,
+    before: &RecordImage,
+) -> Result<(), Memory>
+    ensures records { OnOk result (records.new.items ≡ with_change (record { db = db; slot = slot; root = root; before = before.now }) records.old.items) }
+    ensures slots { OnOk result (slots.new.items ≡ with_slot (record { db = db; slot = slot; root = root; before = before.now }) slots.old.items) }
+    ensures records_stay { OnErr result (records.new.items ≡ records.old.items) }
+    ensures slots_stay { OnErr result (slots.new.items ≡ slots.old.items) }
+{
+    let first = image_unless(alloc, is_changed(records, db, &root), before)?;
+    let touched = image_unless(alloc, is_seen(slots, db, slot), before)?;
+    records.reserve(1)?;
+    slots.reserve(1)?;
+    add_change(
+        records,
+        Change {
+            db,
+            slot,
+            root,
+            before: first,
+        },
+    );
+    add_slot(
+        slots,
+        Change {
+            db,
+            slot,
+            root,
+            before: touched,
+        },
+    );
+    Ok(())
+}
+
+/// Whether the record of this root is among the changes.
+pub fn is_changed(records: &[Change], db: u8, root: &Key) -> bool
+    ensures { result ≡ is_changed db root.now records.now }
+{
+    records.iter().any(|change| is_of(change, db, root))
+}
+
+fn is_of(change: &Change, db: u8, root: &Key) -> bool
+    ensures { result ≡ is_of db root.now change.now }
+{
+    change.db == db && change.root.cmp(root).is_eq()
+}
+
+fn is_before(change: &Change, db: u8, slot: u16) -> bool
+    ensures { result ≡ is_before db slot change.now }
+{
+    change.db < db || (change.db == db && change.slot < slot)
+}
+
+fn is_slot(change: &Change, db: u8, slot: u16) -> bool
+    ensures { result ≡ is_slot db slot change.now }
+{
+    change.db == db && change.slot == slot
+}
+
+// A copy of the image, or no rows where there is one already.
+fn image_unless(alloc: Global, known: bool, before: &RecordImage) -> Result<RecordImage, Memory>
+    ensures { IfOk result (λ image. image ≡ (if known then [] else before.now)) }
+{
+    if known {
+        return Ok(RecordImage::new(alloc));
+    }
+    before.clone()
+}
+
+// How many slots go before this one.
+fn place_among(slots: &[Change], db: u8, slot: u16) -> usize
+    ensures { result ≡ prefix_len (is_before db slot) slots.now }
+{
+    for (i, change) in slots.iter().enumerate() {
+        if !is_before(change, db, slot) {
+            return i;
+        }
+    }
+    slots.len()
+}
+
+fn is_seen(slots: &[Change], db: u8, slot: u16) -> bool
+    ensures { result ≡ is_seen db slot slots.now }
+{
+    match change_at(slots, place_among(slots, db, slot)) {
+        Some(change) => is_slot(change, db, slot),
+        None => false,
+    }
+}
+
+fn change_at(slots: &[Change], place: usize) -> Option<&Change>
+    ensures { option_copied result ≡ slice_get slots.now place }
+{
+    slots.get(place)
+}
+
+fn add_change(records: &mut Vec<Change>, change: Change)
+    requires { vec_len records.old < vec_capacity records.old }
+    ensures { records.new.items ≡ with_change change records.old.items }
+{
+    if !is_changed(records, change.db, &change.root) {
+        records.push_reserved(change);
+    }
+}
+
+fn add_slot(slots: &mut Vec<Change>, change: Change)
+    requires { vec_len slots.old < vec_capacity slots.old }
+    ensures { slots.new.items ≡ with_slot change slots.old.items }
+{
+    let place = place_among(slots, change.db, change.slot);
+    if is_seen(slots, change.db, change.slot) {
+        set_root(&mut slots[place], change.root);
+    } else {
+        match slots.insert(place, change) {
+            Ok(()) => {}
+            Err(_) => unreachable!(),
+        }
+    }
+}
+
+fn set_root(change: &mut Change, root: Key)
+    ensures { change.new ≡ record change.old { root = root } }
+{
+    change.root = root;
+}

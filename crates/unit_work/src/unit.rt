@@ -1,0 +1,174 @@
+ghost use Rattle.std.specs.Prelude.{◌≡◌, false, [], length, slice_get, IfErr, OnOk, OnErr};
+ghost use Rattle.std.specs.Option.{option_map};
+ghost use Rattle.std.specs.List.{AllByRecursion};
+ghost use Rattle.unit_work.specs.Changes.{is_full, AreOnce, Pairs};
+ghost use Rattle.unit_work.specs.BackOut.{IsStored, CanGoBack, AreApart, CanBackOut, cleared, backed_from, backed_out, with_record_back};
+ghost use Rattle.unit_work.specs.TouchRefused.{RefusesTouch};
+
+use crate::change::{Change, UnitSlot, is_changed, keep};
+use seg_rows::RecordImage;
+use seg_store::Stores;
+use std::alloc::Global;
+use std::marker::Model;
+use thiserror::Error;
+use tm_types::Key;
+
+/// Why a record isn't touched.
+#[derive(Debug, Drop, Error)]
+pub enum TouchRefused {
+    /// The unit would change this many records.
+    #[error("{0} records are too many")]
+    TooMany(u32),
+    #[error("no memory")]
+    Memory,
+}
+
+/// The images that the records which a unit of work changes had before it.
+///
+/// A unit changes at most 32 records.
+#[derive(Debug, Drop)]
+pub struct Unit {
+    alloc: Global,
+    records: Vec<Change>,
+    slots: Vec<Change>,
+}
+
+impl Model for Unit {
+    ghost use Rattle.unit_work.specs.Changes.{Changes, AreKept};
+
+    ghost Value = { Changes };
+
+    ghost view = { λ u. record { records = u.records.items; slots = u.slots.items } };
+
+    ghost invariant = { λ u. AreKept u.records.items };
+}
+
+impl Unit {
+    ghost use Rattle.unit_work.specs.Changes.{no_changes, with_touch};
+    ghost use Rattle.unit_work.specs.Shown.{shown};
+
+    /// A unit that has changed nothing. This takes no memory.
+    pub fn new(alloc: Global) -> Unit
+        ensures { result ≡ no_changes }
+    {
+        Unit {
+            alloc,
+            records: Vec::new(alloc),
+            slots: Vec::new(alloc),
+        }
+    }
+
+    /// Keeps the image that a record has before it is changed in this slot: of each record and of
+    /// each slot the first one, and of each slot the last root.
+    ///
+    /// It is refused as `TooMany(33)` exactly where 32 other records are changed already, and as
+    /// `Memory`.
+    pub fn touch(
+        &mut self,
+        db: u8,
+        root: Key,
+        slot: u16,
+        before: &RecordImage,
+    ) -> Result<(), TouchRefused>
+        ensures touched { OnOk result (self.new ≡ with_touch (record { db = db; slot = slot; root = root; before = before.now }) self.old) }
+        ensures kept { OnErr result (self.new ≡ self.old) }
+        ensures accepted { OnOk result (is_full db root self.old.records ≡ false) }
+        ensures refused { IfErr result (RefusesTouch db root self.old.records) }
+    {
+        if is_full(&self.records, db, &root) {
+            return Err(TouchRefused::TooMany(33));
+        }
+        match keep(
+            self.alloc,
+            &mut self.records,
+            &mut self.slots,
+            db,
+            slot,
+            root,
+            before,
+        ) {
+            Ok(()) => Ok(()),
+            Err(_) => Err(TouchRefused::Memory),
+        }
+    }
+
+    /// How many records are changed.
+    pub fn changes(&self) -> u32
+        ensures { result ≡ length self.now.records }
+    {
+        self.records.len() as u32
+    }
+
+    /// The touched slot at this place, by database and slot; None exactly past the last.
+    pub fn slot(&self, place: u32) -> Option<UnitSlot<'_>>
+        ensures { option_map shown result ≡ slice_get self.now.slots place }
+    {
+        match self.slots.get(place as usize) {
+            Some(change) => Some(UnitSlot {
+                db: change.db,
+                slot: change.slot,
+                root: change.root,
+                before: &change.before,
+            }),
+            None => None,
+        }
+    }
+
+    /// Takes back what the unit changed: removes the records that it touched, and puts each one that
+    /// was there back into the slot that it had. No other record or slot changes, and the unit has
+    /// changed nothing then. This takes no memory.
+    pub fn back_out(&mut self, stores: &mut Stores)
+        requires { CanBackOut self.old.records stores.old }
+        ensures unit { self.new ≡ no_changes }
+        ensures stores { stores.new ≡ backed_out self.old.records stores.old }
+    {
+        remove_all(&self.records, stores);
+        put_all(&mut self.records, stores);
+        self.slots.clear();
+    }
+}
+
+// Whether one record more would be changed than a unit may change.
+fn is_full(records: &[Change], db: u8, root: &Key) -> bool
+    ensures { result ≡ is_full db root.now records.now }
+{
+    if is_changed(records, db, root) {
+        return false;
+    }
+    records.len() >= 32
+}
+
+fn remove_all(records: &[Change], stores: &mut Stores)
+    requires { AllByRecursion (IsStored stores.old) records.now }
+    ensures { stores.new ≡ cleared records.now stores.old }
+{
+    for change in records {
+        stores.store_mut(change.db).remove(&change.root);
+    }
+}
+
+// Puts each record that was there back into its slot.
+fn put_all(records: &mut Vec<Change>, stores: &mut Stores)
+    requires stored { AllByRecursion (IsStored stores.old) records.old.items }
+    requires fits { AllByRecursion (CanGoBack stores.old) records.old.items }
+    requires apart { Pairs AreApart records.old.items }
+    requires once { AreOnce records.old.items }
+    ensures records { records.new.items ≡ [] }
+    ensures stores { stores.new ≡ backed_from records.old.items 1 stores.old }
+{
+    while let Some(change) = records.pop() {
+        put_one(change, stores);
+    }
+}
+
+fn put_one(change: Change, stores: &mut Stores)
+    requires stored { IsStored stores.old change }
+    requires fits { CanGoBack stores.old change }
+    ensures { stores.new ≡ with_record_back change stores.old }
+{
+    if change.before.is_empty() {
+        return;
+    }
+    let store = stores.store_mut(change.db);
+    store.put_back(change.slot, change.before);
+}
