@@ -123,7 +123,7 @@ pub change_image : (db slot : ℕ) (root : List ℕ) (image : List Row) (records
     ≡ with_change (record { db = db; slot = slot; root = root; before = image }) records
 change_image db slot root image records =
     elim (is_changed db root records) as (λ b. cond b records (records ++ record { db = db; slot = slot; root = root; before = cond b [] image } ∷ [])
-      ≡ cond b records (records ++ record { db = db; slot = slot; root = root; before = image } ∷ [])) [
+    ≡ cond b records (records ++ record { db = db; slot = slot; root = root; before = image } ∷ [])) [
       | true ↦ refl
       | false ↦ refl
     ]
