@@ -1,20 +1,18 @@
 -- Stores without the changed records, and with those that were there put back.
-use Rattle.std.proofs.Common.{◌≡◌, ◌≢◌, ℕ, ◌+◌, ◌-◌, ◌≤◌, ◌<◌, ◌++◌, ◌∷◌, [], List, length, zero, suc, refl, sym, ◌∙◌, ap, Bool, true, false, cond, Option, None, Some, arith, get_or, set, drop, subst, ◌||◌, ◌&&◌, not, eqb, ◌⊎◌, inl, inr, ⊎_elim}
-use Rattle.std.specs.Prelude.{map}
-use Rattle.std.specs.List.{AllByRecursion, slice_get, list_any}
+use Rattle.std.proofs.Common.{◌≡◌, ◌≢◌, ℕ, ◌+◌, ◌-◌, ◌≤◌, ◌<◌, ◌++◌, ◌∷◌, [], List, length, zero, suc, refl, sym, ◌∙◌, ap, Bool, true, false, cond, Option, None, Some, arith, get_or, set, drop, subst, ◌||◌, ◌&&◌, not, eqb, inl, inr, ⊎_elim}
+use Rattle.std.specs.List.{AllByRecursion, slice_get}
 use Rattle.std.specs.Ordering.{is_eq}
 use Rattle.std.proofs.lemmas.Bool.{false≢true, eq-eqb, ne_eqb, cases_eq}
 use Rattle.std.proofs.lemmas.List.{length-set}
 use Rattle.std.proofs.lemmas.Option.{slice_get_within}
 use Rattle.model_rows.specs.declared.row.Row.{Row}
 use Rattle.model_rows.specs.Path.{key_cmp}
-use Rattle.model_rows.specs.Record.{IsRecord}
 use Rattle.model_rows.proofs.Lists.{all_then, all_front, all_back}
-use Rattle.seg_store.specs.Slots.{Stored, has_root, is_free, slot_of, without_root}
+use Rattle.seg_store.specs.Slots.{Stored, has_root, is_free, without_root}
 use Rattle.seg_store.proofs.Places as places
-use Rattle.seg_store.proofs.SlotRows.{rooted, record_has, set_itself, not_free}
+use Rattle.seg_store.proofs.SlotRows.{rooted, record_has, set_itself}
 use Rattle.unit_work.specs.declared.change.Change.{Change}
-use Rattle.unit_work.specs.Changes.{is_of, AreOther, AreOnce, Pairs}
+use Rattle.unit_work.specs.Changes.{AreOther, AreOnce, Pairs}
 use Rattle.unit_work.specs.BackOut.{is_touched, was_in, backed_slot, cleared_slot, cleared_slots, backed_slots, cleared_from, backed_from, cleared, IsStored, FitsStore, FitsOption, CanGoBack, AreApart, with_image_back, with_back, with_record_back}
 use Rattle.unit_work.proofs.Keeping.{pairs_last}
 

@@ -1,6 +1,6 @@
 ghost use Rattle.std.specs.Prelude.{◌≡◌, IfOk};
 
-use crate::{TouchRefused, Unit, UnitSlot};
+use crate::{TouchRefused, Unit};
 use seg_rows::{RecordImage, Rows, decode_record};
 use seg_store::Stores;
 use std::alloc::Global;
@@ -39,8 +39,8 @@ fn key(bytes: &[u8]) -> Result<Key, Fail> {
 }
 
 // What is lent of a slot: its database, number and root, and how many rows it had.
-fn summary(slot: Option<UnitSlot<'_>>) -> Option<(u8, u16, Key, usize)> {
-    match slot {
+fn summary(unit: &Unit, place: u32) -> Option<(u8, u16, Key, usize)> {
+    match unit.slot(place) {
         Some(slot) => Some((slot.db, slot.slot, slot.root, slot.before.len())),
         None => None,
     }
@@ -64,9 +64,9 @@ fn touched_slots(rt: HostRuntime) -> Result<(), Fail> {
     unit.touch(2, other, 4, &none)?;
     unit.touch(2, first, 3, &none)?;
     assert_eq!(rt; unit.changes(), 3);
-    assert_eq!(rt; summary(unit.slot(0)), Some((1, 7, other, 1)));
-    assert_eq!(rt; summary(unit.slot(1)), Some((2, 3, first, 0)));
-    assert_eq!(rt; summary(unit.slot(2)), Some((2, 4, other, 2)));
+    assert_eq!(rt; summary(&unit, 0), Some((1, 7, other, 1)));
+    assert_eq!(rt; summary(&unit, 1), Some((2, 3, first, 0)));
+    assert_eq!(rt; summary(&unit, 2), Some((2, 4, other, 2)));
     assert!(rt; unit.slot(3).is_none());
     Ok(())
 }

@@ -1,6 +1,6 @@
-use Rattle.std.proofs.Common.{◌≡◌, ◌++◌, ◌∷◌, [], sym, ap, ◌∙◌, subst, arith, length}
+use Rattle.std.proofs.Common.{◌≡◌, ◌++◌, ◌∷◌, [], sym, ap, ◌∙◌, subst, arith}
 use Rattle.unit_work.specs.BackOut.{backed_from}
-use Rattle.unit_work.proofs.Backing.{CanPut, put_next, put_ahead, none_backed, empty_list, last_stored, last_fits}
+use Rattle.unit_work.proofs.Backing.{CanPut, put_next, put_ahead, none_backed, empty_list}
 use Rattle.unit_work.proofs.unit.put_all.Goals as goal
 
 pub loop-change-preserved : goal.loop-change-preserved

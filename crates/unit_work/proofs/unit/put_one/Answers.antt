@@ -1,4 +1,3 @@
-use Rattle.std.proofs.Common.{◌≡◌, []}
 use Rattle.unit_work.proofs.Backing.{back_none}
 use Rattle.unit_work.proofs.unit.put_one.Goals as goal
 

@@ -1,4 +1,4 @@
-use Rattle.std.proofs.Common.{◌≡◌, ◌≤◌, ◌<◌, ◌+◌, ◌-◌, ◌∷◌, [], sym, ap, ◌∙◌, subst, arith, length, drop, set, ℕ, get_or}
+use Rattle.std.proofs.Common.{◌≡◌, ◌+◌, ◌-◌, ◌∷◌, sym, ap, ◌∙◌, subst, arith, drop}
 use Rattle.std.proofs.lemmas.List.{length-set, drop_more}
 use Rattle.unit_work.specs.declared.change.Change.{Change}
 use Rattle.unit_work.specs.BackOut.{cleared, IsStored}
