@@ -185,7 +185,7 @@ pub same_key : (q root : List ℕ) → is_eq (key_cmp q root) ≡ true → root 
 same_key q root e = sym (exact_bytes q root (is_eq-true _ e))
 
 -- an image of a root has that root alone
-rooted : (root : List ℕ) (image : List Row) → has_root root image ≡ true → (q : List ℕ) → has_root q image ≡ is_eq (key_cmp q root)
+pub rooted : (root : List ℕ) (image : List Row) → has_root root image ≡ true → (q : List ℕ) → has_root q image ≡ is_eq (key_cmp q root)
 rooted root [] h q = absurd (false≢true h)
 rooted root (row ∷ rows) h q = ap (λ k. is_eq (key_cmp q k)) (sym (exact_bytes root (root_of row.path) (is_eq-true _ h)))
 
@@ -324,7 +324,7 @@ slots_gone dbd slots i valid =
     }
 
 -- the same of a slot that is free already
-set_itself : {A : Type 0} (xs : List A) (i : ℕ) (x : A) → slice_get xs i ≡ Some x → set xs i x ≡ xs
+pub set_itself : {A : Type 0} (xs : List A) (i : ℕ) (x : A) → slice_get xs i ≡ Some x → set xs i x ≡ xs
 set_itself [] i x e = refl
 set_itself (y ∷ xs) zero x e = let same : Some y ≡ Some x = e in let parts : y ≡ x = cc in ap (λ z. z ∷ xs) (sym parts)
 set_itself (y ∷ xs) (suc i) x e = ap (λ zs. y ∷ zs) (set_itself xs i x e)

@@ -1,12 +1,12 @@
 -- Changes that are kept once, and slots in their order.
-use Rattle.std.proofs.Common.{◌≡◌, ℕ, ◌+◌, ◌≤◌, ◌<◌, ◌++◌, ◌∷◌, [], List, length, zero, suc, refl, sym, ◌∙◌, ap, Bool, true, false, cond, Option, None, Some, arith, get_or, set, leb, ◌||◌, subst}
+use Rattle.std.proofs.Common.{◌≡◌, ℕ, ◌+◌, ◌≤◌, ◌<◌, ◌++◌, ◌∷◌, [], List, length, suc, refl, sym, ◌∙◌, ap, Bool, true, false, cond, Option, None, Some, arith, get_or, set, leb, ◌||◌, subst}
 use Rattle.std.specs.List.{AllByRecursion, prefix_len, slice_get, insert, list_any}
 use Rattle.std.proofs.lemmas.Bool.{false≢true, leb-false}
 use Rattle.std.proofs.lemmas.List.{length_push}
 use Rattle.model_rows.proofs.Lists.{all_append, all_front, all_back}
 use Rattle.model_rows.specs.declared.row.Row.{Row}
 use Rattle.unit_work.specs.declared.change.Change.{Change}
-use Rattle.unit_work.specs.Changes.{is_of, is_changed, is_before, is_slot, is_seen, with_change, with_slot, AreOther, AreOnce, Pairs, AreKept, is_full}
+use Rattle.unit_work.specs.Changes.{is_of, is_changed, is_before, is_slot, is_seen, with_change, with_slot, AreOther, Pairs, AreKept, is_full}
 
 -- how many slots go before this one
 abbrev pub place_in : ℕ → ℕ → List Change → ℕ
@@ -123,7 +123,7 @@ pub change_image : (db slot : ℕ) (root : List ℕ) (image : List Row) (records
     ≡ with_change (record { db = db; slot = slot; root = root; before = image }) records
 change_image db slot root image records =
     elim (is_changed db root records) as (λ b. cond b records (records ++ record { db = db; slot = slot; root = root; before = cond b [] image } ∷ [])
-      ≡ cond b records (records ++ record { db = db; slot = slot; root = root; before = image } ∷ [])) [
+    ≡ cond b records (records ++ record { db = db; slot = slot; root = root; before = image } ∷ [])) [
       | true ↦ refl
       | false ↦ refl
     ]

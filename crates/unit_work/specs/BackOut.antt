@@ -1,9 +1,7 @@
 -- What backing out needs, and what it leaves in the stores.
-use Rattle.std.specs.Prelude.{◌≡◌, ◌≢◌, ℕ, ◌-◌, ◌≤◌, ◌<◌, ◌⊎◌, Bool, true, false, ◌==◌, ◌&&◌, not, List, [], ◌∷◌, Option, None, Some, if◌then◌else◌, length, suc, slice_get, slice_set}
+use Rattle.std.specs.Prelude.{◌≡◌, ℕ, ◌-◌, ◌≤◌, ◌⊎◌, Bool, true, ◌==◌, ◌&&◌, not, List, [], ◌∷◌, Option, None, Some, if◌then◌else◌, length, suc, slice_get, slice_set}
 use Rattle.std.specs.List.{AllByRecursion, list_any}
-use Rattle.std.specs.Ordering.{is_eq}
 use Rattle.model_rows.specs.declared.row.Row.{Row}
-use Rattle.model_rows.specs.Path.{key_cmp}
 use Rattle.model_rows.specs.Record.{IsRecord}
 use Rattle.seg_store.specs.Slots.{Stored, has_root, is_free, slot_of}
 use Rattle.unit_work.specs.declared.change.Change.{Change}

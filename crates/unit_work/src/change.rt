@@ -20,7 +20,7 @@ pub struct Change {
 }
 
 /// A slot that a unit touched, as it is lent.
-#[derive(Debug)]
+#[derive(Debug, Drop)]
 pub struct UnitSlot<'a> {
     /// The number of the database, counted from 1.
     pub db: u8,

@@ -5,4 +5,6 @@ pub use change::{Change, UnitSlot};
 pub use unit::{TouchRefused, Unit};
 
 mod change;
+#[cfg(test)]
+mod tests;
 mod unit;

@@ -1,7 +1,7 @@
-use Rattle.std.proofs.Common.{◌≡◌, ◌<◌, ◌≤◌, sym, ap, ◌∙◌, arith, length, true, false, subst, get_or, set, rules}
+use Rattle.std.proofs.Common.{◌≡◌, sym, ap, ◌∙◌, arith, true, false, get_or, set}
 use Rattle.std.specs.List.{insert}
 use Rattle.unit_work.specs.declared.change.Change.{Change}
-use Rattle.unit_work.specs.Changes.{is_seen, with_slot}
+use Rattle.unit_work.specs.Changes.{is_seen}
 use Rattle.unit_work.proofs.Keeping.{seen_within, place_within, place_in, slot_again, slot_new}
 use Rattle.unit_work.proofs.change.add_slot.Goals as goal
 

@@ -1,4 +1,4 @@
-use Rattle.std.proofs.Common.{◌≡◌, sym, ap, ◌∙◌}
+use Rattle.std.proofs.Common.{sym, ap, ◌∙◌}
 use Rattle.std.specs.List.{slice_get}
 use Rattle.unit_work.proofs.Keeping.{seen_is, seen_at}
 use Rattle.unit_work.proofs.change.is_seen.Goals as goal

@@ -1,4 +1,4 @@
-use Rattle.std.proofs.Common.{◌≡◌, [], sym, ap, ◌∙◌, cond, refl, List}
+use Rattle.std.proofs.Common.{[], ap, ◌∙◌, cond, refl, List}
 use Rattle.model_rows.specs.declared.row.Row.{Row}
 use Rattle.unit_work.specs.Changes.{is_seen, with_slot}
 use Rattle.unit_work.proofs.Keeping.{slot_image}

@@ -1,4 +1,4 @@
-use Rattle.std.proofs.Common.{◌≡◌, ◌<◌, ◌≤◌, sym, ap, ◌∙◌, arith, length, refl, true, ℕ, get_or}
+use Rattle.std.proofs.Common.{◌≤◌, sym, ap, ◌∙◌, arith, length}
 use Rattle.std.proofs.lemmas.List.{get_or_read}
 use Rattle.seg_store.proofs.Places.{prefix_is}
 use Rattle.unit_work.specs.Changes.{is_before}
