@@ -3,7 +3,7 @@ ghost use Rattle.std.specs.Prelude.{◌≡◌, ◌+◌, ◌==◌, find, length};
 ghost use Rattle.std.specs.List.{suffix_len};
 ghost use Rattle.std.specs.Option.{option_copied, option_map};
 ghost use Rattle.std.specs.Str.{bytes_eq};
-ghost use Rattle.model_machine.specs.Machine.{code_at};
+ghost use Rattle.model_system.specs.Codes.{code_at};
 ghost use Rattle.model_message.specs.Calls.{destination_named, without_blanks};
 
 use model_system::Code;

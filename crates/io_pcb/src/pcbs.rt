@@ -5,7 +5,7 @@ ghost use Rattle.std.specs.List.{flat_map};
 ghost use Rattle.std.specs.Vec.{vec_capacity};
 ghost use Rattle.model_message.specs.Work.{fresh_pcb, fresh_pcbs, destination_of, ended_to, ended_by, without_message};
 ghost use Rattle.model_message.specs.Calls.{with_segment, with_chosen, can_change, reset_pcb, ended_at, destination_at};
-ghost use Rattle.model_machine.specs.Machine.{change_at};
+ghost use Rattle.model_system.specs.Lists.{change_at};
 
 use model_message::{Ended, OpenPcb};
 use model_system::Pcb;

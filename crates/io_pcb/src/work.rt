@@ -1,7 +1,7 @@
 ghost use Rattle.std.specs.Prelude.{◌≡◌, IfOk, OnOk, OnErr, slice_get};
 ghost use Rattle.std.specs.Option.{option_copied, option_map};
 ghost use Rattle.tm_types.specs.Segment.{IsSegmentText};
-ghost use Rattle.model_machine.specs.Unit.{given};
+ghost use Rattle.model_message.specs.Calls.{given};
 ghost use Rattle.model_message.specs.Work.{message_start};
 ghost use Rattle.model_message.specs.Calls.{unique_answer, unique_work, next_answer, next_work, insert_status, insert_work, purge_status, purge_work, change_status, change_work, reset_work, finish_work};
 ghost use Rattle.io_pcb.specs.Shown.{shown};

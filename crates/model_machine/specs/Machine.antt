@@ -1,5 +1,5 @@
 -- The state of the machine that serves a system.
-use Rattle.std.specs.Prelude.{ℕ, ◌+◌, ◌-◌, ◌*◌, ◌≤◌, ◌==◌, nat_eq, nat_le, Bool, true, false, not, ◌&&◌, if◌then◌else◌, Option, Some, None, List, [], map, replicate, length, slice_get, slice_set, position, find, sum_by}
+use Rattle.std.specs.Prelude.{ℕ, ◌+◌, ◌-◌, ◌≤◌, ◌==◌, nat_le, Bool, true, false, not, ◌&&◌, if◌then◌else◌, Option, Some, None, List, [], map, replicate, length, slice_get, slice_set, position, find}
 use Rattle.std.specs.Option.{option_map, option_map_or, option_and_then, unwrap_or, is_some}
 use Rattle.std.specs.List.{list_any, count_by}
 use Rattle.std.specs.Str.{bytes_eq}
@@ -15,6 +15,7 @@ use Rattle.model_system.specs.declared.code.Code.{Code}
 use Rattle.model_system.specs.declared.system_program.SystemProgram.{SystemProgram}
 use Rattle.model_system.specs.declared.code.Transaction.{Transaction}
 use Rattle.model_system.specs.System.{System}
+use Rattle.model_system.specs.Codes.{code_at, code_place}
 use Rattle.model_system.specs.declared.pcb.Pcb.{Pcb}
 use Rattle.model_rows.specs.declared.row.Row.{Row}
 use Rattle.model_machine.specs.declared.lasting.TerminalInput.{TerminalInput}
@@ -56,22 +57,11 @@ input_at inputs name = find (λ input. bytes_eq input.name name) inputs
 abbrev pub output_at : List TerminalReplies → List ℕ → Option TerminalReplies
 output_at outputs name = replies_at name outputs
 
-abbrev pub code_place : List Code → List ℕ → Option ℕ
-code_place codes name = position (λ code. bytes_eq code.transaction.code name) codes
-
-abbrev pub code_at : List Code → List ℕ → Option Code
-code_at codes name = find (λ code. bytes_eq code.transaction.code name) codes
-
 abbrev pub program_at : List SystemProgram → List ℕ → Option SystemProgram
 program_at programs psb = find (λ program. bytes_eq program.psb psb) programs
 
 abbrev pub message_at : List Message → ℕ → Option Message
 message_at messages id = find (λ message. message.id == id) messages
-
--- a list with the element at a place changed, if there is one
-abbrev pub change_at : {X : Type 0} → List X → Option ℕ → (X → X) → List X
-change_at xs (Some place) change = option_map_or (λ found. slice_set xs place (change found)) (slice_get xs place) xs
-change_at xs None change = xs
 
 -- the script of a PSB; one without a program has none
 abbrev pub lines_of : System → List ℕ → List ScriptLine
@@ -81,14 +71,14 @@ lines_of system psb = option_map_or (λ program. program.program) (program_at sy
 abbrev pub pcbs_of : System → List ℕ → List Pcb
 pcbs_of system psb = option_map_or (λ program. program.pcbs) (program_at system.programs psb) []
 
--- what serves a code's messages: its operands, the script and the PCBs of its program, and the
--- databases
+-- what serves a code's messages: the system, the code's operands, and the script and the PCBs of its
+-- program
 abbrev pub job_by : System → Code → Job
 job_by system code = record {
+  system = system;
   transaction = code.transaction;
   lines = lines_of system code.psb;
   pcbs = pcbs_of system code.psb;
-  databases = system.databases;
 }
 
 abbrev pub job_of : System → List ℕ → Option Job
@@ -125,7 +115,7 @@ content lasting = messages_bytes lasting.messages + outputs_bytes lasting.output
 
 -- what k calls give for a slot's message on the rows that are committed, by the script of its code
 abbrev pub message_trial : System → List (List Row) → List ℕ → Message → ℕ → Option Trial
-message_trial system rows code message calls = option_and_then (λ job. trial_of job rows message.segments calls) (job_of system code)
+message_trial system rows code message calls = option_and_then (λ job. trial_of job rows message calls) (job_of system code)
 
 abbrev pub slot_trial : System → Moment → Slot → ℕ → Option Trial
 slot_trial system moment slot calls =

@@ -1,6 +1,6 @@
 -- The steps of the machine: which answer is the right one now, and what it leaves.
-use Rattle.std.specs.Prelude.{◌≡◌, ℕ, suc, ◌+◌, ◌*◌, ◌/◌, ◌%◌, ◌<◌, ◌≤◌, filter, IsSome, ◌==◌, nat_lt, nat_le, Bool, true, false, not, ◌&&◌, ◌||◌, if◌then◌else◌, Option, Some, None, IsSomeAnd, List, [], ◌∷◌, ◌++◌, codes, drop, length, slice_get, slice_index_or, remove}
-use Rattle.std.specs.Option.{option_map_or, option_and_then, option_map, is_some}
+use Rattle.std.specs.Prelude.{◌≡◌, ℕ, suc, ◌+◌, ◌*◌, ◌/◌, ◌%◌, ◌<◌, ◌≤◌, filter, IsSome, ◌==◌, nat_lt, nat_le, Bool, true, false, not, ◌&&◌, ◌||◌, if◌then◌else◌, Option, Some, None, IsSomeAnd, List, [], ◌∷◌, ◌++◌, codes, length, map, slice_get, slice_index_or}
+use Rattle.std.specs.Option.{option_map_or, option_and_then, is_some}
 use Rattle.std.specs.List.{before_first}
 use Rattle.tm_types.specs.declared.abend.AbendCode.{AbendCode}
 use Rattle.tm_types.specs.declared.message.Message.{Message}
@@ -27,9 +27,13 @@ use Rattle.model_machine.specs.declared.entry.AckAnswer.{AckAnswer}
 use Rattle.model_machine.specs.declared.entry.AckAnswer.TheVariants.{Removed, Already as AckAlready, Unknown as AckUnknown, Ahead}
 use Rattle.model_machine.specs.declared.entry.SyncPoint.{SyncPoint}
 use Rattle.model_machine.specs.declared.entry.SyncPoint.TheVariants.{End, Next, NoMore}
-use Rattle.model_machine.specs.Unit.{Trial, UnitEnd, Job, trial_end}
+use Rattle.model_message.specs.declared.ended.Ended.{Ended}
+use Rattle.model_message.specs.Calls.{finish_work}
+use Rattle.model_machine.specs.Unit.{Trial, UnitEnd, trial_end}
 use Rattle.model_machine.specs.Unit.UnitEnd.{Ends, Syncs, Abends}
-use Rattle.model_machine.specs.Machine.{LastingState, Moment, Slot, input_at, input_place, output_at, code_at, code_place, change_at, message_at, job_of, IsRegion, slot_at, with_slot, is_held, busy_slots, content, slot_trial, flagged}
+use Rattle.model_system.specs.Codes.{code_at, code_place}
+use Rattle.model_system.specs.Lists.{change_at}
+use Rattle.model_machine.specs.Machine.{LastingState, Moment, Slot, input_at, input_place, output_at, message_at, job_of, IsRegion, slot_at, with_slot, is_held, busy_slots, content, slot_trial, flagged}
 use Rattle.model_machine.specs.Pick.{Candidate, pick_of}
 
 -- The first word of a text, which a blank or the end ends. An input's code is the first word of its
@@ -107,30 +111,48 @@ removed_state lasting terminal = record lasting {
   steps = lasting.steps + 1;
 }
 
--- a reply without a segment is none
-abbrev pub replied : List TerminalReplies → List ℕ → List (List ℕ) → List TerminalReplies
-replied outputs origin [] = outputs
-replied outputs origin (segment ∷ segments) =
-    with_terminal origin (with_reply (segment ∷ segments)) outputs
+-- a message is switched: it stands behind all others, under the next id, and keeps its origin
+abbrev pub switched : List ℕ → Ended → LastingState → LastingState
+switched origin output lasting = record lasting {
+  messages = lasting.messages ++ record { id = lasting.next_id; origin = origin; code = output.to; conversation = false; segments = output.segments } ∷ [];
+  next_id = lasting.next_id + 1;
+}
+
+-- a reply waits at its terminal, under the next number
+abbrev pub replied : Ended → LastingState → LastingState
+replied output lasting = record lasting { outputs = with_terminal output.to (with_reply output.segments) lasting.outputs }
+
+-- An output goes to a terminal as a reply, and else to a code as a message.
+abbrev pub sent : List ℕ → Ended → LastingState → LastingState
+sent origin output lasting =
+    if is_some (output_at lasting.outputs output.to) then replied output lasting else switched origin output lasting
+
+-- outputs go out in their order
+abbrev pub all_sent : List ℕ → List Ended → LastingState → LastingState
+all_sent origin [] lasting = lasting
+all_sent origin (output ∷ outputs) lasting = all_sent origin outputs (sent origin output lasting)
 
 -- the messages without the one of this id
 abbrev pub without_message : List Message → ℕ → List Message
 without_message messages id = filter (λ message. not (message.id == id)) messages
 
--- a message is gone, and a reply of these segments waits at its origin
-abbrev pub finished_state : LastingState → Message → List (List ℕ) → LastingState
-finished_state lasting message reply = record lasting {
-  messages = without_message lasting.messages message.id;
-  outputs = replied lasting.outputs message.origin reply;
-  steps = lasting.steps + 1;
-}
+-- a message is gone, and these outputs were sent, which have its origin
+abbrev pub finished_state : LastingState → Message → List Ended → LastingState
+finished_state lasting message outputs =
+    all_sent message.origin outputs
+    (record lasting { messages = without_message lasting.messages message.id; steps = lasting.steps + 1 })
 
 -- what a completed message leaves, by its work: the rows as it has changed them are committed
 abbrev pub committed : LastingState → List (List Row) → LastingState
 committed lasting rows = record lasting { rows = rows }
 
+-- what the work sends: the messages that were ended, in that order, and then those under construction,
+-- in the order of the PCBs
+abbrev pub outputs_of : Trial → List Ended
+outputs_of trial = (finish_work trial.work).ended
+
 abbrev pub completed_by : LastingState → Option Message → Option Trial → LastingState
-completed_by lasting (Some message) (Some trial) = finished_state (committed lasting trial.databases.rows) message trial.work.reply
+completed_by lasting (Some message) (Some trial) = finished_state (committed lasting trial.databases.rows) message (outputs_of trial)
 completed_by lasting _ _ = lasting
 
 abbrev pub completed_state : System → Moment → Slot → LastingState
@@ -144,12 +166,13 @@ digit n = 48 + n % 10
 abbrev pub four_digits : ℕ → List ℕ
 four_digits n = digit (n / 1000) ∷ digit (n / 100) ∷ digit (n / 10) ∷ digit n ∷ []
 
--- what the origin of a message is sent in place of a reply where the work on it ended abnormally
+-- what the origin of a message is sent, and nothing else, where the work on it ended abnormally
 abbrev pub abend_text : List ℕ → AbendCode → List ℕ
 abend_text code abend = codes "DFS555I TRAN " ++ code ++ codes " ABEND U" ++ four_digits abend.number
 
 abbrev pub abended_by : LastingState → List ℕ → AbendCode → Option Message → LastingState
-abended_by lasting code abend (Some message) = finished_state lasting message (abend_text code abend ∷ [])
+abended_by lasting code abend (Some message) =
+    finished_state lasting message (record { to = message.origin; segments = abend_text code abend ∷ [] } ∷ [])
 abended_by lasting code abend None = lasting
 
 -- A region goes on with a further message where it has taken fewer than its code's count, or that
@@ -241,9 +264,24 @@ with_lasting moment lasting = record moment { lasting = lasting }
 abbrev pub taken : System → Moment → ℕ → Slot → Moment
 taken system moment region slot = flagged system slot.code (with_slot moment region (Some slot))
 
+-- the names to which these outputs go
+abbrev pub destinations : List Ended → List (List ℕ)
+destinations outputs = map (λ output. output.to) outputs
+
+-- the flags of these codes follow, one after another
+abbrev pub all_flagged : System → List (List ℕ) → Moment → Moment
+all_flagged system [] moment = moment
+all_flagged system (name ∷ names) moment = all_flagged system names (flagged system name moment)
+
+-- the codes whose messages become more or fewer: the slot's own, and those to which messages are switched
+abbrev pub codes_moved : System → Moment → Slot → List (List ℕ)
+codes_moved system moment slot =
+    slot.code ∷ option_map_or (λ trial. destinations (outputs_of trial)) (slot_trial system moment slot slot.calls) []
+
 abbrev pub completed : System → Moment → ℕ → SyncPoint → Option Slot → Moment
 completed system moment region answer (Some slot) =
-    flagged system slot.code (with_slot (with_lasting moment (completed_state system moment slot)) region (next_slot slot answer))
+    all_flagged system (codes_moved system moment slot)
+    (with_slot (with_lasting moment (completed_state system moment slot)) region (next_slot slot answer))
 completed system moment region answer None = moment
 
 abbrev pub abended : Moment → ℕ → AbendCode → Option Slot → Moment

@@ -13,11 +13,24 @@ use Rattle.model_script.specs.Script.{Answer}
 use Rattle.model_system.specs.declared.pcb.Pcb.{Pcb}
 use Rattle.model_system.specs.declared.pcb.Pcb.TheVariants.{Modifiable}
 use Rattle.model_system.specs.System.{System}
-use Rattle.model_machine.specs.Machine.{code_at, change_at}
-use Rattle.model_machine.specs.Unit.{given, status_alone, is_blank}
+use Rattle.model_system.specs.Codes.{code_at}
+use Rattle.model_system.specs.Lists.{change_at}
 use Rattle.model_message.specs.declared.ended.Ended.{Ended}
 use Rattle.model_message.specs.declared.open_pcb.OpenPcb.{OpenPcb}
 use Rattle.model_message.specs.Work.{MessageWork, fresh_pcb, destination_of, ended_by, without_message}
+
+-- an answer without data
+abbrev pub status_alone : Status → Answer
+status_alone status = record { status = status; area = None }
+
+-- a segment that is there is given with a blank status; where there is none the status is QD
+abbrev pub given : Option (List ℕ) → Answer
+given (Some text) = record { status = Blank; area = Some text }
+given None = status_alone QD
+
+abbrev pub is_blank : Status → Bool
+is_blank Blank = true
+is_blank _ = false
 
 -- GU gives the first segment.
 abbrev pub unique_answer : MessageWork → Answer
@@ -123,8 +136,8 @@ reset_work work = record work { begun = true; place = 1; inserted = 0; pcbs = ma
 abbrev pub finish_work : MessageWork → MessageWork
 finish_work work = record work { pcbs = map without_message work.pcbs; ended = work.ended ++ flat_map ended_by work.pcbs }
 
--- What a call is answered, and the work after it. A call that no script makes on these PCBs is
--- answered AM and does nothing.
+-- What a call is answered, and the work after it. ROLL, which isn't answered, and a call that no
+-- script makes on these PCBs are answered AM here, and do nothing.
 abbrev pub answer_by : Function → System → MessageWork → ℕ → List ℕ → Answer
 answer_by GU system work pcb text = unique_answer work
 answer_by GN system work pcb text = next_answer work
@@ -143,6 +156,7 @@ work_by CHNG system work pcb text = change_work system work pcb text
 work_by ROLB system work pcb text = reset_work work
 work_by _ system work pcb text = work
 
+-- the call of a script
 abbrev pub message_answer : System → MessageWork → CallText → Answer
 message_answer system work call = answer_by call.function system work call.pcb call.area
 

@@ -6,5 +6,6 @@
 pub use ended::Ended;
 pub use open_pcb::OpenPcb;
 
+pub mod abends;
 mod ended;
 mod open_pcb;

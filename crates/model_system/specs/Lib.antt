@@ -1,4 +1,6 @@
+pub mod Lists
 pub mod Pcbs
 pub mod System
+pub mod Codes
 pub mod CodeStates
 pub mod Valid

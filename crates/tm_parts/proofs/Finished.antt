@@ -19,7 +19,8 @@ use Rattle.model_machine.specs.Unit.UnitEnd.{Syncs, Abends}
 use Rattle.model_machine.specs.declared.entry.Entry.TheVariants.{Done, Abended}
 use Rattle.model_machine.specs.declared.entry.SyncPoint.{SyncPoint}
 use Rattle.model_machine.specs.declared.entry.SyncPoint.TheVariants.{Next as GoesOn}
-use Rattle.model_machine.specs.Machine.{message_at as message_in, LastingState, Moment, Slot, is_held, content, IsRegion, job_by, job_of, slot_trial, slot_at, with_slot, followed, flagged, code_at, code_place}
+use Rattle.model_system.specs.Codes.{code_at, code_place}
+use Rattle.model_machine.specs.Machine.{message_at as message_in, LastingState, Moment, Slot, is_held, content, IsRegion, job_by, job_of, slot_trial, slot_at, with_slot, followed, flagged}
 use Rattle.model_machine.specs.Steps.{committed, after_sync, may_go_on, finished_state, completed_by, completed_state, abended, abended_by, abend_text, completed, next_among, next_message, next_slot, slot_end, sync_point, with_lasting, May, After}
 use Rattle.tran_pick.proofs.Found.{first_is_free}
 use Rattle.model_rows.specs.Rows.{Database}

@@ -12,7 +12,8 @@ use Rattle.model_system.specs.declared.code_state.CodeState.{CodeState}
 use Rattle.model_system.specs.CodeStates.{with_raised}
 use Rattle.model_system.specs.System.{System}
 use Rattle.sysdef_check.specs.Codes as codes
-use Rattle.model_machine.specs.Machine.{Moment, is_held, first_state, empty_state, start_of, followed, followed_by, code_place, flagged, is_raised, raised_by}
+use Rattle.model_system.specs.Codes.{code_place}
+use Rattle.model_machine.specs.Machine.{Moment, is_held, first_state, empty_state, start_of, followed, followed_by, flagged, is_raised, raised_by}
 use Rattle.model_machine.specs.Steps.{accepted_state, code_word, with_lasting}
 use Rattle.tm_tables.specs.Tables.{TablesState, lasting_of, enqueued, dbds_of, rows_of}
 use Rattle.tm_parts.specs.declared.region.Busy.{Busy}

@@ -2,7 +2,8 @@
 ghost use Rattle.std.specs.Prelude.{◌≡◌, ◌≤◌, ◌-◌, None, slice_set, ◌<◌, ◌^◌, [], length, count_by, is_some, IfOk, OnErr, OnOk, IfSome, Some, IsSome, IsSomeAnd};
 ghost use Rattle.model_queues.specs.Queue.{message_at, queued_at, free_count};
 ghost use Rattle.tm_tables.specs.Tables.{dbds_of, rows_of, held};
-ghost use Rattle.model_machine.specs.Machine.{lines_of, pcbs_of, job_of, code_at, followed};
+ghost use Rattle.model_system.specs.Codes.{code_at};
+ghost use Rattle.model_machine.specs.Machine.{lines_of, pcbs_of, job_of, followed};
 ghost use Rattle.tm_unit.specs.Ahead.{IsAhead, IsStart};
 ghost use Rattle.tm_parts.specs.Region.{IsQueuedWork, Steps, SameWork, databases_of, reply_of, with_reply};
 

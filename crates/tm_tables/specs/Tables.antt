@@ -13,7 +13,8 @@ use Rattle.tm_tables.specs.declared.tables.Enqueued.TheVariants.{New, Full}
 use Rattle.model_machine.specs.declared.entry.AckAnswer.{AckAnswer}
 use Rattle.model_machine.specs.declared.entry.AckAnswer.TheVariants.{Removed}
 use Rattle.model_machine.specs.declared.lasting.TerminalInput.{TerminalInput}
-use Rattle.model_machine.specs.Machine.{LastingState, content, change_at, input_place}
+use Rattle.model_system.specs.Lists.{change_at}
+use Rattle.model_machine.specs.Machine.{LastingState, content, input_place}
 use Rattle.model_machine.specs.Steps.{with_input, replied, removed_state}
 
 -- the databases with the rows that are committed, the queues with the region that has each message,

@@ -1,7 +1,8 @@
 //! The last inputs of the terminals.
 ghost use Rattle.std.specs.Prelude.{◌≡◌, IfOk, map};
 ghost use Rattle.std.specs.Option.{option_copied};
-ghost use Rattle.model_machine.specs.Machine.{fresh_input, input_place, input_at, change_at};
+ghost use Rattle.model_system.specs.Lists.{change_at};
+ghost use Rattle.model_machine.specs.Machine.{fresh_input, input_place, input_at};
 ghost use Rattle.model_machine.specs.Steps.{with_input};
 
 use model_machine::TerminalInput;

@@ -13,7 +13,7 @@ use Rattle.model_queues.specs.declared.queued.Queued.{Queued}
 use Rattle.model_queues.specs.Queue.{AreInOrder, ids_of, has_id, queued_at, is_free_of, first_free}
 use Rattle.model_system.specs.declared.code.Code.{Code}
 use Rattle.model_system.specs.declared.code_state.CodeState.{CodeState}
-use Rattle.model_machine.specs.Machine.{code_at}
+use Rattle.model_system.specs.Codes.{code_at}
 use Rattle.model_machine.specs.Pick.{Candidate, candidate_by, candidate_of, is_served, goes_first, better, best_of, pick_among}
 use Rattle.msg_queues.proofs.Keys.{equal_from}
 

@@ -1,7 +1,7 @@
 ghost use Rattle.std.specs.Prelude.{◌≡◌, ◌≤◌, ◌-◌, [], length, slice_index_or, None, IfSome, IfNone};
 ghost use Rattle.std.specs.Option.{option_map, IsSome, IsSomeAnd};
 ghost use Rattle.model_queues.specs.Queue.{first_free, queued_at};
-ghost use Rattle.model_machine.specs.Machine.{code_at};
+ghost use Rattle.model_system.specs.Codes.{code_at};
 ghost use Rattle.model_machine.specs.Pick.{Candidate, best_of, pick_among, pick_of};
 ghost use Rattle.tran_pick.specs.Picked.{IsPicked, NonePicked};
 

@@ -1,7 +1,7 @@
 use Rattle.std.proofs.Common.{◌-◌, ◌≡◌, [], sym, ◌∙◌, subst, slice_index_or}
 use Rattle.std.specs.Option.{IfSome, IsSome}
 use Rattle.model_queues.specs.Queue.{first_free}
-use Rattle.model_machine.specs.Machine.{code_at}
+use Rattle.model_system.specs.Codes.{code_at}
 use Rattle.tran_pick.proofs.Found.{picked_code}
 use Rattle.tran_pick.proofs.Law.{picked_from, nothing_from}
 use Rattle.tran_pick.proofs.schedule.pick.Goals as goal
