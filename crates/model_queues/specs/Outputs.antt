@@ -1,5 +1,5 @@
 -- The replies of the terminals.
-use Rattle.std.specs.Prelude.{◌≡◌, ℕ, ◌+◌, Bool, if◌then◌else◌, List, [], ◌∷◌, ◌++◌, Option, length, find, drop, slice_get, sum_by, IsSome}
+use Rattle.std.specs.Prelude.{◌≡◌, ℕ, ◌+◌, ◌-◌, Bool, if◌then◌else◌, List, [], ◌∷◌, ◌++◌, Option, length, find, drop, take, slice_get, sum_by, IsSome}
 use Rattle.std.specs.Option.{option_map_or, option_and_then}
 use Rattle.std.specs.Str.{bytes_eq}
 use Rattle.tm_types.specs.declared.message.Reply.{Reply}
@@ -36,6 +36,10 @@ with_reply segments t = record t {
 -- a terminal without its first reply
 abbrev pub without_first : TerminalReplies → TerminalReplies
 without_first t = record t { replies = drop 1 t.replies }
+
+-- a terminal without its last reply, whose number the next reply gets
+abbrev pub without_last : TerminalReplies → TerminalReplies
+without_last t = record t { next = t.next - 1; replies = take (length t.replies - 1) t.replies }
 
 abbrev pub with_next : ℕ → TerminalReplies → TerminalReplies
 with_next number t = record t { next = number }

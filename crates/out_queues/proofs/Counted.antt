@@ -1,14 +1,15 @@
 -- What a change of one terminal leaves of the count and of the numbers.
-use Rattle.std.proofs.Common.{◌≡◌, ℕ, ◌+◌, ◌-◌, ◌<◌, ◌≤◌, ◌^◌, ◌++◌, ◌∷◌, [], List, refl, sym, ◌∙◌, ap, subst, arith, Bool, true, false, cond, Option, Some, None, drop, length-append}
+use Rattle.std.proofs.Common.{◌≡◌, ℕ, ◌+◌, ◌-◌, ◌<◌, ◌≤◌, ◌^◌, ◌++◌, ◌∷◌, [], List, refl, sym, ◌∙◌, ap, subst, arith, Bool, true, false, cond, Option, Some, None, drop, take, length, length-append, zero, suc}
 use Rattle.std.specs.Prelude.{map}
 use Rattle.std.specs.List.{AllByRecursion}
 use Rattle.std.specs.Option.{IsSome, IsSomeAnd}
+use Rattle.std.proofs.lemmas.List.{length-take-le}
 use Rattle.std.proofs.lemmas.List.Sums.{sum_by-cons, sum_by_push}
 use Rattle.tm_types.specs.Segment.{counted_bytes}
 use Rattle.tm_types.specs.declared.message.Reply.{Reply}
 use Rattle.model_queues.specs.Room.{reply_bytes, replies_bytes}
 use Rattle.model_queues.specs.declared.replies.TerminalReplies.{TerminalReplies}
-use Rattle.model_queues.specs.Outputs.{fresh_terminal, is_of, replies_at, IsTerminal, with_terminal, with_reply, without_first, with_next, RunUpTo, AreNumbered, outputs_bytes}
+use Rattle.model_queues.specs.Outputs.{fresh_terminal, is_of, replies_at, IsTerminal, with_terminal, with_reply, without_first, without_last, with_next, RunUpTo, AreNumbered, outputs_bytes}
 use Rattle.out_queues.specs.Kept.{AreKept}
 
 abbrev terminal_bytes : TerminalReplies → ℕ
@@ -73,6 +74,22 @@ run_fewer : (next : ℕ) (replies : List Reply) → RunUpTo next replies → Run
 run_fewer next [] h = tt
 run_fewer next (r ∷ replies) h = h.1
 
+run_front : (next k : ℕ) (replies : List Reply) → length replies ≡ suc k → RunUpTo next replies → RunUpTo (next - 1) (take k replies)
+run_front next zero replies e h = tt
+run_front next (suc k) [] e h = absurd (omega (arith, e))
+run_front next (suc k) (r ∷ replies) e h =
+    (omega (arith, h.0, e, length-take-le k replies (omega (arith, e))), run_front next k replies (omega (arith, e)) h.1)
+
+run_fewer_last : (next : ℕ) (replies : List Reply) → RunUpTo next replies → RunUpTo (next - 1) (take (length replies - 1) replies)
+run_fewer_last next [] h = tt
+run_fewer_last next (r ∷ replies) h =
+    let fewer : length replies ≡ length (r ∷ replies) - 1 = omega arith in
+    subst (λ k. RunUpTo (next - 1) (take k (r ∷ replies))) fewer (run_front next (length replies) (r ∷ replies) refl h)
+
+run_next : (next : ℕ) (replies : List Reply) → RunUpTo next replies → 1 ≤ length replies → 1 ≤ next
+run_next next [] h g = absurd (omega (arith, g))
+run_next next (r ∷ replies) h g = omega (arith, h.0)
+
 run_none : (next : ℕ) (replies : List Reply) → replies ≡ [] → RunUpTo next replies
 run_none next replies e = subst (RunUpTo next) (sym e) tt
 
@@ -132,3 +149,24 @@ kept_next name number ts new fs content h none e same =
           subst (AllByRecursion AreNumbered) (sym e)
           (numbered_changed name (with_next number) ts h.numbered (λ t f n. run_none number t.replies (subst (λ o. IsSomeAnd o (λ u. u.replies ≡ [])) f none)));
     })
+
+pub kept_taken : (name : List ℕ) (ts new fs : List TerminalReplies) (content bytes : ℕ) → AreKept ts content → new ≡ with_terminal name without_last ts
+    → outputs_bytes new + bytes ≡ outputs_bytes ts → fs ≡ new → AreKept fs (content - bytes)
+kept_taken name ts new fs content bytes h e g same =
+    subst (λ us. AreKept us (content - bytes)) (sym same) (record {
+      counted = omega (arith, h.counted, g);
+      small = omega (arith, h.small);
+      numbered = subst (AllByRecursion AreNumbered) (sym e) (numbered_changed name without_last ts h.numbered (λ t f n. run_fewer_last t.next t.replies n));
+    })
+
+-- where a reply is kept a number was given
+pub next_given : (name : List ℕ) (ts : List TerminalReplies) → AllByRecursion AreNumbered ts → IsSomeAnd (replies_at name ts) (λ t. 1 ≤ length t.replies)
+    → IsSomeAnd (replies_at name ts) (λ t. 1 ≤ t.next)
+next_given name [] h g = absurd g
+next_given name (u ∷ ts) h g = by (is_of name u) g (next_given name ts h.1)
+  where
+    by : (b : Bool) → IsSomeAnd (cond b (Some u) (replies_at name ts)) (λ t. 1 ≤ length t.replies)
+        → (IsSomeAnd (replies_at name ts) (λ t. 1 ≤ length t.replies) → IsSomeAnd (replies_at name ts) (λ t. 1 ≤ t.next))
+        → IsSomeAnd (cond b (Some u) (replies_at name ts)) (λ t. 1 ≤ t.next)
+    by true k rec = run_next u.next u.replies h.0 k
+    by false k rec = rec k

@@ -1,8 +1,8 @@
-ghost use Rattle.std.specs.Prelude.{◌≡◌, ◌+◌, ◌<◌, ◌≤◌, ◌^◌, [], map, OnOk, OnErr, IfErr, IfOk, IsSomeAnd, slice_get};
+ghost use Rattle.std.specs.Prelude.{◌≡◌, ◌+◌, ◌<◌, ◌≤◌, ◌^◌, [], map, OnOk, OnErr, IfErr, IfOk, IsSomeAnd, length, slice_get};
 ghost use Rattle.std.specs.List.{AllByRecursion};
 ghost use Rattle.std.specs.Option.{option_copied, is_some};
 ghost use Rattle.tm_types.specs.Segment.{counted_bytes};
-ghost use Rattle.model_queues.specs.Outputs.{fresh_terminal, replies_at, IsTerminal, with_terminal, with_reply, with_next, reply_at, next_of, AreNumbered, outputs_bytes};
+ghost use Rattle.model_queues.specs.Outputs.{fresh_terminal, replies_at, IsTerminal, with_terminal, with_reply, without_last, with_next, reply_at, next_of, AreNumbered, outputs_bytes};
 ghost use Rattle.out_queues.specs.Acknowledged.{ack_answer, left_by};
 
 use crate::table;
@@ -93,6 +93,15 @@ impl Outputs {
             }
             Err(failed) => Err(failed),
         }
+    }
+
+    /// Takes back the reply that was added last; the next one gets its number. This takes no memory.
+    pub fn take_back(&mut self, terminal: &Name)
+        requires { IsSomeAnd (replies_at terminal.now self.old) (λ t. 1 ≤ length t.replies) }
+        ensures { self.new ≡ with_terminal terminal.now without_last self.old }
+    {
+        let taken = table::remove_last(&mut self.terminals, terminal);
+        self.content -= taken;
     }
 
     /// The first reply of the terminal, which has the lowest number.

@@ -1,9 +1,9 @@
 //! The terminals of a system by their names.
-ghost use Rattle.std.specs.Prelude.{◌≡◌, ◌+◌, ◌<◌, ◌^◌, Some, map, position, slice_get, IsSomeAnd, OnOk, OnErr, IfOk, IfErr};
+ghost use Rattle.std.specs.Prelude.{◌≡◌, ◌+◌, ◌<◌, ◌≤◌, ◌^◌, Some, map, position, slice_get, IsSomeAnd, OnOk, OnErr, IfOk, IfErr};
 ghost use Rattle.tm_types.specs.Segment.{counted_bytes};
 ghost use Rattle.std.specs.Option.{option_copied};
 ghost use Rattle.model_queues.specs.Room.{replies_bytes};
-ghost use Rattle.model_queues.specs.Outputs.{fresh_terminal, is_of, replies_at, IsTerminal, with_terminal, with_reply, without_first, with_next, next_of, first_number, outputs_bytes};
+ghost use Rattle.model_queues.specs.Outputs.{fresh_terminal, is_of, replies_at, IsTerminal, with_terminal, with_reply, without_first, without_last, with_next, next_of, first_number, outputs_bytes};
 
 use model_queues::{Replies, TerminalReplies};
 use std::alloc::{AllocFailed, Global};
@@ -148,6 +148,31 @@ fn drop_first(kept: &mut TerminalReplies) -> u64
     ensures bytes { replies_bytes kept.new.replies + result ≡ replies_bytes kept.old.replies }
 {
     match kept.replies.items.pop_front() {
+        Some(reply) => reply.segments.counted_bytes(),
+        None => 0,
+    }
+}
+
+/// Removes the last reply of the terminal of this name, whose number the next reply gets, and answers
+/// how many bytes it counted.
+pub fn remove_last(terminals: &mut [TerminalReplies], name: &Name) -> u64
+    requires next { IsSomeAnd (replies_at name.now terminals.old) (λ t. 1 ≤ t.next) }
+    requires fits { outputs_bytes terminals.old < 2 ^ 62 }
+    ensures value { terminals.new ≡ with_terminal name.now without_last terminals.old }
+    ensures bytes { outputs_bytes terminals.new + result ≡ outputs_bytes terminals.old }
+{
+    let place = place_of(terminals, name);
+    drop_last(&mut terminals[place])
+}
+
+fn drop_last(kept: &mut TerminalReplies) -> u64
+    requires next { 1 ≤ kept.old.next }
+    requires fits { replies_bytes kept.old.replies < 2 ^ 62 }
+    ensures value { kept.new ≡ without_last kept.old }
+    ensures bytes { replies_bytes kept.new.replies + result ≡ replies_bytes kept.old.replies }
+{
+    kept.next -= 1;
+    match kept.replies.items.pop_back() {
         Some(reply) => reply.segments.counted_bytes(),
         None => 0,
     }

@@ -1,2 +1,1 @@
-mod Terminals
-mod Finished
+mod Sent

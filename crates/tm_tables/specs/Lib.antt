@@ -1,2 +1,4 @@
+pub mod Sending
 pub mod Tables
+pub mod Lending
 pub mod Showing

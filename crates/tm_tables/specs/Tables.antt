@@ -1,40 +1,46 @@
 -- What lasts of a control region, as its tables keep it.
-use Rattle.std.specs.Prelude.{◌≡◌, ℕ, ◌+◌, ◌<◌, ◌≤◌, false, List, Some, IsSomeAnd, map}
+use Rattle.std.specs.Prelude.{◌≡◌, ℕ, ◌+◌, ◌<◌, ◌≤◌, false, List, Some, IsSomeAnd, [], length}
 use Rattle.tm_types.specs.declared.message.Message.{Message}
 use Rattle.tm_types.specs.Segment.{counted_bytes}
-use Rattle.tm_types.specs.declared.dbd.Dbd.{Dbd}
-use Rattle.model_rows.specs.declared.row.Row.{Row}
-use Rattle.model_rows.specs.Rows.{Database}
 use Rattle.model_queues.specs.declared.replies.TerminalReplies.{TerminalReplies}
 use Rattle.model_queues.specs.Queue.{QueuesState, messages_of, message_at, with_message, with_holder, without}
 use Rattle.model_queues.specs.Room.{input_needs}
+use Rattle.model_message.specs.declared.ended.Ended.{Ended}
+use Rattle.tm_data.specs.State.{DatabasesState, rows_of}
 use Rattle.tm_tables.specs.declared.tables.Enqueued.{Enqueued}
 use Rattle.tm_tables.specs.declared.tables.Enqueued.TheVariants.{New, Full}
+use Rattle.tm_tables.specs.Sending.{switches, switched_messages, with_messages, with_replies}
 use Rattle.model_machine.specs.declared.entry.AckAnswer.{AckAnswer}
 use Rattle.model_machine.specs.declared.entry.AckAnswer.TheVariants.{Removed}
 use Rattle.model_machine.specs.declared.lasting.TerminalInput.{TerminalInput}
 use Rattle.model_system.specs.Lists.{change_at}
 use Rattle.model_machine.specs.Machine.{LastingState, content, input_place}
-use Rattle.model_machine.specs.Steps.{with_input, replied, removed_state}
+use Rattle.model_machine.specs.Steps.{with_input, removed_state}
 
--- the databases with the rows that are committed, the queues with the region that has each message,
--- and what else lasts
+-- the databases as they were committed and as they are, the queues with the region that has each
+-- message, and what else lasts
 pub record TablesState : Type 0 where
-  pub databases : List Database
+  pub databases : DatabasesState
   pub queues : QueuesState
   pub next_id : ℕ
   pub inputs : List TerminalInput
   pub outputs : List TerminalReplies
   pub steps : ℕ
 
-abbrev pub dbds_of : List Database → List Dbd
-dbds_of databases = map (λ d. d.dbd) databases
-
-abbrev pub rows_of : List Database → List (List Row)
-rows_of databases = map (λ d. d.rows) databases
-
 abbrev pub lasting_of : TablesState → LastingState
-lasting_of t = record { rows = rows_of t.databases; messages = messages_of t.queues.queued; next_id = t.next_id; inputs = t.inputs; outputs = t.outputs; steps = t.steps }
+lasting_of t = record { rows = rows_of t.databases.committed; messages = messages_of t.queues.queued; next_id = t.next_id; inputs = t.inputs; outputs = t.outputs; steps = t.steps }
+
+-- the tables with these databases
+abbrev pub with_databases : TablesState → DatabasesState → TablesState
+with_databases t new = record t { databases = new }
+
+-- the changes since the last commit stay
+abbrev pub committed_databases : DatabasesState → DatabasesState
+committed_databases d = record { committed = d.stores; stores = d.stores; changed = [] }
+
+-- they are taken back
+abbrev pub backed_databases : DatabasesState → DatabasesState
+backed_databases d = record { committed = d.committed; stores = d.committed; changed = [] }
 
 -- what an input of these segments needs, with so many busy regions
 abbrev pub needs : TablesState → List (List ℕ) → ℕ → ℕ
@@ -60,19 +66,19 @@ IsEnqueued old new terminal number code segments busy (Full needed limit) =
 abbrev pub held : TablesState → ℕ → ℕ → TablesState
 held t id region = record t { queues = record t.queues { queued = with_holder id (Some region) t.queues.queued } }
 
--- a message is gone, the databases are as the work on it has left them, and a reply was sent to its
--- origin
-abbrev pub finished : TablesState → Message → List Database → List (List ℕ) → TablesState
-finished t message databases reply = record t {
-  databases = databases;
-  queues = record t.queues { queued = without message.id t.queues.queued };
-  outputs = replied t.outputs message.origin reply;
+-- A message is gone, and what it sends was sent: to codes, as messages behind all others, and to
+-- terminals, as replies. One step more was done; the databases stay.
+abbrev pub finished : TablesState → Message → List Ended → TablesState
+finished t message outputs = record t {
+  queues = record t.queues { queued = with_messages (switched_messages message.origin (switches t.outputs outputs) t.next_id) (without message.id t.queues.queued) };
+  next_id = t.next_id + length (switches t.outputs outputs);
+  outputs = with_replies outputs t.outputs;
   steps = t.steps + 1;
 }
 
-abbrev pub IsFinished : TablesState → TablesState → ℕ → List Database → List (List ℕ) → Type 0
-IsFinished old new id databases reply =
-    IsSomeAnd (message_at id old.queues.queued) (λ message. (message.id ≡ id) × (new ≡ finished old message databases reply))
+abbrev pub IsFinished : TablesState → TablesState → ℕ → List Ended → Type 0
+IsFinished old new id outputs =
+    IsSomeAnd (message_at id old.queues.queued) (λ message. (message.id ≡ id) × (new ≡ finished old message outputs))
 
 -- what an acknowledgement leaves
 abbrev pub acknowledged : AckAnswer → List ℕ → LastingState → LastingState

@@ -1,10 +1,13 @@
-//! What lasts of a control region: committed rows, messages, replies, and the numbers of inputs and steps.
+//! What lasts of a control region: databases, messages, replies, and the numbers of inputs and steps.
 #![tactic(auto)]
 
+pub use limits::COUNT_LIMIT;
 pub use shown::Shown;
-pub use tables::{COUNT_LIMIT, Enqueued, Tables, empty_lasting};
+pub use tables::{Enqueued, Tables, empty_lasting};
 
 mod databases;
 mod inputs;
+mod limits;
+mod sending;
 mod shown;
 mod tables;

@@ -1,25 +1,31 @@
-//! What lasts of a control region: messages, replies and numbers.
-ghost use Rattle.std.specs.Prelude.{◌≡◌, ◌+◌, ◌<◌, ◌≤◌, ◌^◌, [], IfOk, IfErr, IfSome, OnOk, OnErr, IsSome, IsSomeAnd, None, length, map};
+//! What lasts of a control region: databases, messages, replies and numbers.
+ghost use Rattle.std.specs.Prelude.{◌≡◌, ◌+◌, ◌<◌, ◌≤◌, ◌^◌, [], IfOk, OnOk, OnErr, IsSome, IsSomeAnd, None, length, map};
+ghost use Rattle.std.specs.Borrow.{sem};
 ghost use Rattle.std.specs.Option.{option_map};
 ghost use Rattle.tm_types.specs.Segment.{counted_bytes};
 ghost use Rattle.model_queues.specs.Queue.{IsNewId, with_message, without, messages_of, queued_at, message_at};
 ghost use Rattle.model_queues.specs.Outputs.{fresh_terminal};
 ghost use Rattle.model_queues.specs.Room.{input_needs};
 ghost use Rattle.model_machine.specs.Machine.{content, input_at, output_at, empty_state};
-ghost use Rattle.model_machine.specs.Steps.{replied, finished_state, accepted_state, removed_state, ack_by, show_by};
-ghost use Rattle.tm_tables.specs.Tables.{dbds_of, lasting_of, acknowledged, held, IsEnqueued, IsFinished};
+ghost use Rattle.model_machine.specs.Steps.{accepted_state, removed_state, ack_by, show_by};
+ghost use Rattle.tm_data.specs.State.{dbds_of, IsClean};
+ghost use Rattle.tm_tables.specs.Tables.{lasting_of, with_databases, committed_databases, backed_databases, acknowledged, held, IsEnqueued, IsFinished};
 ghost use Rattle.tm_tables.specs.Showing.{IsShown};
 
+use crate::limits::COUNT_LIMIT;
 use crate::Shown;
-use crate::databases::{empty_databases, empty_rows};
 use crate::inputs::{find_input, fresh_inputs, note_input};
+use crate::databases::empty_rows;
+use crate::sending::{bytes_of, send_all};
 use model_machine::{AckAnswer, Lasting, TerminalInput};
+use model_message::Ended;
 use msg_queues::{QueueRefused, Queues};
 use out_queues::{AckAhead, Acked, Outputs, fresh_terminals};
-use seg_rows::PlainRows;
 use std::alloc::Global;
+use std::collections::VecDeque;
 use std::marker::Model;
 use sysdef_check::System;
+use tm_data::Databases;
 use tm_types::{Memory, Message, Name, Segments};
 
 /// What an input came to.
@@ -31,17 +37,11 @@ pub enum Enqueued {
     Full(u64, u64),
 }
 
-/// No count of bytes passes this one. What would is answered as want of memory: there is no machine
-/// that could hold so much.
-const BYTE_LIMIT: u64 = 1 << 60;
-/// Nor does any other count pass this one.
-pub const COUNT_LIMIT: u64 = 1 << 60;
-
-/// The committed rows, the messages, the replies, and the numbers of inputs and lasting steps.
+/// The databases, the messages, the replies, and the numbers of inputs and lasting steps.
 #[derive(Debug, Drop)]
 pub struct Tables {
-    /// Each database with the rows that are committed.
-    databases: Vec<PlainRows>,
+    /// The databases, with the changes of the work on one message.
+    databases: Databases,
     /// The messages, each with the region that works on it.
     queues: Queues,
     next_id: u64,
@@ -59,20 +59,23 @@ impl Model for Tables {
 
     ghost Value = { TablesState };
 
-    ghost view = { λ t. record { databases = t.databases.items; queues = t.queues; next_id = t.next_id; inputs = t.inputs.items; outputs = t.outputs; steps = t.steps } };
+    ghost view = { λ t. record { databases = t.databases; queues = t.queues; next_id = t.next_id; inputs = t.inputs.items; outputs = t.outputs; steps = t.steps } };
 
     ghost invariant = { λ t. IsNewId t.next_id t.queues.queued };
 }
 
 impl Tables {
+    ghost use Rattle.tm_tables.specs.Lending.{LendsDatabases};
+
     /// The tables of an empty control region of this system.
     pub fn new(alloc: Global, system: &System) -> Result<Tables, Memory>
         ensures lasting { IfOk result (λ tables. lasting_of tables ≡ empty_state system.now) }
         ensures queues { IfOk result (λ tables. tables.queues ≡ record { limit = system.now.qbytes; queued = [] }) }
         ensures databases { IfOk result (λ tables. dbds_of tables.databases ≡ system.now.databases) }
+        ensures clean { IfOk result (λ tables. IsClean tables.databases) }
     {
         Ok(Tables {
-            databases: empty_databases(alloc, system.databases())?,
+            databases: Databases::empty(alloc, system.databases())?,
             queues: Queues::new(alloc, system.qbytes()),
             next_id: 1,
             inputs: fresh_inputs(alloc, system.terminals())?,
@@ -99,18 +102,26 @@ impl Tables {
         }
     }
 
-    /// The databases with the rows that are committed.
-    pub fn databases(&self) -> &[PlainRows]
-        ensures { result.now ≡ self.now.databases }
+    /// The databases, to change them.
+    pub fn databases_mut(&mut self) -> &mut Databases
+        ensures value { result.now ≡ self.old.databases }
+        ensures* writes_back { sem 𝓛 (LendsDatabases self.entry result) }
     {
-        &self.databases
+        &mut self.databases
     }
 
-    /// The rows of these databases are committed. This takes no memory.
-    pub fn commit(&mut self, databases: Vec<PlainRows>)
-        ensures { self.new ≡ record self.old { databases = databases.items } }
+    /// Makes the changes of the databases since the last commit stay. This takes no memory.
+    pub fn commit(&mut self)
+        ensures { self.new ≡ with_databases self.old (committed_databases self.old.databases) }
     {
-        self.databases = databases;
+        self.databases.commit();
+    }
+
+    /// Takes back the changes of the databases since the last commit. This takes no memory.
+    pub fn back_out(&mut self)
+        ensures { self.new ≡ with_databases self.old (backed_databases self.old.databases) }
+    {
+        self.databases.back_out();
     }
 
     /// The messages, each with the region that works on it.
@@ -176,22 +187,27 @@ impl Tables {
         self.queues.hold(id, region);
     }
 
-    /// Removes a message, and sends a reply to its origin; the committed rows stay. Where no memory is left the reply comes
-    /// back, and nothing has changed.
-    pub fn finish(&mut self, id: u64, reply: Segments) -> Result<(), Segments>
+    /// Removes a message, and sends its outputs in their order; the databases stay. Want of memory
+    /// changes nothing; it is answered too where a count would pass its limit.
+    pub fn finish(&mut self, id: u64, outputs: VecDeque<Ended>) -> Result<(), Memory>
         requires { IsSome (queued_at id self.old.queues.queued) }
-        ensures ok { OnOk result (IsFinished self.old self.new id self.old.databases reply) }
-        ensures back { IfErr result (λ back. back ≡ reply) }
+        ensures ok { OnOk result (IsFinished self.old self.new id outputs.items) }
         ensures err { OnErr result (self.new ≡ self.old) }
     {
         if self.steps >= COUNT_LIMIT {
-            return Err(reply);
+            return Err(Memory);
         }
         let Some(message) = self.queues.find(id) else {
             unreachable!()
         };
         let origin = message.origin;
-        send(&mut self.outputs, &origin, reply)?;
+        self.next_id = send_all(
+            &mut self.queues,
+            &mut self.outputs,
+            self.next_id,
+            &origin,
+            outputs,
+        )?;
         self.queues.remove(id);
         self.steps += 1;
         Ok(())
@@ -233,48 +249,6 @@ impl Tables {
             Err(AckAhead { first }) => Ok(AckAnswer::Ahead(first)),
         }
     }
-}
-
-/// Sends a reply to a terminal; one without a segment is none. Where no memory is left the reply
-/// comes back.
-#[tactic(auto, using(crate::proofs::Terminals::replied_none))]
-fn send(outputs: &mut Outputs, terminal: &Name, reply: Segments) -> Result<(), Segments>
-    ensures ok { OnOk result (outputs.new ≡ replied outputs.old terminal.now reply) }
-    ensures back { IfErr result (λ back. back ≡ reply) }
-    ensures err { OnErr result (outputs.new ≡ outputs.old) }
-{
-    if reply.is_empty() {
-        return Ok(());
-    }
-    let Some(kept) = outputs.terminal(terminal) else {
-        return Ok(());
-    };
-    let next = kept.next;
-    let Some(bytes) = bytes_of(&reply) else {
-        return Err(reply);
-    };
-    if next >= COUNT_LIMIT || outputs.content() + bytes >= 1 << 62 {
-        return Err(reply);
-    }
-    match outputs.add(terminal, reply) {
-        Ok(_) => Ok(()),
-        Err(failed) => Err(failed.value),
-    }
-}
-
-/// The bytes that a message or a reply of these segments counts, or None where they pass the limit
-/// of all counts of bytes.
-fn bytes_of(segments: &Segments) -> Option<u64>
-    ensures { IfSome result (λ bytes. (bytes ≡ counted_bytes segments.now) × (bytes ≤ 2 ^ 60)) }
-{
-    let mut bytes: u64 = 48;
-    for segment in segments.iter() {
-        bytes = bytes.checked_add(segment.counted_length())?;
-    }
-    if bytes > BYTE_LIMIT {
-        return None;
-    }
-    Some(bytes)
 }
 
 /// What lasts of the empty machine of this system.
