@@ -1,5 +1,5 @@
 -- A region's work on a message ends.
-use Rattle.std.proofs.Common.{◌≡◌, ℕ, ◌+◌, ◌-◌, ◌*◌, ◌≤◌, arith, ◌&&◌, List, [], ◌∷◌, ◌++◌, length, refl, sym, ap, ◌∙◌, subst}
+use Rattle.std.proofs.Common.{◌≡◌, ℕ, ◌+◌, ◌-◌, ◌*◌, ◌≤◌, arith, false, ◌&&◌, List, [], ◌∷◌, ◌++◌, length, refl, sym, ap, ◌∙◌, subst}
 use Rattle.std.specs.Prelude.{Option, Some, None, IfSome, IsSome, IsSomeAnd, if◌then◌else◌, nat_le, map, slice_get, slice_set}
 use Rattle.std.specs.Option.{option_map, option_map_or, option_and_then, is_some}
 use Rattle.std.specs.List.{count_by, AllByRecursion}
@@ -7,10 +7,10 @@ use Rattle.tm_types.specs.declared.message.Message.{Message}
 use Rattle.tm_types.specs.declared.abend.AbendCode.{AbendCode}
 use Rattle.model_script.specs.declared.program.ScriptLine.{ScriptLine}
 use Rattle.model_queues.specs.declared.queued.Queued.{Queued}
-use Rattle.model_queues.specs.Queue.{AreInOrder, IsNewId, message_at, messages_of, queued_at, without, with_message, first_free, free_count}
+use Rattle.model_queues.specs.Queue.{AreInOrder, IsNewId, message_at, messages_of, queued_at, without, first_free, free_count}
 use Rattle.model_queues.specs.Room.{slot_room}
 use Rattle.model_queues.specs.Waiting.{first_waiting, count_waiting}
-use Rattle.model_queues.proofs.Laws.{found_message, message_found, messages_held, new_id_without}
+use Rattle.model_queues.proofs.Laws.{found_behind, message_found, messages_held, new_id_without}
 use Rattle.model_system.specs.Codes.{code_at, code_place}
 use Rattle.model_system.specs.declared.code.Code.{Code}
 use Rattle.model_system.specs.declared.code_state.CodeState.{CodeState}
@@ -25,14 +25,15 @@ use Rattle.model_machine.specs.Machine.{message_at as message_in, LastingState, 
 use Rattle.model_machine.specs.Steps.{all_flagged, after_sync, codes_moved, committed, completed_by, completed_state, abended, abended_by, abend_text, completed, destinations, finished_state, may_go_on, next_among, next_message, next_slot, outputs_of, slot_end, sync_point, with_lasting, May, After}
 use Rattle.tran_pick.proofs.Found.{first_is_free}
 use Rattle.tm_data.specs.State.{DatabasesState, IsClean, rows_of}
-use Rattle.tm_tables.specs.Tables.{TablesState, lasting_of, held}
+use Rattle.tm_tables.specs.Tables.{TablesState, lasting_of, held, with_databases, committed_databases, backed_databases}
 use Rattle.tm_parts.specs.declared.region.Busy.{Busy}
-use Rattle.tm_parts.specs.Ends.{all_followed, backed_databases, committed_databases, goes_on_with}
+use Rattle.tm_parts.specs.Ends.{all_followed, goes_on_with}
 use Rattle.tm_parts.specs.Region.{calls_made, outputs_by}
 use Rattle.tm_parts.specs.Parts.{slots_of, IsTold, AreAtWork, AreDatabases, AreParts}
 use Rattle.tm_parts.proofs.Alone.{others_stay, alone_ended}
-use Rattle.tm_parts.proofs.Linked.{first_free_is, free_count_is, busy_is, end_told, end_at_work, new_told, new_free, new_at_work, told_without, get_set, set_length, set_set, set_slots}
-use Rattle.tm_parts.proofs.Sent.{IsSent, with_messages, with_rows}
+use Rattle.tm_parts.proofs.Linked.{first_free_is, free_count_is, busy_is, end_told, end_at_work, new_free, told_without, get_set, set_length, set_set, set_slots}
+use Rattle.tm_tables.specs.Sending.{with_messages}
+use Rattle.tm_parts.proofs.Sent.{IsGone, with_rows}
 use Rattle.tm_parts.proofs.Started.{followed_length}
 use Rattle.tm_parts.proofs.Stepped.{trial_is, slot_is}
 use Rattle.tm_parts.proofs.Going.{some_and}
@@ -47,16 +48,20 @@ free_first code queued ordered = by (first_free code queued) refl
     by (Some id) e = first_is_free code queued id ordered e
     by None e = tt
 
+told_new : (messages : List Message) (slots : List (Option Slot)) → AllByRecursion (λ m. is_held slots m.id ≡ false) messages → IsTold slots (with_messages messages [])
+told_new [] slots free = tt
+told_new (m ∷ messages) slots free = (free.0, told_new messages slots free.1)
+
 told_more : (messages : List Message) (queued : List Queued) (slots : List (Option Slot)) → AllByRecursion (λ m. is_held slots m.id ≡ false) messages
     → IsTold slots queued → IsTold slots (with_messages messages queued)
-told_more [] queued slots free told = told
-told_more (m ∷ messages) queued slots free told = told_more messages (with_message m queued) slots free.1 (new_told queued slots m free.0 told)
+told_more messages [] slots free told = told_new messages slots free
+told_more messages (q ∷ queued) slots free told = (told.0, told_more messages queued slots free told.1)
 
 at_work_more : (system : System) (databases : DatabasesState) (messages : List Message) (queued : List Queued) (regions : List (Option Busy))
     → AreAtWork system databases queued regions → AreAtWork system databases (with_messages messages queued) regions
-at_work_more system databases [] queued regions at_work = at_work
-at_work_more system databases (m ∷ messages) queued regions at_work =
-    at_work_more system databases messages (with_message m queued) regions (new_at_work system databases queued regions m at_work)
+at_work_more system databases messages queued regions at_work place busy e =
+    let was = at_work place busy e in
+    record { message = was.message; found = found_behind busy.id queued (map (λ m. record { message = m; holder = None }) messages) _ was.found; work = was.work }
 
 new_above : (next id : ℕ) (queued : List Queued) → next ≤ id → IsNewId next queued → IsNewId id queued
 new_above next id [] h above = tt
@@ -160,7 +165,7 @@ module _ (system : System) (no_program : List ScriptLine) (tables : TablesState)
 
   -- The message is gone, and its outputs were sent; the databases are then as `change` leaves them.
   module _ (middle tables' : TablesState) (outputs : List Ended) (change : DatabasesState → DatabasesState) (above : IsNewId tables.next_id tables.queues.queued)
-      (sent : IsSent tables middle message_now busy.id outputs) (is : tables' ≡ record middle { databases = change middle.databases })
+      (sent : IsGone tables middle message_now busy.id outputs) (is : tables' ≡ with_databases middle (change middle.databases))
       (clean : IsClean (change tables.databases)) (same : IsClean tables.databases → tables.databases ≡ change tables.databases) (are : AreDatabases system (change tables.databases)) where
     queued_is : tables'.queues.queued ≡ with_messages sent.switched (without busy.id tables.queues.queued)
     queued_is = ap (λ t. t.queues.queued) is ∙ sent.queued
@@ -210,7 +215,7 @@ module _ (system : System) (no_program : List ScriptLine) (tables : TablesState)
 
   -- The message is completed.
   module _ (middle tables' : TablesState) (above : IsNewId tables.next_id tables.queues.queued)
-      (sent : IsSent tables middle message_now busy.id (outputs_by busy.unit)) (is : tables' ≡ record middle { databases = committed_databases middle.databases }) where
+      (sent : IsGone tables middle message_now busy.id (outputs_by busy.unit)) (is : tables' ≡ with_databases middle (committed_databases middle.databases)) where
     commit_clean : IsClean (committed_databases tables.databases)
     commit_clean = record { stores = refl; changed = refl }
 
@@ -307,7 +312,7 @@ module _ (system : System) (no_program : List ScriptLine) (tables : TablesState)
   -- The work has ended abnormally.
   module _ (middle tables' : TablesState) (above : IsNewId tables.next_id tables.queues.queued) (abend : AbendCode) (outputs : List Ended)
       (told : outputs ≡ record { to = message_now.origin; segments = abend_text busy.code abend ∷ [] } ∷ [])
-      (sent : IsSent tables middle message_now busy.id outputs) (is : tables' ≡ record middle { databases = backed_databases middle.databases }) where
+      (sent : IsGone tables middle message_now busy.id outputs) (is : tables' ≡ with_databases middle (backed_databases middle.databases)) where
     back_clean : IsClean (backed_databases tables.databases)
     back_clean = record { stores = refl; changed = refl }
 

@@ -1,31 +1,51 @@
 -- Outputs that were sent.
-use Rattle.std.proofs.Common.{◌≡◌, ℕ, ◌+◌, ◌≤◌, Bool, true, false, List, [], ◌∷◌, refl, sym, ap, ◌∙◌}
-use Rattle.std.specs.Prelude.{if◌then◌else◌}
+use Rattle.std.proofs.Common.{◌≡◌, ℕ, ◌+◌, ◌≤◌, arith, subst, Bool, true, false, List, [], ◌∷◌, refl, sym, ap, ◌∙◌}
+use Rattle.std.specs.Prelude.{if◌then◌else◌, Option, Some, None, IsSomeAnd}
 use Rattle.std.specs.Option.{is_some}
 use Rattle.std.specs.List.{AllByRecursion}
 use Rattle.tm_types.specs.declared.message.Message.{Message}
 use Rattle.model_rows.specs.declared.row.Row.{Row}
-use Rattle.model_queues.specs.declared.queued.Queued.{Queued}
-use Rattle.model_queues.specs.Queue.{with_message, without}
+use Rattle.model_queues.specs.Queue.{IsNewId, message_at, without}
 use Rattle.model_message.specs.declared.ended.Ended.{Ended}
 use Rattle.model_machine.specs.Machine.{LastingState, output_at}
 use Rattle.model_machine.specs.Steps.{committed, replied, switched, sent, all_sent, finished_state, without_message}
-use Rattle.tm_tables.specs.Tables.{TablesState, lasting_of}
-
--- these messages stand behind the others, and no region has them
-abbrev pub with_messages : List Message → List Queued → List Queued
-with_messages [] queued = queued
-with_messages (message ∷ messages) queued = with_messages messages (with_message message queued)
+use Rattle.tm_tables.specs.Tables.{TablesState, lasting_of, finished, IsFinished}
+use Rattle.tm_tables.specs.Sending.{switches, switched_messages, with_messages}
+use Rattle.tm_tables.proofs.Lasting.{lasting_finished}
 
 -- The message of this id is gone, and its outputs were sent: switched messages have ids from the next
 -- one on.
-pub record IsSent (tables middle : TablesState) (message : Message) (id : ℕ) (outputs : List Ended) : Type 0 where
+pub record IsGone (tables middle : TablesState) (message : Message) (id : ℕ) (outputs : List Ended) : Type 0 where
   pub switched : List Message
   pub above : AllByRecursion (λ m. tables.next_id ≤ m.id) switched
   pub queued : middle.queues.queued ≡ with_messages switched (without id tables.queues.queued)
   pub limit : middle.queues.limit ≡ tables.queues.limit
   pub databases : middle.databases ≡ tables.databases
   pub lasting : lasting_of middle ≡ finished_state (lasting_of tables) message outputs
+
+-- switched messages have ids from the next one on
+all_above : (low : ℕ) (origin : List ℕ) (outputs : List Ended) (next : ℕ) → low ≤ next → AllByRecursion (λ m. low ≤ m.id) (switched_messages origin outputs next)
+all_above low origin [] next h = tt
+all_above low origin (output ∷ outputs) next h = (h, all_above low origin outputs (next + 1) (omega (arith, h)))
+
+pub is_gone : (tables middle : TablesState) (message : Message) (id : ℕ) (outputs : List Ended) → IsNewId tables.next_id tables.queues.queued
+    → message_at id tables.queues.queued ≡ Some message → IsFinished tables middle id outputs → IsGone tables middle message id outputs
+is_gone tables middle message id outputs above found h = by (message_at id tables.queues.queued) found h
+  where
+    gone : (message.id ≡ id) × (middle ≡ finished tables message outputs) → IsGone tables middle message id outputs
+    gone g = record {
+      switched = switched_messages message.origin (switches tables.outputs outputs) tables.next_id;
+      above = all_above tables.next_id message.origin (switches tables.outputs outputs) tables.next_id (omega arith);
+      queued = ap (λ t. t.queues.queued) g.1
+          ∙ ap (λ i. with_messages (switched_messages message.origin (switches tables.outputs outputs) tables.next_id) (without i tables.queues.queued)) g.0;
+      limit = ap (λ t. t.queues.limit) g.1;
+      databases = ap (λ t. t.databases) g.1;
+      lasting = ap lasting_of g.1 ∙ lasting_finished tables message outputs;
+    }
+
+    by : (o : Option Message) → o ≡ Some message → IsSomeAnd o (λ m. (m.id ≡ id) × (middle ≡ finished tables m outputs)) → IsGone tables middle message id outputs
+    by (Some m) f g = let here : m ≡ message = cc in gone (subst (λ n. (n.id ≡ id) × (middle ≡ finished tables n outputs)) here g)
+    by None f g = cc
 
 -- outputs leave the rows
 sent_rows : (rows : List (List Row)) (origin : List ℕ) (output : Ended) (lasting : LastingState)

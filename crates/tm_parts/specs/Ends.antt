@@ -10,25 +10,18 @@ use Rattle.model_system.specs.System.{System}
 use Rattle.model_machine.specs.Machine.{content, slot_at, followed}
 use Rattle.model_machine.specs.Steps.{may_go_on, slot_end}
 use Rattle.tm_data.specs.State.{DatabasesState}
-use Rattle.tm_tables.specs.Tables.{TablesState, lasting_of, IsFinished}
+use Rattle.tm_tables.specs.Tables.{TablesState, lasting_of, with_databases, committed_databases, backed_databases, IsFinished}
 use Rattle.tm_parts.specs.Parts.{PartsState}
 
 -- a region's work on its message ends so
 abbrev pub EndsSo : PartsState → ℕ → UnitEnd → Type 0
 EndsSo state region end = IsSomeAnd (slot_at state.moment region) (λ slot. slot_end state.system state.moment slot ≡ Some end)
 
--- the databases with what was changed in them committed, and with that taken back
-abbrev pub committed_databases : DatabasesState → DatabasesState
-committed_databases d = record { committed = d.stores; stores = d.stores; changed = [] }
-
-abbrev pub backed_databases : DatabasesState → DatabasesState
-backed_databases d = record { committed = d.committed; stores = d.committed; changed = [] }
-
 -- the message of this id is gone, and its work's outputs were sent; the databases are changed so
 pub record IsClosed (change : DatabasesState → DatabasesState) (old new : TablesState) (id : ℕ) (outputs : List Ended) : Type 0 where
   pub middle : TablesState
   pub finished : IsFinished old middle id outputs
-  pub databases : new ≡ record middle { databases = change middle.databases }
+  pub databases : new ≡ with_databases middle (change middle.databases)
 
 abbrev pub IsCompleted : TablesState → TablesState → ℕ → List Ended → Type 0
 IsCompleted = IsClosed committed_databases
