@@ -193,6 +193,7 @@ impl Tables {
         requires { IsSome (queued_at id self.old.queues.queued) }
         ensures ok { OnOk result (IsFinished self.old self.new id outputs.items) }
         ensures err { OnErr result (self.new ≡ self.old) }
+        ensures above { IsNewId self.old.next_id self.old.queues.queued }
     {
         if self.steps >= COUNT_LIMIT {
             return Err(Memory);
