@@ -143,12 +143,12 @@ finished_is old sent_queues queues outputs next id sends message found below h l
     rw (sym found) (
       same,
       ap {A = QueuesState} (λ q. record old { queues = q; next_id = next; outputs = outputs; steps = old.steps + 1 })
-      (left
-      ∙ (ap {A = QueuesState} (λ q. record q { queued = without id q.queued }) h.queues
-      ∙ (ap {A = List Queued} (λ qs. record old.queues { queued = qs }) (gone_before message.origin (switches old.outputs sends) old.next_id id old.queues.queued below)
-      ∙ ap {A = ℕ} (λ n. record old.queues { queued = with_messages (switched_messages message.origin (switches old.outputs sends) old.next_id) (without n old.queues.queued) }) (sym same))))
-      ∙ (ap {A = ℕ} (λ n. record (finished old message sends) { next_id = n; outputs = outputs }) h.next_id
-      ∙ ap {A = List TerminalReplies} (λ ts. record (finished old message sends) { outputs = ts }) h.replies),
+          (left
+          ∙ (ap {A = QueuesState} (λ q. record q { queued = without id q.queued }) h.queues
+          ∙ (ap {A = List Queued} (λ qs. record old.queues { queued = qs }) (gone_before message.origin (switches old.outputs sends) old.next_id id old.queues.queued below)
+          ∙ ap {A = ℕ} (λ n. record old.queues { queued = with_messages (switched_messages message.origin (switches old.outputs sends) old.next_id) (without n old.queues.queued) }) (sym same))))
+          ∙ (ap {A = ℕ} (λ n. record (finished old message sends) { next_id = n; outputs = outputs }) h.next_id
+          ∙ ap {A = List TerminalReplies} (λ ts. record (finished old message sends) { outputs = ts }) h.replies),
     )
   where
     same : message.id ≡ id
