@@ -1,1 +1,3 @@
-mod Sent
+pub mod Sent
+pub mod Finished
+mod Fresh

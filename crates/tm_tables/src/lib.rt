@@ -11,3 +11,5 @@ mod limits;
 mod sending;
 mod shown;
 mod tables;
+#[cfg(test)]
+mod tests;

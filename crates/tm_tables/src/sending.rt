@@ -1,5 +1,6 @@
 //! Outputs on their way: to codes as messages, and to terminals as replies.
 ghost use Rattle.std.specs.Prelude.{◌≡◌, ◌≤◌, ◌+◌, ◌^◌, IfOk, IfSome, OnOk, OnErr, IsSome};
+ghost use Rattle.std.specs.Option.{is_some};
 ghost use Rattle.tm_types.specs.Segment.{counted_bytes};
 ghost use Rattle.model_queues.specs.Queue.{IsNewId, with_message};
 ghost use Rattle.model_queues.specs.Outputs.{replies_at, with_terminal, with_reply};
@@ -30,24 +31,30 @@ pub fn send_all(
         return Ok(next_id);
     };
     let to = first.to;
-    if terminals.terminal(&to).is_none() {
-        switch(queues, next_id, origin, first)?;
-        return match send_all(queues, terminals, next_id + 1, origin, outputs) {
+    if is_terminal(terminals, &to) {
+        reply(terminals, first)?;
+        return match send_all(queues, terminals, next_id, origin, outputs) {
             Ok(next) => Ok(next),
             Err(Memory) => {
-                queues.remove(next_id);
+                terminals.take_back(&to);
                 Err(Memory)
             }
         };
     }
-    reply(terminals, first)?;
-    match send_all(queues, terminals, next_id, origin, outputs) {
+    switch(queues, next_id, origin, first)?;
+    match send_all(queues, terminals, next_id + 1, origin, outputs) {
         Ok(next) => Ok(next),
         Err(Memory) => {
-            terminals.take_back(&to);
+            queues.remove(next_id);
             Err(Memory)
         }
     }
+}
+
+fn is_terminal(terminals: &Outputs, name: &Name) -> bool
+    ensures { result ≡ is_some (replies_at name.now terminals.now) }
+{
+    terminals.terminal(name).is_some()
 }
 
 /// Sends an output to a code.
@@ -85,11 +92,12 @@ fn reply(terminals: &mut Outputs, output: Ended) -> Result<(), Memory>
     let Some(bytes) = bytes_of(&output.segments) else {
         return Err(Memory);
     };
-    let next = terminals.next(&output.to);
+    let to = output.to;
+    let next = terminals.next(&to);
     if next >= COUNT_LIMIT || terminals.content() + bytes >= 1 << 62 {
         return Err(Memory);
     }
-    match terminals.add(&output.to, output.segments) {
+    match terminals.add(&to, output.segments) {
         Ok(_) => Ok(()),
         Err(_) => Err(Memory),
     }

@@ -12,10 +12,10 @@ ghost use Rattle.tm_data.specs.State.{dbds_of, IsClean};
 ghost use Rattle.tm_tables.specs.Tables.{lasting_of, with_databases, committed_databases, backed_databases, acknowledged, held, IsEnqueued, IsFinished};
 ghost use Rattle.tm_tables.specs.Showing.{IsShown};
 
-use crate::limits::COUNT_LIMIT;
 use crate::Shown;
-use crate::inputs::{find_input, fresh_inputs, note_input};
 use crate::databases::empty_rows;
+use crate::inputs::{find_input, fresh_inputs, note_input};
+use crate::limits::COUNT_LIMIT;
 use crate::sending::{bytes_of, send_all};
 use model_machine::{AckAnswer, Lasting, TerminalInput};
 use model_message::Ended;
