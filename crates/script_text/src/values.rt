@@ -216,6 +216,14 @@ pub(crate) fn function_of(word: &[u8]) -> Result<Function, u8>
         Ok(Function::REPL)
     } else if is_word(word, b"DLET") {
         Ok(Function::DLET)
+    } else if is_word(word, b"PURG") {
+        Ok(Function::PURG)
+    } else if is_word(word, b"CHNG") {
+        Ok(Function::CHNG)
+    } else if is_word(word, b"ROLB") {
+        Ok(Function::ROLB)
+    } else if is_word(word, b"ROLL") {
+        Ok(Function::ROLL)
     } else {
         Err(UNKNOWN_FUNCTION)
     }
