@@ -190,9 +190,7 @@ fn runs(
     let call = next_call(&mut machine, program)?;
     machine.answer(Status::Blank, Some(b"new"))?;
     let insert = next_call(&mut machine, program)?;
-    Ok(call.function == function
-        && call.area.as_slice() == area
-        && insert.area.as_slice() == after)
+    Ok(call.function == function && call.area.as_slice() == area && insert.area.as_slice() == after)
 }
 
 /// ROLB brings a text into its variable. CHNG, PURG and ROLL bring none.
