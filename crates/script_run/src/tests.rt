@@ -1,4 +1,4 @@
-ghost use Rattle.std.specs.Prelude.{◌≡◌, [], IfOk, IsTrue, IsSome};
+ghost use Rattle.std.specs.Prelude.{[], IfOk, IsTrue, IsSome};
 ghost use Rattle.model_script.specs.Programs.{is_call};
 
 use crate::arithmetic::{difference, sum};

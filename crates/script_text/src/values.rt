@@ -2,7 +2,7 @@ ghost use Rattle.std.specs.Prelude.{◌≡◌, ◌≤◌, ◌<◌, ◌∷◌, []
 ghost use Rattle.std.specs.List.{list_all};
 ghost use Rattle.std.specs.Option.{option_copied};
 ghost use Rattle.tm_types.specs.Segment.{is_printable};
-ghost use Rattle.model_script.specs.Programs.{is_plain, is_other_function, is_message_function};
+ghost use Rattle.model_script.specs.Programs.{is_plain};
 ghost use Rattle.script_text.specs.Good.{places_in, are_printable};
 ghost use Rattle.script_text.specs.Values as spec;
 ghost use Rattle.script_text.specs.WordLists as lists;
