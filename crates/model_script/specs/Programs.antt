@@ -4,7 +4,7 @@ use Rattle.std.specs.List.{list_all}
 use Rattle.std.specs.Str.{bytes_eq}
 use Rattle.tm_types.specs.Segment.{is_printable}
 use Rattle.tm_types.specs.declared.function.Function.{Function}
-use Rattle.tm_types.specs.declared.function.Function.TheVariants.{GU, GN, GNP, GHU, GHN, GHNP, ISRT, REPL, DLET, PURG, ROLL}
+use Rattle.tm_types.specs.declared.function.Function.TheVariants.{GU, GN, GNP, GHU, GHN, GHNP, ISRT, REPL, DLET, PURG, CHNG, ROLB, ROLL}
 use Rattle.model_script.specs.declared.program.ScriptLine.{ScriptLine}
 use Rattle.model_script.specs.declared.script_ssa.ScriptSsa.{ScriptSsa}
 use Rattle.model_script.specs.declared.statement.Target.{Target}
@@ -26,9 +26,12 @@ abbrev pub is_message_function : Function → Bool
 is_message_function GU = true
 is_message_function GN = true
 is_message_function ISRT = true
+is_message_function PURG = true
+is_message_function ROLB = true
+is_message_function ROLL = true
 is_message_function _ = false
 
--- a function that another PCB can have
+-- a function that another PCB can have, one of a database or one for output
 abbrev pub is_other_function : Function → Bool
 is_other_function GU = true
 is_other_function GN = true
@@ -39,6 +42,8 @@ is_other_function GHNP = true
 is_other_function ISRT = true
 is_other_function REPL = true
 is_other_function DLET = true
+is_other_function PURG = true
+is_other_function CHNG = true
 is_other_function _ = false
 
 abbrev pub is_function_of : ℕ → Function → Bool
@@ -55,6 +60,10 @@ takes_area _ = true
 abbrev pub takes_ssas : Function → Bool
 takes_ssas REPL = false
 takes_ssas DLET = false
+takes_ssas PURG = false
+takes_ssas CHNG = false
+takes_ssas ROLB = false
+takes_ssas ROLL = false
 takes_ssas _ = true
 
 -- only on a PCB above 0

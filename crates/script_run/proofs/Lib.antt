@@ -5,3 +5,4 @@ pub mod VariableTexts
 pub mod SegmentTexts
 pub mod AllowedLines
 pub mod GoingOn
+pub mod AroundCall

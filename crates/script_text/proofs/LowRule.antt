@@ -4,7 +4,7 @@ use Rattle.std.specs.Prelude.{Option, Some, None}
 use Rattle.std.specs.List.{list_all}
 use Rattle.std.specs.Str.{bytes_eq}
 use Rattle.tm_types.specs.declared.function.Function.{Function}
-use Rattle.tm_types.specs.declared.function.Function.TheVariants.{GU, GN, GNP, GHU, GHN, GHNP, ISRT, REPL, DLET}
+use Rattle.tm_types.specs.declared.function.Function.TheVariants.{GU, GN, GNP, GHU, GHN, GHNP, ISRT, REPL, DLET, PURG, CHNG, ROLB, ROLL}
 use Rattle.tm_types.specs.Segment.{is_printable}
 use Rattle.text_rows.specs.Lines.{is_passed_over, printable_line, split_at}
 use Rattle.text_rows.specs.Lowest.{both, also}
@@ -157,7 +157,9 @@ unfolding function_of
 function_low word =
     if_low (bytes_eq word (codes "GU")) (Ok GU) _ tt (if_low (bytes_eq word (codes "GN")) (Ok GN) _ tt (if_low (bytes_eq word (codes "GNP")) (Ok GNP) _ tt
     (if_low (bytes_eq word (codes "GHU")) (Ok GHU) _ tt (if_low (bytes_eq word (codes "GHN")) (Ok GHN) _ tt (if_low (bytes_eq word (codes "GHNP")) (Ok GHNP) _ tt
-    (if_low (bytes_eq word (codes "ISRT")) (Ok ISRT) _ tt (if_low (bytes_eq word (codes "REPL")) (Ok REPL) _ tt (if_low (bytes_eq word (codes "DLET")) (Ok DLET) (Err 10) tt (lit≤ tt)))))))))
+    (if_low (bytes_eq word (codes "ISRT")) (Ok ISRT) _ tt (if_low (bytes_eq word (codes "REPL")) (Ok REPL) _ tt (if_low (bytes_eq word (codes "DLET")) (Ok DLET) _ tt
+    (if_low (bytes_eq word (codes "PURG")) (Ok PURG) _ tt (if_low (bytes_eq word (codes "CHNG")) (Ok CHNG) _ tt (if_low (bytes_eq word (codes "ROLB")) (Ok ROLB) _ tt
+    (if_low (bytes_eq word (codes "ROLL")) (Ok ROLL) (Err 10) tt (lit≤ tt)))))))))))))
 
 label_at_low : (places : List ℕ → Option ℕ) (here : ℕ) (name : Result (List ℕ) ℕ) → IsLow (label_at places here name)
 label_at_low places here (Ok name) = if_low (stands_at (places name) here) (Ok (line.Label name)) (Err 6) tt (lit≤ tt)

@@ -2,7 +2,7 @@
 use Rattle.std.specs.Prelude.{ℕ, ◌-◌, ◌&&◌, ◌==◌, nat_le, List, [], ◌∷◌, codes, Option, Some, None, Result, Ok, Err, if◌then◌else◌}
 use Rattle.std.specs.Str.{bytes_eq}
 use Rattle.tm_types.specs.declared.function.Function.{Function}
-use Rattle.tm_types.specs.declared.function.Function.TheVariants.{GU, GN, GNP, GHU, GHN, GHNP, ISRT, REPL, DLET}
+use Rattle.tm_types.specs.declared.function.Function.TheVariants.{GU, GN, GNP, GHU, GHN, GHNP, ISRT, REPL, DLET, PURG, CHNG, ROLB, ROLL}
 use Rattle.text_rows.specs.Lines.{split_at}
 use Rattle.text_rows.specs.Lowest.{both}
 use Rattle.text_rows.specs.Names.{name_of}
@@ -126,4 +126,8 @@ function_of word =
     else (if bytes_eq word (codes "ISRT") then Ok ISRT
     else (if bytes_eq word (codes "REPL") then Ok REPL
     else (if bytes_eq word (codes "DLET") then Ok DLET
-    else Err UNKNOWN_FUNCTION))))))))
+    else (if bytes_eq word (codes "PURG") then Ok PURG
+    else (if bytes_eq word (codes "CHNG") then Ok CHNG
+    else (if bytes_eq word (codes "ROLB") then Ok ROLB
+    else (if bytes_eq word (codes "ROLL") then Ok ROLL
+    else Err UNKNOWN_FUNCTION))))))))))))

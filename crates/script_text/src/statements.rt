@@ -1,5 +1,5 @@
 ghost use Rattle.std.specs.Prelude.{◌≡◌, ◌≤◌, ◌∷◌, [], ℕ, true, false, Ok, Some, None, IfOk, IfSome, IsTrue, is_some, is_none};
-ghost use Rattle.model_script.specs.Programs.{is_call, is_statement, is_function_of, ssas_allowed, takes_area, takes_ssas};
+ghost use Rattle.model_script.specs.Programs.{is_call, is_statement, is_function_of, is_message_function, ssas_allowed, takes_area, takes_ssas};
 ghost use Rattle.script_text.specs.Good.{places_in, are_printable, is_free, IsGood};
 ghost use Rattle.script_text.specs.Statements as spec;
 ghost use Rattle.script_text.specs.Values as values;
@@ -319,13 +319,24 @@ fn is_function_of(pcb: u8, function: Function) -> bool
     ensures { result ≡ is_function_of pcb function }
 {
     if pcb == 0 {
-        matches!(function, Function::GU | Function::GN | Function::ISRT)
+        is_message_function(function)
     } else {
-        !matches!(
-            function,
-            Function::PURG | Function::CHNG | Function::ROLB | Function::ROLL
-        )
+        !matches!(function, Function::ROLB | Function::ROLL)
     }
+}
+
+fn is_message_function(function: Function) -> bool
+    ensures { result ≡ is_message_function function }
+{
+    matches!(
+        function,
+        Function::GU
+            | Function::GN
+            | Function::ISRT
+            | Function::PURG
+            | Function::ROLB
+            | Function::ROLL
+    )
 }
 
 fn takes_area(function: Function) -> bool
@@ -337,7 +348,15 @@ fn takes_area(function: Function) -> bool
 fn takes_ssas(function: Function) -> bool
     ensures { result ≡ takes_ssas function }
 {
-    !matches!(function, Function::REPL | Function::DLET)
+    !matches!(
+        function,
+        Function::REPL
+            | Function::DLET
+            | Function::PURG
+            | Function::CHNG
+            | Function::ROLB
+            | Function::ROLL
+    )
 }
 
 fn is_above_0(pcb: &Result<u8, u8>) -> bool

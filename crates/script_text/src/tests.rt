@@ -143,8 +143,41 @@ fn calls(rt: HostRuntime) -> Result<(), Fail> {
         (b"CALL FOO 0 a b".as_slice(), 10),
         (b"CALL GHU 0 A".as_slice(), 10),
         (b"CALL DLET 0".as_slice(), 10),
-        (b"CALL PURG 1".as_slice(), 10),
-        (b"CALL ROLB 0 A".as_slice(), 10),
+    ];
+    for (text, rule) in table {
+        assert_eq!(rt; rule_of(rt.alloc(), text)?, rule);
+    }
+    Ok(())
+}
+
+/// The calls that end messages, choose destinations and take work back.
+#[test]
+fn message_calls(rt: HostRuntime) -> Result<(), Fail> {
+    let table = [
+        (b"CALL PURG 0".as_slice(), 0u8),
+        (b"CALL PURG 1".as_slice(), 0),
+        (b"CALL CHNG 1 B".as_slice(), 0),
+        (b"CALL ROLB 0 A".as_slice(), 0),
+        (b"CALL ROLL 0".as_slice(), 0),
+        (b"CALL PURG 0 A".as_slice(), 2),
+        (b"CALL PURG 1 A".as_slice(), 2),
+        (b"CALL ROLL 0 A".as_slice(), 2),
+        (b"CALL ROLL 1 A".as_slice(), 2),
+        (b"CALL ROLL".as_slice(), 2),
+        (b"CALL CHNG 1".as_slice(), 2),
+        (b"CALL CHNG 0".as_slice(), 2),
+        (b"CALL CHNG 1 A ACCT".as_slice(), 2),
+        (b"CALL ROLB 0".as_slice(), 2),
+        (b"CALL ROLB 0 A ACCT".as_slice(), 2),
+        (b"CALL ROLB 1 A ACCT".as_slice(), 2),
+        (b"CALL CHNG 1 a".as_slice(), 3),
+        (b"CALL CHNG 0 a".as_slice(), 3),
+        (b"CALL PURG 9".as_slice(), 7),
+        (b"CALL ROLB 9 A".as_slice(), 7),
+        (b"CALL CHNG 0 A".as_slice(), 10),
+        (b"CALL ROLB 1 A".as_slice(), 10),
+        (b"CALL ROLL 8".as_slice(), 10),
+        (b"CALL PURGE 1".as_slice(), 10),
     ];
     for (text, rule) in table {
         assert_eq!(rt; rule_of(rt.alloc(), text)?, rule);

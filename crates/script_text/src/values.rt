@@ -2,7 +2,7 @@ ghost use Rattle.std.specs.Prelude.{◌≡◌, ◌≤◌, ◌<◌, ◌∷◌, []
 ghost use Rattle.std.specs.List.{list_all};
 ghost use Rattle.std.specs.Option.{option_copied};
 ghost use Rattle.tm_types.specs.Segment.{is_printable};
-ghost use Rattle.model_script.specs.Programs.{is_plain, is_other_function, is_message_function};
+ghost use Rattle.model_script.specs.Programs.{is_plain};
 ghost use Rattle.script_text.specs.Good.{places_in, are_printable};
 ghost use Rattle.script_text.specs.Values as spec;
 ghost use Rattle.script_text.specs.WordLists as lists;
@@ -216,6 +216,14 @@ pub(crate) fn function_of(word: &[u8]) -> Result<Function, u8>
         Ok(Function::REPL)
     } else if is_word(word, b"DLET") {
         Ok(Function::DLET)
+    } else if is_word(word, b"PURG") {
+        Ok(Function::PURG)
+    } else if is_word(word, b"CHNG") {
+        Ok(Function::CHNG)
+    } else if is_word(word, b"ROLB") {
+        Ok(Function::ROLB)
+    } else if is_word(word, b"ROLL") {
+        Ok(Function::ROLL)
     } else {
         Err(UNKNOWN_FUNCTION)
     }
