@@ -1,4 +1,5 @@
 pub mod Pcbs
 pub mod System
+pub mod Codes
 pub mod CodeStates
 pub mod Valid

@@ -22,6 +22,8 @@ pub enum CrossRule {
     PsbTwice,
     /// A PCB has a database that isn't there.
     DatabaseUnknown,
+    /// A PCB is for output to a destination that is neither a terminal nor a code.
+    DestinationUnknown,
     /// A code stands twice, or is the name of a terminal too.
     CodeTwice,
     /// A terminal stands twice.
@@ -64,6 +66,18 @@ fn breaks_pcb(all: &[MacroLine], content: &Macro) -> bool
 {
     match content {
         Macro::DatabasePcb { database, .. } => !has_database(database, all),
+        _ => false,
+    }
+}
+
+#[tactic(auto, unfolding(crate::specs::Cross::breaks_destination))]
+fn breaks_destination(all: &[MacroLine], content: &Macro) -> bool
+    ensures { result ≡ spec.breaks_destination all.now content.now }
+{
+    match content {
+        Macro::DestinationPcb { destination } => {
+            !(has_terminal(destination, all) || has_code(destination, all))
+        }
         _ => false,
     }
 }
@@ -142,6 +156,7 @@ fn broken_line(
         CrossRule::OfSegments(rule) => broken_by_segment(rule, line, behind),
         CrossRule::PsbTwice => own_line(line, breaks_psb(before, &line.content)),
         CrossRule::DatabaseUnknown => own_line(line, breaks_pcb(all, &line.content)),
+        CrossRule::DestinationUnknown => own_line(line, breaks_destination(all, &line.content)),
         CrossRule::CodeTwice => own_line(line, breaks_code(all, before, &line.content)),
         CrossRule::TerminalTwice => own_line(line, breaks_terminal(before, &line.content)),
         CrossRule::ProgramMissing => own_line(line, breaks_application(all, &line.content)),
@@ -163,6 +178,7 @@ fn number_of(rule: CrossRule) -> u8
         CrossRule::OfSegments(SegmentRule::LevelTooHigh) => 5,
         CrossRule::PsbTwice => 6,
         CrossRule::DatabaseUnknown => 7,
+        CrossRule::DestinationUnknown => 8,
         CrossRule::CodeTwice => 9,
         CrossRule::TerminalTwice => 10,
         CrossRule::ProgramMissing => 11,
@@ -210,6 +226,7 @@ pub(crate) fn cross_rules(all: &[MacroLine]) -> Result<(), (u32, u8)>
     keeps(CrossRule::OfSegments(SegmentRule::LevelTooHigh), all)?;
     keeps(CrossRule::PsbTwice, all)?;
     keeps(CrossRule::DatabaseUnknown, all)?;
+    keeps(CrossRule::DestinationUnknown, all)?;
     keeps(CrossRule::CodeTwice, all)?;
     keeps(CrossRule::TerminalTwice, all)?;
     keeps(CrossRule::ProgramMissing, all)?;

@@ -25,12 +25,21 @@ pub(crate) fn is_of(kind: MacroKind, content: &Macro) -> bool
     match kind {
         MacroKind::Databases => matches!(content, Macro::Database { .. }),
         MacroKind::Segments => matches!(content, Macro::Segment { .. }),
-        MacroKind::Pcbs => matches!(content, Macro::DatabasePcb { .. }),
+        MacroKind::Pcbs => is_pcb(content),
         MacroKind::Codes => matches!(content, Macro::Transaction(_)),
         MacroKind::Terminals => matches!(content, Macro::Terminal { .. }),
         MacroKind::Regions => matches!(content, Macro::Region { .. }),
         MacroKind::Programs => matches!(content, Macro::Program { .. }),
     }
+}
+
+fn is_pcb(content: &Macro) -> bool
+    ensures { result ≡ spec.is_pcb content.now }
+{
+    matches!(
+        content,
+        Macro::DatabasePcb { .. } | Macro::DestinationPcb { .. } | Macro::ModifiablePcb
+    )
 }
 
 /// How many of the lines are of this kind.

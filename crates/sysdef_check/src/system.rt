@@ -1,4 +1,7 @@
-ghost use Rattle.std.specs.Prelude.{◌≡◌};
+ghost use Rattle.std.specs.Prelude.{◌≡◌, ◌<◌, IfSome, length};
+ghost use Rattle.std.specs.Option.{option_copied};
+ghost use Rattle.std.specs.Str.{bytes_eq};
+ghost use Rattle.model_system.specs.Codes.{code_at, code_place};
 
 use model_system::{Classes, Code, SystemProgram};
 use std::marker::Model;
@@ -66,6 +69,21 @@ impl System {
         &self.codes
     }
 
+    /// The code of this name, or None where there is none.
+    pub fn code(&self, name: &Name) -> Option<&Code>
+        ensures { option_copied result ≡ code_at self.now.codes name.now }
+    {
+        code_named(&self.codes, name)
+    }
+
+    /// The place of the code of this name, counted from 0.
+    pub fn code_place(&self, name: &Name) -> Option<usize>
+        ensures value { result ≡ code_place self.now.codes name.now }
+        ensures within { IfSome result (λ place. place < length self.now.codes) }
+    {
+        place_named(&self.codes, name)
+    }
+
     /// The terminals.
     pub fn terminals(&self) -> &[Name]
         ensures { result.now ≡ self.now.terminals }
@@ -80,4 +98,23 @@ impl System {
     {
         &self.regions
     }
+}
+
+fn has_name(name: &Name, code: &Code) -> bool
+    ensures { result ≡ bytes_eq code.now.transaction.code name.now }
+{
+    &code.transaction.code == name
+}
+
+fn code_named<'a>(codes: &'a [Code], name: &Name) -> Option<&'a Code>
+    ensures { option_copied result ≡ code_at codes.now name.now }
+{
+    codes.iter().find(|code| has_name(name, code))
+}
+
+fn place_named(codes: &[Code], name: &Name) -> Option<usize>
+    ensures value { result ≡ code_place codes.now name.now }
+    ensures within { IfSome result (λ place. place < length codes.now) }
+{
+    codes.iter().position(|code| has_name(name, code))
 }
