@@ -209,7 +209,7 @@ fn breaks_call(rule: CallRule, all: &[MacroLine], pcbs: &[MacroLine], statement:
 }
 
 /// The line of the first call of a script that breaks the rule.
-fn broken_call(
+pub(crate) fn broken_call(
     rule: CallRule,
     all: &[MacroLine],
     pcbs: &[MacroLine],
