@@ -20,6 +20,7 @@ mod counts;
 mod cross;
 mod databases;
 mod definition;
+mod indexes;
 mod lookups;
 mod segments;
 mod system;

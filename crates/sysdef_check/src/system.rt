@@ -1,9 +1,10 @@
 ghost use Rattle.std.specs.Prelude.{◌≡◌, ◌<◌, IfSome, length};
 ghost use Rattle.std.specs.Option.{option_copied};
-ghost use Rattle.std.specs.Str.{bytes_eq};
 ghost use Rattle.model_system.specs.Codes.{code_at, code_place};
 
+use crate::indexes;
 use model_system::{Classes, Code, SystemProgram};
+use std::collections::BTreeMap;
 use std::marker::Model;
 use tm_types::{Dbd, Name};
 
@@ -17,9 +18,11 @@ pub struct System {
     pub(crate) codes: Vec<Code>,
     pub(crate) terminals: Vec<Name>,
     pub(crate) regions: Vec<Classes>,
+    pub(crate) codes_by_name: BTreeMap<Name, usize>,
 }
 
 impl Model for System {
+    ghost use Rattle.sysdef_check.specs.Indexes.{IsIndex, has_code_name};
     ghost use Rattle.model_system.specs.System as model;
     ghost use Rattle.model_system.specs.Valid.{IsSystem};
 
@@ -27,7 +30,7 @@ impl Model for System {
 
     ghost view = { λ s. record { qbytes = s.qbytes; logs = s.logs; databases = s.databases.items; programs = s.programs.items; codes = s.codes.items; terminals = s.terminals.items; regions = s.regions.items } };
 
-    ghost invariant = { λ s. IsSystem (record { qbytes = s.qbytes; logs = s.logs; databases = s.databases.items; programs = s.programs.items; codes = s.codes.items; terminals = s.terminals.items; regions = s.regions.items }) };
+    ghost invariant = { λ s. IsSystem (record { qbytes = s.qbytes; logs = s.logs; databases = s.databases.items; programs = s.programs.items; codes = s.codes.items; terminals = s.terminals.items; regions = s.regions.items }) × IsIndex has_code_name s.codes_by_name s.codes.items };
 }
 
 impl System {
@@ -70,10 +73,11 @@ impl System {
     }
 
     /// The code of this name, or None where there is none.
+    #[tactic(auto, using(crate::proofs::Indexed::found_at))]
     pub fn code(&self, name: &Name) -> Option<&Code>
         ensures { option_copied result ≡ code_at self.now.codes name.now }
     {
-        code_named(&self.codes, name)
+        indexes::code_at(&self.codes, self.code_place(name))
     }
 
     /// The place of the code of this name, counted from 0.
@@ -81,7 +85,7 @@ impl System {
         ensures value { result ≡ code_place self.now.codes name.now }
         ensures within { IfSome result (λ place. place < length self.now.codes) }
     {
-        place_named(&self.codes, name)
+        self.codes_by_name.get(name).copied()
     }
 
     /// The terminals.
@@ -98,23 +102,4 @@ impl System {
     {
         &self.regions
     }
-}
-
-fn has_name(name: &Name, code: &Code) -> bool
-    ensures { result ≡ bytes_eq code.now.transaction.code name.now }
-{
-    &code.transaction.code == name
-}
-
-fn code_named<'a>(codes: &'a [Code], name: &Name) -> Option<&'a Code>
-    ensures { option_copied result ≡ code_at codes.now name.now }
-{
-    codes.iter().find(|code| has_name(name, code))
-}
-
-fn place_named(codes: &[Code], name: &Name) -> Option<usize>
-    ensures value { result ≡ code_place codes.now name.now }
-    ensures within { IfSome result (λ place. place < length codes.now) }
-{
-    codes.iter().position(|code| has_name(name, code))
 }

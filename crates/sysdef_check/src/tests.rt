@@ -111,12 +111,27 @@ fn output_calls(rt: HostRuntime) -> Result<(), Fail> {
     calls.push(call(alloc, 3, Function::PURG, 2, None)?)?;
     calls.push(call(alloc, 4, Function::CHNG, 1, None)?)?;
     calls.push(call(alloc, 5, Function::ROLB, 0, None)?)?;
-    assert_eq!(rt; broken_call(CallRule::PcbMissing, &pcbs, &pcbs, &calls), None);
+    assert_eq!(rt;
+        broken_call(CallRule::PcbMissing, &pcbs, &pcbs, &calls),
+        None
+    );
     calls.push(call(alloc, 6, Function::ISRT, 1, Some(name))?)?;
-    assert_eq!(rt; broken_call(CallRule::PcbMissing, &pcbs, &pcbs, &calls), None);
-    assert_eq!(rt; broken_call(CallRule::SsaAstray, &pcbs, &pcbs, &calls), Some(6));
-    assert_eq!(rt; broken_call(CallRule::NoInsertPath, &pcbs, &pcbs, &calls), None);
+    assert_eq!(rt;
+        broken_call(CallRule::PcbMissing, &pcbs, &pcbs, &calls),
+        None
+    );
+    assert_eq!(rt;
+        broken_call(CallRule::SsaAstray, &pcbs, &pcbs, &calls),
+        Some(6)
+    );
+    assert_eq!(rt;
+        broken_call(CallRule::NoInsertPath, &pcbs, &pcbs, &calls),
+        None
+    );
     calls.push(call(alloc, 7, Function::CHNG, 3, None)?)?;
-    assert_eq!(rt; broken_call(CallRule::PcbMissing, &pcbs, &pcbs, &calls), Some(7));
+    assert_eq!(rt;
+        broken_call(CallRule::PcbMissing, &pcbs, &pcbs, &calls),
+        Some(7)
+    );
     Ok(())
 }

@@ -10,8 +10,8 @@ ghost use Rattle.sysdef_text.specs.Rows as spec;
 use crate::Kind;
 use crate::pcbs::pcb_row;
 use crate::values::{
-    byte_between, classes_of, key_of, limits_of, message_type_of, parent_of,
-    priorities_of, serial_of, short_between,
+    byte_between, classes_of, key_of, limits_of, message_type_of, parent_of, priorities_of,
+    serial_of, short_between,
 };
 use sysdef_check::{Classes, KeyLength, Macro, SegmentKind, Transaction};
 use text_rows::rules::OPERAND_MISSING;

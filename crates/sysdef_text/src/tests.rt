@@ -246,9 +246,14 @@ fn system(rt: HostRuntime) -> Result<(), Fail> {
     let echo = Name::read(b"ECHO").ok_or("no name")?;
     let place = codes.place_of(&echo).ok_or("no place")?;
     assert_eq!(rt; codes.states()[place].priority, 5);
+    assert_eq!(rt; system.code_place(&echo), Some(0));
+    let code = system.code(&echo).ok_or("no code")?;
+    assert_eq!(rt; code.psb.as_bytes(), b"ECHOP".as_slice());
     codes.set_raised(place, true);
     let none = Name::read(b"NONE").ok_or("no name")?;
     assert_eq!(rt; codes.place_of(&none), None);
+    assert_eq!(rt; system.code_place(&none), None);
+    assert!(rt; system.code(&none).is_none());
     Ok(())
 }
 
