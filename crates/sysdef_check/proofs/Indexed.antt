@@ -1,7 +1,7 @@
 -- Indexes by name, item by item.
-use Rattle.std.proofs.Common.{◌≡◌, ◌<◌, ◌≤◌, ◌+◌, ℕ, suc, Bool, true, false, cond, nat_lt, List, [], ◌∷◌, ◌++◌, length, take, get_or, slice_get, Option, Some, None, refl, sym, ap, subst, ◌∙◌, arith, add-zero, zero-add}
+use Rattle.std.proofs.Common.{◌≡◌, ◌<◌, ◌≤◌, ◌+◌, ◌||◌, ℕ, suc, Bool, true, false, cond, nat_lt, List, [], ◌∷◌, ◌++◌, length, take, get_or, slice_get, Option, Some, None, refl, sym, ap, subst, ◌∙◌, arith, add-zero, zero-add}
 use Rattle.std.specs.Prelude.{is_some, find, position}
-use Rattle.std.specs.List.{position_from, position_or_len}
+use Rattle.std.specs.List.{list_any, position_from, position_or_len}
 use Rattle.std.specs.Option.{option_or, option_and_then}
 use Rattle.std.specs.Ordering.{nat_cmp, is_eq}
 use Rattle.std.specs.Cmp.Lexicographic.{slice_cmp}
@@ -14,9 +14,12 @@ use Rattle.std.proofs.lemmas.List.Folds.{find_at}
 use Rattle.std.proofs.lemmas.Map.Text.{is_eq-slice_cmp}
 use Rattle.std.proofs.lemmas.Option.{slice_get_past}
 use Rattle.std.proofs.lemmas.Slice.Eq.{bytes_eq-Decides}
-use Rattle.sysdef_check.specs.Indexes.{IsIndex, place_in}
+use Rattle.sysdef_check.specs.declared.definition.Macro.{Macro}
+use Rattle.sysdef_check.specs.declared.definition.MacroLine.{MacroLine}
+use Rattle.sysdef_check.specs.Indexes.{IsIndex, on_line, place_in}
+use Rattle.sysdef_check.specs.Lookups.{has}
 
-first_none : (found : Option ℕ) → found ≡ option_or found None
+pub first_none : (found : Option ℕ) → found ≡ option_or found None
 first_none (Some place) = refl
 first_none None = refl
 
@@ -55,18 +58,22 @@ position_push p xs x =
     ∙ ap (λ n. option_or (position p xs) (cond (p x) (Some n) None)) (zero-add (length xs))
 
 -- an index of a list with one item more
+pub next_index : {X : Type 0} (has_name : List ℕ → X → Bool) (old new : BTreeMap (List ℕ) ℕ) (items whole : List X) (item : X) → whole ≡ items ++ item ∷ [] → IsIndex has_name old items
+    → ((name : List ℕ) → place_in new name ≡ option_or (place_in old name) (cond (has_name name item) (Some (length items)) None)) → IsIndex has_name new whole
+next_index {X} has_name old new items whole item e before added = record {
+  places = λ name.
+      added name ∙ ap (λ o. option_or o (cond (has_name name item) (Some (length items)) None)) (before.places name) ∙ sym (position_push (has_name name) items item)
+      ∙ ap (λ (xs : List X). position (has_name name) xs) (sym e);
+}
+
 pub one_more : {X : Type 0} (has_name : List ℕ → X → Bool) (old new : BTreeMap (List ℕ) ℕ) (items : List X) (place : ℕ) (item : X) → place < length items → item ≡ get_or items place item
     → IsIndex has_name old (take place items)
     → ((name : List ℕ) → place_in new name ≡ option_or (place_in old name) (cond (has_name name item) (Some place) None)) → IsIndex has_name new (take (place + 1) items)
-one_more {X} has_name old new items place item h e before added = record {
-  places = λ name.
-      let whole : take (place + 1) items ≡ take place items ++ item ∷ [] = take_more items place item h ∙ ap (λ (x : X). take place items ++ x ∷ []) (sym e) in
-      let size : length (take place items) ≡ place = omega (arith, length-take place items) in
-      added name ∙ ap (λ o. option_or o (cond (has_name name item) (Some place) None)) (before.places name)
-      ∙ ap (λ n. option_or (position (has_name name) (take place items)) (cond (has_name name item) (Some n) None)) (sym size)
-      ∙ sym (position_push (has_name name) (take place items) item)
-      ∙ ap (λ (xs : List X). position (has_name name) xs) (sym whole);
-}
+one_more {X} has_name old new items place item h e before added =
+    let whole : take (place + 1) items ≡ take place items ++ item ∷ [] = take_more items place item h ∙ ap (λ (x : X). take place items ++ x ∷ []) (sym e) in
+    let size : length (take place items) ≡ place = omega (arith, length-take place items) in
+    next_index has_name old new (take place items) (take (place + 1) items) item whole before
+    (λ name. added name ∙ ap (λ n. option_or (place_in old name) (cond (has_name name item) (Some n) None)) (sym size))
 
 at_by : {X : Type 0} (xs : List X) (place : ℕ) (b : Bool) → nat_lt place (length xs) ≡ b → option_and_then (slice_get xs) (cond b (Some place) None) ≡ slice_get xs place
 at_by xs place true e = refl
@@ -75,3 +82,17 @@ at_by xs place false e = sym (slice_get_past xs place (ltb-false place (length x
 -- the first that passes stands at its place
 pub found_at : {X : Type 0} (p : X → Bool) (xs : List X) → option_and_then (slice_get xs) (position p xs) ≡ find p xs
 found_at p xs = at_by xs (position_or_len p xs) (nat_lt (position_or_len p xs) (length xs)) refl ∙ sym (find_at p xs)
+
+some_by : (b more : Bool) (place : ℕ) (rest : Option ℕ) → is_some rest ≡ more → is_some (cond b (Some place) rest) ≡ (b || more)
+some_by true more place rest e = refl
+some_by false more place rest e = e
+
+some_from : {X : Type 0} (p : X → Bool) (place : ℕ) (xs : List X) → is_some (position_from p place xs) ≡ list_any p xs
+some_from p place [] = refl
+some_from p place (x ∷ xs) = some_by (p x) (list_any p xs) place (position_from p (place + 1) xs) (some_from p (place + 1) xs)
+
+-- an index has a name where a macro has it
+pub has_by : (has_name : List ℕ → Macro → Bool) (index : BTreeMap (List ℕ) ℕ) (lines : List MacroLine) (name : List ℕ) (found : Bool) → IsIndex (on_line has_name) index lines
+    → found ≡ is_some (place_in index name) → found ≡ has (has_name name) lines
+has_by has_name index lines name found indexed e =
+    e ∙ ap is_some (indexed.places name) ∙ ap is_some (position_from-zero (on_line has_name name) lines) ∙ some_from (on_line has_name name) 0 lines

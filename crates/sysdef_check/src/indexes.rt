@@ -23,7 +23,11 @@ pub(crate) fn codes_by_name(
 }
 
 /// Adds a name with its place, unless it is there.
-fn add_name(index: &mut BTreeMap<Name, usize>, name: &Name, place: usize) -> Result<(), AllocError>
+pub(crate) fn add_name(
+    index: &mut BTreeMap<Name, usize>,
+    name: &Name,
+    place: usize,
+) -> Result<(), AllocError>
     ensures { OnOk result ((other : List ℕ) → place_in index.new other ≡ option_or (place_in index.old other) (cond (bytes_eq name.now other) (Some place) None)) }
 {
     if !index.contains_key(name) {

@@ -22,6 +22,7 @@ mod databases;
 mod definition;
 mod indexes;
 mod lookups;
+mod named;
 mod segments;
 mod system;
 mod system_check;
