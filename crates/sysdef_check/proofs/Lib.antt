@@ -5,3 +5,4 @@ pub mod Ancestors
 pub mod Types
 pub mod Kept
 pub mod Limits
+pub mod Indexed

@@ -3,14 +3,14 @@ use Rattle.std.specs.Prelude.{ℕ, zero, suc, nat_le, Bool, true, false, ◌&&�
 use Rattle.std.specs.Option.{option_map}
 use Rattle.std.specs.Str.{bytes_eq}
 use Rattle.tm_types.specs.declared.function.Function.{Function}
-use Rattle.tm_types.specs.declared.function.Function.TheVariants.{GU, GN, GNP, GHU, GHN, GHNP, ISRT, REPL, DLET}
+use Rattle.tm_types.specs.declared.function.Function.TheVariants.{GU, GN, GNP, GHU, GHN, GHNP, ISRT, REPL, DLET, PURG, CHNG}
 use Rattle.model_script.specs.declared.program.ScriptLine.{ScriptLine}
 use Rattle.model_script.specs.declared.script_ssa.ScriptSsa.{ScriptSsa}
 use Rattle.model_script.specs.declared.script_ssa.ScriptSsa.TheVariants.{Any, Equal, AtLeast}
 use Rattle.model_script.specs.declared.statement.Statement.{Statement}
 use Rattle.model_script.specs.declared.statement.Statement.TheVariants.{Call}
 use Rattle.sysdef_check.specs.declared.definition.Macro.{Macro}
-use Rattle.sysdef_check.specs.declared.definition.Macro.TheVariants.{DatabasePcb, Program}
+use Rattle.sysdef_check.specs.declared.definition.Macro.TheVariants.{DatabasePcb, DestinationPcb, ModifiablePcb, Program}
 use Rattle.sysdef_check.specs.declared.definition.MacroLine.{MacroLine}
 use Rattle.sysdef_check.specs.declared.calls.CallRule.{CallRule}
 use Rattle.sysdef_check.specs.declared.calls.CallRule.TheVariants.{PcbMissing, SsaAstray, NoInsertPath}
@@ -29,15 +29,25 @@ is_database_function REPL = true
 is_database_function DLET = true
 is_database_function _ = false
 
+-- A PCB for output has ISRT, PURG and CHNG.
+abbrev pub is_output_function : Function → Bool
+is_output_function ISRT = true
+is_output_function PURG = true
+is_output_function CHNG = true
+is_output_function _ = false
+
 abbrev pub pcb_has : Macro → Function → Bool
 pcb_has (DatabasePcb database options) function = is_database_function function
+pcb_has (DestinationPcb destination) function = is_output_function function
+pcb_has ModifiablePcb function = is_output_function function
 pcb_has _ function = false
 
 abbrev pub serves : Option MacroLine → Function → Bool
 serves (Some line) function = pcb_has line.content function
 serves None function = false
 
--- a call on a PCB above 0 that isn't there, or that hasn't this function
+-- A call on a PCB above 0 that isn't there, or that hasn't this function. What PCB 0 has is a rule of
+-- scripts.
 abbrev pub misses_pcb : List MacroLine → ℕ → Function → Bool
 misses_pcb pcbs number function = nat_le 1 number && not (serves (numbered pcbs number) function)
 
@@ -77,9 +87,11 @@ go_down segments above [] = true
 go_down segments above (ssa ∷ ssas) =
     has (is_segment (segment_name ssa)) segments && is_below segments (segment_name ssa) above && go_down segments (Some (segment_name ssa)) ssas
 
+-- An argument names a segment of the PCB's database, so a PCB without a database has none.
 abbrev pub strays : Option (List MacroLine) → List ScriptSsa → Bool
 strays (Some segments) ssas = not (go_down segments None ssas)
-strays None ssas = false
+strays None [] = false
+strays None (ssa ∷ ssas) = true
 
 -- the root has no parent, and each other segment of a path has the one before as its parent
 abbrev pub is_parent : Option (List ℕ) → Option (List ℕ) → Bool

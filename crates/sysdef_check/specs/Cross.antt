@@ -2,13 +2,13 @@
 use Rattle.std.specs.Prelude.{ℕ, Bool, false, ◌&&◌, ◌||◌, not, List, [], ◌∷◌, ◌++◌, nat_le, Option, Some, None, Result, Ok, Err}
 use Rattle.std.specs.Option.{option_or}
 use Rattle.sysdef_check.specs.declared.definition.Macro.{Macro}
-use Rattle.sysdef_check.specs.declared.definition.Macro.TheVariants.{Database, Application, DatabasePcb, Transaction, Terminal, Region, Program}
+use Rattle.sysdef_check.specs.declared.definition.Macro.TheVariants.{Database, Application, DatabasePcb, DestinationPcb, Transaction, Terminal, Region, Program}
 use Rattle.sysdef_check.specs.declared.definition.MacroLine.{MacroLine}
 use Rattle.sysdef_check.specs.declared.lookups.MacroKind.TheVariants.{Databases, Regions}
 use Rattle.sysdef_check.specs.declared.segments.SegmentRule.TheVariants.{Twice, ParentAstray, KeyTooLong, LevelTooHigh}
 use Rattle.sysdef_check.specs.declared.calls.CallRule.TheVariants.{PcbMissing, SsaAstray, NoInsertPath}
 use Rattle.sysdef_check.specs.declared.cross.CrossRule.{CrossRule}
-use Rattle.sysdef_check.specs.declared.cross.CrossRule.TheVariants.{DatabaseTwice, OfSegments, PsbTwice, DatabaseUnknown, CodeTwice, TerminalTwice, ProgramMissing, ProgramAstray, OfCalls, WrongCount, SecondRegion}
+use Rattle.sysdef_check.specs.declared.cross.CrossRule.TheVariants.{DatabaseTwice, OfSegments, PsbTwice, DatabaseUnknown, DestinationUnknown, CodeTwice, TerminalTwice, ProgramMissing, ProgramAstray, OfCalls, WrongCount, SecondRegion}
 use Rattle.sysdef_check.specs.Lookups.{has, count, is_of, is_database, is_application, is_code, is_terminal, is_program}
 use Rattle.sysdef_check.specs.Segments.{own_line, broken_by_segment}
 use Rattle.sysdef_check.specs.Calls.{broken_by_call}
@@ -31,6 +31,11 @@ breaks_psb before _ = false
 unfoldable pub breaks_pcb : List MacroLine → Macro → Bool
 breaks_pcb all (DatabasePcb database options) = not (has (is_database database) all)
 breaks_pcb all _ = false
+
+-- the destination of a PCB is a terminal or a code
+unfoldable pub breaks_destination : List MacroLine → Macro → Bool
+breaks_destination all (DestinationPcb destination) = not (has (is_terminal destination) all || has (is_code destination) all)
+breaks_destination all _ = false
 
 -- a code stands once, and is no terminal
 unfoldable pub breaks_code : List MacroLine → List MacroLine → Macro → Bool
@@ -63,6 +68,7 @@ broken_line DatabaseTwice all before line behind = own_line line (breaks_databas
 broken_line (OfSegments rule) all before line behind = broken_by_segment rule line line.content behind
 broken_line PsbTwice all before line behind = own_line line (breaks_psb before line.content)
 broken_line DatabaseUnknown all before line behind = own_line line (breaks_pcb all line.content)
+broken_line DestinationUnknown all before line behind = own_line line (breaks_destination all line.content)
 broken_line CodeTwice all before line behind = own_line line (breaks_code all before line.content)
 broken_line TerminalTwice all before line behind = own_line line (breaks_terminal before line.content)
 broken_line ProgramMissing all before line behind = own_line line (breaks_application all line.content)
@@ -80,6 +86,7 @@ number_of (OfSegments KeyTooLong) = 4
 number_of (OfSegments LevelTooHigh) = 5
 number_of PsbTwice = 6
 number_of DatabaseUnknown = 7
+number_of DestinationUnknown = 8
 number_of CodeTwice = 9
 number_of TerminalTwice = 10
 number_of ProgramMissing = 11
@@ -116,7 +123,7 @@ keeps_all (rule ∷ rules) all = before_others (keeps rule all) (keeps_all rules
 abbrev pub rules : List CrossRule
 rules =
     DatabaseTwice ∷ OfSegments Twice ∷ OfSegments ParentAstray ∷ OfSegments KeyTooLong ∷ OfSegments LevelTooHigh ∷ PsbTwice ∷ DatabaseUnknown
-    ∷ CodeTwice ∷ TerminalTwice ∷ ProgramMissing ∷ ProgramAstray ∷ OfCalls PcbMissing ∷ OfCalls SsaAstray ∷ OfCalls NoInsertPath
+    ∷ DestinationUnknown ∷ CodeTwice ∷ TerminalTwice ∷ ProgramMissing ∷ ProgramAstray ∷ OfCalls PcbMissing ∷ OfCalls SsaAstray ∷ OfCalls NoInsertPath
     ∷ WrongCount ∷ SecondRegion ∷ []
 
 unfoldable pub cross_rules : List MacroLine → Result (Unit {0}) (ℕ × ℕ)

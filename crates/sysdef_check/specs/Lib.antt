@@ -5,3 +5,4 @@ pub mod Counts
 pub mod Cross
 pub mod Systems
 pub mod Codes
+pub mod Indexes

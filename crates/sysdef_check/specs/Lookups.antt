@@ -4,7 +4,7 @@ use Rattle.std.specs.List.{list_any}
 use Rattle.std.specs.Option.{option_map_or}
 use Rattle.std.specs.Str.{bytes_eq}
 use Rattle.sysdef_check.specs.declared.definition.Macro.{Macro}
-use Rattle.sysdef_check.specs.declared.definition.Macro.TheVariants.{Database, Segment, Application, DatabasePcb, Transaction, Terminal, Region, Program}
+use Rattle.sysdef_check.specs.declared.definition.Macro.TheVariants.{Database, Segment, Application, DatabasePcb, DestinationPcb, ModifiablePcb, Transaction, Terminal, Region, Program}
 use Rattle.sysdef_check.specs.declared.definition.MacroLine.{MacroLine}
 use Rattle.sysdef_check.specs.declared.lookups.MacroKind.{MacroKind}
 use Rattle.sysdef_check.specs.declared.lookups.MacroKind.TheVariants.{Databases, Segments, Pcbs, Codes, Terminals, Regions, Programs}
@@ -34,11 +34,18 @@ abbrev pub is_program : List ℕ → Macro → Bool
 is_program name (Program program lines) = bytes_eq program name
 is_program name _ = false
 
+-- a PCB is on a database, or for output
+abbrev pub is_pcb : Macro → Bool
+is_pcb (DatabasePcb database options) = true
+is_pcb (DestinationPcb destination) = true
+is_pcb ModifiablePcb = true
+is_pcb _ = false
+
 -- the macros of a kind
 abbrev pub is_of : MacroKind → Macro → Bool
 is_of Databases (Database name roots) = true
 is_of Segments (Segment name parent key bytes) = true
-is_of Pcbs (DatabasePcb database options) = true
+is_of Pcbs content = is_pcb content
 is_of Codes (Transaction transaction) = true
 is_of Terminals (Terminal name) = true
 is_of Regions (Region classes) = true

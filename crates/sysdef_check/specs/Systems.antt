@@ -7,7 +7,7 @@ use Rattle.tm_types.specs.declared.dbd.SegType.{SegType}
 use Rattle.sysdef_check.specs.declared.system_check.CrossRefused.{CrossRefused}
 use Rattle.sysdef_check.specs.declared.system_check.CrossRefused.TheVariants.{BadCross, Memory}
 use Rattle.sysdef_check.specs.declared.definition.Macro.{Macro}
-use Rattle.sysdef_check.specs.declared.definition.Macro.TheVariants.{Control, Database, Segment, Application, DatabasePcb, Transaction, Terminal, Region, Program}
+use Rattle.sysdef_check.specs.declared.definition.Macro.TheVariants.{Control, Database, Segment, Application, DatabasePcb, DestinationPcb, ModifiablePcb, Transaction, Terminal, Region, Program}
 use Rattle.sysdef_check.specs.declared.definition.MacroLine.{MacroLine}
 use Rattle.sysdef_check.specs.declared.lookups.MacroKind.TheVariants.{Segments}
 use Rattle.model_system.specs.declared.code.Code.{Code}
@@ -53,6 +53,8 @@ database_number databases name = option_map_or (λ place. place + 1) (position (
 
 abbrev pub pcb_in : List Dbd → Macro → Option Pcb
 pcb_in databases (DatabasePcb database options) = Some (pcb.Database (database_number databases database) options)
+pcb_in databases (DestinationPcb destination) = Some (pcb.Destination destination)
+pcb_in databases ModifiablePcb = Some pcb.Modifiable
 pcb_in databases _ = None
 
 abbrev pub pcbs_in : List Dbd → List MacroLine → List Pcb

@@ -3,6 +3,7 @@ ghost use Rattle.sysdef_check.specs.Cross.{cross_rules};
 ghost use Rattle.sysdef_check.specs.Systems as spec;
 
 use crate::databases::{databases_in, pcbs_in};
+use crate::indexes::codes_by_name;
 use crate::lookups::pcbs_of;
 use crate::{Macro, MacroLine, System};
 use model_system::{Classes, Code, Pcbs, SystemProgram};
@@ -21,6 +22,7 @@ pub(crate) fn system_of(alloc: Global, lines: Vec<MacroLine>) -> Result<System, 
     let regions = regions_in(alloc, &lines)?;
     let pcbs = pcb_lists(alloc, &databases, &lines)?;
     let programs = programs_in(alloc, lines, pcbs)?;
+    let codes_by_name = codes_by_name(alloc, &codes)?;
     Ok(System {
         qbytes,
         logs,
@@ -29,6 +31,7 @@ pub(crate) fn system_of(alloc: Global, lines: Vec<MacroLine>) -> Result<System, 
         codes,
         terminals,
         regions,
+        codes_by_name,
     })
 }
 

@@ -13,7 +13,8 @@ use tm_types::{Function, Name};
 pub enum CallRule {
     /// A PCB isn't there, or hasn't the function.
     PcbMissing,
-    /// A segment search argument names no segment of the PCB's database, or none below the one before.
+    /// A segment search argument names no segment of the PCB's database, or none below the one before;
+    /// or stands on a PCB without a database.
     SsaAstray,
     /// The arguments of an ISRT aren't one a level from the root, by `=` but the last, which is a name.
     NoInsertPath,
@@ -26,6 +27,12 @@ fn is_database_function(function: Function) -> bool
         function,
         Function::PURG | Function::CHNG | Function::ROLB | Function::ROLL
     )
+}
+
+fn is_output_function(function: Function) -> bool
+    ensures { result ≡ spec.is_output_function function }
+{
+    matches!(function, Function::ISRT | Function::PURG | Function::CHNG)
 }
 
 fn serves(pcb: Option<&MacroLine>, function: Function) -> bool
@@ -42,6 +49,7 @@ fn pcb_has(content: &Macro, function: Function) -> bool
 {
     match content {
         Macro::DatabasePcb { .. } => is_database_function(function),
+        Macro::DestinationPcb { .. } | Macro::ModifiablePcb => is_output_function(function),
         _ => false,
     }
 }
@@ -127,7 +135,7 @@ fn strays(segments: Option<&[MacroLine]>, ssas: &[ScriptSsa]) -> bool
 {
     match segments {
         Some(segments) => !go_down(segments, ssas),
-        None => false,
+        None => !ssas.is_empty(),
     }
 }
 
@@ -201,7 +209,7 @@ fn breaks_call(rule: CallRule, all: &[MacroLine], pcbs: &[MacroLine], statement:
 }
 
 /// The line of the first call of a script that breaks the rule.
-fn broken_call(
+pub(crate) fn broken_call(
     rule: CallRule,
     all: &[MacroLine],
     pcbs: &[MacroLine],

@@ -175,6 +175,8 @@ fn pcb_in(databases: &[Dbd], content: &Macro) -> Option<Pcb>
             database_number(databases, database),
             *options,
         )),
+        Macro::DestinationPcb { destination } => Some(Pcb::Destination(*destination)),
+        Macro::ModifiablePcb => Some(Pcb::Modifiable),
         _ => None,
     }
 }

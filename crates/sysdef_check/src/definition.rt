@@ -69,6 +69,12 @@ pub enum Macro {
         database: Name,
         options: u8,
     },
+    /// PCB for output to a terminal or a transaction code, which LTERM names.
+    DestinationPcb {
+        destination: Name,
+    },
+    /// PCB for output to a destination that the program sets.
+    ModifiablePcb,
     /// TRANSACT.
     Transaction(Transaction),
     /// NAME.

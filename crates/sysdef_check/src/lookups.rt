@@ -25,12 +25,21 @@ pub(crate) fn is_of(kind: MacroKind, content: &Macro) -> bool
     match kind {
         MacroKind::Databases => matches!(content, Macro::Database { .. }),
         MacroKind::Segments => matches!(content, Macro::Segment { .. }),
-        MacroKind::Pcbs => matches!(content, Macro::DatabasePcb { .. }),
+        MacroKind::Pcbs => is_pcb(content),
         MacroKind::Codes => matches!(content, Macro::Transaction(_)),
         MacroKind::Terminals => matches!(content, Macro::Terminal { .. }),
         MacroKind::Regions => matches!(content, Macro::Region { .. }),
         MacroKind::Programs => matches!(content, Macro::Program { .. }),
     }
+}
+
+fn is_pcb(content: &Macro) -> bool
+    ensures { result ≡ spec.is_pcb content.now }
+{
+    matches!(
+        content,
+        Macro::DatabasePcb { .. } | Macro::DestinationPcb { .. } | Macro::ModifiablePcb
+    )
 }
 
 /// How many of the lines are of this kind.
@@ -166,12 +175,6 @@ pub(crate) fn parent_named(segments: &[MacroLine], name: &Name) -> Option<Name>
     }
 }
 
-pub(crate) fn has_database(name: &Name, lines: &[MacroLine]) -> bool
-    ensures { result ≡ spec.has (spec.is_database name.now) lines.now }
-{
-    lines.iter().any(|line| is_database(name, &line.content))
-}
-
 fn is_database(name: &Name, content: &Macro) -> bool
     ensures { result ≡ spec.is_database name.now content.now }
 {
@@ -196,62 +199,11 @@ pub(crate) fn is_segment(name: &Name, content: &Macro) -> bool
     }
 }
 
-pub(crate) fn has_application(name: &Name, lines: &[MacroLine]) -> bool
-    ensures { result ≡ spec.has (spec.is_application name.now) lines.now }
-{
-    lines.iter().any(|line| is_application(name, &line.content))
-}
-
 fn is_application(name: &Name, content: &Macro) -> bool
     ensures { result ≡ spec.is_application name.now content.now }
 {
     match content {
         Macro::Application { psb } => psb == name,
-        _ => false,
-    }
-}
-
-pub(crate) fn has_code(name: &Name, lines: &[MacroLine]) -> bool
-    ensures { result ≡ spec.has (spec.is_code name.now) lines.now }
-{
-    lines.iter().any(|line| is_code(name, &line.content))
-}
-
-fn is_code(name: &Name, content: &Macro) -> bool
-    ensures { result ≡ spec.is_code name.now content.now }
-{
-    match content {
-        Macro::Transaction(transaction) => &transaction.code == name,
-        _ => false,
-    }
-}
-
-pub(crate) fn has_terminal(name: &Name, lines: &[MacroLine]) -> bool
-    ensures { result ≡ spec.has (spec.is_terminal name.now) lines.now }
-{
-    lines.iter().any(|line| is_terminal(name, &line.content))
-}
-
-fn is_terminal(name: &Name, content: &Macro) -> bool
-    ensures { result ≡ spec.is_terminal name.now content.now }
-{
-    match content {
-        Macro::Terminal { name: terminal } => terminal == name,
-        _ => false,
-    }
-}
-
-pub(crate) fn has_program(name: &Name, lines: &[MacroLine]) -> bool
-    ensures { result ≡ spec.has (spec.is_program name.now) lines.now }
-{
-    lines.iter().any(|line| is_program(name, &line.content))
-}
-
-fn is_program(name: &Name, content: &Macro) -> bool
-    ensures { result ≡ spec.is_program name.now content.now }
-{
-    match content {
-        Macro::Program { name: program, .. } => program == name,
         _ => false,
     }
 }

@@ -1,6 +1,10 @@
-ghost use Rattle.std.specs.Prelude.{◌≡◌};
+ghost use Rattle.std.specs.Prelude.{◌≡◌, ◌<◌, IfSome, length};
+ghost use Rattle.std.specs.Option.{option_copied};
+ghost use Rattle.model_system.specs.Codes.{code_at, code_place};
 
+use crate::indexes;
 use model_system::{Classes, Code, SystemProgram};
+use std::collections::BTreeMap;
 use std::marker::Model;
 use tm_types::{Dbd, Name};
 
@@ -14,9 +18,11 @@ pub struct System {
     pub(crate) codes: Vec<Code>,
     pub(crate) terminals: Vec<Name>,
     pub(crate) regions: Vec<Classes>,
+    pub(crate) codes_by_name: BTreeMap<Name, usize>,
 }
 
 impl Model for System {
+    ghost use Rattle.sysdef_check.specs.Indexes.{IsIndex, has_code_name};
     ghost use Rattle.model_system.specs.System as model;
     ghost use Rattle.model_system.specs.Valid.{IsSystem};
 
@@ -24,7 +30,7 @@ impl Model for System {
 
     ghost view = { λ s. record { qbytes = s.qbytes; logs = s.logs; databases = s.databases.items; programs = s.programs.items; codes = s.codes.items; terminals = s.terminals.items; regions = s.regions.items } };
 
-    ghost invariant = { λ s. IsSystem (record { qbytes = s.qbytes; logs = s.logs; databases = s.databases.items; programs = s.programs.items; codes = s.codes.items; terminals = s.terminals.items; regions = s.regions.items }) };
+    ghost invariant = { λ s. IsSystem (record { qbytes = s.qbytes; logs = s.logs; databases = s.databases.items; programs = s.programs.items; codes = s.codes.items; terminals = s.terminals.items; regions = s.regions.items }) × IsIndex has_code_name s.codes_by_name s.codes.items };
 }
 
 impl System {
@@ -64,6 +70,22 @@ impl System {
         ensures { result.now ≡ self.now.codes }
     {
         &self.codes
+    }
+
+    /// The code of this name, or None where there is none.
+    #[tactic(auto, using(crate::proofs::Indexed::found_at))]
+    pub fn code(&self, name: &Name) -> Option<&Code>
+        ensures { option_copied result ≡ code_at self.now.codes name.now }
+    {
+        indexes::code_at(&self.codes, self.code_place(name))
+    }
+
+    /// The place of the code of this name, counted from 0.
+    pub fn code_place(&self, name: &Name) -> Option<usize>
+        ensures value { result ≡ code_place self.now.codes name.now }
+        ensures within { IfSome result (λ place. place < length self.now.codes) }
+    {
+        self.codes_by_name.get(name).copied()
     }
 
     /// The terminals.

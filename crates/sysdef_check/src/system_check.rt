@@ -25,8 +25,9 @@ pub enum CrossRefused {
 pub fn check(alloc: Global, definition: Definition) -> Result<System, CrossRefused>
     ensures { Answers result (checked definition) }
 {
-    match cross_rules(definition.items()) {
-        Err((line, rule)) => Err(CrossRefused::BadCross(line, rule)),
+    match cross_rules(alloc, definition.items()) {
+        Err(CrossRefused::BadCross(line, rule)) => Err(CrossRefused::BadCross(line, rule)),
+        Err(CrossRefused::Memory) => Err(CrossRefused::Memory),
         Ok(()) => match system_of(alloc, definition.into_items()) {
             Ok(system) => Ok(system),
             Err(_) => Err(CrossRefused::Memory),

@@ -1,7 +1,9 @@
+use crate::calls::{CallRule, broken_call};
 use crate::{Classes, CrossRefused, Definition, Macro, MacroLine, check};
+use model_script::{ScriptLine, ScriptSsa, ScriptSsas, Statement, Variable};
 use std::alloc::{AllocError, Global};
 use std::test::Fail;
-use tm_types::Name;
+use tm_types::{Function, Name};
 
 /// IMSCTRL, two macros and END, in lines 1 to 4.
 fn definition(alloc: Global, second: Macro, third: Macro) -> Result<Definition, AllocError> {
@@ -62,5 +64,74 @@ fn systems(rt: HostRuntime) -> Result<(), Fail> {
     assert!(rt; matches!(check(alloc, regions), Err(CrossRefused::BadCross(4, 17))));
     let text = format!(in alloc; "{}", CrossRefused::BadCross(4, 17))?;
     assert_eq!(rt; text.as_str(), "line 4 breaks cross rule 17");
+    Ok(())
+}
+
+fn call(
+    alloc: Global,
+    number: u32,
+    function: Function,
+    pcb: u8,
+    segment: Option<Name>,
+) -> Result<ScriptLine, Fail> {
+    let mut ssas = ScriptSsas::new(alloc);
+    if let Some(name) = segment {
+        ssas.push(ScriptSsa::Any(name))?;
+    }
+    let area = match function {
+        Function::PURG => None,
+        _ => Some(Variable::at(0)),
+    };
+    Ok(ScriptLine {
+        number,
+        statement: Statement::Call(function, pcb, area, ssas),
+    })
+}
+
+/// The PCBs for output have ISRT, PURG and CHNG, and no segments; a database PCB has the other calls.
+#[test]
+fn output_calls(rt: HostRuntime) -> Result<(), Fail> {
+    let alloc = rt.alloc();
+    let name = Name::read(b"T1").ok_or("no name")?;
+    let contents = [
+        Macro::DestinationPcb { destination: name },
+        Macro::ModifiablePcb,
+        Macro::DatabasePcb {
+            database: name,
+            options: 1,
+        },
+    ];
+    let mut pcbs = Vec::new(alloc);
+    for content in contents {
+        pcbs.push(MacroLine { number: 1, content })?;
+    }
+    let mut calls = Vec::new(alloc);
+    calls.push(call(alloc, 1, Function::CHNG, 2, None)?)?;
+    calls.push(call(alloc, 2, Function::ISRT, 2, None)?)?;
+    calls.push(call(alloc, 3, Function::PURG, 2, None)?)?;
+    calls.push(call(alloc, 4, Function::CHNG, 1, None)?)?;
+    calls.push(call(alloc, 5, Function::ROLB, 0, None)?)?;
+    assert_eq!(rt;
+        broken_call(CallRule::PcbMissing, &pcbs, &pcbs, &calls),
+        None
+    );
+    calls.push(call(alloc, 6, Function::ISRT, 1, Some(name))?)?;
+    assert_eq!(rt;
+        broken_call(CallRule::PcbMissing, &pcbs, &pcbs, &calls),
+        None
+    );
+    assert_eq!(rt;
+        broken_call(CallRule::SsaAstray, &pcbs, &pcbs, &calls),
+        Some(6)
+    );
+    assert_eq!(rt;
+        broken_call(CallRule::NoInsertPath, &pcbs, &pcbs, &calls),
+        None
+    );
+    calls.push(call(alloc, 7, Function::CHNG, 3, None)?)?;
+    assert_eq!(rt;
+        broken_call(CallRule::PcbMissing, &pcbs, &pcbs, &calls),
+        Some(7)
+    );
     Ok(())
 }

@@ -6,6 +6,7 @@ use Rattle.text_rows.specs.declared.rules.TheConstants.{UNKNOWN_MACRO, UNKNOWN_O
 use Rattle.text_rows.specs.Lines.{split_at}
 use Rattle.sysdef_text.specs.declared.kinds.Kind.{Kind}
 use Rattle.sysdef_text.specs.declared.kinds.Kind.TheVariants.{Control, Database, Segment, Application, Pcb, Transaction, Terminal, Region, End}
+use Rattle.sysdef_text.specs.Pcbs.{form_keys, form_of, pcb_keys}
 
 -- Rule 1: the name is one of these.
 unfoldable pub kind_of : List ℕ → Result Kind ℕ
@@ -23,9 +24,6 @@ kind_of name =
 
 abbrev pub segment_keys : List (List ℕ)
 segment_keys = codes "NAME" ∷ codes "PARENT" ∷ codes "KEY" ∷ codes "BYTES" ∷ []
-
-abbrev pub pcb_keys : List (List ℕ)
-pcb_keys = codes "TYPE" ∷ codes "DBDNAME" ∷ codes "PROCOPT" ∷ []
 
 abbrev pub transaction_keys : List (List ℕ)
 transaction_keys = codes "CODE" ∷ codes "MSGTYPE" ∷ codes "PRTY" ∷ codes "PROCLIM" ∷ codes "SEGNO" ∷ codes "SEGSIZE" ∷ codes "SERIAL" ∷ []
@@ -47,9 +45,13 @@ is_among words None = false
 is_among words (Some (word, value)) = list_any (bytes_eq word) words
 
 -- an operand without = has no key
-unfoldable pub has_key : Kind → List ℕ → Bool
-has_key kind operand = is_among (keys kind) (split_at 61 operand)
+unfoldable pub has_key : List (List ℕ) → List ℕ → Bool
+has_key words operand = is_among words (split_at 61 operand)
 
--- Rule 2: each operand has one of the macro's keys.
+abbrev pub known_among : List (List ℕ) → List (List ℕ) → Result (Unit {0}) ℕ
+known_among words operands = if list_all (has_key words) operands then Ok tt else Err UNKNOWN_OPERAND
+
+-- Rule 2: each operand has one of the macro's keys, or of the keys of the PCB's form.
 unfoldable pub known : Kind → List (List ℕ) → Result (Unit {0}) ℕ
-known kind operands = if list_all (has_key kind) operands then Ok tt else Err UNKNOWN_OPERAND
+known Pcb operands = known_among (form_keys (form_of operands)) operands
+known kind operands = known_among (keys kind) operands

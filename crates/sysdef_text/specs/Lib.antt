@@ -1,5 +1,6 @@
-pub mod Kinds
 pub mod Values
+pub mod Pcbs
+pub mod Kinds
 pub mod Rows
 pub mod Places
 pub mod Programs

@@ -1,7 +1,7 @@
 -- The table of macros: a row for each, with its operands and their defaults.
 use Rattle.std.specs.Prelude.{ℕ, Bool, false, List, [], ◌∷◌, codes, Option, Some, None, Result, Ok, Err}
 use Rattle.text_rows.specs.Lines.{split_at}
-use Rattle.text_rows.specs.Lowest.{both, also}
+use Rattle.text_rows.specs.Lowest.{both}
 use Rattle.text_rows.specs.Names.{name_of}
 use Rattle.text_rows.specs.Numbers.{number_between}
 use Rattle.text_rows.specs.Operands.{needed, or_as}
@@ -12,7 +12,8 @@ use Rattle.sysdef_check.specs.declared.definition.Macro.{Macro}
 use Rattle.sysdef_check.specs.declared.definition.Macro.TheVariants as macro
 use Rattle.sysdef_text.specs.declared.kinds.Kind.{Kind}
 use Rattle.sysdef_text.specs.declared.kinds.Kind.TheVariants.{Control, Database, Segment, Application, Pcb, Transaction, Terminal, Region, End}
-use Rattle.sysdef_text.specs.Values.{parent_of, pcb_type_of, options_of, message_type_of, priorities_of, limits_of, serial_of, classes_of}
+use Rattle.sysdef_text.specs.Pcbs.{pcb_row}
+use Rattle.sysdef_text.specs.Values.{parent_of, message_type_of, priorities_of, limits_of, serial_of, classes_of}
 
 -- IMSCTRL QBYTES, LOGS
 abbrev pub control_made : Result (ℕ × ℕ) ℕ → Result Macro ℕ
@@ -51,31 +52,6 @@ application_made (Err rule) = Err rule
 
 unfoldable pub application_row : List (List ℕ) → Result Macro ℕ
 application_row ops = application_made (needed (codes "PSB") name_of ops)
-
--- PCB TYPE, DBDNAME, PROCOPT
-abbrev pub pcb_made : Result (List ℕ × ℕ) ℕ → Result Macro ℕ
-pcb_made (Ok (database, options)) = Ok (macro.DatabasePcb database options)
-pcb_made (Err rule) = Err rule
-
--- whether a value is one, apart from which
-abbrev pub judged : {A : Type 0} → Result A ℕ → Result (Unit {0}) ℕ
-judged (Ok value) = Ok tt
-judged (Err rule) = Err rule
-
--- the operands that stand there, of which none is missing
-unfoldable pub standing_part : List (List ℕ) → Result (Unit {0}) ℕ
-standing_part ops = also (or_as (codes "DBDNAME") (λ text. judged (name_of text)) tt ops) (or_as (codes "PROCOPT") (λ text. judged (options_of text)) tt ops)
-
-unfoldable pub database_part : List (List ℕ) → Result (List ℕ × ℕ) ℕ
-database_part ops = both (needed (codes "DBDNAME") name_of ops) (needed (codes "PROCOPT") options_of ops)
-
--- Where TYPE isn't DB no other operand is missing.
-abbrev pub pcb_values : Result (Unit {0}) ℕ → List (List ℕ) → Result (List ℕ × ℕ) ℕ
-pcb_values (Ok _) ops = database_part ops
-pcb_values (Err rule) ops = also (Err rule) (standing_part ops)
-
-unfoldable pub pcb_row : List (List ℕ) → Result Macro ℕ
-pcb_row ops = pcb_made (pcb_values (needed (codes "TYPE") pcb_type_of ops) ops)
 
 -- NAME LTERM
 abbrev pub terminal_made : Result (List ℕ) ℕ → Result Macro ℕ

@@ -11,7 +11,7 @@ use Rattle.text_rows.specs.Numbers.{number_between}
 use Rattle.model_system.specs.declared.code.SegmentKind.{SegmentKind}
 use Rattle.model_system.specs.declared.code.SegmentKind.TheVariants.{Multiple, Single}
 
--- Rule 9: the words of MSGTYPE, SERIAL, TYPE and PROCOPT.
+-- Rule 9: the words of MSGTYPE, SERIAL, MODIFY and PROCOPT.
 unfoldable pub segment_kind_of : List ℕ → Result SegmentKind ℕ
 segment_kind_of word = if bytes_eq word (codes "MULTSEG") then Ok Multiple else (if bytes_eq word (codes "SNGLSEG") then Ok Single else Err WRONG_WORD)
 
@@ -29,9 +29,9 @@ named (Err rule) = Err rule
 unfoldable pub parent_of : List ℕ → Result (Option (List ℕ)) ℕ
 parent_of text = if bytes_eq text (codes "0") then Ok None else named (name_of text)
 
--- TYPE: DB
-unfoldable pub pcb_type_of : List ℕ → Result (Unit {0}) ℕ
-pcb_type_of word = if bytes_eq word (codes "DB") then Ok tt else Err WRONG_WORD
+-- MODIFY: YES
+unfoldable pub modify_of : List ℕ → Result (Unit {0}) ℕ
+modify_of word = if bytes_eq word (codes "YES") then Ok tt else Err WRONG_WORD
 
 -- one of the bytes is this letter
 abbrev pub has_letter : ℕ → List ℕ → Bool

@@ -2,7 +2,9 @@ ghost use Rattle.std.specs.Prelude.{◌≡◌};
 ghost use Rattle.std.specs.List.{list_any};
 ghost use Rattle.std.specs.Str.{bytes_eq};
 ghost use Rattle.sysdef_text.specs.Kinds as spec;
+ghost use Rattle.sysdef_text.specs.Pcbs as pcbs;
 
+use crate::pcbs::{PcbForm, form_of, is_form_key, is_pcb_key};
 use text_rows::rules::{UNKNOWN_MACRO, UNKNOWN_OPERAND};
 use text_rows::{Operands, is_word, split_at};
 
@@ -57,10 +59,40 @@ pub(crate) fn kind_of(name: &[u8]) -> Result<Kind, u8>
     }
 }
 
-/// Rule 2 where an operand isn't one of the macro's.
+/// Rule 2 where an operand isn't one of the macro's, or of the PCB's form.
 #[tactic(auto, unfolding(crate::specs::Kinds::known))]
 pub(crate) fn known(kind: Kind, operands: &Operands<'_>) -> Result<(), u8>
     ensures { result ≡ spec.known kind operands.now }
+{
+    match kind {
+        Kind::Pcb => known_in_form(form_of(operands), operands),
+        _ => known_keys(kind, operands),
+    }
+}
+
+fn known_in_form(form: Result<PcbForm, u8>, operands: &Operands<'_>) -> Result<(), u8>
+    ensures { result ≡ spec.known_among (pcbs.form_keys form) operands.now }
+{
+    for operand in operands.pieces() {
+        if !has_form_key(form, operand) {
+            return Err(UNKNOWN_OPERAND);
+        }
+    }
+    Ok(())
+}
+
+#[tactic(auto, unfolding(crate::specs::Kinds::has_key))]
+fn has_form_key(form: Result<PcbForm, u8>, operand: &[u8]) -> bool
+    ensures { result ≡ spec.has_key (pcbs.form_keys form) operand.now }
+{
+    match split_at(b'=', operand) {
+        Some((word, _)) => is_form_key(form, word),
+        None => false,
+    }
+}
+
+fn known_keys(kind: Kind, operands: &Operands<'_>) -> Result<(), u8>
+    ensures { result ≡ spec.known_among (spec.keys kind) operands.now }
 {
     for operand in operands.pieces() {
         if !has_key(kind, operand) {
@@ -72,7 +104,7 @@ pub(crate) fn known(kind: Kind, operands: &Operands<'_>) -> Result<(), u8>
 
 #[tactic(auto, unfolding(crate::specs::Kinds::has_key))]
 fn has_key(kind: Kind, operand: &[u8]) -> bool
-    ensures { result ≡ spec.has_key kind operand.now }
+    ensures { result ≡ spec.has_key (spec.keys kind) operand.now }
 {
     match split_at(b'=', operand) {
         Some((word, _)) => is_key(kind, word),
@@ -103,12 +135,6 @@ fn is_segment_key(word: &[u8]) -> bool
         || is_word(word, b"PARENT")
         || is_word(word, b"KEY")
         || is_word(word, b"BYTES")
-}
-
-fn is_pcb_key(word: &[u8]) -> bool
-    ensures { result ≡ list_any (bytes_eq word.now) spec.pcb_keys }
-{
-    is_word(word, b"TYPE") || is_word(word, b"DBDNAME") || is_word(word, b"PROCOPT")
 }
 
 fn is_transaction_key(word: &[u8]) -> bool

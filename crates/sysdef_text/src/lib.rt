@@ -7,10 +7,12 @@
 
 pub use kinds::Kind;
 pub use modes::{Mode, Step};
+pub use pcbs::PcbForm;
 pub use reader::{read_definition, read_definition_lines};
 
 mod kinds;
 mod modes;
+mod pcbs;
 mod places;
 mod programs;
 mod reader;

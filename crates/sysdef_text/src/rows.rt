@@ -8,18 +8,19 @@ ghost use Rattle.sysdef_text.specs.Values as values;
 ghost use Rattle.sysdef_text.specs.Rows as spec;
 
 use crate::Kind;
+use crate::pcbs::pcb_row;
 use crate::values::{
-    byte_between, classes_of, key_of, limits_of, message_type_of, options_of, parent_of,
-    pcb_type_of, priorities_of, serial_of, short_between,
+    byte_between, classes_of, key_of, limits_of, message_type_of, parent_of, priorities_of,
+    serial_of, short_between,
 };
 use sysdef_check::{Classes, KeyLength, Macro, SegmentKind, Transaction};
 use text_rows::rules::OPERAND_MISSING;
-use text_rows::{Operands, also, both, name_of, number_between, split_at};
+use text_rows::{Operands, both, name_of, number_between, split_at};
 use tm_types::Name;
 
 /// The name under a key that must be there.
 #[tactic(auto, unfolding(text_rows::specs::Operands::needed))]
-fn needed_name(key: &[u8], operands: &Operands<'_>) -> Result<Name, u8>
+pub(crate) fn needed_name(key: &[u8], operands: &Operands<'_>) -> Result<Name, u8>
     ensures { result ≡ needed key.now names.name_of operands.now }
 {
     match operands.only_value(key)? {
@@ -85,55 +86,6 @@ fn bytes(operands: &Operands<'_>) -> Result<u16, u8>
     match operands.only_value(b"BYTES")? {
         Some(text) => short_between(1, 1900, text),
         None => Err(OPERAND_MISSING),
-    }
-}
-
-#[tactic(auto, unfolding(text_rows::specs::Operands::needed))]
-fn pcb_type(operands: &Operands<'_>) -> Result<(), u8>
-    ensures { result ≡ needed (codes "TYPE") values.pcb_type_of operands.now }
-{
-    match operands.only_value(b"TYPE")? {
-        Some(text) => pcb_type_of(text),
-        None => Err(OPERAND_MISSING),
-    }
-}
-
-#[tactic(auto, unfolding(text_rows::specs::Operands::needed))]
-fn options(operands: &Operands<'_>) -> Result<u8, u8>
-    ensures { result ≡ needed (codes "PROCOPT") values.options_of operands.now }
-{
-    match operands.only_value(b"PROCOPT")? {
-        Some(text) => options_of(text),
-        None => Err(OPERAND_MISSING),
-    }
-}
-
-fn judged<A: Drop>(value: Result<A, u8>) -> Result<(), u8>
-    ensures { result ≡ spec.judged value }
-{
-    match value {
-        Ok(_) => Ok(()),
-        Err(rule) => Err(rule),
-    }
-}
-
-#[tactic(auto, unfolding(text_rows::specs::Operands::or_as))]
-fn standing_database(operands: &Operands<'_>) -> Result<(), u8>
-    ensures { result ≡ or_as (codes "DBDNAME") (λ text. spec.judged (names.name_of text)) tt operands.now }
-{
-    match operands.only_value(b"DBDNAME")? {
-        Some(text) => judged(name_of(text)),
-        None => Ok(()),
-    }
-}
-
-#[tactic(auto, unfolding(text_rows::specs::Operands::or_as))]
-fn standing_options(operands: &Operands<'_>) -> Result<(), u8>
-    ensures { result ≡ or_as (codes "PROCOPT") (λ text. spec.judged (values.options_of text)) tt operands.now }
-{
-    match operands.only_value(b"PROCOPT")? {
-        Some(text) => judged(options_of(text)),
-        None => Ok(()),
     }
 }
 
@@ -248,38 +200,6 @@ fn segment_row(operands: &Operands<'_>) -> Result<Macro, u8>
         key,
         bytes,
     })
-}
-
-#[tactic(auto, unfolding(crate::specs::Rows::standing_part))]
-fn standing_part(operands: &Operands<'_>) -> Result<(), u8>
-    ensures { result ≡ spec.standing_part operands.now }
-{
-    also(standing_database(operands), standing_options(operands))
-}
-
-#[tactic(auto, unfolding(crate::specs::Rows::database_part))]
-fn database_part(operands: &Operands<'_>) -> Result<(Name, u8), u8>
-    ensures { result ≡ spec.database_part operands.now }
-{
-    both(needed_name(b"DBDNAME", operands), options(operands))
-}
-
-/// The values of a PCB. Where its TYPE is refused no other operand is missing.
-fn pcb_values(of_type: Result<(), u8>, operands: &Operands<'_>) -> Result<(Name, u8), u8>
-    ensures { result ≡ spec.pcb_values of_type operands.now }
-{
-    match of_type {
-        Ok(()) => database_part(operands),
-        Err(rule) => also(Err(rule), standing_part(operands)),
-    }
-}
-
-#[tactic(auto, unfolding(crate::specs::Rows::pcb_row))]
-fn pcb_row(operands: &Operands<'_>) -> Result<Macro, u8>
-    ensures { result ≡ spec.pcb_row operands.now }
-{
-    let (database, options) = pcb_values(pcb_type(operands), operands)?;
-    Ok(Macro::DatabasePcb { database, options })
 }
 
 #[tactic(auto, unfolding(crate::specs::Rows::application_row))]

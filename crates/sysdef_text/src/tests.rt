@@ -44,7 +44,21 @@ fn lines(rt: HostRuntime) -> Result<(), Fail> {
             b"PCB TYPE=DB,DBDNAME=D,PROCOPT=DRIG\nTRANSACT CODE=C".as_slice(),
             0,
         ),
-        (b"PCB TYPE=TP,LTERM=T1".as_slice(), 2),
+        (b"PCB TYPE=TP,LTERM=T1\nTRANSACT CODE=C".as_slice(), 0),
+        (b"PCB MODIFY=YES,TYPE=TP\nPCB TYPE=TP,LTERM=C".as_slice(), 0),
+        (b"PCB TYPE=TP,LTERM=T1,DBDNAME=D".as_slice(), 2),
+        (b"PCB TYPE=DB,DBDNAME=D,PROCOPT=A,LTERM=T1".as_slice(), 2),
+        (b"PCB TYPE=DB,DBDNAME=D,MODIFY=YES".as_slice(), 2),
+        (b"PCB TYPE=TP,LTERM=T1,MODIFY=YES".as_slice(), 2),
+        (b"PCB TYPE=TP,MODIFY=NO,LTERM=t1".as_slice(), 2),
+        (b"PCB TYPE=TP,LTERM=T1,LTERM=T1".as_slice(), 3),
+        (b"PCB LTERM=T1".as_slice(), 4),
+        (b"PCB TYPE=TP".as_slice(), 4),
+        (b"PCB TYPE=TP,LTERM=t1".as_slice(), 7),
+        (b"PCB TYPE=IO,LTERM=t1".as_slice(), 7),
+        (b"PCB TYPE=IO".as_slice(), 9),
+        (b"PCB TYPE=IO,LTERM=T1,MODIFY=YES,DBDNAME=D".as_slice(), 9),
+        (b"PCB TYPE=TP,MODIFY=NO".as_slice(), 9),
         (b"PCB DBDNAME=D,PROCOPT=A".as_slice(), 4),
         (b"PCB TYPE=DB,DBDNAME=D".as_slice(), 4),
         (b"DBD NAME=D\nSEGM NAME=R,KEY=33,BYTES=1901".as_slice(), 4),
@@ -57,7 +71,6 @@ fn lines(rt: HostRuntime) -> Result<(), Fail> {
             b"DBD NAME=D\nSEGM NAME=R,PARENT=a,KEY=4,BYTES=12".as_slice(),
             7,
         ),
-        (b"PCB TYPE=TP".as_slice(), 9),
         (b"PCB TYPE=DB,DBDNAME=D,PROCOPT=AG".as_slice(), 9),
         (b"PCB TYPE=DB,DBDNAME=D,PROCOPT=GIG".as_slice(), 9),
         (b"SEGM NAME=R,PARENT=0,KEY=4,BYTES=12".as_slice(), 10),
@@ -233,9 +246,14 @@ fn system(rt: HostRuntime) -> Result<(), Fail> {
     let echo = Name::read(b"ECHO").ok_or("no name")?;
     let place = codes.place_of(&echo).ok_or("no place")?;
     assert_eq!(rt; codes.states()[place].priority, 5);
+    assert_eq!(rt; system.code_place(&echo), Some(0));
+    let code = system.code(&echo).ok_or("no code")?;
+    assert_eq!(rt; code.psb.as_bytes(), b"ECHOP".as_slice());
     codes.set_raised(place, true);
     let none = Name::read(b"NONE").ok_or("no name")?;
     assert_eq!(rt; codes.place_of(&none), None);
+    assert_eq!(rt; system.code_place(&none), None);
+    assert!(rt; system.code(&none).is_none());
     Ok(())
 }
 
@@ -335,6 +353,22 @@ fn database_rules(rt: HostRuntime) -> Result<(), Fail> {
             (7, 7),
         ),
         (
+            b"APPLCTN PSB=P\nPCB TYPE=TP,LTERM=T\nPCB TYPE=DB,DBDNAME=E,PROCOPT=A".as_slice(),
+            (8, 7),
+        ),
+        (
+            b"APPLCTN PSB=P\nPCB TYPE=TP,LTERM=D\nTRANSACT CODE=C\nTRANSACT CODE=C".as_slice(),
+            (7, 8),
+        ),
+        (
+            b"APPLCTN PSB=P\nPCB TYPE=TP,LTERM=T\nPCB TYPE=TP,LTERM=C\nTRANSACT CODE=C\nNAME LTERM=T".as_slice(),
+            (6, 11),
+        ),
+        (
+            b"APPLCTN PSB=P\nPCB TYPE=TP,MODIFY=YES\nPCB TYPE=TP,MODIFY=YES\nPCB TYPE=TP,MODIFY=YES\nPCB TYPE=TP,LTERM=T\nPCB TYPE=TP,LTERM=T\nPCB TYPE=TP,LTERM=T\nPCB TYPE=DB,DBDNAME=D,PROCOPT=A\nPCB TYPE=DB,DBDNAME=D,PROCOPT=A\nPCB TYPE=TP,LTERM=T\nPROGRAM P\nENDPROG\nNAME LTERM=T\nREGION CLASS=(1)".as_slice(),
+            (15, 17),
+        ),
+        (
             b"NAME LTERM=T\nREGION CLASS=(1)\nREGION CLASS=(1)".as_slice(),
             (8, 19),
         ),
@@ -373,12 +407,33 @@ fn call_rules(rt: HostRuntime) -> Result<(), Fail> {
     Ok(())
 }
 
-/// A system of one database, on which a program has a PCB.
+/// Calls on a PCB of each form for output, which stand in line 12 and behind, and what they break first.
+#[test]
+fn output_rules(rt: HostRuntime) -> Result<(), Fail> {
+    let table = [
+        (b"CALL ISRT 1 A\nCALL ISRT 2 A".as_slice(), (0, 0)),
+        (b"CALL ISRT 1 A\nCALL GU 2 A".as_slice(), (13, 13)),
+        (b"CALL ISRT 1 A A\nCALL DLET 1".as_slice(), (13, 13)),
+        (b"CALL ISRT 3 A".as_slice(), (12, 13)),
+        (b"CALL ISRT 2 A\nCALL ISRT 2 A A".as_slice(), (13, 14)),
+    ];
+    for (calls, want) in table {
+        let found = body_refusal(
+            rt.alloc(),
+            b"NAME LTERM=T\nREGION CLASS=(1)\nAPPLCTN PSB=P\nPCB TYPE=TP,MODIFY=YES\nPCB TYPE=TP,LTERM=T\nPROGRAM P\n",
+            calls,
+        )?;
+        assert_eq!(rt; found, want);
+    }
+    Ok(())
+}
+
+/// A system of one database, on which a program has a PCB beside two for output.
 #[test]
 fn databases(rt: HostRuntime) -> Result<(), Fail> {
     let system = system_of(
         rt.alloc(),
-        b"IMSCTRL\nAPPLCTN PSB=P\nPCB TYPE=DB,DBDNAME=D,PROCOPT=DI\nDBD NAME=D,ROOTS=100\nSEGM NAME=A,PARENT=0,KEY=4,BYTES=12\nSEGM NAME=B,PARENT=A,KEY=2,BYTES=2\nNAME LTERM=T\nREGION CLASS=(1)\nPROGRAM P\nCALL GNP 1 A\nENDPROG\nEND\n",
+        b"IMSCTRL\nAPPLCTN PSB=P\nPCB TYPE=DB,DBDNAME=D,PROCOPT=DI\nPCB TYPE=TP,LTERM=T\nPCB TYPE=TP,MODIFY=YES\nDBD NAME=D,ROOTS=100\nSEGM NAME=A,PARENT=0,KEY=4,BYTES=12\nSEGM NAME=B,PARENT=A,KEY=2,BYTES=2\nNAME LTERM=T\nREGION CLASS=(1)\nPROGRAM P\nCALL GNP 1 A\nENDPROG\nEND\n",
     )?;
     let database = system.databases().first().ok_or("no database")?;
     assert_eq!(rt; database.name.as_bytes(), b"D".as_slice());
@@ -388,5 +443,10 @@ fn databases(rt: HostRuntime) -> Result<(), Fail> {
     let program = system.programs().first().ok_or("no program")?;
     let pcb = program.pcbs.numbered(1).ok_or("no PCB")?;
     assert!(rt; matches!(pcb, Pcb::Database(1, 11)));
+    let Some(Pcb::Destination(terminal)) = program.pcbs.numbered(2) else {
+        return Err(Fail::from("no destination"));
+    };
+    assert_eq!(rt; terminal.as_bytes(), b"T".as_slice());
+    assert!(rt; matches!(program.pcbs.numbered(3), Some(Pcb::Modifiable)));
     Ok(())
 }

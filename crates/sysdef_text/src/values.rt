@@ -89,12 +89,12 @@ pub(crate) fn key_of(text: &[u8]) -> Result<KeyLength, u8>
     }
 }
 
-/// TYPE: only DB is there.
-#[tactic(auto, unfolding(crate::specs::Values::pcb_type_of))]
-pub(crate) fn pcb_type_of(word: &[u8]) -> Result<(), u8>
-    ensures { result ≡ spec.pcb_type_of word.now }
+/// MODIFY: only YES is there.
+#[tactic(auto, unfolding(crate::specs::Values::modify_of))]
+pub(crate) fn modify_of(word: &[u8]) -> Result<(), u8>
+    ensures { result ≡ spec.modify_of word.now }
 {
-    if is_word(word, b"DB") {
+    if is_word(word, b"YES") {
         Ok(())
     } else {
         Err(WRONG_WORD)

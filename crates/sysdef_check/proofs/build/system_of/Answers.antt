@@ -16,12 +16,12 @@ pub databases_in-requires-clause-keys : goal.databases_in-requires-clause-keys
 databases_in-requires-clause-keys c = rw c.deref-2.ensures.value (rule_kept c.args.lines.items 3 (OfSegments KeyTooLong) c.requires.kept refl)
 
 pub databases_in-requires-clause-counts : goal.databases_in-requires-clause-counts
-databases_in-requires-clause-counts c = rw c.deref-2.ensures.value (rule_kept c.args.lines.items 14 WrongCount c.requires.kept refl)
+databases_in-requires-clause-counts c = rw c.deref-2.ensures.value (rule_kept c.args.lines.items 15 WrongCount c.requires.kept refl)
 
 pub pcb_lists-requires : goal.pcb_lists-requires
 pcb_lists-requires c =
     let made = rw c.deref-2.ensures.value at c.in_ok-databases.ensures.value in
-    let few = few_databases c.args.lines.items (rule_kept c.args.lines.items 14 WrongCount c.requires.kept refl) in
+    let few = few_databases c.args.lines.items (rule_kept c.args.lines.items 15 WrongCount c.requires.kept refl) in
     rw (c.deref-6.ensures.value, made) (omega (arith, few))
 
 -- there is no database, or one region at most
@@ -32,12 +32,14 @@ one_of databases regions lines d r h = rw (d, r) h
 pub invariant_of-result : goal.invariant_of-result
 invariant_of-result c =
     let made = rw c.deref-2.ensures.value at c.in_ok-databases.ensures.value in
-    let regions = rw c.deref-5.ensures.value at c.in_ok-regions.ensures in
-    record {
-      few_types = c.in_ok-databases.ensures.few_types;
-      one_region = one_of c.in_ok-databases.databases.items c.in_ok-regions.regions.items c.args.lines.items made regions
-          (one_region c.args.lines.items (rule_kept c.args.lines.items 15 SecondRegion c.requires.kept refl));
-    }
+    let regions = rw c.deref-5.ensures.value at c.in_ok-regions.ensures in (
+      record {
+        few_types = c.in_ok-databases.ensures.few_types;
+        one_region = one_of c.in_ok-databases.databases.items c.in_ok-regions.regions.items c.args.lines.items made regions
+            (one_region c.args.lines.items (rule_kept c.args.lines.items 16 SecondRegion c.requires.kept refl));
+      },
+      rw c.deref-8.ensures.value at c.in_ok-codes_by_name.ensures,
+    )
 
 pub returns : goal.returns
 returns c =
