@@ -1,8 +1,9 @@
 //! Database calls on the rows of a database, however they are kept.
 #![tactic(auto)]
 
-pub use calls::{perform, would_change};
+pub use calls::{perform, plan, would_change};
 pub use model_dli::{DbCall, Performed, Position};
+pub use planned::{Edit, Planned};
 
 mod asked;
 mod calls;
@@ -10,6 +11,7 @@ mod change;
 mod edit;
 mod get;
 mod inserting;
+mod planned;
 mod search;
 #[cfg(test)]
 mod tests;

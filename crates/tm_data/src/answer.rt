@@ -11,7 +11,7 @@ pub struct Answered {
     pub position: Position,
 }
 
-/// What a call on a unit's databases leads to.
+/// What a call on the databases leads to.
 #[derive(Debug, Drop)]
 pub enum DataAnswer {
     Answered(Answered),
