@@ -1,12 +1,16 @@
 -- How a call of a script is answered, and what that leaves of the work.
-use Rattle.std.specs.Prelude.{◌≡◌, ◌-◌, Option, Some, None, List, length, slice_set}
+use Rattle.std.specs.Prelude.{◌≡◌, ℕ, ◌-◌, Some, None, length, replicate, slice_set}
 use Rattle.model_script.specs.Script.{Answer, moved_on}
 use Rattle.model_script.specs.declared.need.CallText.{CallText}
 use Rattle.model_system.specs.System.{System}
+use Rattle.model_message.specs.Work.{MessageWork}
+use Rattle.model_message.specs.Calls.{unique_answer, reset_work}
+use Rattle.model_dli.specs.Data.{nowhere}
 use Rattle.model_machine.specs.Unit.{Reached, answer_at, work_at, data_at, abend_at}
 use Rattle.script_run.specs.Running.{Running}
 use Rattle.tm_types.specs.declared.status.Status.{Status}
 use Rattle.tm_data.specs.State.{DatabasesState, rows_of, data_of}
+use Rattle.tm_data.specs.declared.answer.Answered.{Answered as DataAnswered}
 use Rattle.tm_unit.specs.UnitState.{UnitState}
 use Rattle.tm_unit.specs.declared.answer.CallEnd.{CallEnd}
 use Rattle.tm_unit.specs.declared.answer.CallEnd.TheVariants.{Answered, Abended}
@@ -31,3 +35,26 @@ abbrev pub ComesTo : System → Reached → DatabasesState → DatabasesState �
 ComesTo system target before after old new call (Answered status) = Answers system target before after old new call status
 ComesTo system target before after old new call (Abended abend) =
     (new ≡ old) × (after ≡ before) × (abend_at target (data_of before old.positions) call ≡ Some abend)
+
+-- The script was answered with this, and told its status, and the message's work is this one.
+pub record Serves (answer : Answer) (work : MessageWork) (old new : UnitState) (status : Status) : Type 0 where
+  pub told : status ≡ answer.status
+  pub state : new ≡ record old { machine = answered_machine old.machine answer; work = work }
+
+-- The same at a ROLB, which leaves each PCB nowhere.
+pub record RollsBack (old new : UnitState) (status : Status) : Type 0 where
+  pub told : status ≡ (unique_answer old.work).status
+  pub state : new ≡ record {
+    calls = old.calls;
+    machine = answered_machine old.machine (unique_answer old.work);
+    work = reset_work old.work;
+    positions = replicate (length old.positions) nowhere;
+  }
+
+-- the script was answered with what a call on a database gave, and the PCB stands where it then does
+pub record Tells (pcb : ℕ) (given : DataAnswered) (old new : UnitState) (told : CallEnd) : Type 0 where
+  pub answer : told ≡ Answered given.status
+  pub state : new ≡ record old {
+    machine = answered_machine old.machine (record { status = given.status; area = given.area });
+    positions = slice_set old.positions (pcb - 1) given.position;
+  }
