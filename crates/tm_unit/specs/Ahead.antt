@@ -1,5 +1,5 @@
 -- A region's work is what as many calls of its script, made from the start, lead to.
-use Rattle.std.specs.Prelude.{◌≡◌, ℕ, ◌+◌, ⊤, Some, List, [], length}
+use Rattle.std.specs.Prelude.{◌≡◌, ◌+◌, ⊤, Some, List, [], length}
 use Rattle.std.specs.Option.{option_and_then}
 use Rattle.tm_types.specs.declared.message.Message.{Message}
 use Rattle.model_script.specs.declared.program.ScriptLine.{ScriptLine}

@@ -1,4 +1,4 @@
-use Rattle.std.proofs.Common.{◌≡◌, ◌++◌, length, replicate, take, drop}
+use Rattle.std.proofs.Common.{◌≡◌, length, replicate, take}
 use Rattle.model_dli.specs.Data.{nowhere}
 use Rattle.tm_unit.proofs.answer.leave_each.Given as goal
 
