@@ -9,5 +9,3 @@ mod answer;
 mod databases;
 mod guard;
 mod making;
-#[cfg(test)]
-mod tests;
