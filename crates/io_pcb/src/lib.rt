@@ -4,9 +4,9 @@
 pub use output::Output;
 pub use work::{Got, Work};
 
-mod call;
 mod destinations;
 mod output;
+mod outputs;
 mod pcbs;
 #[cfg(test)]
 mod tests;

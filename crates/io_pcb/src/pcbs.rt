@@ -1,7 +1,6 @@
 //! The PCBs within the work on a message.
 ghost use Rattle.std.specs.Prelude.{◌≡◌, ◌+◌, ◌≤◌, ◌<◌, ◌++◌, Some, false, IsSome, IsTrue, IfOk, OnOk, OnErr, length, map, slice_get};
 ghost use Rattle.std.specs.Option.{option_map_or};
-ghost use Rattle.std.specs.List.{flat_map};
 ghost use Rattle.std.specs.Vec.{vec_capacity};
 ghost use Rattle.model_message.specs.Work.{fresh_pcb, fresh_pcbs, destination_of, ended_to, ended_by, without_message};
 ghost use Rattle.model_message.specs.Calls.{with_segment, with_chosen, can_change, reset_pcb, ended_at, destination_at};
@@ -36,7 +35,7 @@ pub fn fresh_pcbs(alloc: Global, origin: Name, kinds: &[Pcb]) -> Result<Vec<Open
 }
 
 /// Where a message by the PCB goes.
-fn destination(opened: &OpenPcb) -> Option<Name>
+pub fn destination(opened: &OpenPcb) -> Option<Name>
     ensures { result ≡ destination_of opened.now }
 {
     match &opened.kind {
@@ -95,11 +94,9 @@ fn choose(opened: &mut OpenPcb, to: Name)
 
 /// Ends the message under construction, if there is one. There is room for it.
 fn end_message(alloc: Global, opened: &mut OpenPcb, ended: &mut Vec<Ended>)
-    requires room { length ended.old.items < vec_capacity ended.old }
+    requires { length ended.old.items < vec_capacity ended.old }
     ensures pcb { opened.new ≡ without_message opened.old }
     ensures ended { ended.new.items ≡ ended.old.items ++ ended_by opened.old }
-    ensures more { length ended.new.items ≤ length ended.old.items + 1 }
-    ensures capacity { vec_capacity ended.new ≡ vec_capacity ended.old }
 {
     let to = destination(opened);
     let segments = mem::replace(&mut opened.segments, Segments::new(alloc));
@@ -107,10 +104,8 @@ fn end_message(alloc: Global, opened: &mut OpenPcb, ended: &mut Vec<Ended>)
 }
 
 fn add_ended(ended: &mut Vec<Ended>, to: Option<Name>, segments: Segments)
-    requires room { length ended.old.items < vec_capacity ended.old }
-    ensures ended { ended.new.items ≡ ended.old.items ++ ended_to to segments }
-    ensures more { length ended.new.items ≤ length ended.old.items + 1 }
-    ensures capacity { vec_capacity ended.new ≡ vec_capacity ended.old }
+    requires { length ended.old.items < vec_capacity ended.old }
+    ensures { ended.new.items ≡ ended.old.items ++ ended_to to segments }
 {
     let Some(to) = to else {
         return;
@@ -149,17 +144,6 @@ pub fn end_at(alloc: Global, pcbs: &mut Vec<OpenPcb>, ended: &mut Vec<Ended>, pc
     ensures ended { ended.new.items ≡ ended.old.items ++ ended_at pcbs.old.items pcb }
 {
     end_message(alloc, &mut pcbs[usize::from(pcb)], ended);
-}
-
-/// Ends each message under construction, in the order of the PCBs. There is room for as many.
-pub fn end_each(alloc: Global, pcbs: &mut Vec<OpenPcb>, ended: &mut Vec<Ended>)
-    requires room { length ended.old.items + length pcbs.old.items ≤ vec_capacity ended.old }
-    ensures pcbs { pcbs.new.items ≡ map without_message pcbs.old.items }
-    ensures ended { ended.new.items ≡ ended.old.items ++ flat_map ended_by pcbs.old.items }
-{
-    for opened in pcbs.iter_mut() {
-        end_message(alloc, opened, ended);
-    }
 }
 
 /// Takes back what was done by each PCB. This takes no memory.

@@ -1,4 +1,5 @@
 use super::*;
+use model_message::Ended;
 use model_system::{Classes, Pcb, Pcbs, SegmentKind, Transaction};
 use std::alloc::Global;
 use std::test::Fail;
@@ -87,9 +88,9 @@ fn call(
     }
 }
 
-/// What the ended message at this place is: its destination and its first segment.
-fn is_output(work: &Work, place: u32, to: &[u8], text: &[u8]) -> bool {
-    match work.output(place) {
+/// Whether the message goes to this destination and begins with this segment.
+fn is_ended(message: Option<&Ended>, to: &[u8], text: &[u8]) -> bool {
+    match message {
         Some(output) => match output.segments.get(0) {
             Some(segment) => output.to.as_bytes() == to && segment.text() == text,
             None => false,
@@ -125,11 +126,13 @@ fn answers_a_script_of_calls(rt: HostRuntime) -> Result<(), Fail> {
         let given = call(rt.alloc(), &mut work, &system, *function, *pcb, *text)?;
         assert_eq!(rt; given, *status);
     }
-    work.finish()?;
-    assert!(rt; is_output(&work, 0, b"T2", b"Q"));
-    assert!(rt; is_output(&work, 1, b"T1", b"R"));
-    assert!(rt; is_output(&work, 2, b"T2", b"P"));
-    assert!(rt; work.output(3).is_none());
+    let outputs = work.outputs()?;
+    assert!(rt; is_ended(outputs.get(0), b"T2", b"Q"));
+    assert!(rt; is_ended(outputs.get(1), b"T1", b"R"));
+    assert!(rt; is_ended(outputs.get(2), b"T2", b"P"));
+    assert!(rt; outputs.get(3).is_none());
+    assert!(rt; work.output(0).is_some());
+    assert!(rt; work.output(1).is_none());
     Ok(())
 }
 

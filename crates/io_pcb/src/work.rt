@@ -7,10 +7,11 @@ ghost use Rattle.model_message.specs.Calls.{unique_answer, unique_work, next_ans
 ghost use Rattle.io_pcb.specs.Shown.{shown};
 
 use crate::destinations::{destination_named, without_blanks};
-use crate::{Output, pcbs};
+use crate::{Output, outputs, pcbs};
 use model_message::{Ended, OpenPcb};
 use model_system::{Pcbs, Transaction};
 use std::alloc::Global;
+use std::collections::VecDeque;
 use std::marker::Model;
 use sysdef_check::System;
 use tm_types::{Memory, Message, Segment, Segments, Status};
@@ -27,7 +28,7 @@ pub struct Got {
 #[derive(Debug, Drop)]
 pub struct Work {
     alloc: Global,
-    pub(crate) segments: Segments,
+    segments: Segments,
     /// Whether the script has got the first segment.
     begun: bool,
     /// The place of the segment that is given next.
@@ -77,36 +78,72 @@ impl Work {
         })
     }
 
-    /// The first segment.
+    /// The first segment, which a GU gives.
+    pub fn first(&self) -> Option<&Segment>
+        ensures { option_copied result ≡ slice_get self.now.segments 0 }
+    {
+        self.segments.get(0)
+    }
+
+    /// The segment that a GN gives: the next one behind those that were given. Before a GU or a reset
+    /// there is none.
+    pub fn next(&self) -> Option<&Segment>
+        ensures { given (option_copied result) ≡ next_answer self.now }
+    {
+        if !self.begun {
+            return None;
+        }
+        self.segments.get(self.place)
+    }
+
+    /// Whether the first segment was given.
+    pub fn has_begun(&self) -> bool
+        ensures { result ≡ self.now.begun }
+    {
+        self.begun
+    }
+
+    /// Stands behind the first segment, which was given.
+    pub fn begin(&mut self)
+        ensures { self.new ≡ unique_work self.old }
+    {
+        self.begun = true;
+        self.place = 1;
+    }
+
+    /// Stands behind the next segment, if there is one, which was given.
+    pub fn go_on(&mut self)
+        ensures { self.new ≡ next_work self.old }
+    {
+        if !self.begun {
+            return;
+        }
+        if self.place < self.segments.len() {
+            self.place += 1;
+        }
+    }
+
+    /// A copy of the first segment, which is given.
     pub fn get_unique(&mut self) -> Result<Got, Memory>
         ensures status { IfOk result (λ got. got.status ≡ (unique_answer self.old).status) }
         ensures text { IfOk result (λ got. got.text ≡ (unique_answer self.old).area) }
         ensures work { OnOk result (self.new ≡ unique_work self.old) }
         ensures err { OnErr result (self.new ≡ self.old) }
     {
-        let got = give(&self.segments, 0)?;
-        self.begun = true;
-        self.place = 1;
+        let got = give(self.first())?;
+        self.begin();
         Ok(got)
     }
 
-    /// The next segment behind those that were given, or QD where there is none.
+    /// A copy of the next segment behind those that were given, or QD where there is none.
     pub fn get_next(&mut self) -> Result<Got, Memory>
         ensures status { IfOk result (λ got. got.status ≡ (next_answer self.old).status) }
         ensures text { IfOk result (λ got. got.text ≡ (next_answer self.old).area) }
         ensures work { OnOk result (self.new ≡ next_work self.old) }
         ensures err { OnErr result (self.new ≡ self.old) }
     {
-        if !self.begun {
-            return Ok(Got {
-                status: Status::QD,
-                text: None,
-            });
-        }
-        let got = give(&self.segments, self.place)?;
-        if self.place < self.segments.len() {
-            self.place += 1;
-        }
+        let got = give(self.next())?;
+        self.go_on();
         Ok(got)
     }
 
@@ -178,21 +215,15 @@ impl Work {
         self.inserted = 0;
     }
 
-    /// Ends each message under construction, in the order of the PCBs.
-    pub fn finish(&mut self) -> Result<(), Memory>
-        ensures ok { OnOk result (self.new ≡ finish_work self.old) }
-        ensures err { OnErr result (self.new ≡ self.old) }
+    /// A copy of what is sent at the sync point: the messages that were ended, and then those under
+    /// construction, in the order of the PCBs.
+    pub fn outputs(&self) -> Result<VecDeque<Ended>, Memory>
+        ensures { IfOk result (λ outputs. outputs.items ≡ (finish_work self.now).ended) }
     {
-        self.ended.reserve(self.pcbs.len())?;
-        pcbs::end_each(self.alloc, &mut self.pcbs, &mut self.ended);
-        Ok(())
-    }
-
-    /// The first segment, which is given after a reset.
-    pub fn first(&self) -> Option<&Segment>
-        ensures { option_copied result ≡ slice_get self.now.segments 0 }
-    {
-        self.segments.get(0)
+        let mut outputs = VecDeque::new(self.alloc);
+        outputs::add_each(&self.ended, &mut outputs)?;
+        outputs::add_each_open(&self.pcbs, &mut outputs)?;
+        Ok(outputs)
     }
 
     /// The ended message at this place, counted from 0; None exactly past the last.
@@ -209,12 +240,12 @@ impl Work {
     }
 }
 
-/// The segment at this place with a blank status, or QD where there is none.
-pub(crate) fn give(segments: &Segments, place: usize) -> Result<Got, Memory>
-    ensures status { IfOk result (λ got. got.status ≡ (given (slice_get segments.now place)).status) }
-    ensures text { IfOk result (λ got. got.text ≡ (given (slice_get segments.now place)).area) }
+/// A copy of the segment with a blank status, or QD where there is none.
+fn give(segment: Option<&Segment>) -> Result<Got, Memory>
+    ensures status { IfOk result (λ got. got.status ≡ (given (option_copied segment.entry)).status) }
+    ensures text { IfOk result (λ got. got.text ≡ (given (option_copied segment.entry)).area) }
 {
-    match segments.get(place) {
+    match segment {
         Some(segment) => Ok(Got {
             status: Status::Blank,
             text: Some(segment.clone()?),

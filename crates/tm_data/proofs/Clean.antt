@@ -1,9 +1,9 @@
 -- Stores of which nothing was changed.
-use Rattle.std.proofs.Common.{◌≡◌, List, [], ap, ◌∙◌, subst, sym}
+use Rattle.std.proofs.Common.{◌≡◌, ℕ, suc, List, [], ◌∷◌, map, ap, refl, ◌∙◌, subst, sym}
 use Rattle.seg_store.specs.Slots.{Stored}
 use Rattle.unit_work.specs.declared.change.Change.{Change}
 use Rattle.unit_work.specs.Changes.{Changes, no_changes}
-use Rattle.unit_work.specs.BackOut.{backed_from, backed_out, CanBackOut}
+use Rattle.unit_work.specs.BackOut.{cleared_from, backed_from, backed_out, CanBackOut}
 use Rattle.unit_work.proofs.Backing.{none_cleared, none_backed}
 use Rattle.tm_data.specs.State.{DatabasesState, roots_of}
 
@@ -28,3 +28,15 @@ clean changes stores given e g =
 
 pub can_clean : (changes : Changes) (stores : List Stored) → changes ≡ no_changes → CanBackOut changes.records stores
 can_clean changes stores e = subst (λ (ch : Changes). CanBackOut ch.records stores) (sym e) (record { stored = tt; fits = tt; apart = tt })
+
+-- backing out leaves the databases' definitions
+cleared_dbds : (records : List Change) (n : ℕ) (stores : List Stored) → map (λ s. s.dbd) (cleared_from records n stores) ≡ map (λ s. s.dbd) stores
+cleared_dbds records n [] = refl
+cleared_dbds records n (s ∷ stores) = ap (λ dbds. s.dbd ∷ dbds) (cleared_dbds records (suc n) stores)
+
+backed_dbds : (records : List Change) (n : ℕ) (stores : List Stored) → map (λ s. s.dbd) (backed_from records n stores) ≡ map (λ s. s.dbd) stores
+backed_dbds records n [] = refl
+backed_dbds records n (s ∷ stores) = ap (λ dbds. s.dbd ∷ dbds) (backed_dbds records (suc n) stores)
+
+pub same_dbds : (records : List Change) (stores : List Stored) → map (λ s. s.dbd) (backed_out records stores) ≡ map (λ s. s.dbd) stores
+same_dbds records stores = backed_dbds records 1 (cleared_from records 1 stores) ∙ cleared_dbds records 1 stores

@@ -98,7 +98,8 @@ impl Databases {
     /// Takes back all changes since the last commit, each record to the slot that it had. This takes
     /// no memory.
     pub fn back_out(&mut self)
-        ensures { self.new ≡ record { committed = self.old.committed; stores = self.old.committed; changed = [] } }
+        ensures backed { self.new ≡ record { committed = self.old.committed; stores = self.old.committed; changed = [] } }
+        ensures databases { dbds_of self.new ≡ dbds_of self.old }
     {
         self.changes.back_out(&mut self.stores);
     }

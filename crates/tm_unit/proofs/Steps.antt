@@ -1,28 +1,29 @@
 -- A region's work goes on as the trial does.
 use Rattle.std.proofs.Common.{◌≡◌, ℕ, ◌+◌, Bool, true, false, List, [], ◌∷◌, ◌++◌, length, sym, ◌∙◌, ap, refl, add-one}
-use Rattle.std.specs.Prelude.{Option, Some, None, if◌then◌else◌}
+use Rattle.std.specs.Prelude.{Option, Some, None, if◌then◌else◌, replicate, slice_get}
 use Rattle.std.specs.Option.{option_and_then, option_map}
 use Rattle.tm_types.specs.declared.abend.AbendCode.{AbendCode}
+use Rattle.tm_types.specs.declared.message.Message.{Message}
 use Rattle.tm_types.specs.declared.status.Status.{Status}
 use Rattle.model_script.specs.declared.need.CallText.{CallText}
 use Rattle.model_script.specs.declared.need.Need.{Need}
 use Rattle.model_script.specs.declared.need.Need.TheVariants.{Call}
 use Rattle.model_script.specs.declared.program.ScriptLine.{ScriptLine}
 use Rattle.model_script.specs.Script.{Answer, ScriptState, script_start, script_after, settled, step, need_of, need_at, answered, moved_on, waiting_by, waiting_at}
-use Rattle.std.specs.Prelude.{slice_get}
 use Rattle.model_script.proofs.Settled.{settled_twice}
-use Rattle.script_run.specs.Running.{Running}
-use Rattle.model_rows.specs.declared.row.Row.{Row}
-use Rattle.std.specs.Prelude.{map, replicate}
-use Rattle.model_rows.specs.Rows.{Database}
+use Rattle.model_system.specs.declared.code.Transaction.{Transaction}
 use Rattle.model_system.specs.declared.pcb.Pcb.{Pcb}
+use Rattle.script_run.specs.Running.{Running}
+use Rattle.model_dli.specs.declared.call.Position.{Position}
 use Rattle.model_dli.specs.Data.{data_start, nowhere}
-use Rattle.tm_data.specs.State.{UnitDataState, data_of, dbds_of}
-use Rattle.tm_unit.specs.declared.unit.Ending.{Ending}
-use Rattle.model_machine.specs.Unit.{Job, Trial, UnitEnd, trial_start, trial_of, trial_step, trial_by, trial_need, trial_called, trial_end, end_by, is_sync, unless_abend, call_answer, call_work, call_data, call_abend}
+use Rattle.model_message.specs.Work.{message_start}
+use Rattle.seg_store.specs.Slots.{Stored}
+use Rattle.tm_data.specs.State.{DatabasesState, IsClean, rows_of, dbds_of, data_of}
+use Rattle.model_machine.specs.Unit.{Job, Trial, UnitEnd, trial_start, trial_of, trial_step, trial_by, trial_need, trial_called, trial_end, end_by, is_sync, unless_abend, call_answer, call_work, call_data, call_abend, job_reached}
 use Rattle.model_machine.specs.Unit.UnitEnd.{Syncs, Abends}
-use Rattle.tm_unit.specs.UnitState.{UnitState, work_of}
+use Rattle.tm_unit.specs.UnitState.{UnitState}
 use Rattle.tm_unit.specs.Answering.{Answers}
+use Rattle.tm_unit.specs.declared.unit.Ending.{Ending}
 use Rattle.tm_unit.specs.declared.unit.Advanced.TheVariants.{Called, Ended as WorkEnded}
 use Rattle.tm_unit.specs.declared.unit.Ending.TheVariants.{Sync, Abend as AbendEnding}
 use Rattle.tm_unit.specs.Ahead.{IsAhead, IsStart, Advances, end_of}
@@ -45,48 +46,46 @@ not_sync true found trial e none = cc
 not_sync false None trial e none = refl
 not_sync false (Some abend) trial e none = cc
 
-module _ (job : Job) (rows : List (List Row)) (segments : List (List ℕ)) (unit : UnitState) (ahead : IsAhead job rows segments unit) where
+module _ (job : Job) (message : Message) (databases : DatabasesState) (unit : UnitState) (ahead : IsAhead job message databases unit) where
   -- the trial needs what the script needs
   need_is : trial_need job ahead.trial ≡ need_at job.lines job.transaction.statement_limit unit.machine.script
   need_is = ap (λ s. need_of (step job.lines job.transaction.statement_limit s)) ahead.script
 
   end_is : (need : Need) → need_at job.lines job.transaction.statement_limit unit.machine.script ≡ need
-      → option_and_then (trial_end job) (trial_of job rows segments unit.calls) ≡ end_by job (work_of unit segments) (data_of unit.databases) need
+      → option_and_then (trial_end job) (trial_of job (rows_of databases.committed) message unit.calls) ≡ end_by job unit.work (data_of databases unit.positions) need
   end_is need needs =
       ap (option_and_then (trial_end job)) ahead.made
       ∙ ap (end_by job ahead.trial.work ahead.trial.databases) (need_is ∙ needs)
       ∙ ap (λ w. end_by job w ahead.trial.databases need) ahead.work
-      ∙ ap (λ d. end_by job (work_of unit segments) d need) ahead.databases
+      ∙ ap (λ d. end_by job unit.work d need) ahead.seen
 
-  same_ahead : (new : UnitState) → new.calls ≡ unit.calls → new.machine.limit ≡ unit.machine.limit
-      → settled job.lines job.transaction.statement_limit new.machine.script ≡ settled job.lines job.transaction.statement_limit unit.machine.script
-      → work_of new segments ≡ work_of unit segments
-      → new.databases ≡ unit.databases
-      → IsAhead job rows segments new
-  same_ahead new calls limited script work databases = record {
+  same_ahead : (machine : Running) → machine.limit ≡ unit.machine.limit
+      → settled job.lines job.transaction.statement_limit machine.script ≡ settled job.lines job.transaction.statement_limit unit.machine.script
+      → IsAhead job message databases (record unit { machine = machine })
+  same_ahead machine limited script = record {
     trial = ahead.trial;
-    made = ap (trial_of job rows segments) calls ∙ ahead.made;
+    made = ahead.made;
     limit = limited ∙ ahead.limit;
     script = ahead.script ∙ sym script;
-    work = ahead.work ∙ sym work;
-    databases = ahead.databases ∙ ap data_of (sym databases);
-    dbds = ap dbds_of databases ∙ ahead.dbds;
-    pcbs = ap (λ d. length d.positions) databases ∙ ahead.pcbs;
+    work = ahead.work;
+    seen = ahead.seen;
+    dbds = ahead.dbds;
+    pcbs = ahead.pcbs;
   }
 
   module _ (call : CallText) (needs : need_at job.lines job.transaction.statement_limit unit.machine.script ≡ Call call)
-      (further : is_sync (work_of unit segments) call ≡ false) (goes_on : call_abend job (data_of unit.databases) call ≡ None) where
+      (further : is_sync unit.work call ≡ false) (goes_on : call_abend job (data_of databases unit.positions) call ≡ None) where
     abbrev next : Trial
-    next = trial_called job ahead.trial call
+    next = trial_called job (rows_of databases.committed) ahead.trial call
 
-    stepped : trial_step job ahead.trial ≡ Some next
+    stepped : trial_step job (rows_of databases.committed) ahead.trial ≡ Some next
     stepped =
-        ap (trial_by job ahead.trial) (need_is ∙ needs)
+        ap (trial_by job (rows_of databases.committed) ahead.trial) (need_is ∙ needs)
         ∙ not_sync (is_sync ahead.trial.work call) (call_abend job ahead.trial.databases call) next
-        (ap (λ w. is_sync w call) ahead.work ∙ further) (ap (λ d. call_abend job d call) ahead.databases ∙ goes_on)
+        (ap (λ w. is_sync w call) ahead.work ∙ further) (ap (λ d. call_abend job d call) ahead.seen ∙ goes_on)
 
-    made_next : trial_of job rows segments (unit.calls + 1) ≡ Some next
-    made_next = rw (add-one unit.calls) (ap (option_and_then (trial_step job)) ahead.made ∙ stepped)
+    made_next : trial_of job (rows_of databases.committed) message (unit.calls + 1) ≡ Some next
+    made_next = rw (add-one unit.calls) (ap (option_and_then (trial_step job (rows_of databases.committed))) ahead.made ∙ stepped)
 
     settles_next : (a : List Answer) (x y : Answer) → settled job.lines job.transaction.statement_limit (script_after job.lines job.transaction.statement_limit script_start a) ≡ settled job.lines job.transaction.statement_limit unit.machine.script
         → x ≡ y
@@ -96,34 +95,34 @@ module _ (job : Job) (rows : List (List Row)) (segments : List (List ℕ)) (unit
         ∙ answered_settled job.lines job.transaction.statement_limit (script_after job.lines job.transaction.statement_limit script_start a) unit.machine.script x here
         ∙ ap (answered job.lines job.transaction.statement_limit unit.machine.script) same)
 
-    answer_is : call_answer job ahead.trial.work ahead.trial.databases call ≡ call_answer job (work_of unit segments) (data_of unit.databases) call
+    answer_is : call_answer job ahead.trial.work ahead.trial.databases call ≡ call_answer job unit.work (data_of databases unit.positions) call
     answer_is =
         ap (λ w. call_answer job w ahead.trial.databases call) ahead.work
-        ∙ ap (λ d. call_answer job (work_of unit segments) d call) ahead.databases
+        ∙ ap (λ d. call_answer job unit.work d call) ahead.seen
 
-    pub called_next : (new : UnitState) (status : Status)
+    pub called_next : (after : DatabasesState) (new : UnitState) (status : Status)
         → new.calls ≡ unit.calls + 1
         → new.machine.limit ≡ unit.machine.limit
         → settled job.lines job.transaction.statement_limit new.machine.script
-        ≡ settled job.lines job.transaction.statement_limit (answered job.lines job.transaction.statement_limit unit.machine.script (call_answer job (work_of unit segments) (data_of unit.databases) call))
-        → work_of new segments ≡ call_work job.transaction (work_of unit segments) call
-        → data_of new.databases ≡ call_data job (data_of unit.databases) call
-        → dbds_of new.databases ≡ dbds_of unit.databases
-        → length new.databases.positions ≡ length unit.databases.positions
-        → status ≡ (call_answer job (work_of unit segments) (data_of unit.databases) call).status
-        → Advances job rows segments unit new (Called call.function call.pcb status)
-    called_next new status calls limited script work databases dbds pcbs told = (
+        ≡ settled job.lines job.transaction.statement_limit (answered job.lines job.transaction.statement_limit unit.machine.script (call_answer job unit.work (data_of databases unit.positions) call))
+        → new.work ≡ call_work job unit.work call
+        → data_of after new.positions ≡ call_data job (rows_of databases.committed) (data_of databases unit.positions) call
+        → length new.positions ≡ length unit.positions
+        → status ≡ (call_answer job unit.work (data_of databases unit.positions) call).status
+        → after.committed ≡ databases.committed → dbds_of after ≡ dbds_of databases
+        → Advances job message databases after unit new (Called call.function call.pcb status)
+    called_next after new status calls limited script work seen pcbs told committed dbds = (
       calls,
       record {
         trial = next;
-        made = ap (trial_of job rows segments) calls ∙ made_next;
+        made = ap (λ stores. trial_of job (rows_of stores) message new.calls) committed ∙ ap (trial_of job (rows_of databases.committed) message) calls ∙ made_next;
         limit = limited ∙ ahead.limit;
         script =
-            settles_next ahead.trial.answers (call_answer job ahead.trial.work ahead.trial.databases call) (call_answer job (work_of unit segments) (data_of unit.databases) call) ahead.script
+            settles_next ahead.trial.answers (call_answer job ahead.trial.work ahead.trial.databases call) (call_answer job unit.work (data_of databases unit.positions) call) ahead.script
             answer_is
             ∙ sym script;
-        work = ap (λ w. call_work job.transaction w call) ahead.work ∙ sym work;
-        databases = ap (λ d. call_data job d call) ahead.databases ∙ sym databases;
+        work = ap (λ w. call_work job w call) ahead.work ∙ sym work;
+        seen = ap (λ d. call_data job (rows_of databases.committed) d call) ahead.seen ∙ sym seen;
         dbds = dbds ∙ ahead.dbds;
         pcbs = pcbs ∙ ahead.pcbs;
       },
@@ -132,37 +131,40 @@ module _ (job : Job) (rows : List (List Row)) (segments : List (List ℕ)) (unit
           ∙ ap (λ s. Some (record { function = call.function; pcb = call.pcb; status = s })) (sym told),
     )
 
+-- the databases at the start
+data_started : (count : ℕ) (databases : DatabasesState) (positions : List Position) → IsClean databases → positions ≡ replicate count nowhere
+    → data_start count (rows_of databases.committed) ≡ data_of databases positions
+data_started count databases positions clean standing =
+    ap (λ ps. record { rows = rows_of databases.committed; positions = ps; changed = [] }) (sym standing)
+    ∙ ap (λ cs. record { rows = rows_of databases.committed; positions = positions; changed = cs }) (sym clean.changed)
+    ∙ ap (λ (ss : List Stored). record { rows = rows_of ss; positions = positions; changed = databases.changed }) (sym clean.stores)
+
 -- the work begins at the trial without a call
-pub start_is : (job : Job) (rows : List (List Row)) (unit : UnitState) → unit.calls ≡ 0 → unit.machine.limit ≡ job.transaction.statement_limit
-    → unit.machine.script ≡ script_start → unit.begun ≡ false → unit.place ≡ 0 → unit.reply ≡ []
-    → data_of unit.databases ≡ data_start (length job.pcbs) rows → dbds_of unit.databases ≡ job.databases
-    → length unit.databases.positions ≡ length job.pcbs
-    → IsStart job rows unit
-start_is job rows unit calls limit script begun place reply databases dbds pcbs = record {
+pub start_is : (transaction : Transaction) (lines : List ScriptLine) (pcbs : List Pcb) (message : Message) (unit : UnitState)
+    → unit.calls ≡ 0 → unit.machine.limit ≡ transaction.statement_limit → unit.machine.script ≡ script_start
+    → unit.work ≡ message_start transaction message pcbs → unit.positions ≡ replicate (length pcbs) nowhere
+    → length unit.positions ≡ length pcbs
+    → IsStart transaction lines pcbs message unit
+start_is transaction lines pcbs message unit calls limit script work standing count = record {
   calls = calls;
-  reply = reply;
-  ahead = λ segments. record {
-    trial = trial_start job rows segments;
-    made = ap (trial_of job rows segments) calls;
+  ahead = λ system databases clean dbds. record {
+    trial = trial_start (record { system = system; transaction = transaction; lines = lines; pcbs = pcbs }) (rows_of databases.committed) message;
+    made = ap (trial_of (record { system = system; transaction = transaction; lines = lines; pcbs = pcbs }) (rows_of databases.committed) message) calls;
     limit = limit;
-    script = ap (settled job.lines job.transaction.statement_limit) (sym script);
-    work =
-        ap (λ b. record { segments = segments; begun = b; place = 0; reply = [] }) (sym begun)
-        ∙ ap (λ p. record { segments = segments; begun = unit.begun; place = p; reply = [] }) (sym place)
-        ∙ ap (λ r. record { segments = segments; begun = unit.begun; place = unit.place; reply = r }) (sym reply);
-    databases = sym databases;
+    script = ap (settled lines transaction.statement_limit) (sym script);
+    work = sym work;
+    seen = data_started (length pcbs) databases unit.positions clean standing;
     dbds = dbds;
-    pcbs = pcbs;
+    pcbs = count;
   };
 }
 
-module _ (job : Job) (rows : List (List Row)) (segments : List (List ℕ)) (unit : UnitState) (machine : Running) (ahead : IsAhead job rows segments unit)
+module _ (job : Job) (message : Message) (databases : DatabasesState) (unit : UnitState) (machine : Running) (ahead : IsAhead job message databases unit)
     (limited : machine.limit ≡ unit.machine.limit) where
   -- a script that settles where it settled before
   pub still_ahead : settled job.lines unit.machine.limit machine.script ≡ settled job.lines unit.machine.limit unit.machine.script
-      → IsAhead job rows segments (record unit { machine = machine })
-  still_ahead settles =
-      same_ahead job rows segments unit ahead (record unit { machine = machine }) refl limited (rw (sym ahead.limit) settles) refl refl
+      → IsAhead job message databases (record unit { machine = machine })
+  still_ahead settles = same_ahead job message databases unit ahead machine limited (rw (sym ahead.limit) settles)
 
   pub settled_again : machine.script ≡ settled job.lines unit.machine.limit unit.machine.script
       → settled job.lines unit.machine.limit machine.script ≡ settled job.lines unit.machine.limit unit.machine.script
@@ -171,37 +173,39 @@ module _ (job : Job) (rows : List (List Row)) (segments : List (List ℕ)) (unit
   pub ended_is : (need : Need) (ending : Ending)
       → machine.script ≡ settled job.lines unit.machine.limit unit.machine.script
       → need ≡ need_at job.lines unit.machine.limit unit.machine.script
-      → end_by job (work_of unit segments) (data_of unit.databases) need ≡ Some (end_of ending)
-      → Advances job rows segments unit (record unit { machine = machine }) (WorkEnded ending)
+      → end_by job unit.work (data_of databases unit.positions) need ≡ Some (end_of ending)
+      → Advances job message databases databases unit (record unit { machine = machine }) (WorkEnded ending)
   ended_is need ending script needs ends = (
     refl,
     still_ahead (settled_again script),
-    end_is job rows segments unit ahead need (ap (λ n. need_at job.lines n unit.machine.script) (sym ahead.limit) ∙ sym needs) ∙ ends,
+    end_is job message databases unit ahead need (ap (λ n. need_at job.lines n unit.machine.script) (sym ahead.limit) ∙ sym needs) ∙ ends,
   )
 
-  pub called_is : (new : UnitState) (calls : ℕ) (call : CallText) (status : Status)
+  pub called_is : (after : DatabasesState) (new : UnitState) (calls : ℕ) (call : CallText) (status : Status)
       → machine.script ≡ settled job.lines unit.machine.limit unit.machine.script
       → machine.waiting ≡ waiting_at job.lines unit.machine.limit unit.machine.script
       → Call call ≡ need_at job.lines unit.machine.limit unit.machine.script
-      → is_sync (work_of unit segments) call ≡ false
+      → is_sync unit.work call ≡ false
       → calls ≡ unit.calls + 1
-      → Answers (record job { lines = [] }) segments (record unit { machine = machine }) new call status
-      → Advances job rows segments unit (record new { calls = calls }) (Called call.function call.pcb status)
-  called_is new calls call status script waiting needs further count answers =
-      called_next job rows segments unit ahead call (ap (λ n. need_at job.lines n unit.machine.script) (sym ahead.limit) ∙ sym needs) further answers.goes_on
-      (record new { calls = calls }) status
+      → Answers job.system (job_reached job call.pcb) databases after (record unit { machine = machine }) new call status
+      → after.committed ≡ databases.committed → dbds_of after ≡ dbds_of databases
+      → Advances job message databases after unit (record new { calls = calls }) (Called call.function call.pcb status)
+  called_is after new calls call status script waiting needs further count answers committed dbds =
+      called_next job message databases unit ahead call (ap (λ n. need_at job.lines n unit.machine.script) (sym ahead.limit) ∙ sym needs) further answers.goes_on
+      after (record new { calls = calls }) status
       count
-      (answers.limit ∙ limited)
+      (ap (λ m. m.limit) answers.machine ∙ limited)
       (ap (settled job.lines job.transaction.statement_limit)
-      (answers.script
-      ∙ ap (λ s. moved_on s machine.waiting (call_answer job (work_of unit segments) (data_of unit.databases) call)) script
-      ∙ ap (λ w. moved_on (settled job.lines unit.machine.limit unit.machine.script) w (call_answer job (work_of unit segments) (data_of unit.databases) call)) waiting
-      ∙ ap (λ n. answered job.lines n unit.machine.script (call_answer job (work_of unit segments) (data_of unit.databases) call)) ahead.limit))
+      (ap (λ m. m.script) answers.machine
+      ∙ ap (λ s. moved_on s machine.waiting (call_answer job unit.work (data_of databases unit.positions) call)) script
+      ∙ ap (λ w. moved_on (settled job.lines unit.machine.limit unit.machine.script) w (call_answer job unit.work (data_of databases unit.positions) call)) waiting
+      ∙ ap (λ n. answered job.lines n unit.machine.script (call_answer job unit.work (data_of databases unit.positions) call)) ahead.limit))
       answers.work
-      answers.databases
-      answers.dbds
+      answers.seen
       answers.pcbs
       answers.told
+      committed
+      dbds
 
 pub sync_end : (sync : Bool) (rest : Option UnitEnd) → sync ≡ true → (if sync then Some Syncs else rest) ≡ Some (end_of Sync)
 sync_end true rest e = refl
@@ -214,19 +218,10 @@ abend_end true found abend e f = cc
 abend_end false found abend e f = ap (option_map Abends) f
 
 -- the work with the same script, and all else as it was
-pub same_unit_ahead : (job : Job) (rows : List (List Row)) (segments : List (List ℕ)) (unit new : UnitState) (machine : Running) → IsAhead job rows segments unit
+pub same_unit_ahead : (job : Job) (message : Message) (databases : DatabasesState) (unit new : UnitState) (machine : Running) → IsAhead job message databases unit
     → machine.limit ≡ unit.machine.limit
     → machine.script ≡ settled job.lines unit.machine.limit unit.machine.script
     → new ≡ record unit { machine = machine }
-    → IsAhead job rows segments new
-same_unit_ahead job rows segments unit new machine ahead limited script same =
-    rw same (still_ahead job rows segments unit machine ahead limited (settled_again job rows segments unit machine ahead limited script))
-
--- the databases at the start
-pub data_started : (pcbs : List Pcb) (committed : List Database) (unit : UnitDataState)
-    → unit.databases ≡ committed → unit.positions ≡ replicate (length pcbs) nowhere → unit.changed ≡ []
-    → data_of unit ≡ data_start (length pcbs) (map (λ d. d.rows) committed)
-data_started pcbs committed unit a b c =
-    ap (λ (ds : List Database). record { rows = map (λ d. d.rows) ds; positions = unit.positions; changed = unit.changed }) a
-    ∙ ap (λ ps. record { rows = map (λ d. d.rows) committed; positions = ps; changed = unit.changed }) b
-    ∙ ap (λ cs. record { rows = map (λ d. d.rows) committed; positions = replicate (length pcbs) nowhere; changed = cs }) c
+    → IsAhead job message databases new
+same_unit_ahead job message databases unit new machine ahead limited script same =
+    rw same (still_ahead job message databases unit machine ahead limited (settled_again job message databases unit machine ahead limited script))

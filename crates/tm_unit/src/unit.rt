@@ -1,17 +1,22 @@
-ghost use Rattle.std.specs.Prelude.{◌≡◌, [], IfOk, OnErr, map};
+ghost use Rattle.std.specs.Prelude.{◌≡◌, IfOk, OnErr, length, replicate};
+ghost use Rattle.model_dli.specs.Data.{nowhere};
 ghost use Rattle.model_machine.specs.Unit.{is_sync};
-ghost use Rattle.tm_unit.specs.UnitState.{work_of};
-ghost use Rattle.tm_unit.specs.Ahead.{IsStart, GoesOn, StaysAhead, HasDatabases};
+ghost use Rattle.model_message.specs.Calls.{finish_work};
+ghost use Rattle.tm_data.specs.State.{dbds_of};
+ghost use Rattle.tm_unit.specs.Ahead.{IsStart, GoesOn, StaysAhead, StayAtEnd, StayWithout};
 
 use crate::answer::CallEnd;
+use io_pcb::Work;
+use model_message::Ended;
 use model_script::{CallText, Need, Program};
 use model_system::{Pcbs, Transaction};
 use script_run::Machine;
-use seg_rows::PlainRows;
 use std::alloc::Global;
+use std::collections::VecDeque;
 use std::marker::Model;
-use tm_data::UnitData;
-use tm_types::{AbendCode, Dbd, Function, Memory, Segments, Status};
+use sysdef_check::System;
+use tm_data::{Databases, Position};
+use tm_types::{AbendCode, Function, Memory, Message, Status};
 
 /// How the work on a message ends.
 #[derive(Clone, Copy, Debug)]
@@ -33,21 +38,17 @@ pub enum Advanced {
     Ended(Ending),
 }
 
-/// The work of a region on one message, between two turns.
+/// The work of a region on one message, between two turns. What it changes in the databases is in
+/// them.
 #[derive(Debug, Drop)]
 pub struct Unit {
-    pub(crate) alloc: Global,
     /// How many calls the script has made.
     pub(crate) calls: u64,
     pub(crate) machine: Machine,
-    /// Whether the script has got the message.
-    pub(crate) begun: bool,
-    /// How many of the message's segments were given.
-    pub(crate) place: usize,
-    /// What was inserted into the reply.
-    pub(crate) reply: Segments,
-    /// The databases, as the work has changed them.
-    pub(crate) databases: UnitData,
+    /// How far the message and the output have come.
+    pub(crate) work: Work,
+    /// Where each PCB of the program stands in its database.
+    pub(crate) positions: Vec<Position>,
 }
 
 impl Model for Unit {
@@ -55,31 +56,28 @@ impl Model for Unit {
 
     ghost Value = { UnitState };
 
-    ghost view = { λ u. record { calls = u.calls; machine = u.machine; begun = u.begun; place = u.place; reply = u.reply; databases = u.databases } };
+    ghost view = { λ u. record { calls = u.calls; machine = u.machine; work = u.work; positions = u.positions.items } };
 }
 
 impl Unit {
-    /// The work on a message of this code, whose script has made no call yet, on the rows that are
-    /// committed. It works on a copy of them.
+    /// The work on this message of this code, whose script has made no call yet.
     pub fn start(
         alloc: Global,
         transaction: &Transaction,
         program: &Program,
         pcbs: &Pcbs,
-        committed: &[PlainRows],
+        message: &Message,
     ) -> Result<Unit, Memory>
-        ensures { IfOk result (IsStart (record { transaction = transaction.now; lines = program.now; pcbs = pcbs.now; databases = map (λ d. d.dbd) committed.now }) (map (λ d. d.rows) committed.now)) }
+        ensures { IfOk result (IsStart transaction.now program.now pcbs.now message.now) }
     {
         let machine = Machine::new(alloc, program, u32::from(transaction.statement_limit))?;
-        let databases = UnitData::start(alloc, committed, pcbs.len())?;
+        let work = Work::new(alloc, transaction, message, pcbs)?;
+        let positions = standing_nowhere(alloc, pcbs.len())?;
         Ok(Unit {
-            alloc,
             calls: 0,
             machine,
-            begun: false,
-            place: 0,
-            reply: Segments::new(alloc),
-            databases,
+            work,
+            positions,
         })
     }
 
@@ -94,16 +92,22 @@ impl Unit {
     /// After want of memory the work is as far as before.
     pub fn advance(
         &mut self,
-        transaction: &Transaction,
+        system: &System,
+        _transaction: &Transaction,
         program: &Program,
         pcbs: &Pcbs,
-        databases: &[Dbd],
-        segments: &Segments,
+        databases: &mut Databases,
     ) -> Result<Advanced, Memory>
-        requires databases { HasDatabases pcbs.now databases.now self.old }
-        ensures advances { IfOk result (GoesOn (record { transaction = transaction.now; lines = program.now; pcbs = pcbs.now; databases = databases.now }) segments.now self.old self.new) }
+        requires databases { dbds_of databases.old ≡ system.now.databases }
+        requires pcbs { length self.old.positions ≡ length pcbs.now }
+        ensures advances { IfOk result (GoesOn (record { system = system.now; transaction = _transaction.now; lines = program.now; pcbs = pcbs.now }) databases.old databases.new self.old self.new) }
+        ensures ends { IfOk result (StayAtEnd databases.old databases.new) }
+        ensures none { StayWithout system.now databases.old databases.new }
+        ensures committed { databases.new.committed ≡ databases.old.committed }
+        ensures dbds { dbds_of databases.new ≡ dbds_of databases.old }
         ensures calls { OnErr result (self.new.calls ≡ self.old.calls) }
-        ensures ahead { OnErr result (StaysAhead (record { transaction = transaction.now; lines = program.now; pcbs = pcbs.now; databases = databases.now }) segments.now self.old self.new) }
+        ensures kept { OnErr result (databases.new ≡ databases.old) }
+        ensures ahead { OnErr result (StaysAhead (record { system = system.now; transaction = _transaction.now; lines = program.now; pcbs = pcbs.now }) databases.old self.old self.new) }
     {
         if self.calls == u64::MAX {
             return Err(Memory);
@@ -120,7 +124,7 @@ impl Unit {
                     return Ok(Advanced::Ended(Ending::Sync));
                 }
                 let (function, pcb) = (call.function, call.pcb);
-                match self.answer(transaction, pcbs, databases, segments, call) {
+                match self.answer(system, pcbs, databases, call) {
                     Ok(CallEnd::Answered(status)) => {
                         self.calls += 1;
                         Ok(Advanced::Called(function, pcb, status))
@@ -134,39 +138,25 @@ impl Unit {
 
     /// Whether the call asks for a further message.
     fn is_sync(&self, call: &CallText) -> bool
-        ensures { result ≡ is_sync (work_of self.now []) call.now }
+        ensures { result ≡ is_sync self.now.work call.now }
     {
-        self.begun && call.pcb == 0 && call.function == Function::GU
+        self.work.has_begun() && call.pcb == 0 && call.function == Function::GU
     }
 
-    /// The databases, as the work has changed them.
-    pub fn databases(&self) -> &[PlainRows]
-        ensures { result.now ≡ self.now.databases.databases }
+    /// A copy of the messages that are sent where the work ends with success, in that order.
+    pub fn outputs(&self) -> Result<VecDeque<Ended>, Memory>
+        ensures { IfOk result (λ outputs. outputs.items ≡ (finish_work self.now.work).ended) }
     {
-        self.databases.databases()
+        self.work.outputs()
     }
+}
 
-    /// Takes the databases out of the work, as it has changed them.
-    pub fn take_databases(&mut self) -> Vec<PlainRows>
-        ensures databases { result.items ≡ self.old.databases.databases }
-        ensures rest { self.new ≡ record self.old { databases = record self.old.databases { databases = [] } } }
-    {
-        self.databases.take_databases()
+fn standing_nowhere(alloc: Global, pcbs: usize) -> Result<Vec<Position>, Memory>
+    ensures { IfOk result (λ positions. positions.items ≡ replicate pcbs nowhere) }
+{
+    let mut positions = Vec::new(alloc);
+    for _pcb in 0..pcbs {
+        positions.push(Position::new())?;
     }
-
-    /// Takes the reply out of the work.
-    pub fn take_reply(&mut self) -> Segments
-        ensures reply { result ≡ self.old.reply }
-        ensures rest { self.new ≡ record self.old { reply = [] } }
-    {
-        let none = Segments::new(self.alloc);
-        std::mem::replace(&mut self.reply, none)
-    }
-
-    /// Puts a reply into the work in place of what it has.
-    pub fn put_reply(&mut self, reply: Segments)
-        ensures { self.new ≡ record self.old { reply = reply } }
-    {
-        self.reply = reply;
-    }
+    Ok(positions)
 }

@@ -4,53 +4,57 @@ use Rattle.tm_unit.proofs.Steps.{ended_is, called_is, sync_end, abend_end, same_
 use Rattle.tm_unit.proofs.unit.Unit.advance.Goals as goal
 
 pub returns-in-Ended-clause-advances : goal.returns-in-Ended-clause-advances
-returns-in-Ended-clause-advances c = λ rows ahead.
+returns-in-Ended-clause-advances c = λ message ahead.
     rw (sym c.self.view_is)
-    (ended_is (record { transaction = c.args.transaction.now; lines = c.args.program.now; pcbs = c.args.pcbs.now; databases = c.args.databases.now }) rows c.args.segments.now
-    (record { calls = c.self.inside.calls; machine = c.self.inside.machine; begun = c.self.inside.begun; place = c.self.inside.place; reply = c.self.inside.reply; databases = c.self.inside.databases })
+    (ended_is (record { system = c.args.system.now; transaction = c.args._transaction.now; lines = c.args.program.now; pcbs = c.args.pcbs.now }) message c.args.databases.now
+    (record { calls = c.self.inside.calls; machine = c.self.inside.machine; work = c.self.inside.work; positions = c.self.inside.positions.items })
     c.next.new.self (rw (← c.self.view_is) at ahead) c.in-Ok.ensures.limit c.in-Ok.need End c.in-Ok.ensures.script c.in-Ok.ensures.need
     (rw c.in-Ended.is refl))
 
 pub returns-in-Abend-clause-advances : goal.returns-in-Abend-clause-advances
-returns-in-Abend-clause-advances c = λ rows ahead.
+returns-in-Abend-clause-advances c = λ message ahead.
     rw (sym c.self.view_is)
-    (ended_is (record { transaction = c.args.transaction.now; lines = c.args.program.now; pcbs = c.args.pcbs.now; databases = c.args.databases.now }) rows c.args.segments.now
-    (record { calls = c.self.inside.calls; machine = c.self.inside.machine; begun = c.self.inside.begun; place = c.self.inside.place; reply = c.self.inside.reply; databases = c.self.inside.databases })
+    (ended_is (record { system = c.args.system.now; transaction = c.args._transaction.now; lines = c.args.program.now; pcbs = c.args.pcbs.now }) message c.args.databases.now
+    (record { calls = c.self.inside.calls; machine = c.self.inside.machine; work = c.self.inside.work; positions = c.self.inside.positions.items })
     c.next.new.self (rw (← c.self.view_is) at ahead) c.in-Ok.ensures.limit c.in-Ok.need (AbendEnding c.in-Abend.abend) c.in-Ok.ensures.script c.in-Ok.ensures.need
     (rw c.in-Abend.is refl))
 
 pub returns-then-is_sync-clause-advances : goal.returns-then-is_sync-clause-advances
-returns-then-is_sync-clause-advances c = λ rows ahead.
+returns-then-is_sync-clause-advances c = λ message ahead.
     rw (sym c.self.view_is)
-    (ended_is (record { transaction = c.args.transaction.now; lines = c.args.program.now; pcbs = c.args.pcbs.now; databases = c.args.databases.now }) rows c.args.segments.now
-    (record { calls = c.self.inside.calls; machine = c.self.inside.machine; begun = c.self.inside.begun; place = c.self.inside.place; reply = c.self.inside.reply; databases = c.self.inside.databases })
+    (ended_is (record { system = c.args.system.now; transaction = c.args._transaction.now; lines = c.args.program.now; pcbs = c.args.pcbs.now }) message c.args.databases.now
+    (record { calls = c.self.inside.calls; machine = c.self.inside.machine; work = c.self.inside.work; positions = c.self.inside.positions.items })
     c.next.new.self (rw (← c.self.view_is) at ahead) c.in-Ok.ensures.limit c.in-Ok.need Sync c.in-Ok.ensures.script c.in-Ok.ensures.need
     (rw c.in-Call.is (sync_end _ _ (sym c.is_sync.ensures ∙ c.if-is_sync.true))))
 
 pub returns-in-Ok-Answered-clause-advances : goal.returns-in-Ok-Answered-clause-advances
-returns-in-Ok-Answered-clause-advances c = λ rows ahead.
+returns-in-Ok-Answered-clause-advances c = λ message ahead.
+    let answers = rw (← c.self-in-Call.view_is) at (rw c.in-Ok-Answered.field-0-is at c.in-Ok-Answered.ensures.ok) in
     rw (sym c.self.view_is)
-    (called_is (record { transaction = c.args.transaction.now; lines = c.args.program.now; pcbs = c.args.pcbs.now; databases = c.args.databases.now }) rows c.args.segments.now
-    (record { calls = c.self.inside.calls; machine = c.self.inside.machine; begun = c.self.inside.begun; place = c.self.inside.place; reply = c.self.inside.reply; databases = c.self.inside.databases })
+    (called_is (record { system = c.args.system.now; transaction = c.args._transaction.now; lines = c.args.program.now; pcbs = c.args.pcbs.now }) message c.args.databases.now
+    (record { calls = c.self.inside.calls; machine = c.self.inside.machine; work = c.self.inside.work; positions = c.self.inside.positions.items })
     c.next.new.self (rw (← c.self.view_is) at ahead) c.in-Ok.ensures.limit
-    (record { calls = c.self-in-Call.inside.calls; machine = c.self-in-Call.inside.machine; begun = c.self-in-Call.inside.begun; place = c.self-in-Call.inside.place; reply = c.self-in-Call.inside.reply; databases = c.self-in-Call.inside.databases })
+    c.answer.new.databases
+    (record { calls = c.self-in-Call.inside.calls; machine = c.self-in-Call.inside.machine; work = c.self-in-Call.inside.work; positions = c.self-in-Call.inside.positions.items })
     (c.self-in-Call.inside.calls + 1) c.in-Call.call c.in-Ok-Answered.status
     c.in-Ok.ensures.script c.in-Ok.ensures.waiting (sym c.in-Call.is ∙ c.in-Ok.ensures.need)
     (sym c.is_sync.ensures ∙ c.if-is_sync.false)
-    (ap (λ n. n + 1) (rw (← c.self-in-Call.view_is) at (rw c.in-Ok-Answered.field-0-is at c.in-Ok-Answered.ensures.ok)).calls)
-    (rw (← c.self-in-Call.view_is) at (rw c.in-Ok-Answered.field-0-is at c.in-Ok-Answered.ensures.ok)))
+    (ap (λ n. n + 1) answers.calls)
+    answers
+    c.in-Ok-Answered.ensures.committed
+    c.in-Ok-Answered.ensures.dbds)
 
 pub returns-in-Ok-Abended-clause-advances : goal.returns-in-Ok-Abended-clause-advances
-returns-in-Ok-Abended-clause-advances c = λ rows ahead.
+returns-in-Ok-Abended-clause-advances c = λ message ahead.
     let comes = rw c.in-Ok-Abended.field-0-is at c.in-Ok-Abended.ensures.ok in
-    rw (comes.0, sym c.self.view_is)
-    (ended_is (record { transaction = c.args.transaction.now; lines = c.args.program.now; pcbs = c.args.pcbs.now; databases = c.args.databases.now }) rows c.args.segments.now
-    (record { calls = c.self.inside.calls; machine = c.self.inside.machine; begun = c.self.inside.begun; place = c.self.inside.place; reply = c.self.inside.reply; databases = c.self.inside.databases })
+    rw (comes.0, comes.1, sym c.self.view_is)
+    (ended_is (record { system = c.args.system.now; transaction = c.args._transaction.now; lines = c.args.program.now; pcbs = c.args.pcbs.now }) message c.args.databases.now
+    (record { calls = c.self.inside.calls; machine = c.self.inside.machine; work = c.self.inside.work; positions = c.self.inside.positions.items })
     c.next.new.self (rw (← c.self.view_is) at ahead) c.in-Ok.ensures.limit c.in-Ok.need (AbendEnding c.in-Ok-Abended.abend) c.in-Ok.ensures.script c.in-Ok.ensures.need
-    (rw c.in-Call.is (abend_end _ _ _ (sym c.is_sync.ensures ∙ c.if-is_sync.false) comes.1)))
+    (rw c.in-Call.is (abend_end _ _ _ (sym c.is_sync.ensures ∙ c.if-is_sync.false) comes.2)))
 
 pub returns-in-Err-answer-clause-ahead : goal.returns-in-Err-answer-clause-ahead
-returns-in-Err-answer-clause-ahead c = λ rows ahead.
-    same_unit_ahead (record { transaction = c.args.transaction.now; lines = c.args.program.now; pcbs = c.args.pcbs.now; databases = c.args.databases.now }) rows c.args.segments.now
-    (record { calls = c.self.inside.calls; machine = c.self.inside.machine; begun = c.self.inside.begun; place = c.self.inside.place; reply = c.self.inside.reply; databases = c.self.inside.databases })
+returns-in-Err-answer-clause-ahead c = λ message ahead.
+    same_unit_ahead (record { system = c.args.system.now; transaction = c.args._transaction.now; lines = c.args.program.now; pcbs = c.args.pcbs.now }) message c.args.databases.now
+    (record { calls = c.self.inside.calls; machine = c.self.inside.machine; work = c.self.inside.work; positions = c.self.inside.positions.items })
     c.answer.new.self c.next.new.self (rw (← c.self.view_is) at ahead) c.in-Ok.ensures.limit c.in-Ok.ensures.script c.in-Err-answer.ensures.err

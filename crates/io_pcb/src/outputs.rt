@@ -1,0 +1,60 @@
+//! What is sent at the sync point.
+ghost use Rattle.std.specs.Prelude.{◌≡◌, ◌∷◌, ◌++◌, [], Some, OnOk};
+ghost use Rattle.std.specs.List.{flat_map};
+ghost use Rattle.model_message.specs.Work.{ended_to, ended_by};
+
+use crate::pcbs::destination;
+use model_message::{Ended, OpenPcb};
+use std::collections::VecDeque;
+use tm_types::{Memory, Name, Segments};
+
+/// Adds a copy of each of these messages.
+pub fn add_each(messages: &[Ended], outputs: &mut VecDeque<Ended>) -> Result<(), Memory>
+    ensures { OnOk result (outputs.new.items ≡ outputs.old.items ++ messages.now) }
+{
+    for message in messages {
+        add(message, outputs)?;
+    }
+    Ok(())
+}
+
+fn add(message: &Ended, outputs: &mut VecDeque<Ended>) -> Result<(), Memory>
+    ensures { OnOk result (outputs.new.items ≡ outputs.old.items ++ message.now ∷ []) }
+{
+    let segments = message.segments.clone()?;
+    outputs.push_back(Ended {
+        to: message.to,
+        segments,
+    })?;
+    Ok(())
+}
+
+/// Adds a copy of each message under construction, in the order of the PCBs.
+pub fn add_each_open(pcbs: &[OpenPcb], outputs: &mut VecDeque<Ended>) -> Result<(), Memory>
+    ensures { OnOk result (outputs.new.items ≡ outputs.old.items ++ flat_map ended_by pcbs.now) }
+{
+    for opened in pcbs {
+        add_open(opened, outputs)?;
+    }
+    Ok(())
+}
+
+fn add_open(opened: &OpenPcb, outputs: &mut VecDeque<Ended>) -> Result<(), Memory>
+    ensures { OnOk result (outputs.new.items ≡ outputs.old.items ++ ended_by opened.now) }
+{
+    match destination(opened) {
+        Some(to) => add_to(to, &opened.segments, outputs),
+        None => Ok(()),
+    }
+}
+
+fn add_to(to: Name, segments: &Segments, outputs: &mut VecDeque<Ended>) -> Result<(), Memory>
+    ensures { OnOk result (outputs.new.items ≡ outputs.old.items ++ ended_to (Some to) segments.now) }
+{
+    if segments.is_empty() {
+        return Ok(());
+    }
+    let segments = segments.clone()?;
+    outputs.push_back(Ended { to, segments })?;
+    Ok(())
+}
