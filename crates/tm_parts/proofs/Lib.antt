@@ -1,12 +1,10 @@
 mod Linked
-mod Alone
 mod Named
 mod Started
 mod Stepped
 mod Going
 mod Scheduled
 mod Resting
-mod Sent
-mod Tried
 mod Finished
+pub mod Closed
 pub mod Counting
