@@ -12,7 +12,7 @@ use Rattle.model_queues.specs.Queue.{IsNewId, has_id, is_free_of, queued_at, mes
 use Rattle.model_queues.specs.Waiting.{is_waiting, first_waiting, count_waiting}
 use Rattle.model_queues.proofs.Laws.{found_behind, found_without, found_held, found_own}
 use Rattle.model_system.specs.System.{System}
-use Rattle.model_rows.specs.declared.row.Row.{Row}
+use Rattle.tm_data.specs.State.{DatabasesState}
 use Rattle.model_machine.specs.Machine.{Slot, has_message, is_held}
 use Rattle.tm_parts.specs.declared.region.Busy.{Busy}
 use Rattle.tm_parts.specs.Region.{IsWork}
@@ -106,7 +106,7 @@ no-both : true ≡ false → ⊥
 no-both e = cc
 
 -- What a region works on is found in the queues under its number.
-module _ (system : System) (rows : List (List Row)) (queued : List Queued) (regions : List (Option Busy)) (at_work : AreAtWork system rows queued regions) where
+module _ (system : System) (databases : DatabasesState) (queued : List Queued) (regions : List (Option Busy)) (at_work : AreAtWork system databases queued regions) where
   -- two regions never have one message
   pub one_each : (place other : ℕ) (a b : Busy) → slice_get regions place ≡ Some (Some a) → slice_get regions other ≡ Some (Some b) → place ≢ other → a.id ≢ b.id
   one_each place other a b ea eb apart same =
@@ -133,24 +133,28 @@ step_told (q ∷ qs) regions place old new e same told = (
   step_told qs regions place old new e same told.1,
 )
 
-pub step_at_work : (system : System) (rows : List (List Row)) (queued : List Queued) (regions : List (Option Busy)) (place : ℕ) (old new : Busy) → slice_get regions place ≡ Some (Some old)
-    → new.id ≡ old.id → ((message : Message) → message_at old.id queued ≡ Some message → IsWork system rows message new)
-    → AreAtWork system rows queued regions → AreAtWork system rows queued (slice_set regions place (Some new))
-step_at_work system rows queued regions place old new e same works at_work other busy f =
-    ⊎_elim here (λ h. at_work other busy h.1) (set_get regions place other (Some new) busy f)
+pub step_at_work : (system : System) (databases databases' : DatabasesState) (queued : List Queued) (regions : List (Option Busy)) (place : ℕ) (old new : Busy) → slice_get regions place ≡ Some (Some old)
+    → new.id ≡ old.id → ((message : Message) → message_at old.id queued ≡ Some message → IsWork system databases' message new)
+    → ((other : ℕ) (busy : Busy) → place ≢ other → slice_get regions other ≡ Some (Some busy) → databases ≡ databases')
+    → AreAtWork system databases queued regions → AreAtWork system databases' queued (slice_set regions place (Some new))
+step_at_work system databases databases' queued regions place old new e same works stay at_work other busy f =
+    ⊎_elim here there (set_get regions place other (Some new) busy f)
   where
     some-is : (a b : Busy) → Some a ≡ Some b → a ≡ b
     some-is a b e = cc
 
-    here : (place ≡ other) × (Some new ≡ Some busy) → IsAtWork system rows queued (other + 1) busy
+    here : (place ≡ other) × (Some new ≡ Some busy) → IsAtWork system databases' queued (other + 1) busy
     here h =
         let was = at_work place old e in
         let is : new ≡ busy = some-is new busy h.1 in
-        subst (λ b. IsAtWork system rows queued (other + 1) b) is (record {
+        subst (λ b. IsAtWork system databases' queued (other + 1) b) is (record {
           message = was.message;
           found = ap (λ id. queued_at id queued) same ∙ was.found ∙ ap (λ n. Some (record { message = was.message; holder = Some (n + 1) })) h.0;
           work = works was.message (ap (option_map (λ q. q.message)) was.found);
         })
+
+    there : (place ≢ other) × (slice_get regions other ≡ Some (Some busy)) → IsAtWork system databases' queued (other + 1) busy
+    there h = subst (λ d. IsAtWork system d queued (other + 1) busy) (stay other busy h.0 h.1) (at_work other busy h.1)
 
 -- an empty region takes a message that no region has
 pub take_told : (id holder : ℕ) (queued : List Queued) (regions : List (Option Busy)) (place : ℕ) (new : Busy) → slice_get regions place ≡ Some None → new.id ≡ id
@@ -167,20 +171,20 @@ take_told id holder (q ∷ qs) regions place new e same told =
         held_same q.message.id regions place None (Some new) e (ne_eqb new.id q.message.id (λ s. no-both (sym (eq-eqb q.message.id id (sym s ∙ same)) ∙ h)))
         ∙ told.0
 
-pub take_at_work : (system : System) (rows : List (List Row)) (id : ℕ) (queued : List Queued) (regions : List (Option Busy)) (place : ℕ) (new : Busy) (message : Message)
+pub take_at_work : (system : System) (databases : DatabasesState) (id : ℕ) (queued : List Queued) (regions : List (Option Busy)) (place : ℕ) (new : Busy) (message : Message)
     → slice_get regions place ≡ Some None → new.id ≡ id
-    → queued_at id queued ≡ Some (record { message = message; holder = None }) → IsWork system rows message new
-    → AreAtWork system rows queued regions → AreAtWork system rows (with_holder id (Some (place + 1)) queued) (slice_set regions place (Some new))
-take_at_work system rows id queued regions place new message e same free work at_work other busy f =
+    → queued_at id queued ≡ Some (record { message = message; holder = None }) → IsWork system databases message new
+    → AreAtWork system databases queued regions → AreAtWork system databases (with_holder id (Some (place + 1)) queued) (slice_set regions place (Some new))
+take_at_work system databases id queued regions place new message e same free work at_work other busy f =
     ⊎_elim here there (set_get regions place other (Some new) busy f)
   where
     some-is : (a b : Busy) → Some a ≡ Some b → a ≡ b
     some-is a b e = cc
 
-    here : (place ≡ other) × (Some new ≡ Some busy) → IsAtWork system rows (with_holder id (Some (place + 1)) queued) (other + 1) busy
+    here : (place ≡ other) × (Some new ≡ Some busy) → IsAtWork system databases (with_holder id (Some (place + 1)) queued) (other + 1) busy
     here h =
         let is : new ≡ busy = some-is new busy h.1 in
-        subst (λ b. IsAtWork system rows (with_holder id (Some (place + 1)) queued) (other + 1) b) is (record {
+        subst (λ b. IsAtWork system databases (with_holder id (Some (place + 1)) queued) (other + 1) b) is (record {
           message = message;
           found = ap (λ n. queued_at n (with_holder id (Some (place + 1)) queued)) same
               ∙ found_own id (Some (place + 1)) queued (record { message = message; holder = None }) free
@@ -197,7 +201,7 @@ take_at_work system rows id queued regions place new message e same free work at
     taken : (a : Message) (r : ℕ) → ◌≡◌ {A = Option Queued} (Some (record { message = a; holder = Some r })) (Some (record { message = message; holder = None })) → ⊥
     taken a r e = no-holder r (holder-of (record { message = a; holder = Some r }) (record { message = message; holder = None }) e)
 
-    there : (place ≢ other) × (slice_get regions other ≡ Some (Some busy)) → IsAtWork system rows (with_holder id (Some (place + 1)) queued) (other + 1) busy
+    there : (place ≢ other) × (slice_get regions other ≡ Some (Some busy)) → IsAtWork system databases (with_holder id (Some (place + 1)) queued) (other + 1) busy
     there h =
         let was = at_work other busy h.1 in
         let apart : busy.id ≢ id = λ s. taken was.message (other + 1) (sym was.found ∙ ap (λ n. queued_at n queued) s ∙ free) in
@@ -217,24 +221,24 @@ end_told (q ∷ qs) regions place old e told = by (has_id old.id q) refl (end_to
       rest,
     )
 
-pub end_at_work : (system : System) (rows rows' : List (List Row)) (queued : List Queued) (regions : List (Option Busy)) (place : ℕ) (old : Busy)
+pub end_at_work : (system : System) (databases databases' : DatabasesState) (queued : List Queued) (regions : List (Option Busy)) (place : ℕ) (old : Busy)
     → slice_get regions place ≡ Some (Some old)
-    → ((other : ℕ) (busy : Busy) → place ≢ other → slice_get regions other ≡ Some (Some busy) → rows ≡ rows')
-    → AreAtWork system rows queued regions → AreAtWork system rows' (without old.id queued) (slice_set regions place None)
-end_at_work system rows rows' queued regions place old e stay at_work other busy f =
+    → ((other : ℕ) (busy : Busy) → place ≢ other → slice_get regions other ≡ Some (Some busy) → databases ≡ databases')
+    → AreAtWork system databases queued regions → AreAtWork system databases' (without old.id queued) (slice_set regions place None)
+end_at_work system databases databases' queued regions place old e stay at_work other busy f =
     ⊎_elim (λ h. absurd (none-is busy h.1)) there (set_get regions place other None busy f)
   where
     none-is : (b : Busy) → None ≡ Some b → ⊥
     none-is b e = cc
 
-    there : (place ≢ other) × (slice_get regions other ≡ Some (Some busy)) → IsAtWork system rows' (without old.id queued) (other + 1) busy
+    there : (place ≢ other) × (slice_get regions other ≡ Some (Some busy)) → IsAtWork system databases' (without old.id queued) (other + 1) busy
     there h =
         let was = at_work other busy h.1 in
-        let apart : busy.id ≢ old.id = one_each system rows queued regions at_work other place busy old h.1 e (λ s. h.0 (sym s)) in
+        let apart : busy.id ≢ old.id = one_each system databases queued regions at_work other place busy old h.1 e (λ s. h.0 (sym s)) in
         record {
           message = was.message;
           found = found_without busy.id old.id queued apart ∙ was.found;
-          work = subst (λ r. IsWork system r was.message busy) (stay other busy h.0 h.1) was.work;
+          work = subst (λ d. IsWork system d was.message busy) (stay other busy h.0 h.1) was.work;
         }
 
 -- an input comes, which no region has
@@ -251,16 +255,16 @@ below_new id next (p ∷ qs) q above e = by (has_id id p) refl e (λ h. below_ne
     by true h f rest = subst (λ n. n < next) (eqb-true p.message.id id h) above.0
     by false h f rest = rest f
 
-pub new_free : (system : System) (rows : List (List Row)) (next : ℕ) (queued : List Queued) (regions : List (Option Busy)) → IsNewId next queued → AreAtWork system rows queued regions
+pub new_free : (system : System) (databases : DatabasesState) (next : ℕ) (queued : List Queued) (regions : List (Option Busy)) → IsNewId next queued → AreAtWork system databases queued regions
     → is_held (slots_of regions) next ≡ false
-new_free system rows next queued regions above at_work =
+new_free system databases next queued regions above at_work =
     not_held next regions (λ place busy e same.
     let small : busy.id < next = below_new busy.id next queued (record { message = (at_work place busy e).message; holder = Some (place + 1) }) above (at_work place busy e).found in
     absurd (omega (arith, small, same)))
 
-pub new_at_work : (system : System) (rows : List (List Row)) (queued : List Queued) (regions : List (Option Busy)) (message : Message)
-    → AreAtWork system rows queued regions → AreAtWork system rows (with_message message queued) regions
-new_at_work system rows queued regions message at_work place busy e =
+pub new_at_work : (system : System) (databases : DatabasesState) (queued : List Queued) (regions : List (Option Busy)) (message : Message)
+    → AreAtWork system databases queued regions → AreAtWork system databases (with_message message queued) regions
+new_at_work system databases queued regions message at_work place busy e =
     let was = at_work place busy e in
     record { message = was.message; found = found_behind busy.id queued (record { message = message; holder = None } ∷ []) _ was.found; work = was.work }
 

@@ -4,7 +4,7 @@ use Rattle.std.specs.Prelude.{Some, if◌then◌else◌}
 use Rattle.std.specs.Str.{bytes_eq}
 use Rattle.std.proofs.lemmas.Slice.Eq.{bytes_eq-Decides}
 use Rattle.model_system.specs.declared.code.Code.{Code}
-use Rattle.model_machine.specs.Machine.{code_at}
+use Rattle.model_system.specs.Codes.{code_at}
 
 pub code_named : (codes : List Code) (name : List ℕ) (code : Code) → code_at codes name ≡ Some code → code.transaction.code ≡ name
 code_named [] name code e = cc

@@ -1,5 +1,5 @@
 -- An empty region takes a message.
-use Rattle.std.proofs.Common.{◌≡◌, ℕ, ◌+◌, ◌-◌, ◌≤◌, List, refl, sym, ap, ◌∙◌, subst, arith}
+use Rattle.std.proofs.Common.{◌≡◌, ℕ, ◌+◌, ◌-◌, ◌≤◌, List, length, refl, sym, ap, ◌∙◌, subst, arith}
 use Rattle.std.specs.Prelude.{Option, Some, None, IsSome, IsSomeAnd, slice_get, slice_set, unwrap_or}
 use Rattle.std.specs.Option.{option_map}
 use Rattle.tm_types.specs.declared.message.Message.{Message}
@@ -10,21 +10,19 @@ use Rattle.model_queues.specs.Waiting.{count_waiting}
 use Rattle.model_queues.proofs.Laws.{messages_held}
 use Rattle.model_system.specs.declared.code_state.CodeState.{CodeState}
 use Rattle.model_system.specs.System.{System}
-use Rattle.model_machine.specs.Unit.{Job}
-use Rattle.model_machine.specs.Machine.{Moment, Slot, is_held, job_of, followed}
+use Rattle.model_system.specs.declared.code.Code.{Code}
+use Rattle.model_system.specs.Codes.{code_at}
+use Rattle.model_machine.specs.Machine.{Moment, Slot, is_held, job_by, followed}
 use Rattle.model_machine.specs.Pick.{Candidate, pick_of}
 use Rattle.model_machine.specs.Steps.{pick_now, taken}
 use Rattle.model_machine.proofs.Picks.{pick_same}
 use Rattle.tran_pick.specs.declared.picked.Pick.{Pick}
-use Rattle.tm_unit.specs.UnitState.{UnitState}
-use Rattle.tm_unit.specs.Ahead.{IsStart}
-use Rattle.model_rows.specs.declared.row.Row.{Row}
-use Rattle.tm_tables.specs.Tables.{TablesState, lasting_of, held, rows_of}
+use Rattle.tm_tables.specs.Tables.{TablesState, lasting_of, held}
 use Rattle.tm_parts.specs.declared.region.Busy.{Busy}
-use Rattle.tm_parts.specs.Region.{IsWork}
+use Rattle.tm_parts.specs.Region.{IsWork, calls_made}
 use Rattle.tm_parts.specs.Parts.{slot_of, slots_of, AreAtWork, AreParts}
 use Rattle.tm_parts.proofs.Linked.{first_free_is, free_count_is, take_told, take_at_work, set_length, set_slots, get_slots}
-use Rattle.tm_parts.proofs.Started.{followed_length}
+use Rattle.tm_parts.proofs.Alone.{alone_taken, clean_here}
 
 abbrev pub pick_with : Candidate → Pick
 pick_with c = record { code = c.code; id = c.id }
@@ -75,33 +73,34 @@ module _ (system : System) (no_program : List ScriptLine) (tables : TablesState)
     back : region - 1 + 1 ≡ region
     back = omega (arith, positive)
 
-    pub parts_taken : (tables' : TablesState) (count : ℕ) → tables' ≡ held tables busy.id region
+    pub parts_taken : (tables' : TablesState) (states' : List CodeState) → tables' ≡ held tables busy.id region
         → IsSomeAnd (queued_at busy.id tables.queues.queued) (λ q. q.holder ≡ None)
-        → IsSomeAnd (job_of system busy.code) (λ job. IsStart job (rows_of tables.databases) busy.unit)
-        → AreParts system no_program tables' (followed system busy.code count states) (slice_set regions (region - 1) (Some busy))
-    parts_taken tables' count is free start =
-        rw is (by (queued_at busy.id tables.queues.queued) (job_of system busy.code) refl refl free start)
+        → IsSome (code_at system.codes busy.code) → busy.unit ≡ None → length states' ≡ length states
+        → AreParts system no_program tables' states' (slice_set regions (region - 1) (Some busy))
+    parts_taken tables' states' is free known fresh same =
+        rw is (by (queued_at busy.id tables.queues.queued) (code_at system.codes busy.code) refl refl free known)
       where
-        by : (found : Option Queued) (job : Option Job) → queued_at busy.id tables.queues.queued ≡ found → job_of system busy.code ≡ job
-            → IsSomeAnd found (λ q. q.holder ≡ None) → IsSomeAnd job (λ j. IsStart j (rows_of tables.databases) busy.unit)
-            → AreParts system no_program (held tables busy.id region) (followed system busy.code count states) (slice_set regions (region - 1) (Some busy))
-        by (Some q) (Some j) f g none s =
+        by : (found : Option Queued) (code : Option Code) → queued_at busy.id tables.queues.queued ≡ found → code_at system.codes busy.code ≡ code
+            → IsSomeAnd found (λ q. q.holder ≡ None) → IsSome code
+            → AreParts system no_program (held tables busy.id region) states' (slice_set regions (region - 1) (Some busy))
+        by (Some q) (Some c) f g none k =
             let here : queued_at busy.id tables.queues.queued ≡ Some (record { message = q.message; holder = None }) = f ∙ ap (λ h. Some (record { message = q.message; holder = h })) none in
-            let work : IsWork system (rows_of tables.databases) q.message busy = record { job = j; serves = g; ahead = s.ahead q.message.segments } in
+            let work : IsWork system tables.databases q.message busy
+            = record { job = job_by system c; serves = ap (option_map (job_by system)) g; unit = rw fresh (clean_here system tables.databases regions (region - 1) empty parts.alone) } in
             record {
               no_lines = parts.no_lines;
               limit = parts.limit;
               regions_are = set_length regions (region - 1) (Some busy) ∙ parts.regions_are;
               few = rw (set_length regions (region - 1) (Some busy)) parts.few;
-              states_are = followed_length system busy.code count states ∙ parts.states_are;
+              states_are = same ∙ parts.states_are;
               told = take_told busy.id region tables.queues.queued regions (region - 1) busy empty refl parts.told;
-              at_work = subst (λ n. AreAtWork system (rows_of tables.databases) (with_holder busy.id (Some n) tables.queues.queued) (slice_set regions (region - 1) (Some busy))) back
-                  (take_at_work system (rows_of tables.databases) busy.id tables.queues.queued regions (region - 1) busy q.message empty refl here work parts.at_work);
-              dbds = parts.dbds;
-              alone = parts.alone;
+              at_work = subst (λ n. AreAtWork system tables.databases (with_holder busy.id (Some n) tables.queues.queued) (slice_set regions (region - 1) (Some busy))) back
+                  (take_at_work system tables.databases busy.id tables.queues.queued regions (region - 1) busy q.message empty refl here work parts.at_work);
+              databases = parts.databases;
+              alone = alone_taken system tables.databases regions (region - 1) busy empty parts.regions_are parts.alone;
             }
-        by (Some q) None f g none s = absurd s
-        by None job f g none s = absurd none
+        by (Some q) None f g none k = cc
+        by None code f g none k = absurd none
 
     -- the moment with these messages and slots
     abbrev moment_with : List Message → List (Option Slot) → Moment
@@ -111,7 +110,7 @@ module _ (system : System) (no_program : List ScriptLine) (tables : TablesState)
       codes = followed system busy.code (count_waiting (is_held slots) busy.code messages) states;
     }
 
-    pub moment_taken : (tables' : TablesState) → tables' ≡ held tables busy.id region → busy.taken ≡ 1 → busy.unit.calls ≡ 0
+    pub moment_taken : (tables' : TablesState) → tables' ≡ held tables busy.id region → busy.taken ≡ 1 → calls_made busy.unit ≡ 0
         → record {
           lasting = lasting_of tables';
           slots = slots_of (slice_set regions (region - 1) (Some busy));
@@ -133,9 +132,5 @@ module _ (system : System) (no_program : List ScriptLine) (tables : TablesState)
         ∙ ap (λ ms. moment_with ms (slots_of (slice_set regions (region - 1) (Some busy)))) (messages_held busy.id (Some region) tables.queues.queued)
         ∙ ap (moment_with (messages_of tables.queues.queued))
         (set_slots regions (region - 1) (Some busy)
-        ∙ ap (λ n. slice_set (slots_of regions) (region - 1) (Some (record { code = busy.code; taken = n; id = busy.id; calls = busy.unit.calls }))) one
+        ∙ ap (λ n. slice_set (slots_of regions) (region - 1) (Some (record { code = busy.code; taken = n; id = busy.id; calls = calls_made busy.unit }))) one
         ∙ ap (λ n. slice_set (slots_of regions) (region - 1) (Some (record { code = busy.code; taken = 1; id = busy.id; calls = n }))) none)
-
-pub calls_of : (job : Option Job) (rows : List (List Row)) (unit : UnitState) → IsSomeAnd job (λ j. IsStart j rows unit) → unit.calls ≡ 0
-calls_of (Some j) rows unit h = h.calls
-calls_of None rows unit h = absurd h

@@ -1,5 +1,5 @@
 -- An empty control region, and an input that comes.
-use Rattle.std.proofs.Common.{◌≡◌, ℕ, zero, suc, ◌<◌, ◌≤◌, ◌⊎◌, ◌^◌, Bool, false, List, [], ◌∷◌, ◌++◌, map, length, replicate, refl, sym, ap, ◌∙◌, subst}
+use Rattle.std.proofs.Common.{◌≡◌, ℕ, zero, suc, ◌<◌, ◌≤◌, ◌⊎◌, inl, inr, ⊎_elim, ◌^◌, Bool, false, List, [], ◌∷◌, ◌++◌, map, length, replicate, refl, sym, ap, ◌∙◌, subst}
 use Rattle.std.specs.Prelude.{Option, Some, None, slice_get}
 use Rattle.std.specs.Option.{option_map_or}
 use Rattle.tm_types.specs.declared.message.Message.{Message}
@@ -12,11 +12,13 @@ use Rattle.model_system.specs.declared.code_state.CodeState.{CodeState}
 use Rattle.model_system.specs.CodeStates.{with_raised}
 use Rattle.model_system.specs.System.{System}
 use Rattle.sysdef_check.specs.Codes as codes
-use Rattle.model_machine.specs.Machine.{Moment, is_held, first_state, empty_state, start_of, followed, followed_by, code_place, flagged, is_raised, raised_by}
+use Rattle.model_system.specs.Codes.{code_place}
+use Rattle.model_machine.specs.Machine.{Moment, is_held, first_state, empty_state, start_of, followed, followed_by, flagged, is_raised, raised_by}
 use Rattle.model_machine.specs.Steps.{accepted_state, code_word, with_lasting}
-use Rattle.tm_tables.specs.Tables.{TablesState, lasting_of, enqueued, dbds_of, rows_of}
+use Rattle.tm_data.specs.State.{IsClean}
+use Rattle.tm_tables.specs.Tables.{TablesState, lasting_of, enqueued}
 use Rattle.tm_parts.specs.declared.region.Busy.{Busy}
-use Rattle.tm_parts.specs.Parts.{slots_of, IsTold, AreParts}
+use Rattle.tm_parts.specs.Parts.{slots_of, IsTold, AreParts, AreDatabases}
 use Rattle.tm_parts.proofs.Linked.{new_told, new_free, new_at_work, free_count_is}
 
 none_busy : (n place : ℕ) (busy : Busy) → slice_get (replicate n None) place ≡ Some (Some busy) → ⊥
@@ -43,9 +45,9 @@ first_states system (code ∷ all) = ap (λ ss. codes.first_state code ∷ ss) (
 pub parts_start : (system : System) (no_program : List ScriptLine) (tables : TablesState) (states : List CodeState) (regions : List (Option Busy))
     → no_program ≡ [] → tables.queues ≡ record { limit = system.qbytes; queued = [] } → regions ≡ replicate (length system.regions) None
     → length system.regions < 2 ^ 32 → states ≡ map codes.first_state system.codes
-    → dbds_of tables.databases ≡ system.databases → ((system.databases ≡ []) ⊎ (length system.regions ≤ 1))
+    → AreDatabases system tables.databases → IsClean tables.databases → ((system.databases ≡ []) ⊎ (length system.regions ≤ 1))
     → AreParts system no_program tables states regions
-parts_start system no_program tables states regions nothing queues empty few first dbds alone = record {
+parts_start system no_program tables states regions nothing queues empty few first databases clean alone = record {
   no_lines = nothing;
   limit = ap (λ q. q.limit) queues;
   regions_are = ap length empty ∙ none_length (length system.regions);
@@ -53,8 +55,8 @@ parts_start system no_program tables states regions nothing queues empty few fir
   states_are = ap length first ∙ states_length system.codes;
   told = rw (ap (λ q. q.queued) queues) tt;
   at_work = λ place busy e. absurd (none_busy (length system.regions) place busy (sym (ap (λ rs. slice_get rs place) empty) ∙ e));
-  dbds = dbds;
-  alone = alone;
+  databases = databases;
+  alone = ⊎_elim (λ h. inl (h, clean)) (λ h. inr (h, λ place e. clean)) alone;
 }
 
 pub moment_start : (system : System) (tables : TablesState) (states : List CodeState) (regions : List (Option Busy))
@@ -92,9 +94,9 @@ parts_enqueued system no_program tables tables' states regions terminal number n
   regions_are = parts.regions_are;
   few = parts.few;
   states_are = followed_length system name count states ∙ parts.states_are;
-  told = new_told tables.queues.queued (slots_of regions) _ (new_free system (rows_of tables.databases) tables.next_id tables.queues.queued regions above parts.at_work) parts.told;
-  at_work = new_at_work system (rows_of tables.databases) tables.queues.queued regions _ parts.at_work;
-  dbds = parts.dbds;
+  told = new_told tables.queues.queued (slots_of regions) _ (new_free system tables.databases tables.next_id tables.queues.queued regions above parts.at_work) parts.told;
+  at_work = new_at_work system tables.databases tables.queues.queued regions _ parts.at_work;
+  databases = parts.databases;
   alone = parts.alone;
 })
 
@@ -112,7 +114,7 @@ module _ (system : System) (no_program : List ScriptLine) (tables : TablesState)
   }
 
   told_after : (name : List ℕ) → IsTold (slots_of regions) (with_message (message_of name) tables.queues.queued)
-  told_after name = new_told tables.queues.queued (slots_of regions) (message_of name) (new_free system (rows_of tables.databases) tables.next_id tables.queues.queued regions above parts.at_work) parts.told
+  told_after name = new_told tables.queues.queued (slots_of regions) (message_of name) (new_free system tables.databases tables.next_id tables.queues.queued regions above parts.at_work) parts.told
 
   pub moment_enqueued : (tables' : TablesState) (name : List ℕ) → tables' ≡ enqueued tables terminal number name segments → name ≡ code_word segments
       → record { lasting = lasting_of tables'; slots = slots_of regions; codes = followed system name (free_count name tables'.queues.queued) states }

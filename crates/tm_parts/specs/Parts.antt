@@ -3,16 +3,16 @@ use Rattle.std.specs.Prelude.{◌≡◌, ◌⊎◌, ℕ, ◌+◌, ◌<◌, ◌�
 use Rattle.std.specs.Option.{is_some}
 use Rattle.std.specs.List.{AllByRecursion}
 use Rattle.tm_types.specs.declared.message.Message.{Message}
-use Rattle.model_rows.specs.declared.row.Row.{Row}
 use Rattle.model_queues.specs.declared.queued.Queued.{Queued}
 use Rattle.model_queues.specs.Queue.{queued_at}
 use Rattle.model_system.specs.declared.code_state.CodeState.{CodeState}
 use Rattle.model_system.specs.System.{System}
 use Rattle.model_machine.specs.Machine.{Moment, Slot, is_held}
 use Rattle.model_script.specs.declared.program.ScriptLine.{ScriptLine}
-use Rattle.tm_tables.specs.Tables.{TablesState, dbds_of, rows_of}
+use Rattle.tm_data.specs.State.{DatabasesState, IsClean, dbds_of}
+use Rattle.tm_tables.specs.Tables.{TablesState}
 use Rattle.tm_parts.specs.declared.region.Busy.{Busy}
-use Rattle.tm_parts.specs.Region.{IsWork}
+use Rattle.tm_parts.specs.Region.{IsWork, calls_made}
 
 -- the system, and the moment that its machine has come to
 pub record PartsState : Type 0 where
@@ -21,26 +21,39 @@ pub record PartsState : Type 0 where
 
 -- the slot that a region's work stands for
 abbrev pub slot_of : Option Busy → Option Slot
-slot_of (Some busy) = Some (record { code = busy.code; taken = busy.taken; id = busy.id; calls = busy.unit.calls })
+slot_of (Some busy) = Some (record { code = busy.code; taken = busy.taken; id = busy.id; calls = calls_made busy.unit })
 slot_of None = None
 
 abbrev pub slots_of : List (Option Busy) → List (Option Slot)
 slots_of regions = map slot_of regions
 
--- a region works on a message that the queues keep for it, on the rows that are committed
-pub record IsAtWork (system : System) (rows : List (List Row)) (queued : List Queued) (region : ℕ) (busy : Busy) : Type 0 where
+-- A region works on a message that the queues keep for it. Its work, made from the start on the rows
+-- that are committed, leads to what it has, and to the rows that the stores have.
+pub record IsAtWork (system : System) (databases : DatabasesState) (queued : List Queued) (region : ℕ) (busy : Busy) : Type 0 where
   pub message : Message
   pub found : queued_at busy.id queued ≡ Some (record { message = message; holder = Some region })
-  pub work : IsWork system rows message busy
+  pub work : IsWork system databases message busy
 
 -- a message has a holder exactly where a slot has it
 abbrev pub IsTold : List (Option Slot) → List Queued → Type 0
 IsTold slots queued = AllByRecursion (λ q. is_held slots q.message.id ≡ is_some q.holder) queued
 
 -- each region that has a message is at work on it; regions are numbered from 1
-abbrev pub AreAtWork : System → List (List Row) → List Queued → List (Option Busy) → Type 0
-AreAtWork system rows queued regions =
-    (place : ℕ) (busy : Busy) → slice_get regions place ≡ Some (Some busy) → IsAtWork system rows queued (place + 1) busy
+abbrev pub AreAtWork : System → DatabasesState → List Queued → List (Option Busy) → Type 0
+AreAtWork system databases queued regions =
+    (place : ℕ) (busy : Busy) → slice_get regions place ≡ Some (Some busy) → IsAtWork system databases queued (place + 1) busy
+
+-- these are the system's databases, by what is committed and by what the stores have
+pub record AreDatabases (system : System) (databases : DatabasesState) : Type 0 where
+  pub stores : dbds_of databases ≡ system.databases
+  pub committed : map (λ s. s.dbd) databases.committed ≡ system.databases
+
+-- Where there are databases one region works, and while it is empty nothing is changed in them. Where
+-- there are none, nothing ever is.
+abbrev pub IsAlone : System → DatabasesState → List (Option Busy) → Type 0
+IsAlone system databases regions =
+    ((system.databases ≡ []) × IsClean databases)
+    ⊎ ((length system.regions ≤ 1) × ((place : ℕ) → slice_get regions place ≡ Some None → IsClean databases))
 
 pub record AreParts (system : System) (no_program : List ScriptLine) (tables : TablesState) (states : List CodeState) (regions : List (Option Busy)) : Type 0 where
   pub no_lines : no_program ≡ []
@@ -49,7 +62,6 @@ pub record AreParts (system : System) (no_program : List ScriptLine) (tables : T
   pub few : length regions < 2 ^ 32
   pub states_are : length states ≡ length system.codes
   pub told : IsTold (slots_of regions) tables.queues.queued
-  pub at_work : AreAtWork system (rows_of tables.databases) tables.queues.queued regions
-  pub dbds : dbds_of tables.databases ≡ system.databases
-  -- where there are databases, one region works
-  pub alone : (system.databases ≡ []) ⊎ (length system.regions ≤ 1)
+  pub at_work : AreAtWork system tables.databases tables.queues.queued regions
+  pub databases : AreDatabases system tables.databases
+  pub alone : IsAlone system tables.databases regions

@@ -2,7 +2,9 @@
 ghost use Rattle.std.specs.Prelude.{◌≡◌, ◌∷◌, [], IfOk};
 ghost use Rattle.model_machine.specs.Steps.{abend_text, digit};
 
+use model_message::Ended;
 use std::alloc::Global;
+use std::collections::VecDeque;
 use tm_types::{AbendCode, Bytes, Memory, Name, Segment, Segments};
 
 /// A digit of a number, the last one.
@@ -29,15 +31,25 @@ fn abend_text(alloc: Global, code: &Name, abend: AbendCode) -> Result<Bytes, Mem
     Ok(text)
 }
 
-/// The reply of an abend: its text in one segment.
-pub fn abend_reply(alloc: Global, code: &Name, abend: AbendCode) -> Result<Segments, Memory>
-    ensures { IfOk result (λ reply. reply ≡ abend_text code.now abend ∷ []) }
+/// What is sent where the work on a message ended abnormally: its text in one segment, to its origin.
+pub fn abend_outputs(
+    alloc: Global,
+    origin: &Name,
+    code: &Name,
+    abend: AbendCode,
+) -> Result<VecDeque<Ended>, Memory>
+    ensures { IfOk result (λ outputs. outputs.items ≡ record { to = origin.now; segments = abend_text code.now abend ∷ [] } ∷ []) }
 {
     let text = abend_text(alloc, code, abend)?;
     let Ok(segment) = Segment::make(alloc, text.as_slice()) else {
         return Err(Memory);
     };
-    let mut reply = Segments::new(alloc);
-    reply.push(segment)?;
-    Ok(reply)
+    let mut segments = Segments::new(alloc);
+    segments.push(segment)?;
+    let mut outputs = VecDeque::new(alloc);
+    outputs.push_back(Ended {
+        to: *origin,
+        segments,
+    })?;
+    Ok(outputs)
 }

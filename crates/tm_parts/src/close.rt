@@ -1,97 +1,92 @@
 //! The end of a region's work on a message.
-ghost use Rattle.std.specs.Prelude.{◌≡◌, ◌≤◌, ◌-◌, None, Some, length, slice_get, slice_set, OnOk, OnErr, IsSome, IsSomeAnd};
-ghost use Rattle.model_queues.specs.Queue.{queued_at};
-ghost use Rattle.tm_tables.specs.Tables.{IsFinished};
-ghost use Rattle.tm_parts.specs.Region.{databases_of, reply_of};
+ghost use Rattle.std.specs.Prelude.{◌≡◌, ◌≤◌, ◌-◌, ◌∷◌, None, Some, length, map, slice_get, slice_set, IfOk, OnOk, OnErr, IsSome, IsSomeAnd};
+ghost use Rattle.model_queues.specs.Queue.{IsNewId, queued_at};
+ghost use Rattle.model_machine.specs.Steps.{destinations};
+ghost use Rattle.tm_parts.specs.Ends.{IsCompleted, IsAbandoned};
 
-use crate::region::{Busy, put_reply, take_databases, take_reply};
+use crate::region::Busy;
+use model_message::Ended;
+use std::alloc::Global;
+use std::collections::VecDeque;
 use tm_tables::Tables;
-use tm_types::{Memory, Segments};
+use tm_types::{Memory, Name};
 
-/// Ends a region's work on the message of this id, which goes; the rows as the work has left them are
-/// committed, and its origin is sent the reply of the work. Want of memory changes nothing.
-#[tactic(auto, using(crate::proofs::Closed::closed))]
-fn close_one(region: &mut Option<Busy>, tables: &mut Tables, id: u64) -> Result<(), Memory>
-    requires busy { IsSome region.old }
-    requires found { IsSome (queued_at id tables.old.queues.queued) }
-    ensures none { OnOk result (region.new ≡ None) }
-    ensures ok { OnOk result (IsFinished tables.old tables.new id (databases_of region.old) (reply_of region.old)) }
-    ensures same { OnErr result (region.new ≡ region.old) }
-    ensures err { OnErr result (tables.new ≡ tables.old) }
+/// The code of a message, and the names to which outputs go.
+pub fn names_moved(
+    alloc: Global,
+    code: &Name,
+    outputs: &VecDeque<Ended>,
+) -> Result<Vec<Name>, Memory>
+    ensures { IfOk result (λ names. names.items ≡ code.now ∷ destinations outputs.now.items) }
 {
-    let reply = take_reply(region);
-    match tables.finish(id, reply) {
-        Ok(()) => {
-            tables.commit(take_databases(region));
-            *region = None;
-            Ok(())
-        }
-        Err(reply) => {
-            put_reply(region, reply);
-            Err(Memory)
-        }
+    let mut names = Vec::new(alloc);
+    names.push(*code)?;
+    for place in 0..outputs.len() {
+        names.push(outputs[place].to)?;
     }
+    Ok(names)
 }
 
-/// Ends a region's work on the message of this id, which goes; the committed rows stay, and its
-/// origin is sent this reply. Want of memory changes nothing.
-fn close_one_with(
-    region: &mut Option<Busy>,
-    tables: &mut Tables,
-    id: u64,
-    reply: Segments,
-) -> Result<(), Memory>
-    requires found { IsSome (queued_at id tables.old.queues.queued) }
-    ensures none { OnOk result (region.new ≡ None) }
-    ensures ok { OnOk result (IsFinished tables.old tables.new id tables.old.databases reply) }
-    ensures same { OnErr result (region.new ≡ region.old) }
-    ensures err { OnErr result (tables.new ≡ tables.old) }
-{
-    match tables.finish(id, reply) {
-        Ok(()) => {
-            *region = None;
-            Ok(())
-        }
-        Err(_) => Err(Memory),
-    }
-}
-
-/// Ends the work of the region of this number, as `close_one`.
-pub fn close(
-    regions: &mut [Option<Busy>],
+/// Completes the message of this id, which goes: its outputs are sent, and what was changed in the
+/// databases is committed. Want of memory changes nothing.
+pub fn complete(
+    regions: &mut Vec<Option<Busy>>,
     region: u32,
     tables: &mut Tables,
     id: u64,
+    outputs: VecDeque<Ended>,
 ) -> Result<(), Memory>
     requires positive { 1 ≤ region }
-    requires defined { region ≤ length regions.old }
-    requires busy { IsSomeAnd (slice_get regions.old (region - 1)) IsSome }
+    requires defined { region ≤ length regions.old.items }
     requires found { IsSome (queued_at id tables.old.queues.queued) }
-    ensures regions { OnOk result (regions.new ≡ slice_set regions.old (region - 1) None) }
-    ensures ok { OnOk result (IsSomeAnd (slice_get regions.old (region - 1)) (λ found. IsFinished tables.old tables.new id (databases_of found) (reply_of found))) }
+    ensures regions { OnOk result (regions.new.items ≡ slice_set regions.old.items (region - 1) None) }
+    ensures ok { OnOk result (IsCompleted tables.old tables.new id outputs.items) }
     ensures same { OnErr result (regions.new ≡ regions.old) }
     ensures err { OnErr result (tables.new ≡ tables.old) }
+    ensures above { IsNewId tables.old.next_id tables.old.queues.queued }
 {
-    close_one(&mut regions[region as usize - 1], tables, id)
+    match tables.finish(id, outputs) {
+        Ok(()) => {
+            tables.commit();
+            empty(&mut regions[region as usize - 1]);
+            Ok(())
+        }
+        Err(error) => Err(error),
+    }
 }
 
-/// Ends the work of the region of this number with this reply, as `close_one_with`.
-pub fn close_with(
-    regions: &mut [Option<Busy>],
+/// Ends the work on the message of this id, which goes, abnormally: these outputs are sent in place of
+/// its own, and what was changed in the databases is taken back. Want of memory changes nothing.
+pub fn abandon(
+    regions: &mut Vec<Option<Busy>>,
     region: u32,
     tables: &mut Tables,
     id: u64,
-    reply: Segments,
+    outputs: VecDeque<Ended>,
 ) -> Result<(), Memory>
     requires positive { 1 ≤ region }
-    requires defined { region ≤ length regions.old }
+    requires defined { region ≤ length regions.old.items }
     requires found { IsSome (queued_at id tables.old.queues.queued) }
-    ensures regions { OnOk result (regions.new ≡ slice_set regions.old (region - 1) None) }
-    ensures ok { OnOk result (IsFinished tables.old tables.new id tables.old.databases reply) }
+    ensures regions { OnOk result (regions.new.items ≡ slice_set regions.old.items (region - 1) None) }
+    ensures ok { OnOk result (IsAbandoned tables.old tables.new id outputs.items) }
     ensures same { OnErr result (regions.new ≡ regions.old) }
     ensures err { OnErr result (tables.new ≡ tables.old) }
+    ensures above { IsNewId tables.old.next_id tables.old.queues.queued }
 {
-    close_one_with(&mut regions[region as usize - 1], tables, id, reply)
+    match tables.finish(id, outputs) {
+        Ok(()) => {
+            tables.back_out();
+            empty(&mut regions[region as usize - 1]);
+            Ok(())
+        }
+        Err(error) => Err(error),
+    }
+}
+
+fn empty(region: &mut Option<Busy>)
+    ensures { region.new ≡ None }
+{
+    *region = None;
 }
 
 /// The work of the region of this number.

@@ -1,5 +1,6 @@
 //! How a region's work on a message ends.
-ghost use Rattle.std.specs.Prelude.{◌≡◌, IfOk, OnErr};
+ghost use Rattle.std.specs.Prelude.{◌≡◌, IfOk, IsSome, IsSomeAnd, OnErr};
+ghost use Rattle.model_queues.specs.Queue.{message_at};
 ghost use Rattle.model_machine.specs.Machine.{IsRegion};
 ghost use Rattle.model_machine.specs.Unit.UnitEnd.{Ends, Syncs, Abends};
 ghost use Rattle.model_machine.specs.Steps.{May, After};
@@ -8,14 +9,14 @@ ghost use Rattle.tm_parts.specs.Ends.{EndsSo};
 ghost use Rattle.tm_parts.specs.Turns.{turned_entry};
 
 use crate::Turned;
-use crate::abend::abend_reply;
-use crate::close::{busy_at, close, close_with};
-use crate::flags::follow;
+use crate::abend::abend_outputs;
+use crate::close::{abandon, busy_at, complete, names_moved};
+use crate::flags::follow_all;
 use crate::next::next_message;
 use crate::parts::Parts;
-use crate::region::{Busy, count_busy, start_unit, take};
-use tm_tables::COUNT_LIMIT;
-use tm_types::{AbendCode, Memory};
+use crate::region::{Busy, count_busy, outputs_by, take};
+use tm_tables::{COUNT_LIMIT, Tables};
+use tm_types::{AbendCode, Memory, Name};
 use tm_unit::Ending;
 
 impl Parts {
@@ -48,11 +49,16 @@ impl Parts {
         let busy = busy_at(&self.regions, region);
         let code = busy.code;
         let id = busy.id;
-        let Ok(()) = close(&mut self.regions, region, &mut self.tables, id) else {
+        let Ok(outputs) = outputs_by(self.alloc, busy) else {
             return Err(Memory);
         };
-        let waiting = self.tables.queues().waiting(&code);
-        follow(&mut self.codes, &self.system, &code, waiting);
+        let Ok(names) = names_moved(self.alloc, &code, &outputs) else {
+            return Err(Memory);
+        };
+        let Ok(()) = complete(&mut self.regions, region, &mut self.tables, id, outputs) else {
+            return Err(Memory);
+        };
+        follow_all(&mut self.codes, &self.system, self.tables.queues(), &names);
         Ok(Turned::Done(code, id))
     }
 
@@ -73,39 +79,29 @@ impl Parts {
         if taken >= COUNT_LIMIT {
             return Err(Memory);
         }
-        let Ok(unit) = start_unit(
-            self.alloc,
-            &self.system,
-            &self.no_program,
-            &code,
-            busy.unit.databases(),
-        ) else {
+        let Ok(outputs) = outputs_by(self.alloc, busy) else {
+            return Err(Memory);
+        };
+        let Ok(names) = names_moved(self.alloc, &code, &outputs) else {
             return Err(Memory);
         };
         let count = count_busy(&self.regions);
-        let Ok(()) = close(&mut self.regions, region, &mut self.tables, id) else {
+        let Ok(()) = complete(&mut self.regions, region, &mut self.tables, id, outputs) else {
             return Err(Memory);
         };
         let Some(next) = next_message(&self.system, &self.codes, &self.tables, &code, taken, count)
         else {
-            let waiting = self.tables.queues().waiting(&code);
-            follow(&mut self.codes, &self.system, &code, waiting);
+            follow_all(&mut self.codes, &self.system, self.tables.queues(), &names);
             return Ok(Turned::QC(code, id));
         };
         let busy = Busy {
             code,
             taken: taken + 1,
             id: next,
-            unit,
+            unit: None,
         };
-        take(
-            &self.system,
-            &mut self.tables,
-            &mut self.codes,
-            &mut self.regions,
-            region,
-            busy,
-        );
+        take(&mut self.tables, &mut self.regions, region, busy);
+        follow_all(&mut self.codes, &self.system, self.tables.queues(), &names);
         Ok(Turned::Next(code, id, next))
     }
 
@@ -121,12 +117,24 @@ impl Parts {
         let busy = busy_at(&self.regions, region);
         let code = busy.code;
         let id = busy.id;
-        let Ok(reply) = abend_reply(self.alloc, &code, abend) else {
+        let origin = origin_of(&self.tables, id);
+        let Ok(outputs) = abend_outputs(self.alloc, &origin, &code, abend) else {
             return Err(Memory);
         };
-        let Ok(()) = close_with(&mut self.regions, region, &mut self.tables, id, reply) else {
+        let Ok(()) = abandon(&mut self.regions, region, &mut self.tables, id, outputs) else {
             return Err(Memory);
         };
         Ok(Turned::Abended(code, id, abend))
     }
+}
+
+/// The terminal from which the message of this id comes.
+fn origin_of(tables: &Tables, id: u64) -> Name
+    requires { IsSome (message_at id tables.now.queues.queued) }
+    ensures { IsSomeAnd (message_at id tables.now.queues.queued) (λ message. result ≡ message.origin) }
+{
+    let Some(message) = tables.queues().find(id) else {
+        unreachable!()
+    };
+    message.origin
 }

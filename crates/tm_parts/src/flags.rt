@@ -1,9 +1,12 @@
 //! Which priorities count.
 ghost use Rattle.std.specs.Prelude.{◌≡◌, length};
+ghost use Rattle.model_queues.specs.Queue.{free_count};
 ghost use Rattle.model_machine.specs.Machine.{raised_by, followed};
+ghost use Rattle.tm_parts.specs.Ends.{all_followed};
 
 use crate::lookup::code_place;
 use model_system::Transaction;
+use msg_queues::Queues;
 use sysdef_check::{Codes, System};
 use tm_types::Name;
 
@@ -32,5 +35,16 @@ pub fn follow(codes: &mut Codes, system: &System, name: &Name, waiting: u64)
             codes.states()[place].raised,
         );
         codes.set_raised(place, raised);
+    }
+}
+
+/// Makes the flags of these codes follow how many of their messages wait in the queues.
+#[tactic(auto, using(crate::proofs::Started::followed_length))]
+pub fn follow_all(codes: &mut Codes, system: &System, queues: &Queues, names: &[Name])
+    requires { length codes.old ≡ length system.now.codes }
+    ensures { codes.new ≡ all_followed system.now (λ name. free_count name queues.now.queued) names.now codes.old }
+{
+    for name in names {
+        follow(codes, system, name, queues.waiting(name));
     }
 }

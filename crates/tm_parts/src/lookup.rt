@@ -1,7 +1,8 @@
 //! The codes, programs and terminals of a system by their names.
 ghost use Rattle.std.specs.Prelude.{◌≡◌, ◌<◌, length, IfSome};
 ghost use Rattle.std.specs.Option.{option_copied};
-ghost use Rattle.model_machine.specs.Machine.{code_place, code_at, program_at};
+ghost use Rattle.model_system.specs.Codes.{code_place, code_at};
+ghost use Rattle.model_machine.specs.Machine.{program_at};
 ghost use Rattle.model_machine.specs.Steps.{first_word};
 
 use model_system::{Code, SystemProgram};

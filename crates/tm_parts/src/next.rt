@@ -3,7 +3,8 @@ ghost use Rattle.std.specs.Prelude.{◌≡◌, ◌+◌, ◌*◌, nat_le, None, l
 ghost use Rattle.std.specs.Option.{option_and_then};
 ghost use Rattle.model_queues.specs.Queue.{queued_at, first_free};
 ghost use Rattle.model_queues.specs.Room.{slot_room};
-ghost use Rattle.model_machine.specs.Machine.{code_at, code_place, content};
+ghost use Rattle.model_system.specs.Codes.{code_at, code_place};
+ghost use Rattle.model_machine.specs.Machine.{content};
 ghost use Rattle.model_machine.specs.Steps.{may_go_on};
 ghost use Rattle.tm_tables.specs.Tables.{lasting_of};
 ghost use Rattle.tm_parts.specs.Ends.{goes_on_with};

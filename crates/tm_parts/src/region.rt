@@ -1,20 +1,23 @@
 //! What a region works on.
 ghost use Rattle.std.specs.Prelude.{◌≡◌, ◌≤◌, ◌-◌, None, slice_set, ◌<◌, ◌^◌, [], length, count_by, is_some, IfOk, OnErr, OnOk, IfSome, Some, IsSome, IsSomeAnd};
-ghost use Rattle.model_queues.specs.Queue.{message_at, queued_at, free_count};
-ghost use Rattle.tm_tables.specs.Tables.{dbds_of, rows_of, held};
-ghost use Rattle.model_machine.specs.Machine.{lines_of, pcbs_of, job_of, code_at, followed};
-ghost use Rattle.tm_unit.specs.Ahead.{IsAhead, IsStart};
-ghost use Rattle.tm_parts.specs.Region.{IsQueuedWork, Steps, SameWork, databases_of, reply_of, with_reply};
+ghost use Rattle.model_queues.specs.Queue.{queued_at, free_count};
+ghost use Rattle.model_system.specs.Codes.{code_at};
+ghost use Rattle.tm_tables.specs.Tables.{held};
+ghost use Rattle.tm_data.specs.State.{dbds_of};
+ghost use Rattle.model_machine.specs.Machine.{lines_of, pcbs_of, job_of, followed};
+ghost use Rattle.tm_unit.specs.Ahead.{IsStart, GoesOn, StaysAhead};
+ghost use Rattle.tm_parts.specs.Region.{IsQueuedWork, IsTaken, Steps, SameWork, Stays, outputs_by};
 
-use crate::flags::follow;
 use crate::lookup::{find_code, find_program};
+use model_message::Ended;
 use model_script::Program;
 use model_system::Pcbs;
-use seg_rows::PlainRows;
 use std::alloc::Global;
-use sysdef_check::{Codes, System};
+use std::collections::VecDeque;
+use sysdef_check::System;
+use tm_data::Databases;
 use tm_tables::Tables;
-use tm_types::{Memory, Name, Segments};
+use tm_types::{Memory, Message, Name};
 use tm_unit::{Advanced, Unit};
 
 /// The work of a region on a message.
@@ -25,7 +28,9 @@ pub struct Busy {
     pub taken: u64,
     /// The message's id.
     pub id: u64,
-    pub unit: Unit,
+    /// The work as it has come so far. It is started by the first turn, so that taking a message needs
+    /// no memory.
+    pub unit: Option<Unit>,
 }
 
 /// The script of a PSB; one without a program has no lines.
@@ -50,18 +55,17 @@ fn pcbs_of<'a>(system: &'a System, no_pcbs: &'a Pcbs, psb: &Name) -> &'a Pcbs
     }
 }
 
-/// The work on a message of a code, whose script has made no call yet, on a copy of these rows.
-pub fn start_unit(
+/// The work on a message of a code, whose script has made no call yet.
+fn start_unit(
     alloc: Global,
     system: &System,
     no_program: &Program,
     code: &Name,
-    databases: &[PlainRows],
+    message: &Message,
 ) -> Result<Unit, Memory>
     requires program { no_program.now ≡ [] }
     requires code { IsSome (code_at system.now.codes code.now) }
-    requires databases { dbds_of databases.now ≡ system.now.databases }
-    ensures { IfOk result (λ unit. IsSomeAnd (job_of system.now code.now) (λ job. IsStart job (rows_of databases.now) unit)) }
+    ensures { IfOk result (λ unit. IsSomeAnd (job_of system.now code.now) (λ job. IsStart job.transaction job.lines job.pcbs message.now unit)) }
 {
     let Some(code) = find_code(system.codes(), code.as_bytes()) else {
         unreachable!()
@@ -69,7 +73,95 @@ pub fn start_unit(
     let program = script_of(system, no_program, &code.psb);
     let no_pcbs = Pcbs::new(alloc);
     let pcbs = pcbs_of(system, &no_pcbs, &code.psb);
-    Unit::start(alloc, &code.transaction, program, pcbs, databases)
+    Unit::start(alloc, &code.transaction, program, pcbs, message)
+}
+
+/// The work of a region as it has come so far, taken out of it; it is started where it wasn't. Want of
+/// memory leaves it there.
+fn take_unit(
+    alloc: Global,
+    system: &System,
+    no_program: &Program,
+    tables: &Tables,
+    busy: &mut Busy,
+) -> Result<Unit, Memory>
+    requires program { no_program.now ≡ [] }
+    requires work { IsQueuedWork system.now tables.now busy.old }
+    requires databases { dbds_of tables.now.databases ≡ system.now.databases }
+    ensures ahead { IfOk result (IsTaken system.now tables.now busy.old) }
+    ensures taken { OnOk result (busy.new ≡ record busy.old { unit = None }) }
+    ensures err { OnErr result (busy.new ≡ busy.old) }
+{
+    match busy.unit.take() {
+        Some(unit) => Ok(unit),
+        None => {
+            let Some(message) = tables.queues().find(busy.id) else {
+                unreachable!()
+            };
+            start_unit(alloc, system, no_program, &busy.code, message)
+        }
+    }
+}
+
+/// Lets the script of a code go on to its next call, and answers that. After want of memory the work is
+/// as far as before.
+fn advance_unit(
+    alloc: Global,
+    system: &System,
+    no_program: &Program,
+    code: &Name,
+    databases: &mut Databases,
+    unit: &mut Unit,
+) -> Result<Advanced, Memory>
+    requires program { no_program.now ≡ [] }
+    requires databases { dbds_of databases.old ≡ system.now.databases }
+    requires code { IsSomeAnd (job_of system.now code.now) (λ job. length unit.old.positions ≡ length job.pcbs) }
+    ensures advances { IfOk result (λ advanced. IsSomeAnd (job_of system.now code.now) (λ job. GoesOn job databases.old databases.new unit.old unit.new advanced)) }
+    ensures calls { OnErr result (unit.new.calls ≡ unit.old.calls) }
+    ensures ahead { OnErr result (IsSomeAnd (job_of system.now code.now) (λ job. StaysAhead job databases.old unit.old unit.new)) }
+    ensures kept { OnErr result (databases.new ≡ databases.old) }
+    ensures stays { Stays databases.old databases.new }
+{
+    let Some(code) = find_code(system.codes(), code.as_bytes()) else {
+        unreachable!()
+    };
+    let program = script_of(system, no_program, &code.psb);
+    let no_pcbs = Pcbs::new(alloc);
+    let pcbs = pcbs_of(system, &no_pcbs, &code.psb);
+    unit.advance(system, &code.transaction, program, pcbs, databases)
+}
+
+/// Lets the script of a region that has a message go on, as `advance`.
+fn advance_busy(
+    alloc: Global,
+    system: &System,
+    no_program: &Program,
+    tables: &mut Tables,
+    busy: &mut Busy,
+) -> Result<Advanced, Memory>
+    requires program { no_program.now ≡ [] }
+    requires work { IsQueuedWork system.now tables.old busy.old }
+    requires databases { dbds_of tables.old.databases ≡ system.now.databases }
+    ensures steps { IfOk result (λ advanced. Steps system.now tables.old tables.new.databases (Some busy.old) (Some busy.new) (Some advanced)) }
+    ensures tables { tables.new ≡ record tables.old { databases = tables.new.databases } }
+    ensures stays { Stays tables.old.databases tables.new.databases }
+    ensures err { OnErr result (SameWork system.now tables.old (Some busy.old) (Some busy.new)) }
+    ensures kept { OnErr result (tables.new ≡ tables.old) }
+{
+    let mut unit = match take_unit(alloc, system, no_program, tables, busy) {
+        Ok(unit) => unit,
+        Err(error) => return Err(error),
+    };
+    let advanced = advance_unit(
+        alloc,
+        system,
+        no_program,
+        &busy.code,
+        tables.databases_mut(),
+        &mut unit,
+    );
+    busy.unit = Some(unit);
+    advanced
 }
 
 /// Lets the script of a region go on to its next call, and answers that; nothing where the region
@@ -78,34 +170,35 @@ pub fn advance(
     alloc: Global,
     system: &System,
     no_program: &Program,
-    tables: &Tables,
+    tables: &mut Tables,
     region: &mut Option<Busy>,
 ) -> Result<Option<Advanced>, Memory>
     requires program { no_program.now ≡ [] }
-    requires work { IfSome region.old (IsQueuedWork system.now tables.now) }
-    ensures steps { IfOk result (Steps system.now tables.now region.old region.new) }
-    ensures err { OnErr result (SameWork system.now tables.now region.old region.new) }
+    requires work { IfSome region.old (IsQueuedWork system.now tables.old) }
+    requires databases { dbds_of tables.old.databases ≡ system.now.databases }
+    ensures steps { IfOk result (Steps system.now tables.old tables.new.databases region.old region.new) }
+    ensures tables { tables.new ≡ record tables.old { databases = tables.new.databases } }
+    ensures stays { Stays tables.old.databases tables.new.databases }
+    ensures err { OnErr result (SameWork system.now tables.old region.old region.new) }
+    ensures kept { OnErr result (tables.new ≡ tables.old) }
 {
     let Some(busy) = region else {
         return Ok(None);
     };
-    let Some(message) = tables.queues().find(busy.id) else {
-        unreachable!()
-    };
-    let Some(code) = find_code(system.codes(), busy.code.as_bytes()) else {
-        unreachable!()
-    };
-    let program = script_of(system, no_program, &code.psb);
-    let no_pcbs = Pcbs::new(alloc);
-    let pcbs = pcbs_of(system, &no_pcbs, &code.psb);
-    let advanced = busy.unit.advance(
-        &code.transaction,
-        program,
-        pcbs,
-        system.databases(),
-        &message.segments,
-    )?;
-    Ok(Some(advanced))
+    match advance_busy(alloc, system, no_program, tables, busy) {
+        Ok(advanced) => Ok(Some(advanced)),
+        Err(error) => Err(error),
+    }
+}
+
+/// What a region's work sends at its end; one that wasn't started sends nothing.
+pub fn outputs_by(alloc: Global, busy: &Busy) -> Result<VecDeque<Ended>, Memory>
+    ensures { IfOk result (λ outputs. outputs.items ≡ outputs_by busy.now.unit) }
+{
+    match &busy.unit {
+        Some(unit) => unit.outputs(),
+        None => Ok(VecDeque::new(alloc)),
+    }
 }
 
 /// How many regions have a message.
@@ -123,74 +216,17 @@ pub fn count_busy(regions: &[Option<Busy>]) -> u32
     busy
 }
 
-/// Takes the reply of a region's work out of it.
-pub fn take_reply(region: &mut Option<Busy>) -> Segments
-    requires { IsSome region.old }
-    ensures reply { result ≡ reply_of region.old }
-    ensures rest { region.new ≡ with_reply [] region.old }
-{
-    match region {
-        Some(busy) => take_from(busy),
-        None => unreachable!(),
-    }
-}
-
-/// Takes the databases, as a region's work has left them, out of it.
-pub fn take_databases(region: &mut Option<Busy>) -> Vec<PlainRows>
-    requires { IsSome region.old }
-    ensures { result.items ≡ databases_of region.old }
-{
-    match region {
-        Some(busy) => databases_from(busy),
-        None => unreachable!(),
-    }
-}
-
-fn databases_from(busy: &mut Busy) -> Vec<PlainRows>
-    ensures { result.items ≡ busy.old.unit.databases.databases }
-{
-    busy.unit.take_databases()
-}
-
-fn take_from(busy: &mut Busy) -> Segments
-    ensures reply { result ≡ busy.old.unit.reply }
-    ensures rest { busy.new ≡ record busy.old { unit = record busy.old.unit { reply = [] } } }
-{
-    busy.unit.take_reply()
-}
-
-/// Puts the reply of a region's work back.
-pub fn put_reply(region: &mut Option<Busy>, reply: Segments)
-    ensures { region.new ≡ with_reply reply region.old }
-{
-    if let Some(busy) = region {
-        busy.unit.put_reply(reply);
-    }
-}
-
-/// Gives a message that no region has to the region of this number, which is to work on it; the flag
-/// of its code follows.
-pub fn take(
-    system: &System,
-    tables: &mut Tables,
-    codes: &mut Codes,
-    regions: &mut Vec<Option<Busy>>,
-    region: u32,
-    busy: Busy,
-)
+/// Gives a message that no region has to the region of this number, which is to work on it. This takes
+/// no memory.
+pub fn take(tables: &mut Tables, regions: &mut Vec<Option<Busy>>, region: u32, busy: Busy)
     requires free { IsSomeAnd (queued_at busy.id tables.old.queues.queued) (λ q. q.holder ≡ None) }
     requires positive { 1 ≤ region }
     requires defined { region ≤ length regions.old.items }
-    requires states { length codes.old ≡ length system.now.codes }
     ensures tables { tables.new ≡ held tables.old busy.id region }
     ensures regions { regions.new.items ≡ slice_set regions.old.items (region - 1) (Some busy) }
-    ensures codes { codes.new ≡ followed system.now busy.code (free_count busy.code tables.new.queues.queued) codes.old }
 {
-    let code = busy.code;
     tables.hold(busy.id, region);
     put(&mut regions[region as usize - 1], busy);
-    let waiting = tables.queues().waiting(&code);
-    follow(codes, system, &code, waiting);
 }
 
 fn put(region: &mut Option<Busy>, busy: Busy)

@@ -5,9 +5,10 @@ ghost use Rattle.model_machine.specs.Steps.{May, After, need_now};
 ghost use Rattle.tm_parts.specs.Turns.{Goes, turned_entry};
 
 use crate::Turned;
+use crate::flags::follow;
 use crate::next::SLOT_ROOM;
 use crate::parts::Parts;
-use crate::region::{Busy, advance, count_busy, start_unit, take};
+use crate::region::{Busy, advance, count_busy, take};
 use model_machine::Entry;
 use tm_types::Memory;
 use tm_unit::Advanced;
@@ -44,7 +45,7 @@ impl Parts {
             self.alloc,
             &self.system,
             &self.no_program,
-            &self.tables,
+            &mut self.tables,
             &mut self.regions[region as usize - 1],
         )
     }
@@ -75,30 +76,15 @@ impl Parts {
             return Ok(Turned::Held(need, limit));
         }
         let (code, id) = (picked.code, picked.id);
-        let unit = match start_unit(
-            self.alloc,
-            &self.system,
-            &self.no_program,
-            &code,
-            self.tables.databases(),
-        ) {
-            Ok(unit) => unit,
-            Err(error) => return Err(error),
-        };
         let busy = Busy {
             code,
             taken: 1,
             id,
-            unit,
+            unit: None,
         };
-        take(
-            &self.system,
-            &mut self.tables,
-            &mut self.codes,
-            &mut self.regions,
-            region,
-            busy,
-        );
+        take(&mut self.tables, &mut self.regions, region, busy);
+        let waiting = self.tables.queues().waiting(&code);
+        follow(&mut self.codes, &self.system, &code, waiting);
         Ok(Turned::Scheduled(code, id))
     }
 }

@@ -1,4 +1,4 @@
-use Rattle.std.proofs.Common.{replicate, ap, ◌∙◌, subst, length, ◌<◌, ◌^◌}
+use Rattle.std.proofs.Common.{replicate, map, sym, ap, ◌∙◌, subst, length, ◌<◌, ◌^◌}
 use Rattle.std.specs.Prelude.{None}
 use Rattle.tm_parts.proofs.Started.{parts_start, moment_start}
 use Rattle.tm_parts.proofs.parts.Parts.new.Goals as goal
@@ -9,7 +9,9 @@ invariant_of-result c =
     (c.new-3.ensures ∙ c.new-2.ensures.items) c.in_ok-tables.ensures.queues
     (c.in_ok-regions.ensures.empty ∙ ap (λ rs. replicate (length rs) None) c.regions.ensures.value)
     (subst (λ rs. length rs < 2 ^ 32) c.regions.ensures.value c.in_ok-regions.ensures.few)
-    c.in_ok-codes.ensures c.in_ok-tables.ensures.databases c.regions.ensures.valid.one_region
+    c.in_ok-codes.ensures
+    (record { stores = c.in_ok-tables.ensures.databases; committed = ap (map (λ s. s.dbd)) (sym c.in_ok-tables.ensures.clean.stores) ∙ c.in_ok-tables.ensures.databases })
+    c.in_ok-tables.ensures.clean c.regions.ensures.valid.one_region
 
 pub returns-clause-moment : goal.returns-clause-moment
 returns-clause-moment c =

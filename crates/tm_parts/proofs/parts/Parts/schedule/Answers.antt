@@ -1,12 +1,12 @@
 use Rattle.std.proofs.Common.{◌≡◌, ◌-◌, ◌<◌, length, sym, ap, refl, ◌∙◌, subst, arith}
-use Rattle.std.specs.Prelude.{Some, None, IsSomeAnd, slice_get}
+use Rattle.std.specs.Prelude.{Some, None, slice_get}
 use Rattle.std.proofs.lemmas.Option.{slice_get-get_or}
 use Rattle.model_queues.specs.Queue.{free_count}
-use Rattle.model_machine.specs.Machine.{followed, job_of}
-use Rattle.tm_tables.specs.Tables.{lasting_of, rows_of}
-use Rattle.tm_unit.specs.Ahead.{IsStart}
+use Rattle.model_machine.specs.Machine.{followed}
+use Rattle.tm_tables.specs.Tables.{lasting_of}
 use Rattle.tm_parts.specs.Parts.{slots_of, AreParts}
-use Rattle.tm_parts.proofs.Scheduled.{none_picked, some_picked, is_picked, parts_taken, moment_taken, empty_at, calls_of}
+use Rattle.tm_parts.proofs.Scheduled.{none_picked, some_picked, is_picked, parts_taken, moment_taken, empty_at}
+use Rattle.tm_parts.proofs.Started.{followed_length}
 use Rattle.tm_parts.proofs.parts.Parts.schedule.Goals as goal
 
 pub returns-in_default-clause-may : goal.returns-in_default-clause-may
@@ -35,12 +35,11 @@ invariant_of-self c =
     let empty : slice_get c.self.inside.regions.items (c.args.region - 1) ≡ Some None =
     slice_get-get_or c.self.inside.regions.items (c.args.region - 1) None within
     ∙ ap Some (empty_at c.self.inside.regions.items (c.args.region - 1) _ (slice_get-get_or c.self.inside.regions.items (c.args.region - 1) None within) (rw (← c.self.view_is) at c.requires.empty)) in
-    subst (λ states. AreParts c.self.inside.system c.self.inside.no_program c.take.new.tables states c.take.new.regions.items) (sym c.take.ensures.codes)
-    (subst (λ regions. AreParts c.self.inside.system c.self.inside.no_program c.take.new.tables (followed c.self.inside.system c.in-Some.picked.code (free_count c.in-Some.picked.code c.take.new.tables.queues.queued) c.self.inside.codes) regions) (sym c.take.ensures.regions)
+    subst (λ regions. AreParts c.self.inside.system c.self.inside.no_program c.take.new.tables c.follow.new.codes regions) (sym c.take.ensures.regions)
     (parts_taken c.self.inside.system c.self.inside.no_program c.self.inside.tables c.self.inside.codes c.self.inside.regions.items c.args.region c.self.invariant
-    (record { code = c.in-Some.picked.code; taken = 1; id = c.in-Some.picked.id; unit = c.in-Ok.unit }) empty region.0 c.take.new.tables (free_count c.in-Some.picked.code c.take.new.tables.queues.queued) c.take.ensures.tables
-    (rw (ap (λ q. q.queued) c.queues.ensures) at c.in-Some.ensures.free)
-    (subst (λ ds. IsSomeAnd (job_of c.self.inside.system c.in-Some.picked.code) (λ job. IsStart job (rows_of ds) c.in-Ok.unit)) c.databases.ensures c.in-Ok.ensures)))
+    (record { code = c.in-Some.picked.code; taken = 1; id = c.in-Some.picked.id; unit = None }) empty region.0 c.take.new.tables c.follow.new.codes c.take.ensures.tables
+    (rw (ap (λ q. q.queued) c.queues.ensures) at c.in-Some.ensures.free) c.in-Some.ensures.code refl
+    (ap length c.follow.ensures ∙ followed_length c.self.inside.system c.in-Some.picked.code c.waiting-waiting.result c.self.inside.codes))
 
 pub returns-clause-may : goal.returns-clause-may
 returns-clause-may c = (
@@ -63,7 +62,9 @@ returns-clause-after c =
     slice_get-get_or c.self.inside.regions.items (c.args.region - 1) None within
     ∙ ap Some (empty_at c.self.inside.regions.items (c.args.region - 1) _ (slice_get-get_or c.self.inside.regions.items (c.args.region - 1) None within) (rw (← c.self.view_is) at c.requires.empty)) in
     rw (sym c.self.view_is)
-    (ap (λ states. record { lasting = lasting_of c.take.new.tables; slots = slots_of c.take.new.regions.items; codes = states }) c.take.ensures.codes
+    (ap (λ states. record { lasting = lasting_of c.take.new.tables; slots = slots_of c.take.new.regions.items; codes = states })
+    (c.follow.ensures ∙ ap (λ n. followed c.self.inside.system c.in-Some.picked.code n c.self.inside.codes)
+    (c.waiting-waiting.ensures ∙ ap (λ q. free_count c.in-Some.picked.code q.queued) c.queues-3.ensures))
     ∙ ap (λ regions. record { lasting = lasting_of c.take.new.tables; slots = slots_of regions; codes = followed c.self.inside.system c.in-Some.picked.code (free_count c.in-Some.picked.code c.take.new.tables.queues.queued) c.self.inside.codes }) c.take.ensures.regions
     ∙ moment_taken c.self.inside.system c.self.inside.no_program c.self.inside.tables c.self.inside.codes c.self.inside.regions.items c.args.region c.self.invariant
-    (record { code = c.in-Some.picked.code; taken = 1; id = c.in-Some.picked.id; unit = c.in-Ok.unit }) empty region.0 c.take.new.tables c.take.ensures.tables refl (calls_of _ _ c.in-Ok.unit c.in-Ok.ensures))
+    (record { code = c.in-Some.picked.code; taken = 1; id = c.in-Some.picked.id; unit = None }) empty region.0 c.take.new.tables c.take.ensures.tables refl refl)
