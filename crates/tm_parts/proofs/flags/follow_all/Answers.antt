@@ -7,8 +7,8 @@ use Rattle.tm_parts.proofs.flags.follow_all.Goals as goal
 
 pub loop-name-preserved : goal.loop-name-preserved
 loop-name-preserved c = record {
-  count = ap length c.follow.ensures ∙ followed_length c.args.system.now c.name-item.result.now c.waiting.result c.loop-name.codes ∙ c.loop-name.invariant.count;
+  count = ap length c.follow.ensures ∙ followed_length c.args.system.now c.name-item.result c.waiting.result c.loop-name.codes ∙ c.loop-name.invariant.count;
   rest = follow_step c.args.system.now (λ name. free_count name c.args.queues.now.queued) c.args.names.now c.args.codes.now c.loop-name.codes c.follow.new.codes c.loop-name.name-index
-      c.name-item.result.now c.loop-name-test.true c.name-item.is c.loop-name.invariant.rest
-      (c.follow.ensures ∙ ap (λ n. followed c.args.system.now c.name-item.result.now n c.loop-name.codes) c.waiting.ensures);
+      c.name-item.result c.loop-name-test.true c.name-item.is c.loop-name.invariant.rest
+      (c.follow.ensures ∙ ap (λ n. followed c.args.system.now c.name-item.result n c.loop-name.codes) c.waiting.ensures);
 }
