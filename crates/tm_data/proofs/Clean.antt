@@ -1,5 +1,5 @@
 -- Stores of which nothing was changed.
-use Rattle.std.proofs.Common.{◌≡◌, ℕ, suc, List, [], ◌∷◌, map, ap, refl, ◌∙◌, subst, sym}
+use Rattle.std.proofs.Common.{◌≡◌, ℕ, suc, List, [], ◌∷◌, map, refl, ap, ◌∙◌, subst, sym}
 use Rattle.seg_store.specs.Slots.{Stored}
 use Rattle.unit_work.specs.declared.change.Change.{Change}
 use Rattle.unit_work.specs.Changes.{Changes, no_changes}
@@ -9,6 +9,18 @@ use Rattle.tm_data.specs.State.{DatabasesState, roots_of}
 
 pub backed_none : (stores : List Stored) → backed_out [] stores ≡ stores
 backed_none stores = ap (backed_from [] 1) (none_cleared 1 stores) ∙ none_backed 1 stores
+
+-- backing out keeps the definitions of the databases
+pub backed_dbds : (records : List Change) (stores new : List Stored) → new ≡ backed_out records stores → map (λ (s : Stored). s.dbd) new ≡ map (λ (s : Stored). s.dbd) stores
+backed_dbds records stores new e = ap (map (λ (s : Stored). s.dbd)) e ∙ (backed 1 (cleared_from records 1 stores) ∙ clear 1 stores)
+  where
+    backed : (n : ℕ) (ss : List Stored) → map (λ (s : Stored). s.dbd) (backed_from records n ss) ≡ map (λ (s : Stored). s.dbd) ss
+    backed n [] = refl
+    backed n (s ∷ ss) = ap (λ ds. s.dbd ∷ ds) (backed (suc n) ss)
+
+    clear : (n : ℕ) (ss : List Stored) → map (λ (s : Stored). s.dbd) (cleared_from records n ss) ≡ map (λ (s : Stored). s.dbd) ss
+    clear n [] = refl
+    clear n (s ∷ ss) = ap (λ ds. s.dbd ∷ ds) (clear (suc n) ss)
 
 -- databases of which nothing was changed
 abbrev pub unchanged : List Stored → DatabasesState
@@ -28,15 +40,3 @@ clean changes stores given e g =
 
 pub can_clean : (changes : Changes) (stores : List Stored) → changes ≡ no_changes → CanBackOut changes.records stores
 can_clean changes stores e = subst (λ (ch : Changes). CanBackOut ch.records stores) (sym e) (record { stored = tt; fits = tt; apart = tt })
-
--- backing out leaves the databases' definitions
-cleared_dbds : (records : List Change) (n : ℕ) (stores : List Stored) → map (λ s. s.dbd) (cleared_from records n stores) ≡ map (λ s. s.dbd) stores
-cleared_dbds records n [] = refl
-cleared_dbds records n (s ∷ stores) = ap (λ dbds. s.dbd ∷ dbds) (cleared_dbds records (suc n) stores)
-
-backed_dbds : (records : List Change) (n : ℕ) (stores : List Stored) → map (λ s. s.dbd) (backed_from records n stores) ≡ map (λ s. s.dbd) stores
-backed_dbds records n [] = refl
-backed_dbds records n (s ∷ stores) = ap (λ dbds. s.dbd ∷ dbds) (backed_dbds records (suc n) stores)
-
-pub same_dbds : (records : List Change) (stores : List Stored) → map (λ s. s.dbd) (backed_out records stores) ≡ map (λ s. s.dbd) stores
-same_dbds records stores = backed_dbds records 1 (cleared_from records 1 stores) ∙ cleared_dbds records 1 stores

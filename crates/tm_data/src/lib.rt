@@ -9,3 +9,5 @@ mod answer;
 mod databases;
 mod guard;
 mod making;
+#[cfg(test)]
+mod tests;
