@@ -26,25 +26,25 @@ pub record HasAnswer (d : DliResult) (p : Planned) : Type 0 where
   pub position : p.position ≡ d.position
 
 -- a call that changes no record
-pub record PlansNone (rows : List Row) (d : DliResult) (p : Planned) : Type 0 where
+pub record PlansNone (before : List Row) (d : DliResult) (p : Planned) : Type 0 where
   pub changed : d.changed ≡ None
   pub refusal : d.refusal ≡ None
-  pub rows : d.rows ≡ rows
+  pub rows : d.rows ≡ before
   pub answer : HasAnswer d p
 
 -- a call that changes a record, by setting this image, or is refused by the limit that this image
 -- passes
-pub record PlansEdit (dbd : Dbd) (rows : List Row) (d : DliResult) (p : Planned) (e : Edit) : Type 0 where
+pub record PlansEdit (dbd : Dbd) (before : List Row) (d : DliResult) (p : Planned) (e : Edit) : Type 0 where
   pub changed : d.changed ≡ Some e.root
   pub image : IsImage dbd e.root e.image
-  pub refusal : d.refusal ≡ limit_of (set_refusal dbd e.root e.image rows)
-  pub rows : d.refusal ≡ None → d.rows ≡ with_record e.root e.image rows
+  pub refusal : d.refusal ≡ limit_of (set_refusal dbd e.root e.image before)
+  pub rows : d.refusal ≡ None → d.rows ≡ with_record e.root e.image before
   pub answer : d.refusal ≡ None → HasAnswer d p
 
 abbrev pub PlansTo : Dbd → List Row → DliResult → Planned → Option Edit → Type 0
-PlansTo dbd rows d p None = PlansNone rows d p
-PlansTo dbd rows d p (Some e) = PlansEdit dbd rows d p e
+PlansTo dbd before d p None = PlansNone before d p
+PlansTo dbd before d p (Some e) = PlansEdit dbd before d p e
 
 -- the plan of a call on these rows, which comes to d
 abbrev pub Plans : Dbd → List Row → DliResult → Planned → Type 0
-Plans dbd rows d p = PlansTo dbd rows d p p.edit
+Plans dbd before d p = PlansTo dbd before d p p.edit

@@ -1,18 +1,90 @@
 //! Database calls.
-ghost use Rattle.std.specs.Prelude.{◌≡◌, ◌≤◌, length, IfOk, IfErr, OnOk, OnErr, None, ◌&&◌, ◌||◌};
+ghost use Rattle.std.specs.Prelude.{◌≡◌, ◌≤◌, length, IfOk, IfErr, IfSome, OnOk, OnErr, None, ◌&&◌, ◌||◌};
+ghost use Rattle.std.specs.Option.{option_copied, option_map};
+ghost use Rattle.tm_types.specs.declared.status.Status.TheVariants.{AM};
+ghost use Rattle.model_rows.specs.Rows.{IsImage};
 ghost use Rattle.model_dli.specs.Conditions.{IsDbCall, IsPosition, AreInsertSsas};
-ghost use Rattle.model_dli.specs.Dli.{dli, has_option, is_allowed, position_denied, insert, replace, delete};
+ghost use Rattle.model_dli.specs.Dli.{dli, get, has_option, is_allowed, position_denied, insert, replace, delete};
 ghost use Rattle.model_dli.specs.declared.call.Position.{Position};
-ghost use Rattle.dli_calls.specs.Performs.{Performs, RefusesCall};
+ghost use Rattle.dli_calls.specs.Performs.{RefusesCall};
+ghost use Rattle.dli_calls.specs.Plans.{Plans};
+ghost use Rattle.dli_calls.specs.Edited.{rows_set, edit_limit};
 
 use crate::change::{self, delete_fault, replace_fault};
-use crate::get::{answer, fail, get};
+use crate::get::{fail, get};
 use crate::inserting::{insert_fault, insert_root};
+use crate::planned::{Edit, Planned, answer_at};
 use model_dli::{DbCall, Performed, Position, Reach};
+use model_rows::Path;
 use seg_rows::{Rows, StoreRefused};
 use std::alloc::Global;
 use tm_types::processing::{DELETE, GET, INSERT, REPLACE};
-use tm_types::{Dbd, Function, Key, Status};
+use tm_types::{Dbd, Function, Key, Memory, Status};
+
+/// What a call comes to on the rows of a database, by a PCB that stands at `at`. This changes
+/// nothing.
+///
+/// The plan has the call's answer, and where the call changes a record, the record that is to be set.
+/// A call that the PCB's options don't allow answers AM, before all else.
+pub fn plan<R: Rows>(
+    alloc: Global,
+    dbd: &Dbd,
+    call: &DbCall,
+    at: &Position,
+    rows: &R,
+) -> Result<Planned, Memory>
+    requires types { length dbd.now.types ≤ 255 }
+    requires rows { R.database rows.now ≡ dbd.now }
+    requires call { IsDbCall dbd.now.types call.now }
+    requires position { IsPosition dbd.now.types at.now }
+    ensures planned { IfOk result (Plans dbd.now (R.rows rows.now) (dli dbd.now call.now at.now (R.rows rows.now))) }
+    ensures position { IfOk result (λ p. IsPosition dbd.now.types p.position) }
+{
+    let position = copied(at)?;
+    if !is_allowed(call.function, call.options) {
+        return Ok(denied(call.function, position));
+    }
+    match call.function {
+        Function::GU => plan_get(Reach::Start, false, dbd, call, position, rows),
+        Function::GN => plan_get(Reach::Next, false, dbd, call, position, rows),
+        Function::GNP => plan_get(Reach::Parent, false, dbd, call, position, rows),
+        Function::GHU => plan_get(Reach::Start, true, dbd, call, position, rows),
+        Function::GHN => plan_get(Reach::Next, true, dbd, call, position, rows),
+        Function::GHNP => plan_get(Reach::Parent, true, dbd, call, position, rows),
+        Function::ISRT => change::insert(alloc, dbd, call, position, rows),
+        Function::REPL => change::replace(alloc, dbd, call, position, rows),
+        Function::DLET => change::delete(alloc, dbd, position, rows),
+        Function::PURG => unreachable!(),
+        Function::CHNG => unreachable!(),
+        Function::ROLB => unreachable!(),
+        Function::ROLL => unreachable!(),
+    }
+}
+
+fn plan_get<R: Rows>(
+    reach: Reach,
+    hold: bool,
+    dbd: &Dbd,
+    call: &DbCall,
+    mut at: Position,
+    rows: &R,
+) -> Result<Planned, Memory>
+    requires types { length dbd.now.types ≤ 255 }
+    requires rows { R.database rows.now ≡ dbd.now }
+    requires position { IsPosition dbd.now.types at }
+    ensures planned { IfOk result (Plans dbd.now (R.rows rows.now) (get reach hold dbd.now call.now at (R.rows rows.now))) }
+    ensures position { IfOk result (λ p. IsPosition dbd.now.types p.position) }
+{
+    match get(reach, hold, dbd, call, &mut at, rows) {
+        Ok(performed) => Ok(Planned {
+            status: performed.status,
+            area: performed.area,
+            position: at,
+            edit: None,
+        }),
+        Err(_) => Err(Memory),
+    }
+}
 
 /// Makes a call on the rows of a database, by a PCB that stands at `position`.
 ///
@@ -46,45 +118,35 @@ pub fn perform<R: Rows>(
     ensures database { R.database rows.new ≡ R.database rows.old }
     ensures valid { IsPosition dbd.now.types position.new }
 {
-    perform_call(alloc, dbd, call, position, rows)
+    let Ok(planned) = plan(alloc, dbd, call, position, rows) else {
+        return Err(StoreRefused::Memory);
+    };
+    let changed = set_edit(planned.edit, rows)?;
+    *position = planned.position;
+    Ok(Performed {
+        status: planned.status,
+        area: planned.area,
+        changed,
+    })
 }
 
-fn perform_call<R: Rows>(
-    alloc: Global,
-    dbd: &Dbd,
-    call: &DbCall,
-    at: &mut Position,
-    rows: &mut R,
-) -> Result<Performed, StoreRefused>
-    requires types { length dbd.now.types ≤ 255 }
-    requires rows { R.database rows.old ≡ dbd.now }
-    requires call { IsDbCall dbd.now.types call.now }
-    requires position { IsPosition dbd.now.types at.old }
-    ensures performed { IfOk result (λ p. Performs (dli dbd.now call.now at.old (R.rows rows.old)) p (R.rows rows.new) at.new) }
-    ensures refused { IfErr result (RefusesCall (dli dbd.now call.now at.old (R.rows rows.old)).refusal) }
-    ensures kept_rows { OnErr result (R.rows rows.new ≡ R.rows rows.old) }
-    ensures kept_position { OnErr result (at.new ≡ at.old) }
+// Sets the record of a plan, if it has one, and answers its root.
+fn set_edit<R: Rows>(edit: Option<Edit>, rows: &mut R) -> Result<Option<Key>, StoreRefused>
+    requires { IfSome edit (λ e. IsImage (R.database rows.old) e.root e.image) }
+    ensures changed { IfOk result (λ root. root ≡ option_map (λ e. e.root) edit) }
+    ensures rows { OnOk result (R.rows rows.new ≡ rows_set edit (R.rows rows.old)) }
+    ensures accepted { OnOk result (edit_limit (R.database rows.old) edit (R.rows rows.old) ≡ None) }
+    ensures refused { IfErr result (RefusesCall (edit_limit (R.database rows.old) edit (R.rows rows.old))) }
+    ensures kept { OnErr result (R.rows rows.new ≡ R.rows rows.old) }
     ensures database { R.database rows.new ≡ R.database rows.old }
-    ensures valid { IsPosition dbd.now.types at.new }
 {
-    if !is_allowed(call.function, call.options) {
-        deny(call.function, at);
-        return Ok(answer(Status::AM));
-    }
-    match call.function {
-        Function::GU => get(Reach::Start, false, dbd, call, at, rows),
-        Function::GN => get(Reach::Next, false, dbd, call, at, rows),
-        Function::GNP => get(Reach::Parent, false, dbd, call, at, rows),
-        Function::GHU => get(Reach::Start, true, dbd, call, at, rows),
-        Function::GHN => get(Reach::Next, true, dbd, call, at, rows),
-        Function::GHNP => get(Reach::Parent, true, dbd, call, at, rows),
-        Function::ISRT => change::insert(alloc, dbd, call, at, rows),
-        Function::REPL => change::replace(alloc, dbd, call, at, rows),
-        Function::DLET => change::delete(alloc, dbd, at, rows),
-        Function::PURG => unreachable!(),
-        Function::CHNG => unreachable!(),
-        Function::ROLB => unreachable!(),
-        Function::ROLL => unreachable!(),
+    let Some(edit) = edit else {
+        return Ok(None);
+    };
+    let root = edit.root;
+    match rows.set(&root, edit.image) {
+        Ok(()) => Ok(Some(root)),
+        Err(refusal) => Err(refusal),
     }
 }
 
@@ -152,6 +214,14 @@ fn would_delete<R: Rows>(dbd: &Dbd, at: &Position, rows: &R) -> Option<Key>
     }
 }
 
+/// A call that isn't allowed.
+fn denied(function: Function, mut at: Position) -> Planned
+    ensures { result ≡ record { status = AM; area = None; position = position_denied function at; edit = None } }
+{
+    deny(function, &mut at);
+    answer_at(Status::AM, at)
+}
+
 /// Takes from the PCB what a call takes that isn't allowed.
 fn deny(function: Function, at: &mut Position)
     ensures { at.new ≡ position_denied function at.old }
@@ -196,4 +266,23 @@ fn has(options: u8, option: u8) -> bool
     ensures { result ≡ has_option options option }
 {
     options & option != 0
+}
+
+fn copied(at: &Position) -> Result<Position, Memory>
+    ensures { IfOk result (λ copy. copy ≡ at.now) }
+{
+    Ok(Position {
+        position: copied_path(at.position.as_ref())?,
+        parentage: copied_path(at.parentage.as_ref())?,
+        hold: copied_path(at.hold.as_ref())?,
+    })
+}
+
+fn copied_path(path: Option<&Path>) -> Result<Option<Path>, Memory>
+    ensures { IfOk result (λ copy. copy ≡ option_copied path.entry) }
+{
+    match path {
+        Some(path) => Ok(Some(path.clone()?)),
+        None => Ok(None),
+    }
 }

@@ -1,8 +1,7 @@
 //! The calls that change a record: ISRT, REPL and DLET.
-ghost use Rattle.std.specs.Prelude.{◌≡◌, ◌≤◌, length, IfOk, IfErr, IfNone, OnErr, IsTrue, None, Some};
+ghost use Rattle.std.specs.Prelude.{◌≡◌, ◌≤◌, length, IfOk, IfNone, IsTrue};
 ghost use Rattle.std.specs.List.{list_all};
 ghost use Rattle.std.specs.Ordering.{is_eq};
-ghost use Rattle.tm_types.specs.declared.status.Status.TheVariants.{Blank};
 ghost use Rattle.tm_types.specs.Segment.{is_printable};
 ghost use Rattle.model_rows.specs.Path.{key_cmp, root_of, end_type, end_key, IsPath};
 ghost use Rattle.model_rows.specs.Row.{IsRow};
@@ -11,146 +10,109 @@ ghost use Rattle.model_dli.specs.Search.{fitted, key_length, data_length};
 ghost use Rattle.model_dli.specs.Change.{replace_fault, delete_fault, with_row, with_data, without};
 ghost use Rattle.model_dli.specs.Conditions.{AreInsertSsas, IsPosition};
 ghost use Rattle.model_dli.specs.Dli.{insert, replace, delete};
-ghost use Rattle.dli_calls.specs.Performs.{Performs, RefusesCall};
-ghost use Rattle.dli_calls.specs.Edited.{IsEdited};
+ghost use Rattle.dli_calls.specs.Plans.{Plans};
+ghost use Rattle.dli_calls.specs.Edited.{IsEdit};
 
 use crate::asked::{data_length, fitted_bytes, fitted_key};
 use crate::edit;
-use crate::get::answer;
 use crate::inserting::{insert_fault, insert_row};
+use crate::planned::{Planned, answer_at, set_record};
 use crate::search::{is_there, record_rows};
-use model_dli::{DbCall, Performed, Position};
+use model_dli::{DbCall, Position};
 use model_rows::{Path, Row};
-use seg_rows::{Rows, StoreRefused};
+use seg_rows::{RecordImage, Rows};
 use std::alloc::Global;
-use tm_types::{Dbd, Key, SegTypes, Status};
+use tm_types::{Dbd, Key, Memory, SegTypes, Status};
 
-/// An ISRT. A refusal changes nothing.
+/// An ISRT.
 pub fn insert<R: Rows>(
     alloc: Global,
     dbd: &Dbd,
     call: &DbCall,
-    at: &mut Position,
-    rows: &mut R,
-) -> Result<Performed, StoreRefused>
+    mut at: Position,
+    rows: &R,
+) -> Result<Planned, Memory>
     requires types { length dbd.now.types ≤ 255 }
-    requires rows { R.database rows.old ≡ dbd.now }
-    requires position { IsPosition dbd.now.types at.old }
+    requires rows { R.database rows.now ≡ dbd.now }
+    requires position { IsPosition dbd.now.types at }
     requires ssas { AreInsertSsas dbd.now.types 0 call.now.ssas }
     requires area { IsTrue (list_all is_printable call.now.area) }
-    ensures performed { IfOk result (λ p. Performs (insert dbd.now call.now at.old (R.rows rows.old)) p (R.rows rows.new) at.new) }
-    ensures refused { IfErr result (RefusesCall (insert dbd.now call.now at.old (R.rows rows.old)).refusal) }
-    ensures kept_position { OnErr result (at.new ≡ at.old) }
-    ensures valid { IsPosition dbd.now.types at.new }
-    ensures kept_rows { OnErr result (R.rows rows.new ≡ R.rows rows.old) }
-    ensures database { R.database rows.new ≡ R.database rows.old }
+    ensures planned { IfOk result (Plans dbd.now (R.rows rows.now) (insert dbd.now call.now at (R.rows rows.now))) }
+    ensures position { IfOk result (λ p. IsPosition dbd.now.types p.position) }
 {
     let _hierarchy = dbd.types.as_slice();
     let ssas = call.ssas.as_slice();
     let area = call.area.as_slice();
     if let Some(status) = insert_fault(&dbd.types, area, ssas, rows) {
         at.hold = None;
-        return Ok(answer(status));
+        return Ok(answer_at(status, at));
     }
-    let Ok(row) = insert_row(alloc, &dbd.types, area, ssas) else {
-        return Err(StoreRefused::Memory);
-    };
+    let row = insert_row(alloc, &dbd.types, area, ssas)?;
     let Some(root) = row.path.root() else {
         unreachable!()
     };
-    match put_row(alloc, dbd, &row, &root, rows) {
-        Ok(()) => {
-            at.position = Some(row.path);
-            at.hold = None;
-            Ok(change(root))
-        }
-        Err(refusal) => Err(refusal),
-    }
+    let image = with_row(alloc, dbd, &row, &root, rows)?;
+    at.position = Some(row.path);
+    at.hold = None;
+    Ok(set_record(at, root, image))
 }
 
-/// A REPL. A refusal changes nothing.
+/// A REPL.
 pub fn replace<R: Rows>(
     alloc: Global,
     dbd: &Dbd,
     call: &DbCall,
-    at: &mut Position,
-    rows: &mut R,
-) -> Result<Performed, StoreRefused>
-    requires rows { R.database rows.old ≡ dbd.now }
-    requires position { IsPosition dbd.now.types at.old }
+    mut at: Position,
+    rows: &R,
+) -> Result<Planned, Memory>
+    requires rows { R.database rows.now ≡ dbd.now }
+    requires position { IsPosition dbd.now.types at }
     requires area { IsTrue (list_all is_printable call.now.area) }
-    ensures performed { IfOk result (λ p. Performs (replace dbd.now call.now at.old (R.rows rows.old)) p (R.rows rows.new) at.new) }
-    ensures refused { IfErr result (RefusesCall (replace dbd.now call.now at.old (R.rows rows.old)).refusal) }
-    ensures kept_position { OnErr result (at.new ≡ at.old) }
-    ensures valid { IsPosition dbd.now.types at.new }
-    ensures kept_rows { OnErr result (R.rows rows.new ≡ R.rows rows.old) }
-    ensures database { R.database rows.new ≡ R.database rows.old }
+    ensures planned { IfOk result (Plans dbd.now (R.rows rows.now) (replace dbd.now call.now at (R.rows rows.now))) }
+    ensures position { IfOk result (λ p. IsPosition dbd.now.types p.position) }
 {
     let _hierarchy = dbd.types.as_slice();
     let area = call.area.as_slice();
     let Some(held) = &at.hold else {
-        return Ok(answer(Status::DJ));
+        return Ok(answer_at(Status::DJ, at));
     };
     if let Some(status) = replace_fault(&dbd.types, held, area, rows) {
         at.hold = None;
-        return Ok(answer(status));
+        return Ok(answer_at(status, at));
     }
     let Some(root) = held.root() else {
         unreachable!()
     };
-    match put_data(alloc, dbd, held, area, &root, rows) {
-        Ok(()) => {
-            at.hold = None;
-            Ok(change(root))
-        }
-        Err(refusal) => Err(refusal),
-    }
+    let image = with_data(alloc, dbd, held, area, &root, rows)?;
+    at.hold = None;
+    Ok(set_record(at, root, image))
 }
 
-/// A DLET. A refusal changes nothing.
+/// A DLET.
 pub fn delete<R: Rows>(
     alloc: Global,
     dbd: &Dbd,
-    at: &mut Position,
-    rows: &mut R,
-) -> Result<Performed, StoreRefused>
-    requires rows { R.database rows.old ≡ dbd.now }
-    requires position { IsPosition dbd.now.types at.old }
-    ensures performed { IfOk result (λ p. Performs (delete dbd.now at.old (R.rows rows.old)) p (R.rows rows.new) at.new) }
-    ensures refused { IfErr result (RefusesCall (delete dbd.now at.old (R.rows rows.old)).refusal) }
-    ensures kept_position { OnErr result (at.new ≡ at.old) }
-    ensures valid { IsPosition dbd.now.types at.new }
-    ensures kept_rows { OnErr result (R.rows rows.new ≡ R.rows rows.old) }
-    ensures database { R.database rows.new ≡ R.database rows.old }
+    mut at: Position,
+    rows: &R,
+) -> Result<Planned, Memory>
+    requires rows { R.database rows.now ≡ dbd.now }
+    requires position { IsPosition dbd.now.types at }
+    ensures planned { IfOk result (Plans dbd.now (R.rows rows.now) (delete dbd.now at (R.rows rows.now))) }
+    ensures position { IfOk result (λ p. IsPosition dbd.now.types p.position) }
 {
     let Some(held) = &at.hold else {
-        return Ok(answer(Status::DJ));
+        return Ok(answer_at(Status::DJ, at));
     };
     if let Some(status) = delete_fault(held, rows) {
         at.hold = None;
-        return Ok(answer(status));
+        return Ok(answer_at(status, at));
     }
     let Some(root) = held.root() else {
         unreachable!()
     };
-    match remove(alloc, dbd, held, &root, rows) {
-        Ok(()) => {
-            at.hold = None;
-            Ok(change(root))
-        }
-        Err(refusal) => Err(refusal),
-    }
-}
-
-/// The answer of a call that has changed the record of this root.
-fn change(root: Key) -> Performed
-    ensures { result ≡ record { status = Blank; area = None; changed = Some root } }
-{
-    Performed {
-        status: Status::Blank,
-        area: None,
-        changed: Some(root),
-    }
+    let image = without(alloc, dbd, held, &root, rows)?;
+    at.hold = None;
+    Ok(set_record(at, root, image))
 }
 
 /// Why the segment of this path isn't deleted, if it isn't. This takes no memory.
@@ -204,70 +166,56 @@ fn end_key(path: &Path) -> Key
     }
 }
 
-/// Adds the row to the record of its root.
-fn put_row<R: Rows>(
+/// The record of the root with one row more.
+fn with_row<R: Rows>(
     alloc: Global,
     dbd: &Dbd,
     row: &Row,
     root: &Key,
-    rows: &mut R,
-) -> Result<(), StoreRefused>
-    requires rows { R.database rows.old ≡ dbd.now }
-    requires row { IsRow dbd.now.types (R.rows rows.old) row.now }
+    rows: &R,
+) -> Result<RecordImage, Memory>
+    requires rows { R.database rows.now ≡ dbd.now }
+    requires row { IsRow dbd.now.types (R.rows rows.now) row.now }
     requires root { root_of row.now.path ≡ root.now }
-    ensures edited { IsEdited dbd.now root.now (R.rows rows.old) (with_row row.now (R.rows rows.old)) result (R.rows rows.new) }
-    ensures database { R.database rows.new ≡ R.database rows.old }
+    ensures { IfOk result (IsEdit dbd.now root.now (R.rows rows.now) (with_row row.now (R.rows rows.now))) }
 {
     let _hierarchy = dbd.types.as_slice();
-    let Ok(image) = edit::with_row(alloc, row, record_rows(root, rows)) else {
-        return Err(StoreRefused::Memory);
-    };
-    rows.set(root, image)
+    edit::with_row(alloc, row, record_rows(root, rows))
 }
 
-/// Replaces the data of the segment of this path.
-fn put_data<R: Rows>(
+/// The record of the root with this data in place of that of one segment.
+fn with_data<R: Rows>(
     alloc: Global,
     dbd: &Dbd,
     held: &Path,
     area: &[u8],
     root: &Key,
-    rows: &mut R,
-) -> Result<(), StoreRefused>
-    requires rows { R.database rows.old ≡ dbd.now }
-    requires row { IsRow dbd.now.types (R.rows rows.old) (record { path = held.now; bytes = fitted (data_length dbd.now.types (end_type held.now)) area.now }) }
+    rows: &R,
+) -> Result<RecordImage, Memory>
+    requires rows { R.database rows.now ≡ dbd.now }
+    requires row { IsRow dbd.now.types (R.rows rows.now) (record { path = held.now; bytes = fitted (data_length dbd.now.types (end_type held.now)) area.now }) }
     requires root { root_of held.now ≡ root.now }
-    ensures edited { IsEdited dbd.now root.now (R.rows rows.old) (with_data held.now (fitted (data_length dbd.now.types (end_type held.now)) area.now) (R.rows rows.old)) result (R.rows rows.new) }
-    ensures database { R.database rows.new ≡ R.database rows.old }
+    ensures { IfOk result (IsEdit dbd.now root.now (R.rows rows.now) (with_data held.now (fitted (data_length dbd.now.types (end_type held.now)) area.now) (R.rows rows.now))) }
 {
     let _hierarchy = dbd.types.as_slice();
     let length = data_length(&dbd.types, held.segment());
-    let Ok(bytes) = fitted_bytes(alloc, length, area) else {
-        return Err(StoreRefused::Memory);
-    };
-    let Ok(image) = edit::with_data(alloc, held, &bytes, record_rows(root, rows)) else {
-        return Err(StoreRefused::Memory);
-    };
-    rows.set(root, image)
+    let bytes = fitted_bytes(alloc, length, area)?;
+    edit::with_data(alloc, held, &bytes, record_rows(root, rows))
 }
 
-/// Removes the segment of this path and all below it.
-fn remove<R: Rows>(
+/// The record of the root without the segment of this path and all below it.
+fn without<R: Rows>(
     alloc: Global,
     dbd: &Dbd,
     held: &Path,
     root: &Key,
-    rows: &mut R,
-) -> Result<(), StoreRefused>
-    requires rows { R.database rows.old ≡ dbd.now }
+    rows: &R,
+) -> Result<RecordImage, Memory>
+    requires rows { R.database rows.now ≡ dbd.now }
     requires held { 1 ≤ length held.now }
     requires root { root_of held.now ≡ root.now }
-    ensures edited { IsEdited dbd.now root.now (R.rows rows.old) (without held.now (R.rows rows.old)) result (R.rows rows.new) }
-    ensures database { R.database rows.new ≡ R.database rows.old }
+    ensures { IfOk result (IsEdit dbd.now root.now (R.rows rows.now) (without held.now (R.rows rows.now))) }
 {
     let _hierarchy = dbd.types.as_slice();
-    let Ok(image) = edit::without(alloc, held, record_rows(root, rows)) else {
-        return Err(StoreRefused::Memory);
-    };
-    rows.set(root, image)
+    edit::without(alloc, held, record_rows(root, rows))
 }

@@ -1,3 +1,6 @@
 pub mod Results
-pub mod Leaving
-pub mod Kept
+pub mod Stepping
+pub mod Clean
+pub mod Limits
+pub mod Setting
+pub mod Calling

@@ -54,6 +54,13 @@ impl Databases {
         })
     }
 
+    /// The stores, as they are.
+    pub fn stores(&self) -> &Stores
+        ensures { result.now ≡ self.now.stores }
+    {
+        &self.stores
+    }
+
     /// Makes a call on the database of this number, counted from 1, by a PCB that stands at `at`.
     ///
     /// Rows and changed records are then as the call leaves them; where the PCB stands after the
@@ -98,14 +105,16 @@ impl Databases {
     /// Takes back all changes since the last commit, each record to the slot that it had. This takes
     /// no memory.
     pub fn back_out(&mut self)
-        ensures { self.new ≡ record { committed = self.old.committed; stores = self.old.committed; changed = [] } }
+        ensures value { self.new ≡ record { committed = self.old.committed; stores = self.old.committed; changed = [] } }
+        ensures databases { dbds_of self.new ≡ dbds_of self.old }
     {
         self.changes.back_out(&mut self.stores);
     }
 
     /// Makes the changes since the last commit stay. This takes no memory.
     pub fn commit(&mut self)
-        ensures { self.new ≡ record { committed = self.old.stores; stores = self.old.stores; changed = [] } }
+        ensures value { self.new ≡ record { committed = self.old.stores; stores = self.old.stores; changed = [] } }
+        ensures databases { dbds_of self.new ≡ dbds_of self.old }
     {
         self.changes = Unit::new(self.alloc);
     }

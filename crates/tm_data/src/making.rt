@@ -1,140 +1,185 @@
-//! A call on one database, with the changed records of the whole unit.
-ghost use Rattle.std.specs.Prelude.{◌≡◌, ◌≤◌, length, None, Some, IfOk, OnErr};
-ghost use Rattle.std.specs.Option.{option_map};
-ghost use Rattle.model_dli.specs.Conditions.{IsDbCall, IsPosition};
-ghost use Rattle.model_dli.specs.Dli.{dli};
-ghost use Rattle.model_dli.specs.Data.{abend_by, is_changed, limit_abend};
-ghost use Rattle.tm_data.specs.Answering.{abend_of, Gives, rows_left, changed_left};
+//! The record of a plan is set, and its image before kept.
+ghost use Rattle.std.specs.Prelude.{◌≡◌, ◌≤◌, ◌-◌, Some, None, IfOk, IfErr, OnOk, OnErr, IfSome, false, slice_get, map, length};
+ghost use Rattle.model_rows.specs.Record.{record_limit};
+ghost use Rattle.model_rows.specs.Rows.{IsImage, record_of};
+ghost use Rattle.model_dli.specs.Data.{limit_abend};
+ghost use Rattle.seg_rows.specs.StoreRefused.{set_refusal};
+ghost use Rattle.seg_store.specs.Slots.{AreSlots, rows_of_slots, slot_for};
+ghost use Rattle.unit_work.specs.Changes.{is_full, with_change};
+ghost use Rattle.unit_work.specs.BackOut.{CanBackOut};
+ghost use Rattle.dli_calls.specs.Plans.{limit_of};
+ghost use Rattle.tm_data.specs.Making.{TakesSlot, IsSet, EditMade, Makes, edit_abend};
 
-use crate::DataAnswer;
-use crate::performing::{Outcome, perform_at};
-use dli_calls::would_change;
+use crate::{Answered, DataAnswer};
+use dli_calls::{Edit, Planned};
+use model_dli::RowsLimit;
 use model_dli::abends::{RECORD_TOO_LONG, TOO_MANY_RECORDS, TOO_MANY_ROOTS};
-use model_dli::{DbCall, Position, RowsLimit};
-use seg_rows::PlainRows;
+use seg_rows::{RecordImage, Rows};
+use seg_store::{Store, Stores};
 use std::alloc::Global;
 use tm_types::{AbendCode, Dbd, Key, Memory};
+use unit_work::{TouchRefused, Unit};
 
-/// The most records that the work on one message changes.
-const MOST_CHANGED: usize = 32;
-
-/// Makes a call on the rows of the database of this number, by a PCB that stands at `at`. The
-/// record that it changes is added to those that were changed, where it isn't among them.
-pub fn make_call(
+/// Makes a planned call on the database of this number.
+pub fn make(
     alloc: Global,
     dbd: &Dbd,
     number: u8,
-    call: &DbCall,
-    at: &Position,
-    rows: &mut PlainRows,
-    changed: &mut Vec<(u8, Key)>,
+    planned: Planned,
+    changes: &mut Unit,
+    stores: &mut Stores,
 ) -> Result<DataAnswer, Memory>
-    requires types { length dbd.now.types ≤ 255 }
-    requires rows { rows.old.dbd ≡ dbd.now }
-    requires call { IsDbCall dbd.now.types call.now }
-    requires position { IsPosition dbd.now.types at.now }
-    ensures abend { let d = dli dbd.now call.now at.now rows.old.rows in IfOk result (λ a. abend_of a ≡ abend_by number changed.old.items d.changed d.refusal) }
-    ensures gives { IfOk result (Gives (dli dbd.now call.now at.now rows.old.rows)) }
-    ensures rows { IfOk result (λ a. rows.new ≡ rows_left (dli dbd.now call.now at.now rows.old.rows) rows.old a) }
-    ensures changed { IfOk result (λ a. changed.new.items ≡ changed_left number (dli dbd.now call.now at.now rows.old.rows) changed.old.items a) }
-    ensures kept_rows { OnErr result (rows.new ≡ rows.old) }
-    ensures kept_changed { OnErr result (changed.new.items ≡ changed.old.items) }
+    requires number { 1 ≤ number }
+    requires database { slice_get (map (λ s. s.dbd) stores.old) (number - 1) ≡ Some dbd.now }
+    requires image { IfSome planned.edit (λ e. IsImage dbd.now e.root e.image) }
+    requires can { CanBackOut changes.old.records stores.old }
+    ensures made { IfOk result (Makes number dbd.now planned (record { records = changes.old.records; stores = stores.old }) (record { records = changes.new.records; stores = stores.new })) }
+    ensures kept_changes { OnErr result (changes.new ≡ changes.old) }
+    ensures kept_stores { OnErr result (stores.new ≡ stores.old) }
 {
-    match would_change(dbd, call, at, rows) {
-        None => change_none(alloc, dbd, call, at, rows),
-        Some(root) => change_record(alloc, dbd, number, root, call, at, rows, changed),
-    }
-}
-
-/// A call that changes no record, by its definition.
-fn change_none(
-    alloc: Global,
-    dbd: &Dbd,
-    call: &DbCall,
-    at: &Position,
-    rows: &mut PlainRows,
-) -> Result<DataAnswer, Memory>
-    requires types { length dbd.now.types ≤ 255 }
-    requires rows { rows.old.dbd ≡ dbd.now }
-    requires call { IsDbCall dbd.now.types call.now }
-    requires position { IsPosition dbd.now.types at.now }
-    requires none { (dli dbd.now call.now at.now rows.old.rows).changed ≡ None }
-    ensures abend { IfOk result (λ a. abend_of a ≡ None) }
-    ensures gives { IfOk result (Gives (dli dbd.now call.now at.now rows.old.rows)) }
-    ensures rows { IfOk result (λ a. rows.new ≡ rows_left (dli dbd.now call.now at.now rows.old.rows) rows.old a) }
-    ensures kept { OnErr result (rows.new ≡ rows.old) }
-{
-    match perform_at(alloc, dbd, call, at, rows) {
-        Ok(Outcome::Within(answered)) => Ok(DataAnswer::Answered(answered)),
-        Ok(Outcome::Past(_)) => unreachable!(),
+    let answered = Answered {
+        status: planned.status,
+        area: planned.area,
+        position: planned.position,
+    };
+    let Some(edit) = planned.edit else {
+        return Ok(DataAnswer::Answered(answered));
+    };
+    match change(alloc, dbd, number, edit, changes, stores) {
+        Ok(None) => Ok(DataAnswer::Answered(answered)),
+        Ok(Some(code)) => Ok(DataAnswer::Abend(code)),
         Err(error) => Err(error),
     }
 }
 
-/// A call that would change the record of this root. One changed record too many goes before a
-/// limit of the database.
-fn change_record(
+// Sets a record, or tells the abend to which that leads. One changed record too many goes before a
+// limit of the database.
+fn change(
     alloc: Global,
     dbd: &Dbd,
     number: u8,
-    root: Key,
-    call: &DbCall,
-    at: &Position,
-    rows: &mut PlainRows,
-    changed: &mut Vec<(u8, Key)>,
-) -> Result<DataAnswer, Memory>
-    requires types { length dbd.now.types ≤ 255 }
-    requires rows { rows.old.dbd ≡ dbd.now }
-    requires call { IsDbCall dbd.now.types call.now }
-    requires position { IsPosition dbd.now.types at.now }
-    requires root { (dli dbd.now call.now at.now rows.old.rows).changed ≡ Some root }
-    ensures abend { IfOk result (λ a. abend_of a ≡ abend_by number changed.old.items (Some root) (dli dbd.now call.now at.now rows.old.rows).refusal) }
-    ensures gives { IfOk result (Gives (dli dbd.now call.now at.now rows.old.rows)) }
-    ensures rows { IfOk result (λ a. rows.new ≡ rows_left (dli dbd.now call.now at.now rows.old.rows) rows.old a) }
-    ensures changed { IfOk result (λ a. changed.new.items ≡ changed_left number (dli dbd.now call.now at.now rows.old.rows) changed.old.items a) }
-    ensures kept_rows { OnErr result (rows.new ≡ rows.old) }
-    ensures kept_changed { OnErr result (changed.new.items ≡ changed.old.items) }
+    edit: Edit,
+    changes: &mut Unit,
+    stores: &mut Stores,
+) -> Result<Option<AbendCode>, Memory>
+    requires number { 1 ≤ number }
+    requires database { slice_get (map (λ s. s.dbd) stores.old) (number - 1) ≡ Some dbd.now }
+    requires image { IsImage dbd.now edit.root edit.image }
+    requires can { CanBackOut changes.old.records stores.old }
+    ensures abend { IfOk result (λ o. o ≡ edit_abend number dbd.now edit (record { records = changes.old.records; stores = stores.old })) }
+    ensures made { IfOk result (EditMade number edit (record { records = changes.old.records; stores = stores.old }) (record { records = changes.new.records; stores = stores.new })) }
+    ensures kept_changes { OnErr result (changes.new ≡ changes.old) }
+    ensures kept_stores { OnErr result (stores.new ≡ stores.old) }
 {
-    if is_changed(number, &root, changed) {
-        return change_again(alloc, dbd, call, at, rows);
-    }
-    if changed.len() >= MOST_CHANGED {
-        return Ok(DataAnswer::Abend(AbendCode {
+    if changes.is_full(number, &edit.root) {
+        return Ok(Some(AbendCode {
             number: TOO_MANY_RECORDS,
         }));
     }
-    changed.reserve(1)?;
-    match change_again(alloc, dbd, call, at, rows) {
-        Ok(DataAnswer::Answered(answered)) => {
-            changed.push_reserved((number, root));
-            Ok(DataAnswer::Answered(answered))
-        }
-        Ok(DataAnswer::Abend(code)) => Ok(DataAnswer::Abend(code)),
-        Err(error) => Err(error),
+    match slot_to_take(dbd, &edit, stores.store(number)) {
+        Ok(Some(slot)) => match set(alloc, number, slot, edit, changes, stores) {
+            Ok(()) => Ok(None),
+            Err(error) => Err(error),
+        },
+        // No call removes a record that isn't there.
+        Ok(None) => Err(Memory),
+        Err(limit) => Ok(Some(limit_abend(limit))),
     }
 }
 
-/// A change that the limits of the database alone may refuse.
-fn change_again(
-    alloc: Global,
-    dbd: &Dbd,
-    call: &DbCall,
-    at: &Position,
-    rows: &mut PlainRows,
-) -> Result<DataAnswer, Memory>
-    requires types { length dbd.now.types ≤ 255 }
-    requires rows { rows.old.dbd ≡ dbd.now }
-    requires call { IsDbCall dbd.now.types call.now }
-    requires position { IsPosition dbd.now.types at.now }
-    ensures abend { IfOk result (λ a. abend_of a ≡ option_map limit_abend (dli dbd.now call.now at.now rows.old.rows).refusal) }
-    ensures gives { IfOk result (Gives (dli dbd.now call.now at.now rows.old.rows)) }
-    ensures rows { IfOk result (λ a. rows.new ≡ rows_left (dli dbd.now call.now at.now rows.old.rows) rows.old a) }
-    ensures kept { OnErr result (rows.new ≡ rows.old) }
+// The slot that a record takes, or the limit of the database that it would pass. There is none for
+// an image without rows where no record has its root and no slot is free.
+fn slot_to_take(dbd: &Dbd, edit: &Edit, store: &Store) -> Result<Option<u16>, RowsLimit>
+    requires database { store.now.dbd ≡ dbd.now }
+    requires image { IsImage dbd.now edit.now.root edit.now.image }
+    ensures valid { AreSlots store.now.dbd store.now.slots }
+    ensures slot { IfOk result (λ slot. slot_for edit.now.root store.now.slots ≡ slot) }
+    ensures accepted { OnOk result (set_refusal dbd.now edit.now.root edit.now.image (rows_of_slots store.now.slots) ≡ None) }
+    ensures refused { IfErr result (λ limit. limit_of (set_refusal dbd.now edit.now.root edit.now.image (rows_of_slots store.now.slots)) ≡ Some limit) }
 {
-    match perform_at(alloc, dbd, call, at, rows) {
-        Ok(Outcome::Within(answered)) => Ok(DataAnswer::Answered(answered)),
-        Ok(Outcome::Past(limit)) => Ok(DataAnswer::Abend(limit_abend(limit))),
-        Err(error) => Err(error),
+    match store.slot_for(&edit.root) {
+        Some(slot) => {
+            if !edit.image.fits(record_limit(dbd)) {
+                return Err(RowsLimit::RecordLength);
+            }
+            Ok(Some(slot))
+        }
+        None => {
+            if !edit.image.is_empty() {
+                return Err(RowsLimit::Roots);
+            }
+            Ok(None)
+        }
+    }
+}
+
+// The most bytes that a record of the database has: 4,000 for each of its sectors.
+fn record_limit(dbd: &Dbd) -> usize
+    ensures { result ≡ record_limit dbd.now }
+{
+    4000 * dbd.sectors as usize
+}
+
+// Keeps the record's image in the unit, and then sets the record.
+fn set(
+    alloc: Global,
+    number: u8,
+    slot: u16,
+    edit: Edit,
+    changes: &mut Unit,
+    stores: &mut Stores,
+) -> Result<(), Memory>
+    requires least { 1 ≤ number }
+    requires most { number ≤ length stores.old }
+    requires takes { IfSome (slice_get stores.old (number - 1)) (λ s. TakesSlot s edit slot) }
+    requires room { is_full number edit.root changes.old.records ≡ false }
+    requires can { CanBackOut changes.old.records stores.old }
+    ensures set { OnOk result (IsSet number edit (record { records = changes.old.records; stores = stores.old }) (record { records = changes.new.records; stores = stores.new })) }
+    ensures kept_changes { OnErr result (changes.new ≡ changes.old) }
+    ensures kept_stores { OnErr result (stores.new ≡ stores.old) }
+{
+    let root = edit.root;
+    keep(alloc, number, slot, &root, changes, stores.store(number))?;
+    match stores.store_mut(number).set(&root, edit.image) {
+        Ok(()) => Ok(()),
+        Err(_) => unreachable!(),
+    }
+}
+
+// Keeps the image that the record of this root has in the store.
+fn keep(
+    alloc: Global,
+    number: u8,
+    slot: u16,
+    root: &Key,
+    changes: &mut Unit,
+    store: &Store,
+) -> Result<(), Memory>
+    requires room { is_full number root.now changes.old.records ≡ false }
+    ensures kept { OnOk result (changes.new.records ≡ with_change (record { db = number; slot = slot; root = root.now; before = record_of root.now (rows_of_slots store.now.slots) }) changes.old.records) }
+    ensures same { OnErr result (changes.new ≡ changes.old) }
+{
+    match store.record(root) {
+        Some(image) => touch(number, slot, root, changes, image),
+        None => touch(number, slot, root, changes, &RecordImage::new(alloc)),
+    }
+}
+
+fn touch(
+    number: u8,
+    slot: u16,
+    root: &Key,
+    changes: &mut Unit,
+    before: &RecordImage,
+) -> Result<(), Memory>
+    requires room { is_full number root.now changes.old.records ≡ false }
+    ensures kept { OnOk result (changes.new.records ≡ with_change (record { db = number; slot = slot; root = root.now; before = before.now }) changes.old.records) }
+    ensures same { OnErr result (changes.new ≡ changes.old) }
+{
+    match changes.touch(number, *root, slot, before) {
+        Ok(()) => Ok(()),
+        Err(TouchRefused::TooMany(_)) => unreachable!(),
+        Err(TouchRefused::Memory) => Err(Memory),
     }
 }
 
@@ -149,13 +194,4 @@ fn limit_abend(limit: RowsLimit) -> AbendCode
             number: RECORD_TOO_LONG,
         },
     }
-}
-
-/// Whether the record of this root is among those that were changed.
-fn is_changed(number: u8, root: &Key, changed: &[(u8, Key)]) -> bool
-    ensures { result ≡ is_changed number root.now changed.now }
-{
-    changed
-        .iter()
-        .any(|entry| entry.0 == number && entry.1 == *root)
 }

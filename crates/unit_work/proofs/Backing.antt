@@ -17,14 +17,14 @@ use Rattle.unit_work.specs.BackOut.{is_touched, was_in, backed_slot, cleared_slo
 use Rattle.unit_work.proofs.Keeping.{pairs_last}
 
 -- an element after a change of one
-get_set_other : {A : Type 0} (xs : List A) (i k : ℕ) (x : A) → k ≢ i → slice_get (set xs i x) k ≡ slice_get xs k
+pub get_set_other : {A : Type 0} (xs : List A) (i k : ℕ) (x : A) → k ≢ i → slice_get (set xs i x) k ≡ slice_get xs k
 get_set_other [] i k x other = refl
 get_set_other (y ∷ xs) zero zero x other = absurd (other refl)
 get_set_other (y ∷ xs) zero (suc k) x other = refl
 get_set_other (y ∷ xs) (suc i) zero x other = refl
 get_set_other (y ∷ xs) (suc i) (suc k) x other = get_set_other xs i k x (λ e. other (ap (λ n. suc n) e))
 
-get_set_same : {A : Type 0} (xs : List A) (i : ℕ) (x : A) → i < length xs → slice_get (set xs i x) i ≡ Some x
+pub get_set_same : {A : Type 0} (xs : List A) (i : ℕ) (x : A) → i < length xs → slice_get (set xs i x) i ≡ Some x
 get_set_same [] i x h = absurd (omega arith)
 get_set_same (y ∷ xs) zero x h = refl
 get_set_same (y ∷ xs) (suc i) x h = get_set_same xs i x (omega arith)
@@ -240,7 +240,7 @@ stays_stored : (x c : Change) (stores : List Stored) → IsStored stores x → I
 stays_stored x c stores h = record { least = h.least; most = omega (arith, h.most, back_length c stores) }
 
 -- the step: the last record goes back
-next_back : (front : List Change) (c : Change) (stores : List Stored) → IsStored stores c → CanGoBack stores c → (b : Bool) → is_free c.before ≡ b
+pub next_back : (front : List Change) (c : Change) (stores : List Stored) → IsStored stores c → CanGoBack stores c → (b : Bool) → is_free c.before ≡ b
     → backed_from (front ++ c ∷ []) 1 stores ≡ backed_from front 1 (with_record_back c stores)
 next_back front c stores sc hc true t =
     stores_not_there front c 1 stores (λ db m le. was_not_there c db m t) ∙ ap (backed_from front 1) (back_none c stores (free_none c.before t))

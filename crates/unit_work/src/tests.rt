@@ -81,6 +81,7 @@ fn at_most_32_records(rt: HostRuntime) -> Result<(), Fail> {
         unit.touch(1, key(&[b'0' + i])?, i as u16, &none)?;
     }
     assert_eq!(rt; unit.changes(), 32);
+    assert!(rt; unit.is_full(1, &key(b"X")?) && !unit.is_full(1, &key(b"0")?));
     let refused = unit.touch(1, key(b"X")?, 32, &none);
     assert!(rt; matches!(refused, Err(TouchRefused::TooMany(33))));
     unit.touch(1, key(b"0")?, 32, &none)?;

@@ -92,6 +92,13 @@ impl Unit {
         }
     }
 
+    /// Whether a change of this record would be one record more than a unit may change.
+    pub fn is_full(&self, db: u8, root: &Key) -> bool
+        ensures { result ≡ is_full db root.now self.now.records }
+    {
+        is_full(&self.records, db, root)
+    }
+
     /// How many records are changed.
     pub fn changes(&self) -> u32
         ensures { result ≡ length self.now.records }

@@ -5,8 +5,8 @@ use Rattle.model_rows.specs.Rows.{AreRows}
 use Rattle.dli_calls.proofs.NewRows.{replace_is_row}
 use Rattle.dli_calls.proofs.change.replace.Goals as goal
 
-pub put_data-requires-clause-row : goal.put_data-requires-clause-row
-put_data-requires-clause-row g c =
+pub with_data-requires-clause-row : goal.with_data-requires-clause-row
+with_data-requires-clause-row g c =
     let rows = g.R.Rows.rows c.args.rows.now in
     let valid : AreRows c.args.dbd.now rows = subst (λ d. AreRows d rows) c.requires.rows c.in_default-replace_fault.ensures.valid in
     let printable : list_all is_printable c.as_slice-area.result.now ≡ true = ap (list_all is_printable) c.as_slice-area.ensures ∙ c.requires.area in

@@ -1,0 +1,19 @@
+use Rattle.std.proofs.Common.{subst, ap}
+use Rattle.model_rows.specs.Rows.{record_of, AreRows}
+use Rattle.model_dli.specs.Change.{with_row}
+use Rattle.dli_calls.proofs.Edits.{row_added, under_with_row, image_with_row}
+use Rattle.dli_calls.proofs.Setting.{edits}
+use Rattle.dli_calls.proofs.change.with_row.Goals as goal
+
+pub returns : goal.returns
+returns g c =
+    let dbd = c.args.dbd.now in
+    let rows = g.R.Rows.rows c.args.rows.now in
+    let root = c.args.root.now in
+    let row = c.args.row.now in
+    let valid : AreRows dbd rows = subst (λ d. AreRows d rows) c.requires.rows c.record_rows.ensures.valid in
+    let types = c.as_slice-hierarchy.ensures.valid in
+    edits c.with_row.result dbd root rows (with_row row rows) _ (with_row row (record_of root rows)) c.with_row.ensures (ap (with_row row) c.record_rows.ensures.value)
+    (image_with_row dbd types rows valid root row c.requires.root c.requires.row)
+    (row_added dbd types rows valid root row c.requires.root c.requires.row)
+    (under_with_row dbd types rows valid root row c.requires.root c.requires.row).one_root
