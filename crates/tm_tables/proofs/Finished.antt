@@ -3,18 +3,17 @@ use Rattle.std.proofs.Common.{◌≡◌, ℕ, ◌+◌, ◌<◌, ◌≤◌, Bool,
 use Rattle.std.proofs.lemmas.List.{append_assoc, append-nil}
 use Rattle.std.proofs.lemmas.List.Elements.{filter-append}
 use Rattle.std.proofs.lemmas.Bool.{ne_eqb, eqb-true}
-use Rattle.std.specs.Prelude.{IsSome, IsSomeAnd, filter, if◌then◌else◌}
-use Rattle.std.specs.Option.{is_some, option_map}
-use Rattle.std.specs.List.{AllByRecursion}
+use Rattle.std.specs.Prelude.{IsSome, if◌then◌else◌}
+use Rattle.std.specs.Option.{is_some}
 use Rattle.tm_types.specs.declared.message.Message.{Message}
 use Rattle.model_queues.specs.declared.queued.Queued.{Queued}
 use Rattle.model_queues.specs.declared.replies.TerminalReplies.{TerminalReplies}
-use Rattle.model_queues.specs.Queue.{QueuesState, IsNewId, has_id, queued_at, message_at, messages_of, with_message, without}
+use Rattle.model_queues.specs.Queue.{QueuesState, IsNewId, has_id, queued_at, message_at, messages_of, without}
 use Rattle.model_queues.specs.Outputs.{replies_at, with_terminal, with_reply}
-use Rattle.model_queues.proofs.Laws.{found_message, found_id, found_behind, new_id_without, messages_without}
+use Rattle.model_queues.proofs.Laws.{found_message, found_behind, new_id_without, messages_without}
 use Rattle.model_message.specs.declared.ended.Ended.{Ended}
 use Rattle.model_machine.specs.Machine.{LastingState}
-use Rattle.model_machine.specs.Steps.{finished_state, all_sent, sent, switched, replied, without_message}
+use Rattle.model_machine.specs.Steps.{finished_state, all_sent, switched, replied, without_message}
 use Rattle.tm_tables.specs.Tables.{TablesState, lasting_of, finished, IsFinished}
 use Rattle.tm_tables.specs.Sending.{switches, switched_message, switched_messages, with_messages, with_replies, IsSent}
 use Rattle.tm_tables.proofs.Sent.{with_terminal_none, switches_still, switches_code, switches_terminal}

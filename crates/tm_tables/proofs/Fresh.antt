@@ -1,8 +1,8 @@
 -- The tables of an empty control region.
-use Rattle.std.proofs.Common.{◌≡◌, ℕ, suc, zero, List, [], ◌∷◌, refl, sym, ap, ◌∙◌, map}
+use Rattle.std.proofs.Common.{◌≡◌, ℕ, suc, zero, List, [], ◌∷◌, refl, ap, ◌∙◌, map}
 use Rattle.tm_types.specs.declared.dbd.Dbd.{Dbd}
 use Rattle.model_rows.specs.declared.row.Row.{Row}
-use Rattle.seg_store.specs.Slots.{Stored, rows_of_slots, free_slots}
+use Rattle.seg_store.specs.Slots.{rows_of_slots, free_slots}
 use Rattle.seg_store.specs.Stores.{empty_stores}
 use Rattle.model_queues.specs.declared.replies.TerminalReplies.{TerminalReplies}
 use Rattle.model_queues.specs.Queue.{QueuesState, messages_of}

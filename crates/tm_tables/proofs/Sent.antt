@@ -1,8 +1,8 @@
 -- What sending comes to, output by output.
-use Rattle.std.proofs.Common.{◌≡◌, ◌≢◌, ℕ, ◌+◌, ◌<◌, ◌≤◌, Bool, true, false, not, cond, List, [], ◌∷◌, ◌++◌, refl, sym, ap, ◌∙◌, subst, Option, Some, None, map, length, arith}
+use Rattle.std.proofs.Common.{◌≡◌, ℕ, ◌+◌, ◌≤◌, Bool, true, false, not, cond, List, [], ◌∷◌, refl, sym, ap, ◌∙◌, subst, Some, None, map, length, arith}
 use Rattle.std.proofs.lemmas.List.{append_assoc, append-nil, length-append}
 use Rattle.std.proofs.lemmas.Bool.{eq-eqb, ne_eqb}
-use Rattle.std.specs.Prelude.{filter, IsSome, IsSomeAnd}
+use Rattle.std.specs.Prelude.{IsSome, IsSomeAnd}
 use Rattle.std.specs.Option.{is_some}
 use Rattle.tm_types.specs.declared.message.Message.{Message}
 use Rattle.model_queues.specs.declared.queued.Queued.{Queued}
@@ -11,7 +11,7 @@ use Rattle.model_queues.specs.Queue.{QueuesState, with_message, without, IsNewId
 use Rattle.model_queues.proofs.TakenBack.{taken_back}
 use Rattle.model_queues.specs.Outputs.{is_of, replies_at, with_terminal, with_reply, without_last}
 use Rattle.model_message.specs.declared.ended.Ended.{Ended}
-use Rattle.tm_tables.specs.Sending.{is_switched, switches, switched_message, switched_messages, with_messages, with_replies, IsSent}
+use Rattle.tm_tables.specs.Sending.{switches, switched_message, switched_messages, with_messages, with_replies, IsSent}
 
 -- ---- which terminals are there
 -- a terminal that isn't there can't be changed

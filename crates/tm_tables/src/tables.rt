@@ -119,7 +119,8 @@ impl Tables {
 
     /// Takes back the changes of the databases since the last commit. This takes no memory.
     pub fn back_out(&mut self)
-        ensures { self.new ≡ with_databases self.old (backed_databases self.old.databases) }
+        ensures value { self.new ≡ with_databases self.old (backed_databases self.old.databases) }
+        ensures databases { dbds_of self.new.databases ≡ dbds_of self.old.databases }
     {
         self.databases.back_out();
     }

@@ -1,4 +1,4 @@
-use Rattle.std.proofs.Common.{◌≡◌, ◌≤◌, ◌∷◌, refl, sym, ap, subst, ◌∙◌, length}
+use Rattle.std.proofs.Common.{◌≤◌, refl, sym, subst, ◌∙◌, length}
 use Rattle.std.specs.Prelude.{IsSome, IsSomeAnd}
 use Rattle.model_queues.specs.Queue.{queued_at}
 use Rattle.model_queues.specs.Outputs.{replies_at}
