@@ -235,9 +235,9 @@ module _ (system : System) (no_program : List ScriptLine) (tables : TablesState)
     pub lasting_completed : lasting_of tables' ≡ completed_state system moment_now slot_now
     lasting_completed =
         ap lasting_of behind.is
-        ∙ ap (λ l. record l { rows = rows_of behind.middle.databases.stores }) behind.gone.lasting
-        ∙ ap (λ d. record (finished_state (lasting_of tables) message_now (outputs_by busy.unit)) { rows = rows_of d.stores }) behind.gone.databases
-        ∙ ap (λ r. record (finished_state (lasting_of tables) message_now (outputs_by busy.unit)) { rows = r }) (sym tried.rows)
+        ∙ ap (λ l. committed l (rows_of behind.middle.databases.stores)) behind.gone.lasting
+        ∙ ap (λ d. committed (finished_state (lasting_of tables) message_now (outputs_by busy.unit)) (rows_of d.stores)) behind.gone.databases
+        ∙ ap (committed (finished_state (lasting_of tables) message_now (outputs_by busy.unit))) (sym tried.rows)
         ∙ sym (with_rows tried.trial.databases.rows (lasting_of tables) message_now (outputs_by busy.unit))
         ∙ ap (finished_state (committed (lasting_of tables) tried.trial.databases.rows) message_now) (sym tried.outputs)
         ∙ sym (ap (λ t. completed_by (lasting_of tables) (Some message_now) t) trial_here)
