@@ -128,20 +128,6 @@ called (Ok a) dbd call at number p old new whole s view there plans text made =
     subst (λ w. Called number (dli dbd call at (rows_numbered number w)) w (seen new) a) view
     (made_call number dbd (dli dbd call at (rows_at number old.stores)) p old new planned a made text (dli_sound dbd call at (rows_at number old.stores)))
 
--- and where memory was wanted
-pub all_committed : {E : Type 0} (r : Result DataAnswer E) (number : ℕ) (d : DliResult) (whole new : DatabasesState) → IfOk r (Called number d whole new) → OnErr r (new ≡ whole) → new.committed ≡ whole.committed
-all_committed (Ok a) number d whole new h e = h.committed
-all_committed (Err x) number d whole new h e = ap (λ (w : DatabasesState). w.committed) e
-
-pub all_dbds : {E : Type 0} (r : Result DataAnswer E) (number : ℕ) (d : DliResult) (whole new : DatabasesState) → IfOk r (Called number d whole new) → OnErr r (new ≡ whole) → dbds_of new ≡ dbds_of whole
-all_dbds (Ok a) number d whole new h e = h.dbds
-all_dbds (Err x) number d whole new h e = ap dbds_of e
-
-pub all_abend : {E : Type 0} (r : Result DataAnswer E) (number : ℕ) (d : DliResult) (whole new : DatabasesState) → IfOk r (Called number d whole new)
-    → IfOk r (λ a. abend_of a ≡ abend_by number whole.changed d.changed d.refusal)
-all_abend (Ok a) number d whole new h = h.abend
-all_abend (Err x) number d whole new h = tt
-
 pub all_gives : {E : Type 0} (r : Result DataAnswer E) (number : ℕ) (d : DliResult) (whole new : DatabasesState) → IfOk r (Called number d whole new) → IfOk r (Gives d)
 all_gives (Ok a) number d whole new h = h.gives
 all_gives (Err x) number d whole new h = tt
@@ -149,14 +135,3 @@ all_gives (Err x) number d whole new h = tt
 pub all_leaves : {E : Type 0} (r : Result DataAnswer E) (number : ℕ) (d : DliResult) (whole new : DatabasesState) → IfOk r (Called number d whole new) → IfOk r (Leaves number d whole new)
 all_leaves (Ok a) number d whole new h = h.leaves
 all_leaves (Err x) number d whole new h = tt
-
--- it can be backed out
-pub still_can : {E : Type 0} (r : Result DataAnswer E) (number : ℕ) (dbd : Dbd) (p : Planned) (old new : Work) → CanBackOut old.records old.stores → IfOk r (Makes number dbd p old new)
-    → OnErr r (new ≡ old) → CanBackOut new.records new.stores
-still_can (Err x) number dbd p old new can made e = subst (λ (w : Work). CanBackOut w.records w.stores) (sym e) can
-still_can (Ok (Abend code)) number dbd p old new can made e = subst (λ (w : Work). CanBackOut w.records w.stores) (sym made.1) can
-still_can (Ok (Answered a)) number dbd p old new can made e = by p.edit made.edited
-  where
-    by : (o : Option Edit) → IsEdited number dbd old new o → CanBackOut new.records new.stores
-    by None h = subst (λ (w : Work). CanBackOut w.records w.stores) (sym h) can
-    by (Some x) h = h.1.can
