@@ -20,7 +20,7 @@ use Rattle.seg_rows.specs.StoreRefused.{set_refusal, RefusesToSet}
 use Rattle.dli_calls.specs.declared.planned.Edit.{Edit}
 use Rattle.dli_calls.specs.declared.planned.Planned.{Planned}
 use Rattle.dli_calls.specs.Performs.{Performs, RefusesCall}
-use Rattle.dli_calls.specs.Plans.{limit_of, HasAnswer, PlansNone, PlansEdit, PlansTo, Plans}
+use Rattle.dli_calls.specs.Plans.{limit_of, PlansEdit, PlansTo, Plans}
 use Rattle.dli_calls.specs.Edited.{IsEdit, rows_set, edit_limit}
 
 -- an image that is an edited record

@@ -2,12 +2,10 @@
 use Rattle.std.proofs.Common.{◌≡◌, ℕ, ◌-◌, List, [], map, refl, sym, ◌∙◌, ap, subst, Bool, true, false, cond, Option, None, Some, Result, Ok, Err, set, get_or, zero, suc, ◌∷◌}
 use Rattle.std.specs.List.{slice_get}
 use Rattle.std.specs.Option.{option_map}
-use Rattle.std.specs.Prelude.{IfSome, IfOk, OnErr}
+use Rattle.std.specs.Prelude.{IfSome, IfOk}
 use Rattle.tm_types.specs.declared.dbd.Dbd.{Dbd}
 use Rattle.tm_types.specs.declared.abend.AbendCode.{AbendCode}
 use Rattle.tm_types.specs.Segment.{IsSegmentText}
-use Rattle.model_rows.specs.declared.row.Row.{Row}
-use Rattle.model_rows.specs.Rows.{with_record}
 use Rattle.model_dli.specs.declared.call.DbCall.{DbCall}
 use Rattle.model_dli.specs.declared.call.Position.{Position}
 use Rattle.model_dli.specs.declared.call.RowsLimit.{RowsLimit}
@@ -15,14 +13,13 @@ use Rattle.model_dli.specs.Data.{with_changed, abend_by, limit_abend}
 use Rattle.model_dli.specs.Dli.{DliResult, dli}
 use Rattle.seg_rows.specs.StoreRefused.{set_refusal}
 use Rattle.seg_store.specs.Slots.{Stored, rows_of_slots}
-use Rattle.unit_work.specs.declared.change.Change.{Change}
-use Rattle.unit_work.specs.BackOut.{CanBackOut, backed_out}
+use Rattle.unit_work.specs.BackOut.{backed_out}
 use Rattle.dli_calls.specs.declared.planned.Edit.{Edit}
 use Rattle.dli_calls.specs.declared.planned.Planned.{Planned}
-use Rattle.dli_calls.specs.Plans.{limit_of, HasAnswer, PlansNone, PlansEdit, PlansTo, Plans}
+use Rattle.dli_calls.specs.Plans.{limit_of, HasAnswer, PlansTo, Plans}
 use Rattle.tm_data.specs.State.{DatabasesState, roots_of, rows_of, dbds_of, rows_numbered}
-use Rattle.tm_data.specs.Answering.{abend_of, IsAnswer, Gives, IsLeft, Leaves}
-use Rattle.tm_data.specs.Making.{Work, rows_at, IsSet, edit_abend, IsEdited, IsMade, LeadsTo, Makes}
+use Rattle.tm_data.specs.Answering.{abend_of, IsAnswer, Gives, Leaves}
+use Rattle.tm_data.specs.Making.{Work, rows_at, IsEdited, IsMade, LeadsTo, Makes}
 use Rattle.tm_data.specs.declared.answer.Answered as answer
 use Rattle.tm_data.specs.declared.answer.DataAnswer.{DataAnswer}
 use Rattle.tm_data.specs.declared.answer.DataAnswer.TheVariants.{Answered, Abend}

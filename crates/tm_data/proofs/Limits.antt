@@ -1,5 +1,5 @@
 -- The limit of the database that an edit passes.
-use Rattle.std.proofs.Common.{◌≡◌, ◌≢◌, ℕ, ◌≤◌, ◌<◌, ◌∷◌, [], List, length, refl, sym, ap, ◌∙◌, Bool, true, false, cond, Option, None, Some, arith}
+use Rattle.std.proofs.Common.{◌≡◌, ◌≢◌, ℕ, ◌≤◌, ◌<◌, ◌∷◌, [], List, length, refl, sym, ap, ◌∙◌, false, Option, None, Some, arith}
 use Rattle.std.proofs.lemmas.Bool.{cond-false, le-ltb}
 use Rattle.tm_types.specs.declared.dbd.Dbd.{Dbd}
 use Rattle.model_rows.specs.declared.row.Row.{Row}
@@ -7,7 +7,7 @@ use Rattle.model_rows.specs.Record.{spelling, record_limit}
 use Rattle.model_rows.specs.Rows.{passes_roots, passes_length}
 use Rattle.model_dli.specs.declared.call.RowsLimit.TheVariants.{Roots, RecordLength}
 use Rattle.seg_rows.specs.StoreRefused.{set_refusal}
-use Rattle.seg_rows.specs.declared.rows.StoreRefused.TheVariants.{RootLimit, RecordTooLong}
+use Rattle.seg_rows.specs.declared.rows.StoreRefused.TheVariants.{RecordTooLong}
 use Rattle.seg_store.specs.Slots.{AreSlots, slot_of, slot_for, lowest_free, first_of, rows_of_slots}
 use Rattle.seg_store.proofs.SlotRows.{passes_there, room_new, due_full, due_long, due_fits}
 use Rattle.dli_calls.specs.Plans.{limit_of}

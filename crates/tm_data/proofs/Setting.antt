@@ -1,5 +1,5 @@
 -- What a record that is set leaves of the databases, and to which abend an edit leads.
-use Rattle.std.proofs.Common.{◌≡◌, ℕ, ◌+◌, ◌-◌, ◌≤◌, ◌<◌, ◌++◌, ◌∷◌, [], List, length, map, zero, suc, refl, sym, ◌∙◌, ap, subst, Bool, true, false, cond, Option, None, Some, arith, get_or, set, leb, not, ◌&&◌, ◌||◌, eqb}
+use Rattle.std.proofs.Common.{◌≡◌, ℕ, ◌+◌, ◌-◌, ◌≤◌, ◌++◌, ◌∷◌, [], List, length, map, zero, suc, refl, sym, ◌∙◌, ap, subst, Bool, true, false, cond, Option, None, Some, arith, get_or, set, leb, not, ◌&&◌, ◌||◌, eqb}
 use Rattle.std.specs.List.{slice_get}
 use Rattle.std.specs.Option.{option_map}
 use Rattle.std.specs.Prelude.{IfSome}
@@ -7,8 +7,6 @@ use Rattle.std.proofs.lemmas.List.{map-set, length-map}
 use Rattle.std.proofs.lemmas.Map.Text.{is_eq-slice_cmp}
 use Rattle.std.proofs.lemmas.Option.{slice_get_within}
 use Rattle.tm_types.specs.declared.dbd.Dbd.{Dbd}
-use Rattle.tm_types.specs.declared.abend.AbendCode.{AbendCode}
-use Rattle.model_rows.specs.declared.row.Row.{Row}
 use Rattle.model_rows.specs.Rows.{record_of, with_record}
 use Rattle.model_dli.specs.declared.call.RowsLimit.{RowsLimit}
 use Rattle.model_dli.specs.declared.abends.TheConstants.{TOO_MANY_RECORDS}

@@ -1,5 +1,5 @@
 -- A record that is set, with its image before kept, leaves what backing out would leave.
-use Rattle.std.proofs.Common.{◌≡◌, ◌≢◌, ℕ, ◌+◌, ◌-◌, ◌≤◌, ◌<◌, ◌++◌, ◌∷◌, [], List, length, zero, suc, refl, sym, ◌∙◌, ap, subst, Bool, true, false, cond, Option, None, Some, arith, set, ◌||◌, ◌&&◌, not, eqb, ◌⊎◌, inl, inr, ⊎_elim}
+use Rattle.std.proofs.Common.{◌≡◌, ◌≢◌, ℕ, ◌+◌, ◌-◌, ◌<◌, ◌++◌, ◌∷◌, [], List, length, zero, suc, refl, sym, ◌∙◌, ap, subst, Bool, true, false, cond, Option, None, Some, arith, set, ◌||◌, ◌&&◌, not, eqb, ◌⊎◌, inl, inr, ⊎_elim}
 use Rattle.std.specs.List.{AllByRecursion, slice_get, list_any}
 use Rattle.std.specs.Ordering.{is_eq}
 use Rattle.std.specs.Option.{unwrap_or}
@@ -9,17 +9,17 @@ use Rattle.std.proofs.lemmas.Option.{slice_get_within}
 use Rattle.std.proofs.lemmas.Cmp.{tied_itself}
 use Rattle.tm_types.specs.declared.dbd.Dbd.{Dbd}
 use Rattle.model_rows.specs.declared.row.Row.{Row}
-use Rattle.model_rows.specs.Path.{key_cmp, root_of}
+use Rattle.model_rows.specs.Path.{root_of}
 use Rattle.model_rows.specs.Record.{IsRecord}
 use Rattle.model_rows.specs.Rows.{record_of, IsImage}
-use Rattle.model_rows.proofs.Lists.{all_then, all_append, all_both}
+use Rattle.model_rows.proofs.Lists.{all_then, all_append}
 use Rattle.model_rows.proofs.Order.{key_total}
-use Rattle.seg_store.specs.Slots.{Stored, has_root, is_free, image_root, AtMostOne, IsSlot, AreSlots, slot_of, slot_for, lowest_free, first_of, place_of, rows_of_slots, with_root, with_image}
+use Rattle.seg_store.specs.Slots.{Stored, has_root, is_free, image_root, AtMostOne, IsSlot, AreSlots, slot_of, slot_for, lowest_free, first_of, rows_of_slots}
 use Rattle.seg_store.proofs.Places as places
 use Rattle.seg_store.proofs.SlotRows.{slots_record, rooted, record_has, same_key, set_itself, free_at, record_none}
 use Rattle.unit_work.specs.declared.change.Change.{Change}
 use Rattle.unit_work.specs.Changes.{is_of, is_changed, with_change, Pairs}
-use Rattle.unit_work.specs.BackOut.{is_touched, was_in, cleared_slot, cleared_slots, backed_slots, cleared_from, backed_from, cleared, backed_out, IsStored, FitsStore, FitsOption, CanGoBack, AreApart, CanBackOut, with_image_back, with_back, with_record_back}
+use Rattle.unit_work.specs.BackOut.{is_touched, cleared_slot, cleared_slots, cleared_from, backed_from, cleared, backed_out, IsStored, FitsStore, FitsOption, CanGoBack, AreApart, CanBackOut, with_image_back, with_back, with_record_back}
 use Rattle.unit_work.proofs.Keeping.{pairs_push}
 use Rattle.unit_work.proofs.Backing.{get_set_other, get_set_same, next_back}
 

@@ -1,10 +1,10 @@
-use Rattle.std.proofs.Common.{◌≡◌, Some, None, sym, subst, ap, ◌∙◌, false}
+use Rattle.std.proofs.Common.{◌≡◌, Some, None, sym, subst, ap, ◌∙◌}
 use Rattle.std.specs.Prelude.{IfSome}
-use Rattle.model_rows.specs.Rows.{IsImage, record_of}
+use Rattle.model_rows.specs.Rows.{IsImage}
 use Rattle.seg_rows.specs.StoreRefused.{set_refusal}
-use Rattle.seg_store.specs.Slots.{Stored, rows_of_slots}
+use Rattle.seg_store.specs.Slots.{rows_of_slots}
 use Rattle.dli_calls.specs.Plans.{limit_of}
-use Rattle.tm_data.specs.Making.{TakesSlot, edit_abend}
+use Rattle.tm_data.specs.Making.{TakesSlot}
 use Rattle.tm_data.proofs.Setting.{is_stored, dbd_there, full_abend, limit_is}
 use Rattle.tm_data.proofs.making.change.Goals as goal
 

@@ -1,7 +1,7 @@
-use Rattle.std.proofs.Common.{◌≡◌, ◌≢◌, ◌<◌, ◌≤◌, [], None, Some, length, sym, subst}
+use Rattle.std.proofs.Common.{◌≢◌, ◌<◌, ◌≤◌, [], length, sym, subst}
 use Rattle.model_rows.specs.Record.{spelling, record_limit}
 use Rattle.seg_rows.proofs.Kept.{passed}
-use Rattle.seg_store.specs.Slots.{AreSlots, slot_for}
+use Rattle.seg_store.specs.Slots.{AreSlots}
 use Rattle.tm_data.proofs.Limits.{past_roots, past_length, within_limits}
 use Rattle.tm_data.proofs.making.slot_to_take.Goals as goal
 

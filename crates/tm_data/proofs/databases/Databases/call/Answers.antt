@@ -1,5 +1,5 @@
-use Rattle.std.proofs.Common.{◌≡◌, ◌-◌, Some, sym, subst, ap, ◌∙◌}
-use Rattle.std.specs.Prelude.{IfSome, IfOk}
+use Rattle.std.proofs.Common.{subst}
+use Rattle.std.specs.Prelude.{IfSome}
 use Rattle.tm_types.specs.Segment.{IsSegmentText}
 use Rattle.model_dli.specs.Dli.{dli}
 use Rattle.tm_data.specs.State.{rows_numbered}
