@@ -12,8 +12,8 @@ use Rattle.model_machine.specs.declared.entry.AckAnswer.TheVariants.{Removed, Al
 use Rattle.model_machine.specs.declared.entry.SyncPoint.{SyncPoint}
 use Rattle.model_machine.specs.declared.entry.ControlCall.TheVariants.{Turn}
 use Rattle.model_system.specs.System.{System}
-use Rattle.model_machine.specs.Machine.{Moment, Slot, slot_at, with_slot, start_of}
-use Rattle.model_machine.specs.Steps.{After, is_quiet, all_rest, completed, abended, next_slot, called_slot}
+use Rattle.model_machine.specs.Machine.{Moment, Slot, slot_at, with_slot, start_of, flagged}
+use Rattle.model_machine.specs.Steps.{After, is_quiet, all_flagged, all_rest, codes_moved, completed, completed_state, abended, next_slot, called_slot, with_lasting}
 use Rattle.model_machine.specs.History.{ControlState, call_of, moment_after, now_of}
 use Rattle.model_session.specs.Turns.{region_after, AreTurns}
 
@@ -32,9 +32,16 @@ AreTurns-append system entry (first ∷ entries) before moment turns left call =
 slot_set : (moment : Moment) (region : ℕ) (slot : Option Slot) → length (with_slot moment region slot).slots ≡ length moment.slots
 slot_set moment region slot = length-set moment.slots (region - 1) slot
 
+-- flags that follow leave the slots
+flagged_slots : (system : System) (names : List (List ℕ)) (moment : Moment) → (all_flagged system names moment).slots ≡ moment.slots
+flagged_slots system [] moment = refl
+flagged_slots system (name ∷ names) moment = flagged_slots system names (flagged system name moment)
+
 completed_slots : (system : System) (moment : Moment) (region : ℕ) (answer : SyncPoint) (slot : Option Slot)
     → length (completed system moment region answer slot).slots ≡ length moment.slots
-completed_slots system moment region answer (Some slot) = slot_set moment region (next_slot slot answer)
+completed_slots system moment region answer (Some slot) =
+    ap length (flagged_slots system (codes_moved system moment slot) (with_slot (with_lasting moment (completed_state system moment slot)) region (next_slot slot answer)))
+    ∙ slot_set moment region (next_slot slot answer)
 completed_slots system moment region answer None = refl
 
 abended_slots : (moment : Moment) (region : ℕ) (abend : AbendCode) (slot : Option Slot)
