@@ -203,7 +203,7 @@ impl Tables {
             unreachable!()
         };
         let origin = message.origin;
-        self.next_id = send_all(
+        let next = send_all(
             &mut self.queues,
             &mut self.outputs,
             self.next_id,
@@ -211,6 +211,7 @@ impl Tables {
             outputs,
         )?;
         self.queues.remove(id);
+        self.next_id = next;
         self.steps += 1;
         Ok(())
     }
