@@ -1,11 +1,9 @@
 -- What a block of session lines asks for.
 use Rattle.std.specs.Prelude.{ℕ, ◌<◌, ◌≤◌, ⊤, ◌==◌, nat_lt, nat_le, Bool, ◌&&◌, if◌then◌else◌, Option, Some, None, Result, Ok, Err, List, [], ◌∷◌, length, map, codes}
 use Rattle.std.specs.List.{list_all, count_by}
-use Rattle.std.specs.Option.{option_map_or}
 use Rattle.std.specs.Str.{bytes_eq}
 use Rattle.text_rows.specs.Lowest.{both, also}
 use Rattle.tm_types.specs.Segment.{is_printable}
-use Rattle.model_machine.specs.declared.entry.ControlCall.{ControlCall}
 use Rattle.model_machine.specs.declared.entry.ControlCall.TheVariants.{Input, Receive, Acknowledge, Turn}
 use Rattle.model_session.specs.declared.asked.Form.{Form}
 use Rattle.model_session.specs.declared.asked.Form.TheVariants.{Input as InputForm, Receive as ReceiveForm, Acknowledge as AcknowledgeForm, Turn as TurnForm, Quiet as QuietForm}
@@ -13,7 +11,7 @@ use Rattle.model_session.specs.declared.asked.Asked.{Asked}
 use Rattle.model_session.specs.declared.asked.Asked.TheVariants.{Bad, TooLong, Call, Quiet}
 use Rattle.model_session.specs.declared.rules.TheConstants.{UNKNOWN_WORD, WRONG_OPERANDS, NO_LINE, NOT_PRINTABLE}
 use Rattle.model_session.specs.Numbers.{number_operand, name_operand}
-use Rattle.model_session.specs.Blocks.{Block, first_word, operands, is_further, blocks_of}
+use Rattle.model_session.specs.Blocks.{Block, first_word, operands, is_further}
 
 -- ---- the form of one line
 

@@ -1,5 +1,5 @@
 -- A region's work on a message ends.
-use Rattle.std.proofs.Common.{◌≡◌, ℕ, ◌+◌, ◌-◌, ◌*◌, ◌≤◌, arith, false, ◌&&◌, List, [], ◌∷◌, ◌++◌, length, refl, sym, ap, ◌∙◌, subst}
+use Rattle.std.proofs.Common.{◌≡◌, ℕ, ◌+◌, ◌-◌, ◌*◌, ◌≤◌, arith, false, ◌&&◌, List, [], ◌∷◌, length, refl, sym, ap, ◌∙◌, subst}
 use Rattle.std.specs.Prelude.{Option, Some, None, IfSome, IsSome, IsSomeAnd, if◌then◌else◌, nat_le, map, slice_get, slice_set}
 use Rattle.std.specs.Option.{option_map, option_map_or, option_and_then, is_some}
 use Rattle.std.specs.List.{count_by, AllByRecursion}
@@ -16,7 +16,7 @@ use Rattle.model_system.specs.declared.code.Code.{Code}
 use Rattle.model_system.specs.declared.code_state.CodeState.{CodeState}
 use Rattle.model_system.specs.System.{System}
 use Rattle.model_message.specs.declared.ended.Ended.{Ended}
-use Rattle.model_machine.specs.Unit.{Job, Trial, UnitEnd, trial_of}
+use Rattle.model_machine.specs.Unit.{Job, UnitEnd}
 use Rattle.model_machine.specs.Unit.UnitEnd.{Syncs, Abends}
 use Rattle.model_machine.specs.declared.entry.Entry.TheVariants.{Done, Abended}
 use Rattle.model_machine.specs.declared.entry.SyncPoint.{SyncPoint}

@@ -1,6 +1,6 @@
 -- What a turn of a region that is at work comes to.
 use Rattle.std.proofs.Common.{◌≡◌, ℕ, ◌+◌, ◌-◌, List, refl, sym, ap, ◌∙◌, subst}
-use Rattle.std.specs.Prelude.{Option, Some, None, IsSomeAnd, IfSome, Result, Ok, Err, IfOk, OnErr, slice_get, slice_set}
+use Rattle.std.specs.Prelude.{Option, Some, None, IsSomeAnd, Result, Ok, Err, IfOk, OnErr, slice_get, slice_set}
 use Rattle.std.specs.Option.{option_and_then}
 use Rattle.tm_types.specs.declared.message.Message.{Message}
 use Rattle.model_script.specs.declared.program.ScriptLine.{ScriptLine}

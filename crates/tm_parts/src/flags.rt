@@ -4,7 +4,6 @@ ghost use Rattle.model_queues.specs.Queue.{free_count};
 ghost use Rattle.model_machine.specs.Machine.{raised_by, followed};
 ghost use Rattle.tm_parts.specs.Ends.{all_followed};
 
-use crate::lookup::code_place;
 use model_system::Transaction;
 use msg_queues::Queues;
 use sysdef_check::{Codes, System};
@@ -28,7 +27,7 @@ pub fn follow(codes: &mut Codes, system: &System, name: &Name, waiting: u64)
     requires { length codes.old ≡ length system.now.codes }
     ensures { codes.new ≡ followed system.now name.now waiting codes.old }
 {
-    if let Some(place) = code_place(system.codes(), name.as_bytes()) {
+    if let Some(place) = system.code_place(name) {
         let raised = raised_by(
             &system.codes()[place].transaction,
             waiting,

@@ -1,24 +1,14 @@
 //! The codes, programs and terminals of a system by their names.
-ghost use Rattle.std.specs.Prelude.{◌≡◌, ◌<◌, length, IfSome};
+ghost use Rattle.std.specs.Prelude.{◌≡◌, IfSome};
 ghost use Rattle.std.specs.Option.{option_copied};
-ghost use Rattle.model_system.specs.Codes.{code_place, code_at};
+ghost use Rattle.model_system.specs.Codes.{code_at};
 ghost use Rattle.model_machine.specs.Machine.{program_at};
 ghost use Rattle.model_machine.specs.Steps.{first_word};
 
 use model_system::{Code, SystemProgram};
 use tm_types::Name;
 
-/// The place of the code of this name.
-pub fn code_place(codes: &[Code], name: &[u8]) -> Option<usize>
-    ensures value { result ≡ code_place codes.now name.now }
-    ensures within { IfSome result (λ place. place < length codes.now) }
-{
-    codes
-        .iter()
-        .position(|code| code.transaction.code.as_bytes() == name)
-}
-
-/// The code of this name.
+/// The code of this name, which may be any word.
 #[tactic(auto, using(crate::proofs::Named::code_named))]
 pub fn find_code<'a>(codes: &'a [Code], name: &[u8]) -> Option<&'a Code>
     ensures value { option_copied result ≡ code_at codes.now name.now }

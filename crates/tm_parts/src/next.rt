@@ -9,7 +9,6 @@ ghost use Rattle.model_machine.specs.Steps.{may_go_on};
 ghost use Rattle.tm_tables.specs.Tables.{lasting_of};
 ghost use Rattle.tm_parts.specs.Ends.{goes_on_with};
 
-use crate::lookup::{code_place, find_code};
 use model_system::{CodeState, Transaction};
 use msg_queues::Queues;
 use sysdef_check::{Codes, System};
@@ -56,10 +55,10 @@ pub fn next_message(
     ensures value { result ≡ goes_on_with system.now.qbytes tables.now code.now taken busy (code_at system.now.codes code.now) (option_and_then (slice_get codes.now) (code_place system.now.codes code.now)) }
     ensures free { IfSome result (λ id. IsSomeAnd (queued_at id tables.now.queues.queued) (λ q. q.holder ≡ None)) }
 {
-    let Some(found) = find_code(system.codes(), code.as_bytes()) else {
+    let Some(found) = system.code(code) else {
         return None;
     };
-    let Some(place) = code_place(system.codes(), code.as_bytes()) else {
+    let Some(place) = system.code_place(code) else {
         return None;
     };
     if !may_go_on(&found.transaction, &codes.states()[place], taken) {

@@ -8,7 +8,7 @@ ghost use Rattle.model_machine.specs.Machine.{lines_of, pcbs_of, job_of, followe
 ghost use Rattle.tm_unit.specs.Ahead.{IsStart, GoesOn, StaysAhead};
 ghost use Rattle.tm_parts.specs.Region.{IsQueuedWork, IsTaken, Steps, SameWork, Stays, outputs_by};
 
-use crate::lookup::{find_code, find_program};
+use crate::lookup::find_program;
 use model_message::Ended;
 use model_script::Program;
 use model_system::Pcbs;
@@ -67,7 +67,7 @@ fn start_unit(
     requires code { IsSome (code_at system.now.codes code.now) }
     ensures { IfOk result (λ unit. IsSomeAnd (job_of system.now code.now) (λ job. IsStart job.transaction job.lines job.pcbs message.now unit)) }
 {
-    let Some(code) = find_code(system.codes(), code.as_bytes()) else {
+    let Some(code) = system.code(code) else {
         unreachable!()
     };
     let program = script_of(system, no_program, &code.psb);
@@ -122,7 +122,7 @@ fn advance_unit(
     ensures kept { OnErr result (databases.new ≡ databases.old) }
     ensures stays { Stays databases.old databases.new }
 {
-    let Some(code) = find_code(system.codes(), code.as_bytes()) else {
+    let Some(code) = system.code(code) else {
         unreachable!()
     };
     let program = script_of(system, no_program, &code.psb);

@@ -1,4 +1,4 @@
-use Rattle.std.proofs.Common.{◌≡◌, length, ap, ◌∙◌}
+use Rattle.std.proofs.Common.{length, ap, ◌∙◌}
 use Rattle.model_queues.specs.Queue.{free_count}
 use Rattle.model_machine.specs.Machine.{followed}
 use Rattle.tm_parts.proofs.Started.{followed_length}

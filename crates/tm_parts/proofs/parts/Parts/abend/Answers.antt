@@ -1,8 +1,8 @@
 use Rattle.std.proofs.Common.{◌≡◌, ◌-◌, sym, ap, ◌∙◌}
-use Rattle.std.specs.Prelude.{Some, None, slice_get, slice_set}
+use Rattle.std.specs.Prelude.{Some, slice_get}
 use Rattle.tm_tables.specs.Tables.{lasting_of}
-use Rattle.tm_parts.specs.Parts.{slots_of, AreParts}
-use Rattle.tm_parts.proofs.Finished.{found_here, id_there, parts_abended, may_abended, after_abended, abend_sent}
+use Rattle.tm_parts.specs.Parts.{slots_of}
+use Rattle.tm_parts.proofs.Finished.{found_here, parts_abended, may_abended, after_abended, abend_sent}
 use Rattle.tm_parts.proofs.parts.Parts.abend.Goals as goal
 
 pub origin_of-origin-requires : goal.origin_of-origin-requires
