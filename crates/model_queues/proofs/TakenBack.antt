@@ -12,8 +12,10 @@ reply_taken_back segments t =
   where
     next : t.next + 1 - 1 ≡ t.next
     next = omega arith
+
     count : length (t.replies ++ record { number = t.next; segments = segments } ∷ []) - 1 ≡ length t.replies
     count = omega (arith, length-append t.replies (record { number = t.next; segments = segments } ∷ []))
+
     replies : take (length (t.replies ++ record { number = t.next; segments = segments } ∷ []) - 1) (t.replies ++ record { number = t.next; segments = segments } ∷ []) ≡ t.replies
     replies =
         ap (λ n. take n (t.replies ++ record { number = t.next; segments = segments } ∷ [])) count
