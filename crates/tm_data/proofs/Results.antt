@@ -1,8 +1,7 @@
 -- What holds of what any call gives.
-use Rattle.std.proofs.Common.{◌≡◌, ℕ, refl, sym, ◌∙◌, subst, Bool, true, false, cond, List, Option, None, Some}
-use Rattle.std.specs.Prelude.{IfSome, IsSome, IsTrue}
+use Rattle.std.proofs.Common.{◌≡◌, ℕ, refl, subst, Bool, true, false, cond, List, Option, None, Some}
+use Rattle.std.specs.Prelude.{IfSome}
 use Rattle.std.specs.Option.{option_map_or}
-use Rattle.std.proofs.lemmas.Bool.{false≢true}
 use Rattle.tm_types.specs.declared.dbd.Dbd.{Dbd}
 use Rattle.tm_types.specs.declared.function.Function.{Function}
 use Rattle.tm_types.specs.declared.function.Function.TheVariants.{GU, GN, GNP, GHU, GHN, GHNP, ISRT, REPL, DLET, PURG, CHNG, ROLB, ROLL}
@@ -10,22 +9,18 @@ use Rattle.tm_types.specs.declared.status.Status.{Status}
 use Rattle.tm_types.specs.declared.status.Status.TheVariants.{Blank, DJ, AM}
 use Rattle.model_rows.specs.declared.row.Row.{Row}
 use Rattle.model_rows.specs.Path.{root_of, end_type}
-use Rattle.model_rows.specs.Rows.{Database}
 use Rattle.model_dli.specs.declared.call.DbCall.{DbCall}
 use Rattle.model_dli.specs.declared.call.Position.{Position}
 use Rattle.model_dli.specs.declared.call.Reach.{Reach}
 use Rattle.model_dli.specs.declared.call.Reach.TheVariants.{Start, Next, Parent}
-use Rattle.model_dli.specs.declared.call.RowsLimit.{RowsLimit}
 use Rattle.model_dli.specs.Search.{fitted, data_length}
 use Rattle.model_dli.specs.Get.{reached, missed_status, reached_status, position_at, position_missed}
 use Rattle.model_dli.specs.Change.{insert_path, insert_row, insert_fault, replace_fault, delete_fault, with_row, with_data, without, passed_limit}
 use Rattle.model_dli.specs.Dli.{DliResult, dli, answered, changed_to, unheld, get, insert, replace, delete, on_held, is_allowed, position_denied, denied, allowed}
 
--- a call that gives data changes nothing, and one that is refused would have changed a record
+-- a call that gives data changes no record
 pub record IsSound (rows : List Row) (d : DliResult) : Type 0 where
-  pub rows_kept : IfSome d.area (λ text. d.rows ≡ rows)
   pub unchanged : IfSome d.area (λ text. d.changed ≡ None)
-  pub refused : IfSome d.refusal (λ limit. IsSome d.changed)
 
 by_option : {A : Type 0} (P : DliResult → Type 0) (f : A → DliResult) (o : Option A) (d : DliResult)
     → ((x : A) → P (f x)) → P d → P (option_map_or f o d)
@@ -37,8 +32,8 @@ by_test P true x y p q = p
 by_test P false x y p q = q
 
 area_sound : (status : Status) (area : Option (List ℕ)) (rows : List Row) (at : Position) → IsSound rows (answered status area rows at)
-area_sound status None rows at = record { rows_kept = tt; unchanged = tt; refused = tt }
-area_sound status (Some text) rows at = record { rows_kept = refl; unchanged = refl; refused = tt }
+area_sound status None rows at = record { unchanged = tt }
+area_sound status (Some text) rows at = record { unchanged = refl }
 
 changed_sound : (dbd : Dbd) (root : List ℕ) (old : List Row) (before : Position) (new : List Row) (after : Position)
     → IsSound old (changed_to dbd root old before new after)
@@ -47,8 +42,8 @@ changed_sound dbd root old before new after =
     (λ limit. record { status = Blank; area = None; rows = old; position = before; changed = Some root; refusal = Some limit })
     (passed_limit dbd root new old)
     (record { status = Blank; area = None; rows = new; position = after; changed = Some root; refusal = None })
-    (λ limit. record { rows_kept = tt; unchanged = tt; refused = refl })
-    (record { rows_kept = tt; unchanged = tt; refused = tt })
+    (λ limit. record { unchanged = tt })
+    (record { unchanged = tt })
 
 get_sound : (reach : Reach) (hold : Bool) (dbd : Dbd) (call : DbCall) (at : Position) (rows : List Row)
     → IsSound rows (get reach hold dbd call at rows)
@@ -122,25 +117,6 @@ dli_sound dbd call at rows =
     by_test (IsSound rows) (is_allowed call.function call.options) (allowed call.function dbd call at rows) (denied call.function at rows)
     (allowed_sound call.function dbd call at rows) (denied_sound call.function at rows)
 
--- a call that would pass a limit would change a record
-pub refused_changes : (rows : List Row) (d : DliResult) (limit : RowsLimit) → IsSound rows d → d.refusal ≡ Some limit → d.changed ≡ None → ⊥
-refused_changes rows d limit sound e none =
-    let some : IsSome d.changed = subst (λ o. IfSome o (λ l. IsSome d.changed)) e sound.refused in
-    let clash : IsSome {T = List ℕ} None = subst (λ o. IsSome o) none some in
-    absurd (false≢true clash)
-
--- one that gives data leaves the rows as they were
-pub rows_stay : (rows : List Row) (d : DliResult) (text : List ℕ) → IsSound rows d → d.area ≡ Some text → d.rows ≡ rows
-rows_stay rows d text sound e = subst (λ o. IfSome o (λ x. d.rows ≡ rows)) e sound.rows_kept
-
--- and no record changed
+-- one that gives data changes no record
 pub none_changed : (rows : List Row) (d : DliResult) (text : List ℕ) → IsSound rows d → d.area ≡ Some text → d.changed ≡ None
 none_changed rows d text sound e = subst (λ o. IfSome o (λ x. d.changed ≡ None)) e sound.unchanged
-
--- where its data isn't a text, the database is as it was
-pub refused_text : (new old : Database) (d : DliResult) (area : Option (List ℕ)) (P : List ℕ → Type 0) (b : Bool) → IsSound old.rows d
-    → new.dbd ≡ old.dbd → new.rows ≡ d.rows → area ≡ d.area → (IfSome area P → IsTrue b) → b ≡ false → new ≡ old
-refused_text new old d None P b sound e f g all refused = absurd (false≢true (sym refused ∙ all tt))
-refused_text new old d (Some text) P b sound e f g all refused =
-    let kept : new.rows ≡ old.rows = f ∙ rows_stay old.rows d text sound (sym g) in
-    λ i. record { dbd = e i; rows = kept i }
