@@ -188,13 +188,14 @@ NAME LTERM=T1
 REGION CLASS=(1)
 PROGRAM MANYP
 CALL GU 0 A
+WORD M A 2
 SET N \"0\"
 SET I \"1\"
 LABEL L
 ADD N I
 PAD N 4
 CALL ISRT 1 N ROOT
-GOTO L
+IF N < M GOTO L
 ENDPROG
 PROGRAM ROOTSP
 CALL GU 0 A
@@ -327,14 +328,15 @@ fn accounts(rt: HostRuntime) -> Result<(), Fail> {
     Ok(())
 }
 
-/// An abend at a limit leaves no row, so that the same input comes to it again in as many turns.
+/// An abend at a limit leaves no row, so that the same input comes to it again in as many turns. A
+/// program may change 32 records.
 #[test]
 fn limits_of_databases(rt: HostRuntime) -> Result<(), Fail> {
     let alloc = rt.alloc();
     let table: [(&[u8], &[u8]); 3] = [
         (
-            b"IN T1 1 MANY\nQUIET 100\nIN T1 2 MANY\nQUIET 100\nRECV T1\n",
-            b"ACK T1 1\nQUIET 35\nACK T1 2\nQUIET 35\nOUT T1 1 DFS555I TRAN MANY ABEND U0900\n",
+            b"IN T1 1 MANY 0033\nQUIET 100\nIN T1 2 MANY 0033\nQUIET 100\nIN T1 3 MANY 0032\nQUIET 100\nRECV T1\nACK T1 1\nACK T1 2\nRECV T1\n",
+            b"ACK T1 1\nQUIET 35\nACK T1 2\nQUIET 35\nACK T1 3\nQUIET 35\nOUT T1 1 DFS555I TRAN MANY ABEND U0900\nACKED T1 1\nACKED T1 2\nNONE T1\n",
         ),
         (
             b"IN T1 1 ROOTS\nQUIET 100\nIN T1 2 ROOTS\nQUIET 100\nRECV T1\n",
