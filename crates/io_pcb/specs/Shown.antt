@@ -1,7 +1,7 @@
 -- A message that was ended, as it is lent.
-use Rattle.model_message.specs.declared.ended.Ended.{Ended}
+use Rattle.model_message.specs.declared.ended_message.EndedMessage.{EndedMessage}
 use Rattle.io_pcb.specs.declared.output.Output.{Output}
 
 -- what it lends
-abbrev pub shown : Output → Ended
+abbrev pub shown : Output → EndedMessage
 shown output = record { to = output.to; segments = output.segments.now }

@@ -4,12 +4,15 @@ ghost use Rattle.std.specs.List.{flat_map};
 ghost use Rattle.model_message.specs.Work.{ended_to, ended_by};
 
 use crate::pcbs::destination;
-use model_message::{Ended, OpenPcb};
+use model_message::{EndedMessage, OpenPcb};
 use std::collections::VecDeque;
 use tm_types::{Memory, Name, Segments};
 
 /// Adds a copy of each of these messages.
-pub fn add_each(messages: &[Ended], outputs: &mut VecDeque<Ended>) -> Result<(), Memory>
+pub fn add_each(
+    messages: &[EndedMessage],
+    outputs: &mut VecDeque<EndedMessage>,
+) -> Result<(), Memory>
     ensures { OnOk result (outputs.new.items ≡ outputs.old.items ++ messages.now) }
 {
     for message in messages {
@@ -18,11 +21,11 @@ pub fn add_each(messages: &[Ended], outputs: &mut VecDeque<Ended>) -> Result<(),
     Ok(())
 }
 
-fn add(message: &Ended, outputs: &mut VecDeque<Ended>) -> Result<(), Memory>
+fn add(message: &EndedMessage, outputs: &mut VecDeque<EndedMessage>) -> Result<(), Memory>
     ensures { OnOk result (outputs.new.items ≡ outputs.old.items ++ message.now ∷ []) }
 {
     let segments = message.segments.clone()?;
-    outputs.push_back(Ended {
+    outputs.push_back(EndedMessage {
         to: message.to,
         segments,
     })?;
@@ -30,7 +33,7 @@ fn add(message: &Ended, outputs: &mut VecDeque<Ended>) -> Result<(), Memory>
 }
 
 /// Adds a copy of each message under construction, in the order of the PCBs.
-pub fn add_each_open(pcbs: &[OpenPcb], outputs: &mut VecDeque<Ended>) -> Result<(), Memory>
+pub fn add_each_open(pcbs: &[OpenPcb], outputs: &mut VecDeque<EndedMessage>) -> Result<(), Memory>
     ensures { OnOk result (outputs.new.items ≡ outputs.old.items ++ flat_map ended_by pcbs.now) }
 {
     for opened in pcbs {
@@ -39,7 +42,7 @@ pub fn add_each_open(pcbs: &[OpenPcb], outputs: &mut VecDeque<Ended>) -> Result<
     Ok(())
 }
 
-fn add_open(opened: &OpenPcb, outputs: &mut VecDeque<Ended>) -> Result<(), Memory>
+fn add_open(opened: &OpenPcb, outputs: &mut VecDeque<EndedMessage>) -> Result<(), Memory>
     ensures { OnOk result (outputs.new.items ≡ outputs.old.items ++ ended_by opened.now) }
 {
     match destination(opened) {
@@ -48,13 +51,13 @@ fn add_open(opened: &OpenPcb, outputs: &mut VecDeque<Ended>) -> Result<(), Memor
     }
 }
 
-fn add_to(to: Name, segments: &Segments, outputs: &mut VecDeque<Ended>) -> Result<(), Memory>
+fn add_to(to: Name, segments: &Segments, outputs: &mut VecDeque<EndedMessage>) -> Result<(), Memory>
     ensures { OnOk result (outputs.new.items ≡ outputs.old.items ++ ended_to (Some to) segments.now) }
 {
     if segments.is_empty() {
         return Ok(());
     }
     let segments = segments.clone()?;
-    outputs.push_back(Ended { to, segments })?;
+    outputs.push_back(EndedMessage { to, segments })?;
     Ok(())
 }

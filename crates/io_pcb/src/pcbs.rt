@@ -6,7 +6,7 @@ ghost use Rattle.model_message.specs.Work.{fresh_pcb, fresh_pcbs, destination_of
 ghost use Rattle.model_message.specs.Calls.{with_segment, with_chosen, can_change, reset_pcb, ended_at, destination_at};
 ghost use Rattle.model_system.specs.Lists.{change_at};
 
-use model_message::{Ended, OpenPcb};
+use model_message::{EndedMessage, OpenPcb};
 use model_system::Pcb;
 use std::alloc::Global;
 use std::mem;
@@ -93,7 +93,7 @@ fn choose(opened: &mut OpenPcb, to: Name)
 }
 
 /// Ends the message under construction, if there is one. There is room for it.
-fn end_message(alloc: Global, opened: &mut OpenPcb, ended: &mut Vec<Ended>)
+fn end_message(alloc: Global, opened: &mut OpenPcb, ended: &mut Vec<EndedMessage>)
     requires { length ended.old.items < vec_capacity ended.old }
     ensures pcb { opened.new ≡ without_message opened.old }
     ensures ended { ended.new.items ≡ ended.old.items ++ ended_by opened.old }
@@ -103,7 +103,7 @@ fn end_message(alloc: Global, opened: &mut OpenPcb, ended: &mut Vec<Ended>)
     add_ended(ended, to, segments);
 }
 
-fn add_ended(ended: &mut Vec<Ended>, to: Option<Name>, segments: Segments)
+fn add_ended(ended: &mut Vec<EndedMessage>, to: Option<Name>, segments: Segments)
     requires { length ended.old.items < vec_capacity ended.old }
     ensures { ended.new.items ≡ ended.old.items ++ ended_to to segments }
 {
@@ -113,7 +113,7 @@ fn add_ended(ended: &mut Vec<Ended>, to: Option<Name>, segments: Segments)
     if segments.is_empty() {
         return;
     }
-    ended.push_reserved(Ended { to, segments });
+    ended.push_reserved(EndedMessage { to, segments });
 }
 
 /// Adds a segment to the message under construction of the PCB of this number.
@@ -137,7 +137,7 @@ pub fn choose_at(pcbs: &mut Vec<OpenPcb>, pcb: u8, to: Name)
 
 /// Ends the message under construction of the PCB of this number. There is room for it.
 #[tactic(auto, using(crate::proofs::Changed::changed_at))]
-pub fn end_at(alloc: Global, pcbs: &mut Vec<OpenPcb>, ended: &mut Vec<Ended>, pcb: u8)
+pub fn end_at(alloc: Global, pcbs: &mut Vec<OpenPcb>, ended: &mut Vec<EndedMessage>, pcb: u8)
     requires pcb { pcb < length pcbs.old.items }
     requires room { length ended.old.items < vec_capacity ended.old }
     ensures pcbs { pcbs.new.items ≡ change_at pcbs.old.items (Some pcb) without_message }

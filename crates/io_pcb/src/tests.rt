@@ -1,5 +1,5 @@
 use super::*;
-use model_message::Ended;
+use model_message::EndedMessage;
 use model_system::{Classes, Pcb, Pcbs, SegmentKind, Transaction};
 use std::alloc::Global;
 use std::test::Fail;
@@ -89,7 +89,7 @@ fn call(
 }
 
 /// Whether the message goes to this destination and begins with this segment.
-fn is_ended(message: Option<&Ended>, to: &[u8], text: &[u8]) -> bool {
+fn is_ended(message: Option<&EndedMessage>, to: &[u8], text: &[u8]) -> bool {
     match message {
         Some(output) => match output.segments.get(0) {
             Some(segment) => output.to.as_bytes() == to && segment.text() == text,

@@ -8,7 +8,7 @@ ghost use Rattle.io_pcb.specs.Shown.{shown};
 
 use crate::destinations::{destination_named, without_blanks};
 use crate::{Output, outputs, pcbs};
-use model_message::{Ended, OpenPcb};
+use model_message::{EndedMessage, OpenPcb};
 use model_system::{Pcbs, Transaction};
 use std::alloc::Global;
 use std::collections::VecDeque;
@@ -42,7 +42,7 @@ pub struct Work {
     /// PCB 0 and those of the program.
     pcbs: Vec<OpenPcb>,
     /// The messages that were ended, in that order.
-    ended: Vec<Ended>,
+    ended: Vec<EndedMessage>,
 }
 
 impl Model for Work {
@@ -217,7 +217,7 @@ impl Work {
 
     /// A copy of what is sent at the sync point: the messages that were ended, and then those under
     /// construction, in the order of the PCBs.
-    pub fn outputs(&self) -> Result<VecDeque<Ended>, Memory>
+    pub fn outputs(&self) -> Result<VecDeque<EndedMessage>, Memory>
         ensures { IfOk result (λ outputs. outputs.items ≡ (finish_work self.now).ended) }
     {
         let mut outputs = VecDeque::new(self.alloc);

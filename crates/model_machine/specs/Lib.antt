@@ -1,4 +1,4 @@
-pub mod Unit
+pub mod Trial
 pub mod Machine
 pub mod Pick
 pub mod Steps

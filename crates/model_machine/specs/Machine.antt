@@ -19,7 +19,7 @@ use Rattle.model_system.specs.Codes.{code_at, code_place}
 use Rattle.model_system.specs.declared.pcb.Pcb.{Pcb}
 use Rattle.model_rows.specs.declared.row.Row.{Row}
 use Rattle.model_machine.specs.declared.lasting.TerminalInput.{TerminalInput}
-use Rattle.model_machine.specs.Unit.{Job, Trial, trial_of}
+use Rattle.model_machine.specs.Trial.{Job, Trial, trial_of}
 
 -- What lasts of the machine: the rows of each database; the messages in the order of their ids and
 -- the next id; per terminal the last input number, and the replies kept with the next number; and how

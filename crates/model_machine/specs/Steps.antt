@@ -27,10 +27,10 @@ use Rattle.model_machine.specs.declared.entry.AckAnswer.{AckAnswer}
 use Rattle.model_machine.specs.declared.entry.AckAnswer.TheVariants.{Removed, Already as AckAlready, Unknown as AckUnknown, Ahead}
 use Rattle.model_machine.specs.declared.entry.SyncPoint.{SyncPoint}
 use Rattle.model_machine.specs.declared.entry.SyncPoint.TheVariants.{End, Next, NoMore}
-use Rattle.model_message.specs.declared.ended.Ended.{Ended}
+use Rattle.model_message.specs.declared.ended_message.EndedMessage.{EndedMessage}
 use Rattle.model_message.specs.Calls.{finish_work}
-use Rattle.model_machine.specs.Unit.{Trial, UnitEnd, trial_end}
-use Rattle.model_machine.specs.Unit.UnitEnd.{Ends, Syncs, Abends}
+use Rattle.model_machine.specs.Trial.{Trial, WorkEnd, trial_end}
+use Rattle.model_machine.specs.Trial.WorkEnd.{Ends, Syncs, Abends}
 use Rattle.model_system.specs.Codes.{code_at, code_place}
 use Rattle.model_system.specs.Lists.{change_at}
 use Rattle.model_machine.specs.Machine.{LastingState, Moment, Slot, input_at, input_place, output_at, message_at, job_of, IsRegion, slot_at, with_slot, is_held, busy_slots, content, slot_trial, flagged}
@@ -112,23 +112,23 @@ removed_state lasting terminal = record lasting {
 }
 
 -- a message is switched: it stands behind all others, under the next id, and keeps its origin
-abbrev pub switched : List ℕ → Ended → LastingState → LastingState
+abbrev pub switched : List ℕ → EndedMessage → LastingState → LastingState
 switched origin output lasting = record lasting {
   messages = lasting.messages ++ record { id = lasting.next_id; origin = origin; code = output.to; conversation = false; segments = output.segments } ∷ [];
   next_id = lasting.next_id + 1;
 }
 
 -- a reply waits at its terminal, under the next number
-abbrev pub replied : Ended → LastingState → LastingState
+abbrev pub replied : EndedMessage → LastingState → LastingState
 replied output lasting = record lasting { outputs = with_terminal output.to (with_reply output.segments) lasting.outputs }
 
 -- An output goes to a terminal as a reply, and else to a code as a message.
-abbrev pub sent : List ℕ → Ended → LastingState → LastingState
+abbrev pub sent : List ℕ → EndedMessage → LastingState → LastingState
 sent origin output lasting =
     if is_some (output_at lasting.outputs output.to) then replied output lasting else switched origin output lasting
 
 -- outputs go out in their order
-abbrev pub all_sent : List ℕ → List Ended → LastingState → LastingState
+abbrev pub all_sent : List ℕ → List EndedMessage → LastingState → LastingState
 all_sent origin [] lasting = lasting
 all_sent origin (output ∷ outputs) lasting = all_sent origin outputs (sent origin output lasting)
 
@@ -137,7 +137,7 @@ abbrev pub without_message : List Message → ℕ → List Message
 without_message messages id = filter (λ message. not (message.id == id)) messages
 
 -- a message is gone, and these outputs were sent, which have its origin
-abbrev pub finished_state : LastingState → Message → List Ended → LastingState
+abbrev pub finished_state : LastingState → Message → List EndedMessage → LastingState
 finished_state lasting message outputs =
     all_sent message.origin outputs
     (record lasting { messages = without_message lasting.messages message.id; steps = lasting.steps + 1 })
@@ -148,7 +148,7 @@ committed lasting rows = record lasting { rows = rows }
 
 -- what the work sends: the messages that were ended, in that order, and then those under construction,
 -- in the order of the PCBs
-abbrev pub outputs_of : Trial → List Ended
+abbrev pub outputs_of : Trial → List EndedMessage
 outputs_of trial = (finish_work trial.work).ended
 
 abbrev pub completed_by : LastingState → Option Message → Option Trial → LastingState
@@ -198,14 +198,14 @@ abbrev pub after_sync : Option ℕ → SyncPoint
 after_sync (Some id) = Next id
 after_sync None = NoMore
 
-abbrev pub sync_point : System → Moment → Slot → Option UnitEnd → Option SyncPoint
+abbrev pub sync_point : System → Moment → Slot → Option WorkEnd → Option SyncPoint
 sync_point system moment slot (Some Ends) = Some End
 sync_point system moment slot (Some Syncs) = Some (after_sync (next_message system moment (completed_state system moment slot) slot))
 sync_point system moment slot (Some (Abends abend)) = None
 sync_point system moment slot None = None
 
 -- how the work on a slot's message ends now, if it does
-abbrev pub slot_end : System → Moment → Slot → Option UnitEnd
+abbrev pub slot_end : System → Moment → Slot → Option WorkEnd
 slot_end system moment slot =
     option_and_then (λ job. option_and_then (trial_end job) (slot_trial system moment slot slot.calls)) (job_of system slot.code)
 
@@ -265,7 +265,7 @@ abbrev pub taken : System → Moment → ℕ → Slot → Moment
 taken system moment region slot = flagged system slot.code (with_slot moment region (Some slot))
 
 -- the names to which these outputs go
-abbrev pub destinations : List Ended → List (List ℕ)
+abbrev pub destinations : List EndedMessage → List (List ℕ)
 destinations outputs = map (λ output. output.to) outputs
 
 -- the flags of these codes follow, one after another

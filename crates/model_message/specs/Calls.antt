@@ -15,7 +15,7 @@ use Rattle.model_system.specs.declared.pcb.Pcb.TheVariants.{Modifiable}
 use Rattle.model_system.specs.System.{System}
 use Rattle.model_system.specs.Codes.{code_at}
 use Rattle.model_system.specs.Lists.{change_at}
-use Rattle.model_message.specs.declared.ended.Ended.{Ended}
+use Rattle.model_message.specs.declared.ended_message.EndedMessage.{EndedMessage}
 use Rattle.model_message.specs.declared.open_pcb.OpenPcb.{OpenPcb}
 use Rattle.model_message.specs.Work.{MessageWork, fresh_pcb, destination_of, ended_by, without_message}
 
@@ -76,7 +76,7 @@ insert_work work pcb text =
 abbrev pub purge_status : MessageWork → ℕ → Status
 purge_status work pcb = if is_some (destination_at work.pcbs pcb) then Blank else A3
 
-abbrev pub ended_at : List OpenPcb → ℕ → List Ended
+abbrev pub ended_at : List OpenPcb → ℕ → List EndedMessage
 ended_at pcbs pcb = option_map_or ended_by (slice_get pcbs pcb) []
 
 abbrev pub purge_work : MessageWork → ℕ → MessageWork

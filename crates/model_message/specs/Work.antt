@@ -4,7 +4,7 @@ use Rattle.tm_types.specs.declared.message.Message.{Message}
 use Rattle.model_system.specs.declared.code.Transaction.{Transaction}
 use Rattle.model_system.specs.declared.pcb.Pcb.{Pcb}
 use Rattle.model_system.specs.declared.pcb.Pcb.TheVariants.{Database, Destination, Modifiable}
-use Rattle.model_message.specs.declared.ended.Ended.{Ended}
+use Rattle.model_message.specs.declared.ended_message.EndedMessage.{EndedMessage}
 use Rattle.model_message.specs.declared.open_pcb.OpenPcb.{OpenPcb}
 
 -- The message's segments; whether the script has got the first one, and the place of the one that is
@@ -19,7 +19,7 @@ pub record MessageWork : Type 0 where
   pub count_limit : ℕ
   pub inserted : ℕ
   pub pcbs : List OpenPcb
-  pub ended : List Ended
+  pub ended : List EndedMessage
 
 -- a PCB by which nothing was done: no destination is chosen, and no message under construction
 abbrev pub fresh_pcb : Pcb → OpenPcb
@@ -53,14 +53,14 @@ abbrev pub destination_of : OpenPcb → Option (List ℕ)
 destination_of p = destination_by p.kind p.chosen
 
 -- a message that is ended, which is none where it has no segments or no destination
-abbrev pub ended_to : Option (List ℕ) → List (List ℕ) → List Ended
+abbrev pub ended_to : Option (List ℕ) → List (List ℕ) → List EndedMessage
 ended_to None segments = []
 ended_to (Some to) [] = []
 ended_to (Some to) (segment ∷ segments) = record { to = to; segments = segment ∷ segments } ∷ []
 
 -- what ends with the message under construction of a PCB, and the PCB after it, which keeps its
 -- destination
-abbrev pub ended_by : OpenPcb → List Ended
+abbrev pub ended_by : OpenPcb → List EndedMessage
 ended_by p = ended_to (destination_of p) p.segments
 
 abbrev pub without_message : OpenPcb → OpenPcb

@@ -3,9 +3,9 @@
 //! The crate holds definitions and the small types that they speak of, and no code.
 #![tactic(auto)]
 
-pub use ended::Ended;
+pub use ended_message::EndedMessage;
 pub use open_pcb::OpenPcb;
 
 pub mod abends;
-mod ended;
+mod ended_message;
 mod open_pcb;

@@ -6,7 +6,7 @@ use Rattle.model_machine.specs.Machine.{LastingState, start_of, empty_state}
 use Rattle.model_machine.specs.Steps.{May, After}
 use Rattle.model_machine.specs.History.{moment_after, IsLegal}
 use Rattle.model_machine.proofs.Histories.{moment_after-append, IsLegal-append}
-use Rattle.tm_parts.specs.Parts.{PartsState}
+use Rattle.tm_machine.specs.Parts.{PartsState}
 use Rattle.tm_control.specs.ControlView.{IsControl}
 
 pub IsControl-next : (old new : PartsState) (opening : LastingState) (before after : List Entry) (entry : Entry)

@@ -14,8 +14,8 @@ use Rattle.tm_control.specs.declared.answers.Acked.TheVariants.{Removed, Already
 use Rattle.tm_control.specs.declared.answers.AckRefused.{AckRefused}
 use Rattle.tm_control.specs.declared.answers.AckRefused.TheVariants.{Unknown, Ahead, Fault as AckFault}
 use Rattle.tm_control.specs.declared.answers.ControlFault.{ControlFault}
-use Rattle.tm_parts.specs.declared.turned.Turned.{Turned}
-use Rattle.tm_parts.specs.Turns.{turned_entry}
+use Rattle.tm_machine.specs.declared.turned.Turned.{Turned}
+use Rattle.tm_machine.specs.Turns.{turned_entry}
 
 -- each answer to an input but a fault adds its entry, and a fault adds none
 abbrev pub InputAdds : ControlState → ControlState → List ℕ → ℕ → List (List ℕ) → Result Taken InputRefused → Type 0

@@ -3,7 +3,7 @@ use Rattle.std.specs.Prelude.{◌≡◌, List}
 use Rattle.model_machine.specs.declared.entry.Entry.{Entry}
 use Rattle.model_machine.specs.Machine.{LastingState, start_of}
 use Rattle.model_machine.specs.History.{moment_after, IsLegal}
-use Rattle.tm_parts.specs.Parts.{PartsState}
+use Rattle.tm_machine.specs.Parts.{PartsState}
 
 -- the parts are where the history leads, and the history is legal
 pub record IsControl (parts : PartsState) (opening : LastingState) (history : List Entry) : Type 0 where

@@ -5,8 +5,8 @@ ghost use Rattle.model_machine.specs.History.{AddsEntry, AddsNothing, IsLegal, n
 ghost use Rattle.std.specs.Borrow.{sem};
 ghost use Rattle.std.specs.Io.BufRead.{Rests};
 ghost use Rattle.tm_control.specs.contracts.control.Control.{the_row};
-ghost use Rattle.tm_tables.specs.Showing.{IsShown, show_entry};
-ghost use Rattle.tm_parts.specs.Turns.{turned_entry};
+ghost use Rattle.lasting_state.specs.Showing.{IsShown, show_entry};
+ghost use Rattle.tm_machine.specs.Turns.{turned_entry};
 ghost use Rattle.tm_control.specs.Calls.{InputAdds, AcknowledgeAdds, TurnAdds};
 
 use crate::answers::{AckRefused, Acked, ControlFault, InputRefused, Taken};
@@ -15,8 +15,8 @@ use model_machine::{Accepted, AckAnswer, Entry, Lasting, SyncPoint};
 use std::alloc::Global;
 use std::marker::Model;
 use sysdef_check::System;
-use tm_parts::{Parts, Turned};
-use tm_tables::{Shown, empty_lasting};
+use tm_machine::{Parts, Turned};
+use lasting_state::{Shown, empty_lasting};
 use tm_types::{Memory, Name, Segments};
 
 /// The control region. Contracts see its system, what it opened with, its history and the room for

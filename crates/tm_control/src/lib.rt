@@ -5,8 +5,8 @@
 pub use answers::{AckRefused, Acked, ControlFault, InputRefused, Taken};
 pub use control::Control;
 pub use life::{History, Life};
-pub use tm_parts::Turned;
-pub use tm_tables::Shown;
+pub use tm_machine::Turned;
+pub use lasting_state::Shown;
 
 mod answers;
 mod control;

@@ -12,9 +12,9 @@ use Rattle.model_session.specs.Turns.{region_after, AreTurns, IsQuieted, IsBroke
 use Rattle.model_session.specs.Session.{IsBegunBy}
 use Rattle.model_session.proofs.Sessions.{moment_behind}
 use Rattle.model_session.proofs.Turning.{AreTurns-append}
-use Rattle.tm_parts.specs.declared.turned.Turned.{Turned}
-use Rattle.tm_parts.specs.declared.turned.Turned.TheVariants.{Scheduled, Called, Next, QC, Done, Abended, Idle, Held}
-use Rattle.tm_parts.specs.Turns.{turned_entry}
+use Rattle.tm_machine.specs.declared.turned.Turned.{Turned}
+use Rattle.tm_machine.specs.declared.turned.Turned.TheVariants.{Scheduled, Called, Next, QC, Done, Abended, Idle, Held}
+use Rattle.tm_machine.specs.Turns.{turned_entry}
 use Rattle.tm_session.specs.Serving.{AddsEntries, BreaksOff, TurnsSoFar, HasTurned}
 
 -- where entries that were added lead

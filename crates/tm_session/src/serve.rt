@@ -1,7 +1,7 @@
 //! One block of a session, served.
 ghost use Rattle.std.specs.Prelude.{◌≡◌, ◌<◌, ◌≤◌, ◌^◌, ◌++◌, [], length, OnOk, OnErr};
 ghost use Rattle.model_machine.specs.Machine.{IsRegion, Moment};
-ghost use Rattle.tm_parts.specs.Turns.{turned_entry};
+ghost use Rattle.tm_machine.specs.Turns.{turned_entry};
 ghost use Rattle.model_session.specs.Text.{entry_text, accepted_text, bad_line_text, too_long_text};
 ghost use Rattle.model_machine.specs.History.{AddsNothing};
 ghost use Rattle.model_session.specs.Lines.{CanAsk};

@@ -1,7 +1,7 @@
 -- the parts went on as the new entry says
 use Rattle.std.proofs.Common.{◌≡◌, ◌∷◌, [], ◌++◌, ◌∙◌, ap, sym, subst}
 use Rattle.model_machine.specs.Steps.{May, After}
-use Rattle.tm_parts.specs.Turns.{turned_entry}
+use Rattle.tm_machine.specs.Turns.{turned_entry}
 use Rattle.tm_control.proofs.Invariant.{IsControl-next}
 use Rattle.model_machine.specs.declared.entry.Entry.{Entry}
 use Rattle.tm_control.proofs.control.Control.turn.Goals as goal

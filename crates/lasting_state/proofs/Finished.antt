@@ -1,0 +1,166 @@
+-- A message that is done leaves the tables, and what it sends stands behind all others.
+use Rattle.std.proofs.Common.{◌≡◌, ℕ, ◌+◌, ◌<◌, ◌≤◌, Bool, true, false, not, cond, List, [], ◌∷◌, ◌++◌, refl, sym, ap, ◌∙◌, subst, Option, Some, None, map, length, arith}
+use Rattle.std.proofs.lemmas.List.{append_assoc, append-nil}
+use Rattle.std.proofs.lemmas.List.Elements.{filter-append}
+use Rattle.std.proofs.lemmas.Bool.{ne_eqb, eqb-true}
+use Rattle.std.specs.Prelude.{IsSome, if◌then◌else◌}
+use Rattle.std.specs.Option.{is_some}
+use Rattle.tm_types.specs.declared.message.Message.{Message}
+use Rattle.model_queues.specs.declared.queued.Queued.{Queued}
+use Rattle.model_queues.specs.declared.replies.TerminalReplies.{TerminalReplies}
+use Rattle.model_queues.specs.Queue.{QueuesState, IsNewId, has_id, queued_at, message_at, messages_of, without}
+use Rattle.model_queues.specs.Outputs.{replies_at, with_terminal, with_reply}
+use Rattle.model_queues.proofs.Laws.{found_message, found_behind, new_id_without, messages_without}
+use Rattle.model_message.specs.declared.ended_message.EndedMessage.{EndedMessage}
+use Rattle.model_machine.specs.Machine.{LastingState}
+use Rattle.model_machine.specs.Steps.{finished_state, all_sent, switched, replied, without_message}
+use Rattle.lasting_state.specs.Tables.{TablesState, lasting_of, finished, IsFinished}
+use Rattle.lasting_state.specs.Sending.{switches, switched_message, switched_messages, with_messages, with_replies, IsSent}
+use Rattle.lasting_state.proofs.Sent.{with_terminal_none, switches_still, switches_code, switches_terminal}
+
+abbrev waiting : Message → Queued
+waiting message = record { message = message; holder = None }
+
+-- ---- the messages behind all others
+-- one that was there before goes, and they stay
+rest_stays : (origin : List ℕ) (outputs : List EndedMessage) (next id : ℕ) → id < next
+    → without id (map waiting (switched_messages origin outputs next)) ≡ map waiting (switched_messages origin outputs next)
+rest_stays origin [] next id h = refl
+rest_stays origin (output ∷ outputs) next id h =
+    ap (λ b. cond (not b) (waiting (switched_message origin output next) ∷ without id (map waiting (switched_messages origin outputs (next + 1)))) (without id (map waiting (switched_messages origin outputs (next + 1)))))
+    (ne_eqb next id (λ e. absurd (omega (arith, h, e))))
+    ∙ ap (λ qs. waiting (switched_message origin output next) ∷ qs) (rest_stays origin outputs (next + 1) id (omega (arith, h)))
+
+pub gone_before : (origin : List ℕ) (outputs : List EndedMessage) (next id : ℕ) (queued : List Queued) → id < next
+    → without id (with_messages (switched_messages origin outputs next) queued) ≡ with_messages (switched_messages origin outputs next) (without id queued)
+gone_before origin outputs next id queued h =
+    filter-append (λ q. not (has_id id q)) queued (map waiting (switched_messages origin outputs next))
+    ∙ ap (λ qs. without id queued ++ qs) (rest_stays origin outputs next id h)
+
+-- what is found has an id below a new one
+pub found_below : (id next : ℕ) (queued : List Queued) → IsNewId next queued → IsSome (queued_at id queued) → id < next
+found_below id next [] h g = let clash : false ≡ true = g in absurd (cc)
+found_below id next (q ∷ queued) h g = by (has_id id q) refl g (found_below id next queued h.1)
+  where
+    by : (b : Bool) → has_id id q ≡ b → IsSome (cond b (Some q) (queued_at id queued)) → (IsSome (queued_at id queued) → id < next) → id < next
+    by true e k rest = omega (arith, h.0, eqb-true q.message.id id e)
+    by false e k rest = rest k
+
+-- a message that was there is found before them
+pub still_found : (id : ℕ) (messages : List Message) (queued : List Queued) → IsSome (queued_at id queued) → IsSome (queued_at id (with_messages messages queued))
+still_found id messages queued h = by (queued_at id queued) refl h
+  where
+    by : (o : Option Queued) → queued_at id queued ≡ o → IsSome o → IsSome (queued_at id (with_messages messages queued))
+    by None e g = let clash : false ≡ true = g in absurd (cc)
+    by (Some q) e g = ap is_some (found_behind id queued (map waiting messages) q e)
+
+-- the next id is above all of them
+weaker_new : (low high : ℕ) (queued : List Queued) → low ≤ high → IsNewId low queued → IsNewId high queued
+weaker_new low high [] h g = tt
+weaker_new low high (q ∷ queued) h g = (omega (arith, g.0, h), weaker_new low high queued h g.1)
+
+new_behind : (origin : List ℕ) (outputs : List EndedMessage) (next : ℕ) → IsNewId (next + length outputs) (map waiting (switched_messages origin outputs next))
+new_behind origin [] next = tt
+new_behind origin (output ∷ outputs) next =
+    (omega arith, subst (λ n. IsNewId n (map waiting (switched_messages origin outputs (next + 1)))) (omega arith) (new_behind origin outputs (next + 1)))
+
+new_both : (next : ℕ) (queued others : List Queued) → IsNewId next queued → IsNewId next others → IsNewId next (queued ++ others)
+new_both next [] others h g = g
+new_both next (q ∷ queued) others h g = (h.0, new_both next queued others h.1 g)
+
+pub new_id_sent : (origin : List ℕ) (outputs : List EndedMessage) (next : ℕ) (queued : List Queued) → IsNewId next queued
+    → IsNewId (next + length outputs) (with_messages (switched_messages origin outputs next) queued)
+new_id_sent origin outputs next queued h =
+    new_both (next + length outputs) queued (map waiting (switched_messages origin outputs next))
+    (weaker_new next (next + length outputs) queued (omega arith) h) (new_behind origin outputs next)
+
+-- the next id stays above all when a message is finished
+pub new_id_finished : (t : TablesState) (message : Message) (outputs : List EndedMessage) → IsNewId t.next_id t.queues.queued
+    → IsNewId (finished t message outputs).next_id (finished t message outputs).queues.queued
+new_id_finished t message outputs h =
+    new_id_sent message.origin (switches t.outputs outputs) t.next_id (without message.id t.queues.queued) (new_id_without t.next_id message.id t.queues.queued h)
+
+-- ---- the machine's own definition
+-- sending, on what lasts: the messages behind all others, the replies, and the next id
+abbrev sent_by : List ℕ → List EndedMessage → LastingState → LastingState
+sent_by origin outputs lasting = record lasting {
+  messages = lasting.messages ++ switched_messages origin (switches lasting.outputs outputs) lasting.next_id;
+  next_id = lasting.next_id + length (switches lasting.outputs outputs);
+  outputs = with_replies outputs lasting.outputs;
+}
+
+module _ (origin : List ℕ) (output : EndedMessage) (outputs : List EndedMessage) (lasting : LastingState) where
+  sent_code : is_some (replies_at output.to lasting.outputs) ≡ false → sent_by origin outputs (switched origin output lasting) ≡ sent_by origin (output ∷ outputs) lasting
+  sent_code e =
+      let moved : switches lasting.outputs (output ∷ outputs) ≡ output ∷ switches lasting.outputs outputs = switches_code lasting.outputs output outputs e in
+      let same : with_terminal output.to (with_reply output.segments) lasting.outputs ≡ lasting.outputs = with_terminal_none output.to (with_reply output.segments) lasting.outputs e in
+      ap {A = List Message} (λ ms. record lasting { messages = ms; next_id = lasting.next_id + 1 + length (switches lasting.outputs outputs); outputs = with_replies outputs lasting.outputs })
+      (append_assoc lasting.messages (switched_message origin output lasting.next_id ∷ []) (switched_messages origin (switches lasting.outputs outputs) (lasting.next_id + 1)))
+      ∙ (ap {A = ℕ} (λ n. record lasting { messages = lasting.messages ++ switched_messages origin (output ∷ switches lasting.outputs outputs) lasting.next_id; next_id = n; outputs = with_replies outputs lasting.outputs }) (omega arith)
+      ∙ (ap {A = List EndedMessage} (λ os. record lasting { messages = lasting.messages ++ switched_messages origin os lasting.next_id; next_id = lasting.next_id + length os; outputs = with_replies outputs lasting.outputs }) (sym moved)
+      ∙ ap {A = List TerminalReplies} (λ ts. record (sent_by origin (output ∷ outputs) lasting) { outputs = with_replies outputs ts }) (sym same)))
+
+  sent_terminal : is_some (replies_at output.to lasting.outputs) ≡ true → sent_by origin outputs (replied output lasting) ≡ sent_by origin (output ∷ outputs) lasting
+  sent_terminal e =
+      let same : switches (with_terminal output.to (with_reply output.segments) lasting.outputs) outputs ≡ switches lasting.outputs (output ∷ outputs) =
+      switches_still output.to output.segments lasting.outputs outputs ∙ sym (switches_terminal lasting.outputs output outputs e) in
+      ap {A = List EndedMessage} (λ os. record (sent_by origin (output ∷ outputs) lasting) { messages = lasting.messages ++ switched_messages origin os lasting.next_id; next_id = lasting.next_id + length os }) same
+
+  sent_first : ((after : LastingState) → all_sent origin outputs after ≡ sent_by origin outputs after)
+      → (b : Bool) → is_some (replies_at output.to lasting.outputs) ≡ b
+      → all_sent origin outputs (if b then replied output lasting else switched origin output lasting) ≡ sent_by origin (output ∷ outputs) lasting
+  sent_first rest true e = rest (replied output lasting) ∙ sent_terminal e
+  sent_first rest false e = rest (switched origin output lasting) ∙ sent_code e
+
+all_sent_is : (origin : List ℕ) (outputs : List EndedMessage) (lasting : LastingState) → all_sent origin outputs lasting ≡ sent_by origin outputs lasting
+all_sent_is origin [] lasting =
+    ap {A = List Message} (λ ms. record lasting { messages = ms }) (sym (append-nil lasting.messages))
+    ∙ ap {A = ℕ} (λ n. record lasting { messages = lasting.messages ++ []; next_id = n }) (omega arith)
+all_sent_is origin (output ∷ outputs) lasting =
+    sent_first origin output outputs lasting (λ after. all_sent_is origin outputs after) (is_some (replies_at output.to lasting.outputs)) refl
+
+messages_both : (queued : List Queued) (messages : List Message) → messages_of (with_messages messages queued) ≡ messages_of queued ++ messages
+messages_both [] [] = refl
+messages_both [] (message ∷ messages) = ap (λ ms. message ∷ ms) (messages_both [] messages)
+messages_both (q ∷ queued) messages = ap (λ ms. q.message ∷ ms) (messages_both queued messages)
+
+-- what a finished message leaves is what the machine says
+pub lasting_finished : (t : TablesState) (message : Message) (outputs : List EndedMessage) → lasting_of (finished t message outputs) ≡ finished_state (lasting_of t) message outputs
+lasting_finished t message outputs =
+    ap {A = List Message} (λ ms. record (lasting_of (finished t message outputs)) { messages = ms })
+    (messages_both (without message.id t.queues.queued) (switched_messages message.origin (switches t.outputs outputs) t.next_id)
+    ∙ ap (λ ms. ms ++ switched_messages message.origin (switches t.outputs outputs) t.next_id) (messages_without message.id t.queues.queued))
+    ∙ sym (all_sent_is message.origin outputs (record (lasting_of t) { messages = without_message (messages_of t.queues.queued) message.id; steps = t.steps + 1 }))
+
+-- ---- the call
+pub finished_is : (old : TablesState) (sent_queues queues : QueuesState) (outputs : List TerminalReplies) (next id : ℕ) (sends : List EndedMessage) (message : Message)
+    → Some message ≡ message_at id old.queues.queued → id < old.next_id
+    → IsSent message.origin sends old.queues sent_queues old.outputs outputs old.next_id next
+    → queues ≡ record sent_queues { queued = without id sent_queues.queued }
+    → IsFinished old (record old { queues = queues; next_id = next; outputs = outputs; steps = old.steps + 1 }) id sends
+finished_is old sent_queues queues outputs next id sends message found below h left =
+    rw (sym found) (
+      same,
+      ap {A = QueuesState} (λ q. record old { queues = q; next_id = next; outputs = outputs; steps = old.steps + 1 })
+          (left
+          ∙ (ap {A = QueuesState} (λ q. record q { queued = without id q.queued }) h.queues
+          ∙ (ap {A = List Queued} (λ qs. record old.queues { queued = qs }) (gone_before message.origin (switches old.outputs sends) old.next_id id old.queues.queued below)
+          ∙ ap {A = ℕ} (λ n. record old.queues { queued = with_messages (switched_messages message.origin (switches old.outputs sends) old.next_id) (without n old.queues.queued) }) (sym same))))
+          ∙ (ap {A = ℕ} (λ n. record (finished old message sends) { next_id = n; outputs = outputs }) h.next_id
+          ∙ ap {A = List TerminalReplies} (λ ts. record (finished old message sends) { outputs = ts }) h.replies),
+    )
+  where
+    same : message.id ≡ id
+    same = found_message id old.queues.queued message (sym found)
+
+pub finished_new : (origin : List ℕ) (sends : List EndedMessage) (old sent_queues queues : QueuesState) (terminals outputs : List TerminalReplies) (next after id : ℕ)
+    → IsNewId next old.queued
+    → IsSent origin sends old sent_queues terminals outputs next after
+    → queues ≡ record sent_queues { queued = without id sent_queues.queued }
+    → IsNewId after queues.queued
+finished_new origin sends old sent_queues queues terminals outputs next after id fresh h left =
+    subst (λ q. IsNewId after q.queued) (sym left)
+    (new_id_without after id sent_queues.queued
+    (subst (λ q. IsNewId after q.queued) (sym h.queues)
+    (subst (λ n. IsNewId n (with_messages (switched_messages origin (switches terminals sends) next) old.queued)) (sym h.next_id)
+    (new_id_sent origin (switches terminals sends) next old.queued fresh))))

@@ -1,0 +1,60 @@
+-- How a call of a script is answered, and what that leaves of the work.
+use Rattle.std.specs.Prelude.{◌≡◌, ℕ, ◌-◌, Some, None, length, replicate, slice_set}
+use Rattle.model_script.specs.Script.{Answer, moved_on}
+use Rattle.model_script.specs.declared.need.CallText.{CallText}
+use Rattle.model_system.specs.System.{System}
+use Rattle.model_message.specs.Work.{MessageWork}
+use Rattle.model_message.specs.Calls.{unique_answer, reset_work}
+use Rattle.model_dli.specs.Data.{nowhere}
+use Rattle.model_machine.specs.Trial.{Reached, answer_at, work_at, data_at, abend_at}
+use Rattle.script_run.specs.Running.{Running}
+use Rattle.tm_types.specs.declared.status.Status.{Status}
+use Rattle.program_rows.specs.State.{DatabasesState, rows_of, data_of}
+use Rattle.program_rows.specs.declared.answer.Answered.{Answered as DataAnswered}
+use Rattle.message_run.specs.RunState.{RunState}
+use Rattle.message_run.specs.declared.answer.CallEnd.{CallEnd}
+use Rattle.message_run.specs.declared.answer.CallEnd.TheVariants.{Answered, Abended}
+
+-- a script that waits, once its call was answered
+abbrev pub answered_machine : Running → Answer → Running
+answered_machine machine answer = record machine { script = moved_on machine.script machine.waiting answer; waiting = None }
+
+-- A call was answered: the script has the answer, and the work, the databases and the PCBs are as the
+-- call leaves them. The databases before and after it come first.
+pub record Answers (system : System) (target : Reached) (before after : DatabasesState) (old new : RunState) (call : CallText) (status : Status) : Type 0 where
+  pub calls : new.calls ≡ old.calls
+  pub machine : new.machine ≡ answered_machine old.machine (answer_at system target old.work (data_of before old.positions) call)
+  pub work : new.work ≡ work_at system target old.work call
+  pub seen : data_of after new.positions ≡ data_at (rows_of before.committed) target (data_of before old.positions) call
+  pub pcbs : length new.positions ≡ length old.positions
+  pub told : status ≡ (answer_at system target old.work (data_of before old.positions) call).status
+  pub goes_on : abend_at target (data_of before old.positions) call ≡ None
+
+-- a call was answered, or it leads to an abend, which changes nothing
+abbrev pub ComesTo : System → Reached → DatabasesState → DatabasesState → RunState → RunState → CallText → CallEnd → Type 0
+ComesTo system target before after old new call (Answered status) = Answers system target before after old new call status
+ComesTo system target before after old new call (Abended abend) =
+    (new ≡ old) × (after ≡ before) × (abend_at target (data_of before old.positions) call ≡ Some abend)
+
+-- The script was answered with this, and told its status, and the message's work is this one.
+pub record Serves (answer : Answer) (work : MessageWork) (old new : RunState) (status : Status) : Type 0 where
+  pub told : status ≡ answer.status
+  pub state : new ≡ record old { machine = answered_machine old.machine answer; work = work }
+
+-- The same at a ROLB, which leaves each PCB nowhere.
+pub record RollsBack (old new : RunState) (status : Status) : Type 0 where
+  pub told : status ≡ (unique_answer old.work).status
+  pub state : new ≡ record {
+    calls = old.calls;
+    machine = answered_machine old.machine (unique_answer old.work);
+    work = reset_work old.work;
+    positions = replicate (length old.positions) nowhere;
+  }
+
+-- the script was answered with what a call on a database gave, and the PCB stands where it then does
+pub record Tells (pcb : ℕ) (given : DataAnswered) (old new : RunState) (told : CallEnd) : Type 0 where
+  pub answer : told ≡ Answered given.status
+  pub state : new ≡ record old {
+    machine = answered_machine old.machine (record { status = given.status; area = given.area });
+    positions = slice_set old.positions (pcb - 1) given.position;
+  }

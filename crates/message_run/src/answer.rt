@@ -1,0 +1,298 @@
+//! How the calls of a script are answered.
+ghost use Rattle.std.specs.Prelude.{◌≡◌, ◌≤◌, Some, IfOk, IfSome, IsOk, IsSome, OnOk, OnErr, length, replicate};
+ghost use Rattle.std.specs.Option.{option_copied};
+ghost use Rattle.tm_types.specs.Segment.{IsSegmentText};
+ghost use Rattle.model_system.specs.declared.pcb.Pcb.TheVariants.{Database};
+ghost use Rattle.model_message.specs.Calls.{given, status_alone, unique_answer, unique_work, next_answer, next_work, insert_status, insert_work, purge_status, purge_work, change_status, change_work};
+ghost use Rattle.model_dli.specs.Data.{nowhere};
+ghost use Rattle.model_machine.specs.Trial.{reached, reached_by};
+ghost use Rattle.model_machine.specs.Trial.Reached.{Messages};
+ghost use Rattle.program_rows.specs.State.{dbds_of};
+ghost use Rattle.message_run.specs.Ahead.{StayWithout};
+ghost use Rattle.message_run.specs.Answering.{ComesTo, Serves, RollsBack, Tells, answered_machine};
+
+use crate::run::Run;
+use model_dli::DbCall;
+use model_message::abends::ROLLED_BACK;
+use model_script::CallText;
+use model_system::{Pcb, Pcbs};
+use program_rows::{Answered, DataAnswer, Databases, Position};
+use script_run::Machine;
+use sysdef_check::System;
+use tm_types::{AbendCode, Bytes, Function, Memory, Segment, Status};
+
+/// What comes of a call.
+#[derive(Clone, Copy, Debug)]
+pub enum CallEnd {
+    /// It was answered with this status.
+    Answered(Status),
+    /// It leads to this abend.
+    Abended(AbendCode),
+}
+
+impl Run {
+    /// Does a call of the script, and answers it. Want of memory changes nothing.
+    pub(crate) fn answer(
+        &mut self,
+        system: &System,
+        pcbs: &Pcbs,
+        databases: &mut Databases,
+        call: CallText,
+    ) -> Result<CallEnd, Memory>
+        requires waits { IsSome self.old.machine.waiting }
+        requires text { IsSegmentText call.area }
+        requires databases { dbds_of databases.old ≡ system.now.databases }
+        requires pcbs { length self.old.positions ≡ length pcbs.now }
+        ensures ok { IfOk result (ComesTo system.now (reached system.now.databases pcbs.now call.pcb) databases.old databases.new self.old self.new call) }
+        ensures none { StayWithout system.now databases.old databases.new }
+        ensures committed { databases.new.committed ≡ databases.old.committed }
+        ensures dbds { dbds_of databases.new ≡ dbds_of databases.old }
+        ensures err { OnErr result (self.new ≡ self.old) }
+        ensures kept { OnErr result (databases.new ≡ databases.old) }
+    {
+        if call.pcb == 0 {
+            return self.answer_message(system, databases, &call);
+        }
+        match pcbs.numbered(call.pcb) {
+            Some(Pcb::Database(number, options)) => {
+                self.answer_database(system, databases, *number, *options, call)
+            }
+            Some(Pcb::Destination(_)) => self.answer_message(system, databases, &call),
+            Some(Pcb::Modifiable) => self.answer_message(system, databases, &call),
+            None => Ok(CallEnd::Answered(self.tell(Status::AM)?)),
+        }
+    }
+
+    /// Does a call on PCB 0 or on an output PCB, and answers it.
+    fn answer_message(
+        &mut self,
+        system: &System,
+        databases: &mut Databases,
+        call: &CallText,
+    ) -> Result<CallEnd, Memory>
+        requires waits { IsSome self.old.machine.waiting }
+        requires text { IsSegmentText call.now.area }
+        ensures ok { IfOk result (ComesTo system.now Messages databases.old databases.new self.old self.new call.now) }
+        ensures none { StayWithout system.now databases.old databases.new }
+        ensures committed { databases.new.committed ≡ databases.old.committed }
+        ensures dbds { dbds_of databases.new ≡ dbds_of databases.old }
+        ensures err { OnErr result (self.new ≡ self.old) }
+        ensures kept { OnErr result (databases.new ≡ databases.old) }
+    {
+        let (pcb, area) = (call.pcb, call.area.as_slice());
+        match call.function {
+            Function::GU => Ok(CallEnd::Answered(self.get_unique()?)),
+            Function::GN => Ok(CallEnd::Answered(self.get_next()?)),
+            Function::ISRT => Ok(CallEnd::Answered(self.insert(pcb, area)?)),
+            Function::PURG => Ok(CallEnd::Answered(self.purge(pcb)?)),
+            Function::CHNG => Ok(CallEnd::Answered(self.change(system, pcb, area)?)),
+            Function::ROLB => {
+                let status = self.roll_back()?;
+                databases.back_out();
+                Ok(CallEnd::Answered(status))
+            }
+            Function::ROLL => Ok(CallEnd::Abended(AbendCode {
+                number: ROLLED_BACK,
+            })),
+            _ => Ok(CallEnd::Answered(self.tell(Status::AM)?)),
+        }
+    }
+
+    fn get_unique(&mut self) -> Result<Status, Memory>
+        requires { IsSome self.old.machine.waiting }
+        ensures ok { IfOk result (Serves (unique_answer self.old.work) (unique_work self.old.work) self.old self.new) }
+        ensures err { OnErr result (self.new ≡ self.old) }
+    {
+        let status = give(&mut self.machine, self.work.first())?;
+        self.work.begin();
+        Ok(status)
+    }
+
+    fn get_next(&mut self) -> Result<Status, Memory>
+        requires { IsSome self.old.machine.waiting }
+        ensures ok { IfOk result (Serves (next_answer self.old.work) (next_work self.old.work) self.old self.new) }
+        ensures err { OnErr result (self.new ≡ self.old) }
+    {
+        let status = give(&mut self.machine, self.work.next())?;
+        self.work.go_on();
+        Ok(status)
+    }
+
+    fn insert(&mut self, pcb: u8, text: &[u8]) -> Result<Status, Memory>
+        requires waits { IsSome self.old.machine.waiting }
+        requires text { IsSegmentText text.now }
+        ensures ok { IfOk result (Serves (status_alone (insert_status self.old.work pcb text.now)) (insert_work self.old.work pcb text.now) self.old self.new) }
+        ensures err { OnErr result (self.new ≡ self.old) }
+    {
+        let status = self.work.insert(pcb, text)?;
+        self.tell(status)
+    }
+
+    fn purge(&mut self, pcb: u8) -> Result<Status, Memory>
+        requires { IsSome self.old.machine.waiting }
+        ensures ok { IfOk result (Serves (status_alone (purge_status self.old.work pcb)) (purge_work self.old.work pcb) self.old self.new) }
+        ensures err { OnErr result (self.new ≡ self.old) }
+    {
+        let status = self.work.purge(pcb)?;
+        self.tell(status)
+    }
+
+    fn change(&mut self, system: &System, pcb: u8, name: &[u8]) -> Result<Status, Memory>
+        requires { IsSome self.old.machine.waiting }
+        ensures ok { IfOk result (Serves (status_alone (change_status system.now self.old.work pcb name.now)) (change_work system.now self.old.work pcb name.now) self.old self.new) }
+        ensures always { IsOk result }
+    {
+        let status = self.work.change(pcb, name, system);
+        self.tell(status)
+    }
+
+    /// Gives the first segment again, and takes back all else but what was done in the databases.
+    fn roll_back(&mut self) -> Result<Status, Memory>
+        requires { IsSome self.old.machine.waiting }
+        ensures ok { IfOk result (RollsBack self.old self.new) }
+        ensures err { OnErr result (self.new ≡ self.old) }
+    {
+        let status = give(&mut self.machine, self.work.first())?;
+        self.work.reset();
+        leave_each(&mut self.positions);
+        Ok(status)
+    }
+
+    /// Answers the script's call with a status alone. This takes no memory.
+    fn tell(&mut self, status: Status) -> Result<Status, Memory>
+        requires { IsSome self.old.machine.waiting }
+        ensures ok { IfOk result (Serves (status_alone status) self.old.work self.old self.new) }
+        ensures always { IsOk result }
+    {
+        tell(&mut self.machine, status)
+    }
+
+    /// Does a call on the database of this number by a PCB with these options, and answers it.
+    fn answer_database(
+        &mut self,
+        system: &System,
+        databases: &mut Databases,
+        number: u8,
+        options: u8,
+        call: CallText,
+    ) -> Result<CallEnd, Memory>
+        requires waits { IsSome self.old.machine.waiting }
+        requires text { IsSegmentText call.area }
+        requires some { 1 ≤ call.pcb }
+        requires pcbs { call.pcb ≤ length self.old.positions }
+        requires databases { dbds_of databases.old ≡ system.now.databases }
+        ensures ok { IfOk result (ComesTo system.now (reached_by system.now.databases (Some (Database number options))) databases.old databases.new self.old self.new call) }
+        ensures none { StayWithout system.now databases.old databases.new }
+        ensures committed { databases.new.committed ≡ databases.old.committed }
+        ensures dbds { dbds_of databases.new ≡ dbds_of databases.old }
+        ensures err { OnErr result (self.new ≡ self.old) }
+        ensures kept { OnErr result (databases.new ≡ databases.old) }
+    {
+        if number == 0 {
+            return Err(Memory);
+        }
+        let Some(dbd) = system.databases().get(usize::from(number) - 1) else {
+            return Ok(CallEnd::Answered(self.tell(Status::AM)?));
+        };
+        let CallText {
+            function,
+            pcb,
+            area,
+            ssas,
+        } = call;
+        let call = DbCall {
+            function,
+            options,
+            area,
+            ssas,
+        };
+        let at = &self.positions[usize::from(pcb) - 1];
+        match databases.call(dbd, number, at, &call) {
+            Ok(DataAnswer::Abend(abend)) => Ok(CallEnd::Abended(abend)),
+            Ok(DataAnswer::Answered(answered)) => self.tell_answer(pcb, answered),
+            Err(error) => Err(error),
+        }
+    }
+
+    /// Answers the script's call with what a call on a database gave, and puts the PCB of this number
+    /// where it then stands.
+    fn tell_answer(&mut self, pcb: u8, answered: Answered) -> Result<CallEnd, Memory>
+        requires waits { IsSome self.old.machine.waiting }
+        requires text { IfSome answered.area IsSegmentText }
+        requires some { 1 ≤ pcb }
+        requires pcbs { pcb ≤ length self.old.positions }
+        ensures ok { IfOk result (Tells pcb answered self.old self.new) }
+        ensures err { OnErr result (self.new ≡ self.old) }
+        ensures brings { OnErr result (IsSome answered.area) }
+    {
+        let Answered {
+            status,
+            area,
+            position,
+        } = answered;
+        match bring(&mut self.machine, status, &area) {
+            Ok(()) => {
+                self.positions[usize::from(pcb) - 1] = position;
+                Ok(CallEnd::Answered(status))
+            }
+            Err(error) => Err(error),
+        }
+    }
+}
+
+/// Answers the script's call with a status alone. This takes no memory.
+fn tell(machine: &mut Machine, status: Status) -> Result<Status, Memory>
+    requires { IsSome machine.old.waiting }
+    ensures told { IfOk result (λ told. told ≡ status) }
+    ensures ok { OnOk result (machine.new ≡ answered_machine machine.old (status_alone status)) }
+    ensures always { IsOk result }
+{
+    machine.answer(status, None)?;
+    Ok(status)
+}
+
+/// Answers the script's call with the segment, or with QD where there is none.
+fn give(machine: &mut Machine, segment: Option<&Segment>) -> Result<Status, Memory>
+    requires { IsSome machine.old.waiting }
+    ensures told { IfOk result (λ told. told ≡ (given (option_copied segment.entry)).status) }
+    ensures ok { OnOk result (machine.new ≡ answered_machine machine.old (given (option_copied segment.entry))) }
+    ensures err { OnErr result (machine.new ≡ machine.old) }
+{
+    match segment {
+        Some(segment) => {
+            machine.answer(Status::Blank, Some(segment.text()))?;
+            Ok(Status::Blank)
+        }
+        None => tell(machine, Status::QD),
+    }
+}
+
+/// Answers the script's call with a status, and with a text where there is one. Without a text this
+/// takes no memory.
+fn bring(machine: &mut Machine, status: Status, area: &Option<Bytes>) -> Result<(), Memory>
+    requires waits { IsSome machine.old.waiting }
+    requires text { IfSome area.now IsSegmentText }
+    ensures ok { OnOk result (machine.new ≡ answered_machine machine.old (record { status = status; area = area.now })) }
+    ensures err { OnErr result (machine.new ≡ machine.old) }
+    ensures brings { OnErr result (IsSome area.now) }
+{
+    match area {
+        Some(text) => {
+            machine.answer(status, Some(text.as_slice()))?;
+            Ok(())
+        }
+        None => {
+            tell(machine, status)?;
+            Ok(())
+        }
+    }
+}
+
+/// Puts each PCB nowhere. This takes no memory.
+fn leave_each(positions: &mut Vec<Position>)
+    ensures { positions.new.items ≡ replicate (length positions.old.items) nowhere }
+{
+    for position in positions.iter_mut() {
+        *position = Position::new();
+    }
+}

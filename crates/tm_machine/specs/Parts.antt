@@ -1,0 +1,67 @@
+-- The parts of a control region as its calls see them, and what holds among them.
+use Rattle.std.specs.Prelude.{◌≡◌, ◌⊎◌, ℕ, ◌+◌, ◌<◌, ◌≤◌, ◌^◌, Option, Some, None, List, [], length, map, slice_get}
+use Rattle.std.specs.Option.{is_some}
+use Rattle.std.specs.List.{AllByRecursion}
+use Rattle.tm_types.specs.declared.message.Message.{Message}
+use Rattle.model_queues.specs.declared.queued.Queued.{Queued}
+use Rattle.model_queues.specs.Queue.{queued_at}
+use Rattle.model_system.specs.declared.code_state.CodeState.{CodeState}
+use Rattle.model_system.specs.System.{System}
+use Rattle.model_machine.specs.Machine.{Moment, Slot, is_held}
+use Rattle.model_script.specs.declared.program.ScriptLine.{ScriptLine}
+use Rattle.program_rows.specs.State.{DatabasesState, IsClean, dbds_of}
+use Rattle.lasting_state.specs.Tables.{TablesState}
+use Rattle.tm_machine.specs.declared.region.Busy.{Busy}
+use Rattle.tm_machine.specs.Region.{IsWork, calls_made}
+
+-- the system, and the moment that its machine has come to
+pub record PartsState : Type 0 where
+  pub system : System
+  pub moment : Moment
+
+-- the slot that a region's work stands for
+abbrev pub slot_of : Option Busy → Option Slot
+slot_of (Some busy) = Some (record { code = busy.code; taken = busy.taken; id = busy.id; calls = calls_made busy.unit })
+slot_of None = None
+
+abbrev pub slots_of : List (Option Busy) → List (Option Slot)
+slots_of regions = map slot_of regions
+
+-- A region works on a message that the queues keep for it. Its work, made from the start on the rows
+-- that are committed, leads to what it has, and to the rows that the stores have.
+pub record IsAtWork (system : System) (databases : DatabasesState) (queued : List Queued) (region : ℕ) (busy : Busy) : Type 0 where
+  pub message : Message
+  pub found : queued_at busy.id queued ≡ Some (record { message = message; holder = Some region })
+  pub work : IsWork system databases message busy
+
+-- a message has a holder exactly where a slot has it
+abbrev pub IsTold : List (Option Slot) → List Queued → Type 0
+IsTold slots queued = AllByRecursion (λ q. is_held slots q.message.id ≡ is_some q.holder) queued
+
+-- each region that has a message is at work on it; regions are numbered from 1
+abbrev pub AreAtWork : System → DatabasesState → List Queued → List (Option Busy) → Type 0
+AreAtWork system databases queued regions =
+    (place : ℕ) (busy : Busy) → slice_get regions place ≡ Some (Some busy) → IsAtWork system databases queued (place + 1) busy
+
+-- these are the system's databases, by what is committed and by what the stores have
+pub record AreDatabases (system : System) (databases : DatabasesState) : Type 0 where
+  pub stores : dbds_of databases ≡ system.databases
+  pub committed : map (λ s. s.dbd) databases.committed ≡ system.databases
+
+-- Where there are databases one region works, and while it is empty nothing is changed in them. Where
+-- there are none, nothing ever is.
+abbrev pub IsAlone : System → DatabasesState → List (Option Busy) → Type 0
+IsAlone system databases regions =
+    ((system.databases ≡ []) × IsClean databases)
+    ⊎ ((length system.regions ≤ 1) × ((place : ℕ) → slice_get regions place ≡ Some None → IsClean databases))
+
+pub record AreParts (system : System) (no_program : List ScriptLine) (tables : TablesState) (states : List CodeState) (regions : List (Option Busy)) : Type 0 where
+  pub no_lines : no_program ≡ []
+  pub limit : tables.queues.limit ≡ system.qbytes
+  pub regions_are : length regions ≡ length system.regions
+  pub few : length regions < 2 ^ 32
+  pub states_are : length states ≡ length system.codes
+  pub told : IsTold (slots_of regions) tables.queues.queued
+  pub at_work : AreAtWork system tables.databases tables.queues.queued regions
+  pub databases : AreDatabases system tables.databases
+  pub alone : IsAlone system tables.databases regions

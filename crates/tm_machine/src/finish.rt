@@ -1,0 +1,140 @@
+//! How a region's work on a message ends.
+ghost use Rattle.std.specs.Prelude.{◌≡◌, IfOk, IsSome, IsSomeAnd, OnErr};
+ghost use Rattle.model_queues.specs.Queue.{message_at};
+ghost use Rattle.model_machine.specs.Machine.{IsRegion};
+ghost use Rattle.model_machine.specs.Trial.WorkEnd.{Ends, Syncs, Abends};
+ghost use Rattle.model_machine.specs.Steps.{May, After};
+ghost use Rattle.message_run.specs.Ahead.{end_of};
+ghost use Rattle.tm_machine.specs.Ends.{EndsSo};
+ghost use Rattle.tm_machine.specs.Turns.{turned_entry};
+
+use crate::Turned;
+use crate::abend::abend_outputs;
+use crate::close::{abandon, busy_at, complete, names_moved};
+use crate::flags::follow_all;
+use crate::next::next_message;
+use crate::parts::Parts;
+use crate::region::{Busy, count_busy, outputs_by, take};
+use lasting_state::{COUNT_LIMIT, Tables};
+use message_run::Ending;
+use tm_types::{AbendCode, Memory, Name};
+
+impl Parts {
+    /// Ends a region's work on its message, which has come to this end. Want of memory changes
+    /// nothing.
+    pub fn finish(&mut self, region: u32, ending: Ending) -> Result<Turned, Memory>
+        requires region { IsRegion self.old.system region }
+        requires ends { EndsSo self.old region (end_of ending) }
+        ensures may { IfOk result (λ turned. May self.old.system self.old.moment (turned_entry region turned)) }
+        ensures after { IfOk result (λ turned. self.new.moment ≡ After self.old.system self.old.moment (turned_entry region turned)) }
+        ensures system { self.new.system ≡ self.old.system }
+        ensures err { OnErr result (self.new ≡ self.old) }
+    {
+        match ending {
+            Ending::End => self.complete(region),
+            Ending::Sync => self.go_on(region),
+            Ending::Abend(abend) => self.abend(region, abend),
+        }
+    }
+
+    /// Completes a message whose script has ended.
+    fn complete(&mut self, region: u32) -> Result<Turned, Memory>
+        requires region { IsRegion self.old.system region }
+        requires ends { EndsSo self.old region Ends }
+        ensures may { IfOk result (λ turned. May self.old.system self.old.moment (turned_entry region turned)) }
+        ensures after { IfOk result (λ turned. self.new.moment ≡ After self.old.system self.old.moment (turned_entry region turned)) }
+        ensures system { self.new.system ≡ self.old.system }
+        ensures err { OnErr result (self.new ≡ self.old) }
+    {
+        let busy = busy_at(&self.regions, region);
+        let code = busy.code;
+        let id = busy.id;
+        let Ok(outputs) = outputs_by(self.alloc, busy) else {
+            return Err(Memory);
+        };
+        let Ok(names) = names_moved(self.alloc, &code, &outputs) else {
+            return Err(Memory);
+        };
+        let Ok(()) = complete(&mut self.regions, region, &mut self.tables, id, outputs) else {
+            return Err(Memory);
+        };
+        follow_all(&mut self.codes, &self.system, self.tables.queues(), &names);
+        Ok(Turned::Done(code, id))
+    }
+
+    /// Completes a message whose script asks for a further one, and goes on with that, on the rows
+    /// that the work on the first one leaves.
+    fn go_on(&mut self, region: u32) -> Result<Turned, Memory>
+        requires region { IsRegion self.old.system region }
+        requires ends { EndsSo self.old region Syncs }
+        ensures may { IfOk result (λ turned. May self.old.system self.old.moment (turned_entry region turned)) }
+        ensures after { IfOk result (λ turned. self.new.moment ≡ After self.old.system self.old.moment (turned_entry region turned)) }
+        ensures system { self.new.system ≡ self.old.system }
+        ensures err { OnErr result (self.new ≡ self.old) }
+    {
+        let busy = busy_at(&self.regions, region);
+        let code = busy.code;
+        let taken = busy.taken;
+        let id = busy.id;
+        if taken >= COUNT_LIMIT {
+            return Err(Memory);
+        }
+        let Ok(outputs) = outputs_by(self.alloc, busy) else {
+            return Err(Memory);
+        };
+        let Ok(names) = names_moved(self.alloc, &code, &outputs) else {
+            return Err(Memory);
+        };
+        let count = count_busy(&self.regions);
+        let Ok(()) = complete(&mut self.regions, region, &mut self.tables, id, outputs) else {
+            return Err(Memory);
+        };
+        let Some(next) = next_message(&self.system, &self.codes, &self.tables, &code, taken, count)
+        else {
+            follow_all(&mut self.codes, &self.system, self.tables.queues(), &names);
+            return Ok(Turned::QC(code, id));
+        };
+        let busy = Busy {
+            code,
+            taken: taken + 1,
+            id: next,
+            unit: None,
+        };
+        take(&mut self.tables, &mut self.regions, region, busy);
+        follow_all(&mut self.codes, &self.system, self.tables.queues(), &names);
+        Ok(Turned::Next(code, id, next))
+    }
+
+    /// Ends the work on a message whose script has ended abnormally; its origin is told so.
+    fn abend(&mut self, region: u32, abend: AbendCode) -> Result<Turned, Memory>
+        requires region { IsRegion self.old.system region }
+        requires ends { EndsSo self.old region (Abends abend) }
+        ensures may { IfOk result (λ turned. May self.old.system self.old.moment (turned_entry region turned)) }
+        ensures after { IfOk result (λ turned. self.new.moment ≡ After self.old.system self.old.moment (turned_entry region turned)) }
+        ensures system { self.new.system ≡ self.old.system }
+        ensures err { OnErr result (self.new ≡ self.old) }
+    {
+        let busy = busy_at(&self.regions, region);
+        let code = busy.code;
+        let id = busy.id;
+        let origin = origin_of(&self.tables, id);
+        let Ok(outputs) = abend_outputs(self.alloc, &origin, &code, abend) else {
+            return Err(Memory);
+        };
+        let Ok(()) = abandon(&mut self.regions, region, &mut self.tables, id, outputs) else {
+            return Err(Memory);
+        };
+        Ok(Turned::Abended(code, id, abend))
+    }
+}
+
+/// The terminal from which the message of this id comes.
+fn origin_of(tables: &Tables, id: u64) -> Name
+    requires { IsSome (message_at id tables.now.queues.queued) }
+    ensures { IsSomeAnd (message_at id tables.now.queues.queued) (λ message. result ≡ message.origin) }
+{
+    let Some(message) = tables.queues().find(id) else {
+        unreachable!()
+    };
+    message.origin
+}

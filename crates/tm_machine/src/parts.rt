@@ -1,0 +1,79 @@
+ghost use Rattle.std.specs.Prelude.{◌≡◌, ◌<◌, ◌^◌, [], None, replicate, IfOk, OnOk};
+ghost use Rattle.model_machine.specs.Machine.{empty_state, start_of};
+
+use crate::region::Busy;
+use lasting_state::Tables;
+use model_script::Program;
+use std::alloc::Global;
+use std::marker::Model;
+use sysdef_check::{Codes, System};
+use tm_types::Memory;
+
+/// The state of a control region, as its calls change it.
+#[derive(Debug, Drop)]
+pub struct Parts {
+    pub(crate) alloc: Global,
+    pub(crate) system: System,
+    /// The script of a PSB that has none.
+    pub(crate) no_program: Program,
+    /// Messages, replies and numbers.
+    pub(crate) tables: Tables,
+    pub(crate) codes: Codes,
+    /// What each region works on; the first has number 1.
+    pub(crate) regions: Vec<Option<Busy>>,
+}
+
+impl Model for Parts {
+    ghost use Rattle.tm_machine.specs.Parts.{PartsState, AreParts};
+    ghost use Rattle.tm_machine.specs.PartsView.{moment_of};
+
+    ghost Value = { PartsState };
+
+    ghost view = { λ p. record { system = p.system; moment = moment_of p } };
+
+    ghost invariant = { λ p. AreParts p.system p.no_program p.tables p.codes p.regions.items };
+}
+
+impl Parts {
+    /// The parts of an empty control region of this system.
+    pub fn new(alloc: Global, system: System) -> Result<Parts, Memory>
+        ensures system { IfOk result (λ parts. parts.system ≡ system) }
+        ensures moment { IfOk result (λ parts. parts.moment ≡ start_of system (empty_state system)) }
+    {
+        let regions = empty_regions(alloc, system.regions().len())?;
+        let tables = Tables::new(alloc, &system)?;
+        let codes = Codes::of(alloc, &system)?;
+        Ok(Parts {
+            alloc,
+            no_program: Program::new(Vec::new(alloc)),
+            tables,
+            codes,
+            regions,
+            system,
+        })
+    }
+}
+
+impl Parts {
+    /// The system that is served.
+    pub fn system(&self) -> &System
+        ensures { result.now ≡ self.now.system }
+    {
+        &self.system
+    }
+}
+
+/// So many regions, all empty; want of memory where they are 2^32 or more.
+fn empty_regions(alloc: Global, count: usize) -> Result<Vec<Option<Busy>>, Memory>
+    ensures empty { IfOk result (λ regions. regions.items ≡ replicate count None) }
+    ensures few { OnOk result (count < 2 ^ 32) }
+{
+    if count >= 1 << 32 {
+        return Err(Memory);
+    }
+    let mut regions = Vec::with_capacity(alloc, count)?;
+    for _place in 0..count {
+        regions.push(None)?;
+    }
+    Ok(regions)
+}

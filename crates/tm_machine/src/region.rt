@@ -1,0 +1,236 @@
+//! What a region works on.
+ghost use Rattle.std.specs.Prelude.{◌≡◌, ◌≤◌, ◌-◌, None, slice_set, ◌<◌, ◌^◌, [], length, count_by, is_some, IfOk, OnErr, OnOk, IfSome, Some, IsSome, IsSomeAnd};
+ghost use Rattle.model_queues.specs.Queue.{queued_at, free_count};
+ghost use Rattle.model_system.specs.Codes.{code_at};
+ghost use Rattle.lasting_state.specs.Tables.{held};
+ghost use Rattle.program_rows.specs.State.{dbds_of};
+ghost use Rattle.model_machine.specs.Machine.{lines_of, pcbs_of, job_of, followed};
+ghost use Rattle.message_run.specs.Ahead.{IsStart, GoesOn, StaysAhead};
+ghost use Rattle.tm_machine.specs.Region.{IsQueuedWork, IsTaken, Steps, SameWork, Stays, outputs_by};
+
+use crate::lookup::find_program;
+use lasting_state::Tables;
+use message_run::{Advanced, Run};
+use model_message::EndedMessage;
+use model_script::Program;
+use model_system::Pcbs;
+use program_rows::Databases;
+use std::alloc::Global;
+use std::collections::VecDeque;
+use sysdef_check::System;
+use tm_types::{Memory, Message, Name};
+
+/// The work of a region on a message.
+#[derive(Debug, Drop)]
+pub struct Busy {
+    pub code: Name,
+    /// How many messages the region has taken in a row, this one among them.
+    pub taken: u64,
+    /// The message's id.
+    pub id: u64,
+    /// The work as it has come so far. It is started by the first turn, so that taking a message needs
+    /// no memory.
+    pub unit: Option<Run>,
+}
+
+/// The script of a PSB; one without a program has no lines.
+fn script_of<'a>(system: &'a System, no_program: &'a Program, psb: &Name) -> &'a Program
+    requires { no_program.now ≡ [] }
+    ensures { result.now ≡ lines_of system.now psb.now }
+{
+    match find_program(system.programs(), psb) {
+        Some(program) => &program.program,
+        None => no_program,
+    }
+}
+
+/// The PCBs of a PSB; one without a program has none.
+fn pcbs_of<'a>(system: &'a System, no_pcbs: &'a Pcbs, psb: &Name) -> &'a Pcbs
+    requires { no_pcbs.now ≡ [] }
+    ensures { result.now ≡ pcbs_of system.now psb.now }
+{
+    match find_program(system.programs(), psb) {
+        Some(program) => &program.pcbs,
+        None => no_pcbs,
+    }
+}
+
+/// The work on a message of a code, whose script has made no call yet.
+fn start_unit(
+    alloc: Global,
+    system: &System,
+    no_program: &Program,
+    code: &Name,
+    message: &Message,
+) -> Result<Run, Memory>
+    requires program { no_program.now ≡ [] }
+    requires code { IsSome (code_at system.now.codes code.now) }
+    ensures { IfOk result (λ unit. IsSomeAnd (job_of system.now code.now) (λ job. IsStart job.transaction job.lines job.pcbs message.now unit)) }
+{
+    let Some(code) = system.code(code) else {
+        unreachable!()
+    };
+    let program = script_of(system, no_program, &code.psb);
+    let no_pcbs = Pcbs::new(alloc);
+    let pcbs = pcbs_of(system, &no_pcbs, &code.psb);
+    Run::start(alloc, &code.transaction, program, pcbs, message)
+}
+
+/// The work of a region as it has come so far, taken out of it; it is started where it wasn't. Want of
+/// memory leaves it there.
+fn take_unit(
+    alloc: Global,
+    system: &System,
+    no_program: &Program,
+    tables: &Tables,
+    busy: &mut Busy,
+) -> Result<Run, Memory>
+    requires program { no_program.now ≡ [] }
+    requires work { IsQueuedWork system.now tables.now busy.old }
+    requires databases { dbds_of tables.now.databases ≡ system.now.databases }
+    ensures ahead { IfOk result (IsTaken system.now tables.now busy.old) }
+    ensures taken { OnOk result (busy.new ≡ record busy.old { unit = None }) }
+    ensures err { OnErr result (busy.new ≡ busy.old) }
+{
+    match busy.unit.take() {
+        Some(unit) => Ok(unit),
+        None => {
+            let Some(message) = tables.queues().find(busy.id) else {
+                unreachable!()
+            };
+            start_unit(alloc, system, no_program, &busy.code, message)
+        }
+    }
+}
+
+/// Lets the script of a code go on to its next call, and answers that. After want of memory the work is
+/// as far as before.
+fn advance_unit(
+    alloc: Global,
+    system: &System,
+    no_program: &Program,
+    code: &Name,
+    databases: &mut Databases,
+    unit: &mut Run,
+) -> Result<Advanced, Memory>
+    requires program { no_program.now ≡ [] }
+    requires databases { dbds_of databases.old ≡ system.now.databases }
+    requires code { IsSomeAnd (job_of system.now code.now) (λ job. length unit.old.positions ≡ length job.pcbs) }
+    ensures advances { IfOk result (λ advanced. IsSomeAnd (job_of system.now code.now) (λ job. GoesOn job databases.old databases.new unit.old unit.new advanced)) }
+    ensures calls { OnErr result (unit.new.calls ≡ unit.old.calls) }
+    ensures ahead { OnErr result (IsSomeAnd (job_of system.now code.now) (λ job. StaysAhead job databases.old unit.old unit.new)) }
+    ensures kept { OnErr result (databases.new ≡ databases.old) }
+    ensures stays { Stays databases.old databases.new }
+{
+    let Some(code) = system.code(code) else {
+        unreachable!()
+    };
+    let program = script_of(system, no_program, &code.psb);
+    let no_pcbs = Pcbs::new(alloc);
+    let pcbs = pcbs_of(system, &no_pcbs, &code.psb);
+    unit.advance(system, &code.transaction, program, pcbs, databases)
+}
+
+/// Lets the script of a region that has a message go on, as `advance`.
+fn advance_busy(
+    alloc: Global,
+    system: &System,
+    no_program: &Program,
+    tables: &mut Tables,
+    busy: &mut Busy,
+) -> Result<Advanced, Memory>
+    requires program { no_program.now ≡ [] }
+    requires work { IsQueuedWork system.now tables.old busy.old }
+    requires databases { dbds_of tables.old.databases ≡ system.now.databases }
+    ensures steps { IfOk result (λ advanced. Steps system.now tables.old tables.new.databases (Some busy.old) (Some busy.new) (Some advanced)) }
+    ensures tables { tables.new ≡ record tables.old { databases = tables.new.databases } }
+    ensures stays { Stays tables.old.databases tables.new.databases }
+    ensures err { OnErr result (SameWork system.now tables.old (Some busy.old) (Some busy.new)) }
+    ensures kept { OnErr result (tables.new ≡ tables.old) }
+{
+    let mut unit = match take_unit(alloc, system, no_program, tables, busy) {
+        Ok(unit) => unit,
+        Err(error) => return Err(error),
+    };
+    let advanced = advance_unit(
+        alloc,
+        system,
+        no_program,
+        &busy.code,
+        tables.databases_mut(),
+        &mut unit,
+    );
+    busy.unit = Some(unit);
+    advanced
+}
+
+/// Lets the script of a region go on to its next call, and answers that; nothing where the region
+/// is empty. After want of memory the work is as far as before.
+pub fn advance(
+    alloc: Global,
+    system: &System,
+    no_program: &Program,
+    tables: &mut Tables,
+    region: &mut Option<Busy>,
+) -> Result<Option<Advanced>, Memory>
+    requires program { no_program.now ≡ [] }
+    requires work { IfSome region.old (IsQueuedWork system.now tables.old) }
+    requires databases { dbds_of tables.old.databases ≡ system.now.databases }
+    ensures steps { IfOk result (Steps system.now tables.old tables.new.databases region.old region.new) }
+    ensures tables { tables.new ≡ record tables.old { databases = tables.new.databases } }
+    ensures stays { Stays tables.old.databases tables.new.databases }
+    ensures err { OnErr result (SameWork system.now tables.old region.old region.new) }
+    ensures kept { OnErr result (tables.new ≡ tables.old) }
+{
+    let Some(busy) = region else {
+        return Ok(None);
+    };
+    match advance_busy(alloc, system, no_program, tables, busy) {
+        Ok(advanced) => Ok(Some(advanced)),
+        Err(error) => Err(error),
+    }
+}
+
+/// What a region's work sends at its end; one that wasn't started sends nothing.
+pub fn outputs_by(alloc: Global, busy: &Busy) -> Result<VecDeque<EndedMessage>, Memory>
+    ensures { IfOk result (λ outputs. outputs.items ≡ outputs_by busy.now.unit) }
+{
+    match &busy.unit {
+        Some(unit) => unit.outputs(),
+        None => Ok(VecDeque::new(alloc)),
+    }
+}
+
+/// How many regions have a message.
+#[tactic(auto, using(crate::proofs::Counting::counted_steps))]
+pub fn count_busy(regions: &[Option<Busy>]) -> u32
+    requires { length regions.now < 2 ^ 32 }
+    ensures { result ≡ count_by is_some regions.now }
+{
+    let mut busy = 0;
+    for region in regions {
+        if region.is_some() {
+            busy += 1;
+        }
+    }
+    busy
+}
+
+/// Gives a message that no region has to the region of this number, which is to work on it. This takes
+/// no memory.
+pub fn take(tables: &mut Tables, regions: &mut Vec<Option<Busy>>, region: u32, busy: Busy)
+    requires free { IsSomeAnd (queued_at busy.id tables.old.queues.queued) (λ q. q.holder ≡ None) }
+    requires positive { 1 ≤ region }
+    requires defined { region ≤ length regions.old.items }
+    ensures tables { tables.new ≡ held tables.old busy.id region }
+    ensures regions { regions.new.items ≡ slice_set regions.old.items (region - 1) (Some busy) }
+{
+    tables.hold(busy.id, region);
+    put(&mut regions[region as usize - 1], busy);
+}
+
+fn put(region: &mut Option<Busy>, busy: Busy)
+    ensures { region.new ≡ Some busy }
+{
+    *region = Some(busy);
+}

@@ -1,0 +1,90 @@
+//! The turns of the regions.
+ghost use Rattle.std.specs.Prelude.{◌≡◌, IfOk, OnErr, None};
+ghost use Rattle.model_machine.specs.Machine.{IsRegion, slot_at};
+ghost use Rattle.model_machine.specs.Steps.{May, After, need_now};
+ghost use Rattle.tm_machine.specs.Turns.{Goes, turned_entry};
+
+use crate::Turned;
+use crate::flags::follow;
+use crate::next::SLOT_ROOM;
+use crate::parts::Parts;
+use crate::region::{Busy, advance, count_busy, take};
+use message_run::Advanced;
+use model_machine::Entry;
+use tm_types::Memory;
+use tran_pick::pick;
+
+impl Parts {
+    /// Lets a region do its next step. Want of memory changes nothing; it is answered too where a count
+    /// would pass its limit.
+    pub fn turn(&mut self, region: u32) -> Result<Turned, Memory>
+        requires { IsRegion self.old.system region }
+        ensures may { IfOk result (λ turned. May self.old.system self.old.moment (turned_entry region turned)) }
+        ensures after { IfOk result (λ turned. self.new.moment ≡ After self.old.system self.old.moment (turned_entry region turned)) }
+        ensures system { self.new.system ≡ self.old.system }
+        ensures err { OnErr result (self.new ≡ self.old) }
+    {
+        match self.advance(region) {
+            Ok(None) => self.schedule(region),
+            Ok(Some(Advanced::Called(function, pcb, status))) => {
+                Ok(Turned::Called(function, pcb, status))
+            }
+            Ok(Some(Advanced::Ended(ending))) => self.finish(region, ending),
+            Err(error) => Err(error),
+        }
+    }
+
+    /// Lets the script of a region go on to its next call, and answers that; nothing where the region
+    /// is empty.
+    fn advance(&mut self, region: u32) -> Result<Option<Advanced>, Memory>
+        requires { IsRegion self.old.system region }
+        ensures ok { IfOk result (Goes self.old self.new region) }
+        ensures err { OnErr result (self.new ≡ self.old) }
+    {
+        advance(
+            self.alloc,
+            &self.system,
+            &self.no_program,
+            &mut self.tables,
+            &mut self.regions[region as usize - 1],
+        )
+    }
+
+    /// What the queues need for one more region at work.
+    pub(crate) fn slot_need(&self) -> u64
+        ensures { result ≡ need_now self.now.moment }
+    {
+        let busy = u64::from(count_busy(&self.regions));
+        self.tables.content() + SLOT_ROOM * (busy + 1)
+    }
+
+    /// Takes the message that is picked, if the region is empty.
+    fn schedule(&mut self, region: u32) -> Result<Turned, Memory>
+        requires region { IsRegion self.old.system region }
+        requires empty { slot_at self.old.moment region ≡ None }
+        ensures may { IfOk result (λ turned. May self.old.system self.old.moment (turned_entry region turned)) }
+        ensures after { IfOk result (λ turned. self.new.moment ≡ After self.old.system self.old.moment (turned_entry region turned)) }
+        ensures system { self.new.system ≡ self.old.system }
+        ensures err { OnErr result (self.new ≡ self.old) }
+    {
+        let Some(picked) = pick(&self.system, region, &self.codes, self.tables.queues()) else {
+            return Ok(Turned::Idle);
+        };
+        let need = self.slot_need();
+        let limit = u64::from(self.tables.queues().limit());
+        if need > limit {
+            return Ok(Turned::Held(need, limit));
+        }
+        let (code, id) = (picked.code, picked.id);
+        let busy = Busy {
+            code,
+            taken: 1,
+            id,
+            unit: None,
+        };
+        take(&mut self.tables, &mut self.regions, region, busy);
+        let waiting = self.tables.queues().waiting(&code);
+        follow(&mut self.codes, &self.system, &code, waiting);
+        Ok(Turned::Scheduled(code, id))
+    }
+}

@@ -1,8 +1,0 @@
--- What the parts of a control region stand for.
-use Rattle.model_machine.specs.Machine.{Moment}
-use Rattle.tm_tables.specs.Tables.{lasting_of}
-use Rattle.tm_parts.specs.declared.parts.Parts.TheInside.{Inside}
-use Rattle.tm_parts.specs.Parts.{slots_of}
-
-abbrev pub moment_of : Inside → Moment
-moment_of p = record { lasting = lasting_of p.tables; slots = slots_of p.regions.items; codes = p.codes }

@@ -1,3 +1,0 @@
-pub mod UnitState
-pub mod Answering
-pub mod Ahead
