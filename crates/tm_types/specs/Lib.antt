@@ -7,3 +7,5 @@ pub mod PaddedName
 pub mod Key
 pub mod PaddedKey
 pub mod SegTypes
+pub mod Words
+pub mod Digits

@@ -6,6 +6,10 @@ use Rattle.std.specs.List.{list_all}
 abbrev pub is_printable : ℕ → Bool
 is_printable b = nat_le 32 b && nat_le b 126
 
+-- bytes that are all printable
+abbrev pub are_printable : List ℕ → Bool
+are_printable bytes = list_all is_printable bytes
+
 -- the text of a segment has at most 1,996 bytes, each of them printable
 abbrev pub IsSegmentText : List ℕ → Type 0
 IsSegmentText text = (length text ≤ 1996) × IsTrue (list_all is_printable text)

@@ -1,7 +1,7 @@
 ghost use Rattle.std.specs.Prelude.{◌≡◌, ◌≤◌, ◌<◌, ◌^◌, ◌↔◌, [], ◌∷◌, ◌++◌, length, slice_get, IsTrue, IfOk, IfErr, not, position, OnOk, OnErr};
 ghost use Rattle.std.specs.Option.{option_copied};
 ghost use Rattle.std.specs.Slice.Iter.{iter_rest};
-ghost use Rattle.tm_types.specs.Segment.{IsSegmentText, is_printable, counted_bytes, segment_length};
+ghost use Rattle.tm_types.specs.Segment.{IsSegmentText, are_printable, is_printable, counted_bytes, segment_length};
 ghost use Rattle.tm_types.specs.SegmentRefused.{RefusesText};
 
 use std::alloc::{AllocError, Global};
@@ -106,6 +106,13 @@ pub fn is_printable(b: u8) -> bool
     ensures { result ≡ is_printable b }
 {
     b >= 32 && b <= 126
+}
+
+/// Whether each byte is printable, from 32 to 126.
+pub fn are_printable(bytes: &[u8]) -> bool
+    ensures { result ≡ are_printable bytes.now }
+{
+    bytes.iter().all(|&b| is_printable(b))
 }
 
 /// The segments of a message or reply, in order.
