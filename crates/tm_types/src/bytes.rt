@@ -1,3 +1,4 @@
+//! A list of bytes that grows.
 ghost use Rattle.std.specs.Prelude.{◌≡◌, ◌↔◌, [], ◌∷◌, ◌++◌, length, IsTrue, IfOk, OnOk, OnErr};
 
 use crate::Memory;
@@ -28,7 +29,7 @@ impl Bytes {
         }
     }
 
-    /// A copy of these bytes.
+    /// A copy of these bytes. `Memory` is the only refusal.
     pub fn copied(alloc: Global, bytes: &[u8]) -> Result<Bytes, Memory>
         ensures { IfOk result (λ copy. copy ≡ bytes.now) }
     {
@@ -44,7 +45,7 @@ impl Bytes {
         Bytes { items: bytes }
     }
 
-    /// Adds one byte at the end.
+    /// Adds one byte at the end. Where it answers `Memory`, nothing is added.
     pub fn push(&mut self, byte: u8) -> Result<(), Memory>
         ensures ok { OnOk result (self.new ≡ self.old ++ byte ∷ []) }
         ensures err { OnErr result (self.new ≡ self.old) }
@@ -53,7 +54,7 @@ impl Bytes {
         Ok(())
     }
 
-    /// Adds these bytes at the end.
+    /// Adds these bytes at the end. Where it answers `Memory`, none is added.
     pub fn append(&mut self, bytes: &[u8]) -> Result<(), Memory>
         ensures ok { OnOk result (self.new ≡ self.old ++ bytes.now) }
         ensures err { OnErr result (self.new ≡ self.old) }
@@ -61,18 +62,21 @@ impl Bytes {
         self.items.extend_from_slice(bytes)
     }
 
+    /// How many bytes these are.
     pub fn len(&self) -> usize
         ensures { result ≡ length self.now }
     {
         self.items.len()
     }
 
+    /// Whether there are none.
     pub fn is_empty(&self) -> bool
         ensures { IsTrue result ↔ (self.now ≡ []) }
     {
         self.items.is_empty()
     }
 
+    /// The bytes, in order.
     pub fn as_slice(&self) -> &[u8]
         ensures { result.now ≡ self.now }
     {
@@ -86,22 +90,5 @@ impl Clone for Bytes {
     fn clone(&self) -> Result<Bytes, Memory> {
         let items = Vec::from_slice(self.items.allocator().clone()?, &self.items)?;
         Ok(Bytes { items })
-    }
-}
-
-#[cfg(test)]
-mod tests {
-    use super::*;
-    use std::test::Fail;
-
-    #[test]
-    fn grows_and_is_copied(rt: HostRuntime) -> Result<(), Fail> {
-        let mut bytes = Bytes::copied(rt.alloc(), b"ab")?;
-        bytes.push(b'c')?;
-        bytes.append(b"de")?;
-        let copy = bytes.clone()?;
-        assert_eq!(rt; copy.as_slice(), b"abcde".as_slice());
-        assert!(rt; Bytes::new(rt.alloc()).is_empty());
-        Ok(())
     }
 }

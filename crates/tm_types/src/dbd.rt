@@ -1,3 +1,4 @@
+//! A database's definition, with its segment types in their hierarchy.
 ghost use Rattle.std.specs.Prelude.{◌≡◌, ◌↔◌, [], ◌∷◌, ◌++◌, length, IsTrue, IfOk, OnOk, OnErr};
 ghost use Rattle.std.specs.Slice.Iter.{iter_rest};
 ghost use Rattle.std.specs.Option.{option_copied};
@@ -52,7 +53,7 @@ impl SegTypes {
         }
     }
 
-    /// Adds a type at the end.
+    /// Adds a type at the end. Where it answers `Memory`, none is added.
     pub fn push(&mut self, segment: SegType) -> Result<(), Memory>
         requires { IsTypeAt (length self.old) segment }
         ensures ok { OnOk result (self.new ≡ self.old ++ segment ∷ []) }
@@ -70,6 +71,7 @@ impl SegTypes {
         self.items.len()
     }
 
+    /// Whether there are none.
     pub fn is_empty(&self) -> bool
         ensures { IsTrue result ↔ (self.now ≡ []) }
     {
@@ -96,6 +98,7 @@ impl SegTypes {
         &self.items
     }
 
+    /// The types, each in its turn.
     pub fn iter(&self) -> slice::Iter<'_, SegType>
         ensures { iter_rest result ≡ self.now }
     {
@@ -133,43 +136,5 @@ impl Clone for Dbd {
             sectors: self.sectors,
             types: self.types.clone()?,
         })
-    }
-}
-
-#[cfg(test)]
-mod tests {
-    use super::*;
-    use std::test::Fail;
-
-    #[test]
-    fn keeps_types_in_order(rt: HostRuntime) -> Result<(), Fail> {
-        let name = Name::read(b"ACCT").ok_or("no name")?;
-        let mut types = SegTypes::new(rt.alloc());
-        for parent in 0..2u8 {
-            let segment = SegType {
-                name,
-                parent,
-                key: 4,
-                bytes: 12,
-            };
-            if types.len() == parent as usize {
-                types.push(segment)?;
-            }
-        }
-        let dbd = Dbd {
-            name,
-            roots: 100,
-            sectors: 1,
-            types,
-        };
-        let copy = dbd.clone()?;
-        assert_eq!(rt; copy.types.len(), 2);
-        assert_eq!(rt;
-            copy.types.numbered(2).map(|segment| segment.parent),
-            Some(1)
-        );
-        assert!(rt; copy.types.numbered(0).is_none());
-        assert!(rt; copy.types.numbered(3).is_none());
-        Ok(())
     }
 }

@@ -1,3 +1,4 @@
+//! The functions of a call, as they are written.
 ghost use Rattle.std.specs.Prelude.{◌≡◌};
 ghost use Rattle.tm_types.specs.Function.{function_name};
 

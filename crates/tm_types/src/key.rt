@@ -1,3 +1,4 @@
+//! The keys of segments.
 ghost use Rattle.std.specs.Prelude.{◌≡◌, ◌↔◌, IsTrue, IsSome, IfSome, nat_eq};
 ghost use Rattle.std.specs.Ordering.{nat_cmp, as_partial_cmp};
 ghost use Rattle.std.specs.Cmp.{partial_equiv_from_equiv};
@@ -97,27 +98,5 @@ impl Ord for Key {
 
     fn cmp(&self, other: &Key) -> Ordering {
         self.as_bytes().cmp(other.as_bytes())
-    }
-}
-
-#[cfg(test)]
-mod tests {
-    use super::*;
-    use std::test::Fail;
-
-    fn least<T: Ord + Copy>(a: T, b: T) -> T {
-        if a < b { a } else { b }
-    }
-
-    #[test]
-    fn compares_by_bytes(rt: HostRuntime) -> Result<(), Fail> {
-        let short = Key::read(b"1").ok_or("no key")?;
-        let long = Key::read(b"10").ok_or("no key")?;
-        let other = Key::read(b"09").ok_or("no key")?;
-        assert!(rt; least(short, long) == short);
-        assert!(rt; least(short, other) == other);
-        assert!(rt; Key::read(&[b'x'; 32]).is_some());
-        assert!(rt; Key::read(&[b'x'; 33]).is_none());
-        Ok(())
     }
 }

@@ -1,5 +1,8 @@
-//! The small types that every crate of the transaction manager speaks of: names, segments,
-//! messages and replies, the status codes and the functions of a call.
+//! The small types and functions that every crate of the transaction manager speaks of: names, keys,
+//! segments, messages and replies, segment search arguments, status codes, words and digits.
+//!
+//! A value of such a type keeps its rule by itself: a text that breaks it is refused, with the place.
+//! The rules are the definitions in specs/, one file a type; each call answers what they say.
 #![tactic(auto)]
 
 pub use abend::AbendCode;
@@ -9,8 +12,11 @@ pub use digits::four_digits;
 pub use function::Function;
 pub use key::Key;
 pub use message::{Message, Reply};
-pub use name::Name;
-pub use segment::{Segment, SegmentRefused, Segments, are_printable, is_printable};
+pub use name::{Name, is_name_byte};
+pub use segment::{
+    SEGMENT_LIMIT, Segment, SegmentRefused, Segments, are_printable, first_unprintable,
+    is_printable,
+};
 pub use ssa::{KeyTest, Ssa, Ssas};
 pub use status::Status;
 /// No memory was left. A call that answers this has changed nothing.

@@ -1,3 +1,4 @@
+//! Messages to programs, and replies to terminals.
 use crate::{Name, Segments};
 
 /// A message on its way to a program.

@@ -1,3 +1,4 @@
+//! The names of the system.
 ghost use Rattle.std.specs.Prelude.{◌≡◌, ◌↔◌, Some, IsTrue, IsSome, IfSome, nat_eq, refl};
 ghost use Rattle.std.specs.Ordering.{nat_cmp};
 ghost use Rattle.std.specs.Cmp.{partial_equiv_from_equiv};
@@ -134,7 +135,8 @@ fn are_name_bytes(bytes: &[u8]) -> bool
     bytes.iter().all(|&b| is_name_byte(b))
 }
 
-fn is_name_byte(b: u8) -> bool
+/// Whether a name may have the byte: A to Z, 0 to 9, `$`, `#` and `@`.
+pub fn is_name_byte(b: u8) -> bool
     ensures { result ≡ is_name_byte b }
 {
     b.is_ascii_uppercase() || b.is_ascii_digit() || b == b'$' || b == b'#' || b == b'@'

@@ -1,4 +1,5 @@
-ghost use Rattle.std.specs.Prelude.{◌≡◌, ◌≤◌, ◌<◌, ◌^◌, ◌↔◌, [], ◌∷◌, ◌++◌, length, slice_get, IsTrue, IfOk, IfErr, not, position, OnOk, OnErr};
+//! Segments, and lists of them.
+ghost use Rattle.std.specs.Prelude.{◌≡◌, ◌≤◌, ◌<◌, ◌^◌, ◌↔◌, [], ◌∷◌, ◌++◌, length, slice_get, IsTrue, IfOk, IfErr, IfSome, not, position, OnOk, OnErr};
 ghost use Rattle.std.specs.Option.{option_copied};
 ghost use Rattle.std.specs.Slice.Iter.{iter_rest};
 ghost use Rattle.tm_types.specs.Segment.{IsSegmentText, are_printable, is_printable, counted_bytes, segment_length};
@@ -21,6 +22,7 @@ pub enum SegmentRefused {
     /// The place, counted from 0, of the first byte that is not printable.
     #[error("the byte at place {0} is not printable")]
     BadByte(usize),
+    /// There was no memory for a copy of it.
     #[error("no memory")]
     Memory,
 }
@@ -95,8 +97,10 @@ impl Clone for Segment {
     }
 }
 
-fn first_unprintable(text: &[u8]) -> Option<usize>
-    ensures { result ≡ position (λ b. not (is_printable b)) text.now }
+/// The place of the first byte that isn't printable, counted from 0.
+pub fn first_unprintable(text: &[u8]) -> Option<usize>
+    ensures value { result ≡ position (λ b. not (is_printable b)) text.now }
+    ensures within { IfSome result (λ place. place < length text.now) }
 {
     text.iter().position(|&b| !is_printable(b))
 }
@@ -139,7 +143,7 @@ impl Segments {
         }
     }
 
-    /// Adds a segment at the end.
+    /// Adds a segment at the end. Where there is no memory, none is added.
     pub fn push(&mut self, segment: Segment) -> Result<(), AllocError>
         ensures ok { OnOk result (self.new ≡ self.old ++ segment ∷ []) }
         ensures err { OnErr result (self.new ≡ self.old) }
@@ -155,6 +159,7 @@ impl Segments {
         self.items.len()
     }
 
+    /// Whether there are none.
     pub fn is_empty(&self) -> bool
         ensures { IsTrue result ↔ (self.now ≡ []) }
     {
@@ -180,6 +185,7 @@ impl Segments {
             .sum::<u64>()
     }
 
+    /// The segments, in order.
     pub fn iter(&self) -> slice::Iter<'_, Segment>
         ensures { iter_rest result ≡ self.now }
     {

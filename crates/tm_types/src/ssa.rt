@@ -1,3 +1,4 @@
+//! Segment search arguments.
 ghost use Rattle.std.specs.Prelude.{◌≡◌, [], ◌∷◌, ◌++◌, length, slice_get, IfOk, OnOk, OnErr};
 ghost use Rattle.std.specs.Option.{option_copied};
 
@@ -60,7 +61,7 @@ impl Ssas {
         }
     }
 
-    /// Adds an argument at the end.
+    /// Adds an argument at the end. Where it answers `Memory`, none is added.
     pub fn push(&mut self, ssa: Ssa) -> Result<(), Memory>
         ensures ok { OnOk result (self.new ≡ self.old ++ ssa ∷ []) }
         ensures err { OnErr result (self.new ≡ self.old) }

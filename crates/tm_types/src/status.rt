@@ -1,3 +1,4 @@
+//! The status codes of a call.
 ghost use Rattle.std.specs.Prelude.{◌≡◌};
 ghost use Rattle.tm_types.specs.Status.{status_text};
 

@@ -1,44 +1,55 @@
+//! Calls that want memory, once each, and orders through a bound.
 use super::*;
 use std::test::Fail;
 
 #[test]
-fn reads_names(rt: HostRuntime) -> Result<(), Fail> {
-    for text in ["T1", "ABCDEFGH", "A$#@09Z", "0"] {
-        let name = Name::read(text.as_bytes()).ok_or("no name")?;
-        assert_eq!(rt; name.as_bytes(), text.as_bytes());
-        assert_eq!(rt; Some(name), Name::read(text.as_bytes()));
-    }
-    for text in ["", "ABCDEFGHI", "t1", "A B", "A-B", "["] {
-        assert_eq!(rt; Name::read(text.as_bytes()), None);
-    }
-    let few = Name::read(b"AB").ok_or("no name")?;
-    let many = Name::read(b"AAAA").ok_or("no name")?;
-    assert!(rt; many < few);
-    Ok(())
-}
+fn gets_memory(rt: HostRuntime) -> Result<(), Fail> {
+    let mut bytes = Bytes::copied(rt.alloc(), b"ab")?;
+    bytes.push(b'c')?;
+    bytes.append(b"de")?;
+    assert_eq!(rt; bytes.clone()?.as_slice(), b"abcde".as_slice());
 
-#[test]
-fn counts_segments(rt: HostRuntime) -> Result<(), Fail> {
     let mut segments = Segments::new(rt.alloc());
     segments.push(Segment::make(rt.alloc(), b"ECHO HELLO")?)?;
-    segments.push(Segment::make(rt.alloc(), b"")?)?;
-    let copy = segments.clone()?;
-    assert_eq!(rt; copy.len(), 2);
-    let first = copy.get(0).ok_or("no segment")?;
-    assert_eq!(rt; first.text(), b"ECHO HELLO".as_slice());
-    assert_eq!(rt; copy.counted_bytes(), 66);
+    segments.push(Segment::make(rt.alloc(), &[b'x'; SEGMENT_LIMIT])?.clone()?)?;
+    assert_eq!(rt; segments.clone()?.counted_bytes(), 2062);
+
+    let name = Name::read(b"ACCT").ok_or("no name")?;
+    let mut types = SegTypes::new(rt.alloc());
+    types.push(SegType {
+        name,
+        parent: 0,
+        key: 4,
+        bytes: 12,
+    })?;
+    let dbd = Dbd {
+        name,
+        roots: 100,
+        sectors: 1,
+        types,
+    };
+    assert_eq!(rt; dbd.clone()?.types.len(), 1);
+
+    let mut ssas = Ssas::new(rt.alloc());
+    let ssa = Ssa {
+        segment: name,
+        test: KeyTest::Equal(bytes),
+    };
+    ssas.push(ssa.clone()?)?;
+    assert_eq!(rt; ssas.len(), 1);
     Ok(())
 }
 
+fn least<T: Ord + Copy>(a: T, b: T) -> T {
+    if a < b { a } else { b }
+}
+
 #[test]
-fn refuses_segments(rt: HostRuntime) -> Result<(), Fail> {
-    let mut text = vec![in rt.alloc(); b'x'; 1996]?;
-    let most = Segment::make(rt.alloc(), &text)?;
-    assert_eq!(rt; most.text().len(), 1996);
-    text.push(7)?;
-    let longer = Segment::make(rt.alloc(), &text);
-    assert!(rt; matches!(longer, Err(SegmentRefused::TooLong(1997))));
-    let bad = Segment::make(rt.alloc(), b" ~\x7f\x1f");
-    assert!(rt; matches!(bad, Err(SegmentRefused::BadByte(2))));
+fn compares_by_bytes(rt: HostRuntime) -> Result<(), Fail> {
+    let name = |text: &[u8]| Name::read(text).ok_or("no name");
+    let key = |text: &[u8]| Key::read(text).ok_or("no key");
+    assert!(rt; least(name(b"AB")?, name(b"AAAA")?) == name(b"AAAA")?);
+    assert!(rt; least(key(b"1")?, key(b"10")?) == key(b"1")?);
+    assert!(rt; least(key(b"1")?, key(b"09")?) == key(b"09")?);
     Ok(())
 }
