@@ -9,7 +9,6 @@ use Rattle.tm_types.specs.declared.ssa.Ssa.{Ssa}
 use Rattle.tm_types.specs.declared.status.Status.{Status}
 use Rattle.tm_types.specs.declared.status.Status.TheVariants.{Blank, GA, GK}
 use Rattle.tm_types.specs.Status.{status_text}
-use Rattle.model_script.specs.declared.abends.TheConstants.{TOO_MANY_STATEMENTS, WRONG_ARITHMETIC}
 use Rattle.model_script.specs.declared.need.CallText.{CallText}
 use Rattle.model_script.specs.declared.need.Need.{Need}
 use Rattle.model_script.specs.declared.need.Need.TheVariants.{Call as NeedsCall, Ended, Abend as NeedsAbend}
@@ -77,10 +76,10 @@ pub data Executed : Type 0 where
   GoesOn : ScriptState → Executed
   Needs : Need → Executed
 
--- bad arithmetic ends the script abnormally
+-- bad arithmetic ends the script abnormally, with U0901
 abbrev pub counted : ScriptState → ℕ → Option (List ℕ) → Executed
 counted state x (Some text) = GoesOn (assigns state x text)
-counted state x None = Needs (NeedsAbend (record { number = WRONG_ARITHMETIC }))
+counted state x None = Needs (NeedsAbend (record { number = 901 }))
 
 -- what each statement does
 abbrev pub executed_by : Statement → ScriptState → Executed
@@ -98,10 +97,10 @@ executed_by (Abend code) state = Needs (NeedsAbend code)
 executed_by End state = Needs Ended
 executed_by (Label name) state = Needs Ended
 
--- one statement more than the limit ends the script abnormally
+-- one statement more than the limit ends the script abnormally, with U0240
 abbrev pub within : ℕ → ScriptState → Executed → Executed
 within limit state executed =
-    if nat_lt state.executed limit then executed else Needs (NeedsAbend (record { number = TOO_MANY_STATEMENTS }))
+    if nat_lt state.executed limit then executed else Needs (NeedsAbend (record { number = 240 }))
 
 -- A script ends behind its last line too.
 abbrev pub step_by : ℕ → Option ScriptLine → ScriptState → Executed

@@ -1,6 +1,7 @@
 //! Scripts: what the lines of a program are, what each of them does, and what a script needs next.
 //!
-//! The crate holds definitions and the small types that they speak of, and almost no code.
+//! The crate holds these definitions, specs/Programs, specs/Texts, specs/Arithmetic and specs/Script,
+//! and the small types that they speak of. A `Program` keeps by its type that it breaks no rule.
 #![tactic(auto)]
 
 pub use need::{CallText, Need};

@@ -1,3 +1,4 @@
+//! What a script needs next.
 use tm_types::{AbendCode, Bytes, Function, Ssas};
 
 /// A call that a script makes, with the texts of its variables.

@@ -1,3 +1,4 @@
+//! Programs, as lists of lines that break no rule of scripts.
 ghost use Rattle.std.specs.Prelude.{◌≡◌, ◌+◌, ◌<◌, ◌^◌, OnSome, slice_get};
 ghost use Rattle.std.specs.Option.{option_copied};
 ghost use Rattle.model_script.specs.Programs.{IsProgram};

@@ -1,3 +1,4 @@
+//! Segment search arguments as they stand in a script.
 ghost use Rattle.std.specs.Prelude.{◌≡◌, [], ◌∷◌, ◌++◌, length, OnOk, OnErr};
 
 use crate::Variable;

@@ -1,3 +1,4 @@
+//! What a line of a script does.
 use crate::{ScriptSsas, Text, Texts, Variable};
 use tm_types::{AbendCode, Function, Name};
 

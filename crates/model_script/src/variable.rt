@@ -1,9 +1,7 @@
+//! The variables A to Z of a script.
 ghost use Rattle.std.specs.Prelude.{◌≡◌, ◌+◌, ◌<◌};
 
 use std::marker::Model;
-
-/// How many variables a script has: A to Z.
-pub const VARIABLES: u8 = 26;
 
 /// A variable of a script. Contracts see it as its place in the alphabet, counted from 0.
 #[derive(Clone, Copy, Debug)]

@@ -1,10 +1,11 @@
 -- The first word of a text, and the words behind it.
-use Rattle.std.proofs.Common.{◌≡◌, ℕ, suc, ◌+◌, ◌≤◌, Bool, true, false, cond, List, [], ◌∷◌, length, take, drop, refl, ap, sym, ◌∙◌, arith}
+use Rattle.std.proofs.Common.{◌≡◌, ℕ, suc, ◌+◌, ◌≤◌, Bool, true, false, cond, List, [], ◌∷◌, length, take, drop, refl, ap, sym, ◌∙◌, arith, length-take-le}
 use Rattle.std.specs.Prelude.{◌==◌, not, filter, slice_index_or, Some, None, position, nat_lt}
 use Rattle.std.specs.List.{position_or_len}
 use Rattle.std.proofs.lemmas.Bool.Decides.{nat_tests}
 use Rattle.std.proofs.lemmas.List.Sums.{prefix_len-le-length}
 use Rattle.std.proofs.lemmas.List.Recursion.{is_position_or_len}
+use Rattle.tm_types.specs.Words.{first_word}
 use Rattle.model_script.specs.Texts.{with_front, pieces, is_filled, words}
 use Rattle.script_run.specs.Runs.{blanks_before, word_length}
 
@@ -40,14 +41,15 @@ word_length_is text = is_position_or_len word_length (λ b. b == 32) refl (λ b 
 blanks_is : (text : List ℕ) → blanks_before text ≡ position_or_len (λ b. not (b == 32)) text
 blanks_is text = is_position_or_len blanks_before (λ b. not (b == 32)) refl (λ b bs. one_blank (b == 32) (blanks_before bs)) text
 
-pub word_place : (text : List ℕ) (place : ℕ) → position (λ b. b == 32) text ≡ Some place → place ≡ word_length text
-word_place text place e = place_is (λ b. b == 32) text place e ∙ sym (word_length_is text)
-
-pub word_end : (text : List ℕ) → position (λ b. b == 32) text ≡ None → length text ≡ word_length text
-word_end text e = none_is (λ b. b == 32) text e ∙ sym (word_length_is text)
-
 pub word_within : (text : List ℕ) → word_length text ≤ length text
 word_within text = let most = prefix_len-le-length (λ b. not (b == 32)) text in omega (arith, most, word_length_is text)
+
+-- how the first word of a text is taken
+pub word_taken : (text : List ℕ) → first_word text ≡ take (word_length text) text
+word_taken text = ap (λ n. take n text) (sym (word_length_is text))
+
+pub word_size : (text : List ℕ) → length (first_word text) ≡ word_length text
+word_size text = ap length (word_taken text) ∙ length-take-le (word_length text) text (word_within text)
 
 pub blanks_place : (text : List ℕ) (place : ℕ) → position (λ b. not (b == 32)) text ≡ Some place → place ≡ blanks_before text
 blanks_place text place e = place_is (λ b. not (b == 32)) text place e ∙ sym (blanks_is text)
@@ -57,8 +59,6 @@ blanks_end text e = none_is (λ b. not (b == 32)) text e ∙ sym (blanks_is text
 
 pub blanks_within : (text : List ℕ) → blanks_before text ≤ length text
 blanks_within text = let most = prefix_len-le-length (λ b. not (not (b == 32))) text in omega (arith, most, blanks_is text)
-
-pub ruleset word_length_steps = (word_place, word_end, word_within)
 
 pub ruleset blank_steps = (blanks_place, blanks_end, blanks_within)
 

@@ -1,3 +1,4 @@
+//! A script that runs, from call to call.
 ghost use Rattle.std.specs.Prelude.{◌≡◌, ◌<◌, false, IfOk, OnOk, OnErr, IsOk, IsSome, IfSome, None, slice_get};
 ghost use Rattle.std.specs.Borrow.{Bor};
 ghost use Rattle.std.specs.Option.{option_map};
@@ -78,7 +79,7 @@ impl Machine {
         ensures not_set { spec.sets_variable status ≡ false → IsOk result }
     {
         let Some(set) = self.waiting else {
-            return Ok(());
+            unreachable!()
         };
         self.script.answer(self.alloc, set, status, area)?;
         self.waiting = None;

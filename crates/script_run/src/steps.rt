@@ -1,3 +1,4 @@
+//! From statement to statement, up to the next call or end.
 ghost use Rattle.std.specs.Prelude.{◌≡◌, ◌+◌, drop, IfOk, OnOk, OnErr, IfSome};
 ghost use Rattle.model_script.specs.Programs.{is_label};
 ghost use Rattle.model_script.specs.Script as spec;

@@ -1,3 +1,4 @@
+//! What a script does with texts.
 ghost use Rattle.std.specs.Prelude.{IsTrue, ◌≡◌, ◌≤◌, ◌==◌, ◌++◌, not, length, take, drop, position, slice_index_or, OnOk, OnErr, IfOk, [], nat_eq};
 ghost use Rattle.std.specs.List.{list_all};
 ghost use Rattle.tm_types.specs.Segment.{is_printable, IsSegmentText};
@@ -7,10 +8,7 @@ ghost use Rattle.model_script.specs.Texts as spec;
 use model_script::Comparison;
 use std::alloc::Global;
 use std::cmp::Ordering;
-use tm_types::{Bytes, Memory};
-
-/// The most bytes that the text of a variable has.
-pub const TEXT_LIMIT: usize = 1_996;
+use tm_types::{Bytes, Memory, SEGMENT_LIMIT, first_word};
 
 /// The word of the text with this number, counted from 1; empty where there is none.
 #[tactic(auto, using(crate::proofs::Words::word_steps))]
@@ -37,8 +35,8 @@ fn split_word(text: &[u8]) -> (&[u8], &[u8])
     ensures behind_text { IsSegmentText text.now → IsSegmentText result.1.now }
 {
     let rest = &text[blanks_before(text)..];
-    let end = word_length(rest);
-    (&rest[..end], &rest[end..])
+    let word = first_word(rest);
+    (word, &rest[word.len()..])
 }
 
 /// How many blanks the text begins with.
@@ -57,24 +55,6 @@ fn first_other(text: &[u8]) -> Option<usize>
     ensures { result ≡ position (λ b. not (b == 32)) text.now }
 {
     text.iter().position(|&b| b != b' ')
-}
-
-/// How many bytes other than the blank the text begins with.
-#[tactic(auto, using(crate::proofs::Words::word_length_steps))]
-fn word_length(text: &[u8]) -> usize
-    ensures value { result ≡ runs.word_length text.now }
-    ensures within { result ≤ length text.now }
-{
-    match first_blank(text) {
-        Some(place) => place,
-        None => text.len(),
-    }
-}
-
-fn first_blank(text: &[u8]) -> Option<usize>
-    ensures { result ≡ position (λ b. b == 32) text.now }
-{
-    text.iter().position(|&b| b == b' ')
 }
 
 #[tactic(auto, using(crate::proofs::SegmentTexts::part_steps))]
@@ -118,7 +98,7 @@ pub fn append_cut(joined: &mut Bytes, text: &[u8]) -> Result<(), Memory>
     ensures cut { IsSegmentText joined.new }
     ensures err { OnErr result (joined.new ≡ joined.old) }
 {
-    let room = TEXT_LIMIT - joined.len();
+    let room = SEGMENT_LIMIT - joined.len();
     if text.len() <= room {
         joined.append(text)
     } else {

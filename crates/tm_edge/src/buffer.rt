@@ -1,3 +1,4 @@
+//! The bytes that a reader of lines has taken and not yet served.
 ghost use Rattle.std.specs.Prelude.{◌≤◌, vec_len};
 
 use crate::steps::{move_to_front, take_behind};
@@ -82,6 +83,7 @@ impl Buffer {
         ensures room { vec_len self.new.bytes ≡ vec_len self.old.bytes }
         ensures kept { OnErr result (held_bytes self.new ≡ held_bytes self.old) }
         ensures count { S.faults source.old ≤ S.faults source.new }
+        ensures no_fault { OnOk result (S.faults source.new ≡ S.faults source.old) }
         ensures failed { OnErr result (HasRisen (S.faults source.old) (S.faults source.new)) }
     {
         self.compact();

@@ -1,4 +1,8 @@
 //! The edge of the transaction manager: where bytes come from and go to, and lines cut from them.
+//!
+//! A source and a sink count their faults: `Failed` comes exactly where the count rose. The lines are
+//! those of specs/Lines, each served once; a fault, a line that is too long and want of memory are
+//! told apart, and none of them loses a byte.
 #![tactic(auto)]
 
 pub use lines::{LINE_LIMIT, Line, LineFault, Lines};

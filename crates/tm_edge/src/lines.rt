@@ -1,4 +1,5 @@
-ghost use Rattle.std.specs.Prelude.{◌≡◌, ◌<◌, ◌≤◌, ◌+◌, [], List, length, vec_len, vec_capacity, IfOk, IfSome, OnErr, IsErrOf, MatchOption, ◌==◌, position};
+//! Lines, cut from the bytes of a source.
+ghost use Rattle.std.specs.Prelude.{◌≡◌, ◌<◌, ◌≤◌, ◌+◌, [], List, length, vec_len, vec_capacity, IfOk, IfSome, OnOk, OnErr, IsErrOf, MatchOption, ◌==◌, position};
 ghost use Rattle.std.specs.Io.KnownBytes.{prepend_known, IsAtEnd};
 ghost use Rattle.std.specs.Str.Lines.{strip_carriage_return};
 ghost use Rattle.tm_edge.specs.Fault.{HasRisen};
@@ -102,11 +103,22 @@ impl Lines {
         ensures too_long { IsErrOf result LineFault.TooLong → IfSome (unread self.old (S.left source.old)) IsTooLong }
         ensures too_long_held { IsErrOf result LineFault.TooLong → IsTooLong self.new }
 
+        // The source failed in the call exactly where that is told.
         ensures read { IsErrOf result LineFault.Read → HasRisen (S.faults source.old) (S.faults source.new) }
         ensures count { S.faults source.old ≤ S.faults source.new }
+        ensures no_fault { OnOk result (S.faults source.new ≡ S.faults source.old) }
+        ensures too_long_count { IsErrOf result LineFault.TooLong → S.faults source.new ≡ S.faults source.old }
+        ensures memory_count { IsErrOf result LineFault.Memory → S.faults source.new ≡ S.faults source.old }
+
+        // Want of memory passes over nothing: no byte, and no line that is too long.
         ensures memory { IsErrOf result LineFault.Memory → self.new ≡ self.old }
         ensures memory_source { IsErrOf result LineFault.Memory → source.new ≡ source.old }
+        ensures memory_held { IsErrOf result LineFault.Memory → line_size self.old ≤ 4096 }
     {
+        let whole = match whole_line(self.buffer.held(), 0) {
+            Ok(whole) => whole,
+            Err(_) => return Err(LineFault::TooLong),
+        };
         if self.buffer.reserve().is_err() {
             return Err(LineFault::Memory);
         }
@@ -114,6 +126,9 @@ impl Lines {
             Ok(text) => text,
             Err(_) => return Err(LineFault::Memory),
         };
+        if let Some(size) = whole {
+            return Ok(serve(&mut self.buffer, size, text));
+        }
         match read_line(&mut self.buffer, source) {
             Ok(size) => Ok(serve(&mut self.buffer, size, text)),
             Err(Stop::Read) => Err(LineFault::Read),
@@ -128,6 +143,10 @@ enum Stop {
     Read,
     TooLong,
 }
+
+// A line has more bytes than it may have.
+#[derive(Debug, Drop)]
+struct TooLong;
 
 // Where the first LF stands, if there is one.
 fn lf_place(bytes: &[u8]) -> Option<usize>
@@ -145,6 +164,22 @@ fn line_end(held: &[u8], seen: usize) -> Option<usize>
     match lf_place(&held[seen..]) {
         Some(n) => Some(seen + n),
         None => None,
+    }
+}
+
+// How many bytes stand before the first LF, if there is one. None stands in the first `seen` bytes.
+fn whole_line(held: &[u8], seen: usize) -> Result<Option<usize>, TooLong>
+    requires within { seen ≤ length held.now }
+    requires clear { seen ≤ line_size held.now }
+    ensures size { IfOk result (λ end. MatchOption end (line_size held.now ≡ length held.now) (λ n. (n ≡ line_size held.now) × (n < length held.now))) }
+    ensures short { OnOk result (line_size held.now ≤ 4096) }
+    ensures too_long { OnErr result (IsTooLong held.now) }
+{
+    let end = line_end(held, seen);
+    if end.unwrap_or(held.len()) > LINE_LIMIT {
+        Err(TooLong)
+    } else {
+        Ok(end)
     }
 }
 
@@ -173,7 +208,9 @@ fn text_of(held: &[u8], size: usize) -> &[u8]
 
 // Takes bytes until the first line is whole, and answers how many bytes stand before its LF.
 fn read_line<S: Source>(buffer: &mut Buffer, source: &mut S) -> Result<usize, Stop>
-    requires { 4096 < vec_len buffer.old.bytes }
+    requires room { 4096 < vec_len buffer.old.bytes }
+    requires open { line_size (held_bytes buffer.old) ≡ length (held_bytes buffer.old) }
+    requires held { length (held_bytes buffer.old) ≤ 4096 }
     ensures told { prepend_known (held_bytes buffer.new) (S.left source.new) ≡ prepend_known (held_bytes buffer.old) (S.left source.old) }
     ensures size { IfOk result (λ n. n ≡ line_size (held_bytes buffer.new)) }
     ensures short { IfOk result (λ n. n ≤ 4096) }
@@ -181,24 +218,20 @@ fn read_line<S: Source>(buffer: &mut Buffer, source: &mut S) -> Result<usize, St
     ensures too_long { IsErrOf result Stop.TooLong → IsTooLong (held_bytes buffer.new) }
     ensures read { IsErrOf result Stop.Read → HasRisen (S.faults source.old) (S.faults source.new) }
     ensures count { S.faults source.old ≤ S.faults source.new }
+    ensures no_fault { OnOk result (S.faults source.new ≡ S.faults source.old) }
+    ensures too_long_count { IsErrOf result Stop.TooLong → S.faults source.new ≡ S.faults source.old }
 {
-    let mut seen = 0;
     loop {
-        if let Some(size) = line_end(buffer.held(), seen) {
-            return if size > LINE_LIMIT {
-                Err(Stop::TooLong)
-            } else {
-                Ok(size)
-            };
-        }
-        seen = buffer.held().len();
-        if seen > LINE_LIMIT {
-            return Err(Stop::TooLong);
-        }
+        let seen = buffer.held().len();
         match buffer.fill(source) {
             Err(_) => return Err(Stop::Read),
             Ok(0) => return Ok(seen),
             Ok(_) => {}
+        }
+        match whole_line(buffer.held(), seen) {
+            Err(_) => return Err(Stop::TooLong),
+            Ok(Some(size)) => return Ok(size),
+            Ok(None) => {}
         }
     }
 }

@@ -1,3 +1,4 @@
+//! A sink into memory.
 ghost use Rattle.std.specs.Prelude.{◌≡◌, ◌+◌, ◌-◌, ◌^◌, ◌<◌, ◌≤◌, ◌⊎◌, ◌↔◌, ◌++◌, min, Some, [], length, take, OnOk, OnErr, IsErr, IsTrue, if◌then◌else◌};
 ghost use Rattle.std.specs.Io.KnownBytes.{append_known};
 ghost use Rattle.tm_edge.specs.Fault.{HasRisen, AppendsFront};
@@ -108,6 +109,7 @@ impl Sink for MemSink {
         ensures put { OnOk result (Some self.new.written ≡ append_known (Some self.old.written) bytes.now) }
         ensures front { OnErr result (AppendsFront (Some self.old.written) (Some self.new.written) bytes.now) }
         ensures count { self.old.faults ≤ self.new.faults }
+        ensures no_fault { OnOk result (self.new.faults ≡ self.old.faults) }
         ensures failed { OnErr result (HasRisen self.old.faults self.new.faults) }
 
         // It fails at the listed calls and past its room, and then writes nothing.

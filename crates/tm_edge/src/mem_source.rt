@@ -1,4 +1,5 @@
-ghost use Rattle.std.specs.Prelude.{◌≡◌, ◌+◌, ◌-◌, ◌^◌, ◌<◌, ◌≤◌, ◌↔◌, min, Some, length, take, drop, IfOk, OnErr, IsErr, IsTrue, if◌then◌else◌};
+//! A source over bytes in memory.
+ghost use Rattle.std.specs.Prelude.{◌≡◌, ◌+◌, ◌-◌, ◌^◌, ◌<◌, ◌≤◌, ◌↔◌, min, Some, length, take, drop, IfOk, OnOk, OnErr, IsErr, IsTrue, if◌then◌else◌};
 ghost use Rattle.std.specs.Io.KnownBytes.{prepend_known, IsAtEnd};
 ghost use Rattle.tm_edge.specs.Fault.{HasRisen};
 ghost use Rattle.tm_edge.specs.Feed.{Fails};
@@ -76,6 +77,7 @@ impl Source for MemSource {
         ensures ending { IfOk result (λ n. n ≡ 0 → 0 < length into.new → IsAtEnd (Some self.new.left)) }
         ensures kept { OnErr result (Some self.new.left ≡ Some self.old.left) }
         ensures count { self.old.faults ≤ self.new.faults }
+        ensures no_fault { OnOk result (self.new.faults ≡ self.old.faults) }
         ensures failed { OnErr result (HasRisen self.old.faults self.new.faults) }
 
         // It fails at the listed calls and at no others, and gives as much as the buffer takes.

@@ -1,3 +1,4 @@
+//! The standard library's readers and writers as source and sink.
 ghost use Rattle.std.specs.Prelude.{◌≡◌, None};
 
 use crate::{Failed, Sink, Source};

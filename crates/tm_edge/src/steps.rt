@@ -1,4 +1,5 @@
-ghost use Rattle.std.specs.Prelude.{◌≡◌, ◌+◌, ◌-◌, ◌<◌, ◌≤◌, length, take, drop, IfOk, OnErr};
+//! The moves of bytes within a buffer.
+ghost use Rattle.std.specs.Prelude.{◌≡◌, ◌+◌, ◌-◌, ◌<◌, ◌≤◌, length, take, drop, IfOk, OnOk, OnErr};
 ghost use Rattle.std.specs.Io.KnownBytes.{prepend_known, IsAtEnd};
 ghost use Rattle.tm_edge.specs.Fault.{HasRisen};
 
@@ -22,6 +23,7 @@ pub fn take_behind<S: Source>(bytes: &mut [u8], end: usize, source: &mut S) -> R
     ensures ending { IfOk result (λ n. n ≡ 0 → IsAtEnd (S.left source.new)) }
     ensures kept { OnErr result (S.left source.new ≡ S.left source.old) }
     ensures count { S.faults source.old ≤ S.faults source.new }
+    ensures no_fault { OnOk result (S.faults source.new ≡ S.faults source.old) }
     ensures failed { OnErr result (HasRisen (S.faults source.old) (S.faults source.new)) }
 {
     source.take(&mut bytes[end..])
