@@ -1,0 +1,3 @@
+pub mod RaisedFlag
+pub mod Indexed
+pub mod Served

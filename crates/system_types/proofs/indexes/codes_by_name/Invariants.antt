@@ -1,0 +1,7 @@
+-- the codes so far
+use Rattle.std.proofs.Common.{take}
+use Rattle.system_types.specs.Indexes.{IsIndex, has_code_name}
+use Rattle.system_types.proofs.indexes.codes_by_name.Given as goal
+
+abbrev pub invariant-loop-place : goal.invariant-loop-place
+invariant-loop-place l = IsIndex has_code_name l.index (take l.place l.codes)

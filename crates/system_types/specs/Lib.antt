@@ -1,0 +1,6 @@
+pub mod Calls
+pub mod Valid
+pub mod Indexes
+pub mod Parts
+pub mod Jobs
+pub mod Codes

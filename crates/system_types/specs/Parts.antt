@@ -1,0 +1,6 @@
+-- The system of parts.
+use Rattle.model_system.specs.System.{System}
+use Rattle.system_types.specs.declared.system.SystemParts.{SystemParts}
+
+abbrev pub parts_of : SystemParts → System
+parts_of parts = record { qbytes = parts.qbytes; logs = parts.logs; databases = parts.databases.items; programs = parts.programs.items; codes = parts.codes.items; terminals = parts.terminals.items; regions = parts.regions.items }

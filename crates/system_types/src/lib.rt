@@ -1,0 +1,17 @@
+//! A system as its definition gives it, and the states of its codes.
+//!
+//! `System` keeps the facts that the rules on a definition give, so that no layer above tests them
+//! again: they stand in `specs/Valid.antt`. It finds a code, a terminal and what serves a code by name.
+#![tactic(auto)]
+
+pub use codes::Codes;
+pub use job::Job;
+pub use model_system::{
+    Classes, Code, CodeState, Pcb, Pcbs, SegmentKind, SystemProgram, Transaction,
+};
+pub use system::{System, SystemParts};
+
+mod codes;
+mod indexes;
+mod job;
+mod system;

@@ -1,0 +1,171 @@
+//! A system, with the facts that hold of it.
+ghost use Rattle.std.specs.Prelude.{◌≡◌, ◌<◌, ℕ, List, IfOk, IfSome, IsSome, length, position};
+ghost use Rattle.std.specs.Option.{option_copied, option_map};
+ghost use Rattle.std.specs.Str.{bytes_eq};
+ghost use Rattle.model_system.specs.Codes.{code_at, code_place};
+ghost use Rattle.model_system.specs.Jobs.{job_of};
+ghost use Rattle.system_types.specs.Parts.{parts_of};
+ghost use Rattle.system_types.specs.Jobs.{lent_job};
+ghost use Rattle.system_types.specs.Valid.{IsServable, IsSystem};
+
+use crate::Job;
+use crate::indexes::{code_at, codes_by_name, program_at, program_places, terminals_by_name};
+use crate::job::job_of;
+use model_system::{Classes, Code, SystemProgram};
+use std::alloc::{AllocError, Global};
+use std::collections::BTreeMap;
+use std::marker::Model;
+use tm_types::{Dbd, Name};
+
+/// What a system is made of. Its lists have the order of the definition's lines.
+#[derive(Debug, Drop)]
+pub struct SystemParts {
+    /// The bytes of the queues.
+    pub qbytes: u32,
+    /// The sectors of a log area.
+    pub logs: u32,
+    pub databases: Vec<Dbd>,
+    pub programs: Vec<SystemProgram>,
+    pub codes: Vec<Code>,
+    pub terminals: Vec<Name>,
+    pub regions: Vec<Classes>,
+}
+
+/// What a definition defines. Its lists have the order of the lines.
+#[derive(Debug, Drop)]
+pub struct System {
+    parts: SystemParts,
+    codes_by_name: BTreeMap<Name, usize>,
+    terminals_by_name: BTreeMap<Name, usize>,
+    /// For each code the place of its program.
+    program_places: Vec<usize>,
+}
+
+impl Model for System {
+    ghost use Rattle.std.specs.Prelude.{◌≡◌, map};
+    ghost use Rattle.model_system.specs.System as model;
+    ghost use Rattle.system_types.specs.Indexes.{IsIndex, has_code_name, has_terminal_name, program_place};
+    ghost use Rattle.system_types.specs.Parts.{parts_of};
+    ghost use Rattle.system_types.specs.Valid.{IsSystem};
+
+    ghost Value = { model.System };
+
+    ghost view = { λ s. parts_of s.parts };
+
+    ghost invariant = { λ s. IsSystem (parts_of s.parts) × IsIndex has_code_name s.codes_by_name s.parts.codes.items × IsIndex has_terminal_name s.terminals_by_name s.parts.terminals.items × (s.program_places.items ≡ map (program_place s.parts.programs.items) s.parts.codes.items) };
+}
+
+impl System {
+    /// The system of these parts.
+    pub fn new(alloc: Global, parts: SystemParts) -> Result<System, AllocError>
+        requires { IsSystem (parts_of parts) }
+        ensures { IfOk result (λ system. system ≡ parts_of parts) }
+    {
+        let codes_by_name = codes_by_name(alloc, &parts.codes)?;
+        let terminals_by_name = terminals_by_name(alloc, &parts.terminals)?;
+        let program_places = program_places(alloc, &parts.codes, &parts.programs)?;
+        Ok(System {
+            parts,
+            codes_by_name,
+            terminals_by_name,
+            program_places,
+        })
+    }
+
+    /// The bytes of the queues.
+    pub fn qbytes(&self) -> u32
+        ensures value { result ≡ self.now.qbytes }
+        ensures valid { IsSystem self.now }
+    {
+        self.parts.qbytes
+    }
+
+    /// The sectors of a log area.
+    pub fn logs(&self) -> u32
+        ensures value { result ≡ self.now.logs }
+        ensures valid { IsSystem self.now }
+    {
+        self.parts.logs
+    }
+
+    /// The databases, numbered from 1 in their order.
+    pub fn databases(&self) -> &[Dbd]
+        ensures value { result.now ≡ self.now.databases }
+        ensures valid { IsSystem self.now }
+    {
+        &self.parts.databases
+    }
+
+    /// The programs, in the order of their PROGRAM lines.
+    pub fn programs(&self) -> &[SystemProgram]
+        ensures value { result.now ≡ self.now.programs }
+        ensures valid { IsSystem self.now }
+    {
+        &self.parts.programs
+    }
+
+    /// The transaction codes.
+    pub fn codes(&self) -> &[Code]
+        ensures value { result.now ≡ self.now.codes }
+        ensures valid { IsSystem self.now }
+    {
+        &self.parts.codes
+    }
+
+    /// The code of this name, or None where there is none.
+    #[tactic(auto, using(crate::proofs::Indexed::found_at))]
+    pub fn code(&self, name: &Name) -> Option<&Code>
+        ensures value { option_copied result ≡ code_at self.now.codes name.now }
+        ensures valid { IsSystem self.now }
+    {
+        code_at(&self.parts.codes, self.code_place(name))
+    }
+
+    /// The place of the code of this name, counted from 0.
+    pub fn code_place(&self, name: &Name) -> Option<usize>
+        ensures value { result ≡ code_place self.now.codes name.now }
+        ensures within { IfSome result (λ place. place < length self.now.codes) }
+        ensures valid { IsSystem self.now }
+    {
+        self.codes_by_name.get(name).copied()
+    }
+
+    /// What serves the messages of the code of this name: None exactly where there is no such code.
+    pub fn job(&self, code: &Name) -> Option<Job<'_>>
+        ensures value { option_map (lent_job self.now) result ≡ job_of self.now code.now }
+        ensures there { IsSome (code_at self.now.codes code.now) → IsSome result }
+        ensures servable { IfSome result (λ job. IsServable self.now.databases job.pcbs.now job.program.now) }
+        ensures valid { IsSystem self.now }
+    {
+        let place = self.code_place(code);
+        job_of(
+            code_at(&self.parts.codes, place),
+            program_at(&self.parts.programs, &self.program_places, place),
+        )
+    }
+
+    /// The terminals.
+    pub fn terminals(&self) -> &[Name]
+        ensures value { result.now ≡ self.now.terminals }
+        ensures valid { IsSystem self.now }
+    {
+        &self.parts.terminals
+    }
+
+    /// The place of the terminal of this name, counted from 0.
+    pub fn terminal_place(&self, name: &Name) -> Option<usize>
+        ensures value { result ≡ position (λ terminal. bytes_eq terminal name.now) self.now.terminals }
+        ensures within { IfSome result (λ place. place < length self.now.terminals) }
+        ensures valid { IsSystem self.now }
+    {
+        self.terminals_by_name.get(name).copied()
+    }
+
+    /// The classes of each region; the first region has number 1.
+    pub fn regions(&self) -> &[Classes]
+        ensures value { result.now ≡ self.now.regions }
+        ensures valid { IsSystem self.now }
+    {
+        &self.parts.regions
+    }
+}
