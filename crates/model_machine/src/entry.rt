@@ -1,6 +1,9 @@
+//! The calls of a control region, and what they are answered.
+
+use thiserror::Error;
 use tm_types::{AbendCode, Function, Name, Segments, Status};
 
-/// What a control call was asked for.
+/// A call of a control region.
 #[derive(Debug, Drop)]
 pub enum ControlCall {
     /// Take this input of this terminal under this number.
@@ -13,23 +16,38 @@ pub enum ControlCall {
     Turn(u32),
 }
 
-/// The answer to an input.
+/// Why a call could not be done.
+#[derive(Clone, Copy, Debug, Error)]
+pub enum ControlFault {
+    /// No memory was left; nothing changed.
+    #[error("no memory")]
+    Memory,
+}
+
+/// An input that was taken.
 #[derive(Clone, Copy, Debug)]
-pub enum Accepted {
+pub enum Taken {
     /// It is kept as the message of this id.
     New(u64),
-    /// An input of this number was accepted before.
+    /// An input of this number was accepted before; nothing changed.
     Already,
-    /// No terminal has this name.
+}
+
+/// Why an input was not taken. Nothing changed.
+#[derive(Clone, Copy, Debug, Error)]
+pub enum InputRefused {
+    #[error("no terminal has this name")]
     Terminal,
-    /// The terminal's next number is this one.
+    #[error("the number {0} was expected")]
     Expected(u64),
-    /// The input's first word is no transaction code.
+    #[error("the first word is no transaction code")]
     Code,
-    /// The input has so many segments, and its code takes at most so many.
+    #[error("the input has {0} segments, and its code takes at most {1}")]
     SegmentsOver(u32, u32),
-    /// With the input the queues would need so many bytes, and have so many.
+    #[error("{0} bytes are needed, and {1} may be used")]
     QueueFull(u64, u64),
+    #[error("{0}")]
+    Fault(ControlFault),
 }
 
 /// The answer to a request to see a reply.
@@ -43,49 +61,58 @@ pub enum ShowAnswer {
     Unknown,
 }
 
-/// The answer to an acknowledgement.
+/// An acknowledgement that was taken.
 #[derive(Clone, Copy, Debug)]
-pub enum AckAnswer {
+pub enum Acked {
     /// The reply is no longer kept.
     Removed,
-    /// It was acknowledged before.
+    /// It was acknowledged before; nothing changed.
     Already,
-    /// No terminal has this name.
+}
+
+/// Why an acknowledgement was not taken. Nothing changed.
+#[derive(Clone, Copy, Debug, Error)]
+pub enum AckRefused {
+    #[error("no terminal has this name")]
     Unknown,
-    /// The reply to be acknowledged next has this number.
+    #[error("the reply {0} is to be acknowledged first")]
     Ahead(u64),
+    #[error("{0}")]
+    Fault(ControlFault),
 }
 
-/// How a completed message's work ended, and how its region goes on.
+/// What a region did in its turn.
 #[derive(Clone, Copy, Debug)]
-pub enum SyncPoint {
-    /// At the end of the script. The region is empty.
-    End,
-    /// At a further GU. The region goes on with the message of this id.
-    Next(u64),
-    /// At a further GU, for which there is no message. The region is empty.
-    NoMore,
+pub enum Turned {
+    /// It was empty, and took the message of this code and id.
+    Scheduled(Name, u64),
+    /// Its script made this call on this PCB, and was answered with this status.
+    Called(Function, u8, Status),
+    /// It completed the message of this code and id at a further GU, and goes on with the message of
+    /// the other id.
+    Next(Name, u64, u64),
+    /// It completed the message at a further GU, for which there was no message.
+    QC(Name, u64),
+    /// It completed the message at the end of its script.
+    Done(Name, u64),
+    /// The script ended abnormally on the message of this code and id.
+    Abended(Name, u64, AbendCode),
+    /// It was empty, and there was no message that it could take.
+    Idle,
+    /// It was empty and could take a message, but the queues would need so many bytes, and have so
+    /// many.
+    Held(u64, u64),
 }
 
-/// One call of the control region, with its answer.
+/// A call of the control region with its answer, or with a fault in the answer's place.
 #[derive(Debug, Drop)]
 pub enum Entry {
     /// An input of a terminal under a number.
-    Accept(Name, u64, Segments, Accepted),
+    Accept(Name, u64, Segments, Result<Taken, InputRefused>),
     /// A terminal asked for its first reply.
     Show(Name, ShowAnswer),
     /// A terminal acknowledged the reply of a number.
-    Acked(Name, u64, AckAnswer),
-    /// The region took the message of this code and id.
-    Took(u32, Name, u64),
-    /// The region could take a message, but the queues would need so many bytes, and have so many.
-    Held(u32, u64, u64),
-    /// The region had nothing to do.
-    Idle(u32),
-    /// The region's script made this call on this PCB and was answered with this status.
-    Called(u32, Function, u8, Status),
-    /// The region completed the message of this code and id.
-    Done(u32, Name, u64, SyncPoint),
-    /// The region's script ended abnormally on the message of this code and id.
-    Abended(u32, Name, u64, AbendCode),
+    Acked(Name, u64, Result<Acked, AckRefused>),
+    /// A region had its turn.
+    Turn(u32, Result<Turned, ControlFault>),
 }

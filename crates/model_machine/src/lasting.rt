@@ -1,3 +1,4 @@
+//! What lasts of the machine.
 ghost use Rattle.std.specs.Prelude.{◌≡◌, []};
 
 use model_queues::TerminalReplies;
@@ -6,12 +7,25 @@ use std::alloc::Global;
 use std::marker::Model;
 use tm_types::{Message, Name};
 
-/// What lasts of a terminal's inputs.
+/// What lasts of a terminal, apart from its replies.
 #[derive(Debug, Drop)]
-pub struct TerminalInput {
+pub struct TerminalState {
     pub name: Name,
     /// The number of the last input that was accepted, 0 before the first.
     pub last: u64,
+    /// Whether it takes no input and shows no output.
+    pub stopped: bool,
+}
+
+/// What lasts of a transaction code.
+#[derive(Clone, Copy, Debug)]
+pub struct CodeSetting {
+    pub code: Name,
+    /// Whether its messages are not scheduled.
+    pub stopped: bool,
+    pub class: u8,
+    /// The normal priority.
+    pub priority: u8,
 }
 
 /// The rows of a database, in hierarchic order; seen as a list.
@@ -55,9 +69,11 @@ pub struct Lasting {
     /// The messages that are not completed, in the order of their ids.
     pub messages: Vec<Message>,
     pub next_id: u64,
-    pub inputs: Vec<TerminalInput>,
+    pub terminals: Vec<TerminalState>,
     /// The replies that are kept.
     pub outputs: Vec<TerminalReplies>,
+    /// The transaction codes, in the order of the definition.
+    pub codes: Vec<CodeSetting>,
     /// How many lasting steps were done.
     pub steps: u64,
 }
@@ -67,5 +83,5 @@ impl Model for Lasting {
 
     ghost Value = { LastingState };
 
-    ghost view = { λ l. record { rows = l.rows.items; messages = l.messages.items; next_id = l.next_id; inputs = l.inputs.items; outputs = l.outputs.items; steps = l.steps } };
+    ghost view = { λ l. record { rows = l.rows.items; messages = l.messages.items; next_id = l.next_id; terminals = l.terminals.items; outputs = l.outputs.items; codes = l.codes.items; steps = l.steps } };
 }

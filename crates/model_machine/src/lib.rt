@@ -5,8 +5,10 @@
 //! and the history is legal.
 #![tactic(auto)]
 
-pub use entry::{Accepted, AckAnswer, ControlCall, Entry, ShowAnswer, SyncPoint};
-pub use lasting::{DatabaseRows, Lasting, TerminalInput};
+pub use entry::{
+    AckRefused, Acked, ControlCall, ControlFault, Entry, InputRefused, ShowAnswer, Taken, Turned,
+};
+pub use lasting::{CodeSetting, DatabaseRows, Lasting, TerminalState};
 
 mod entry;
 mod lasting;
