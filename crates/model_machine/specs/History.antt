@@ -1,34 +1,76 @@
 -- Whole lives: which histories are legal, and where they lead.
-use Rattle.std.specs.Prelude.{◌≡◌, ℕ, List, [], ◌∷◌, ◌++◌}
+use Rattle.std.specs.Prelude.{◌≡◌, ◌<◌, ⊤, ℕ, Bool, true, false, Ok, Err, Result, Option, None, Some, List, [], ◌∷◌, ◌++◌, length}
+use Rattle.std.specs.Option.{is_some}
 use Rattle.model_machine.specs.declared.entry.Entry.{Entry}
-use Rattle.model_machine.specs.declared.entry.Entry.TheVariants.{Accept, Show, Acked, Took, Held, Idle, Called, Done, Abended}
+use Rattle.model_machine.specs.declared.entry.Entry.TheVariants.{Accept, Show, Acked, Turn as TurnEntry}
 use Rattle.model_machine.specs.declared.entry.ControlCall.{ControlCall}
 use Rattle.model_machine.specs.declared.entry.ControlCall.TheVariants.{Input, Receive, Acknowledge, Turn}
+use Rattle.model_machine.specs.declared.entry.InputRefused.TheVariants.{Fault as InputFault}
+use Rattle.model_machine.specs.declared.entry.AckRefused.TheVariants.{Fault as AckFault}
 use Rattle.model_system.specs.System.{System}
-use Rattle.model_machine.specs.Machine.{LastingState, Moment, start_of}
-use Rattle.model_machine.specs.Steps.{May, After}
-
--- the moment that these entries lead to
-abbrev pub moment_after : System → Moment → List Entry → Moment
-moment_after system moment [] = moment
-moment_after system moment (entry ∷ entries) = moment_after system (After system moment entry) entries
-
--- each entry's answer is the right one at the moment that the entries before it lead to
-abbrev pub IsLegal : System → Moment → List Entry → Type 0
-IsLegal system moment [] = Unit {0}
-IsLegal system moment (entry ∷ entries) = May system moment entry × IsLegal system (After system moment entry) entries
+use Rattle.model_machine.specs.Machine.{LastingState, Moment, start_of, IsRegion}
+use Rattle.model_machine.specs.Steps.{input_answer, show_answer, ack_answer, turn_answer, After}
 
 -- the call that an entry answers
 abbrev pub call_of : Entry → ControlCall
 call_of (Accept terminal number segments answer) = Input terminal number segments
 call_of (Show terminal answer) = Receive terminal
 call_of (Acked terminal number answer) = Acknowledge terminal number
-call_of (Took region code id) = Turn region
-call_of (Held region need limit) = Turn region
-call_of (Idle region) = Turn region
-call_of (Called region function pcb status) = Turn region
-call_of (Done region code id answer) = Turn region
-call_of (Abended region code id abend) = Turn region
+call_of (TurnEntry region answer) = Turn region
+
+-- the entry that a call adds at a moment, and no other: the call with the machine's answer
+abbrev pub entry_now : System → Moment → ControlCall → Entry
+entry_now system moment (Input terminal number segments) = Accept terminal number segments (input_answer system moment terminal number segments)
+entry_now system moment (Receive terminal) = Show terminal (show_answer moment terminal)
+entry_now system moment (Acknowledge terminal number) = Acked terminal number (ack_answer moment terminal number)
+entry_now system moment (Turn region) = TurnEntry region (Ok (turn_answer system moment region))
+
+-- an input has a segment, and a turn is one of a region that is there
+abbrev pub IsCall : System → ControlCall → Type 0
+IsCall system (Input terminal number segments) = 0 < length segments
+IsCall system (Receive terminal) = ⊤
+IsCall system (Acknowledge terminal number) = ⊤
+IsCall system (Turn region) = IsRegion system region
+
+-- the entry has the right answer at the moment
+pub record May (system : System) (moment : Moment) (entry : Entry) : Type 0 where
+  pub call : IsCall system (call_of entry)
+  pub answer : entry ≡ entry_now system moment (call_of entry)
+
+-- the moment that these entries lead to
+abbrev pub moment_after : System → Moment → List Entry → Moment
+moment_after system moment [] = moment
+moment_after system moment (entry ∷ entries) = moment_after system (After system moment (call_of entry)) entries
+
+-- each entry's answer is the right one at the moment that the entries before it lead to
+abbrev pub AreSteps : System → Moment → List Entry → Type 0
+AreSteps system moment [] = Unit {0}
+AreSteps system moment (entry ∷ entries) = May system moment entry × AreSteps system (After system moment (call_of entry)) entries
+
+-- an entry has a fault in place of its answer
+abbrev pub is_fault : Entry → Bool
+is_fault (Accept terminal number segments (Err (InputFault fault))) = true
+is_fault (Acked terminal number (Err (AckFault fault))) = true
+is_fault (TurnEntry region (Err fault)) = true
+is_fault _ = false
+
+-- behind a life's steps stands nothing more, or a call that met a fault
+abbrev pub IsEnd : System → Option Entry → Type 0
+IsEnd system None = Unit {0}
+IsEnd system (Some entry) = (is_fault entry ≡ true) × IsCall system (call_of entry)
+
+abbrev pub ended_by : List Entry → Option Entry → List Entry
+ended_by entries None = entries
+ended_by entries (Some entry) = entries ++ entry ∷ []
+
+-- The history of a life is legal: each entry is a step of the machine, but that the last one may have a
+-- fault in place of its answer.
+pub record IsLegal (system : System) (moment : Moment) (history : List Entry) : Type 0 where
+  pub steps : List Entry
+  pub last : Option Entry
+  pub all : history ≡ ended_by steps last
+  pub legal : AreSteps system moment steps
+  pub end : IsEnd system last
 
 -- A control region as contracts see it: its system, what it opened with, the entries since, and for
 -- how many more entries it has room. The state of its machine follows from these.
@@ -47,7 +89,7 @@ pub record AddsEntry (old new : ControlState) (entry : Entry) : Type 0 where
   pub system : new.system ≡ old.system
   pub opening : new.opening ≡ old.opening
   pub history : new.history ≡ old.history ++ entry ∷ []
-  pub legal : May old.system (now_of old) entry
+  pub may : May old.system (now_of old) entry
 
 -- a call added nothing; it may have made room
 pub record AddsNothing (old new : ControlState) : Type 0 where

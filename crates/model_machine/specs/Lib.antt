@@ -1,5 +1,6 @@
 pub mod Trial
 pub mod Machine
 pub mod Pick
+pub mod Lasting
 pub mod Steps
 pub mod History
