@@ -96,3 +96,11 @@ pub record AddsNothing (old new : ControlState) : Type 0 where
   pub system : new.system ≡ old.system
   pub opening : new.opening ≡ old.opening
   pub history : new.history ≡ old.history
+
+-- A call that was answered added its entry; one that could not be done added nothing.
+abbrev pub AddsUnless : Bool → ControlState → ControlState → Entry → Type 0
+AddsUnless true old new entry = AddsNothing old new
+AddsUnless false old new entry = AddsEntry old new entry
+
+abbrev pub Adds : ControlState → ControlState → Entry → Type 0
+Adds old new entry = AddsUnless (is_fault entry) old new entry
