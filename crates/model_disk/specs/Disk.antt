@@ -154,7 +154,7 @@ pub record HasWritten (at : ℕ) (sector : List ℕ) (old new : DiskState) : Typ
   pub without : (image : Image) → old.may_leave image → new.may_leave image
   pub written : (image : Image) → old.may_leave image → new.may_leave (with_sector image at sector)
 
--- The disk was cut off: one of the images that a crash might have left is shown and synced.
+-- The disk was cut off: one of the images that a crash might have left is shown and synced. It did not fail.
 pub record IsCut (old new : DiskState) : Type 0 where
   pub stays : Stays old new
   pub elapses : Elapses old new
@@ -162,4 +162,5 @@ pub record IsCut (old new : DiskState) : Type 0 where
   pub left : IsTrue old.tells → old.may_leave new.shown
   pub synced : Only new.shown new
   pub writes : new.writes ≡ old.writes
+  pub faults : new.faults ≡ old.faults
   pub disarmed : new.until_stop ≡ None

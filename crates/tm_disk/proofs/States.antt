@@ -81,6 +81,7 @@ cut_settled now past grown f w pick s is =
       left = λ tells. picked_is_left now pick;
       synced = λ image left. synced_alone next image refl left;
       writes = refl;
+      faults = refl;
       disarmed = refl;
     }
 
@@ -92,6 +93,7 @@ cut_here now past f w s none = record {
   left = λ tells. shown_is_left now;
   synced = alone now none;
   writes = refl;
+  faults = refl;
   disarmed = refl;
 }
 

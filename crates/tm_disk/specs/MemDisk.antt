@@ -1,5 +1,5 @@
 -- What a disk in memory shows of itself.
-use Rattle.std.specs.Prelude.{◌≡◌, ◌⊎◌, ℕ, ◌+◌, List, length, Bool, IsTrue, if◌then◌else◌}
+use Rattle.std.specs.Prelude.{◌≡◌, ◌⊎◌, ℕ, ◌+◌, ◌≤◌, List, length, Bool, IsTrue, if◌then◌else◌, vec_capacity}
 use Rattle.std.proofs.Common.{◌∙◌}
 use Rattle.std.proofs.lemmas.List.{length-replicate}
 use Rattle.model_disk.specs.Disk.{DiskState, IsDisk, is_due, is_stopped}
@@ -35,6 +35,10 @@ starved_of disk = disk.plan.starved
 abbrev pub recorded : MemDisk → ℕ
 recorded disk = length disk.contents.writes.items
 
+-- how many writes its record has room for before it has to grow
+abbrev pub record_room : MemDisk → ℕ
+record_room disk = vec_capacity disk.contents.writes
+
 -- the next call is listed, or the disk has stopped
 abbrev pub MustFail : MemDisk → Type 0
 MustFail disk = IsListed disk.plan ⊎ IsTrue (is_stopped disk.plan.until_stop)
@@ -49,16 +53,36 @@ pub record CountsCall (old new : MemDisk) (failed : Bool) : Type 0 where
   pub calls : calls_of new ≡ raised (calls_of old)
   pub faults : (state_of new).faults ≡ (if failed then raised (state_of old).faults else (state_of old).faults)
 
--- One more write was made, or may have been.
-pub record AddsWrite (at : ℕ) (sector : List ℕ) (old new : MemDisk) : Type 0 where
-  pub before : Before
-  pub moment : moment_of new ≡ after_write (record { at = at; content = sector; before = before }) (moment_of old)
-  pub recorded : recorded new ≡ recorded old + 1
-
 -- What no call but a write changes.
 pub record SameRecord (old new : MemDisk) : Type 0 where
   pub starved : starved_of new ≡ starved_of old
   pub recorded : recorded new ≡ recorded old
+
+-- The write was added, made or failed: a crash may leave it.
+pub record AddsWrite (at : ℕ) (sector : List ℕ) (old new : MemDisk) : Type 0 where
+  pub before : Before
+  pub moment : moment_of new ≡ after_write (record { at = at; content = sector; before = before }) (moment_of old)
+  pub recorded : recorded new ≡ recorded old + 1
+  pub starved : starved_of new ≡ starved_of old
+
+-- The write was not added: a crash leaves what it might have left before.
+pub record AddsNothing (old new : MemDisk) : Type 0 where
+  pub moment : moment_of new ≡ moment_of old
+  pub same : SameRecord old new
+
+-- The write met want of memory, its record having no room: nothing was added, and it is counted.
+pub record Starves (old new : MemDisk) : Type 0 where
+  pub no_room : record_room old ≤ recorded old
+  pub moment : moment_of new ≡ moment_of old
+  pub recorded : recorded new ≡ recorded old
+  pub starved : starved_of new ≡ raised (starved_of old)
+
+-- A call that only arms the disk: it counts nothing, lists nothing, and a crash leaves what it might have left.
+pub record OnlyArms (old new : MemDisk) : Type 0 where
+  pub moment : moment_of new ≡ moment_of old
+  pub same : SameRecord old new
+  pub fails_at : fails_at new ≡ fails_at old
+  pub calls : calls_of new ≡ calls_of old
 
 pub disk_law : (disk : MemDisk) → IsDisk (state_of disk)
 disk_law disk =

@@ -1,5 +1,5 @@
-// The sectors of a disk in memory, and each write that was made. Since a sync and a cut only note that they came,
-// neither takes memory.
+//! The sectors of a disk in memory, and each write that was made. A sync and a cut only note that they came, so that
+//! neither takes memory.
 ghost use Rattle.std.specs.Prelude.{◌≡◌, ◌+◌, ◌<◌, length};
 ghost use Rattle.tm_disk.specs.Moments.{IsSound};
 
@@ -27,7 +27,7 @@ pub struct Contents {
 }
 
 impl Contents {
-    ghost use Rattle.std.specs.Prelude.{[], ◌∷◌, ◌++◌, IfOk, OnOk, OnErr, IsTrue, ◌↔◌};
+    ghost use Rattle.std.specs.Prelude.{[], ◌∷◌, ◌++◌, ◌≤◌, IfOk, OnOk, OnErr, IsTrue, ◌↔◌, vec_capacity};
     ghost use Rattle.model_disk.specs.Disk.{sector_at};
     ghost use Rattle.tm_disk.specs.Moments.{zero_disk, shown_of, after_write, settled_by};
     ghost use Rattle.tm_disk.specs.Contents.{now_of, past_of, GoesOn, StaysAt, Settles};
@@ -75,6 +75,7 @@ impl Contents {
         ensures count { OnOk result (length self.new.writes.items ≡ length self.old.writes.items + 1) }
         ensures err { OnErr result (StaysAt self.old self.new) }
         ensures same_count { OnErr result (length self.new.writes.items ≡ length self.old.writes.items) }
+        ensures growth { OnErr result (vec_capacity self.old.writes ≤ length self.old.writes.items) }
     {
         self.writes.push(Written {
             at,

@@ -1,3 +1,4 @@
+//! A disk of sectors: what its calls promise.
 ghost use Rattle.std.specs.Prelude.{◌≡◌, ◌<◌, ◌↔◌, IsTrue, IsFalse, OnOk, OnErr, IsErr};
 ghost use Rattle.model_disk.specs.Disk.{DiskState, IsDisk, Keeps, MayHaveWritten, HasWritten, IsCut, Only, FailedSince, sector_at, is_stopped, is_due, armed};
 ghost use Rattle.tm_disk.specs.declared.disk.DiskFault.TheVariants.{Disk as disk_fault};
@@ -26,6 +27,7 @@ impl From<Failed> for DiskFault {
 }
 
 /// Sectors that are read and written whole. Until a sync a crash may leave any of the writes, or none.
+/// A call answers `Failed` exactly where the count of faults rose in it.
 pub trait Disk {
     /// What it shows, and what a crash may leave.
     ghost state: { Self → DiskState };
@@ -45,6 +47,7 @@ pub trait Disk {
         ensures keeps { Keeps (state self.old) (state self.new) }
         ensures until_stop { (state self.new).until_stop ≡ (state self.old).until_stop }
         ensures stopped { IsTrue (is_stopped (state self.old).until_stop) → IsErr result }
+        ensures no_fault { OnOk result ((state self.new).faults ≡ (state self.old).faults) }
         ensures failed { OnErr result (FailedSince (state self.old) (state self.new)) };
 
     /// Writes a sector. A write that failed may have been made or not.
@@ -53,6 +56,7 @@ pub trait Disk {
         ensures tried { MayHaveWritten at from.now (state self.old) (state self.new) }
         ensures done { OnOk result (HasWritten at from.now (state self.old) (state self.new)) }
         ensures stopped { IsTrue (is_due (state self.old).until_stop) → IsErr result }
+        ensures no_fault { OnOk result ((state self.new).faults ≡ (state self.old).faults) }
         ensures failed { OnErr result (FailedSince (state self.old) (state self.new)) };
 
     /// After it a crash leaves what reads give.
@@ -61,6 +65,7 @@ pub trait Disk {
         ensures keeps { Keeps (state self.old) (state self.new) }
         ensures until_stop { (state self.new).until_stop ≡ (state self.old).until_stop }
         ensures stopped { IsTrue (is_stopped (state self.old).until_stop) → IsErr result }
+        ensures no_fault { OnOk result ((state self.new).faults ≡ (state self.old).faults) }
         ensures failed { OnErr result (FailedSince (state self.old) (state self.new)) };
 
     /// Makes the `n`-th write from now fail and the disk stop: from then on each call fails, until `cut`.
@@ -70,6 +75,7 @@ pub trait Disk {
         requires { 0 < n }
         ensures can { IsTrue result ↔ IsTrue (state self.old).can_arm }
         ensures keeps { Keeps (state self.old) (state self.new) }
+        ensures no_fault { (state self.new).faults ≡ (state self.old).faults }
         ensures armed { IsTrue result → (state self.new).until_stop ≡ armed n (state self.old).until_stop }
         ensures nothing { IsFalse result → self.new ≡ self.old };
 

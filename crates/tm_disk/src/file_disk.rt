@@ -1,4 +1,4 @@
-// A disk in a file of the system. It is trusted: that the file keeps what was written to it is not proved.
+//! A disk in a file of the system. It is trusted: that the file keeps what was written to it is not proved.
 ghost use Rattle.std.specs.Prelude.{◌<◌, ◌^◌};
 
 use crate::plan::raise;

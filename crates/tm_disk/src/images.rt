@@ -1,4 +1,4 @@
-// What syncs and cuts do to the sectors of a disk in memory.
+//! What syncs and cuts do to the sectors of a disk in memory.
 ghost use Rattle.std.specs.Prelude.{◌≡◌, ◌↔◌, ℕ, ◌-◌, ◌<◌, ◌≤◌, [], ◌∷◌, length, All, IsTrue, slice_index, slice_index_or};
 ghost use Rattle.model_disk.specs.Disk.{sector_at};
 ghost use Rattle.tm_disk.specs.Moments.{shown_of, writes_to, picked, digits};

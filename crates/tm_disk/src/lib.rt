@@ -1,4 +1,8 @@
 //! A disk of sectors: the trait, a disk in memory that fails and is cut off as it is told, and a disk in a file.
+//!
+//! What each call shows and what a crash at any moment leaves is said in the words of `model_disk`. A call fails exactly
+//! where the count of faults rose. The disk in memory leaves what specs/Moments says and fails where it is told, full
+//! or without memory; the disk in a file tells nothing of its contents and is trusted.
 #![tactic(auto)]
 
 mod contents;

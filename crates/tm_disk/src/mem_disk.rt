@@ -1,3 +1,4 @@
+//! A disk in memory, which fails and is cut off as it is told.
 ghost use Rattle.std.specs.Prelude.{◌≡◌, ◌⊎◌, ◌+◌, ◌<◌, ◌↔◌, IsTrue, IsFalse, IfOk, OnOk, OnErr, IsErr, is_err, if◌then◌else◌, None};
 ghost use Rattle.model_disk.specs.Disk.{Keeps, MayHaveWritten, HasWritten, IsCut, Only, FailedSince, sector_at, is_stopped, is_due, armed};
 
@@ -54,7 +55,7 @@ impl MemDisk {
 impl Disk for MemDisk {
     ghost use Rattle.tm_disk.specs.Count.{raised};
     ghost use Rattle.tm_disk.specs.Moments.{settled_by};
-    ghost use Rattle.tm_disk.specs.MemDisk.{state_of, moment_of, calls_of, starved_of, fails_at, MustFail, MustFailToWrite, CountsCall, AddsWrite, SameRecord, disk_law};
+    ghost use Rattle.tm_disk.specs.MemDisk.{state_of, moment_of, calls_of, starved_of, fails_at, recorded, MustFail, MustFailToWrite, CountsCall, AddsWrite, AddsNothing, Starves, SameRecord, OnlyArms, disk_law};
     ghost use Rattle.tm_disk.specs.declared.record.Before.TheVariants.{Synced, Cut};
 
     ghost state = { state_of };
@@ -75,6 +76,7 @@ impl Disk for MemDisk {
         ensures keeps { Keeps (state_of self.old) (state_of self.new) }
         ensures until_stop { (state_of self.new).until_stop ≡ (state_of self.old).until_stop }
         ensures stopped { IsTrue (is_stopped (state_of self.old).until_stop) → IsErr result }
+        ensures no_fault { OnOk result ((state_of self.new).faults ≡ (state_of self.old).faults) }
         ensures failed { OnErr result (FailedSince (state_of self.old) (state_of self.new)) }
 
         // It fails where it is to fail, and nowhere else.
@@ -96,14 +98,20 @@ impl Disk for MemDisk {
         ensures tried { MayHaveWritten at from.now (state_of self.old) (state_of self.new) }
         ensures done { OnOk result (HasWritten at from.now (state_of self.old) (state_of self.new)) }
         ensures stopped { IsTrue (is_due (state_of self.old).until_stop) → IsErr result }
+        ensures no_fault { OnOk result ((state_of self.new).faults ≡ (state_of self.old).faults) }
         ensures failed { OnErr result (FailedSince (state_of self.old) (state_of self.new)) }
 
         // It fails where it is to fail and where its record is full, and else for want of memory alone.
         ensures fails { MustFailToWrite self.old → IsErr result }
-        ensures starves { IsErr result → MustFailToWrite self.old ⊎ (starved_of self.new ≡ raised (starved_of self.old)) }
+        ensures starves { IsErr result → MustFailToWrite self.old ⊎ Starves self.old self.new }
         ensures counts { CountsCall self.old self.new (is_err result) }
-        ensures adds { OnOk result (AddsWrite at from.now self.old self.new × (starved_of self.new ≡ starved_of self.old)) }
         ensures counted { (state_of self.new).writes ≡ raised (state_of self.old).writes }
+
+        // A disk that has stopped, or whose record is full, adds nothing. Any other adds the write, also where it
+        // fails, unless that met want of memory.
+        ensures stopped_adds_nothing { IsTrue (is_stopped (state_of self.old).until_stop) → AddsNothing self.old self.new }
+        ensures full_adds_nothing { recorded self.old ≡ 262144 → AddsNothing self.old self.new }
+        ensures adds { IsFalse (is_stopped (state_of self.old).until_stop) → recorded self.old < 262144 → AddsWrite at from.now self.old self.new ⊎ (IsErr result × Starves self.old self.new) }
     {
         let stopped = self.plan.has_stopped();
         let fails = self.plan.tell();
@@ -127,6 +135,7 @@ impl Disk for MemDisk {
         ensures keeps { Keeps (state_of self.old) (state_of self.new) }
         ensures until_stop { (state_of self.new).until_stop ≡ (state_of self.old).until_stop }
         ensures stopped { IsTrue (is_stopped (state_of self.old).until_stop) → IsErr result }
+        ensures no_fault { OnOk result ((state_of self.new).faults ≡ (state_of self.old).faults) }
         ensures failed { OnErr result (FailedSince (state_of self.old) (state_of self.new)) }
 
         // It fails where it is to fail, and nowhere else.
@@ -144,7 +153,17 @@ impl Disk for MemDisk {
         Ok(())
     }
 
-    fn arm(&mut self, n: u64) -> bool {
+    fn arm(&mut self, n: u64) -> bool
+        requires { 0 < n }
+        ensures can { IsTrue result ↔ IsTrue (state_of self.old).can_arm }
+        ensures keeps { Keeps (state_of self.old) (state_of self.new) }
+        ensures no_fault { (state_of self.new).faults ≡ (state_of self.old).faults }
+        ensures armed { IsTrue result → (state_of self.new).until_stop ≡ armed n (state_of self.old).until_stop }
+        ensures nothing { IsFalse result → self.new ≡ self.old }
+
+        // It changes no count, no list and nothing that a crash may leave.
+        ensures arms { OnlyArms self.old self.new }
+    {
         self.plan.arm(n);
         true
     }

@@ -1,3 +1,4 @@
+//! The record of the writes of a disk in memory.
 use crate::Sector;
 
 /// What came between a write and the one before it, as far as it changed what a crash may leave.

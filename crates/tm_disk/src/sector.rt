@@ -1,3 +1,4 @@
+//! Sectors of 4,096 bytes.
 ghost use Rattle.std.specs.Prelude.{◌≡◌, ◌≤◌, ◌+◌, ◌<◌, length, take, drop, ◌++◌};
 ghost use Rattle.tm_disk.specs.Sector.{blank};
 
