@@ -1,4 +1,5 @@
-ghost use Rattle.std.specs.Prelude.{◌≡◌, ◌+◌, ◌<◌, ◌≤◌, ◌^◌, length, IsTrue, IfOk, IsErrOf};
+//! The chain of a log area.
+ghost use Rattle.std.specs.Prelude.{◌≡◌, ◌+◌, ◌<◌, ◌≤◌, ◌^◌, length, IsTrue, IfOk, OnOk, IsErrOf};
 ghost use Rattle.model_disk.specs.Disk.{Keeps, FailedSince};
 ghost use Rattle.log_sectors.specs.Chain.{chain, joined};
 
@@ -18,14 +19,16 @@ pub struct Chain {
 /// Why a chain wasn't read.
 #[derive(Clone, Copy, Debug, Drop, Error, PartialEq, Eq)]
 pub enum ChainFault {
+    /// The disk failed at a read, and its count of faults rose.
     #[error("the disk failed")]
     Disk,
-    #[error("out of memory")]
+    /// There was no memory for the payload. No read failed before.
+    #[error("no memory")]
     Memory,
 }
 
 /// Reads the chain of an area of a disk, as the disk reads: the area begins at `first` and has `count` sectors, and
-/// the chain's first sector has this sequence.
+/// the chain's first sector has this sequence. Nothing is written.
 pub fn read_chain<D: Disk>(
     alloc: Global,
     disk: &mut D,
@@ -40,7 +43,10 @@ pub fn read_chain<D: Disk>(
     ensures sectors { IfOk result (λ read. IsTrue (D.state disk.old).tells → read.sectors ≡ length (chain count (D.state disk.old).shown first sequence epoch)) }
     ensures keeps { Keeps (D.state disk.old) (D.state disk.new) }
     ensures until_stop { (D.state disk.new).until_stop ≡ (D.state disk.old).until_stop }
+    // The disk failed in the call exactly where that is told.
     ensures disk { IsErrOf result ChainFault.Disk → FailedSince (D.state disk.old) (D.state disk.new) }
+    ensures no_fault { OnOk result ((D.state disk.new).faults ≡ (D.state disk.old).faults) }
+    ensures memory { IsErrOf result ChainFault.Memory → (D.state disk.new).faults ≡ (D.state disk.old).faults }
 {
     let mut payload = Bytes::new(alloc);
     let mut sector = Sector::blank();

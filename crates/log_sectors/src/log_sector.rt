@@ -1,3 +1,4 @@
+//! How a log sector is spelled and read.
 ghost use Rattle.std.specs.Prelude.{◌≡◌, ◌<◌, ◌≤◌, ◌↔◌, length, MatchOption, IsTrue, None, Some};
 ghost use Rattle.tm_disk.specs.Sector.{zeros};
 ghost use Rattle.log_sectors.specs.Sealed.{header, sealed, opened, used_of};

@@ -1,3 +1,4 @@
+//! A chain that is read, and a sector as it is laid out.
 use crate::{read_chain, seal, unseal};
 use std::alloc::Global;
 use std::test::Fail;
@@ -33,7 +34,7 @@ fn read(
 #[test]
 fn a_chain_ends_where_the_epoch_or_the_sequence_is_another(rt: HostRuntime) -> Result<(), Fail> {
     let alloc = rt.alloc();
-    let rows: [(&[(u64, u64, &[u8])], u32, &[u8], u32); 5] = [
+    let rows: [(&[(u64, u64, &[u8])], u32, &[u8], u32); 3] = [
         (
             &[(4, 11, b"ab"), (4, 12, b"c"), (3, 13, b"d")],
             4,
@@ -41,13 +42,6 @@ fn a_chain_ends_where_the_epoch_or_the_sequence_is_another(rt: HostRuntime) -> R
             2,
         ),
         (&[(4, 11, b"ab"), (4, 13, b"c")], 4, b"ab", 1),
-        (&[(4, 10, b"ab")], 4, b"", 0),
-        (
-            &[(4, 11, b"ab"), (4, 12, b"c"), (4, 13, b"d")],
-            2,
-            b"abc",
-            2,
-        ),
         (
             &[(4, 11, b"a"), (4, 12, b"b"), (4, 13, b"c"), (4, 14, b"d")],
             4,

@@ -1,4 +1,4 @@
-// Writing bytes into log sectors.
+//! Writing bytes into log sectors.
 ghost use Rattle.std.specs.Prelude.{◌≡◌, ◌+◌, ◌*◌, ◌<◌, ◌≤◌, ◌^◌, length, IsTrue, IfOk, OnOk, OnErr};
 ghost use Rattle.model_disk.specs.Disk.{Stays, Within, Follows, WritesAtMost, FailedSince};
 ghost use Rattle.log_writer.specs.Log.{sectors_of, pieces, piece, Lays, HasLaid};
@@ -40,6 +40,7 @@ pub fn lay<D: Disk>(
     ensures follows { Follows (Lays at sequence epoch (pieces (sectors_of (length bytes.now)) bytes.now) (sectors_of (length bytes.now))) (D.state disk.old) (D.state disk.new) }
     ensures shown { OnOk result (IsTrue (D.state disk.old).tells → HasLaid at sequence epoch (pieces (sectors_of (length bytes.now)) bytes.now) (sectors_of (length bytes.now)) (D.state disk.old).shown (D.state disk.new).shown) }
     ensures writes { WritesAtMost (sectors_of (length bytes.now)) (D.state disk.old) (D.state disk.new) }
+    ensures no_fault { OnOk result ((D.state disk.new).faults ≡ (D.state disk.old).faults) }
     ensures cause { OnErr result (FailedSince (D.state disk.old) (D.state disk.new)) }
 {
     let count = sectors_of(bytes.len());

@@ -1,3 +1,4 @@
+//! The end of a log area.
 ghost use Rattle.std.specs.Prelude.{◌≡◌, ◌+◌, ◌<◌, ◌≤◌, ◌^◌, ◌++◌, [], length, IsTrue, IsOk, IfOk, OnOk, OnErr};
 ghost use Rattle.model_disk.specs.Disk.{Stays, Within, Follows, Only, WritesAtMost, FailedSince};
 ghost use Rattle.log_writer.specs.Log.{sectors_of, room_of, IsReady, AddsFront, AddsAll};
@@ -55,7 +56,7 @@ impl LogWriter {
         (self.count - self.place) as u64 * PAYLOAD_BYTES as u64 - self.appended.len() as u64
     }
 
-    /// Appends bytes.
+    /// Appends bytes, for which there must be room. Where it answers `Memory`, none is appended.
     pub fn append(&mut self, bytes: &[u8]) -> Result<(), Memory>
         requires { length bytes.now ≤ room_of self.old }
         ensures ok { OnOk result (self.new ≡ record self.old { appended = self.old.appended ++ bytes.now }) }
@@ -64,8 +65,8 @@ impl LogWriter {
         self.appended.extend_from_slice(bytes)
     }
 
-    /// Writes what was appended into sectors of its own, and syncs. The answer is how many sectors they are. After a
-    /// fault the writer is of no use.
+    /// Writes what was appended into sectors of its own, and syncs. The answer is how many sectors they are. `Disk` comes
+    /// exactly where the disk failed in the call; then the writer is of no use.
     pub fn force<D: Disk>(&mut self, disk: &mut D) -> Result<u32, DiskFault>
         requires area { self.old.first + self.old.count ≤ (D.state disk.old).size }
         requires sequences { self.old.sequence + self.old.count < 2 ^ 64 }
@@ -85,6 +86,7 @@ impl LogWriter {
 
         ensures writes { WritesAtMost (sectors_of (length self.old.appended)) (D.state disk.old) (D.state disk.new) }
         ensures nothing { self.old.appended ≡ [] → IsOk result × (disk.new ≡ disk.old) }
+        ensures no_fault { OnOk result ((D.state disk.new).faults ≡ (D.state disk.old).faults) }
         ensures cause { OnErr result (FailedSince (D.state disk.old) (D.state disk.new)) }
     {
         if self.appended.is_empty() {

@@ -1,3 +1,4 @@
+//! What is forced is read.
 use crate::LogWriter;
 use log_sectors::read_chain;
 use std::alloc::Global;
@@ -28,30 +29,5 @@ fn what_is_forced_is_read(rt: HostRuntime) -> Result<(), Fail> {
     let (bytes, sectors) = log_of(alloc, &mut disk)?;
     assert_eq!(rt; bytes.as_slice(), b"abc".as_slice());
     assert_eq!(rt; sectors, 1);
-    Ok(())
-}
-
-// A force of 4,065 bytes, of which the disk fails at the listed call: what each pick then leaves of the log.
-#[test]
-fn a_force_that_fails_leaves_a_front(rt: HostRuntime) -> Result<(), Fail> {
-    let alloc = rt.alloc();
-    let rows: [(u64, u64, usize); 7] = [
-        (1, 0, 0),
-        (1, 1, 4064),
-        (2, 0, 0),
-        (2, 1, 4064),
-        (2, 2, 0),
-        (3, 3, 4065),
-        (9, 0, 4065),
-    ];
-    for (fail_at, pick, length) in rows {
-        let mut disk = MemDisk::new(alloc, 8, [fail_at].to_vec(alloc)?)?;
-        let mut log = LogWriter::new(alloc, 2, 4, 11, 4);
-        log.append(&[7; 4065])?;
-        assert_eq!(rt; log.force(&mut disk).is_ok(), fail_at == 9);
-        disk.cut(pick);
-        let (bytes, _) = log_of(alloc, &mut disk)?;
-        assert_eq!(rt; bytes.len(), length);
-    }
     Ok(())
 }

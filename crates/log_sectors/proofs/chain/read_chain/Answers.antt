@@ -44,6 +44,7 @@ loop-place-preserved g c =
     record {
       keeps = keeps_on old mid new (g.met.D.Disk.is_disk c.args.disk.now) keeps c.read.ensures.keeps;
       until_stop = c.read.ensures.until_stop ∙ c.loop-place.invariant.until_stop;
+      faults = at_ok c.read.result (new.faults ≡ mid.faults) (sym c.if-is_err.ensures.value) c.read.ensures.no_fault ∙ c.loop-place.invariant.faults;
       payload = λ tells. joined_next (joined (chain c.args.count old.shown c.args.first c.args.sequence c.args.epoch)) c.loop-place.payload c.in-Some.bytes.now c.append.new.self _ _ (c.loop-place.invariant.payload tells) (link tells) made;
       sectors = λ tells. omega (arith, c.loop-place.invariant.sectors tells, ap (length {A = List ℕ}) (link tells));
     }

@@ -51,5 +51,6 @@ loop-place-preserved g c =
           has_laid_step c.args.at c.args.sequence c.args.epoch payloads n (c.args.at + n) old.shown mid.shown new.shown c.seal-sector.result refl
           (omega (arith, disk.shown_size, stays.size, c.requires.within, c.loop-place-test.true, c.sectors_of-count.ensures))
           is (c.loop-place.invariant.shown tells) (done.shown (subst (λ b. IsTrue b) (sym stays.tells) tells));
+      faults = at_ok c.write.result (new.faults ≡ mid.faults) (sym c.if-is_err.ensures.value) c.write.ensures.no_fault ∙ c.loop-place.invariant.faults;
       writes = omega (arith, c.loop-place.invariant.writes, c.write.ensures.tried.writes);
     }

@@ -13,5 +13,6 @@ invariant-loop-place g l =
       within : Within (Lays l.at l.sequence l.epoch payloads l.place) old now;
       follows : Follows (Lays l.at l.sequence l.epoch payloads l.place) old now;
       shown : IsTrue old.tells → HasLaid l.at l.sequence l.epoch payloads l.place old.shown now.shown;
+      faults : now.faults ≡ old.faults;
       writes : now.writes ≤ old.writes + l.place;
     }
