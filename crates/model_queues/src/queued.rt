@@ -1,3 +1,4 @@
+//! A message in the queues.
 use tm_types::Message;
 
 /// A message in the queues.

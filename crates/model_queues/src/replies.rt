@@ -1,3 +1,4 @@
+//! Replies that a terminal has not acknowledged.
 use std::collections::VecDeque;
 use std::marker::Model;
 use tm_types::{Name, Reply};

@@ -1,5 +1,5 @@
 //! Messages kept by their ids.
-ghost use Rattle.std.specs.Prelude.{◌≡◌, ◌+◌, ◌<◌, ◌^◌, OnOk, OnErr, IfErr, find, nat_lt, IfSome, IfNone};
+ghost use Rattle.std.specs.Prelude.{◌≡◌, ◌+◌, ◌<◌, ◌^◌, OnOk, OnErr, IfErr, find, nat_lt, None, IfSome, IfNone};
 ghost use Rattle.std.specs.Option.{option_copied, option_map, unwrap_or};
 ghost use Rattle.std.specs.Map.{values_of};
 ghost use Rattle.model_queues.specs.Room.{message_bytes, messages_bytes};
@@ -57,7 +57,7 @@ pub fn set_holder(
     requires { AreKeyed messages.old.entries }
     ensures value { values_of messages.new.entries ≡ with_holder id holder (values_of messages.old.entries) }
     ensures code { IfSome result (λ code. HasCode id code (values_of messages.old.entries)) }
-    ensures none { IfNone result (values_of messages.new.entries ≡ values_of messages.old.entries) }
+    ensures absent { IfNone result (queued_at id (values_of messages.old.entries) ≡ None) }
     ensures keyed { AreKeyed messages.new.entries }
 {
     match messages.get_mut(&id) {
@@ -76,7 +76,7 @@ pub fn remove(messages: &mut BTreeMap<u64, Queued>, id: u64) -> Option<Removed>
     ensures value { values_of messages.new.entries ≡ without id (values_of messages.old.entries) }
     ensures bytes { messages_bytes (messages_of (values_of messages.new.entries)) + unwrap_or (option_map (λ r. r.bytes) result) 0 ≡ messages_bytes (messages_of (values_of messages.old.entries)) }
     ensures code { IfSome result (λ r. HasCode id r.code (values_of messages.old.entries)) }
-    ensures none { IfNone result (values_of messages.new.entries ≡ values_of messages.old.entries) }
+    ensures absent { IfNone result (queued_at id (values_of messages.old.entries) ≡ None) }
     ensures keyed { AreKeyed messages.new.entries }
 {
     match messages.remove(&id) {

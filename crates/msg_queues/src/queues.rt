@@ -1,3 +1,4 @@
+//! The queues of all messages.
 ghost use Rattle.std.specs.Prelude.{◌≡◌, ◌+◌, ◌<◌, ◌≤◌, ◌^◌, [], Some, None, OnOk, OnErr, IfErr, IfOk, slice_get, find, nat_lt, IsSomeAnd, IsSome};
 ghost use Rattle.std.specs.Option.{option_copied, option_and_then};
 ghost use Rattle.model_queues.specs.Room.{message_bytes, messages_bytes, input_needs};
@@ -15,6 +16,8 @@ use tm_types::{Message, Name, Segment};
 
 /// The bytes that are kept free for each busy region.
 pub const SLOT_ROOM: u64 = 65_536;
+
+const _: () = prove!(SLOT_ROOM == 65_536);
 
 /// Why an input isn't taken. Either way the message comes back.
 #[derive(Debug, Drop, Error)]
@@ -151,7 +154,7 @@ impl Queues {
         ensures { self.new ≡ record self.old { queued = with_holder id (Some region) self.old.queued } }
     {
         let Some(code) = entries::set_holder(&mut self.messages, id, Some(region)) else {
-            return;
+            unreachable!()
         };
         index::set_held(&mut self.by_code, &code, id, true);
     }
@@ -162,7 +165,7 @@ impl Queues {
         ensures { self.new ≡ record self.old { queued = with_holder id None self.old.queued } }
     {
         let Some(code) = entries::set_holder(&mut self.messages, id, None) else {
-            return;
+            unreachable!()
         };
         index::set_held(&mut self.by_code, &code, id, false);
     }
@@ -173,7 +176,7 @@ impl Queues {
         ensures { self.new ≡ record self.old { queued = without id self.old.queued } }
     {
         let Some(removed) = entries::remove(&mut self.messages, id) else {
-            return;
+            unreachable!()
         };
         index::remove(&mut self.by_code, &removed.code, id);
         self.content -= removed.bytes;

@@ -1,5 +1,8 @@
 //! The output queues: for each terminal the replies that it hasn't acknowledged, under their
 //! numbers.
+//!
+//! Each call changes or shows the list of specs/Outputs of `model_queues`, in which the numbers of a
+//! terminal follow one another. After a refusal nothing changed.
 #![tactic(auto)]
 
 pub use model_queues::{Replies, TerminalReplies};

@@ -1,3 +1,4 @@
+//! The replies of all terminals.
 ghost use Rattle.std.specs.Prelude.{◌≡◌, ◌+◌, ◌<◌, ◌≤◌, ◌^◌, [], map, OnOk, OnErr, IfErr, IfOk, IsSomeAnd, length, slice_get};
 ghost use Rattle.std.specs.List.{AllByRecursion};
 ghost use Rattle.std.specs.Option.{option_copied, is_some};

@@ -1,3 +1,4 @@
+//! Replies that are kept and acknowledged.
 ghost use Rattle.std.specs.Prelude.{◌<◌, IfOk};
 ghost use Rattle.tm_types.specs.Segment.{counted_bytes};
 
@@ -27,13 +28,5 @@ fn keeps_replies_until_they_are_acknowledged(rt: HostRuntime) -> Result<(), Fail
     assert_eq!(rt; outputs.content(), 116);
     assert_eq!(rt; outputs.first(&name).map(|reply| reply.number), Some(1));
     assert_eq!(rt; outputs.reply(&name, 1).map(|reply| reply.number), Some(2));
-
-    let ahead = outputs.acknowledge(&name, 2);
-    assert!(rt; matches!(&ahead, Err(AckAhead { first: 1 })));
-    assert!(rt; matches!(&outputs.acknowledge(&name, 1), Ok(Acked::Removed)));
-    assert!(rt; matches!(&outputs.acknowledge(&name, 1), Ok(Acked::Already)));
-    assert!(rt; matches!(&outputs.acknowledge(&name, 2), Ok(Acked::Removed)));
-    assert!(rt; matches!(&outputs.acknowledge(&name, 3), Err(AckAhead { first: 3 })));
-    assert_eq!(rt; outputs.content(), 0);
     Ok(())
 }

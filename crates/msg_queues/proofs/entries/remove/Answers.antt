@@ -47,3 +47,6 @@ returns-in-None-clause-bytes c =
 pub returns-in-None-clause-keyed : goal.returns-in-None-clause-keyed
 returns-in-None-clause-keyed c =
     keyed_removed c.args.id c.args.messages.now.entries c.remove.new.self.entries c.requires.keyed c.remove.ensures.entries c.remove.ensures.ordered
+
+pub returns-in-None-clause-absent : goal.returns-in-None-clause-absent
+returns-in-None-clause-absent c = found_is c.args.id c.args.messages.now.entries c.requires.keyed.each ∙ sym c.in-None.ensures.value

@@ -1,6 +1,6 @@
 use Rattle.std.proofs.Common.{sym, ap, ◌∙◌}
 use Rattle.std.specs.Map.{values_of}
-use Rattle.msg_queues.proofs.ById.{holder_set, holder_none, keyed_set}
+use Rattle.msg_queues.proofs.ById.{found_is, holder_set, holder_none, keyed_set}
 use Rattle.msg_queues.proofs.Indexed.{has_code}
 use Rattle.msg_queues.proofs.entries.set_holder.Goals as goal
 
@@ -20,3 +20,6 @@ pub returns-in-None-clause-value : goal.returns-in-None-clause-value
 returns-in-None-clause-value c =
     let es = c.args.messages.now.entries in
     ap (λ m. values_of m.entries) c.get_mut.follows.holds-at-none ∙ sym (holder_none c.args.id c.args.holder es c.requires.each (sym c.in-None.ensures.value))
+
+pub returns-in-None-clause-absent : goal.returns-in-None-clause-absent
+returns-in-None-clause-absent c = found_is c.args.id c.args.messages.now.entries c.requires.each ∙ sym c.in-None.ensures.value
