@@ -3,5 +3,4 @@ pub mod Pcbs
 pub mod System
 pub mod Codes
 pub mod CodeStates
-pub mod Valid
 pub mod Jobs

@@ -1,7 +1,7 @@
 -- One step up from a segment.
 use Rattle.std.proofs.Common.{ℕ, suc, ◌≡◌, ◌+◌, ◌-◌, ◌<◌, ◌≤◌, ◌||◌, List, Some, None, Option, false, refl, arith}
 use Rattle.std.specs.Str.{bytes_eq}
-use Rattle.sysdef_check.specs.declared.definition.MacroLine.{MacroLine}
+use Rattle.system_types.specs.declared.definition.MacroLine.{MacroLine}
 use Rattle.sysdef_check.specs.Lookups.{parent_named}
 use Rattle.sysdef_check.specs.Calls.{is_above}
 

@@ -1,7 +1,7 @@
 -- One line more is counted.
 use Rattle.std.proofs.Common.{◌≡◌, ℕ, ◌+◌, ◌<◌, true, false, List, length, take, get_or, sym, ap, ◌∙◌}
 use Rattle.std.proofs.lemmas.List.Sums.{count_by_more_yes, count_by_more_no}
-use Rattle.sysdef_check.specs.declared.definition.MacroLine.{MacroLine}
+use Rattle.system_types.specs.declared.definition.MacroLine.{MacroLine}
 use Rattle.sysdef_check.specs.declared.lookups.MacroKind.{MacroKind}
 use Rattle.sysdef_check.specs.Lookups.{count, is_of}
 

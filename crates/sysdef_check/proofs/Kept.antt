@@ -1,10 +1,11 @@
 -- A rule that no macro breaks is kept by each.
-use Rattle.std.proofs.Common.{ℕ, zero, suc, ◌≡◌, ◌+◌, ◌-◌, ◌<◌, Bool, true, false, List, [], ◌∷◌, ◌++◌, length, take, drop, get_or, slice_get, Option, Some, None, Result, Ok, Err, IsTrue, refl, sym, subst, ap, ◌∙◌, arith, drop-cons, add-one, length-drop, ◌&&◌}
+use Rattle.std.proofs.Common.{ℕ, zero, suc, ◌≡◌, ◌+◌, ◌-◌, ◌<◌, Bool, true, false, List, [], ◌∷◌, ◌++◌, length, take, drop, get_or, slice_get, All, Option, Some, None, Result, Ok, Err, IsTrue, refl, sym, subst, ap, ◌∙◌, arith, drop-cons, add-one, length-drop, ◌&&◌}
 use Rattle.std.specs.List.{list_all}
 use Rattle.std.specs.Option.{option_or}
 use Rattle.std.proofs.lemmas.Bool.{false≢true}
 use Rattle.std.proofs.lemmas.List.{take_all, take_more}
-use Rattle.sysdef_check.specs.declared.definition.MacroLine.{MacroLine}
+use Rattle.std.proofs.lemmas.List.Elements.{All-drop, All-take}
+use Rattle.system_types.specs.declared.definition.MacroLine.{MacroLine}
 use Rattle.sysdef_check.specs.declared.cross.CrossRule.{CrossRule}
 use Rattle.sysdef_check.specs.declared.cross.CrossRule.TheVariants.{OfSegments, WrongCount, SecondRegion}
 use Rattle.sysdef_check.specs.declared.segments.SegmentRule.{SegmentRule}
@@ -17,7 +18,7 @@ pub neither : (a b : Option ℕ) → option_or a b ≡ None → (a ≡ None) × 
 neither None b h = (refl, h)
 neither (Some n) b h = cc
 
-not_broken : (line : MacroLine) (b : Bool) → own_line line b ≡ None → b ≡ false
+pub not_broken : (line : MacroLine) (b : Bool) → own_line line b ≡ None → b ≡ false
 not_broken line false h = refl
 not_broken line true h = cc
 
@@ -50,7 +51,7 @@ kept_segment rule segments lines index line h e kept =
     (subst (λ (ls : List MacroLine). first_segment rule segments (take index lines) ls ≡ None) cut kept) in
     (not_broken line (breaks_segment rule segments (take index lines) line.content) both.0, subst (λ (ls : List MacroLine). first_segment rule segments ls (drop (index + 1) lines) ≡ None) (sym more) both.1)
 
-and_parts : (a b : Bool) → (a && b) ≡ true → (a ≡ true) × (b ≡ true)
+pub and_parts : (a b : Bool) → (a && b) ≡ true → (a ≡ true) × (b ≡ true)
 and_parts true b h = (refl, h)
 and_parts false b h = absurd (false≢true h)
 
@@ -105,3 +106,11 @@ kept_region all before line behind h = not_broken line (breaks_region all before
 -- the lines behind an index, as a slice of them
 pub behind_index : (lines : List MacroLine) (index : ℕ) → take (length lines - index) (drop index lines) ≡ drop index lines
 behind_index lines index = take_all (length lines - index) (drop index lines) (omega (arith, length-drop index lines))
+
+-- what holds of each line holds of the one at an index
+pub at_index : (P : MacroLine → Type 0) (lines : List MacroLine) (index : ℕ) (line : MacroLine) → index < length lines → line ≡ get_or lines index line → All P lines → P line
+at_index P lines index line h e all = subst P (sym e) (all index line h)
+
+-- what holds of each line holds of those behind an index
+pub behind_all : (P : MacroLine → Type 0) (lines : List MacroLine) (index : ℕ) → All P lines → All P (take (length lines - index) (drop index lines))
+behind_all P lines index all = All-take P (length lines - index) (drop index lines) (All-drop P index lines all)

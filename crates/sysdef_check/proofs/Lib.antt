@@ -1,4 +1,3 @@
-pub mod RaisedFlag
 pub mod Counted
 pub mod Fronts
 pub mod Ancestors
@@ -6,3 +5,9 @@ pub mod Types
 pub mod Kept
 pub mod Limits
 pub mod Indexed
+pub mod Defines
+pub mod Made
+pub mod Served
+pub mod Dbds
+pub mod Paths
+pub mod Servable

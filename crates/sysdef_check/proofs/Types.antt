@@ -5,9 +5,10 @@ use Rattle.std.specs.Option.{option_map_or}
 use Rattle.std.proofs.lemmas.Bool.{false≢true, ltb-false}
 use Rattle.tm_types.specs.declared.dbd.SegType.{SegType}
 use Rattle.tm_types.specs.SegTypes.{IsTypeAt}
-use Rattle.sysdef_check.specs.declared.definition.Macro.{Macro}
-use Rattle.sysdef_check.specs.declared.definition.Macro.TheVariants.{Segment}
-use Rattle.sysdef_check.specs.declared.definition.MacroLine.{MacroLine}
+use Rattle.system_types.specs.declared.definition.Macro.{Macro}
+use Rattle.system_types.specs.declared.definition.Macro.TheVariants.{Segment}
+use Rattle.system_types.specs.declared.definition.MacroLine.{MacroLine}
+use Rattle.system_types.specs.Definitions.{IsInRange}
 use Rattle.sysdef_check.specs.Lookups.{is_segment}
 use Rattle.sysdef_check.specs.Segments.{breaks_key, breaks_parent}
 use Rattle.sysdef_check.specs.Systems.{and_then, parent_number, type_in, types_in, database_in, databases_in}
@@ -50,13 +51,13 @@ parent_numbers (line ∷ before) name (Some parent) key bytes p =
     numbers_by (parent_number (line ∷ before) (Some parent)) (position_or_len test (line ∷ before)) (length (line ∷ before))
     (place_number (position_or_len test (line ∷ before)) (length (line ∷ before)) (nat_lt (position_or_len test (line ∷ before)) (length (line ∷ before))) refl h) h
 
-pub type_fits : (before : List MacroLine) (content : Macro) → breaks_parent before content ≡ false → breaks_key content ≡ false
-    → IfSome (type_in before content) (λ s. 1 ≤ s.key → s.key ≤ 32 → IsTypeAt (length before) s)
+pub type_fits : (before : List MacroLine) (content : Macro) → breaks_parent before content ≡ false → breaks_key content ≡ false → IsInRange content
+    → IfSome (type_in before content) (IsTypeAt (length before))
 unfolding breaks_key
-type_fits before (Segment name parent key bytes) p k =
+type_fits before (Segment name parent key bytes) p k range =
     let n = parent_numbers before name parent key bytes p in
-    λ low high. record { root = n.0; parent = n.1; key_least = low; key_most = high; key_within = ltb-false bytes key k }
-type_fits before _ p k = tt
+    record { root = n.0; parent = n.1; key_least = range.0; key_most = range.1; key_within = ltb-false bytes key k }
+type_fits before _ p k range = tt
 
 before_rest : {A : Type 0} (value : Option A) (values : List A) → and_then value [] ++ values ≡ and_then value values
 before_rest (Some value) values = refl

@@ -3,39 +3,21 @@ use Rattle.std.specs.Prelude.{ℕ, zero, suc, nat_le, Bool, true, false, ◌&&�
 use Rattle.std.specs.Option.{option_map}
 use Rattle.std.specs.Str.{bytes_eq}
 use Rattle.tm_types.specs.declared.function.Function.{Function}
-use Rattle.tm_types.specs.declared.function.Function.TheVariants.{GU, GN, GNP, GHU, GHN, GHNP, ISRT, REPL, DLET, PURG, CHNG}
+use Rattle.tm_types.specs.declared.function.Function.TheVariants.{ISRT}
 use Rattle.model_script.specs.declared.program.ScriptLine.{ScriptLine}
 use Rattle.model_script.specs.declared.script_ssa.ScriptSsa.{ScriptSsa}
-use Rattle.model_script.specs.declared.script_ssa.ScriptSsa.TheVariants.{Any, Equal, AtLeast}
+use Rattle.model_script.specs.declared.script_ssa.ScriptSsa.TheVariants.{Any, Equal}
 use Rattle.model_script.specs.declared.statement.Statement.{Statement}
 use Rattle.model_script.specs.declared.statement.Statement.TheVariants.{Call}
-use Rattle.sysdef_check.specs.declared.definition.Macro.{Macro}
-use Rattle.sysdef_check.specs.declared.definition.Macro.TheVariants.{DatabasePcb, DestinationPcb, ModifiablePcb, Program}
-use Rattle.sysdef_check.specs.declared.definition.MacroLine.{MacroLine}
+use Rattle.system_types.specs.declared.definition.Macro.{Macro}
+use Rattle.system_types.specs.declared.definition.Macro.TheVariants.{DatabasePcb, DestinationPcb, ModifiablePcb, Program}
+use Rattle.system_types.specs.declared.definition.MacroLine.{MacroLine}
 use Rattle.sysdef_check.specs.declared.calls.CallRule.{CallRule}
 use Rattle.sysdef_check.specs.declared.calls.CallRule.TheVariants.{PcbMissing, SsaAstray, NoInsertPath}
+use Rattle.system_types.specs.Calls.{is_database_function, is_output_function, segment_name}
 use Rattle.sysdef_check.specs.Lookups.{has, is_segment, segments_of, pcbs_of, numbered, parent_named}
 
--- A database PCB has the gets, ISRT, REPL and DLET.
-abbrev pub is_database_function : Function → Bool
-is_database_function GU = true
-is_database_function GN = true
-is_database_function GNP = true
-is_database_function GHU = true
-is_database_function GHN = true
-is_database_function GHNP = true
-is_database_function ISRT = true
-is_database_function REPL = true
-is_database_function DLET = true
-is_database_function _ = false
-
--- A PCB for output has ISRT, PURG and CHNG.
-abbrev pub is_output_function : Function → Bool
-is_output_function ISRT = true
-is_output_function PURG = true
-is_output_function CHNG = true
-is_output_function _ = false
-
+-- which functions a PCB has
 abbrev pub pcb_has : Macro → Function → Bool
 pcb_has (DatabasePcb database options) function = is_database_function function
 pcb_has (DestinationPcb destination) function = is_output_function function
@@ -59,12 +41,6 @@ segments_in all _ = None
 abbrev pub segments_at : List MacroLine → Option MacroLine → Option (List MacroLine)
 segments_at all (Some line) = segments_in all line.content
 segments_at all None = None
-
--- the segment that an argument names
-abbrev pub segment_name : ScriptSsa → List ℕ
-segment_name (Any name) = name
-segment_name (Equal name x) = name
-segment_name (AtLeast name x) = name
 
 -- within so many steps from a segment's parent up there stands this one
 abbrev pub is_above : List MacroLine → List ℕ → ℕ → Option (List ℕ) → Bool

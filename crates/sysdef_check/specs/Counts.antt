@@ -1,9 +1,9 @@
 -- How many macros of each kind there are.
 use Rattle.std.specs.Prelude.{ℕ, Bool, false, ◌||◌, ◌==◌, List, nat_le, slice_get, Option, None}
 use Rattle.std.specs.Option.{option_map, option_or}
-use Rattle.sysdef_check.specs.declared.definition.Macro.{Macro}
-use Rattle.sysdef_check.specs.declared.definition.Macro.TheVariants.{Database, Application, Transaction, Terminal, Region, Program, End}
-use Rattle.sysdef_check.specs.declared.definition.MacroLine.{MacroLine}
+use Rattle.system_types.specs.declared.definition.Macro.{Macro}
+use Rattle.system_types.specs.declared.definition.Macro.TheVariants.{Database, Application, Transaction, Terminal, Region, Program, End}
+use Rattle.system_types.specs.declared.definition.MacroLine.{MacroLine}
 use Rattle.sysdef_check.specs.declared.lookups.MacroKind.TheVariants.{Databases, Segments, Pcbs, Codes, Terminals, Regions, Programs}
 use Rattle.sysdef_check.specs.Lookups.{count, front}
 use Rattle.sysdef_check.specs.Segments.{own_line}

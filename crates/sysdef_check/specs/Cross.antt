@@ -1,9 +1,9 @@
 -- The rules that macros keep among each other.
 use Rattle.std.specs.Prelude.{ℕ, Bool, false, ◌&&◌, ◌||◌, not, List, [], ◌∷◌, ◌++◌, nat_le, Option, Some, None, Result, Ok, Err}
 use Rattle.std.specs.Option.{option_or}
-use Rattle.sysdef_check.specs.declared.definition.Macro.{Macro}
-use Rattle.sysdef_check.specs.declared.definition.Macro.TheVariants.{Database, Application, DatabasePcb, DestinationPcb, Transaction, Terminal, Region, Program}
-use Rattle.sysdef_check.specs.declared.definition.MacroLine.{MacroLine}
+use Rattle.system_types.specs.declared.definition.Macro.{Macro}
+use Rattle.system_types.specs.declared.definition.Macro.TheVariants.{Database, Application, DatabasePcb, DestinationPcb, Transaction, Terminal, Region, Program}
+use Rattle.system_types.specs.declared.definition.MacroLine.{MacroLine}
 use Rattle.sysdef_check.specs.declared.lookups.MacroKind.TheVariants.{Databases, Regions}
 use Rattle.sysdef_check.specs.declared.segments.SegmentRule.TheVariants.{Twice, ParentAstray, KeyTooLong, LevelTooHigh}
 use Rattle.sysdef_check.specs.declared.calls.CallRule.TheVariants.{PcbMissing, SsaAstray, NoInsertPath}

@@ -3,11 +3,9 @@ use Rattle.std.specs.Prelude.{◌≡◌, ℕ, Bool, List, Option, position}
 use Rattle.std.specs.declared.cmp.Ordering.{Ordering}
 use Rattle.std.specs.Ordering.{nat_cmp}
 use Rattle.std.specs.Cmp.Lexicographic.{slice_cmp}
-use Rattle.std.specs.Str.{bytes_eq}
 use Rattle.std.specs.BTreeMap.{BTreeMap, get}
-use Rattle.model_system.specs.declared.code.Code.{Code}
-use Rattle.sysdef_check.specs.declared.definition.Macro.{Macro}
-use Rattle.sysdef_check.specs.declared.definition.MacroLine.{MacroLine}
+use Rattle.system_types.specs.declared.definition.Macro.{Macro}
+use Rattle.system_types.specs.declared.definition.MacroLine.{MacroLine}
 use Rattle.sysdef_check.specs.Lookups.{is_database, is_application, is_code, is_terminal, is_program}
 
 abbrev pub name_cmp : List ℕ → List ℕ → Ordering
@@ -20,10 +18,6 @@ place_in index name = get name_cmp index name
 -- the index of a list by a test of names
 pub record IsIndex {X : Type 0} (has_name : List ℕ → X → Bool) (index : BTreeMap (List ℕ) ℕ) (items : List X) : Type 0 where
   pub places : (name : List ℕ) → place_in index name ≡ position (has_name name) items
-
--- a code has this name
-abbrev pub has_code_name : List ℕ → Code → Bool
-has_code_name name code = bytes_eq code.transaction.code name
 
 -- the line has a macro of this name
 abbrev pub on_line : (List ℕ → Macro → Bool) → List ℕ → MacroLine → Bool

@@ -4,5 +4,4 @@ pub mod Calls
 pub mod Counts
 pub mod Cross
 pub mod Systems
-pub mod Codes
 pub mod Indexes

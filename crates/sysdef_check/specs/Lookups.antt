@@ -3,9 +3,9 @@ use Rattle.std.specs.Prelude.{ℕ, ◌+◌, ◌-◌, ◌==◌, Bool, true, false
 use Rattle.std.specs.List.{list_any}
 use Rattle.std.specs.Option.{option_map_or}
 use Rattle.std.specs.Str.{bytes_eq}
-use Rattle.sysdef_check.specs.declared.definition.Macro.{Macro}
-use Rattle.sysdef_check.specs.declared.definition.Macro.TheVariants.{Database, Segment, Application, DatabasePcb, DestinationPcb, ModifiablePcb, Transaction, Terminal, Region, Program}
-use Rattle.sysdef_check.specs.declared.definition.MacroLine.{MacroLine}
+use Rattle.system_types.specs.declared.definition.Macro.{Macro}
+use Rattle.system_types.specs.declared.definition.Macro.TheVariants.{Database, Segment, Application, DatabasePcb, DestinationPcb, ModifiablePcb, Transaction, Terminal, Region, Program}
+use Rattle.system_types.specs.declared.definition.MacroLine.{MacroLine}
 use Rattle.sysdef_check.specs.declared.lookups.MacroKind.{MacroKind}
 use Rattle.sysdef_check.specs.declared.lookups.MacroKind.TheVariants.{Databases, Segments, Pcbs, Codes, Terminals, Regions, Programs}
 

@@ -1,9 +1,9 @@
 -- The rules on the segments of a database.
 use Rattle.std.specs.Prelude.{ℕ, zero, suc, nat_lt, Bool, false, not, List, [], ◌∷◌, ◌++◌, Option, Some, None, is_some, if◌then◌else◌}
 use Rattle.std.specs.Option.{option_or}
-use Rattle.sysdef_check.specs.declared.definition.Macro.{Macro}
-use Rattle.sysdef_check.specs.declared.definition.Macro.TheVariants.{Database, Segment}
-use Rattle.sysdef_check.specs.declared.definition.MacroLine.{MacroLine}
+use Rattle.system_types.specs.declared.definition.Macro.{Macro}
+use Rattle.system_types.specs.declared.definition.Macro.TheVariants.{Database, Segment}
+use Rattle.system_types.specs.declared.definition.MacroLine.{MacroLine}
 use Rattle.sysdef_check.specs.declared.lookups.MacroKind.TheVariants.{Segments}
 use Rattle.sysdef_check.specs.declared.segments.SegmentRule.{SegmentRule}
 use Rattle.sysdef_check.specs.declared.segments.SegmentRule.TheVariants.{Twice, ParentAstray, KeyTooLong, LevelTooHigh}

@@ -6,9 +6,9 @@ use Rattle.tm_types.specs.declared.dbd.Dbd.{Dbd}
 use Rattle.tm_types.specs.declared.dbd.SegType.{SegType}
 use Rattle.sysdef_check.specs.declared.system_check.CrossRefused.{CrossRefused}
 use Rattle.sysdef_check.specs.declared.system_check.CrossRefused.TheVariants.{BadCross, Memory}
-use Rattle.sysdef_check.specs.declared.definition.Macro.{Macro}
-use Rattle.sysdef_check.specs.declared.definition.Macro.TheVariants.{Control, Database, Segment, Application, DatabasePcb, DestinationPcb, ModifiablePcb, Transaction, Terminal, Region, Program}
-use Rattle.sysdef_check.specs.declared.definition.MacroLine.{MacroLine}
+use Rattle.system_types.specs.declared.definition.Macro.{Macro}
+use Rattle.system_types.specs.declared.definition.Macro.TheVariants.{Control, Database, Segment, Application, DatabasePcb, DestinationPcb, ModifiablePcb, Transaction, Terminal, Region, Program}
+use Rattle.system_types.specs.declared.definition.MacroLine.{MacroLine}
 use Rattle.sysdef_check.specs.declared.lookups.MacroKind.TheVariants.{Segments}
 use Rattle.model_system.specs.declared.code.Code.{Code}
 use Rattle.model_system.specs.declared.pcb.Pcb.{Pcb}

@@ -1,19 +1,31 @@
+//! The system that macros define.
 ghost use Rattle.std.specs.Prelude.{◌≡◌, ◌<◌, Ok, None, IfOk, length, map};
+ghost use Rattle.system_types.specs.Definitions.{IsDefinition};
+ghost use Rattle.system_types.specs.Parts.{parts_of};
 ghost use Rattle.sysdef_check.specs.Cross.{cross_rules};
 ghost use Rattle.sysdef_check.specs.Systems as spec;
 
 use crate::databases::{databases_in, pcbs_in};
-use crate::indexes::codes_by_name;
 use crate::lookups::pcbs_of;
-use crate::{Macro, MacroLine, System};
+use crate::{Macro, MacroLine};
 use model_system::{Classes, Code, Pcbs, SystemProgram};
 use std::alloc::{AllocError, Global};
+use system_types::{System, SystemParts};
 use tm_types::{Dbd, Name};
 
 /// The system that the macros define, which break no rule among each other.
 pub(crate) fn system_of(alloc: Global, lines: Vec<MacroLine>) -> Result<System, AllocError>
+    requires definition { IsDefinition lines.items }
     requires kept { cross_rules lines.items ≡ Ok tt }
     ensures { IfOk result (λ system. system ≡ spec.system_of lines.items) }
+{
+    System::new(alloc, parts_in(alloc, lines)?)
+}
+
+fn parts_in(alloc: Global, lines: Vec<MacroLine>) -> Result<SystemParts, AllocError>
+    requires definition { IsDefinition lines.items }
+    requires kept { cross_rules lines.items ≡ Ok tt }
+    ensures { IfOk result (λ parts. parts_of parts ≡ spec.system_of lines.items) }
 {
     let (qbytes, logs) = control_in(&lines);
     let databases = databases_in(alloc, &lines)?;
@@ -22,8 +34,7 @@ pub(crate) fn system_of(alloc: Global, lines: Vec<MacroLine>) -> Result<System, 
     let regions = regions_in(alloc, &lines)?;
     let pcbs = pcb_lists(alloc, &databases, &lines)?;
     let programs = programs_in(alloc, lines, pcbs)?;
-    let codes_by_name = codes_by_name(alloc, &codes)?;
-    Ok(System {
+    Ok(SystemParts {
         qbytes,
         logs,
         databases,
@@ -31,7 +42,6 @@ pub(crate) fn system_of(alloc: Global, lines: Vec<MacroLine>) -> Result<System, 
         codes,
         terminals,
         regions,
-        codes_by_name,
     })
 }
 

@@ -1,6 +1,8 @@
+//! The rules on the calls of a program.
 ghost use Rattle.std.specs.Prelude.{◌≡◌, None};
 ghost use Rattle.std.specs.Option.{option_copied};
 ghost use Rattle.sysdef_check.specs.Lookups.{numbered};
+ghost use Rattle.system_types.specs.Calls.{is_database_function, is_output_function, segment_name};
 ghost use Rattle.sysdef_check.specs.Calls as spec;
 
 use crate::lookups::{has_segment, numbered, parent_named, pcbs_of, segments_of};
@@ -21,7 +23,7 @@ pub enum CallRule {
 }
 
 fn is_database_function(function: Function) -> bool
-    ensures { result ≡ spec.is_database_function function }
+    ensures { result ≡ is_database_function function }
 {
     !matches!(
         function,
@@ -30,7 +32,7 @@ fn is_database_function(function: Function) -> bool
 }
 
 fn is_output_function(function: Function) -> bool
-    ensures { result ≡ spec.is_output_function function }
+    ensures { result ≡ is_output_function function }
 {
     matches!(function, Function::ISRT | Function::PURG | Function::CHNG)
 }
@@ -83,7 +85,7 @@ fn segments_at<'a>(all: &'a [MacroLine], pcbs: &[MacroLine], number: u8) -> Opti
 }
 
 fn segment_name(ssa: &ScriptSsa) -> &Name
-    ensures { result.now ≡ spec.segment_name ssa.now }
+    ensures { result.now ≡ segment_name ssa.now }
 {
     match ssa {
         ScriptSsa::Any(name) | ScriptSsa::Equal(name, _) | ScriptSsa::AtLeast(name, _) => name,

@@ -1,3 +1,4 @@
+//! The rules on how many macros there are.
 ghost use Rattle.std.specs.Prelude.{◌≡◌};
 ghost use Rattle.std.specs.Option.{option_copied};
 ghost use Rattle.sysdef_check.specs.Counts as spec;

@@ -1,3 +1,4 @@
+//! The rules that macros keep among each other, in their order.
 ghost use Rattle.std.specs.Prelude.{◌≡◌, [], IfOk};
 ghost use Rattle.sysdef_check.specs.Segments.{own_line};
 ghost use Rattle.sysdef_check.specs.Cross as spec;

@@ -1,3 +1,4 @@
+//! The databases that macros define, and the PCBs of a PSB.
 ghost use Rattle.std.specs.Prelude.{◌≡◌, ◌+◌, ◌<◌, ◌≤◌, [], ◌++◌, true, false, None, IfOk, IfSome, OnOk, IsTrue, All, length, position};
 ghost use Rattle.std.specs.List.{list_all};
 ghost use Rattle.std.specs.Str.{bytes_eq};
@@ -7,6 +8,7 @@ ghost use Rattle.sysdef_check.specs.declared.segments.SegmentRule.TheVariants.{P
 ghost use Rattle.sysdef_check.specs.Counts.{past_limit};
 ghost use Rattle.sysdef_check.specs.Cross.{first_line};
 ghost use Rattle.sysdef_check.specs.Lookups.{is_of};
+ghost use Rattle.system_types.specs.Definitions.{IsInRange};
 ghost use Rattle.sysdef_check.specs.Segments.{breaks_key, breaks_parent, broken_by_segment, first_segment};
 ghost use Rattle.sysdef_check.specs.Systems as spec;
 
@@ -29,8 +31,7 @@ fn parent_number(before: &[MacroLine], parent: &Option<Name>) -> u8
 /// The type of a segment behind those before it.
 fn type_in(before: &[MacroLine], content: &Macro) -> Option<SegType>
     requires { length before.now < 256 }
-    ensures value { result ≡ spec.type_in before.now content.now }
-    ensures key { IfSome result (λ segment. (1 ≤ segment.key) × (segment.key ≤ 32)) }
+    ensures { result ≡ spec.type_in before.now content.now }
 {
     match content {
         Macro::Segment {
@@ -41,7 +42,7 @@ fn type_in(before: &[MacroLine], content: &Macro) -> Option<SegType>
         } => Some(SegType {
             name: *name,
             parent: parent_number(before, parent),
-            key: key.bytes(),
+            key: *key,
             bytes: *bytes,
         }),
         _ => None,
@@ -49,13 +50,13 @@ fn type_in(before: &[MacroLine], content: &Macro) -> Option<SegType>
 }
 
 /// Adds the type of a segment behind those before it.
-
 fn add_type(types: &mut SegTypes, before: &[MacroLine], content: &Macro) -> Result<(), AllocError>
     requires few { length before.now < 256 }
     requires place { length types.old ≡ length before.now }
     requires segment { is_of Segments content.now ≡ true }
     requires parent { breaks_parent before.now content.now ≡ false }
     requires key { breaks_key content.now ≡ false }
+    requires range { IsInRange content.now }
     ensures value { OnOk result (types.new ≡ types.old ++ spec.and_then (spec.type_in before.now content.now) []) }
     ensures counted { OnOk result (length types.new ≡ length types.old + 1) }
 {
@@ -71,8 +72,8 @@ fn types_in(alloc: Global, segments: &[MacroLine]) -> Result<SegTypes, AllocErro
     requires parents { first_segment ParentAstray segments.now [] segments.now ≡ None }
     requires keys { first_segment KeyTooLong segments.now [] segments.now ≡ None }
     requires few { length segments.now ≤ 16 }
-    ensures value { IfOk result (λ types. types ≡ spec.types_in [] segments.now) }
-    ensures few { IfOk result (λ types. length types ≤ 16) }
+    requires range { All (λ line. IsInRange line.content) segments.now }
+    ensures { IfOk result (λ types. types ≡ spec.types_in [] segments.now) }
 {
     let mut types = SegTypes::new(alloc);
     for (index, line) in segments.iter().enumerate() {
@@ -90,8 +91,8 @@ fn database_in(
     requires parents { broken_by_segment ParentAstray line.now line.now.content behind.now ≡ None }
     requires keys { broken_by_segment KeyTooLong line.now line.now.content behind.now ≡ None }
     requires few { past_limit line.now.content behind.now ≡ None }
-    ensures value { IfOk result (λ database. database ≡ spec.database_in line.now.content behind.now) }
-    ensures few { IfOk result (λ database. IfSome database (λ d. length d.types ≤ 16)) }
+    requires range { All (λ l. IsInRange l.content) behind.now }
+    ensures { IfOk result (λ database. database ≡ spec.database_in line.now.content behind.now) }
 {
     match &line.content {
         Macro::Database { name, roots } => Ok(Some(Dbd {
@@ -114,9 +115,8 @@ fn add_database(
     requires parents { broken_by_segment ParentAstray line.now line.now.content behind.now ≡ None }
     requires keys { broken_by_segment KeyTooLong line.now line.now.content behind.now ≡ None }
     requires few { past_limit line.now.content behind.now ≡ None }
-    requires few_types { All (λ d. length d.types ≤ 16) databases.old.items }
-    ensures value { OnOk result (databases.new.items ≡ databases.old.items ++ spec.and_then (spec.database_in line.now.content behind.now) []) }
-    ensures few_types { OnOk result (All (λ d. length d.types ≤ 16) databases.new.items) }
+    requires range { All (λ l. IsInRange l.content) behind.now }
+    ensures { OnOk result (databases.new.items ≡ databases.old.items ++ spec.and_then (spec.database_in line.now.content behind.now) []) }
 {
     match database_in(alloc, line, behind)? {
         Some(database) => databases.push(database)?,
@@ -130,8 +130,8 @@ pub(crate) fn databases_in(alloc: Global, lines: &[MacroLine]) -> Result<Vec<Dbd
     requires parents { first_line (OfSegments ParentAstray) lines.now [] lines.now ≡ None }
     requires keys { first_line (OfSegments KeyTooLong) lines.now [] lines.now ≡ None }
     requires counts { first_line WrongCount lines.now [] lines.now ≡ None }
-    ensures value { IfOk result (λ databases. databases.items ≡ spec.databases_in lines.now) }
-    ensures few_types { IfOk result (λ databases. All (λ d. length d.types ≤ 16) databases.items) }
+    requires range { All (λ line. IsInRange line.content) lines.now }
+    ensures { IfOk result (λ databases. databases.items ≡ spec.databases_in lines.now) }
 {
     let mut databases = Vec::new(alloc);
     for (index, line) in lines.iter().enumerate() {

@@ -1,3 +1,4 @@
+//! Macros with indexes of their names.
 ghost use Rattle.std.specs.Prelude.{◌≡◌, [], ◌∷◌, ◌++◌, ℕ, List, Some, None, IfOk, OnOk, cond, is_some};
 ghost use Rattle.std.specs.Option.{option_or};
 ghost use Rattle.sysdef_check.specs.Indexes.{place_in};
@@ -23,7 +24,7 @@ pub(crate) struct NamedMacros<'a> {
 
 impl<'a> Model for NamedMacros<'a> {
     ghost use Rattle.std.specs.Prelude.{List};
-    ghost use Rattle.sysdef_check.specs.declared.definition.MacroLine.{MacroLine};
+    ghost use Rattle.system_types.specs.declared.definition.MacroLine.{MacroLine};
     ghost use Rattle.sysdef_check.specs.Indexes.{AreIndexes};
 
     ghost Value = { List MacroLine };

@@ -1,3 +1,4 @@
+//! The rules on the segments of a database.
 ghost use Rattle.std.specs.Prelude.{◌≡◌, [], Some};
 ghost use Rattle.sysdef_check.specs.Segments as spec;
 
@@ -54,7 +55,7 @@ fn breaks_key(content: &Macro) -> bool
     ensures { result ≡ spec.breaks_key content.now }
 {
     match content {
-        Macro::Segment { key, bytes, .. } => *bytes < u16::from(key.bytes()),
+        Macro::Segment { key, bytes, .. } => *bytes < u16::from(*key),
         _ => false,
     }
 }

@@ -1,10 +1,11 @@
+//! A definition is checked.
 ghost use Rattle.std.specs.Prelude.{◌≡◌};
 ghost use Rattle.sysdef_check.specs.Systems.{Answers, checked};
 
 use crate::build::system_of;
 use crate::cross::cross_rules;
-use crate::{Definition, System};
 use std::alloc::Global;
+use system_types::{Definition, System};
 use thiserror::Error;
 
 /// Why a definition is refused.

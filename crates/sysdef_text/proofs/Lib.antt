@@ -1,3 +1,4 @@
+pub mod Ranges
 pub mod ClassSteps
 pub mod LineCounts
 pub mod FirstLine

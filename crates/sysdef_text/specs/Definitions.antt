@@ -3,7 +3,7 @@ use Rattle.std.specs.Prelude.{ℕ, suc, ◌+◌, ◌-◌, nat_lt, Bool, true, fa
 use Rattle.std.specs.Str.Lines.{lines}
 use Rattle.text_rows.specs.Refusals.{then_lines}
 use Rattle.text_rows.specs.declared.rules.TheConstants.{END_MISSING}
-use Rattle.sysdef_check.specs.declared.definition.MacroLine.{MacroLine}
+use Rattle.system_types.specs.declared.definition.MacroLine.{MacroLine}
 use Rattle.sysdef_text.specs.declared.modes.Mode.{Mode}
 use Rattle.sysdef_text.specs.declared.modes.Mode.TheVariants.{Start}
 use Rattle.sysdef_text.specs.declared.modes.Step.{Step}

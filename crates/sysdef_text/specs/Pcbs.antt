@@ -5,8 +5,8 @@ use Rattle.text_rows.specs.Lowest.{both, also}
 use Rattle.text_rows.specs.Names.{name_of}
 use Rattle.text_rows.specs.Operands.{needed, only, or_as, values}
 use Rattle.text_rows.specs.declared.rules.TheConstants.{WRONG_WORD}
-use Rattle.sysdef_check.specs.declared.definition.Macro.{Macro}
-use Rattle.sysdef_check.specs.declared.definition.Macro.TheVariants as macro
+use Rattle.system_types.specs.declared.definition.Macro.{Macro}
+use Rattle.system_types.specs.declared.definition.Macro.TheVariants as macro
 use Rattle.sysdef_text.specs.declared.pcbs.PcbForm.{PcbForm}
 use Rattle.sysdef_text.specs.declared.pcbs.PcbForm.TheVariants.{OnDatabase, ToDestination, Modifiable}
 use Rattle.sysdef_text.specs.Values.{options_of, modify_of}

@@ -5,7 +5,7 @@ use Rattle.text_rows.specs.Lines.{printable_line}
 use Rattle.text_rows.specs.Lowest.{also}
 use Rattle.text_rows.specs.Operands.{macro_name, macro_operands}
 use Rattle.text_rows.specs.declared.rules.TheConstants.{OUT_OF_PLACE, TEXT_TOO_LONG, CONTROL_NOT_FIRST}
-use Rattle.sysdef_check.specs.declared.definition.Macro.{Macro}
+use Rattle.system_types.specs.declared.definition.Macro.{Macro}
 use Rattle.sysdef_text.specs.declared.kinds.Kind.{Kind}
 use Rattle.sysdef_text.specs.declared.kinds.Kind.TheVariants.{Control, Database, Segment, Application, Pcb, Transaction}
 use Rattle.sysdef_text.specs.declared.modes.Mode.{Mode}

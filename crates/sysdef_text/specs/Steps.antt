@@ -5,8 +5,8 @@ use Rattle.text_rows.specs.Operands.{macro_name}
 use Rattle.text_rows.specs.Refusals.{at_line}
 use Rattle.model_script.specs.declared.program.ScriptLine.{ScriptLine}
 use Rattle.script_text.specs.Scripts.{is_last}
-use Rattle.sysdef_check.specs.declared.definition.Macro.{Macro}
-use Rattle.sysdef_check.specs.declared.definition.Macro.TheVariants.{Program}
+use Rattle.system_types.specs.declared.definition.Macro.{Macro}
+use Rattle.system_types.specs.declared.definition.Macro.TheVariants.{Program}
 use Rattle.sysdef_text.specs.declared.kinds.Kind.{Kind}
 use Rattle.sysdef_text.specs.declared.kinds.Kind.TheVariants.{End}
 use Rattle.sysdef_text.specs.declared.modes.Mode.{Mode}

@@ -1,4 +1,4 @@
-use sysdef_check::Macro;
+use system_types::Macro;
 
 /// What has come before a line.
 #[derive(Clone, Copy, Debug)]

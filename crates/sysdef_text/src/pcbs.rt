@@ -8,7 +8,7 @@ ghost use Rattle.sysdef_text.specs.Pcbs as spec;
 
 use crate::rows::needed_name;
 use crate::values::{modify_of, options_of};
-use sysdef_check::Macro;
+use system_types::Macro;
 use text_rows::rules::{OPERAND_MISSING, WRONG_WORD};
 use text_rows::{Operands, also, both, is_word, name_of};
 use tm_types::Name;

@@ -13,7 +13,7 @@ use crate::source::{TEXT_LIMIT, kept, lines_of};
 use crate::{Kind, Mode, Step};
 use script_text::is_last;
 use std::alloc::Global;
-use sysdef_check::{Definition, Macro, MacroLine};
+use system_types::{Definition, Macro, MacroLine};
 use text_rows::rules::END_MISSING;
 use text_rows::{LineRefused, is_passed_over, split_macro};
 use tm_edge::Line;

@@ -10,10 +10,11 @@ ghost use Rattle.sysdef_text.specs.Rows as spec;
 use crate::Kind;
 use crate::pcbs::pcb_row;
 use crate::values::{
-    byte_between, classes_of, key_of, limits_of, message_type_of, parent_of, priorities_of,
-    serial_of, short_between,
+    byte_between, classes_of, limits_of, message_type_of, parent_of, priorities_of, serial_of,
+    short_between,
 };
-use sysdef_check::{Classes, KeyLength, Macro, SegmentKind, Transaction};
+use model_system::{Classes, SegmentKind, Transaction};
+use system_types::Macro;
 use text_rows::rules::OPERAND_MISSING;
 use text_rows::{Operands, both, name_of, number_between, split_at};
 use tm_types::Name;
@@ -70,11 +71,11 @@ fn parent(operands: &Operands<'_>) -> Result<Option<Name>, u8>
 }
 
 #[tactic(auto, unfolding(text_rows::specs::Operands::needed))]
-fn key(operands: &Operands<'_>) -> Result<KeyLength, u8>
+fn key(operands: &Operands<'_>) -> Result<u8, u8>
     ensures { result ≡ needed (codes "KEY") (number_between 1 32) operands.now }
 {
     match operands.only_value(b"KEY")? {
-        Some(text) => key_of(text),
+        Some(text) => byte_between(1, 32, text),
         None => Err(OPERAND_MISSING),
     }
 }
@@ -183,7 +184,7 @@ fn place_part(operands: &Operands<'_>) -> Result<(Name, Option<Name>), u8>
 }
 
 #[tactic(auto, unfolding(crate::specs::Rows::length_part))]
-fn length_part(operands: &Operands<'_>) -> Result<(KeyLength, u16), u8>
+fn length_part(operands: &Operands<'_>) -> Result<(u8, u16), u8>
     ensures { result ≡ spec.length_part operands.now }
 {
     both(key(operands), bytes(operands))

@@ -1,7 +1,9 @@
 use crate::read_definition;
+use model_system::{Pcb, SegmentKind};
 use std::alloc::{AllocError, Global};
 use std::test::Fail;
-use sysdef_check::{Codes, CrossRefused, Pcb, SegmentKind, System, check};
+use sysdef_check::{CrossRefused, check};
+use system_types::{Codes, System};
 use text_rows::LineRefused;
 use tm_types::Name;
 

@@ -3,7 +3,7 @@ ghost use Rattle.text_rows.specs.Lowest.{both};
 ghost use Rattle.text_rows.specs.Numbers.{number_between};
 ghost use Rattle.sysdef_text.specs.Values as spec;
 
-use sysdef_check::{Classes, KeyLength, SegmentKind};
+use model_system::{Classes, SegmentKind};
 use text_rows::rules::{WRONG_LIST, WRONG_WORD};
 use text_rows::{Pieces, also, both, is_word, list_of, name_of, number_between, three_of, two_of};
 use tm_types::Name;
@@ -75,16 +75,6 @@ pub(crate) fn parent_of(text: &[u8]) -> Result<Option<Name>, u8>
     }
     match name_of(text) {
         Ok(name) => Ok(Some(name)),
-        Err(rule) => Err(rule),
-    }
-}
-
-/// KEY: 1 to 32.
-pub(crate) fn key_of(text: &[u8]) -> Result<KeyLength, u8>
-    ensures { result ≡ number_between 1 32 text.now }
-{
-    match number_between(1, 32, text) {
-        Ok(number) => Ok(KeyLength::of(number as u8)),
         Err(rule) => Err(rule),
     }
 }

@@ -4,3 +4,4 @@ pub mod Indexes
 pub mod Parts
 pub mod Jobs
 pub mod Codes
+pub mod Definitions

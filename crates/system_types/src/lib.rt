@@ -5,6 +5,7 @@
 #![tactic(auto)]
 
 pub use codes::Codes;
+pub use definition::{Definition, Macro, MacroLine};
 pub use job::Job;
 pub use model_system::{
     Classes, Code, CodeState, Pcb, Pcbs, SegmentKind, SystemProgram, Transaction,
@@ -12,6 +13,7 @@ pub use model_system::{
 pub use system::{System, SystemParts};
 
 mod codes;
+mod definition;
 mod indexes;
 mod job;
 mod system;

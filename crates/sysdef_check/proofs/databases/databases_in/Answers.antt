@@ -1,8 +1,9 @@
 use Rattle.std.proofs.Common.{◌+◌, take, drop}
 use Rattle.sysdef_check.specs.declared.cross.CrossRule.TheVariants.{OfSegments, WrongCount}
 use Rattle.sysdef_check.specs.declared.segments.SegmentRule.TheVariants.{ParentAstray, KeyTooLong}
+use Rattle.system_types.specs.Definitions.{IsInRange}
 use Rattle.sysdef_check.specs.Systems.{databases_in}
-use Rattle.sysdef_check.proofs.Kept.{behind_index, kept_count, kept_database, kept_line}
+use Rattle.sysdef_check.proofs.Kept.{behind_all, behind_index, kept_count, kept_database, kept_line}
 use Rattle.sysdef_check.proofs.Types.{databases_step}
 use Rattle.sysdef_check.proofs.databases.databases_in.Goals as goal
 
@@ -30,15 +31,17 @@ add_database-requires-clause-few c =
     let kept = kept_line WrongCount lines lines index line c.loop-index-test.true c.index-lines-index.is c.loop-index.invariant.counts in
     rw (behind_index lines (index + 1)) (kept_count lines (take index lines) line (drop (index + 1) lines) kept.0).1
 
+pub add_database-requires-clause-range : goal.add_database-requires-clause-range
+add_database-requires-clause-range c = behind_all (λ line. IsInRange line.content) c.args.lines.now (c.loop-index.index + 1) c.requires.range
+
 pub loop-index-preserved : goal.loop-index-preserved
 loop-index-preserved c =
     let lines = c.args.lines.now in
     let index = c.loop-index.index in
     let line = c.index-lines-index.result in
-    let added = rw (behind_index lines (index + 1)) at c.in_ok-add_database.ensures.value in
+    let added = rw (behind_index lines (index + 1)) at c.in_ok-add_database.ensures in
     record {
       value = databases_step lines index line c.loop-index.databases.items c.add_database.new.databases.items (databases_in lines) c.loop-index-test.true c.index-lines-index.is added c.loop-index.invariant.value;
-      few_types = c.in_ok-add_database.ensures.few_types;
       parents = (kept_line (OfSegments ParentAstray) lines lines index line c.loop-index-test.true c.index-lines-index.is c.loop-index.invariant.parents).1;
       keys = (kept_line (OfSegments KeyTooLong) lines lines index line c.loop-index-test.true c.index-lines-index.is c.loop-index.invariant.keys).1;
       counts = (kept_line WrongCount lines lines index line c.loop-index-test.true c.index-lines-index.is c.loop-index.invariant.counts).1;

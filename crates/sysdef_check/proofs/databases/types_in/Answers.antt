@@ -2,10 +2,15 @@ use Rattle.std.proofs.Common.{[], arith}
 use Rattle.sysdef_check.specs.declared.lookups.MacroKind.TheVariants.{Segments}
 use Rattle.sysdef_check.specs.declared.segments.SegmentRule.TheVariants.{ParentAstray, KeyTooLong}
 use Rattle.sysdef_check.specs.Lookups.{is_of}
+use Rattle.system_types.specs.Definitions.{IsInRange}
 use Rattle.sysdef_check.specs.Systems.{types_in}
-use Rattle.sysdef_check.proofs.Kept.{kept_segment, kept_test}
+use Rattle.sysdef_check.proofs.Kept.{at_index, kept_segment, kept_test}
 use Rattle.sysdef_check.proofs.Types.{types_step}
 use Rattle.sysdef_check.proofs.databases.types_in.Goals as goal
+
+pub add_type-requires-clause-range : goal.add_type-requires-clause-range
+add_type-requires-clause-range c =
+    at_index (λ line. IsInRange line.content) c.args.segments.now c.loop-index.index c.index-segments-index.result c.loop-index-test.true c.index-segments-index.is c.requires.range
 
 pub loop-index-preserved : goal.loop-index-preserved
 loop-index-preserved c =

@@ -1,63 +1,30 @@
-ghost use Rattle.std.specs.Prelude.{◌≡◌, ◌≤◌};
+//! A system definition: its macros, with their operands.
+ghost use Rattle.std.specs.Prelude.{◌≡◌};
 
 use model_script::Program;
 use model_system::{Classes, Transaction};
 use std::marker::Model;
 use tm_types::Name;
 
-/// How many bytes a key has, 1 to 32; seen as the number.
-#[derive(Debug, Drop)]
-pub struct KeyLength {
-    bytes: u8,
-}
-
-impl Model for KeyLength {
-    ghost use Rattle.std.specs.Prelude.{ℕ, ◌≤◌};
-
-    ghost Value = { ℕ };
-
-    ghost view = { λ k. k.bytes };
-
-    ghost invariant = { λ k. (1 ≤ k.bytes) × (k.bytes ≤ 32) };
-}
-
-impl KeyLength {
-    /// A length of so many bytes.
-    pub fn of(bytes: u8) -> KeyLength
-        requires { (1 ≤ bytes) × (bytes ≤ 32) }
-        ensures { result ≡ bytes }
-    {
-        KeyLength { bytes }
-    }
-
-    /// How many bytes these are.
-    pub fn bytes(&self) -> u8
-        ensures value { result ≡ self.now }
-        ensures within { (1 ≤ self.now) × (self.now ≤ 32) }
-    {
-        self.bytes
-    }
-}
-
 /// A macro of a definition, with its operands.
 #[derive(Debug, Drop)]
 pub enum Macro {
-    /// IMSCTRL: the bytes of the queues, and the sectors of a log area.
+    /// IMSCTRL: the bytes of the queues, 131,072 to 8,388,608, and the sectors of a log area, 64 to 2,048.
     Control {
         qbytes: u32,
         logs: u32,
     },
-    /// DBD: the name, and the most roots that the database has.
+    /// DBD: the name, and the most roots that the database has, 1 to 4,096.
     Database {
         name: Name,
         roots: u16,
     },
-    /// SEGM: the name, the name of the parent, which a root lacks, and how many bytes the key and
-    /// the data have, its key included.
+    /// SEGM: the name, the name of the parent, which a root lacks, and how many bytes the key has, 1 to
+    /// 32, and the data, 1 to 1,900 with the key.
     Segment {
         name: Name,
         parent: Option<Name>,
-        key: KeyLength,
+        key: u8,
         bytes: u16,
     },
     /// APPLCTN.
@@ -102,6 +69,8 @@ pub struct MacroLine {
 }
 
 /// A system definition, seen as the list of its macros in the order of their lines.
+///
+/// The first macro is IMSCTRL, the last is END, and the numbers lie in their ranges.
 #[derive(Debug, Drop)]
 pub struct Definition {
     items: Vec<MacroLine>,
@@ -109,16 +78,22 @@ pub struct Definition {
 
 impl Model for Definition {
     ghost use Rattle.std.specs.Prelude.{List};
-    ghost use Rattle.sysdef_check.specs.declared.definition.MacroLine.{MacroLine};
+    ghost use Rattle.system_types.specs.declared.definition.MacroLine.{MacroLine};
+    ghost use Rattle.system_types.specs.Definitions.{IsDefinition};
 
     ghost Value = { List MacroLine };
 
     ghost view = { λ d. d.items.items };
+
+    ghost invariant = { λ d. IsDefinition d.items.items };
 }
 
 impl Definition {
+    ghost use Rattle.system_types.specs.Definitions.{IsDefinition};
+
     /// The definition that has these macros.
     pub fn of(items: Vec<MacroLine>) -> Definition
+        requires { IsDefinition items.items }
         ensures { result ≡ items.items }
     {
         Definition { items }
@@ -126,14 +101,16 @@ impl Definition {
 
     /// The macros, in the order of their lines.
     pub fn items(&self) -> &[MacroLine]
-        ensures { result.now ≡ self.now }
+        ensures value { result.now ≡ self.now }
+        ensures valid { IsDefinition self.now }
     {
         &self.items
     }
 
     /// The macros, in the order of their lines.
     pub fn into_items(self) -> Vec<MacroLine>
-        ensures { result.items ≡ self }
+        ensures value { result.items ≡ self }
+        ensures valid { IsDefinition self }
     {
         let Definition { items } = self;
         items

@@ -1,0 +1,56 @@
+-- A definition that keeps the rules defines a system.
+use Rattle.std.proofs.Common.{◌≡◌, ◌≤◌, List, [], ◌∷◌, Ok, IsTrue, All, refl}
+use Rattle.std.proofs.lemmas.Bool.{false≢true}
+use Rattle.std.proofs.lemmas.List.Elements.{All-head}
+use Rattle.system_types.specs.declared.definition.MacroLine.{MacroLine}
+use Rattle.system_types.specs.declared.definition.Macro.{Macro}
+use Rattle.system_types.specs.declared.definition.Macro.TheVariants.{Control}
+use Rattle.system_types.specs.Definitions.{IsDefinition, IsInRange, begins_well, is_control}
+use Rattle.system_types.specs.Valid.{IsSystem}
+use Rattle.sysdef_check.specs.declared.cross.CrossRule.TheVariants.{CodeTwice, DatabaseUnknown, OfCalls, OfSegments, ProgramMissing, WrongCount, SecondRegion}
+use Rattle.sysdef_check.specs.declared.calls.CallRule.TheVariants.{PcbMissing, SsaAstray, NoInsertPath}
+use Rattle.sysdef_check.specs.declared.segments.SegmentRule.TheVariants.{ParentAstray}
+use Rattle.sysdef_check.specs.Cross.{cross_rules}
+use Rattle.sysdef_check.specs.Systems.{system_of, control_in, control_of, databases_in}
+use Rattle.sysdef_check.proofs.Dbds.{databases_valid}
+use Rattle.sysdef_check.proofs.Kept.{rule_kept}
+use Rattle.sysdef_check.proofs.Limits.{few_codes, few_databases, few_programs, few_regions, few_terminals, one_region, some_of_each}
+use Rattle.sysdef_check.proofs.Servable.{programs_serve}
+use Rattle.sysdef_check.proofs.Served.{codes_apart, codes_served}
+
+-- the numbers of IMSCTRL
+control_by : (content : Macro) → IsTrue (is_control content) → IsInRange content
+    → (131072 ≤ (control_of content).0) × ((control_of content).0 ≤ 8388608) × (64 ≤ (control_of content).1) × ((control_of content).1 ≤ 2048)
+control_by (Control qbytes logs) first h = h
+control_by _ first h = absurd (false≢true first)
+
+control_valid : (lines : List MacroLine) → IsTrue (begins_well lines) → All (λ line. IsInRange line.content) lines
+    → (131072 ≤ (control_in lines).0) × ((control_in lines).0 ≤ 8388608) × (64 ≤ (control_in lines).1) × ((control_in lines).1 ≤ 2048)
+control_valid [] first h = absurd (false≢true first)
+control_valid (line ∷ lines) first h = control_by line.content first (All-head (λ l. IsInRange l.content) line lines h)
+
+pub defines_system : (lines : List MacroLine) → IsDefinition lines → cross_rules lines ≡ Ok tt → IsSystem (system_of lines)
+defines_system lines definition kept =
+    let counts = rule_kept lines 15 WrongCount kept refl in
+    let parents = rule_kept lines 2 (OfSegments ParentAstray) kept refl in
+    let control = control_valid lines definition.first definition.in_range in
+    let some = some_of_each lines counts definition.last in
+    record {
+      least_bytes = control.0;
+      most_bytes = control.1;
+      least_logs = control.2;
+      most_logs = control.3;
+      few_databases = few_databases lines counts;
+      databases = databases_valid lines parents counts definition.in_range;
+      few_programs = few_programs (databases_in lines) lines counts;
+      programs = programs_serve lines parents counts (rule_kept lines 6 DatabaseUnknown kept refl) (rule_kept lines 12 (OfCalls PcbMissing) kept refl)
+          (rule_kept lines 13 (OfCalls SsaAstray) kept refl) (rule_kept lines 14 (OfCalls NoInsertPath) kept refl);
+      few_codes = few_codes lines counts;
+      served = codes_served (databases_in lines) lines (rule_kept lines 10 ProgramMissing kept refl);
+      apart = codes_apart lines (rule_kept lines 8 CodeTwice kept refl);
+      some_terminal = some.0;
+      few_terminals = few_terminals lines counts;
+      some_region = some.1;
+      few_regions = few_regions lines counts;
+      one_region = one_region lines (rule_kept lines 16 SecondRegion kept refl);
+    }

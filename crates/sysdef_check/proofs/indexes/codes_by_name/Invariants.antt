@@ -1,7 +1,0 @@
--- the codes so far
-use Rattle.std.proofs.Common.{take}
-use Rattle.sysdef_check.specs.Indexes.{IsIndex, has_code_name}
-use Rattle.sysdef_check.proofs.indexes.codes_by_name.Given as goal
-
-abbrev pub invariant-loop-place : goal.invariant-loop-place
-invariant-loop-place l = IsIndex has_code_name l.index (take l.place l.codes)
