@@ -4,3 +4,4 @@ pub mod Pick
 pub mod Lasting
 pub mod Steps
 pub mod History
+pub mod Flags
