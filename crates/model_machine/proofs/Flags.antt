@@ -12,7 +12,7 @@ use Rattle.model_system.specs.Codes.{code_place}
 use Rattle.model_system.specs.declared.code_state.CodeState.{CodeState}
 use Rattle.model_system.specs.declared.code.Code.{Code}
 use Rattle.model_system.specs.declared.code.Transaction.{Transaction}
-use Rattle.model_machine.specs.Machine.{raised_by, raised_now, setting_of}
+use Rattle.model_machine.specs.Machine.{raised_by, raised_now, setting_of, states_by}
 use Rattle.model_machine.specs.Flags.{is_raised, followed_by, followed, all_followed}
 
 abbrev pub flags_of : List CodeState → List Bool
@@ -224,3 +224,25 @@ flags_follow codes before now names states apart many settled others =
             → cond b (raised_by code.transaction (now code.transaction.code) raised) raised ≡ raised_by code.transaction (now code.transaction.code) raised
         by true e = refl
         by false e = sym (ap (λ w. raised_by code.transaction w raised) (others code.transaction.code e) ∙ stood)
+
+-- flags that followed stand as they follow
+pub now_twice : (waiting : List ℕ → ℕ) (codes : List Code) (flags : List Bool)
+    → raised_now waiting codes (raised_now waiting codes flags) ≡ raised_now waiting codes flags
+now_twice waiting [] flags = refl
+now_twice waiting (code ∷ codes) [] = refl
+now_twice waiting (code ∷ codes) (f ∷ flags) =
+    ap (λ g. g ∷ raised_now waiting codes (raised_now waiting codes flags)) (twice (w == 0) (not (code.transaction.limit_count == 65535) && nat_le code.transaction.limit_count w) f)
+    ∙ ap (λ gs. raised_by code.transaction w f ∷ gs) (now_twice waiting codes flags)
+  where
+    w : ℕ
+    w = waiting code.transaction.code
+
+-- the flags by counts that are the same
+pub now_same : (before now : List ℕ → ℕ) (codes : List Code) (flags : List Bool) → ((name : List ℕ) → before name ≡ now name)
+    → raised_now before codes flags ≡ raised_now now codes flags
+now_same before now codes flags same = λ i. raised_now (λ name. same name i) codes flags
+
+-- states are what lasts of them with their flags
+pub states_again : (states : List CodeState) → states_by (map setting_of states) (flags_of states) ≡ states
+states_again [] = refl
+states_again (state ∷ states) = ap (λ ss. state ∷ ss) (states_again states)
