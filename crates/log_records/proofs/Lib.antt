@@ -5,3 +5,4 @@ pub mod Loop
 pub mod Laws
 pub mod PutTexts
 pub mod Lengths
+pub mod Wrong

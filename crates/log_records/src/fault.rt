@@ -1,3 +1,4 @@
+//! Why bytes don't begin with a record.
 ghost use Rattle.std.specs.Prelude.{◌≡◌};
 ghost use Rattle.log_records.specs.declared.fault.ReadFault.TheVariants.{Memory};
 

@@ -1,3 +1,4 @@
+//! The fields of records, read.
 ghost use Rattle.std.specs.Prelude.{◌≡◌, ◌≤◌, length, IfOk, IsTrue};
 ghost use Rattle.std.specs.List.{list_all};
 ghost use Rattle.std.specs.Int.{w16, w64};
@@ -7,9 +8,9 @@ ghost use Rattle.log_records.specs.Reading.{Gives, byte_at, number_at, flag_at, 
 
 use crate::fault::{ENDS, OUT_OF_RANGE, ReadFault};
 use crate::record::{Conversation, PadChange};
-use crate::wrong_bytes::{first_outside_names, first_unprintable, front};
+use crate::wrong_bytes::{first_outside_names, front};
 use std::alloc::Global;
-use tm_types::{Bytes, Name, Segment, Segments};
+use tm_types::{Bytes, Name, Segment, SegmentRefused, Segments, first_unprintable};
 
 #[tactic(auto, unfolding(crate::specs::Reading::byte_at))]
 pub(crate) fn byte(bytes: &[u8]) -> Result<(u8, &[u8]), ReadFault>
@@ -73,7 +74,8 @@ pub(crate) fn byte_within(low: u8, high: u8, bytes: &[u8]) -> Result<(u8, &[u8])
 
 #[tactic(auto, unfolding(crate::specs::Reading::number_within_at))]
 pub(crate) fn number_within(low: u16, high: u16, bytes: &[u8]) -> Result<(u16, &[u8]), ReadFault>
-    ensures { Gives (λ x. (x.0, x.1.now)) result (number_within_at low high w16 bytes.now) }
+    ensures gives { Gives (λ x. (x.0, x.1.now)) result (number_within_at low high w16 bytes.now) }
+    ensures within { IfOk result (λ x. (low ≤ x.0) × (x.0 ≤ high)) }
 {
     let (number, rest) = number2(bytes)?;
     if low <= number && number <= high {
@@ -115,7 +117,8 @@ fn name_bytes(count: usize, bytes: &[u8]) -> Result<(&[u8], &[u8]), ReadFault>
 
 #[tactic(auto, unfolding(crate::specs::Reading::bytes_of_kind_at))]
 fn printable_bytes(count: usize, bytes: &[u8]) -> Result<(&[u8], &[u8]), ReadFault>
-    ensures { Gives (λ x. (x.0.now, x.1.now)) result (bytes_of_kind_at is_printable count bytes.now) }
+    ensures gives { Gives (λ x. (x.0.now, x.1.now)) result (bytes_of_kind_at is_printable count bytes.now) }
+    ensures each { IfOk result (λ x. (length x.0.now ≡ count) × IsTrue (list_all is_printable x.0.now)) }
 {
     if let Some(wrong) = first_unprintable(front(bytes, count)) {
         return Err(ReadFault::Broken(OUT_OF_RANGE, bytes.len() - wrong));
@@ -151,7 +154,9 @@ fn segment(alloc: Global, bytes: &[u8]) -> Result<(Segment, &[u8]), ReadFault>
     let (text, rest) = printable_bytes(length as usize, rest)?;
     match Segment::make(alloc, text) {
         Ok(segment) => Ok((segment, rest)),
-        Err(_) => Err(ReadFault::Memory),
+        Err(SegmentRefused::Memory) => Err(ReadFault::Memory),
+        Err(SegmentRefused::TooLong(_)) => unreachable!(),
+        Err(SegmentRefused::BadByte(_)) => unreachable!(),
     }
 }
 

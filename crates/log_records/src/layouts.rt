@@ -1,3 +1,4 @@
+//! The fields of each record, read.
 ghost use Rattle.std.specs.Prelude.{◌≡◌};
 ghost use Rattle.log_records.specs.Reading.{Gives, input_at, command_at, reply_at, discarded_at, completed_at, acknowledged_at, sync_point_at, checkpoint_at, terminal_at, code_at, change_at, answered_of_kind_at, answered_at, snapshot_of_kind_at, snapshot_at, content_of_code_at, content_at, record_at};
 

@@ -1,9 +1,8 @@
 //! The records of the log and of a snapshot, and how each is spelled in bytes.
 //!
-//! A record is its length in two bytes, a code, and the fields that the code has. Numbers are
-//! unsigned and stand with their highest byte first. A name is a byte with its length, and its
-//! bytes. A text is its length in two bytes, and its bytes. Segments are a byte with their count,
-//! and that many texts.
+//! Each record has one spelling (specs/Spelling), and no spelling begins another. What was encoded is
+//! decoded again, whatever follows it (specs/Decoding); bytes that begin with no record are refused
+//! with the first rule that they break, and where (specs/Reading).
 #![tactic(auto)]
 
 pub use decoding::{decode, one_spelling};

@@ -1,3 +1,4 @@
+//! The records of the log and of a snapshot.
 use tm_types::{AbendCode, Bytes, Name, Segments};
 
 /// A record of the log or of a snapshot.

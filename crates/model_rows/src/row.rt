@@ -1,3 +1,4 @@
+//! Rows of a database.
 ghost use Rattle.std.specs.Prelude.{◌≡◌};
 
 use crate::Path;
