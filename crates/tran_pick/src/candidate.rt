@@ -1,3 +1,4 @@
+//! Codes that a region may serve.
 ghost use Rattle.std.specs.Prelude.{◌≡◌, if◌then◌else◌, None, IfSome};
 ghost use Rattle.std.specs.Option.{IsSomeAnd};
 ghost use Rattle.model_queues.specs.Queue.{first_free, queued_at};

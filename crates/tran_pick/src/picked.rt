@@ -1,3 +1,5 @@
+//! What a region takes.
+
 use tm_types::Name;
 
 /// The message that a region takes.

@@ -1,3 +1,4 @@
+//! The first class with a code that may be served.
 ghost use Rattle.std.specs.Prelude.{◌≡◌, ◌≤◌, ◌-◌, [], length, slice_index_or, None, IfSome, IfNone};
 ghost use Rattle.std.specs.Option.{option_map, IsSome, IsSomeAnd};
 ghost use Rattle.model_queues.specs.Queue.{first_free, queued_at};
@@ -9,7 +10,7 @@ use crate::Pick;
 use crate::candidate::{Candidate, better, candidate_of};
 use model_system::{Code, CodeState};
 use msg_queues::Queues;
-use sysdef_check::{Codes, System};
+use system_types::{Codes, System};
 
 /// The message that this region takes next, or None exactly where no code is eligible.
 ///

@@ -1,3 +1,4 @@
+//! The rules of scheduling, by rows.
 ghost use Rattle.std.specs.Prelude.{◌≡◌, ◌<◌, IfOk};
 ghost use Rattle.model_queues.specs.Room.{message_bytes};
 
