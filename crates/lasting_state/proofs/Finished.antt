@@ -3,18 +3,22 @@ use Rattle.std.proofs.Common.{◌≡◌, ℕ, ◌+◌, ◌<◌, ◌≤◌, Bool,
 use Rattle.std.proofs.lemmas.List.{append_assoc, append-nil}
 use Rattle.std.proofs.lemmas.List.Elements.{filter-append}
 use Rattle.std.proofs.lemmas.Bool.{ne_eqb, eqb-true}
-use Rattle.std.specs.Prelude.{IsSome, if◌then◌else◌}
-use Rattle.std.specs.Option.{is_some}
+use Rattle.std.specs.Prelude.{IsSome, IsSomeAnd, if◌then◌else◌, find, ◌==◌}
+use Rattle.std.specs.Option.{is_some, option_map}
 use Rattle.tm_types.specs.declared.message.Message.{Message}
 use Rattle.model_queues.specs.declared.queued.Queued.{Queued}
 use Rattle.model_queues.specs.declared.replies.TerminalReplies.{TerminalReplies}
 use Rattle.model_queues.specs.Queue.{QueuesState, IsNewId, has_id, queued_at, message_at, messages_of, without}
 use Rattle.model_queues.specs.Outputs.{replies_at, with_terminal, with_reply}
-use Rattle.model_queues.proofs.Laws.{found_message, found_behind, new_id_without, messages_without}
+use Rattle.model_queues.proofs.Laws.{found_message, found_behind, message_found, new_id_without, messages_without}
 use Rattle.model_message.specs.declared.ended_message.EndedMessage.{EndedMessage}
 use Rattle.model_machine.specs.Machine.{LastingState}
-use Rattle.model_machine.specs.Steps.{finished_state, all_sent, switched, replied, without_message}
-use Rattle.lasting_state.specs.Tables.{TablesState, lasting_of, finished, IsFinished}
+use Rattle.model_machine.specs.declared.lasting.CodeSetting.{CodeSetting}
+use Rattle.model_machine.specs.Lasting.{finished as finished_state, finished_by, all_sent, switched, replied, without_message, abend_outputs}
+use Rattle.model_machine.specs.Lasting.LastingStep.{Completes, Discards}
+use Rattle.tm_types.specs.declared.abend.AbendCode.{AbendCode}
+use Rattle.program_rows.specs.State.{DatabasesState, rows_of}
+use Rattle.lasting_state.specs.Tables.{TablesState, lasting_of, finished, with_databases, committed_databases, backed_databases, Applies, IsFinished, IsClosed}
 use Rattle.lasting_state.specs.Sending.{switches, switched_message, switched_messages, with_messages, with_replies, IsSent}
 use Rattle.lasting_state.proofs.Sent.{with_terminal_none, switches_still, switches_code, switches_terminal}
 
@@ -124,13 +128,61 @@ messages_both [] [] = refl
 messages_both [] (message ∷ messages) = ap (λ ms. message ∷ ms) (messages_both [] messages)
 messages_both (q ∷ queued) messages = ap (λ ms. q.message ∷ ms) (messages_both queued messages)
 
--- what a finished message leaves is what the machine says
-pub lasting_finished : (t : TablesState) (message : Message) (outputs : List EndedMessage) → lasting_of (finished t message outputs) ≡ finished_state (lasting_of t) message outputs
-lasting_finished t message outputs =
-    ap {A = List Message} (λ ms. record (lasting_of (finished t message outputs)) { messages = ms })
+-- what a message that is gone leaves, with these databases, is what the machine says
+closed_lasting : (settings : List CodeSetting) (t : TablesState) (message : Message) (outputs : List EndedMessage) (databases : DatabasesState)
+    → lasting_of settings (with_databases (finished t message outputs) databases)
+    ≡ record (finished_state message outputs (record (lasting_of settings t) { rows = rows_of databases.committed })) { steps = t.steps + 1 }
+closed_lasting settings t message outputs databases =
+    ap {A = List Message} (λ ms. record (lasting_of settings (with_databases (finished t message outputs) databases)) { messages = ms })
     (messages_both (without message.id t.queues.queued) (switched_messages message.origin (switches t.outputs outputs) t.next_id)
     ∙ ap (λ ms. ms ++ switched_messages message.origin (switches t.outputs outputs) t.next_id) (messages_without message.id t.queues.queued))
-    ∙ sym (all_sent_is message.origin outputs (record (lasting_of t) { messages = without_message (messages_of t.queues.queued) message.id; steps = t.steps + 1 }))
+    ∙ sym (ap {A = LastingState} (λ l. record l { steps = t.steps + 1 })
+    (all_sent_is message.origin outputs (record (lasting_of settings t) { rows = rows_of databases.committed; messages = without_message (messages_of t.queues.queued) message.id })))
+
+-- which message it is, by the queues or by the machine
+closed_by : (databases : DatabasesState) (sends : Message → List EndedMessage) (old new : TablesState) (id : ℕ) → IsClosed databases sends old new id → (settings : List CodeSetting)
+    → lasting_of settings new
+    ≡ record (finished_by (find (λ m. m.id == id) (messages_of old.queues.queued)) sends (record (lasting_of settings old) { rows = rows_of databases.committed })) { steps = old.steps + 1 }
+closed_by databases sends old new id h settings =
+    by (message_at id old.queues.queued) refl h
+    ∙ ap {A = Option Message} (λ found. record (finished_by found sends (record (lasting_of settings old) { rows = rows_of databases.committed })) { steps = old.steps + 1 })
+    (sym (message_found id old.queues.queued))
+  where
+    by : (found : Option Message) → message_at id old.queues.queued ≡ found
+        → IsSomeAnd found (λ message. (message.id ≡ id) × (new ≡ with_databases (finished old message (sends message)) databases))
+        → lasting_of settings new ≡ record (finished_by found sends (record (lasting_of settings old) { rows = rows_of databases.committed })) { steps = old.steps + 1 }
+    by (Some message) e g = ap (lasting_of settings) g.1 ∙ closed_lasting settings old message (sends message) databases
+    by None e g = absurd g
+
+pub completes_is : (old new : TablesState) (id : ℕ) (outputs : List EndedMessage) → IsClosed (committed_databases old.databases) (λ _. outputs) old new id
+    → Applies (Completes id (rows_of old.databases.stores) outputs) old new
+completes_is old new id outputs h = closed_by (committed_databases old.databases) (λ _. outputs) old new id h
+
+pub discards_is : (old new : TablesState) (id : ℕ) (abend : AbendCode) → IsClosed (backed_databases old.databases) (λ message. abend_outputs message abend) old new id
+    → Applies (Discards id abend) old new
+discards_is old new id abend h = closed_by (backed_databases old.databases) (λ message. abend_outputs message abend) old new id h
+
+-- what was finished, with the databases then
+pub closes : (change : DatabasesState → DatabasesState) (sends : Message → List EndedMessage) (outputs : List EndedMessage) (old middle new : TablesState) (id : ℕ)
+    → IsSomeAnd (message_at id old.queues.queued) (λ message. outputs ≡ sends message) → IsFinished old middle id outputs
+    → new ≡ with_databases middle (change middle.databases) → IsClosed (change old.databases) sends old new id
+closes change sends outputs old middle new id sent done is = by (message_at id old.queues.queued) sent done
+  where
+    by : (found : Option Message) → IsSomeAnd found (λ message. outputs ≡ sends message) → IsSomeAnd found (λ message. (message.id ≡ id) × (middle ≡ finished old message outputs))
+        → IsSomeAnd found (λ message. (message.id ≡ id) × (new ≡ with_databases (finished old message (sends message)) (change old.databases)))
+    by (Some message) s d = (d.0, is ∙ ap (λ t. with_databases t (change t.databases)) d.1 ∙ ap (λ os. with_databases (finished old message os) (change old.databases)) s)
+    by None s d = absurd d
+
+-- what holds of the message that is lent holds of the one that is there
+pub found_message_and : (id : ℕ) (queued : List Queued) (message : Message) (P : Message → Type 0) → Some message ≡ message_at id queued → P message → IsSomeAnd (message_at id queued) P
+found_message_and id queued message P e h = rw (sym e) h
+
+pub some_message : (id : ℕ) (queued : List Queued) (P : Message → Type 0) → IsSome (queued_at id queued) → ((message : Message) → P message) → IsSomeAnd (message_at id queued) P
+some_message id queued P there h = by (queued_at id queued) there
+  where
+    by : (found : Option Queued) → IsSome found → IsSomeAnd (option_map (λ q. q.message) found) P
+    by (Some q) g = h q.message
+    by None g = let clash : false ≡ true = g in absurd (cc)
 
 -- ---- the call
 pub finished_is : (old : TablesState) (sent_queues queues : QueuesState) (outputs : List TerminalReplies) (next id : ℕ) (sends : List EndedMessage) (message : Message)

@@ -8,8 +8,8 @@ use Rattle.model_queues.specs.declared.replies.TerminalReplies.{TerminalReplies}
 use Rattle.model_queues.specs.Queue.{QueuesState, messages_of}
 use Rattle.model_queues.specs.Outputs.{fresh_terminal}
 use Rattle.model_system.specs.System.{System}
-use Rattle.model_machine.specs.declared.lasting.TerminalInput.{TerminalInput}
-use Rattle.model_machine.specs.Machine.{fresh_input, empty_state}
+use Rattle.model_machine.specs.declared.lasting.TerminalState.{TerminalState}
+use Rattle.model_machine.specs.Machine.{fresh_terminal_state, first_setting, empty_state}
 use Rattle.program_rows.specs.State.{DatabasesState, rows_of, dbds_of}
 use Rattle.lasting_state.specs.Tables.{lasting_of}
 
@@ -28,15 +28,16 @@ dbds_empty (dbd ∷ dbds) = ap (λ ds. dbd ∷ ds) (dbds_empty dbds)
 pub fresh_dbds : (dbds : List Dbd) (databases : DatabasesState) → databases.stores ≡ empty_stores dbds → dbds_of databases ≡ dbds
 fresh_dbds dbds databases e = ap (map (λ s. s.dbd)) e ∙ dbds_empty dbds
 
-pub fresh_is : (system : System) (databases : DatabasesState) (queues : QueuesState) (inputs : List TerminalInput) (outputs : List TerminalReplies)
-    → databases.committed ≡ empty_stores system.databases → queues.queued ≡ [] → inputs ≡ map fresh_input system.terminals → outputs ≡ map fresh_terminal system.terminals
-    → lasting_of (record { databases = databases; queues = queues; next_id = 1; inputs = inputs; outputs = outputs; steps = 0 }) ≡ empty_state system
-fresh_is system databases queues inputs outputs d q i o =
+pub fresh_is : (system : System) (databases : DatabasesState) (queues : QueuesState) (terminals : List TerminalState) (outputs : List TerminalReplies)
+    → databases.committed ≡ empty_stores system.databases → queues.queued ≡ [] → terminals ≡ map fresh_terminal_state system.terminals → outputs ≡ map fresh_terminal system.terminals
+    → lasting_of (map first_setting system.codes) (record { databases = databases; queues = queues; next_id = 1; terminals = terminals; outputs = outputs; steps = 0 }) ≡ empty_state system
+fresh_is system databases queues terminals outputs d q i o =
     λ j. record {
       rows = (ap rows_of d ∙ rows_empty system.databases) j;
       messages = ap messages_of q j;
       next_id = 1;
-      inputs = i j;
+      terminals = i j;
       outputs = o j;
+      codes = map first_setting system.codes;
       steps = 0;
     }

@@ -1,3 +1,4 @@
+mod Abended
 pub mod Sent
 pub mod Finished
 mod Fresh

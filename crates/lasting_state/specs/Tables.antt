@@ -1,34 +1,57 @@
 -- What lasts of a control region, as its tables keep it.
-use Rattle.std.specs.Prelude.{◌≡◌, ℕ, ◌+◌, ◌<◌, ◌≤◌, false, List, Some, IsSomeAnd, [], length}
+use Rattle.std.specs.Prelude.{◌≡◌, ℕ, ◌+◌, ◌<◌, ◌≤◌, false, List, Some, IsSomeAnd, [], length, Result, Ok, Err}
 use Rattle.tm_types.specs.declared.message.Message.{Message}
 use Rattle.tm_types.specs.Segment.{counted_bytes}
 use Rattle.model_queues.specs.declared.replies.TerminalReplies.{TerminalReplies}
 use Rattle.model_queues.specs.Queue.{QueuesState, messages_of, message_at, with_message, with_holder, without}
-use Rattle.model_queues.specs.Room.{input_needs}
+use Rattle.model_queues.specs.Outputs.{with_terminal, without_first, outputs_bytes}
+use Rattle.model_queues.specs.Room.{input_needs, messages_bytes}
 use Rattle.model_message.specs.declared.ended_message.EndedMessage.{EndedMessage}
+use Rattle.model_system.specs.Lists.{change_at}
+use Rattle.model_machine.specs.declared.entry.Acked.{Acked}
+use Rattle.model_machine.specs.declared.entry.Acked.TheVariants.{Removed, Already}
+use Rattle.model_machine.specs.declared.entry.AckRefused.{AckRefused}
+use Rattle.model_machine.specs.declared.entry.AckRefused.TheVariants.{Unknown, Ahead, Fault}
+use Rattle.model_machine.specs.declared.lasting.TerminalState.{TerminalState}
+use Rattle.model_machine.specs.declared.lasting.CodeSetting.{CodeSetting}
+use Rattle.model_machine.specs.Machine.{LastingState, terminal_place, output_at}
+use Rattle.model_machine.specs.Lasting.{LastingStep, code_word, with_last, applied}
+use Rattle.model_machine.specs.Lasting.LastingStep.{Accepts}
+use Rattle.model_machine.specs.Steps.{ack_by}
 use Rattle.program_rows.specs.State.{DatabasesState, rows_of}
 use Rattle.lasting_state.specs.declared.tables.Enqueued.{Enqueued}
 use Rattle.lasting_state.specs.declared.tables.Enqueued.TheVariants.{New, Full}
 use Rattle.lasting_state.specs.Sending.{switches, switched_messages, with_messages, with_replies}
-use Rattle.model_machine.specs.declared.entry.AckAnswer.{AckAnswer}
-use Rattle.model_machine.specs.declared.entry.AckAnswer.TheVariants.{Removed}
-use Rattle.model_machine.specs.declared.lasting.TerminalInput.{TerminalInput}
-use Rattle.model_system.specs.Lists.{change_at}
-use Rattle.model_machine.specs.Machine.{LastingState, content, input_place}
-use Rattle.model_machine.specs.Steps.{with_input, removed_state}
 
 -- the databases as they were committed and as they are, the queues with the region that has each
--- message, and what else lasts
+-- message, and what else lasts but the settings of the codes
 pub record TablesState : Type 0 where
   pub databases : DatabasesState
   pub queues : QueuesState
   pub next_id : ℕ
-  pub inputs : List TerminalInput
+  pub terminals : List TerminalState
   pub outputs : List TerminalReplies
   pub steps : ℕ
 
-abbrev pub lasting_of : TablesState → LastingState
-lasting_of t = record { rows = rows_of t.databases.committed; messages = messages_of t.queues.queued; next_id = t.next_id; inputs = t.inputs; outputs = t.outputs; steps = t.steps }
+-- what lasts, with these settings of the codes
+abbrev pub lasting_of : List CodeSetting → TablesState → LastingState
+lasting_of settings t = record {
+  rows = rows_of t.databases.committed;
+  messages = messages_of t.queues.queued;
+  next_id = t.next_id;
+  terminals = t.terminals;
+  outputs = t.outputs;
+  codes = settings;
+  steps = t.steps;
+}
+
+-- the step was done, whatever the settings of the codes are
+abbrev pub Applies : LastingStep → TablesState → TablesState → Type 0
+Applies step old new = (settings : List CodeSetting) → lasting_of settings new ≡ applied step (lasting_of settings old)
+
+-- the bytes of all messages and replies
+abbrev pub content_of : TablesState → ℕ
+content_of t = messages_bytes (messages_of t.queues.queued) + outputs_bytes t.outputs
 
 -- the tables with these databases
 abbrev pub with_databases : TablesState → DatabasesState → TablesState
@@ -44,22 +67,23 @@ backed_databases d = record { committed = d.committed; stores = d.committed; cha
 
 -- what an input of these segments needs, with so many busy regions
 abbrev pub needs : TablesState → List (List ℕ) → ℕ → ℕ
-needs t segments busy = input_needs (content (lasting_of t)) (counted_bytes segments) busy
+needs t segments busy = input_needs (content_of t) (counted_bytes segments) busy
 
--- the input stands behind all other messages, under the next id, which is answered
-abbrev pub enqueued : TablesState → List ℕ → ℕ → List ℕ → List (List ℕ) → TablesState
-enqueued t terminal number code segments = record t {
-  queues = record t.queues { queued = with_message (record { id = t.next_id; origin = terminal; code = code; conversation = false; segments = segments }) t.queues.queued };
+-- the input stands behind all other messages, under the next id
+abbrev pub enqueued : TablesState → List ℕ → ℕ → List (List ℕ) → TablesState
+enqueued t terminal number segments = record t {
+  queues = record t.queues { queued = with_message (record { id = t.next_id; origin = terminal; code = code_word segments; conversation = false; segments = segments }) t.queues.queued };
   next_id = t.next_id + 1;
-  inputs = change_at t.inputs (input_place t.inputs terminal) (with_input number);
+  terminals = change_at t.terminals (terminal_place t.terminals terminal) (with_last number);
   steps = t.steps + 1;
 }
 
--- The input is new where there is room for it, and else nothing changes.
-abbrev pub IsEnqueued : TablesState → TablesState → List ℕ → ℕ → List ℕ → List (List ℕ) → ℕ → Enqueued → Type 0
-IsEnqueued old new terminal number code segments busy (New id) =
-    (id ≡ old.next_id) × (needs old segments busy ≤ old.queues.limit) × (new ≡ enqueued old terminal number code segments)
-IsEnqueued old new terminal number code segments busy (Full needed limit) =
+-- The input is accepted under the next id where there is room for it, and else nothing changes.
+abbrev pub IsEnqueued : TablesState → TablesState → List ℕ → ℕ → List (List ℕ) → ℕ → Enqueued → Type 0
+IsEnqueued old new terminal number segments busy (New id) =
+    (id ≡ old.next_id) × (needs old segments busy ≤ old.queues.limit) × (new ≡ enqueued old terminal number segments)
+    × Applies (Accepts terminal number segments) old new
+IsEnqueued old new terminal number segments busy (Full needed limit) =
     (needed ≡ needs old segments busy) × (limit ≡ old.queues.limit) × (limit < needed) × (new ≡ old)
 
 -- a region has a message
@@ -80,7 +104,20 @@ abbrev pub IsFinished : TablesState → TablesState → ℕ → List EndedMessag
 IsFinished old new id outputs =
     IsSomeAnd (message_at id old.queues.queued) (λ message. (message.id ≡ id) × (new ≡ finished old message outputs))
 
--- what an acknowledgement leaves
-abbrev pub acknowledged : AckAnswer → List ℕ → LastingState → LastingState
-acknowledged Removed terminal lasting = removed_state lasting terminal
-acknowledged _ terminal lasting = lasting
+-- The message of an id is gone, what it sends was sent, and the databases are then these.
+abbrev pub IsClosed : DatabasesState → (Message → List EndedMessage) → TablesState → TablesState → ℕ → Type 0
+IsClosed databases sends old new id =
+    IsSomeAnd (message_at id old.queues.queued) (λ message. (message.id ≡ id) × (new ≡ with_databases (finished old message (sends message)) databases))
+
+-- the terminal's first reply is gone
+abbrev pub removed : TablesState → List ℕ → TablesState
+removed t terminal = record t { outputs = with_terminal terminal without_first t.outputs; steps = t.steps + 1 }
+
+-- An acknowledgement is answered by the replies that are kept. Only a reply that is removed changes
+-- anything.
+abbrev pub IsAcknowledged : TablesState → TablesState → List ℕ → ℕ → Result Acked AckRefused → Type 0
+IsAcknowledged old new terminal number (Ok Removed) = (ack_by (output_at old.outputs terminal) number ≡ Ok Removed) × (new ≡ removed old terminal)
+IsAcknowledged old new terminal number (Ok Already) = (ack_by (output_at old.outputs terminal) number ≡ Ok Already) × (new ≡ old)
+IsAcknowledged old new terminal number (Err Unknown) = (ack_by (output_at old.outputs terminal) number ≡ Err Unknown) × (new ≡ old)
+IsAcknowledged old new terminal number (Err (Ahead first)) = (ack_by (output_at old.outputs terminal) number ≡ Err (Ahead first)) × (new ≡ old)
+IsAcknowledged old new terminal number (Err (Fault fault)) = new ≡ old

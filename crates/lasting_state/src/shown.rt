@@ -1,3 +1,5 @@
+//! What a terminal sees.
+
 use tm_types::Reply;
 
 /// The reply that a terminal is shown.

@@ -1,32 +1,31 @@
 //! What lasts of a control region: databases, messages, replies and numbers.
-ghost use Rattle.std.specs.Prelude.{◌≡◌, ◌+◌, ◌<◌, ◌≤◌, ◌^◌, [], IfOk, OnOk, OnErr, IsSome, IsSomeAnd, None, length, map};
+ghost use Rattle.std.specs.Prelude.{◌≡◌, ◌<◌, ◌^◌, [], IfOk, OnOk, OnErr, IsSome, IsSomeAnd, None, Some, length, map, slice_get};
 ghost use Rattle.std.specs.Borrow.{sem};
-ghost use Rattle.std.specs.Option.{option_map};
-ghost use Rattle.tm_types.specs.Segment.{counted_bytes};
-ghost use Rattle.model_queues.specs.Queue.{IsNewId, with_message, without, messages_of, queued_at, message_at};
-ghost use Rattle.model_queues.specs.Outputs.{fresh_terminal};
-ghost use Rattle.model_queues.specs.Room.{input_needs};
-ghost use Rattle.model_machine.specs.Machine.{content, input_at, output_at, empty_state};
-ghost use Rattle.model_machine.specs.Steps.{accepted_state, removed_state, ack_by, show_by};
-ghost use Rattle.program_rows.specs.State.{dbds_of, IsClean};
-ghost use Rattle.lasting_state.specs.Tables.{lasting_of, with_databases, committed_databases, backed_databases, acknowledged, held, IsEnqueued, IsFinished};
+ghost use Rattle.model_queues.specs.Queue.{IsNewId, queued_at};
+ghost use Rattle.model_machine.specs.Machine.{output_at, empty_state, first_setting, terminal_place};
+ghost use Rattle.model_machine.specs.Lasting.{code_word, abend_outputs};
+ghost use Rattle.model_machine.specs.Lasting.LastingStep.{Completes, Discards};
+ghost use Rattle.program_rows.specs.State.{dbds_of, rows_of, IsClean};
+ghost use Rattle.lasting_state.specs.Tables.{lasting_of, content_of, committed_databases, backed_databases, held, Applies, IsEnqueued, IsFinished, IsClosed, IsAcknowledged};
 ghost use Rattle.lasting_state.specs.Showing.{IsShown};
 
 use crate::Shown;
+use crate::abend::abend_outputs;
 use crate::databases::empty_rows;
-use crate::inputs::{find_input, fresh_inputs, note_input};
 use crate::limits::COUNT_LIMIT;
 use crate::sending::{bytes_of, send_all};
-use model_machine::{AckAnswer, Lasting, TerminalInput};
+use crate::settings::first_settings;
+use crate::terminals::{fresh_states, note_input};
+use model_machine::{AckRefused, Acked, ControlFault, Lasting, TerminalState};
 use model_message::EndedMessage;
 use msg_queues::{QueueRefused, Queues};
-use out_queues::{AckAhead, Acked, Outputs, fresh_terminals};
+use out_queues::{AckAhead, Acked as OutputAcked, Outputs, fresh_terminals};
 use program_rows::Databases;
 use std::alloc::Global;
 use std::collections::VecDeque;
 use std::marker::Model;
-use sysdef_check::System;
-use tm_types::{Memory, Message, Name, Segments};
+use system_types::System;
+use tm_types::{AbendCode, Memory, Message, Name, Segments};
 
 /// What an input came to.
 #[derive(Clone, Copy, Debug)]
@@ -45,8 +44,8 @@ pub struct Tables {
     /// The messages, each with the region that works on it.
     queues: Queues,
     next_id: u64,
-    /// The last input of each terminal.
-    inputs: Vec<TerminalInput>,
+    /// The terminals, in the order of the definition.
+    terminals: Vec<TerminalState>,
     /// The replies of each terminal.
     outputs: Outputs,
     /// How many lasting steps were done.
@@ -59,7 +58,7 @@ impl Model for Tables {
 
     ghost Value = { TablesState };
 
-    ghost view = { λ t. record { databases = t.databases; queues = t.queues; next_id = t.next_id; inputs = t.inputs.items; outputs = t.outputs; steps = t.steps } };
+    ghost view = { λ t. record { databases = t.databases; queues = t.queues; next_id = t.next_id; terminals = t.terminals.items; outputs = t.outputs; steps = t.steps } };
 
     ghost invariant = { λ t. IsNewId t.next_id t.queues.queued };
 }
@@ -69,7 +68,7 @@ impl Tables {
 
     /// The tables of an empty control region of this system.
     pub fn new(alloc: Global, system: &System) -> Result<Tables, Memory>
-        ensures lasting { IfOk result (λ tables. lasting_of tables ≡ empty_state system.now) }
+        ensures lasting { IfOk result (λ tables. lasting_of (map first_setting system.now.codes) tables ≡ empty_state system.now) }
         ensures queues { IfOk result (λ tables. tables.queues ≡ record { limit = system.now.qbytes; queued = [] }) }
         ensures databases { IfOk result (λ tables. dbds_of tables.databases ≡ system.now.databases) }
         ensures clean { IfOk result (λ tables. IsClean tables.databases) }
@@ -78,7 +77,7 @@ impl Tables {
             databases: Databases::empty(alloc, system.databases())?,
             queues: Queues::new(alloc, system.qbytes()),
             next_id: 1,
-            inputs: fresh_inputs(alloc, system.terminals())?,
+            terminals: fresh_states(alloc, system.terminals())?,
             outputs: Outputs::new(alloc, system.terminals())?,
             steps: 0,
         })
@@ -86,20 +85,18 @@ impl Tables {
 
     /// The bytes of all messages and replies.
     pub fn content(&self) -> u64
-        ensures value { result ≡ content (lasting_of self.now) }
+        ensures value { result ≡ content_of self.now }
         ensures small { result < 2 ^ 63 }
     {
         self.queues.content() + self.outputs.content()
     }
 
-    /// The number of the terminal's last input, or None where there is no such terminal.
-    pub fn last_input(&self, terminal: &Name) -> Option<u64>
-        ensures { result ≡ option_map (λ input. input.last) (input_at self.now.inputs terminal.now) }
+    /// The number of the last input of the terminal at this place; 0 before the first.
+    pub fn last_input(&self, place: usize) -> u64
+        requires { place < length self.now.terminals }
+        ensures { IsSomeAnd (slice_get self.now.terminals place) (λ terminal. result ≡ terminal.last) }
     {
-        match find_input(&self.inputs, terminal) {
-            Some(input) => Some(input.last),
-            None => None,
-        }
+        self.terminals[place].last
     }
 
     /// The databases, to change them.
@@ -108,21 +105,6 @@ impl Tables {
         ensures* writes_back { sem 𝓛 (LendsDatabases self.entry result) }
     {
         &mut self.databases
-    }
-
-    /// Makes the changes of the databases since the last commit stay. This takes no memory.
-    pub fn commit(&mut self)
-        ensures { self.new ≡ with_databases self.old (committed_databases self.old.databases) }
-    {
-        self.databases.commit();
-    }
-
-    /// Takes back the changes of the databases since the last commit. This takes no memory.
-    pub fn back_out(&mut self)
-        ensures value { self.new ≡ with_databases self.old (backed_databases self.old.databases) }
-        ensures databases { dbds_of self.new.databases ≡ dbds_of self.old.databases }
-    {
-        self.databases.back_out();
     }
 
     /// The messages, each with the region that works on it.
@@ -139,17 +121,22 @@ impl Tables {
         self.steps
     }
 
-    /// Adds an input of a code to the queues, if they have the room with so many busy regions. Want of
-    /// memory changes nothing; it is answered too where a count would pass its limit.
+    /// Accepts an input of the terminal at this place, which has this code, if the queues have the room
+    /// for it with so many busy regions. Want of memory changes nothing; it is answered too where a
+    /// count would pass its limit.
     pub fn enqueue(
         &mut self,
+        place: usize,
         terminal: &Name,
         number: u64,
         code: &Name,
         segments: Segments,
         busy: u32,
     ) -> Result<Enqueued, Memory>
-        ensures ok { IfOk result (IsEnqueued self.old self.new terminal.now number code.now segments busy) }
+        requires place { terminal_place self.old.terminals terminal.now ≡ Some place }
+        requires within { place < length self.old.terminals }
+        requires code { code.now ≡ code_word segments }
+        ensures ok { IfOk result (IsEnqueued self.old self.new terminal.now number segments busy) }
         ensures err { OnErr result (self.new ≡ self.old) }
         ensures above { IsNewId self.old.next_id self.old.queues.queued }
     {
@@ -170,7 +157,7 @@ impl Tables {
         let replies = self.outputs.content();
         match self.queues.accept(message, busy, replies) {
             Ok(()) => {
-                note_input(&mut self.inputs, terminal, number);
+                note_input(&mut self.terminals, place, number);
                 self.next_id += 1;
                 self.steps += 1;
                 Ok(Enqueued::New(id))
@@ -188,9 +175,42 @@ impl Tables {
         self.queues.hold(id, region);
     }
 
-    /// Removes a message, and sends its outputs in their order; the databases stay. Want of memory
-    /// changes nothing; it is answered too where a count would pass its limit.
-    pub fn finish(&mut self, id: u64, outputs: VecDeque<EndedMessage>) -> Result<(), Memory>
+    /// Completes the message of this id: it goes, its outputs are sent in their order, and the changes
+    /// of the databases stay. Want of memory changes nothing; it is answered too where a count would
+    /// pass its limit.
+    pub fn complete(&mut self, id: u64, outputs: VecDeque<EndedMessage>) -> Result<(), Memory>
+        requires { IsSome (queued_at id self.old.queues.queued) }
+        ensures step { OnOk result (Applies (Completes id (rows_of self.old.databases.stores) outputs.items) self.old self.new) }
+        ensures closed { OnOk result (IsClosed (committed_databases self.old.databases) (λ _. outputs.items) self.old self.new id) }
+        ensures err { OnErr result (self.new ≡ self.old) }
+        ensures above { IsNewId self.old.next_id self.old.queues.queued }
+    {
+        self.finish(id, outputs)?;
+        self.databases.commit();
+        Ok(())
+    }
+
+    /// Discards the message of this id, the work on which ended abnormally: it goes, its origin is told
+    /// so, and the changes of the databases are taken back. Want of memory changes nothing; it is
+    /// answered too where a count would pass its limit.
+    pub fn discard(&mut self, alloc: Global, id: u64, abend: AbendCode) -> Result<(), Memory>
+        requires { IsSome (queued_at id self.old.queues.queued) }
+        ensures step { OnOk result (Applies (Discards id abend) self.old self.new) }
+        ensures closed { OnOk result (IsClosed (backed_databases self.old.databases) (λ message. abend_outputs message abend) self.old self.new id) }
+        ensures err { OnErr result (self.new ≡ self.old) }
+        ensures above { IsNewId self.old.next_id self.old.queues.queued }
+    {
+        let Some(message) = self.queues.find(id) else {
+            unreachable!()
+        };
+        let outputs = abend_outputs(alloc, message, abend)?;
+        self.finish(id, outputs)?;
+        self.databases.back_out();
+        Ok(())
+    }
+
+    /// Removes a message, and sends its outputs in their order; the databases stay.
+    fn finish(&mut self, id: u64, outputs: VecDeque<EndedMessage>) -> Result<(), Memory>
         requires { IsSome (queued_at id self.old.queues.queued) }
         ensures ok { OnOk result (IsFinished self.old self.new id outputs.items) }
         ensures err { OnErr result (self.new ≡ self.old) }
@@ -229,27 +249,24 @@ impl Tables {
         }
     }
 
-    /// Takes an acknowledgement, or says why not.
-    pub fn acknowledge(&mut self, terminal: &Name, number: u64) -> Result<AckAnswer, Memory>
-        ensures answer { IfOk result (λ answer. answer ≡ ack_by (output_at self.old.outputs terminal.now) number) }
-        ensures ok { IfOk result (λ answer. lasting_of self.new ≡ acknowledged answer terminal.now (lasting_of self.old)) }
-        ensures queues { self.new.queues ≡ self.old.queues }
-        ensures databases { self.new.databases ≡ self.old.databases }
-        ensures err { OnErr result (self.new ≡ self.old) }
+    /// Takes an acknowledgement, or says why not. A fault, which changes nothing, comes only where the
+    /// count of steps would pass its limit.
+    pub fn acknowledge(&mut self, terminal: &Name, number: u64) -> Result<Acked, AckRefused>
+        ensures { IsAcknowledged self.old self.new terminal.now number result }
     {
         if self.outputs.terminal(terminal).is_none() {
-            return Ok(AckAnswer::Unknown);
+            return Err(AckRefused::Unknown);
         }
         if self.steps >= COUNT_LIMIT {
-            return Err(Memory);
+            return Err(AckRefused::Fault(ControlFault::Memory));
         }
         match self.outputs.acknowledge(terminal, number) {
-            Ok(Acked::Removed) => {
+            Ok(OutputAcked::Removed) => {
                 self.steps += 1;
-                Ok(AckAnswer::Removed)
+                Ok(Acked::Removed)
             }
-            Ok(Acked::Already) => Ok(AckAnswer::Already),
-            Err(AckAhead { first }) => Ok(AckAnswer::Ahead(first)),
+            Ok(OutputAcked::Already) => Ok(Acked::Already),
+            Err(AckAhead { first }) => Err(AckRefused::Ahead(first)),
         }
     }
 }
@@ -262,8 +279,9 @@ pub fn empty_lasting(alloc: Global, system: &System) -> Result<Lasting, Memory>
         rows: empty_rows(alloc, system.databases())?,
         messages: Vec::new(alloc),
         next_id: 1,
-        inputs: fresh_inputs(alloc, system.terminals())?,
+        terminals: fresh_states(alloc, system.terminals())?,
         outputs: fresh_terminals(alloc, system.terminals())?,
+        codes: first_settings(alloc, system.codes())?,
         steps: 0,
     })
 }

@@ -1,6 +1,8 @@
 -- A region's pick in the words of the rule.
-use Rattle.std.specs.Prelude.{◌≡◌, ℕ, false, ◌⊎◌, List, [], ◌∷◌, Option, Some}
+use Rattle.std.specs.Prelude.{◌≡◌, ℕ, false, ◌⊎◌, List, [], ◌∷◌, Option, Some, None, IsSomeAnd}
 use Rattle.std.specs.List.{AllByRecursion}
+use Rattle.model_queues.specs.declared.queued.Queued.{Queued}
+use Rattle.model_queues.specs.Queue.{AreInOrder, first_free, queued_at}
 use Rattle.model_system.specs.declared.code.Code.{Code}
 use Rattle.model_system.specs.declared.code_state.CodeState.{CodeState}
 use Rattle.model_machine.specs.Pick.{Candidate, candidate_of, goes_first}
@@ -29,3 +31,9 @@ IsPicked waits (class ∷ classes) codes states c =
 -- no class has one
 abbrev pub NonePicked : (List ℕ → Option ℕ) → List ℕ → List Code → List CodeState → Type 0
 NonePicked waits classes codes states = AllByRecursion (λ class. NoneEligible waits class codes states) classes
+
+-- the message of this id is there, no region has it, and it is the code's first such message; ids ascend
+pub record IsFirstFree (queued : List Queued) (code : List ℕ) (id : ℕ) : Type 0 where
+  pub first : first_free code queued ≡ Some id
+  pub free : IsSomeAnd (queued_at id queued) (λ q. q.holder ≡ None)
+  pub ordered : AreInOrder queued

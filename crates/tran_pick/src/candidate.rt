@@ -1,7 +1,7 @@
 //! Codes that a region may serve.
-ghost use Rattle.std.specs.Prelude.{◌≡◌, if◌then◌else◌, None, IfSome};
-ghost use Rattle.std.specs.Option.{IsSomeAnd};
-ghost use Rattle.model_queues.specs.Queue.{first_free, queued_at};
+ghost use Rattle.std.specs.Prelude.{◌≡◌, if◌then◌else◌, IfSome};
+ghost use Rattle.model_queues.specs.Queue.{first_free};
+ghost use Rattle.tran_pick.specs.Picked.{IsFirstFree};
 ghost use Rattle.model_machine.specs.Pick.{current_priority, is_served, candidate_of, better, goes_first};
 
 use model_system::{Code, CodeState};
@@ -66,7 +66,7 @@ fn is_served(class: u8, code: &Code, state: &CodeState) -> bool
 /// The code as a candidate of the class, or None where it isn't one.
 pub fn candidate_of(class: u8, code: &Code, state: &CodeState, queues: &Queues) -> Option<Candidate>
     ensures value { result ≡ candidate_of (λ name. first_free name queues.now.queued) class code.now state.now }
-    ensures free { IfSome result (λ c. IsSomeAnd (queued_at c.id queues.now.queued) (λ q. q.holder ≡ None)) }
+    ensures free { IfSome result (λ c. IsFirstFree queues.now.queued c.code c.id) }
 {
     if !is_served(class, code, state) {
         return None;

@@ -1,10 +1,10 @@
 //! The first class with a code that may be served.
-ghost use Rattle.std.specs.Prelude.{◌≡◌, ◌≤◌, ◌-◌, [], length, slice_index_or, None, IfSome, IfNone};
-ghost use Rattle.std.specs.Option.{option_map, IsSome, IsSomeAnd};
-ghost use Rattle.model_queues.specs.Queue.{first_free, queued_at};
+ghost use Rattle.std.specs.Prelude.{◌≡◌, ◌≤◌, ◌-◌, [], length, slice_index_or, IfSome, IfNone};
+ghost use Rattle.std.specs.Option.{option_map, IsSome};
+ghost use Rattle.model_queues.specs.Queue.{first_free};
 ghost use Rattle.model_system.specs.Codes.{code_at};
 ghost use Rattle.model_machine.specs.Pick.{Candidate, best_of, pick_among, pick_of};
-ghost use Rattle.tran_pick.specs.Picked.{IsPicked, NonePicked};
+ghost use Rattle.tran_pick.specs.Picked.{IsFirstFree, IsPicked, NonePicked};
 
 use crate::Pick;
 use crate::candidate::{Candidate, better, candidate_of};
@@ -25,7 +25,7 @@ pub fn pick(system: &System, region: u32, state: &Codes, queues: &Queues) -> Opt
     ensures value { result ≡ option_map (λ c. record { code = c.code; id = c.id }) (pick_of system.now region state.now (λ name. first_free name queues.now.queued)) }
     ensures picked { IfSome result (λ p. (c : Candidate) × (c.code ≡ p.code) × (c.id ≡ p.id) × IsPicked (λ name. first_free name queues.now.queued) (slice_index_or system.now.regions (region - 1) []) system.now.codes state.now c) }
     ensures none { IfNone result (NonePicked (λ name. first_free name queues.now.queued) (slice_index_or system.now.regions (region - 1) []) system.now.codes state.now) }
-    ensures free { IfSome result (λ pick. IsSomeAnd (queued_at pick.id queues.now.queued) (λ q. q.holder ≡ None)) }
+    ensures free { IfSome result (λ pick. IsFirstFree queues.now.queued pick.code pick.id) }
     ensures code { IfSome result (λ pick. IsSome (code_at system.now.codes pick.code)) }
 {
     match candidate_for(system, region, state, queues) {
@@ -41,7 +41,7 @@ fn candidate_for(system: &System, region: u32, state: &Codes, queues: &Queues) -
     requires positive { 1 ≤ region }
     requires defined { region ≤ length system.now.regions }
     ensures value { result ≡ pick_of system.now region state.now (λ name. first_free name queues.now.queued) }
-    ensures free { IfSome result (λ c. IsSomeAnd (queued_at c.id queues.now.queued) (λ q. q.holder ≡ None)) }
+    ensures free { IfSome result (λ c. IsFirstFree queues.now.queued c.code c.id) }
 {
     let classes = &system.regions()[region as usize - 1];
     pick_among(classes.as_slice(), system.codes(), state.states(), queues)
@@ -55,7 +55,7 @@ fn pick_among(
     queues: &Queues,
 ) -> Option<Candidate>
     ensures value { result ≡ pick_among (λ name. first_free name queues.now.queued) classes.now codes.now states.now }
-    ensures free { IfSome result (λ c. IsSomeAnd (queued_at c.id queues.now.queued) (λ q. q.holder ≡ None)) }
+    ensures free { IfSome result (λ c. IsFirstFree queues.now.queued c.code c.id) }
 {
     for class in classes {
         if let Some(best) = best_of(*class, codes, states, queues) {
@@ -68,7 +68,7 @@ fn pick_among(
 // Of the codes with this class the one that goes first.
 fn best_of(class: u8, codes: &[Code], states: &[CodeState], queues: &Queues) -> Option<Candidate>
     ensures value { result ≡ best_of (λ name. first_free name queues.now.queued) class codes.now states.now }
-    ensures free { IfSome result (λ c. IsSomeAnd (queued_at c.id queues.now.queued) (λ q. q.holder ≡ None)) }
+    ensures free { IfSome result (λ c. IsFirstFree queues.now.queued c.code c.id) }
 {
     let mut best = None;
     for (code, state) in codes.iter().zip(states) {
