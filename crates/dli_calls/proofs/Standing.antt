@@ -1,9 +1,9 @@
 -- Where a call leaves a PCB are paths of the database.
-use Rattle.std.proofs.Common.{◌≡◌, ℕ, List, Bool, true, false, cond, ◌&&◌, Option, None, Some, sym, subst}
+use Rattle.std.proofs.Common.{◌≡◌, ℕ, ◌-◌, ◌≤◌, List, length, Bool, true, false, cond, ◌&&◌, Option, None, Some, refl, sym, subst, ap}
 use Rattle.std.specs.Option.{option_map_or}
-use Rattle.std.specs.Prelude.{Result, Ok, Err, OnOk, OnErr}
-use Rattle.std.specs.List.{AllByRecursion}
-use Rattle.std.proofs.lemmas.Option.{none-some}
+use Rattle.std.specs.Prelude.{◌==◌, All, IfOk, IfSome, IsSomeAnd, Result, Ok, Err, OnOk, OnErr, slice_get}
+use Rattle.std.proofs.lemmas.Option.{none-some, get_or_from_slice_get, slice_get_within}
+use Rattle.std.proofs.lemmas.List.Elements.{All-get_or}
 use Rattle.tm_types.specs.declared.dbd.Dbd.{Dbd}
 use Rattle.tm_types.specs.declared.dbd.SegType.{SegType}
 use Rattle.tm_types.specs.declared.ssa.Ssa.{Ssa}
@@ -13,7 +13,10 @@ use Rattle.model_rows.specs.declared.row.Row.{Row}
 use Rattle.model_rows.specs.Path.{IsPath}
 use Rattle.model_rows.specs.Row.{IsRow}
 use Rattle.model_rows.specs.Rows.{AreRows}
-use Rattle.model_rows.proofs.Lists.{all_then}
+use Rattle.tm_types.specs.Segment.{IsSegmentText}
+use Rattle.tm_types.specs.SegTypes.{type_at}
+use Rattle.model_rows.specs.Path.{end_type}
+use Rattle.model_dli.specs.declared.call.Performed.{Performed}
 use Rattle.model_dli.specs.declared.call.Position.{Position}
 use Rattle.model_dli.specs.declared.call.Reach.{Reach}
 use Rattle.model_dli.specs.declared.call.Reach.TheVariants.{Start, Next, Parent}
@@ -22,26 +25,52 @@ use Rattle.model_dli.specs.Get.{reached, position_at, position_failed, position_
 use Rattle.model_dli.specs.Conditions.{IsPosition}
 use Rattle.dli_calls.proofs.Finding.{find_has}
 
-row_paths : (dbd : Dbd) (rows : List Row) → AreRows dbd rows → AllByRecursion (λ row. IsPath dbd.types row.path) rows
-row_paths dbd rows h = all_then (IsRow dbd.types rows) (λ row. IsPath dbd.types row.path) rows (λ row r. r.path) h.each
-
--- a row that a get reaches has a path of the database
-pub reached_path : (dbd : Dbd) (reach : Reach) (ssas : List Ssa) (at : Position) (rows : List Row) (row : Row) → AreRows dbd rows
-    → reached reach dbd.types ssas at rows ≡ Some row → IsPath dbd.types row.path
-reached_path dbd Start ssas at rows row h e =
-    find_has (λ r. IsPath dbd.types r.path) (λ r. is_after None r.path && fits dbd.types ssas r.path) rows row (row_paths dbd rows h) e
-reached_path dbd Next ssas at rows row h e =
-    find_has (λ r. IsPath dbd.types r.path) (λ r. is_after at.position r.path && fits dbd.types ssas r.path) rows row (row_paths dbd rows h) e
-reached_path dbd Parent ssas at rows row h e = by at.parentage e
+-- a row that a get reaches is one of the rows
+pub reached_row : (dbd : Dbd) (reach : Reach) (ssas : List Ssa) (at : Position) (rows : List Row) (row : Row) → AreRows dbd rows
+    → reached reach dbd.types ssas at rows ≡ Some row → IsRow dbd.types rows row
+reached_row dbd Start ssas at rows row h e =
+    find_has (IsRow dbd.types rows) (λ r. is_after None r.path && fits dbd.types ssas r.path) rows row h.each e
+reached_row dbd Next ssas at rows row h e =
+    find_has (IsRow dbd.types rows) (λ r. is_after at.position r.path && fits dbd.types ssas r.path) rows row h.each e
+reached_row dbd Parent ssas at rows row h e = by at.parentage e
   where
-    by : (o : Option (List (ℕ × List ℕ))) → option_map_or (λ parent. cond (is_there parent rows) (first_below dbd.types ssas at.position parent rows) None) o None ≡ Some row → IsPath dbd.types row.path
+    by : (o : Option (List (ℕ × List ℕ))) → option_map_or (λ parent. cond (is_there parent rows) (first_below dbd.types ssas at.position parent rows) None) o None ≡ Some row → IsRow dbd.types rows row
     by None f = absurd (none-some row f)
     by (Some parent) f = there (is_there parent rows) f
       where
-        there : (b : Bool) → cond b (first_below dbd.types ssas at.position parent rows) None ≡ Some row → IsPath dbd.types row.path
+        there : (b : Bool) → cond b (first_below dbd.types ssas at.position parent rows) None ≡ Some row → IsRow dbd.types rows row
         there true k =
-            find_has (λ r. IsPath dbd.types r.path) (λ r. is_after at.position r.path && is_after (Some parent) r.path && is_below parent r.path && fits dbd.types ssas r.path) rows row (row_paths dbd rows h) k
+            find_has (IsRow dbd.types rows) (λ r. is_after at.position r.path && is_after (Some parent) r.path && is_below parent r.path && fits dbd.types ssas r.path) rows row h.each k
         there false k = absurd (none-some row k)
+
+-- so it has a path of the database
+pub reached_path : (dbd : Dbd) (reach : Reach) (ssas : List Ssa) (at : Position) (rows : List Row) (row : Row) → AreRows dbd rows
+    → reached reach dbd.types ssas at rows ≡ Some row → IsPath dbd.types row.path
+reached_path dbd reach ssas at rows row h e = (reached_row dbd reach ssas at rows row h e).path
+
+short_type : (found : Option SegType) (n : ℕ) → IfSome found (λ s. s.bytes ≤ 1996) → IsSomeAnd found (λ s. n ≡ s.bytes) → n ≤ 1996
+short_type (Some s) n short whole = subst (λ m. m ≤ 1996) (sym whole) short
+short_type None n short whole = absurd whole
+
+short_at : (types : List SegType) (number : ℕ) → All (λ s. s.bytes ≤ 1996) types → IfSome (type_at types number) (λ s. s.bytes ≤ 1996)
+short_at types number short = by (number == 0) (slice_get types (number - 1)) refl
+  where
+    by : (b : Bool) (found : Option SegType) → slice_get types (number - 1) ≡ found → IfSome (cond b None found) (λ s. s.bytes ≤ 1996)
+    by true found e = tt
+    by false None e = tt
+    by false (Some s) e = subst (λ (t : SegType). t.bytes ≤ 1996) (get_or_from_slice_get types (number - 1) s s e) (All-get_or (λ t. t.bytes ≤ 1996) types (number - 1) s (slice_get_within types (number - 1) s e) short)
+
+-- and where no type has more bytes than a segment's text, its data is such a text
+pub reached_text : (dbd : Dbd) (reach : Reach) (ssas : List Ssa) (at : Position) (rows : List Row) (row : Row) → AreRows dbd rows
+    → reached reach dbd.types ssas at rows ≡ Some row → All (λ s. s.bytes ≤ 1996) dbd.types → IsSegmentText row.bytes
+reached_text dbd reach ssas at rows row h e short =
+    let r = reached_row dbd reach ssas at rows row h e in
+    (short_type (type_at dbd.types (end_type row.path)) (length row.bytes) (short_at dbd.types (end_type row.path) short) r.whole, r.printable)
+
+pub gives_text : {E : Type 0} (result : Result Performed E) (status : Status) (bytes : List ℕ) → IfOk result (λ p. p ≡ record { status = status; area = Some bytes; changed = None })
+    → IsSegmentText bytes → IfOk result (λ p. IfSome p.area IsSegmentText)
+gives_text (Ok p) status bytes e text = subst (λ o. IfSome o IsSegmentText) (sym (ap (λ (q : Performed). q.area) e)) text
+gives_text (Err x) status bytes e text = tt
 
 -- a PCB on a path of the database stands on paths of the database
 pub stands_at : (types : List SegType) (reach : Reach) (hold : Bool) (at : Position) (path : List (ℕ × List ℕ)) → IsPosition types at → IsPath types path

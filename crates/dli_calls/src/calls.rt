@@ -1,7 +1,8 @@
 //! Database calls.
-ghost use Rattle.std.specs.Prelude.{◌≡◌, ◌≤◌, length, IfOk, IfErr, IfSome, OnOk, OnErr, None, ◌&&◌, ◌||◌};
+ghost use Rattle.std.specs.Prelude.{◌≡◌, ◌≤◌, length, All, IfOk, IfErr, IfSome, OnOk, OnErr, None, ◌&&◌, ◌||◌};
 ghost use Rattle.std.specs.Option.{option_copied, option_map};
 ghost use Rattle.tm_types.specs.declared.status.Status.TheVariants.{AM};
+ghost use Rattle.tm_types.specs.Segment.{IsSegmentText};
 ghost use Rattle.model_rows.specs.Rows.{IsImage};
 ghost use Rattle.model_dli.specs.Conditions.{IsDbCall, IsPosition, AreInsertSsas};
 ghost use Rattle.model_dli.specs.Dli.{dli, get, has_option, is_allowed, position_denied, insert, replace, delete};
@@ -39,6 +40,7 @@ pub fn plan<R: Rows>(
     requires position { IsPosition dbd.now.types at.now }
     ensures planned { IfOk result (Plans dbd.now (R.rows rows.now) (dli dbd.now call.now at.now (R.rows rows.now))) }
     ensures position { IfOk result (λ p. IsPosition dbd.now.types p.position) }
+    ensures text { All (λ type. type.bytes ≤ 1996) dbd.now.types → IfOk result (λ p. IfSome p.area IsSegmentText) }
 {
     let position = copied(at)?;
     if !is_allowed(call.function, call.options) {
@@ -74,6 +76,7 @@ fn plan_get<R: Rows>(
     requires position { IsPosition dbd.now.types at }
     ensures planned { IfOk result (Plans dbd.now (R.rows rows.now) (get reach hold dbd.now call.now at (R.rows rows.now))) }
     ensures position { IfOk result (λ p. IsPosition dbd.now.types p.position) }
+    ensures text { All (λ type. type.bytes ≤ 1996) dbd.now.types → IfOk result (λ p. IfSome p.area IsSegmentText) }
 {
     match get(reach, hold, dbd, call, &mut at, rows) {
         Ok(performed) => Ok(Planned {

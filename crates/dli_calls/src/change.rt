@@ -39,6 +39,7 @@ pub fn insert<R: Rows>(
     requires area { IsTrue (list_all is_printable call.now.area) }
     ensures planned { IfOk result (Plans dbd.now (R.rows rows.now) (insert dbd.now call.now at (R.rows rows.now))) }
     ensures position { IfOk result (λ p. IsPosition dbd.now.types p.position) }
+    ensures no_data { IfOk result (λ p. p.area ≡ None) }
 {
     let _hierarchy = dbd.types.as_slice();
     let ssas = call.ssas.as_slice();
@@ -70,6 +71,7 @@ pub fn replace<R: Rows>(
     requires area { IsTrue (list_all is_printable call.now.area) }
     ensures planned { IfOk result (Plans dbd.now (R.rows rows.now) (replace dbd.now call.now at (R.rows rows.now))) }
     ensures position { IfOk result (λ p. IsPosition dbd.now.types p.position) }
+    ensures no_data { IfOk result (λ p. p.area ≡ None) }
 {
     let _hierarchy = dbd.types.as_slice();
     let area = call.area.as_slice();
@@ -99,6 +101,7 @@ pub fn delete<R: Rows>(
     requires position { IsPosition dbd.now.types at }
     ensures planned { IfOk result (Plans dbd.now (R.rows rows.now) (delete dbd.now at (R.rows rows.now))) }
     ensures position { IfOk result (λ p. IsPosition dbd.now.types p.position) }
+    ensures no_data { IfOk result (λ p. p.area ≡ None) }
 {
     let Some(held) = &at.hold else {
         return Ok(answer_at(Status::DJ, at));

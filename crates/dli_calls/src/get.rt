@@ -1,5 +1,5 @@
 //! The gets: GU, GN and GNP, and the same with hold.
-ghost use Rattle.std.specs.Prelude.{◌≡◌, ◌≤◌, length, IfOk, IfErr, OnOk, OnErr, OnSome, None, Some, if◌then◌else◌};
+ghost use Rattle.std.specs.Prelude.{◌≡◌, ◌≤◌, length, All, IfOk, IfSome, IfErr, OnOk, OnErr, OnSome, None, Some, if◌then◌else◌};
 ghost use Rattle.std.specs.Option.{option_copied};
 ghost use Rattle.model_dli.specs.Get.{reached, missed_status, level_status, moved_status, reached_status, position_at, position_failed, position_missed};
 ghost use Rattle.model_dli.specs.Dli.{get};
@@ -7,6 +7,7 @@ ghost use Rattle.model_dli.specs.Search.{is_there};
 ghost use Rattle.model_dli.specs.declared.call.Reach.TheVariants.{Parent};
 ghost use Rattle.tm_types.specs.declared.status.Status.TheVariants.{GE, GP};
 ghost use Rattle.model_dli.specs.Conditions.{IsPosition};
+ghost use Rattle.tm_types.specs.Segment.{IsSegmentText};
 ghost use Rattle.model_rows.specs.Rows.{AreRows};
 ghost use Rattle.dli_calls.specs.Performs.{Performs, RefusesCall};
 
@@ -34,6 +35,7 @@ pub fn get<R: Rows>(
     ensures refused { IfErr result (RefusesCall None) }
     ensures kept { OnErr result (at.new ≡ at.old) }
     ensures valid { IsPosition dbd.now.types at.new }
+    ensures text { All (λ type. type.bytes ≤ 1996) dbd.now.types → IfOk result (λ p. IfSome p.area IsSegmentText) }
 {
     let ssas = call.ssas.as_slice();
     match reached(reach, dbd, ssas, at, rows) {

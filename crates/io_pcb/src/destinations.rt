@@ -7,7 +7,7 @@ ghost use Rattle.model_system.specs.Codes.{code_at};
 ghost use Rattle.model_message.specs.Calls.{destination_named, without_blanks};
 
 use model_system::Code;
-use sysdef_check::System;
+use system_types::System;
 use tm_types::Name;
 
 /// The text without the blanks at its end.

@@ -1,3 +1,4 @@
+//! A message that was ended.
 use tm_types::{Name, Segments};
 
 /// A message that was ended, as it is lent.

@@ -1,33 +1,10 @@
+//! What the calls answer, in worked rows.
 use super::*;
 use model_message::EndedMessage;
-use model_system::{Classes, Pcb, Pcbs, SegmentKind, Transaction};
+use model_system::{Pcb, Pcbs, SegmentKind, Transaction};
 use std::alloc::Global;
 use std::test::Fail;
-use sysdef_check::{Definition, Macro, MacroLine, System, check};
 use tm_types::{Function, Message, Name, Segment, Segments, Status};
-
-fn line(number: u32, content: Macro) -> MacroLine {
-    MacroLine { number, content }
-}
-
-/// The terminals T1 and T2, and a region.
-fn terminals(alloc: Global) -> Result<System, Fail> {
-    let first = Name::read(b"T1").ok_or("no name")?;
-    let second = Name::read(b"T2").ok_or("no name")?;
-    let control = Macro::Control {
-        qbytes: 131_072,
-        logs: 64,
-    };
-    let mut classes = Classes::new();
-    classes.push(1);
-    let mut items = Vec::new(alloc);
-    items.push(line(1, control))?;
-    items.push(line(2, Macro::Terminal { name: first }))?;
-    items.push(line(3, Macro::Terminal { name: second }))?;
-    items.push(line(4, Macro::Region { classes }))?;
-    items.push(line(5, Macro::End))?;
-    Ok(check(alloc, Definition::of(items))?)
-}
 
 /// A message of two segments from T1, for a code with at most 3 segments of 8 bytes, and a program
 /// with a modifiable PCB and one for T2.
@@ -67,7 +44,6 @@ fn start(alloc: Global) -> Result<Work, Fail> {
 fn call(
     alloc: Global,
     work: &mut Work,
-    system: &System,
     function: Function,
     pcb: u8,
     text: &[u8],
@@ -80,7 +56,6 @@ fn call(
             Ok(work.insert(pcb, segment.text())?)
         }
         Function::PURG => Ok(work.purge(pcb)?),
-        Function::CHNG => Ok(work.change(pcb, text, system)),
         _ => {
             work.reset();
             Ok(Status::Blank)
@@ -101,9 +76,8 @@ fn is_ended(message: Option<&EndedMessage>, to: &[u8], text: &[u8]) -> bool {
 
 #[test]
 fn answers_a_script_of_calls(rt: HostRuntime) -> Result<(), Fail> {
-    let system = terminals(rt.alloc())?;
     let mut work = start(rt.alloc())?;
-    let calls: [(Function, u8, &[u8], Status); 17] = [
+    let calls: [(Function, u8, &[u8], Status); 12] = [
         (Function::GN, 0, b"", Status::QD),
         (Function::GU, 0, b"", Status::Blank),
         (Function::GN, 0, b"", Status::Blank),
@@ -111,19 +85,14 @@ fn answers_a_script_of_calls(rt: HostRuntime) -> Result<(), Fail> {
         (Function::ISRT, 1, b"123456789", Status::A3),
         (Function::ISRT, 0, b"123456789", Status::A6),
         (Function::PURG, 1, b"", Status::A3),
-        (Function::CHNG, 2, b"T2", Status::A2),
-        (Function::CHNG, 1, b"T9", Status::QH),
-        (Function::CHNG, 1, b"T2  ", Status::Blank),
+        (Function::ISRT, 2, b"Q", Status::Blank),
+        (Function::PURG, 2, b"", Status::Blank),
         (Function::ISRT, 2, b"P", Status::Blank),
-        (Function::ISRT, 1, b"Q", Status::Blank),
-        (Function::CHNG, 1, b"T1", Status::A2),
-        (Function::PURG, 1, b"", Status::Blank),
-        (Function::CHNG, 1, b"T1", Status::Blank),
         (Function::ISRT, 0, b"R", Status::Blank),
         (Function::ISRT, 2, b"S", Status::A7),
     ];
     for (function, pcb, text, status) in calls.iter() {
-        let given = call(rt.alloc(), &mut work, &system, *function, *pcb, *text)?;
+        let given = call(rt.alloc(), &mut work, *function, *pcb, *text)?;
         assert_eq!(rt; given, *status);
     }
     let outputs = work.outputs()?;
@@ -138,15 +107,12 @@ fn answers_a_script_of_calls(rt: HostRuntime) -> Result<(), Fail> {
 
 #[test]
 fn takes_output_back(rt: HostRuntime) -> Result<(), Fail> {
-    let system = terminals(rt.alloc())?;
     let mut work = start(rt.alloc())?;
-    assert_eq!(rt; work.change(1, b"T2", &system), Status::Blank);
     let segment = Segment::make(rt.alloc(), b"P")?;
-    assert_eq!(rt; work.insert(1, segment.text())?, Status::Blank);
-    assert_eq!(rt; work.purge(1)?, Status::Blank);
+    assert_eq!(rt; work.insert(2, segment.text())?, Status::Blank);
+    assert_eq!(rt; work.purge(2)?, Status::Blank);
     work.reset();
     assert!(rt; work.output(0).is_none());
-    assert_eq!(rt; work.insert(1, segment.text())?, Status::A3);
     let first = work.first().ok_or("no segment")?;
     assert_eq!(rt; first.text(), b"ECHO A".as_slice());
     let next = work.get_next()?.text.ok_or("no segment")?;

@@ -1,3 +1,4 @@
+//! The work on a message.
 ghost use Rattle.std.specs.Prelude.{◌≡◌, IfOk, OnOk, OnErr, slice_get};
 ghost use Rattle.std.specs.Option.{option_copied, option_map};
 ghost use Rattle.tm_types.specs.Segment.{IsSegmentText};
@@ -13,7 +14,7 @@ use model_system::{Pcbs, Transaction};
 use std::alloc::Global;
 use std::collections::VecDeque;
 use std::marker::Model;
-use sysdef_check::System;
+use system_types::System;
 use tm_types::{Memory, Message, Segment, Segments, Status};
 
 /// What a get is answered.

@@ -1,67 +1,67 @@
 -- A region's work goes on as the trial does.
 use Rattle.std.proofs.Common.{◌≡◌, ℕ, ◌+◌, Bool, true, false, List, [], ◌∷◌, ◌++◌, length, sym, ◌∙◌, ap, refl, add-one}
-use Rattle.std.specs.Prelude.{Option, Some, None, if◌then◌else◌, replicate, slice_get}
-use Rattle.std.specs.Option.{option_and_then, option_map}
+use Rattle.std.specs.Prelude.{Option, Some, None, if◌then◌else◌, replicate}
+use Rattle.std.specs.Option.{option_and_then}
 use Rattle.tm_types.specs.declared.abend.AbendCode.{AbendCode}
 use Rattle.tm_types.specs.declared.message.Message.{Message}
 use Rattle.tm_types.specs.declared.status.Status.{Status}
 use Rattle.model_script.specs.declared.need.CallText.{CallText}
 use Rattle.model_script.specs.declared.need.Need.{Need}
 use Rattle.model_script.specs.declared.need.Need.TheVariants.{Call}
-use Rattle.model_script.specs.declared.program.ScriptLine.{ScriptLine}
-use Rattle.model_script.specs.Script.{Answer, ScriptState, script_start, script_after, settled, step, need_of, need_at, answered, moved_on, waiting_by, waiting_at}
-use Rattle.model_script.proofs.Settled.{settled_twice}
-use Rattle.model_system.specs.declared.code.Transaction.{Transaction}
-use Rattle.model_system.specs.declared.pcb.Pcb.{Pcb}
+use Rattle.model_script.specs.Script.{Answer, script_start, script_after, settled, step, need_of, need_at, answered, moved_on, waiting_at}
+use Rattle.model_script.proofs.Settled.{settled_twice, answered_alike, script_after_append}
+use Rattle.model_system.specs.Jobs.{Job}
 use Rattle.script_run.specs.Running.{Running}
 use Rattle.model_dli.specs.declared.call.Position.{Position}
 use Rattle.model_dli.specs.Data.{data_start, nowhere}
 use Rattle.model_message.specs.Work.{message_start}
 use Rattle.seg_store.specs.Slots.{Stored}
 use Rattle.program_rows.specs.State.{DatabasesState, IsClean, rows_of, dbds_of, data_of}
-use Rattle.model_machine.specs.Trial.{Job, Trial, WorkEnd, trial_start, trial_of, trial_step, trial_by, trial_need, trial_called, trial_end, end_by, is_sync, unless_abend, call_answer, call_work, call_data, call_abend, job_reached}
+use Rattle.model_machine.specs.Trial.{Trial, WorkEnd, Outcome, Advance, trial_start, trial_of, advance, advance_by, called, gone, gone_on, is_sync, unless_abend, call_outcome, outcome_at, Reached, reached}
+use Rattle.model_machine.specs.Trial.Advance.{Goes, Stops}
 use Rattle.model_machine.specs.Trial.WorkEnd.{Syncs, Abends}
-use Rattle.message_run.specs.RunState.{RunState}
-use Rattle.message_run.specs.Answering.{Answers}
-use Rattle.message_run.specs.declared.run.Ending.{Ending}
-use Rattle.message_run.specs.declared.run.Advanced.TheVariants.{Called, Ended as WorkEnded}
-use Rattle.message_run.specs.declared.run.Ending.TheVariants.{Sync, Abend as AbendEnding}
-use Rattle.message_run.specs.Ahead.{IsAhead, IsStart, Advances, end_of}
+use Rattle.message_run.specs.RunState.{RunState, AreStanding}
+use Rattle.message_run.specs.Answering.{Answers, outcome_of}
+use Rattle.message_run.specs.Ahead.{IsAhead, IsStart, GoesBy, StopsSo}
+use Rattle.message_run.proofs.Standing.{all_nowhere}
+use Rattle.model_rows.specs.declared.row.Row.{Row}
 
--- one more answer: the script goes on from where it stood
-script_after-append : (lines : List ScriptLine) (limit : ℕ) (state : ScriptState) (answers : List Answer) (answer : Answer)
-    → script_after lines limit state (answers ++ answer ∷ []) ≡ answered lines limit (script_after lines limit state answers) answer
-script_after-append lines limit state [] answer = refl
-script_after-append lines limit state (first ∷ answers) answer = script_after-append lines limit (answered lines limit state first) answers answer
+pub stops_at : (sync : Bool) (rest : Advance) → sync ≡ true → (if sync then Stops Syncs else rest) ≡ Stops Syncs
+stops_at true rest e = refl
+stops_at false rest e = cc
 
--- what follows an answer depends only on where the script settles
-answered_settled : (lines : List ScriptLine) (limit : ℕ) (a b : ScriptState) (answer : Answer)
-    → settled lines limit a ≡ settled lines limit b → answered lines limit a answer ≡ answered lines limit b answer
-answered_settled lines limit a b answer same =
-    ap (λ s. moved_on s (waiting_by (slice_get lines s.place) (need_of (step lines limit s))) answer) same
+goes_past : (sync : Bool) (rest : Advance) → sync ≡ false → (if sync then Stops Syncs else rest) ≡ rest
+goes_past true rest e = cc
+goes_past false rest e = refl
 
-not_sync : (sync : Bool) (found : Option AbendCode) (trial : Trial) → sync ≡ false → found ≡ None
-    → (if sync then None else unless_abend found trial) ≡ Some trial
-not_sync true found trial e none = cc
-not_sync false None trial e none = refl
-not_sync false (Some abend) trial e none = cc
+abends_so : (found : Option AbendCode) (abend : AbendCode) (rest : Advance) → found ≡ Some abend → unless_abend found rest ≡ Stops (Abends abend)
+abends_so found abend rest e = ap (λ o. unless_abend o rest) e
 
-module _ (job : Job) (message : Message) (databases : DatabasesState) (unit : RunState) (ahead : IsAhead job message databases unit) where
+abends_not : (found : Option AbendCode) (rest : Advance) → found ≡ None → unless_abend found rest ≡ rest
+abends_not found rest e = ap (λ o. unless_abend o rest) e
+
+-- the work on the call that a script needs, unless that is a further GU
+abbrev target_of : Job → CallText → Reached
+target_of job call = reached job.system.databases job.pcbs call.pcb
+
+module _ (job : Job) (message : Message) (databases : DatabasesState) (run : RunState) (ahead : IsAhead job message databases run) where
+  abbrev rows : List (List Row)
+  rows = rows_of databases.committed
+
   -- the trial needs what the script needs
-  need_is : trial_need job ahead.trial ≡ need_at job.lines job.transaction.statement_limit unit.machine.script
-  need_is = ap (λ s. need_of (step job.lines job.transaction.statement_limit s)) ahead.script
+  advance_is : (need : Need) → need_at job.lines job.transaction.statement_limit run.machine.script ≡ need → advance job rows ahead.trial ≡ advance_by job rows ahead.trial need
+  advance_is need needs =
+      ap (advance_by job rows ahead.trial) (ap (λ s. need_of (step job.lines job.transaction.statement_limit s)) ahead.script ∙ needs)
 
-  end_is : (need : Need) → need_at job.lines job.transaction.statement_limit unit.machine.script ≡ need
-      → option_and_then (trial_end job) (trial_of job (rows_of databases.committed) message unit.calls) ≡ end_by job unit.work (data_of databases unit.positions) need
-  end_is need needs =
-      ap (option_and_then (trial_end job)) ahead.made
-      ∙ ap (end_by job ahead.trial.work ahead.trial.databases) (need_is ∙ needs)
-      ∙ ap (λ w. end_by job w ahead.trial.databases need) ahead.work
-      ∙ ap (λ d. end_by job unit.work d need) ahead.seen
+  -- and its call comes to what the script's call comes to
+  outcome_is : (call : CallText) → call_outcome job rows ahead.trial call ≡ outcome_of job.system (target_of job call) databases run call
+  outcome_is call =
+      ap (λ w. outcome_at job.system rows (target_of job call) w ahead.trial.databases call) ahead.work
+      ∙ ap (λ d. outcome_at job.system rows (target_of job call) run.work d call) ahead.seen
 
-  same_ahead : (machine : Running) → machine.limit ≡ unit.machine.limit
-      → settled job.lines job.transaction.statement_limit machine.script ≡ settled job.lines job.transaction.statement_limit unit.machine.script
-      → IsAhead job message databases (record unit { machine = machine })
+  same_ahead : (machine : Running) → machine.limit ≡ run.machine.limit
+      → settled job.lines job.transaction.statement_limit machine.script ≡ settled job.lines job.transaction.statement_limit run.machine.script
+      → IsAhead job message databases (record run { machine = machine })
   same_ahead machine limited script = record {
     trial = ahead.trial;
     made = ahead.made;
@@ -70,66 +70,75 @@ module _ (job : Job) (message : Message) (databases : DatabasesState) (unit : Ru
     work = ahead.work;
     seen = ahead.seen;
     dbds = ahead.dbds;
-    pcbs = ahead.pcbs;
+    standing = ahead.standing;
   }
 
-  module _ (call : CallText) (needs : need_at job.lines job.transaction.statement_limit unit.machine.script ≡ Call call)
-      (further : is_sync unit.work call ≡ false) (goes_on : call_abend job (data_of databases unit.positions) call ≡ None) where
+  module _ (call : CallText) (needs : need_at job.lines job.transaction.statement_limit run.machine.script ≡ Call call) (further : is_sync run.work call ≡ false) where
+    -- the call isn't a further GU, so the trial makes it
+    makes : advance job rows ahead.trial ≡ called ahead.trial call (call_outcome job rows ahead.trial call)
+    makes =
+        advance_is (Call call) needs
+        ∙ goes_past (is_sync ahead.trial.work call) (called ahead.trial call (call_outcome job rows ahead.trial call)) (ap (λ w. is_sync w call) ahead.work ∙ further)
+
+    abended : (abend : AbendCode) → (outcome_of job.system (target_of job call) databases run call).abend ≡ Some abend → advance job rows ahead.trial ≡ Stops (Abends abend)
+    abended abend found =
+        makes
+        ∙ abends_so (call_outcome job rows ahead.trial call).abend abend (gone_on ahead.trial call (call_outcome job rows ahead.trial call)) (ap (λ o. o.abend) (outcome_is call) ∙ found)
+
     abbrev next : Trial
-    next = trial_called job (rows_of databases.committed) ahead.trial call
+    next = record {
+      answers = ahead.trial.answers ++ (call_outcome job rows ahead.trial call).answer ∷ [];
+      work = (call_outcome job rows ahead.trial call).work;
+      databases = (call_outcome job rows ahead.trial call).databases;
+    }
 
-    stepped : trial_step job (rows_of databases.committed) ahead.trial ≡ Some next
-    stepped =
-        ap (trial_by job (rows_of databases.committed) ahead.trial) (need_is ∙ needs)
-        ∙ not_sync (is_sync ahead.trial.work call) (call_abend job ahead.trial.databases call) next
-        (ap (λ w. is_sync w call) ahead.work ∙ further) (ap (λ d. call_abend job d call) ahead.seen ∙ goes_on)
-
-    made_next : trial_of job (rows_of databases.committed) message (unit.calls + 1) ≡ Some next
-    made_next = rw (add-one unit.calls) (ap (option_and_then (trial_step job (rows_of databases.committed))) ahead.made ∙ stepped)
-
-    settles_next : (a : List Answer) (x y : Answer) → settled job.lines job.transaction.statement_limit (script_after job.lines job.transaction.statement_limit script_start a) ≡ settled job.lines job.transaction.statement_limit unit.machine.script
+    settles_next : (a : List Answer) (x y : Answer) → settled job.lines job.transaction.statement_limit (script_after job.lines job.transaction.statement_limit script_start a) ≡ settled job.lines job.transaction.statement_limit run.machine.script
         → x ≡ y
-        → settled job.lines job.transaction.statement_limit (script_after job.lines job.transaction.statement_limit script_start (a ++ x ∷ [])) ≡ settled job.lines job.transaction.statement_limit (answered job.lines job.transaction.statement_limit unit.machine.script y)
+        → settled job.lines job.transaction.statement_limit (script_after job.lines job.transaction.statement_limit script_start (a ++ x ∷ [])) ≡ settled job.lines job.transaction.statement_limit (answered job.lines job.transaction.statement_limit run.machine.script y)
     settles_next a x y here same =
-        ap (settled job.lines job.transaction.statement_limit) (script_after-append job.lines job.transaction.statement_limit script_start a x
-        ∙ answered_settled job.lines job.transaction.statement_limit (script_after job.lines job.transaction.statement_limit script_start a) unit.machine.script x here
-        ∙ ap (answered job.lines job.transaction.statement_limit unit.machine.script) same)
+        ap (settled job.lines job.transaction.statement_limit) (script_after_append job.lines job.transaction.statement_limit script_start a x
+        ∙ answered_alike job.lines job.transaction.statement_limit (script_after job.lines job.transaction.statement_limit script_start a) run.machine.script x here
+        ∙ ap (answered job.lines job.transaction.statement_limit run.machine.script) same)
 
-    answer_is : call_answer job ahead.trial.work ahead.trial.databases call ≡ call_answer job unit.work (data_of databases unit.positions) call
-    answer_is =
-        ap (λ w. call_answer job w ahead.trial.databases call) ahead.work
-        ∙ ap (λ d. call_answer job unit.work d call) ahead.seen
+    made_next : (calls : ℕ) (goes : Goes next (record { function = call.function; pcb = call.pcb; status = (call_outcome job rows ahead.trial call).answer.status }) ≡ advance job rows ahead.trial)
+        → calls ≡ run.calls + 1 → trial_of job rows message calls ≡ Some next
+    made_next calls goes count =
+        ap (trial_of job rows message) count
+        ∙ rw (add-one run.calls) (ap (option_and_then (λ t. gone (advance job rows t))) ahead.made ∙ ap gone (sym goes))
 
     pub called_next : (after : DatabasesState) (new : RunState) (status : Status)
-        → new.calls ≡ unit.calls + 1
-        → new.machine.limit ≡ unit.machine.limit
+        → new.calls ≡ run.calls + 1
+        → new.machine.limit ≡ run.machine.limit
         → settled job.lines job.transaction.statement_limit new.machine.script
-        ≡ settled job.lines job.transaction.statement_limit (answered job.lines job.transaction.statement_limit unit.machine.script (call_answer job unit.work (data_of databases unit.positions) call))
-        → new.work ≡ call_work job unit.work call
-        → data_of after new.positions ≡ call_data job (rows_of databases.committed) (data_of databases unit.positions) call
-        → length new.positions ≡ length unit.positions
-        → status ≡ (call_answer job unit.work (data_of databases unit.positions) call).status
+        ≡ settled job.lines job.transaction.statement_limit (answered job.lines job.transaction.statement_limit run.machine.script (outcome_of job.system (target_of job call) databases run call).answer)
+        → new.work ≡ (outcome_of job.system (target_of job call) databases run call).work
+        → data_of after new.positions ≡ (outcome_of job.system (target_of job call) databases run call).databases
+        → status ≡ (outcome_of job.system (target_of job call) databases run call).answer.status
+        → (outcome_of job.system (target_of job call) databases run call).abend ≡ None
         → after.committed ≡ databases.committed → dbds_of after ≡ dbds_of databases
-        → Advances job message databases after unit new (Called call.function call.pcb status)
-    called_next after new status calls limited script work seen pcbs told committed dbds = (
-      calls,
-      record {
-        trial = next;
-        made = ap (λ stores. trial_of job (rows_of stores) message new.calls) committed ∙ ap (trial_of job (rows_of databases.committed) message) calls ∙ made_next;
-        limit = limited ∙ ahead.limit;
-        script =
-            settles_next ahead.trial.answers (call_answer job ahead.trial.work ahead.trial.databases call) (call_answer job unit.work (data_of databases unit.positions) call) ahead.script
-            answer_is
-            ∙ sym script;
-        work = ap (λ w. call_work job w call) ahead.work ∙ sym work;
-        seen = ap (λ d. call_data job (rows_of databases.committed) d call) ahead.seen ∙ sym seen;
-        dbds = dbds ∙ ahead.dbds;
-        pcbs = pcbs ∙ ahead.pcbs;
-      },
-      ap (option_and_then (λ t. t.last)) made_next
-          ∙ ap (λ a. Some (record { function = call.function; pcb = call.pcb; status = a.status })) answer_is
-          ∙ ap (λ s. Some (record { function = call.function; pcb = call.pcb; status = s })) (sym told),
-    )
+        → AreStanding job.system.databases job.pcbs new.positions
+        → GoesBy job message databases after ahead.trial run new (record { function = call.function; pcb = call.pcb; status = status })
+    called_next after new status calls limited script work seen told goes_on committed dbds standing =
+        let same = outcome_is call in
+        let goes : advance job rows ahead.trial ≡ Goes next (record { function = call.function; pcb = call.pcb; status = (call_outcome job rows ahead.trial call).answer.status }) =
+        makes ∙ abends_not (call_outcome job rows ahead.trial call).abend (gone_on ahead.trial call (call_outcome job rows ahead.trial call)) (ap (λ (o : Outcome). o.abend) same ∙ goes_on) in
+        record {
+          calls = calls;
+          ahead = record {
+            trial = next;
+            made = ap (λ stores. trial_of job (rows_of stores) message new.calls) committed ∙ made_next new.calls (sym goes) calls;
+            limit = limited ∙ ahead.limit;
+            script =
+                settles_next ahead.trial.answers (call_outcome job rows ahead.trial call).answer (outcome_of job.system (target_of job call) databases run call).answer ahead.script
+                (ap (λ (o : Outcome). o.answer) same)
+                ∙ sym script;
+            work = ap (λ (o : Outcome). o.work) same ∙ sym work;
+            seen = ap (λ (o : Outcome). o.databases) same ∙ sym seen;
+            dbds = dbds ∙ ahead.dbds;
+            standing = standing;
+          };
+          goes = goes ∙ ap (λ s. Goes next (record { function = call.function; pcb = call.pcb; status = s })) (ap (λ (o : Outcome). o.answer.status) same ∙ sym told);
+        }
 
 -- the databases at the start
 data_started : (count : ℕ) (databases : DatabasesState) (positions : List Position) → IsClean databases → positions ≡ replicate count nowhere
@@ -140,88 +149,93 @@ data_started count databases positions clean standing =
     ∙ ap (λ (ss : List Stored). record { rows = rows_of ss; positions = positions; changed = databases.changed }) (sym clean.stores)
 
 -- the work begins at the trial without a call
-pub start_is : (transaction : Transaction) (lines : List ScriptLine) (pcbs : List Pcb) (message : Message) (unit : RunState)
-    → unit.calls ≡ 0 → unit.machine.limit ≡ transaction.statement_limit → unit.machine.script ≡ script_start
-    → unit.work ≡ message_start transaction message pcbs → unit.positions ≡ replicate (length pcbs) nowhere
-    → length unit.positions ≡ length pcbs
-    → IsStart transaction lines pcbs message unit
-start_is transaction lines pcbs message unit calls limit script work standing count = record {
+pub start_is : (job : Job) (message : Message) (run : RunState)
+    → run.calls ≡ 0 → run.machine.limit ≡ job.transaction.statement_limit → run.machine.script ≡ script_start
+    → run.work ≡ message_start job.transaction message job.pcbs → run.positions ≡ replicate (length job.pcbs) nowhere
+    → IsStart job message run
+start_is job message run calls limit script work standing = record {
   calls = calls;
-  ahead = λ system databases clean dbds. record {
-    trial = trial_start (record { system = system; transaction = transaction; lines = lines; pcbs = pcbs }) (rows_of databases.committed) message;
-    made = ap (trial_of (record { system = system; transaction = transaction; lines = lines; pcbs = pcbs }) (rows_of databases.committed) message) calls;
+  ahead = λ databases clean dbds. record {
+    trial = trial_start job (rows_of databases.committed) message;
+    made = ap (trial_of job (rows_of databases.committed) message) calls;
     limit = limit;
-    script = ap (settled lines transaction.statement_limit) (sym script);
+    script = ap (settled job.lines job.transaction.statement_limit) (sym script);
     work = sym work;
-    seen = data_started (length pcbs) databases unit.positions clean standing;
+    seen = data_started (length job.pcbs) databases run.positions clean standing;
     dbds = dbds;
-    pcbs = count;
+    standing = all_nowhere job.system.databases job.pcbs run.positions standing;
   };
 }
 
-module _ (job : Job) (message : Message) (databases : DatabasesState) (unit : RunState) (machine : Running) (ahead : IsAhead job message databases unit)
-    (limited : machine.limit ≡ unit.machine.limit) where
+module _ (job : Job) (message : Message) (databases : DatabasesState) (run : RunState) (machine : Running) (ahead : IsAhead job message databases run)
+    (limited : machine.limit ≡ run.machine.limit) where
   -- a script that settles where it settled before
-  pub still_ahead : settled job.lines unit.machine.limit machine.script ≡ settled job.lines unit.machine.limit unit.machine.script
-      → IsAhead job message databases (record unit { machine = machine })
-  still_ahead settles = same_ahead job message databases unit ahead machine limited (rw (sym ahead.limit) settles)
+  pub still_ahead : settled job.lines run.machine.limit machine.script ≡ settled job.lines run.machine.limit run.machine.script
+      → IsAhead job message databases (record run { machine = machine })
+  still_ahead settles = same_ahead job message databases run ahead machine limited (rw (sym ahead.limit) settles)
 
-  pub settled_again : machine.script ≡ settled job.lines unit.machine.limit unit.machine.script
-      → settled job.lines unit.machine.limit machine.script ≡ settled job.lines unit.machine.limit unit.machine.script
-  settled_again script = ap (settled job.lines unit.machine.limit) script ∙ settled_twice job.lines unit.machine.limit unit.machine.script
+  pub settled_again : machine.script ≡ settled job.lines run.machine.limit run.machine.script
+      → settled job.lines run.machine.limit machine.script ≡ settled job.lines run.machine.limit run.machine.script
+  settled_again script = ap (settled job.lines run.machine.limit) script ∙ settled_twice job.lines run.machine.limit run.machine.script
 
-  pub ended_is : (need : Need) (ending : Ending)
-      → machine.script ≡ settled job.lines unit.machine.limit unit.machine.script
-      → need ≡ need_at job.lines unit.machine.limit unit.machine.script
-      → end_by job unit.work (data_of databases unit.positions) need ≡ Some (end_of ending)
-      → Advances job message databases databases unit (record unit { machine = machine }) (WorkEnded ending)
-  ended_is need ending script needs ends = (
-    refl,
-    still_ahead (settled_again script),
-    end_is job message databases unit ahead need (ap (λ n. need_at job.lines n unit.machine.script) (sym ahead.limit) ∙ sym needs) ∙ ends,
-  )
+  module _ (need : Need) (script : machine.script ≡ settled job.lines run.machine.limit run.machine.script)
+      (needs : need ≡ need_at job.lines run.machine.limit run.machine.script) where
+    needed : need_at job.lines job.transaction.statement_limit run.machine.script ≡ need
+    needed = ap (λ n. need_at job.lines n run.machine.script) (sym ahead.limit) ∙ sym needs
 
-  pub called_is : (after : DatabasesState) (new : RunState) (calls : ℕ) (call : CallText) (status : Status)
-      → machine.script ≡ settled job.lines unit.machine.limit unit.machine.script
-      → machine.waiting ≡ waiting_at job.lines unit.machine.limit unit.machine.script
-      → Call call ≡ need_at job.lines unit.machine.limit unit.machine.script
-      → is_sync unit.work call ≡ false
-      → calls ≡ unit.calls + 1
-      → Answers job.system (job_reached job call.pcb) databases after (record unit { machine = machine }) new call status
-      → after.committed ≡ databases.committed → dbds_of after ≡ dbds_of databases
-      → Advances job message databases after unit (record new { calls = calls }) (Called call.function call.pcb status)
-  called_is after new calls call status script waiting needs further count answers committed dbds =
-      called_next job message databases unit ahead call (ap (λ n. need_at job.lines n unit.machine.script) (sym ahead.limit) ∙ sym needs) further answers.goes_on
-      after (record new { calls = calls }) status
-      count
-      (ap (λ m. m.limit) answers.machine ∙ limited)
-      (ap (settled job.lines job.transaction.statement_limit)
-      (ap (λ m. m.script) answers.machine
-      ∙ ap (λ s. moved_on s machine.waiting (call_answer job unit.work (data_of databases unit.positions) call)) script
-      ∙ ap (λ w. moved_on (settled job.lines unit.machine.limit unit.machine.script) w (call_answer job unit.work (data_of databases unit.positions) call)) waiting
-      ∙ ap (λ n. answered job.lines n unit.machine.script (call_answer job unit.work (data_of databases unit.positions) call)) ahead.limit))
-      answers.work
-      answers.seen
-      answers.pcbs
-      answers.told
-      committed
-      dbds
+    -- the trial stops where the script needs no call
+    pub stops_so : (end : WorkEnd) → advance_by job (rows_of databases.committed) ahead.trial need ≡ Stops end
+        → StopsSo job message databases databases ahead.trial run (record run { machine = machine }) end
+    stops_so end ends = record {
+      calls = refl;
+      ahead = still_ahead (settled_again script);
+      stops = advance_is job message databases run ahead need needed ∙ ends;
+    }
 
-pub sync_end : (sync : Bool) (rest : Option WorkEnd) → sync ≡ true → (if sync then Some Syncs else rest) ≡ Some (end_of Sync)
-sync_end true rest e = refl
-sync_end false rest e = cc
+    -- and at a further GU
+    pub syncs : (call : CallText) → need ≡ Call call → is_sync run.work call ≡ true
+        → StopsSo job message databases databases ahead.trial run (record run { machine = machine }) Syncs
+    syncs call e further =
+        stops_so Syncs
+        (ap (advance_by job (rows_of databases.committed) ahead.trial) e
+        ∙ stops_at (is_sync ahead.trial.work call) (called ahead.trial call (call_outcome job (rows_of databases.committed) ahead.trial call)) (ap (λ w. is_sync w call) ahead.work ∙ further))
 
--- a call that isn't a further GU ends the work where it leads to an abend
-pub abend_end : (sync : Bool) (found : Option AbendCode) (abend : AbendCode) → sync ≡ false → found ≡ Some abend
-    → (if sync then Some Syncs else option_map Abends found) ≡ Some (end_of (AbendEnding abend))
-abend_end true found abend e f = cc
-abend_end false found abend e f = ap (option_map Abends) f
+    -- and at a call that leads to an abend
+    pub abends : (call : CallText) (abend : AbendCode) → need ≡ Call call → is_sync run.work call ≡ false
+        → (outcome_of job.system (target_of job call) databases run call).abend ≡ Some abend
+        → StopsSo job message databases databases ahead.trial run (record run { machine = machine }) (Abends abend)
+    abends call abend e further found = record {
+      calls = refl;
+      ahead = still_ahead (settled_again script);
+      stops = abended job message databases run ahead call (needed ∙ e) further abend found;
+    }
+
+    -- and it goes on by any other call
+    pub goes_by : (after : DatabasesState) (new : RunState) (calls : ℕ) (call : CallText) (status : Status)
+        → machine.waiting ≡ waiting_at job.lines run.machine.limit run.machine.script
+        → need ≡ Call call
+        → is_sync run.work call ≡ false
+        → calls ≡ run.calls + 1
+        → Answers (outcome_of job.system (target_of job call) databases run call) after (record run { machine = machine }) new status
+        → after.committed ≡ databases.committed → dbds_of after ≡ dbds_of databases
+        → AreStanding job.system.databases job.pcbs new.positions
+        → GoesBy job message databases after ahead.trial run (record new { calls = calls }) (record { function = call.function; pcb = call.pcb; status = status })
+    goes_by after new calls call status waiting e further count answers committed dbds standing =
+        called_next job message databases run ahead call (needed ∙ e) further after (record new { calls = calls }) status
+        count
+        (ap (λ m. m.limit) answers.machine ∙ limited)
+        (ap (settled job.lines job.transaction.statement_limit)
+        (ap (λ m. m.script) answers.machine
+        ∙ ap (λ s. moved_on s machine.waiting (outcome_of job.system (target_of job call) databases run call).answer) script
+        ∙ ap (λ w. moved_on (settled job.lines run.machine.limit run.machine.script) w (outcome_of job.system (target_of job call) databases run call).answer) waiting
+        ∙ ap (λ n. answered job.lines n run.machine.script (outcome_of job.system (target_of job call) databases run call).answer) ahead.limit))
+        answers.work answers.seen answers.told answers.goes_on committed dbds standing
 
 -- the work with the same script, and all else as it was
-pub same_unit_ahead : (job : Job) (message : Message) (databases : DatabasesState) (unit new : RunState) (machine : Running) → IsAhead job message databases unit
-    → machine.limit ≡ unit.machine.limit
-    → machine.script ≡ settled job.lines unit.machine.limit unit.machine.script
-    → new ≡ record unit { machine = machine }
+pub same_run_ahead : (job : Job) (message : Message) (databases : DatabasesState) (run new : RunState) (machine : Running) → IsAhead job message databases run
+    → machine.limit ≡ run.machine.limit
+    → machine.script ≡ settled job.lines run.machine.limit run.machine.script
+    → new ≡ record run { machine = machine }
     → IsAhead job message databases new
-same_unit_ahead job message databases unit new machine ahead limited script same =
-    rw same (still_ahead job message databases unit machine ahead limited (settled_again job message databases unit machine ahead limited script))
+same_run_ahead job message databases run new machine ahead limited script same =
+    rw same (still_ahead job message databases run machine ahead limited (settled_again job message databases run machine ahead limited script))

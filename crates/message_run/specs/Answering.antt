@@ -6,7 +6,7 @@ use Rattle.model_system.specs.System.{System}
 use Rattle.model_message.specs.Work.{MessageWork}
 use Rattle.model_message.specs.Calls.{unique_answer, reset_work}
 use Rattle.model_dli.specs.Data.{nowhere}
-use Rattle.model_machine.specs.Trial.{Reached, answer_at, work_at, data_at, abend_at}
+use Rattle.model_machine.specs.Trial.{Reached, Outcome, outcome_at}
 use Rattle.script_run.specs.Running.{Running}
 use Rattle.tm_types.specs.declared.status.Status.{Status}
 use Rattle.program_rows.specs.State.{DatabasesState, rows_of, data_of}
@@ -19,22 +19,26 @@ use Rattle.message_run.specs.declared.answer.CallEnd.TheVariants.{Answered, Aben
 abbrev pub answered_machine : Running → Answer → Running
 answered_machine machine answer = record machine { script = moved_on machine.script machine.waiting answer; waiting = None }
 
--- A call was answered: the script has the answer, and the work, the databases and the PCBs are as the
--- call leaves them. The databases before and after it come first.
-pub record Answers (system : System) (target : Reached) (before after : DatabasesState) (old new : RunState) (call : CallText) (status : Status) : Type 0 where
-  pub calls : new.calls ≡ old.calls
-  pub machine : new.machine ≡ answered_machine old.machine (answer_at system target old.work (data_of before old.positions) call)
-  pub work : new.work ≡ work_at system target old.work call
-  pub seen : data_of after new.positions ≡ data_at (rows_of before.committed) target (data_of before old.positions) call
-  pub pcbs : length new.positions ≡ length old.positions
-  pub told : status ≡ (answer_at system target old.work (data_of before old.positions) call).status
-  pub goes_on : abend_at target (data_of before old.positions) call ≡ None
+-- what a call comes to by what it reaches, where the work has come so far
+abbrev pub outcome_of : System → Reached → DatabasesState → RunState → CallText → Outcome
+outcome_of system target databases run call =
+    outcome_at system (rows_of databases.committed) target run.work (data_of databases run.positions) call
 
--- a call was answered, or it leads to an abend, which changes nothing
-abbrev pub ComesTo : System → Reached → DatabasesState → DatabasesState → RunState → RunState → CallText → CallEnd → Type 0
-ComesTo system target before after old new call (Answered status) = Answers system target before after old new call status
-ComesTo system target before after old new call (Abended abend) =
-    (new ≡ old) × (after ≡ before) × (abend_at target (data_of before old.positions) call ≡ Some abend)
+-- A call was answered: the script has the answer, and the work, the databases and the PCBs are as the
+-- call leaves them.
+pub record Answers (outcome : Outcome) (after : DatabasesState) (old new : RunState) (status : Status) : Type 0 where
+  pub calls : new.calls ≡ old.calls
+  pub machine : new.machine ≡ answered_machine old.machine outcome.answer
+  pub work : new.work ≡ outcome.work
+  pub seen : data_of after new.positions ≡ outcome.databases
+  pub told : status ≡ outcome.answer.status
+  pub goes_on : outcome.abend ≡ None
+
+-- A call was answered, or it leads to an abend, which changes nothing. The databases before and after
+-- it come first.
+abbrev pub ComesTo : Outcome → DatabasesState → DatabasesState → RunState → RunState → CallEnd → Type 0
+ComesTo outcome before after old new (Answered status) = Answers outcome after old new status
+ComesTo outcome before after old new (Abended abend) = (new ≡ old) × (after ≡ before) × (outcome.abend ≡ Some abend)
 
 -- The script was answered with this, and told its status, and the message's work is this one.
 pub record Serves (answer : Answer) (work : MessageWork) (old new : RunState) (status : Status) : Type 0 where

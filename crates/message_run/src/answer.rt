@@ -1,15 +1,17 @@
 //! How the calls of a script are answered.
-ghost use Rattle.std.specs.Prelude.{◌≡◌, ◌≤◌, Some, IfOk, IfSome, IsOk, IsSome, OnOk, OnErr, length, replicate};
+ghost use Rattle.std.specs.Prelude.{◌≡◌, ◌≤◌, ◌-◌, Some, IfOk, IfSome, IsOk, IsSome, OnOk, OnErr, length, replicate, slice_get};
 ghost use Rattle.std.specs.Option.{option_copied};
 ghost use Rattle.tm_types.specs.Segment.{IsSegmentText};
 ghost use Rattle.model_system.specs.declared.pcb.Pcb.TheVariants.{Database};
 ghost use Rattle.model_message.specs.Calls.{given, status_alone, unique_answer, unique_work, next_answer, next_work, insert_status, insert_work, purge_status, purge_work, change_status, change_work};
 ghost use Rattle.model_dli.specs.Data.{nowhere};
+ghost use Rattle.system_types.specs.Valid.{IsDatabase};
 ghost use Rattle.model_machine.specs.Trial.{reached, reached_by};
 ghost use Rattle.model_machine.specs.Trial.Reached.{Messages};
 ghost use Rattle.program_rows.specs.State.{dbds_of};
 ghost use Rattle.message_run.specs.Ahead.{StayWithout};
-ghost use Rattle.message_run.specs.Answering.{ComesTo, Serves, RollsBack, Tells, answered_machine};
+ghost use Rattle.message_run.specs.Answering.{ComesTo, Serves, RollsBack, Tells, answered_machine, outcome_of};
+ghost use Rattle.message_run.specs.RunState.{AreStanding, IsCallBy, IsCallOf};
 
 use crate::run::Run;
 use model_dli::DbCall;
@@ -18,8 +20,8 @@ use model_script::CallText;
 use model_system::{Pcb, Pcbs};
 use program_rows::{Answered, DataAnswer, Databases, Position};
 use script_run::Machine;
-use sysdef_check::System;
-use tm_types::{AbendCode, Bytes, Function, Memory, Segment, Status};
+use system_types::System;
+use tm_types::{AbendCode, Bytes, Dbd, Function, Memory, Segment, Status};
 
 /// What comes of a call.
 #[derive(Clone, Copy, Debug)]
@@ -41,9 +43,11 @@ impl Run {
     ) -> Result<CallEnd, Memory>
         requires waits { IsSome self.old.machine.waiting }
         requires text { IsSegmentText call.area }
+        requires call { IsCallOf system.now.databases pcbs.now call }
         requires databases { dbds_of databases.old ≡ system.now.databases }
-        requires pcbs { length self.old.positions ≡ length pcbs.now }
-        ensures ok { IfOk result (ComesTo system.now (reached system.now.databases pcbs.now call.pcb) databases.old databases.new self.old self.new call) }
+        requires standing { AreStanding system.now.databases pcbs.now self.old.positions }
+        ensures ok { IfOk result (ComesTo (outcome_of system.now (reached system.now.databases pcbs.now call.pcb) databases.old self.old call) databases.old databases.new self.old self.new) }
+        ensures standing { AreStanding system.now.databases pcbs.now self.new.positions }
         ensures none { StayWithout system.now databases.old databases.new }
         ensures committed { databases.new.committed ≡ databases.old.committed }
         ensures dbds { dbds_of databases.new ≡ dbds_of databases.old }
@@ -51,15 +55,15 @@ impl Run {
         ensures kept { OnErr result (databases.new ≡ databases.old) }
     {
         if call.pcb == 0 {
-            return self.answer_message(system, databases, &call);
+            return self.answer_message(system, pcbs, databases, &call);
         }
         match pcbs.numbered(call.pcb) {
             Some(Pcb::Database(number, options)) => {
-                self.answer_database(system, databases, *number, *options, call)
+                self.answer_database(system, pcbs, databases, *number, *options, call)
             }
-            Some(Pcb::Destination(_)) => self.answer_message(system, databases, &call),
-            Some(Pcb::Modifiable) => self.answer_message(system, databases, &call),
-            None => Ok(CallEnd::Answered(self.tell(Status::AM)?)),
+            Some(Pcb::Destination(_)) => self.answer_message(system, pcbs, databases, &call),
+            Some(Pcb::Modifiable) => self.answer_message(system, pcbs, databases, &call),
+            None => unreachable!(),
         }
     }
 
@@ -67,12 +71,15 @@ impl Run {
     fn answer_message(
         &mut self,
         system: &System,
+        _pcbs: &Pcbs,
         databases: &mut Databases,
         call: &CallText,
     ) -> Result<CallEnd, Memory>
         requires waits { IsSome self.old.machine.waiting }
         requires text { IsSegmentText call.now.area }
-        ensures ok { IfOk result (ComesTo system.now Messages databases.old databases.new self.old self.new call.now) }
+        requires standing { AreStanding system.now.databases _pcbs.now self.old.positions }
+        ensures ok { IfOk result (ComesTo (outcome_of system.now Messages databases.old self.old call.now) databases.old databases.new self.old self.new) }
+        ensures standing { AreStanding system.now.databases _pcbs.now self.new.positions }
         ensures none { StayWithout system.now databases.old databases.new }
         ensures committed { databases.new.committed ≡ databases.old.committed }
         ensures dbds { dbds_of databases.new ≡ dbds_of databases.old }
@@ -171,6 +178,7 @@ impl Run {
     fn answer_database(
         &mut self,
         system: &System,
+        _pcbs: &Pcbs,
         databases: &mut Databases,
         number: u8,
         options: u8,
@@ -179,21 +187,19 @@ impl Run {
         requires waits { IsSome self.old.machine.waiting }
         requires text { IsSegmentText call.area }
         requires some { 1 ≤ call.pcb }
-        requires pcbs { call.pcb ≤ length self.old.positions }
+        requires pcb { slice_get _pcbs.now (call.pcb - 1) ≡ Some (Database number options) }
+        requires call { IsCallBy system.now.databases call (Some (Database number options)) }
         requires databases { dbds_of databases.old ≡ system.now.databases }
-        ensures ok { IfOk result (ComesTo system.now (reached_by system.now.databases (Some (Database number options))) databases.old databases.new self.old self.new call) }
+        requires standing { AreStanding system.now.databases _pcbs.now self.old.positions }
+        ensures ok { IfOk result (ComesTo (outcome_of system.now (reached_by system.now.databases (Some (Database number options))) databases.old self.old call) databases.old databases.new self.old self.new) }
+        ensures standing { AreStanding system.now.databases _pcbs.now self.new.positions }
         ensures none { StayWithout system.now databases.old databases.new }
         ensures committed { databases.new.committed ≡ databases.old.committed }
         ensures dbds { dbds_of databases.new ≡ dbds_of databases.old }
         ensures err { OnErr result (self.new ≡ self.old) }
         ensures kept { OnErr result (databases.new ≡ databases.old) }
     {
-        if number == 0 {
-            return Err(Memory);
-        }
-        let Some(dbd) = system.databases().get(usize::from(number) - 1) else {
-            return Ok(CallEnd::Answered(self.tell(Status::AM)?));
-        };
+        let dbd = database_numbered(system, number);
         let CallText {
             function,
             pcb,
@@ -206,7 +212,7 @@ impl Run {
             area,
             ssas,
         };
-        let at = &self.positions[usize::from(pcb) - 1];
+        let at = position_of(&self.positions, pcb);
         match databases.call(dbd, number, at, &call) {
             Ok(DataAnswer::Abend(abend)) => Ok(CallEnd::Abended(abend)),
             Ok(DataAnswer::Answered(answered)) => self.tell_answer(pcb, answered),
@@ -238,6 +244,25 @@ impl Run {
             Err(error) => Err(error),
         }
     }
+}
+
+/// The database of this number, counted from 1.
+fn database_numbered(system: &System, number: u8) -> &Dbd
+    requires least { 1 ≤ number }
+    requires most { IsSome (slice_get system.now.databases (number - 1)) }
+    ensures value { slice_get system.now.databases (number - 1) ≡ Some result.now }
+    ensures valid { IsDatabase result.now }
+{
+    &system.databases()[usize::from(number) - 1]
+}
+
+/// Where the PCB of this number stands.
+fn position_of(positions: &[Position], pcb: u8) -> &Position
+    requires least { 1 ≤ pcb }
+    requires most { pcb ≤ length positions.now }
+    ensures { slice_get positions.now (pcb - 1) ≡ Some result.now }
+{
+    &positions[usize::from(pcb) - 1]
 }
 
 /// Answers the script's call with a status alone. This takes no memory.

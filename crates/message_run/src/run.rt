@@ -1,21 +1,25 @@
+//! The work on a message, from call to call.
 ghost use Rattle.std.specs.Prelude.{◌≡◌, IfOk, OnErr, length, replicate};
 ghost use Rattle.model_dli.specs.Data.{nowhere};
 ghost use Rattle.model_machine.specs.Trial.{is_sync};
 ghost use Rattle.model_message.specs.Calls.{finish_work};
 ghost use Rattle.program_rows.specs.State.{dbds_of};
+ghost use Rattle.model_system.specs.System as model;
+ghost use Rattle.system_types.specs.Jobs.{lent_job};
+ghost use Rattle.system_types.specs.Valid.{IsServable};
+ghost use Rattle.message_run.specs.RunState.{AreStanding};
 ghost use Rattle.message_run.specs.Ahead.{IsStart, GoesOn, StaysAhead, StayAtEnd, StayWithout};
 
 use crate::answer::CallEnd;
 use io_pcb::Work;
 use model_message::EndedMessage;
-use model_script::{CallText, Need, Program};
-use model_system::{Pcbs, Transaction};
+use model_script::{CallText, Need};
 use program_rows::{Databases, Position};
 use script_run::Machine;
 use std::alloc::Global;
 use std::collections::VecDeque;
 use std::marker::Model;
-use sysdef_check::System;
+use system_types::{Job, System};
 use tm_types::{AbendCode, Function, Memory, Message, Status};
 
 /// How the work on a message ends.
@@ -60,19 +64,14 @@ impl Model for Run {
 }
 
 impl Run {
-    /// The work on this message of this code, whose script has made no call yet.
-    pub fn start(
-        alloc: Global,
-        transaction: &Transaction,
-        program: &Program,
-        pcbs: &Pcbs,
-        message: &Message,
-    ) -> Result<Run, Memory>
-        ensures { IfOk result (IsStart transaction.now program.now pcbs.now message.now) }
+    /// The work on this message of the job's code, whose script has made no call yet.
+    pub fn start(alloc: Global, job: &Job<'_>, message: &Message) -> Result<Run, Memory>
+        ensures { IfOk result (λ run. (system : model.System) → IsStart (lent_job system job.now) message.now run) }
     {
-        let machine = Machine::new(alloc, program, u32::from(transaction.statement_limit))?;
-        let work = Work::new(alloc, transaction, message, pcbs)?;
-        let positions = standing_nowhere(alloc, pcbs.len())?;
+        let limit = u32::from(job.transaction.statement_limit);
+        let machine = Machine::new(alloc, job.program, limit)?;
+        let work = Work::new(alloc, job.transaction, message, job.pcbs)?;
+        let positions = standing_nowhere(alloc, job.pcbs.len())?;
         Ok(Run {
             calls: 0,
             machine,
@@ -93,26 +92,25 @@ impl Run {
     pub fn advance(
         &mut self,
         system: &System,
-        _transaction: &Transaction,
-        program: &Program,
-        pcbs: &Pcbs,
+        job: &Job<'_>,
         databases: &mut Databases,
     ) -> Result<Advanced, Memory>
+        requires servable { IsServable system.now.databases job.now.pcbs.now job.now.program.now }
         requires databases { dbds_of databases.old ≡ system.now.databases }
-        requires pcbs { length self.old.positions ≡ length pcbs.now }
-        ensures advances { IfOk result (GoesOn (record { system = system.now; transaction = _transaction.now; lines = program.now; pcbs = pcbs.now }) databases.old databases.new self.old self.new) }
+        requires standing { AreStanding system.now.databases job.now.pcbs.now self.old.positions }
+        ensures advances { IfOk result (GoesOn (lent_job system.now job.now) databases.old databases.new self.old self.new) }
         ensures ends { IfOk result (StayAtEnd databases.old databases.new) }
         ensures none { StayWithout system.now databases.old databases.new }
         ensures committed { databases.new.committed ≡ databases.old.committed }
         ensures dbds { dbds_of databases.new ≡ dbds_of databases.old }
         ensures calls { OnErr result (self.new.calls ≡ self.old.calls) }
         ensures kept { OnErr result (databases.new ≡ databases.old) }
-        ensures ahead { OnErr result (StaysAhead (record { system = system.now; transaction = _transaction.now; lines = program.now; pcbs = pcbs.now }) databases.old self.old self.new) }
+        ensures ahead { OnErr result (StaysAhead (lent_job system.now job.now) databases.old self.old self.new) }
     {
         if self.calls == u64::MAX {
             return Err(Memory);
         }
-        let need = match self.machine.next(program) {
+        let need = match self.machine.next(job.program) {
             Ok(need) => need,
             Err(error) => return Err(error),
         };
@@ -124,7 +122,7 @@ impl Run {
                     return Ok(Advanced::Ended(Ending::Sync));
                 }
                 let (function, pcb) = (call.function, call.pcb);
-                match self.answer(system, pcbs, databases, call) {
+                match self.answer(system, job.pcbs, databases, call) {
                     Ok(CallEnd::Answered(status)) => {
                         self.calls += 1;
                         Ok(Advanced::Called(function, pcb, status))

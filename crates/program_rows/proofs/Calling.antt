@@ -6,6 +6,7 @@ use Rattle.std.specs.Prelude.{IfSome, IfOk}
 use Rattle.tm_types.specs.declared.dbd.Dbd.{Dbd}
 use Rattle.tm_types.specs.declared.abend.AbendCode.{AbendCode}
 use Rattle.tm_types.specs.Segment.{IsSegmentText}
+use Rattle.model_dli.specs.Conditions.{IsPosition}
 use Rattle.model_dli.specs.declared.call.DbCall.{DbCall}
 use Rattle.model_dli.specs.declared.call.Position.{Position}
 use Rattle.model_dli.specs.declared.call.RowsLimit.{RowsLimit}
@@ -18,7 +19,7 @@ use Rattle.dli_calls.specs.declared.planned.Edit.{Edit}
 use Rattle.dli_calls.specs.declared.planned.Planned.{Planned}
 use Rattle.dli_calls.specs.Plans.{limit_of, HasAnswer, PlansTo, Plans}
 use Rattle.program_rows.specs.State.{DatabasesState, roots_of, rows_of, dbds_of, rows_numbered}
-use Rattle.program_rows.specs.Answering.{abend_of, IsAnswer, Gives, Leaves}
+use Rattle.program_rows.specs.Answering.{abend_of, IsAnswer, Gives, Leaves, Stands}
 use Rattle.program_rows.specs.Making.{Work, rows_at, IsEdited, IsMade, LeadsTo, Makes}
 use Rattle.program_rows.specs.declared.answer.Answered as answer
 use Rattle.program_rows.specs.declared.answer.DataAnswer.{DataAnswer}
@@ -132,3 +133,10 @@ all_gives (Err x) number d whole new h = tt
 pub all_leaves : {E : Type 0} (r : Result DataAnswer E) (number : ℕ) (d : DliResult) (whole new : DatabasesState) → IfOk r (Called number d whole new) → IfOk r (Leaves number d whole new)
 all_leaves (Ok a) number d whole new h = h.leaves
 all_leaves (Err x) number d whole new h = tt
+
+-- the position of an answer is that of the plan
+pub all_stand : {E : Type 0} (r : Result DataAnswer E) (number : ℕ) (dbd : Dbd) (p : Planned) (old new : Work) → IsPosition dbd.types p.position
+    → IfOk r (Makes number dbd p old new) → IfOk r (Stands dbd.types)
+all_stand (Ok (Answered a)) number dbd p old new stands made = subst (IsPosition dbd.types) (sym made.position) stands
+all_stand (Ok (Abend code)) number dbd p old new stands made = tt
+all_stand (Err x) number dbd p old new stands made = tt

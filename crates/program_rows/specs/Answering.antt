@@ -1,7 +1,9 @@
 -- What a call on the databases answers and leaves.
-use Rattle.std.specs.Prelude.{◌≡◌, ℕ, ◌-◌, Option, None, Some, IfSome, slice_set}
+use Rattle.std.specs.Prelude.{◌≡◌, ℕ, ◌-◌, List, Option, None, Some, IfSome, slice_set}
 use Rattle.tm_types.specs.declared.abend.AbendCode.{AbendCode}
 use Rattle.tm_types.specs.Segment.{IsSegmentText}
+use Rattle.tm_types.specs.declared.dbd.SegType.{SegType}
+use Rattle.model_dli.specs.Conditions.{IsPosition}
 use Rattle.model_dli.specs.Data.{with_changed}
 use Rattle.model_dli.specs.Dli.{DliResult}
 use Rattle.program_rows.specs.State.{DatabasesState, rows_of}
@@ -24,6 +26,11 @@ pub record IsAnswer (d : DliResult) (a : answer.Answered) : Type 0 where
 abbrev pub Gives : DliResult → DataAnswer → Type 0
 Gives d (Answered a) = IsAnswer d a
 Gives d (Abend code) = Unit {0}
+
+-- an answered call leaves its PCB at a position of the database with these types
+abbrev pub Stands : List SegType → DataAnswer → Type 0
+Stands types (Answered a) = IsPosition types a.position
+Stands types (Abend code) = Unit {0}
 
 -- an answered call leaves rows and changed records as its definition does, and a call that gives
 -- data leaves all as it was

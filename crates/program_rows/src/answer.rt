@@ -1,3 +1,4 @@
+//! What a call gives.
 use model_dli::Position;
 use tm_types::{AbendCode, Bytes, Status};
 

@@ -1,14 +1,13 @@
-ghost use Rattle.std.specs.Prelude.{◌≡◌, ◌≤◌, ◌-◌, [], Some, IsTrue, IfOk, OnErr, slice_get};
-ghost use Rattle.std.specs.List.{list_all};
-ghost use Rattle.tm_types.specs.Segment.{is_printable};
+//! The databases, and the calls on them.
+ghost use Rattle.std.specs.Prelude.{◌≡◌, ◌≤◌, ◌-◌, [], Some, All, IfOk, OnErr, length, slice_get};
+ghost use Rattle.model_dli.specs.Conditions.{IsDbCall, IsPosition};
 ghost use Rattle.model_dli.specs.Data.{abend_by};
 ghost use Rattle.model_dli.specs.Dli.{dli};
 ghost use Rattle.seg_store.specs.Stores.{empty_stores};
 ghost use Rattle.program_rows.specs.State.{dbds_of, rows_numbered};
-ghost use Rattle.program_rows.specs.Answering.{abend_of, Gives, Leaves};
+ghost use Rattle.program_rows.specs.Answering.{abend_of, Gives, Leaves, Stands};
 
 use crate::DataAnswer;
-use crate::guard::{is_text_or_none, may_call};
 use crate::making::make;
 use dli_calls::plan;
 use model_dli::{DbCall, Position};
@@ -75,23 +74,19 @@ impl Databases {
     ) -> Result<DataAnswer, Memory>
         requires number { 1 ≤ number }
         requires database { slice_get (dbds_of self.old) (number - 1) ≡ Some dbd.now }
-        requires area { IsTrue (list_all is_printable call.now.area) }
+        requires few { length dbd.now.types ≤ 255 }
+        requires short { All (λ type. type.bytes ≤ 1996) dbd.now.types }
+        requires position { IsPosition dbd.now.types at.now }
+        requires call { IsDbCall dbd.now.types call.now }
         ensures abend { let d = dli dbd.now call.now at.now (rows_numbered number self.old) in IfOk result (λ a. abend_of a ≡ abend_by number self.old.changed d.changed d.refusal) }
         ensures gives { IfOk result (Gives (dli dbd.now call.now at.now (rows_numbered number self.old))) }
+        ensures stands { IfOk result (Stands dbd.now.types) }
         ensures leaves { IfOk result (Leaves number (dli dbd.now call.now at.now (rows_numbered number self.old)) self.old self.new) }
         ensures committed { self.new.committed ≡ self.old.committed }
         ensures databases { dbds_of self.new ≡ dbds_of self.old }
         ensures kept { OnErr result (self.new ≡ self.old) }
     {
-        // This never fails for a system that was checked.
-        if !may_call(&dbd.types, at, call) {
-            return Err(Memory);
-        }
         let planned = plan(self.alloc, dbd, call, at, self.stores.store(number))?;
-        // Nor does this.
-        if !is_text_or_none(planned.area.as_ref()) {
-            return Err(Memory);
-        }
         make(
             self.alloc,
             dbd,

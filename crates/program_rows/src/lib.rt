@@ -7,7 +7,4 @@ pub use model_dli::{DbCall, Position};
 
 mod answer;
 mod databases;
-mod guard;
 mod making;
-#[cfg(test)]
-mod tests;

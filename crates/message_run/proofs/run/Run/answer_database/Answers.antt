@@ -1,0 +1,56 @@
+use Rattle.std.proofs.Common.{◌≡◌, ◌-◌, List, Some, sym, ap, refl, ◌∙◌}
+use Rattle.std.specs.Prelude.{slice_get}
+use Rattle.model_system.specs.declared.pcb.Pcb.TheVariants.{Database}
+use Rattle.model_dli.specs.declared.call.Position.{Position}
+use Rattle.message_run.specs.RunState.{RunState}
+use Rattle.message_run.proofs.Database.{is_db_call, is_numbered, few_types, short_types, has_position, leads, all_answers, all_stand}
+use Rattle.message_run.proofs.run.Run.answer_database.Goals as goal
+
+pub database_numbered-dbd-requires-clause-most : goal.database_numbered-dbd-requires-clause-most
+database_numbered-dbd-requires-clause-most c = is_numbered c.args.system.now.databases c.args.call c.args.number c.args.options c.requires.call
+
+pub call-requires-clause-few : goal.call-requires-clause-few
+call-requires-clause-few c = few_types c.database_numbered-dbd.result.now c.database_numbered-dbd.ensures.valid
+
+pub call-requires-clause-short : goal.call-requires-clause-short
+call-requires-clause-short c = short_types c.database_numbered-dbd.result.now c.database_numbered-dbd.ensures.valid
+
+pub call-requires-clause-position : goal.call-requires-clause-position
+call-requires-clause-position c =
+    let stands : slice_get c.args.self.now.positions (c.args.call.pcb - 1) ≡ Some c.position_of-at.result.now =
+    ap (λ (ps : List Position). slice_get ps (c.args.call.pcb - 1)) (sym (ap (λ (r : RunState). r.positions) c.self.view_is) ∙ sym c.deref.ensures.value) ∙ c.position_of-at.ensures in
+    c.requires.standing.each (c.args.call.pcb - 1) c.args.number c.args.options c.database_numbered-dbd.result.now c.position_of-at.result.now c.requires.pcb c.database_numbered-dbd.ensures.value stands
+
+pub call-requires-clause-call : goal.call-requires-clause-call
+call-requires-clause-call c = is_db_call c.args.system.now.databases c.args.call c.args.number c.args.options c.database_numbered-dbd.result.now c.requires.call c.database_numbered-dbd.ensures.value c.requires.text
+
+pub returns-in-Ok-Abend-clause-ok : goal.returns-in-Ok-Abend-clause-ok
+returns-in-Ok-Abend-clause-ok c =
+    let stands : slice_get c.args.self.now.positions (c.args.call.pcb - 1) ≡ Some c.position_of-at.result.now =
+    ap (λ (ps : List Position). slice_get ps (c.args.call.pcb - 1)) (sym (ap (λ (r : RunState). r.positions) c.self.view_is) ∙ sym c.deref.ensures.value) ∙ c.position_of-at.ensures in (
+      refl,
+      rw c.in-Ok-Abend.field-0-is at c.in-Ok-Abend.ensures.leaves,
+      leads c.args.system.now c.args.databases.now c.args.self.now c.args.call c.args.number c.args.options c.database_numbered-dbd.result.now c.position_of-at.result.now c.database_numbered-dbd.ensures.value stands
+          c.in-Ok-Abend.abend (rw c.in-Ok-Abend.field-0-is at c.in-Ok-Abend.ensures.abend),
+    )
+
+pub returns-in-Ok-Answered-clause-ok : goal.returns-in-Ok-Answered-clause-ok
+returns-in-Ok-Answered-clause-ok c =
+    let stands : slice_get c.args.self.now.positions (c.args.call.pcb - 1) ≡ Some c.position_of-at.result.now =
+    ap (λ (ps : List Position). slice_get ps (c.args.call.pcb - 1)) (sym (ap (λ (r : RunState). r.positions) c.self.view_is) ∙ sym c.deref.ensures.value) ∙ c.position_of-at.ensures in
+    all_answers c.args.system.now c.args.databases.now c.args.self.now c.args.call c.args.number c.args.options c.database_numbered-dbd.result.now c.position_of-at.result.now c.database_numbered-dbd.ensures.value stands
+    c.tell_answer.result c.call.new.self c.in-Ok-Answered.answered c.tell_answer.new.self
+    (rw c.in-Ok-Answered.field-0-is at c.in-Ok-Answered.ensures.abend)
+    (rw c.in-Ok-Answered.field-0-is at c.in-Ok-Answered.ensures.gives)
+    (rw c.in-Ok-Answered.field-0-is at c.in-Ok-Answered.ensures.leaves)
+    c.tell_answer.ensures.ok
+
+pub returns-in-Ok-Answered-clause-standing : goal.returns-in-Ok-Answered-clause-standing
+returns-in-Ok-Answered-clause-standing c =
+    all_stand c.args.system.now.databases c.args._pcbs.now c.args.self.now c.tell_answer.new.self c.args.call.pcb c.args.number c.args.options c.database_numbered-dbd.result.now c.in-Ok-Answered.answered
+    c.requires.standing c.requires.pcb c.database_numbered-dbd.ensures.value (rw c.in-Ok-Answered.field-0-is at c.in-Ok-Answered.ensures.stands)
+    c.tell_answer.result c.tell_answer.ensures.ok c.tell_answer.ensures.err
+
+pub tell_answer-requires-clause-pcbs : goal.tell_answer-requires-clause-pcbs
+tell_answer-requires-clause-pcbs c =
+    has_position c.args.system.now.databases c.args._pcbs.now c.args.self.now.positions c.args.call.pcb (Database c.args.number c.args.options) c.requires.standing c.requires.some c.requires.pcb
