@@ -1,0 +1,68 @@
+-- The macros of a format and their keys.
+use Rattle.std.specs.Prelude.{ℕ, Bool, true, false, ◌&&◌, not, List, [], ◌∷◌, codes, Option, Some, None, Result, Ok, Err, if◌then◌else◌}
+use Rattle.std.specs.List.{list_all, list_any}
+use Rattle.std.specs.Str.{bytes_eq}
+use Rattle.text_rows.specs.Lines.{split_at}
+use Rattle.text_rows.specs.Operands.{only, values}
+use Rattle.mfs_text.specs.declared.kinds.Kind.{Kind}
+use Rattle.mfs_text.specs.declared.kinds.Kind.TheVariants.{Field, Message, Segment, MessageField, End}
+
+-- the macros of a definition that stand in no format
+abbrev pub other_macros : List (List ℕ)
+other_macros =
+    codes "IMSCTRL" ∷ codes "DBD" ∷ codes "SEGM" ∷ codes "APPLCTN" ∷ codes "PCB" ∷ codes "TRANSACT" ∷ codes "NAME" ∷ codes "REGION" ∷ codes "FMT"
+    ∷ codes "PROGRAM" ∷ codes "END" ∷ []
+
+-- Rule 1: the name is a macro's. Rule 10: it is that of a macro of a format.
+unfoldable pub kind_of : List ℕ → Result Kind ℕ
+kind_of name =
+    if bytes_eq name (codes "DFLD") then Ok Field
+    else (if bytes_eq name (codes "MSG") then Ok Message
+    else (if bytes_eq name (codes "SEG") then Ok Segment
+    else (if bytes_eq name (codes "MFLD") then Ok MessageField
+    else (if bytes_eq name (codes "FMTEND") then Ok End
+    else (if list_any (bytes_eq name) other_macros then Err 10
+    else Err 1)))))
+
+-- an operand with a key stands there, be it once or twice
+abbrev pub is_there : Result (Option (List ℕ)) ℕ → Bool
+is_there (Ok None) = false
+is_there (Ok (Some value)) = true
+is_there (Err rule) = true
+
+abbrev pub stands : List ℕ → List (List ℕ) → Bool
+stands key ops = is_there (only (values key ops))
+
+-- An MFLD with LIT is a literal, unless it has SRC too.
+unfoldable pub is_literal : List (List ℕ) → Bool
+is_literal ops = stands (codes "LIT") ops && not (stands (codes "SRC") ops)
+
+abbrev pub field_keys : List (List ℕ)
+field_keys = codes "NAME" ∷ codes "POS" ∷ codes "LTH" ∷ []
+
+abbrev pub source_keys : List (List ℕ)
+source_keys = codes "SRC" ∷ codes "LTH" ∷ codes "JUST" ∷ codes "FILL" ∷ []
+
+-- the keys that a macro has, an MFLD those of its form
+abbrev pub keys : Kind → Bool → List (List ℕ)
+keys Field literal = field_keys
+keys Message literal = codes "TYPE" ∷ []
+keys Segment literal = []
+keys MessageField true = codes "LIT" ∷ []
+keys MessageField false = source_keys
+keys End literal = []
+
+abbrev pub is_among : List (List ℕ) → Option (List ℕ × List ℕ) → Bool
+is_among words None = false
+is_among words (Some (word, value)) = list_any (bytes_eq word) words
+
+-- an operand without = has no key
+unfoldable pub has_key : List (List ℕ) → List ℕ → Bool
+has_key words operand = is_among words (split_at 61 operand)
+
+abbrev pub known_among : List (List ℕ) → List (List ℕ) → Result (Unit {0}) ℕ
+known_among words operands = if list_all (has_key words) operands then Ok tt else Err 2
+
+-- Rule 2: each operand has one of these keys.
+unfoldable pub known : Kind → List (List ℕ) → Result (Unit {0}) ℕ
+known kind operands = known_among (keys kind (is_literal operands)) operands

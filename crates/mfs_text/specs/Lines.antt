@@ -1,0 +1,61 @@
+-- What a line of a format is, and where it may stand.
+use Rattle.std.specs.Prelude.{ℕ, Bool, true, false, not, List, Result, Ok, Err, if◌then◌else◌}
+use Rattle.text_rows.specs.Lines.{is_passed_over, printable_line}
+use Rattle.text_rows.specs.Lowest.{also}
+use Rattle.text_rows.specs.Operands.{macro_name, macro_operands}
+use Rattle.mfs_text.specs.declared.kinds.Kind.{Kind}
+use Rattle.mfs_text.specs.declared.lines.Direction.{Direction}
+use Rattle.mfs_text.specs.declared.lines.Direction.TheVariants.{Input, Output}
+use Rattle.mfs_text.specs.declared.lines.Section.{Section}
+use Rattle.mfs_text.specs.declared.lines.Section.TheVariants as section
+use Rattle.mfs_text.specs.declared.lines.FormatLine.{FormatLine}
+use Rattle.mfs_text.specs.declared.lines.FormatLine.TheVariants.{Nothing, Field, Message, Segment, MessageField, End}
+use Rattle.mfs_text.specs.Kinds.{kind_of, known}
+use Rattle.mfs_text.specs.Rows.{row}
+
+abbrev pub is_in_fields : Section → Bool
+is_in_fields section.Fields = true
+is_in_fields (section.Message direction) = false
+is_in_fields (section.Segment direction) = false
+
+abbrev pub is_in_segment : Section → Bool
+is_in_segment section.Fields = false
+is_in_segment (section.Message direction) = false
+is_in_segment (section.Segment direction) = true
+
+-- the input comes first, and then the output
+abbrev pub may_begin : Section → Direction → Bool
+may_begin section.Fields Input = true
+may_begin (section.Message Input) Output = true
+may_begin (section.Segment Input) Output = true
+may_begin _ _ = false
+
+-- DFLD stands before each MSG, SEG behind a MSG and MFLD behind a SEG.
+abbrev pub is_allowed : Section → FormatLine → Bool
+is_allowed before Nothing = true
+is_allowed before (Field field) = is_in_fields before
+is_allowed before (Message direction) = may_begin before direction
+is_allowed before (Segment number) = not (is_in_fields before)
+is_allowed before (MessageField line) = is_in_segment before
+is_allowed before End = true
+
+-- Rule 10: the line may stand there.
+unfoldable pub placed : Section → Result FormatLine ℕ → Result FormatLine ℕ
+placed before (Ok line) = if is_allowed before line then Ok line else Err 10
+placed before (Err rule) = Err rule
+
+-- what has come behind a line
+abbrev pub section_after : Section → FormatLine → Section
+section_after before (Message direction) = section.Message direction
+section_after (section.Message direction) (Segment number) = section.Segment direction
+section_after before _ = before
+
+-- a macro with its operands, or the lowest rule that its line breaks
+abbrev pub macro_line : Result Kind ℕ → Section → ℕ → List ℕ → Result FormatLine ℕ
+macro_line (Ok kind) before number line =
+    also (also (placed before (row kind number (macro_operands line))) (known kind (macro_operands line))) (printable_line line)
+macro_line (Err rule) before number line = Err rule
+
+-- the line of this number, or the lowest rule that it breaks
+unfoldable pub format_line : Section → ℕ → List ℕ → Result FormatLine ℕ
+format_line before number line = if is_passed_over line then Ok Nothing else macro_line (kind_of (macro_name line)) before number line

@@ -1,0 +1,19 @@
+//! The reader of message formats, which names the first rule broken, and the rule that a format
+//! keeps among its lines.
+//!
+//! A format has a macro a line: DFLD lines, then MSG TYPE=INPUT with SEG and MFLD lines, then MSG
+//! TYPE=OUTPUT with the same, and FMTEND. Lines that are empty or begin with `*` are passed over.
+#![tactic(auto)]
+
+pub use built::Built;
+pub use kinds::Kind;
+pub use lines::{Direction, FormatLine, Section};
+pub use model_format::Format;
+pub use reader::read_format;
+
+mod built;
+mod kinds;
+mod lines;
+mod reader;
+mod rows;
+mod values;

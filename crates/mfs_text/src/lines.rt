@@ -1,0 +1,141 @@
+//! What the lines of a format are, and where each may stand.
+ghost use Rattle.std.specs.Prelude.{◌≡◌, IfOk, OnOk, IsTrue};
+ghost use Rattle.mfs_text.specs.Lines as spec;
+ghost use Rattle.mfs_text.specs.Good.{is_good};
+
+use crate::kinds::{kind_of, known};
+use crate::rows::row;
+use model_format::{DeviceField, MessageFieldLine};
+use std::alloc::Global;
+use text_rows::rules::OUT_OF_PLACE;
+use text_rows::{also, is_passed_over, printable_line, split_macro};
+use tm_types::Memory;
+
+/// Which way a message goes.
+#[derive(Clone, Copy, Debug, PartialEq, Eq)]
+pub enum Direction {
+    /// MSG TYPE=INPUT.
+    Input,
+    /// MSG TYPE=OUTPUT.
+    Output,
+}
+
+/// What has come before a line of a format.
+#[derive(Clone, Copy, Debug)]
+pub enum Section {
+    /// No MSG.
+    Fields,
+    /// A MSG, and no SEG behind it.
+    Message(Direction),
+    /// A MSG and a SEG.
+    Segment(Direction),
+}
+
+/// A line of a format.
+#[derive(Debug, Drop)]
+pub enum FormatLine {
+    /// One that is passed over.
+    Nothing,
+    /// DFLD.
+    Field(DeviceField),
+    /// MSG.
+    Message(Direction),
+    /// SEG, with the number of its line.
+    Segment(u32),
+    /// MFLD.
+    MessageField(MessageFieldLine),
+    /// FMTEND.
+    End,
+}
+
+fn is_allowed(section: Section, line: &FormatLine) -> bool
+    ensures { result ≡ spec.is_allowed section line.now }
+{
+    match line {
+        FormatLine::Nothing | FormatLine::End => true,
+        FormatLine::Field(_) => is_in_fields(section),
+        FormatLine::Message(direction) => may_begin(section, *direction),
+        FormatLine::Segment(_) => !is_in_fields(section),
+        FormatLine::MessageField(_) => is_in_segment(section),
+    }
+}
+
+fn is_in_fields(section: Section) -> bool
+    ensures { result ≡ spec.is_in_fields section }
+{
+    match section {
+        Section::Fields => true,
+        Section::Message(_) | Section::Segment(_) => false,
+    }
+}
+
+fn is_in_segment(section: Section) -> bool
+    ensures { result ≡ spec.is_in_segment section }
+{
+    match section {
+        Section::Segment(_) => true,
+        Section::Fields | Section::Message(_) => false,
+    }
+}
+
+fn may_begin(section: Section, direction: Direction) -> bool
+    ensures { result ≡ spec.may_begin section direction }
+{
+    match (section, direction) {
+        (Section::Fields, Direction::Input) => true,
+        (Section::Message(Direction::Input), Direction::Output) => true,
+        (Section::Segment(Direction::Input), Direction::Output) => true,
+        _ => false,
+    }
+}
+
+/// Rule 10 where the line may not stand there.
+#[tactic(auto, unfolding(crate::specs::Lines::placed))]
+fn placed(section: Section, read: Result<FormatLine, u8>) -> Result<FormatLine, u8>
+    requires { IfOk read (λ line. IsTrue (is_good line)) }
+    ensures value { result ≡ spec.placed section read }
+    ensures valid { IfOk result (λ line. IsTrue (is_good line)) }
+    ensures allowed { IfOk result (λ line. IsTrue (spec.is_allowed section line)) }
+{
+    match read {
+        Ok(line) if is_allowed(section, &line) => Ok(line),
+        Ok(_) => Err(OUT_OF_PLACE),
+        Err(rule) => Err(rule),
+    }
+}
+
+/// What has come before the line behind this one.
+pub(crate) fn section_after(section: Section, line: &FormatLine) -> Section
+    ensures { result ≡ spec.section_after section line.now }
+{
+    match (section, line) {
+        (_, FormatLine::Message(direction)) => Section::Message(*direction),
+        (Section::Message(direction), FormatLine::Segment(_)) => Section::Segment(direction),
+        _ => section,
+    }
+}
+
+/// The line of this number, or the lowest rule that it breaks.
+#[tactic(auto, unfolding(crate::specs::Lines::format_line))]
+pub(crate) fn format_line(
+    alloc: Global,
+    section: Section,
+    number: u32,
+    line: &[u8],
+) -> Result<Result<FormatLine, u8>, Memory>
+    ensures value { IfOk result (λ read. read ≡ spec.format_line section number line.now) }
+    ensures allowed { IfOk result (λ read. IfOk read (λ line. IsTrue (spec.is_allowed section line))) }
+    ensures valid { IfOk result (λ read. IfOk read (λ line. IsTrue (is_good line))) }
+{
+    if is_passed_over(line) {
+        return Ok(Ok(FormatLine::Nothing));
+    }
+    let (name, operands) = split_macro(line);
+    let kind = match kind_of(name) {
+        Ok(kind) => kind,
+        Err(rule) => return Ok(Err(rule)),
+    };
+    let content = row(alloc, kind, number, &operands)?;
+    let stands = placed(section, content);
+    Ok(also(also(stands, known(kind, &operands)), printable_line(line)))
+}
