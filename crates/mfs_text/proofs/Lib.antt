@@ -1,3 +1,5 @@
 pub mod Quotes
 pub mod Joining
 pub mod GoodFormats
+pub mod SegmentRoom
+pub mod Kept

@@ -1,8 +1,7 @@
 -- The values of operands.
 use Rattle.std.specs.Prelude.{ℕ, ◌==◌, List, [], ◌∷◌, codes, Option, Some, None, Result, Ok, Err, if◌then◌else◌}
-use Rattle.std.specs.List.{list_all}
 use Rattle.std.specs.Str.{bytes_eq}
-use Rattle.tm_types.specs.Segment.{is_printable}
+use Rattle.tm_types.specs.Segment.{are_printable}
 use Rattle.text_rows.specs.Lines.{split_at}
 use Rattle.text_rows.specs.Lists.{two_of}
 use Rattle.text_rows.specs.Lowest.{both}
@@ -38,7 +37,7 @@ fill_of word = if bytes_eq word (codes "BLANK") then Ok 32 else one_byte word
 
 -- Rule 9 too: LIT begins by a quote and ends by the next one. Rule 11: its bytes are printable.
 abbrev pub closed : Option (List ℕ × List ℕ) → Result (List ℕ) ℕ
-closed (Some (inside, [])) = if list_all is_printable inside then Ok inside else Err 11
+closed (Some (inside, [])) = if are_printable inside then Ok inside else Err 11
 closed (Some (inside, byte ∷ bytes)) = Err 9
 closed None = Err 9
 

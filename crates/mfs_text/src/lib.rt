@@ -5,12 +5,14 @@
 //! TYPE=OUTPUT with the same, and FMTEND. Lines that are empty or begin with `*` are passed over.
 #![tactic(auto)]
 
+pub use breaks::broken_line;
 pub use built::Built;
 pub use kinds::Kind;
 pub use lines::{Direction, FormatLine, Section};
 pub use model_format::Format;
 pub use reader::read_format;
 
+mod breaks;
 mod built;
 mod kinds;
 mod lines;

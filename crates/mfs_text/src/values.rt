@@ -1,7 +1,5 @@
 //! The values of operands.
 ghost use Rattle.std.specs.Prelude.{◌≡◌, ◌≤◌, Ok, Err, IfOk, IsTrue, MatchResult};
-ghost use Rattle.std.specs.List.{list_all};
-ghost use Rattle.tm_types.specs.Segment as types;
 ghost use Rattle.text_rows.specs.Lines.{split_at};
 ghost use Rattle.text_rows.specs.Numbers.{number_between};
 ghost use Rattle.model_format.specs.Valid.{is_fill, is_literal};
@@ -11,7 +9,7 @@ use crate::Direction;
 use model_format::Justify;
 use text_rows::rules::{NOT_PRINTABLE, WRONG_WORD};
 use text_rows::{both, is_word, number_between, split_at, two_of};
-use tm_types::is_printable;
+use tm_types::{are_printable, is_printable};
 
 /// A number that a byte holds.
 pub(crate) fn byte_between(low: u8, high: u8, text: &[u8]) -> Result<u8, u8>
@@ -105,10 +103,4 @@ fn closed(text: &[u8]) -> Result<&[u8], u8>
         Some((_, [])) => Err(NOT_PRINTABLE),
         _ => Err(WRONG_WORD),
     }
-}
-
-fn are_printable(text: &[u8]) -> bool
-    ensures { result ≡ list_all types.is_printable text.now }
-{
-    text.iter().all(|&byte| is_printable(byte))
 }

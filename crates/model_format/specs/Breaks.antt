@@ -1,6 +1,6 @@
 -- The rule that a format keeps among its lines: its fields have different names and share no place,
 -- each SRC names a field, and there is an input segment, none of more than 1,996 bytes.
-use Rattle.std.specs.Prelude.{ℕ, ◌+◌, ◌==◌, nat_lt, Bool, true, ◌&&◌, ◌||◌, not, List, [], ◌∷◌, ◌++◌, length, find, Option, Some, None, if◌then◌else◌}
+use Rattle.std.specs.Prelude.{◌≡◌, ℕ, ◌+◌, ◌==◌, nat_lt, Bool, true, ◌&&◌, ◌||◌, not, List, [], ◌∷◌, ◌++◌, length, find, Option, Some, None, if◌then◌else◌}
 use Rattle.std.specs.List.{list_any}
 use Rattle.std.specs.Option.{option_map, option_or}
 use Rattle.std.specs.Str.{bytes_eq}
@@ -67,3 +67,7 @@ no_input line (segment ∷ segments) = None
 unfoldable pub broken_line : ℕ → FormatLines → Option ℕ
 broken_line line format =
     option_or (no_input line format.input) (option_or (clashing_field [] format.fields) (option_or (broken_input format.fields format.input) (broken_output format.fields format.output)))
+
+-- the format keeps the rule, whatever the line of its FMT is
+abbrev pub KeepsRule : FormatLines → Type 0
+KeepsRule format = (line : ℕ) → broken_line line format ≡ None

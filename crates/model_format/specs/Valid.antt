@@ -1,7 +1,7 @@
 -- What each line of a format keeps by itself.
 use Rattle.std.specs.Prelude.{ℕ, ◌+◌, ◌==◌, nat_le, Bool, ◌&&◌, not, List, IsTrue}
 use Rattle.std.specs.List.{list_all, list_any}
-use Rattle.tm_types.specs.Segment.{is_printable}
+use Rattle.tm_types.specs.Segment.{are_printable, is_printable}
 use Rattle.model_format.specs.declared.device_field.DeviceField.{DeviceField}
 use Rattle.model_format.specs.declared.message_field.MessageField.{MessageField}
 use Rattle.model_format.specs.declared.message_field.MessageField.TheVariants.{Source, Literal}
@@ -18,7 +18,7 @@ is_fill byte = is_printable byte && not (byte == 44)
 
 -- a literal has printable bytes, and no quote among them
 abbrev pub is_literal : List ℕ → Bool
-is_literal text = list_all is_printable text && not (list_any (λ byte. byte == 39) text)
+is_literal text = are_printable text && not (list_any (λ byte. byte == 39) text)
 
 -- the part of a field has 1 to 80 bytes
 abbrev pub is_message_field : MessageField → Bool

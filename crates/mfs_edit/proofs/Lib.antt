@@ -1,0 +1,4 @@
+pub mod Placing
+pub mod Names
+pub mod Rules
+pub mod Printable

@@ -1,0 +1,6 @@
+use Rattle.std.proofs.Common.{◌≡◌, [], take, drop}
+use Rattle.model_format.specs.Breaks as spec
+use Rattle.mfs_text.proofs.breaks.clashing_field.Given as goal
+
+abbrev pub invariant-loop-index : goal.invariant-loop-index
+invariant-loop-index l = spec.clashing_field (take l.index l.fields) (drop l.index l.fields) ≡ spec.clashing_field [] l.fields
