@@ -1,6 +1,6 @@
 -- A list is searched backwards.
-use Rattle.std.proofs.Common.{ℕ, ◌≡◌, Bool, true, false, cond, List, [], ◌∷◌, ◌++◌, reverse, refl, ap, sym, ◌∙◌}
-use Rattle.std.specs.Prelude.{Option, Some, None, find, is_some, ◌||◌}
+use Rattle.std.proofs.Common.{◌≡◌, Bool, true, false, cond, List, [], ◌∷◌, ◌++◌, reverse, refl, ap, ◌∙◌}
+use Rattle.std.specs.Prelude.{Option, Some, find, is_some, ◌||◌}
 use Rattle.std.specs.List.{list_any}
 use Rattle.std.proofs.lemmas.List.{reverse-append}
 

@@ -1,5 +1,5 @@
 -- Printable texts, and how long they are.
-use Rattle.std.proofs.Common.{ℕ, zero, suc, ◌≡◌, ◌+◌, ◌-◌, ◌≤◌, ◌<◌, Bool, true, false, cond, ◌&&◌, List, [], ◌∷◌, ◌++◌, length, take, drop, replicate, reverse, refl, ap, sym, ◌∙◌, subst, arith, nat_lt, nat_le}
+use Rattle.std.proofs.Common.{ℕ, zero, suc, ◌≡◌, ◌+◌, ◌-◌, ◌<◌, Bool, true, false, cond, ◌&&◌, List, [], ◌∷◌, ◌++◌, length, take, drop, replicate, reverse, refl, ap, sym, ◌∙◌, arith, nat_lt, nat_le}
 use Rattle.std.specs.Prelude.{Option, Some, None, find, position, not, IsTrue}
 use Rattle.std.specs.List.{list_all, position_or_len}
 use Rattle.std.specs.Option.{option_map_or}

@@ -1,5 +1,5 @@
 -- What a format keeps that keeps its rule.
-use Rattle.std.proofs.Common.{ℕ, ◌≡◌, Bool, true, false, cond, List, [], ◌∷◌, refl}
+use Rattle.std.proofs.Common.{ℕ, ◌≡◌, Bool, true, false, [], refl}
 use Rattle.std.specs.Prelude.{Option, Some, None}
 use Rattle.std.specs.Option.{option_or}
 use Rattle.model_format.specs.Breaks.{KeepsRule, broken_line, no_input, clashing_field, broken_input, broken_output, line_if}

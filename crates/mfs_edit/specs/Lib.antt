@@ -1,3 +1,4 @@
 pub mod Indexes
 pub mod Answers
 pub mod Texts
+pub mod Pieces

@@ -134,11 +134,7 @@ fn add_text(
 }
 
 /// The last value of a field, or an empty one.
-fn value_of<'a>(
-    places: &BTreeMap<Name, usize>,
-    values: &'a [FieldValue],
-    name: &Name,
-) -> &'a [u8]
+fn value_of<'a>(places: &BTreeMap<Name, usize>, values: &'a [FieldValue], name: &Name) -> &'a [u8]
     requires { IndexesValues places.now values.now }
     ensures { result.now ≡ spec.value_of values.now name.now }
 {

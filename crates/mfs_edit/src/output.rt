@@ -1,6 +1,6 @@
 //! The segments of a reply become a page.
-ghost use Rattle.std.specs.Prelude.{◌≡◌, ◌+◌, ◌-◌, ◌≤◌, ◌++◌, ◌∷◌, [], List, ℕ, None, IfOk, IsTrue, length, take, drop};
-ghost use Rattle.std.specs.List.{list_all};
+ghost use Rattle.std.specs.Prelude.{◌≡◌, ◌+◌, ◌-◌, ◌≤◌, ◌++◌, ◌∷◌, [], List, ℕ, None, IfOk, IsTrue, length, take, drop, slice_set};
+ghost use Rattle.std.specs.List.{list_all, slice_index_or};
 ghost use Rattle.model_format.specs.Breaks.{KeepsRule, clashing_field};
 ghost use Rattle.model_format.specs.Fitting.{fitted};
 ghost use Rattle.model_format.specs.Pages.{IsPage};
@@ -9,6 +9,7 @@ ghost use Rattle.model_format.specs.Showing.{Piece};
 ghost use Rattle.model_format.specs.Valid.{is_on_page};
 ghost use Rattle.model_format.specs.declared.device_field.DeviceField.{DeviceField};
 ghost use Rattle.mfs_edit.specs.Indexes.{IndexesFields};
+ghost use Rattle.mfs_edit.specs.Pieces.{OnPage, left_by, piece_of, row_with};
 
 use crate::fitting::set_fitted;
 use crate::indexes::{field_named, fields_by_name};
@@ -30,15 +31,16 @@ pub fn edit_out(alloc: Global, format: &Format, segments: &Segments) -> Result<P
     let places = fields_by_name(alloc, format.fields())?;
     let mut rows = blank_rows(alloc)?;
     for (index, line) in format.output().iter().enumerate() {
-        if let Some(segment) = segments.get(index) {
-            show_segment(
-                &mut rows,
-                format.fields(),
-                &places,
-                line.fields.as_slice(),
-                segment.text(),
-            );
-        }
+        let Some(segment) = segments.get(index) else {
+            return Ok(Page::of(rows));
+        };
+        show_segment(
+            &mut rows,
+            format.fields(),
+            &places,
+            line.fields.as_slice(),
+            segment.text(),
+        );
     }
     Ok(Page::of(rows))
 }
@@ -72,11 +74,33 @@ fn show_segment(
 {
     let mut rest = text;
     for line in lines {
-        if let MessageField::Source(source) = &line.content {
-            let (piece, behind) = cut(rest, source.width);
+        rest = show_field(rows, fields, places, &line.content, rest);
+    }
+}
+
+/// Shows the piece of an MFLD, on a page that shows some pieces, and answers what it leaves of the text.
+fn show_field<'a>(
+    rows: &mut Vec<[u8; 80]>,
+    fields: &[DeviceField],
+    places: &BTreeMap<Name, usize>,
+    content: &MessageField,
+    text: &'a [u8],
+) -> &'a [u8]
+    requires rule { clashing_field [] fields.now ≡ None }
+    requires on_page { IsTrue (list_all is_on_page fields.now) }
+    requires places { IndexesFields places.now fields.now }
+    requires page { IsPage rows.old.items }
+    ensures rest { result.now ≡ left_by content.now text.now }
+    ensures page { IsPage rows.new.items }
+    ensures shown { (done : List Piece) → rows.old.items ≡ spec.page_of fields.now done → rows.new.items ≡ spec.page_of fields.now (done ++ piece_of content.now text.now) }
+{
+    match content {
+        MessageField::Source(source) => {
+            let (piece, behind) = cut(text, source.width);
             show_piece(rows, fields, places, source, piece);
-            rest = behind;
+            behind
         }
+        MessageField::Literal(_) => text,
     }
 }
 
@@ -103,16 +127,26 @@ fn show_piece(
     ensures page { IsPage rows.new.items }
     ensures shown { (done : List Piece) → rows.old.items ≡ spec.page_of fields.now done → rows.new.items ≡ spec.page_of fields.now (done ++ (record { source = source.now; text = text.now }) ∷ []) }
 {
-    if let Some(field) = field_named(places, fields, &source.name) {
-        let row = usize::from(field.row) - 1;
-        set_field(&mut rows[row], field, source, text);
+    match field_named(places, fields, &source.name) {
+        Some(field) => set_piece(rows, field, source, text),
+        None => {}
     }
 }
 
-/// Sets a piece into its field's columns of a row.
+/// Sets a piece into a field of the page.
+fn set_piece(rows: &mut Vec<[u8; 80]>, field: &DeviceField, source: &Source, text: &[u8])
+    requires field { OnPage field.now }
+    requires page { IsPage rows.old.items }
+    ensures { rows.new.items ≡ slice_set rows.old.items (field.now.row - 1) (row_with field.now (fitted source.now.justify source.now.fill field.now.width text.now) (slice_index_or rows.old.items (field.now.row - 1) [])) }
+{
+    let row = usize::from(field.row) - 1;
+    set_field(&mut rows[row], field, source, text);
+}
+
+/// Sets a piece into a field's columns of a row.
 fn set_field(row: &mut [u8; 80], field: &DeviceField, source: &Source, text: &[u8])
-    requires { IsTrue (is_on_page field.now) }
-    ensures { row.new ≡ take (field.now.column - 1) row.old ++ (fitted source.now.justify source.now.fill field.now.width text.now ++ drop (field.now.column - 1 + field.now.width) row.old) }
+    requires { OnPage field.now }
+    ensures { row.new ≡ row_with field.now (fitted source.now.justify source.now.fill field.now.width text.now) row.old }
 {
     let at = usize::from(field.column) - 1;
     let end = at + usize::from(field.width);
