@@ -122,7 +122,9 @@ impl Lines {
         if self.buffer.reserve().is_err() {
             return Err(LineFault::Memory);
         }
-        let text = match Vec::with_capacity(self.alloc, LINE_LIMIT) {
+        // Room is made before a byte is taken: for the line where it is held whole, and else for any.
+        let room = whole.unwrap_or(LINE_LIMIT);
+        let text = match Vec::with_capacity(self.alloc, room) {
             Ok(text) => text,
             Err(_) => return Err(LineFault::Memory),
         };
@@ -240,7 +242,7 @@ fn read_line<S: Source>(buffer: &mut Buffer, source: &mut S) -> Result<usize, St
 fn serve(buffer: &mut Buffer, size: usize, text: Vec<u8>) -> Option<Line>
     requires size { size ≡ line_size (held_bytes buffer.old) }
     requires short { size ≤ 4096 }
-    requires room { 4096 ≤ vec_capacity text }
+    requires room { size ≤ vec_capacity text }
     requires empty { text.items ≡ [] }
     ensures { Serves (held_bytes buffer.old) result (held_bytes buffer.new) }
 {
