@@ -1,3 +1,4 @@
+//! The classes of a region.
 ghost use Rattle.std.specs.Prelude.{◌≡◌, ◌<◌, ◌≤◌, [], ◌∷◌, ◌++◌, length};
 
 use std::marker::Model;

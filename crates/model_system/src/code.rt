@@ -1,3 +1,4 @@
+//! Transaction codes.
 use tm_types::Name;
 
 /// Whether the messages of a code have several segments or one.

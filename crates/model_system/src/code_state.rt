@@ -1,3 +1,4 @@
+//! The states of transaction codes.
 use tm_types::Name;
 
 /// The state of a transaction code.

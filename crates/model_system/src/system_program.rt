@@ -1,3 +1,4 @@
+//! Programs with their PCBs.
 use crate::Pcbs;
 use model_script::Program;
 use tm_types::Name;

@@ -157,17 +157,17 @@ area_by : (b : Bool) (function : Function) (pcb : ℕ) (words : List (List ℕ))
 area_by true function pcb words area ssas a e = taken_shape (takes_ssas function && nat_le 1 pcb) function pcb words area ssas refl a e
 area_by false function pcb words area ssas a e = no_shape function pcb words area ssas a e
 
-pub shape_read : (function : Function) (pcb : ℕ) (words : List (List ℕ)) (area : Option ℕ) (ssas : List ScriptSsa)
-    → area_of function (Ok pcb) words ≡ Ok (area, ssas) → has_shape function pcb area ssas ≡ true
-shape_read function pcb words area ssas e = area_by (takes_area function) function pcb words area ssas refl e
+pub shape_read : (function : Function) (pcb : ℕ) (above : Bool) (words : List (List ℕ)) (area : Option ℕ) (ssas : List ScriptSsa) → above ≡ nat_le 1 pcb
+    → area_of function above words ≡ Ok (area, ssas) → has_shape function pcb area ssas ≡ true
+shape_read function pcb above words area ssas is e = area_by (takes_area function) function pcb words area ssas refl (rw is at e)
 
 joined : (a b c d : Bool) → a ≡ true → b ≡ true → (c && d) ≡ true → (a && b && c && d) ≡ true
 joined true true c d e f g = g
 joined true false c d e f g = cc
 joined false b c d e f g = cc
 
-pub call_allowed : (function : Function) (pcb : ℕ) (words : List (List ℕ)) (area : Option ℕ) (ssas : List ScriptSsa) → pcb ≤ 8 → is_function_of pcb function ≡ true
-    → area_of function (Ok pcb) words ≡ Ok (area, ssas) → is_call function pcb area ssas ≡ true
-call_allowed function pcb words area ssas small known e =
+pub call_allowed : (function : Function) (pcb : ℕ) (above : Bool) (words : List (List ℕ)) (area : Option ℕ) (ssas : List ScriptSsa) → pcb ≤ 8 → above ≡ nat_le 1 pcb → is_function_of pcb function ≡ true
+    → area_of function above words ≡ Ok (area, ssas) → is_call function pcb area ssas ≡ true
+call_allowed function pcb above words area ssas small is known e =
     let within : nat_le pcb 8 ≡ true = grind (arith, nat_tests) in
-    joined (nat_le pcb 8) (is_function_of pcb function) (cond (takes_area function) (is_some area) (is_none area)) (ssas_allowed pcb function ssas) within known (shape_read function pcb words area ssas e)
+    joined (nat_le pcb 8) (is_function_of pcb function) (cond (takes_area function) (is_some area) (is_none area)) (ssas_allowed pcb function ssas) within known (shape_read function pcb above words area ssas is e)

@@ -1,3 +1,4 @@
+pub mod PcbNumbers
 pub mod Lists
 pub mod Printable
 pub mod GoodStatements

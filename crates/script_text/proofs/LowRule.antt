@@ -287,23 +287,23 @@ no_area_low : (words : List (List ℕ)) → IsLow (no_area words)
 no_area_low [] = tt
 no_area_low (word ∷ words) = lit≤ tt
 
-area_low : (function : Function) (pcb : Result ℕ ℕ) (words : List (List ℕ)) → IsLow (area_of function pcb words)
-area_low function pcb words = if_low (takes_area function) (area_taken (takes_ssas function && is_above_0 pcb) words) (no_area words) (area_taken_low (takes_ssas function && is_above_0 pcb) words) (no_area_low words)
+area_low : (function : Function) (above : Bool) (words : List (List ℕ)) → IsLow (area_of function above words)
+area_low function above words = if_low (takes_area function) (area_taken (takes_ssas function && above) words) (no_area words) (area_taken_low (takes_ssas function && above) words) (no_area_low words)
 
 call_made_low : (function : Function) (read : Result (ℕ × (Option ℕ × List ScriptSsa)) ℕ) → IsLow read → IsLow (call_made function read)
 call_made_low function (Ok read) h = tt
 call_made_low function (Err rule) h = h
 
-call_with_low : (function : Result Function ℕ) (pcb : Result ℕ ℕ) (words : List (List ℕ)) → IsLow function → IsLow pcb → IsLow (call_with function pcb words)
-call_with_low (Ok function) pcb words h k =
-    call_made_low function (both (on_pcb function pcb) (area_of function pcb words)) (both_low (on_pcb function pcb) (area_of function pcb words) (on_pcb_low function pcb k) (area_low function pcb words))
-call_with_low (Err rule) pcb words h k = also_low {A = Statement} (Err rule) pcb h k
+call_with_low : (function : Result Function ℕ) (pcb : Result ℕ ℕ) (above : Bool) (words : List (List ℕ)) → IsLow function → IsLow pcb → IsLow (call_with function pcb above words)
+call_with_low (Ok function) pcb above words h k =
+    call_made_low function (both (on_pcb function pcb) (area_of function above words)) (both_low (on_pcb function pcb) (area_of function above words) (on_pcb_low function pcb k) (area_low function above words))
+call_with_low (Err rule) pcb above words h k = also_low {A = Statement} (Err rule) pcb h k
 
 call_low : (words : List (List ℕ)) → IsLow (call_of words)
 unfolding call_of
 call_low [] = lit≤ tt
 call_low (word ∷ []) = lit≤ tt
-call_low (word ∷ number ∷ words) = call_with_low (function_of word) (number_of 0 8 number) words (function_low word) (number_low 0 8 number)
+call_low (word ∷ number ∷ words) = call_with_low (function_of word) (number_of 0 8 number) (is_above_0 number) words (function_low word) (number_low 0 8 number)
 
 abend_made_low : (read : Result ℕ ℕ) → IsLow read → IsLow (abend_made read)
 abend_made_low (Ok read) h = tt

@@ -8,7 +8,6 @@ use Rattle.text_rows.specs.Pieces.{pieces}
 use Rattle.text_rows.specs.Refusals.{at_line, then_lines}
 use Rattle.model_script.specs.declared.program.ScriptLine.{ScriptLine}
 use Rattle.model_script.specs.declared.statement.Statement.{Statement}
-use Rattle.script_text.specs.declared.rules.TheConstants.{TOO_MANY_STATEMENTS, ENDPROG_MISSING}
 use Rattle.script_text.specs.Statements.{label_in, has_label_word, statement_of, nothing_behind}
 
 -- A line is words that blanks part; a literal in quotes is one word.
@@ -49,7 +48,7 @@ label_from place (line ∷ lines) name =
 
 -- Rule 8: a statement has at most 499 before it.
 unfoldable pub room_for : ℕ → Result (Unit {0}) ℕ
-room_for before = if nat_lt before 500 then Ok tt else Err TOO_MANY_STATEMENTS
+room_for before = if nat_lt before 500 then Ok tt else Err 8
 
 abbrev pub room_before : ℕ → List ℕ → Result (Unit {0}) ℕ
 room_before before line = if has_label_word (words line) then Ok tt else room_for before
@@ -74,7 +73,7 @@ counted before line = if has_label_word (words line) then before else suc before
 -- The lines of a program from the one of this number on, with so many lines and statements before
 -- them. Rule 9: they end by ENDPROG; where they don't, it is missing one past the last.
 abbrev pub script : (List ℕ → Option ℕ) → ℕ → ℕ → ℕ → List (List ℕ) → Result (List ScriptLine) (ℕ × ℕ)
-script places number here before [] = Err (number, ENDPROG_MISSING)
+script places number here before [] = Err (number, 9)
 script places number here before (line ∷ lines) =
     if is_passed_over line then script places (suc number) here before lines
     else (if is_last line then nothing_more (at_line number (last_line line))

@@ -4,6 +4,8 @@ use Rattle.std.specs.Str.{bytes_eq}
 use Rattle.tm_types.specs.declared.function.Function.{Function}
 use Rattle.text_rows.specs.Lowest.{both, also}
 use Rattle.text_rows.specs.Names.{name_of}
+use Rattle.text_rows.specs.Numbers as rows
+use Rattle.text_rows.specs.Numbers.{is_number}
 use Rattle.model_script.specs.Programs.{is_function_of, takes_area, takes_ssas}
 use Rattle.model_script.specs.declared.script_ssa.ScriptSsa.{ScriptSsa}
 use Rattle.model_script.specs.declared.statement.Comparison.{Comparison}
@@ -13,7 +15,6 @@ use Rattle.model_script.specs.declared.statement.Target.{Target}
 use Rattle.model_script.specs.declared.text.Text.{Text}
 use Rattle.script_text.specs.declared.line_word.LineWord.{LineWord}
 use Rattle.script_text.specs.declared.line_word.LineWord.TheVariants.{Label, Set, Word, Cut, Pad, Add, Less, If, Goto, Call, Abend, End}
-use Rattle.script_text.specs.declared.rules.TheConstants.{UNKNOWN_WORD, WRONG_COUNT, NO_LABEL, LABEL_TWICE, UNKNOWN_FUNCTION}
 use Rattle.script_text.specs.Values.{variable_of, text_of, texts_of, number_of, comparison_of, goto_word, target_of, ssas_of, function_of}
 
 -- Rule 1: the first word of a line.
@@ -61,13 +62,13 @@ stands_at (Some place) here = place == here
 stands_at None here = false
 
 abbrev pub label_at : (List ℕ → Option ℕ) → ℕ → Result (List ℕ) ℕ → Result Statement ℕ
-label_at places here (Ok name) = if stands_at (places name) here then Ok (line.Label name) else Err LABEL_TWICE
-label_at places here (Err rule) = Err NO_LABEL
+label_at places here (Ok name) = if stands_at (places name) here then Ok (line.Label name) else Err 6
+label_at places here (Err rule) = Err 5
 
 -- Rule 2: a line has as many operands as its word takes.
 unfoldable pub label_of : (List ℕ → Option ℕ) → ℕ → List (List ℕ) → Result Statement ℕ
 label_of places here (name ∷ []) = label_at places here (name_of name)
-label_of places here _ = Err WRONG_COUNT
+label_of places here _ = Err 2
 
 abbrev pub set_made : Result (ℕ × List Text) ℕ → Result Statement ℕ
 set_made (Ok (x, texts)) = Ok (line.Set x texts)
@@ -75,7 +76,7 @@ set_made (Err rule) = Err rule
 
 unfoldable pub set_of : List (List ℕ) → Result Statement ℕ
 set_of (x ∷ word ∷ words) = set_made (both (variable_of x) (texts_of (word ∷ words)))
-set_of _ = Err WRONG_COUNT
+set_of _ = Err 2
 
 abbrev pub word_made : Result (ℕ × (ℕ × ℕ)) ℕ → Result Statement ℕ
 word_made (Ok (x, (y, number))) = Ok (line.Word x y number)
@@ -83,7 +84,7 @@ word_made (Err rule) = Err rule
 
 unfoldable pub word_of : List (List ℕ) → Result Statement ℕ
 word_of (x ∷ y ∷ number ∷ []) = word_made (both (variable_of x) (both (variable_of y) (number_of 1 100 number)))
-word_of _ = Err WRONG_COUNT
+word_of _ = Err 2
 
 abbrev pub cut_made : Result ((ℕ × ℕ) × (ℕ × ℕ)) ℕ → Result Statement ℕ
 cut_made (Ok ((x, y), (start, count))) = Ok (line.Cut x y start count)
@@ -91,7 +92,7 @@ cut_made (Err rule) = Err rule
 
 unfoldable pub cut_of : List (List ℕ) → Result Statement ℕ
 cut_of (x ∷ y ∷ start ∷ count ∷ []) = cut_made (both (both (variable_of x) (variable_of y)) (both (number_of 1 1996 start) (number_of 1 1996 count)))
-cut_of _ = Err WRONG_COUNT
+cut_of _ = Err 2
 
 abbrev pub pad_made : Result (ℕ × ℕ) ℕ → Result Statement ℕ
 pad_made (Ok (x, width)) = Ok (line.Pad x width)
@@ -99,12 +100,12 @@ pad_made (Err rule) = Err rule
 
 unfoldable pub pad_of : List (List ℕ) → Result Statement ℕ
 pad_of (x ∷ width ∷ []) = pad_made (both (variable_of x) (number_of 1 18 width))
-pad_of _ = Err WRONG_COUNT
+pad_of _ = Err 2
 
 -- the two variables of ADD and LESS
 unfoldable pub pair_of : List (List ℕ) → Result (ℕ × ℕ) ℕ
 pair_of (x ∷ y ∷ []) = both (variable_of x) (variable_of y)
-pair_of _ = Err WRONG_COUNT
+pair_of _ = Err 2
 
 abbrev pub add_made : Result (ℕ × ℕ) ℕ → Result Statement ℕ
 add_made (Ok (x, y)) = Ok (line.Add x y)
@@ -120,9 +121,9 @@ if_made (Err rule) = Err rule
 
 -- an IF with another count than five operands
 abbrev pub if_miscounted : List (List ℕ) → Result Statement ℕ
-if_miscounted (left ∷ comparison ∷ right ∷ goto ∷ words) = also (also (Err WRONG_COUNT) (comparison_of comparison)) (goto_word goto)
-if_miscounted (left ∷ comparison ∷ words) = also (Err WRONG_COUNT) (comparison_of comparison)
-if_miscounted _ = Err WRONG_COUNT
+if_miscounted (left ∷ comparison ∷ right ∷ goto ∷ words) = also (also (Err 2) (comparison_of comparison)) (goto_word goto)
+if_miscounted (left ∷ comparison ∷ words) = also (Err 2) (comparison_of comparison)
+if_miscounted _ = Err 2
 
 unfoldable pub if_of : (List ℕ → Option ℕ) → List (List ℕ) → Result Statement ℕ
 if_of places (left ∷ comparison ∷ right ∷ goto ∷ label ∷ []) =
@@ -135,16 +136,16 @@ goto_made (Err rule) = Err rule
 
 unfoldable pub goto_of : (List ℕ → Option ℕ) → List (List ℕ) → Result Statement ℕ
 goto_of places (label ∷ []) = goto_made (target_of places label)
-goto_of places _ = Err WRONG_COUNT
+goto_of places _ = Err 2
 
 -- Rule 10: PCB 0 has other functions than the others.
 abbrev pub on_pcb : Function → Result ℕ ℕ → Result ℕ ℕ
-on_pcb function (Ok pcb) = if is_function_of pcb function then Ok pcb else Err UNKNOWN_FUNCTION
+on_pcb function (Ok pcb) = if is_function_of pcb function then Ok pcb else Err 10
 on_pcb function (Err rule) = Err rule
 
-abbrev pub is_above_0 : Result ℕ ℕ → Bool
-is_above_0 (Ok pcb) = nat_le 1 pcb
-is_above_0 (Err rule) = false
+-- The number of a PCB is above 0, be it one that there can't be, as 9.
+unfoldable pub is_above_0 : List ℕ → Bool
+is_above_0 text = is_number text && nat_le 1 (rows.number_of text)
 
 abbrev pub with_area : Result (ℕ × List ScriptSsa) ℕ → Result (Option ℕ × List ScriptSsa) ℕ
 with_area (Ok (x, ssas)) = Ok (Some x, ssas)
@@ -157,28 +158,28 @@ is_empty (word ∷ words) = false
 -- Rule 2: the area is missing for the functions that take none, and only a get or ISRT on a PCB
 -- above 0 has segment search arguments.
 abbrev pub area_taken : Bool → List (List ℕ) → Result (Option ℕ × List ScriptSsa) ℕ
-area_taken ssas [] = Err WRONG_COUNT
-area_taken ssas (x ∷ words) = if is_empty words || ssas then with_area (both (variable_of x) (ssas_of words)) else Err WRONG_COUNT
+area_taken ssas [] = Err 2
+area_taken ssas (x ∷ words) = if is_empty words || ssas then with_area (both (variable_of x) (ssas_of words)) else Err 2
 
 abbrev pub no_area : List (List ℕ) → Result (Option ℕ × List ScriptSsa) ℕ
 no_area [] = Ok (None, [])
-no_area (word ∷ words) = Err WRONG_COUNT
+no_area (word ∷ words) = Err 2
 
-abbrev pub area_of : Function → Result ℕ ℕ → List (List ℕ) → Result (Option ℕ × List ScriptSsa) ℕ
-area_of function pcb words = if takes_area function then area_taken (takes_ssas function && is_above_0 pcb) words else no_area words
+abbrev pub area_of : Function → Bool → List (List ℕ) → Result (Option ℕ × List ScriptSsa) ℕ
+area_of function above words = if takes_area function then area_taken (takes_ssas function && above) words else no_area words
 
 abbrev pub call_made : Function → Result (ℕ × (Option ℕ × List ScriptSsa)) ℕ → Result Statement ℕ
 call_made function (Ok (pcb, (area, ssas))) = Ok (line.Call function pcb area ssas)
 call_made function (Err rule) = Err rule
 
 -- Of a call of an unknown function only the number is judged besides.
-abbrev pub call_with : Result Function ℕ → Result ℕ ℕ → List (List ℕ) → Result Statement ℕ
-call_with (Ok function) pcb words = call_made function (both (on_pcb function pcb) (area_of function pcb words))
-call_with (Err rule) pcb words = also (Err rule) pcb
+abbrev pub call_with : Result Function ℕ → Result ℕ ℕ → Bool → List (List ℕ) → Result Statement ℕ
+call_with (Ok function) pcb above words = call_made function (both (on_pcb function pcb) (area_of function above words))
+call_with (Err rule) pcb above words = also (Err rule) pcb
 
 unfoldable pub call_of : List (List ℕ) → Result Statement ℕ
-call_of (word ∷ number ∷ words) = call_with (function_of word) (number_of 0 8 number) words
-call_of _ = Err WRONG_COUNT
+call_of (word ∷ number ∷ words) = call_with (function_of word) (number_of 0 8 number) (is_above_0 number) words
+call_of _ = Err 2
 
 abbrev pub abend_made : Result ℕ ℕ → Result Statement ℕ
 abend_made (Ok number) = Ok (line.Abend (record { number = number }))
@@ -186,12 +187,12 @@ abend_made (Err rule) = Err rule
 
 unfoldable pub abend_of : List (List ℕ) → Result Statement ℕ
 abend_of (number ∷ []) = abend_made (number_of 1 4095 number)
-abend_of _ = Err WRONG_COUNT
+abend_of _ = Err 2
 
 -- nothing stands behind END and ENDPROG
 unfoldable pub nothing_behind : List (List ℕ) → Result (Unit {0}) ℕ
 nothing_behind [] = Ok tt
-nothing_behind (word ∷ words) = Err WRONG_COUNT
+nothing_behind (word ∷ words) = Err 2
 
 abbrev pub ended : Result (Unit {0}) ℕ → Result Statement ℕ
 ended (Ok _) = Ok line.End
@@ -214,8 +215,8 @@ by_word End places here words = ended (nothing_behind words)
 
 abbrev pub known_word : Option LineWord → (List ℕ → Option ℕ) → ℕ → List (List ℕ) → Result Statement ℕ
 known_word (Some word) places here words = by_word word places here words
-known_word None places here words = Err UNKNOWN_WORD
+known_word None places here words = Err 1
 
 unfoldable pub statement_of : (List ℕ → Option ℕ) → ℕ → List (List ℕ) → Result Statement ℕ
-statement_of places here [] = Err UNKNOWN_WORD
+statement_of places here [] = Err 1
 statement_of places here (word ∷ words) = known_word (line_word word) places here words

@@ -14,19 +14,18 @@ use Rattle.model_script.specs.declared.statement.Comparison.TheVariants.{Equal, 
 use Rattle.model_script.specs.declared.statement.Target.{Target}
 use Rattle.model_script.specs.declared.text.Text.{Text}
 use Rattle.model_script.specs.declared.text.Text.TheVariants.{Variable, Status, Literal}
-use Rattle.script_text.specs.declared.rules.TheConstants.{UNKNOWN_WORD, WRONG_OPERAND, OPEN_LITERAL, NO_LABEL, WRONG_NUMBER, UNKNOWN_FUNCTION}
 
 -- Rule 3: a variable is one letter, A to Z, seen as its place among them.
 unfoldable pub variable_of : List ℕ → Result ℕ ℕ
-variable_of [] = Err WRONG_OPERAND
-variable_of (letter ∷ []) = if nat_le 65 letter && nat_le letter 90 then Ok (letter - 65) else Err WRONG_OPERAND
-variable_of (letter ∷ other ∷ letters) = Err WRONG_OPERAND
+variable_of [] = Err 3
+variable_of (letter ∷ []) = if nat_le 65 letter && nat_le letter 90 then Ok (letter - 65) else Err 3
+variable_of (letter ∷ other ∷ letters) = Err 3
 
 -- Rule 4: a literal is closed by the next quote. Rule 3: nothing stands behind that.
 abbrev pub closed : Option (List ℕ × List ℕ) → Result Text ℕ
 closed (Some (inside, [])) = Ok (Literal inside)
-closed (Some (inside, byte ∷ bytes)) = Err WRONG_OPERAND
-closed None = Err OPEN_LITERAL
+closed (Some (inside, byte ∷ bytes)) = Err 3
+closed None = Err 4
 
 abbrev pub as_text : Result ℕ ℕ → Result Text ℕ
 as_text (Ok x) = Ok (Variable x)
@@ -37,7 +36,7 @@ abbrev pub named_text : List ℕ → Result Text ℕ
 named_text word = if bytes_eq word (codes "STATUS") then Ok Status else as_text (variable_of word)
 
 unfoldable pub text_of : List ℕ → Result Text ℕ
-text_of [] = Err WRONG_OPERAND
+text_of [] = Err 3
 text_of (byte ∷ bytes) = if byte == 34 then closed (split_at 34 bytes) else named_text (byte ∷ bytes)
 
 abbrev pub with_text : Result (Text × List Text) ℕ → Result (List Text) ℕ
@@ -52,27 +51,27 @@ texts_of (word ∷ words) = with_text (both (text_of word) (texts_of words))
 -- Rule 7: a number lies in its range.
 abbrev pub or_wrong_number : Result ℕ ℕ → Result ℕ ℕ
 or_wrong_number (Ok number) = Ok number
-or_wrong_number (Err rule) = Err WRONG_NUMBER
+or_wrong_number (Err rule) = Err 7
 
 unfoldable pub number_of : ℕ → ℕ → List ℕ → Result ℕ ℕ
 number_of low high text = or_wrong_number (number_between low high text)
 
 -- Rule 1: the word between the texts of an IF.
 unfoldable pub comparison_of : List ℕ → Result Comparison ℕ
-comparison_of word = if bytes_eq word (codes "=") then Ok Equal else (if bytes_eq word (codes "<>") then Ok NotEqual else (if bytes_eq word (codes "<") then Ok LessThan else Err UNKNOWN_WORD))
+comparison_of word = if bytes_eq word (codes "=") then Ok Equal else (if bytes_eq word (codes "<>") then Ok NotEqual else (if bytes_eq word (codes "<") then Ok LessThan else Err 1))
 
 -- Rule 1: the word before the label of an IF.
 unfoldable pub goto_word : List ℕ → Result (Unit {0}) ℕ
-goto_word word = if bytes_eq word (codes "GOTO") then Ok tt else Err UNKNOWN_WORD
+goto_word word = if bytes_eq word (codes "GOTO") then Ok tt else Err 1
 
 -- Rule 5: a label is a name, and one that stands somewhere.
 abbrev pub found_at : List ℕ → Option ℕ → Result Target ℕ
 found_at name (Some place) = Ok (record { label = name; place = place })
-found_at name None = Err NO_LABEL
+found_at name None = Err 5
 
 abbrev pub target_for : (List ℕ → Option ℕ) → Result (List ℕ) ℕ → Result Target ℕ
 target_for places (Ok name) = found_at name (places name)
-target_for places (Err rule) = Err NO_LABEL
+target_for places (Err rule) = Err 5
 
 unfoldable pub target_of : (List ℕ → Option ℕ) → List ℕ → Result Target ℕ
 target_of places word = target_for places (name_of word)
@@ -81,23 +80,23 @@ target_of places word = target_for places (name_of word)
 -- variable.
 abbrev pub any_key : Result (List ℕ) ℕ → Result ScriptSsa ℕ
 any_key (Ok name) = Ok (Any name)
-any_key (Err rule) = Err WRONG_OPERAND
+any_key (Err rule) = Err 3
 
 abbrev pub equal_key : Result (List ℕ) ℕ → Result ℕ ℕ → Result ScriptSsa ℕ
 equal_key (Ok name) (Ok x) = Ok (EqualKey name x)
-equal_key _ _ = Err WRONG_OPERAND
+equal_key _ _ = Err 3
 
 abbrev pub at_least : Result (List ℕ) ℕ → Result ℕ ℕ → Result ScriptSsa ℕ
 at_least (Ok name) (Ok x) = Ok (AtLeast name x)
-at_least _ _ = Err WRONG_OPERAND
+at_least _ _ = Err 3
 
 abbrev pub with_equal : List ℕ → Option (List ℕ × List ℕ) → Result ScriptSsa ℕ
 with_equal word (Some (name, x)) = equal_key (name_of name) (variable_of x)
 with_equal word None = any_key (name_of word)
 
 abbrev pub behind_greater : List ℕ → List ℕ → Result ScriptSsa ℕ
-behind_greater name [] = Err WRONG_OPERAND
-behind_greater name (byte ∷ x) = if byte == 61 then at_least (name_of name) (variable_of x) else Err WRONG_OPERAND
+behind_greater name [] = Err 3
+behind_greater name (byte ∷ x) = if byte == 61 then at_least (name_of name) (variable_of x) else Err 3
 
 abbrev pub with_greater : List ℕ → Option (List ℕ × List ℕ) → Result ScriptSsa ℕ
 with_greater word (Some (name, rest)) = behind_greater name rest
@@ -130,4 +129,4 @@ function_of word =
     else (if bytes_eq word (codes "CHNG") then Ok CHNG
     else (if bytes_eq word (codes "ROLB") then Ok ROLB
     else (if bytes_eq word (codes "ROLL") then Ok ROLL
-    else Err UNKNOWN_FUNCTION))))))))))))
+    else Err 10))))))))))))

@@ -1,3 +1,4 @@
+//! The labels of a program, with their places.
 ghost use Rattle.std.specs.Prelude.{◌≡◌, ◌<◌, ◌^◌, ℕ, List, Some, None, IfOk, OnOk, length};
 ghost use Rattle.script_text.specs.Good.{places_in};
 ghost use Rattle.script_text.specs.Scripts as spec;

@@ -1,3 +1,4 @@
+//! The word that a line begins with.
 ghost use Rattle.std.specs.Prelude.{◌≡◌};
 ghost use Rattle.script_text.specs.Statements as spec;
 

@@ -1,3 +1,4 @@
+//! The reader of programs.
 ghost use Rattle.std.specs.Prelude.{◌≡◌, ◌+◌, ◌<◌, ◌^◌, ℕ, List, length};
 ghost use Rattle.text_rows.specs.Refusals.{Answers};
 ghost use Rattle.script_text.specs.Good.{places_in};

@@ -1,4 +1,5 @@
-ghost use Rattle.std.specs.Prelude.{◌≡◌, ◌≤◌, ◌∷◌, [], ℕ, true, false, Ok, Some, None, IfOk, IfSome, IsTrue, is_some, is_none};
+//! The statements, each by its word.
+ghost use Rattle.std.specs.Prelude.{◌≡◌, ◌≤◌, nat_le, ◌∷◌, [], ℕ, true, false, Ok, Some, None, IfOk, IfSome, IsTrue, is_some, is_none};
 ghost use Rattle.model_script.specs.Programs.{is_call, is_statement, is_function_of, is_message_function, ssas_allowed, takes_area, takes_ssas};
 ghost use Rattle.script_text.specs.Good.{places_in, are_printable, is_free, IsGood};
 ghost use Rattle.script_text.specs.Statements as spec;
@@ -16,7 +17,8 @@ use crate::values::{
 use model_script::{Comparison, ScriptSsas, Statement, Target, Text, Variable};
 use std::alloc::Global;
 use std::collections::BTreeMap;
-use text_rows::{Pieces, also, both, name_of};
+use text_rows::rules::OUT_OF_RANGE;
+use text_rows::{Pieces, also, both, name_of, number_between};
 use tm_types::{AbendCode, Function, Memory, Name};
 
 /// What the words read as, or the lowest rule that they break. The line stands at this place among
@@ -359,12 +361,14 @@ fn takes_ssas(function: Function) -> bool
     )
 }
 
-fn is_above_0(pcb: &Result<u8, u8>) -> bool
-    ensures { result ≡ spec.is_above_0 pcb.now }
+/// Whether the word is a number above 0, be it one that no PCB has.
+#[tactic(auto, using(crate::proofs::PcbNumbers::above_tests))]
+fn is_above_0(word: &[u8]) -> bool
+    ensures { result ≡ spec.is_above_0 word.now }
 {
-    match pcb {
-        Ok(number) => 1 <= *number,
-        Err(_) => false,
+    match number_between(0, 0, word) {
+        Ok(_) => false,
+        Err(rule) => rule == OUT_OF_RANGE,
     }
 }
 
@@ -372,10 +376,10 @@ fn is_above_0(pcb: &Result<u8, u8>) -> bool
 fn area_of(
     alloc: Global,
     function: Function,
-    pcb: &Result<u8, u8>,
+    above: bool,
     mut words: Pieces<'_>,
 ) -> Result<Result<(Option<Variable>, ScriptSsas), u8>, Memory>
-    ensures value { IfOk result (λ read. read ≡ spec.area_of function pcb.now words.entry) }
+    ensures value { IfOk result (λ read. read ≡ spec.area_of function above words.entry) }
 {
     if !takes_area(function) {
         return match words.next() {
@@ -386,7 +390,7 @@ fn area_of(
     let Some(x) = words.next() else {
         return Ok(Err(WRONG_COUNT));
     };
-    if takes_ssas(function) && is_above_0(pcb) {
+    if takes_ssas(function) && above {
         Ok(with_area(variable_of(x), ssas_of(alloc, words)?))
     } else {
         match words.next() {
@@ -411,21 +415,23 @@ fn call_with(
     alloc: Global,
     function: Function,
     pcb: Result<u8, u8>,
+    above: bool,
     words: Pieces<'_>,
 ) -> Result<Result<Statement, u8>, Memory>
-    requires { IfOk pcb (λ number. number ≤ 8) }
-    ensures value { IfOk result (λ read. read ≡ spec.call_with (Ok function) pcb words.entry) }
+    requires within { IfOk pcb (λ number. number ≤ 8) }
+    requires above { IfOk pcb (λ number. above ≡ nat_le 1 number) }
+    ensures value { IfOk result (λ read. read ≡ spec.call_with (Ok function) pcb above words.entry) }
     ensures free { IfOk result (λ read. IfOk read (λ statement. IsTrue (is_free statement))) }
     ensures allowed { IfOk result (λ read. IfOk read (λ statement. IsTrue (is_statement statement))) }
 {
-    let operands = area_of(alloc, function, &pcb, words)?;
+    let operands = area_of(alloc, function, above, words)?;
     match both(on_pcb(function, pcb), operands) {
         Ok((pcb, (area, ssas))) => Ok(Ok(Statement::Call(function, pcb, area, ssas))),
         Err(rule) => Ok(Err(rule)),
     }
 }
 
-#[tactic(auto, unfolding(crate::specs::Statements::call_of))]
+#[tactic(auto, using(crate::proofs::PcbNumbers::above_is), unfolding(crate::specs::Statements::call_of))]
 fn call_of(alloc: Global, mut words: Pieces<'_>) -> Result<Result<Statement, u8>, Memory>
     ensures value { IfOk result (λ read. read ≡ spec.call_of words.entry) }
     ensures free { IfOk result (λ read. IfOk read (λ statement. IsTrue (is_free statement))) }
@@ -436,7 +442,7 @@ fn call_of(alloc: Global, mut words: Pieces<'_>) -> Result<Result<Statement, u8>
     };
     let pcb = byte_of(0, 8, number);
     match function_of(word) {
-        Ok(function) => call_with(alloc, function, pcb, words),
+        Ok(function) => call_with(alloc, function, pcb, is_above_0(number), words),
         Err(rule) => Ok(also(Err(rule), pcb)),
     }
 }

@@ -1,10 +1,9 @@
+//! What no clause says: worked lines.
 use crate::read_program;
-use model_script::{Comparison, Program, ScriptSsa, Statement, Text};
 use std::alloc::{AllocError, Global};
 use std::test::Fail;
 use text_rows::LineRefused;
 use tm_edge::Line;
-use tm_types::Function;
 
 fn lines_of(alloc: Global, texts: &[&[u8]]) -> Result<Vec<Line>, AllocError> {
     let mut lines = Vec::new(alloc);
@@ -40,8 +39,9 @@ fn rule_of(alloc: Global, text: &[u8]) -> Result<u8, AllocError> {
     }
 }
 
+/// A line between LABEL L and ENDPROG, and the rule that it breaks.
 #[test]
-fn texts_and_words(rt: HostRuntime) -> Result<(), Fail> {
+fn lines(rt: HostRuntime) -> Result<(), Fail> {
     let table = [
         (b"SET A B".as_slice(), 0u8),
         (b"SET A \"b c\" STATUS Z \"\"".as_slice(), 0),
@@ -75,17 +75,7 @@ fn texts_and_words(rt: HostRuntime) -> Result<(), Fail> {
         (b"END".as_slice(), 0),
         (b"END X".as_slice(), 2),
         (b"SET A \"\t\"".as_slice(), 11),
-    ];
-    for (text, rule) in table {
-        assert_eq!(rt; rule_of(rt.alloc(), text)?, rule);
-    }
-    Ok(())
-}
-
-#[test]
-fn places_and_ends(rt: HostRuntime) -> Result<(), Fail> {
-    let table = [
-        (b"GOTO L".as_slice(), 0u8),
+        (b"GOTO L".as_slice(), 0),
         (b"GOTO M".as_slice(), 5),
         (b"GOTO l".as_slice(), 5),
         (b"GOTO".as_slice(), 2),
@@ -111,17 +101,7 @@ fn places_and_ends(rt: HostRuntime) -> Result<(), Fail> {
         (b"ABEND 0".as_slice(), 7),
         (b"ABEND 4096".as_slice(), 7),
         (b"ABEND".as_slice(), 2),
-    ];
-    for (text, rule) in table {
-        assert_eq!(rt; rule_of(rt.alloc(), text)?, rule);
-    }
-    Ok(())
-}
-
-#[test]
-fn calls(rt: HostRuntime) -> Result<(), Fail> {
-    let table = [
-        (b"CALL GU 0 A".as_slice(), 0u8),
+        (b"CALL GU 0 A".as_slice(), 0),
         (b"CALL ISRT 00 Z".as_slice(), 0),
         (b"CALL GU 1 A".as_slice(), 0),
         (b"CALL GHU 1 A ACCT=B".as_slice(), 0),
@@ -131,7 +111,10 @@ fn calls(rt: HostRuntime) -> Result<(), Fail> {
         (b"CALL DLET 1 A".as_slice(), 2),
         (b"CALL REPL 1 A ACCT".as_slice(), 2),
         (b"CALL GU 0 A ACCT".as_slice(), 2),
-        (b"CALL GU 9 A ACCT".as_slice(), 2),
+        (b"CALL GU 9 A ACCT".as_slice(), 7),
+        (b"CALL GU 99999999999999999999 A ACCT".as_slice(), 7),
+        (b"CALL GU X A ACCT".as_slice(), 2),
+        (b"CALL GU 999999999999999999999 A ACCT".as_slice(), 2),
         (b"CALL GU 1".as_slice(), 2),
         (b"CALL FOO".as_slice(), 2),
         (b"CALL GU 1 A ACCT=".as_slice(), 3),
@@ -143,18 +126,7 @@ fn calls(rt: HostRuntime) -> Result<(), Fail> {
         (b"CALL FOO 0 a b".as_slice(), 10),
         (b"CALL GHU 0 A".as_slice(), 10),
         (b"CALL DLET 0".as_slice(), 10),
-    ];
-    for (text, rule) in table {
-        assert_eq!(rt; rule_of(rt.alloc(), text)?, rule);
-    }
-    Ok(())
-}
-
-/// The calls that end messages, choose destinations and take work back.
-#[test]
-fn message_calls(rt: HostRuntime) -> Result<(), Fail> {
-    let table = [
-        (b"CALL PURG 0".as_slice(), 0u8),
+        (b"CALL PURG 0".as_slice(), 0),
         (b"CALL PURG 1".as_slice(), 0),
         (b"CALL CHNG 1 B".as_slice(), 0),
         (b"CALL ROLB 0 A".as_slice(), 0),
@@ -202,68 +174,5 @@ fn ends(rt: HostRuntime) -> Result<(), Fail> {
         b"LABEL L".as_slice(),
     ];
     assert_eq!(rt; read(rt.alloc(), &unreached)?, Err((10, 5)));
-    Ok(())
-}
-
-/// The 501st statement has no room; labels are no statements.
-#[test]
-fn statements(rt: HostRuntime) -> Result<(), Fail> {
-    let alloc = rt.alloc();
-    let mut lines = Vec::new(alloc);
-    lines.push(Line::make(alloc, b"LABEL L")?)?;
-    for _count in 0..500u16 {
-        lines.push(Line::make(alloc, b"END")?)?;
-    }
-    lines.push(Line::make(alloc, b"LABEL M")?)?;
-    lines.push(Line::make(alloc, b"ENDPROG")?)?;
-    assert_eq!(rt; answer(alloc, &lines, 1), Ok(502));
-    lines.insert(0, Line::make(alloc, b"END")?)?;
-    assert_eq!(rt; answer(alloc, &lines, 1), Err((502, 8)));
-    Ok(())
-}
-
-/// What a program holds.
-#[test]
-fn holds(rt: HostRuntime) -> Result<(), Fail> {
-    let alloc = rt.alloc();
-    let lines = lines_of(
-        alloc,
-        &[
-            b"*".as_slice(),
-            b"IF A < \"x y\" GOTO END1".as_slice(),
-            b"CALL GHU 3 C ACCT>=B".as_slice(),
-            b"".as_slice(),
-            b"LABEL END1".as_slice(),
-            b"ENDPROG".as_slice(),
-        ],
-    )?;
-    assert_eq!(rt; lines.len(), 6);
-    let program: Program = read_program(alloc, &lines, 7)?;
-    assert_eq!(rt; program.lines().len(), 3);
-    for line in program.lines() {
-        match &line.statement {
-            Statement::If(Text::Variable(x), comparison, Text::Literal(bytes), target) => {
-                assert_eq!(rt; line.number, 8);
-                assert_eq!(rt; x.letter(), b'A');
-                assert_eq!(rt; *comparison, Comparison::LessThan);
-                assert_eq!(rt; bytes.as_slice(), b"x y".as_slice());
-                assert_eq!(rt; target.place, 2);
-            }
-            Statement::Call(function, pcb, Some(area), ssas) => {
-                assert_eq!(rt; line.number, 9);
-                assert_eq!(rt; *function, Function::GHU);
-                assert_eq!(rt; *pcb, 3);
-                assert_eq!(rt; area.place(), 2);
-                for ssa in ssas.as_slice() {
-                    assert!(rt; matches!(ssa, ScriptSsa::AtLeast(_, _)));
-                }
-            }
-            Statement::Label(name) => {
-                assert_eq!(rt; line.number, 11);
-                assert_eq!(rt; name.as_bytes(), b"END1".as_slice());
-            }
-            _ => assert!(rt; false),
-        }
-    }
     Ok(())
 }

@@ -2,7 +2,6 @@
 use Rattle.std.specs.Prelude.{ℕ, suc, ◌+◌, ◌-◌, nat_lt, Bool, true, false, List, [], ◌∷◌, take, drop, length, ◌==◌, Result, Ok, Err, if◌then◌else◌}
 use Rattle.std.specs.Str.Lines.{lines}
 use Rattle.text_rows.specs.Refusals.{then_lines}
-use Rattle.text_rows.specs.declared.rules.TheConstants.{END_MISSING}
 use Rattle.system_types.specs.declared.definition.MacroLine.{MacroLine}
 use Rattle.sysdef_text.specs.declared.modes.Mode.{Mode}
 use Rattle.sysdef_text.specs.declared.modes.Mode.TheVariants.{Start}
@@ -20,7 +19,7 @@ follow number (Err fault) more = Err fault
 -- The macros of lines up to END, the first line having this number. Rule 13: where END doesn't
 -- come it is missing one past the last line.
 abbrev pub definition : Mode → Bool → ℕ → List (List ℕ) → Result (List MacroLine) (ℕ × ℕ)
-definition mode over number [] = Err (number, END_MISSING)
+definition mode over number [] = Err (number, 13)
 definition mode over number (line ∷ lines) = follow number (step mode over number line lines) (λ next. definition next over (suc number) lines)
 
 -- the lines of a text: each ends by LF, and a CR before that isn't of the line; the last may lack

@@ -2,7 +2,6 @@
 use Rattle.std.specs.Prelude.{ℕ, Bool, false, List, [], ◌∷◌, codes, Option, Some, None, Result, Ok, Err, if◌then◌else◌}
 use Rattle.std.specs.List.{list_all, list_any}
 use Rattle.std.specs.Str.{bytes_eq}
-use Rattle.text_rows.specs.declared.rules.TheConstants.{UNKNOWN_MACRO, UNKNOWN_OPERAND}
 use Rattle.text_rows.specs.Lines.{split_at}
 use Rattle.sysdef_text.specs.declared.kinds.Kind.{Kind}
 use Rattle.sysdef_text.specs.declared.kinds.Kind.TheVariants.{Control, Database, Segment, Application, Pcb, Transaction, Terminal, Region, End}
@@ -20,7 +19,7 @@ kind_of name =
     else (if bytes_eq name (codes "NAME") then Ok Terminal
     else (if bytes_eq name (codes "REGION") then Ok Region
     else (if bytes_eq name (codes "END") then Ok End
-    else Err UNKNOWN_MACRO))))))))
+    else Err 1))))))))
 
 abbrev pub segment_keys : List (List ℕ)
 segment_keys = codes "NAME" ∷ codes "PARENT" ∷ codes "KEY" ∷ codes "BYTES" ∷ []
@@ -49,7 +48,7 @@ unfoldable pub has_key : List (List ℕ) → List ℕ → Bool
 has_key words operand = is_among words (split_at 61 operand)
 
 abbrev pub known_among : List (List ℕ) → List (List ℕ) → Result (Unit {0}) ℕ
-known_among words operands = if list_all (has_key words) operands then Ok tt else Err UNKNOWN_OPERAND
+known_among words operands = if list_all (has_key words) operands then Ok tt else Err 2
 
 -- Rule 2: each operand has one of the macro's keys, or of the keys of the PCB's form.
 unfoldable pub known : Kind → List (List ℕ) → Result (Unit {0}) ℕ

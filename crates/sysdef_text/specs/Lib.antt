@@ -6,3 +6,4 @@ pub mod Places
 pub mod Programs
 pub mod Steps
 pub mod Definitions
+pub mod Ends

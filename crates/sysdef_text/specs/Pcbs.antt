@@ -4,7 +4,6 @@ use Rattle.std.specs.Str.{bytes_eq}
 use Rattle.text_rows.specs.Lowest.{both, also}
 use Rattle.text_rows.specs.Names.{name_of}
 use Rattle.text_rows.specs.Operands.{needed, only, or_as, values}
-use Rattle.text_rows.specs.declared.rules.TheConstants.{WRONG_WORD}
 use Rattle.system_types.specs.declared.definition.Macro.{Macro}
 use Rattle.system_types.specs.declared.definition.Macro.TheVariants as macro
 use Rattle.sysdef_text.specs.declared.pcbs.PcbForm.{PcbForm}
@@ -26,7 +25,7 @@ output_form true = ToDestination
 output_form false = Modifiable
 
 unfoldable pub form_in : Bool → List ℕ → Result PcbForm ℕ
-form_in named word = if bytes_eq word (codes "DB") then Ok OnDatabase else (if bytes_eq word (codes "TP") then Ok (output_form named) else Err WRONG_WORD)
+form_in named word = if bytes_eq word (codes "DB") then Ok OnDatabase else (if bytes_eq word (codes "TP") then Ok (output_form named) else Err 9)
 
 unfoldable pub form_of : List (List ℕ) → Result PcbForm ℕ
 form_of ops = needed (codes "TYPE") (form_in (stands (codes "LTERM") ops)) ops

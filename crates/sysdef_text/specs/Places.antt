@@ -4,7 +4,6 @@ use Rattle.std.specs.Str.{bytes_eq}
 use Rattle.text_rows.specs.Lines.{printable_line}
 use Rattle.text_rows.specs.Lowest.{also}
 use Rattle.text_rows.specs.Operands.{macro_name, macro_operands}
-use Rattle.text_rows.specs.declared.rules.TheConstants.{OUT_OF_PLACE, TEXT_TOO_LONG, CONTROL_NOT_FIRST}
 use Rattle.system_types.specs.declared.definition.Macro.{Macro}
 use Rattle.sysdef_text.specs.declared.kinds.Kind.{Kind}
 use Rattle.sysdef_text.specs.declared.kinds.Kind.TheVariants.{Control, Database, Segment, Application, Pcb, Transaction}
@@ -29,26 +28,26 @@ family_place BehindDatabase Segment = Ok tt
 family_place BehindApplication Pcb = Ok tt
 family_place BehindApplication Transaction = Ok tt
 family_place BehindTransaction Transaction = Ok tt
-family_place _ Segment = Err OUT_OF_PLACE
-family_place _ Pcb = Err OUT_OF_PLACE
-family_place _ Transaction = Err OUT_OF_PLACE
+family_place _ Segment = Err 10
+family_place _ Pcb = Err 10
+family_place _ Transaction = Err 10
 family_place _ _ = Ok tt
 
 -- Rule 14: IMSCTRL is the first macro, and no other.
 abbrev pub control_place : Mode → Kind → Result (Unit {0}) ℕ
 control_place Start Control = Ok tt
-control_place Start _ = Err CONTROL_NOT_FIRST
-control_place _ Control = Err CONTROL_NOT_FIRST
+control_place Start _ = Err 14
+control_place _ Control = Err 14
 control_place _ _ = Ok tt
 
 abbrev pub program_place : Mode → Result (Unit {0}) ℕ
-program_place Start = Err CONTROL_NOT_FIRST
+program_place Start = Err 14
 program_place _ = Ok tt
 
 -- Rule 12: no line passes 262,144 bytes. Where the text is longer its last line is the one that
 -- passes; the lines behind a line tell whether it is the last.
 abbrev pub within : Bool → List (List ℕ) → Result (Unit {0}) ℕ
-within true [] = Err TEXT_TOO_LONG
+within true [] = Err 12
 within _ _ = Ok tt
 
 -- a macro with operands, or the lowest rule that its line breaks

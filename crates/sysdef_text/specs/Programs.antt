@@ -3,16 +3,14 @@ use Rattle.std.specs.Prelude.{ℕ, suc, ◌+◌, ◌==◌, nat_lt, min, Bool, Li
 use Rattle.text_rows.specs.Lines.{is_passed_over, printable_line}
 use Rattle.text_rows.specs.Lowest.{also}
 use Rattle.text_rows.specs.Refusals.{at_line}
-use Rattle.text_rows.specs.declared.rules.TheConstants.{NOT_PRINTABLE, END_MISSING}
 use Rattle.model_script.specs.declared.program.ScriptLine.{ScriptLine}
-use Rattle.script_text.specs.declared.rules.TheConstants.{ENDPROG_MISSING}
 use Rattle.script_text.specs.Scripts.{is_last, program_of}
 use Rattle.sysdef_text.specs.Places.{within}
 
 -- A rule of scripts is 20 more in a definition. A byte that isn't printable has one number in
 -- both, and where ENDPROG is missing END is missing too, which is the lower rule.
 abbrev pub lifted_rule : ℕ → ℕ
-lifted_rule rule = if rule == NOT_PRINTABLE then NOT_PRINTABLE else (if rule == ENDPROG_MISSING then END_MISSING else 20 + rule)
+lifted_rule rule = if rule == 11 then 11 else (if rule == 9 then 13 else 20 + rule)
 
 abbrev pub lifted : {A : Type 0} → Result A (ℕ × ℕ) → Result A (ℕ × ℕ)
 lifted (Ok value) = Ok value

@@ -5,7 +5,6 @@ use Rattle.text_rows.specs.Lowest.{both}
 use Rattle.text_rows.specs.Names.{name_of}
 use Rattle.text_rows.specs.Numbers.{number_between}
 use Rattle.text_rows.specs.Operands.{needed, or_as}
-use Rattle.text_rows.specs.declared.rules.TheConstants.{OPERAND_MISSING}
 use Rattle.model_system.specs.declared.code.SegmentKind.{SegmentKind}
 use Rattle.model_system.specs.declared.code.SegmentKind.TheVariants.{Multiple}
 use Rattle.system_types.specs.declared.definition.Macro.{Macro}
@@ -113,8 +112,8 @@ row End ops = Ok macro.End
 
 -- PROGRAM: what stands behind the blank is the name
 abbrev pub program_name_in : Option (List ℕ × List ℕ) → Result (List ℕ) ℕ
-program_name_in None = Err OPERAND_MISSING
-program_name_in (Some (name, [])) = Err OPERAND_MISSING
+program_name_in None = Err 4
+program_name_in (Some (name, [])) = Err 4
 program_name_in (Some (name, byte ∷ bytes)) = name_of (byte ∷ bytes)
 
 unfoldable pub program_name : List ℕ → Result (List ℕ) ℕ

@@ -2,8 +2,6 @@
 use Rattle.std.specs.Prelude.{ℕ, ◌+◌, ◌==◌, Bool, true, false, ◌&&◌, ◌||◌, not, List, [], ◌∷◌, ◌++◌, length, nat_le, codes, Option, Some, None, Result, Ok, Err, if◌then◌else◌}
 use Rattle.std.specs.List.{list_any}
 use Rattle.std.specs.Str.{bytes_eq}
-use Rattle.tm_types.specs.declared.processing.TheConstants.{GET, INSERT, REPLACE, DELETE}
-use Rattle.text_rows.specs.declared.rules.TheConstants.{WRONG_LIST, WRONG_WORD}
 use Rattle.text_rows.specs.Lists.{list_of, two_of, three_of}
 use Rattle.text_rows.specs.Lowest.{both, also}
 use Rattle.text_rows.specs.Names.{name_of}
@@ -13,13 +11,13 @@ use Rattle.model_system.specs.declared.code.SegmentKind.TheVariants.{Multiple, S
 
 -- Rule 9: the words of MSGTYPE, SERIAL, MODIFY and PROCOPT.
 unfoldable pub segment_kind_of : List ℕ → Result SegmentKind ℕ
-segment_kind_of word = if bytes_eq word (codes "MULTSEG") then Ok Multiple else (if bytes_eq word (codes "SNGLSEG") then Ok Single else Err WRONG_WORD)
+segment_kind_of word = if bytes_eq word (codes "MULTSEG") then Ok Multiple else (if bytes_eq word (codes "SNGLSEG") then Ok Single else Err 9)
 
 unfoldable pub response_of : List ℕ → Result (Unit {0}) ℕ
-response_of word = if bytes_eq word (codes "NONRESPONSE") then Ok tt else Err WRONG_WORD
+response_of word = if bytes_eq word (codes "NONRESPONSE") then Ok tt else Err 9
 
 unfoldable pub serial_of : List ℕ → Result Bool ℕ
-serial_of word = if bytes_eq word (codes "NO") then Ok false else Err WRONG_WORD
+serial_of word = if bytes_eq word (codes "NO") then Ok false else Err 9
 
 -- PARENT: 0 alone is the root's, and no name
 abbrev pub named : Result (List ℕ) ℕ → Result (Option (List ℕ)) ℕ
@@ -31,7 +29,7 @@ parent_of text = if bytes_eq text (codes "0") then Ok None else named (name_of t
 
 -- MODIFY: YES
 unfoldable pub modify_of : List ℕ → Result (Unit {0}) ℕ
-modify_of word = if bytes_eq word (codes "YES") then Ok tt else Err WRONG_WORD
+modify_of word = if bytes_eq word (codes "YES") then Ok tt else Err 9
 
 -- one of the bytes is this letter
 abbrev pub has_letter : ℕ → List ℕ → Bool
@@ -52,16 +50,16 @@ option_if allowed option = if allowed then option else 0
 -- G, R and D allow to get, I to insert, R to replace and D to delete
 unfoldable pub option_sum : List ℕ → ℕ
 option_sum word =
-    option_if (has_letter 71 word || has_letter 82 word || has_letter 68 word) GET + option_if (has_letter 73 word) INSERT
-    + option_if (has_letter 82 word) REPLACE + option_if (has_letter 68 word) DELETE
+    option_if (has_letter 71 word || has_letter 82 word || has_letter 68 word) 1 + option_if (has_letter 73 word) 2
+    + option_if (has_letter 82 word) 4 + option_if (has_letter 68 word) 8
 
 abbrev pub letter_options : List ℕ → Result ℕ ℕ
-letter_options [] = Err WRONG_WORD
-letter_options (byte ∷ bytes) = if are_option_letters (byte ∷ bytes) then Ok (option_sum (byte ∷ bytes)) else Err WRONG_WORD
+letter_options [] = Err 9
+letter_options (byte ∷ bytes) = if are_option_letters (byte ∷ bytes) then Ok (option_sum (byte ∷ bytes)) else Err 9
 
 -- PROCOPT: A is all four, else there are one or more different letters
 unfoldable pub options_of : List ℕ → Result ℕ ℕ
-options_of word = if bytes_eq word (codes "A") then Ok (GET + INSERT + REPLACE + DELETE) else letter_options word
+options_of word = if bytes_eq word (codes "A") then Ok (1 + 2 + 4 + 8) else letter_options word
 
 -- MSGTYPE: MULTSEG or SNGLSEG, NONRESPONSE, and a class of 1 to 255
 abbrev pub message_type_in : Result (List ℕ × List ℕ × List ℕ) ℕ → Result (SegmentKind × ℕ) ℕ
@@ -97,7 +95,7 @@ each_class [] = Ok []
 each_class (text ∷ texts) = with_class (both (number_between 1 255 text) (each_class texts))
 
 abbrev pub classes_in : Result (List (List ℕ)) ℕ → Result (List ℕ) ℕ
-classes_in (Ok texts) = if nat_le 1 (length texts) && nat_le (length texts) 4 then each_class texts else Err WRONG_LIST
+classes_in (Ok texts) = if nat_le 1 (length texts) && nat_le (length texts) 4 then each_class texts else Err 8
 classes_in (Err rule) = Err rule
 
 unfoldable pub classes_of : List ℕ → Result (List ℕ) ℕ

@@ -1,3 +1,4 @@
+//! The macros and their keys.
 ghost use Rattle.std.specs.Prelude.{◌≡◌};
 ghost use Rattle.std.specs.List.{list_any};
 ghost use Rattle.std.specs.Str.{bytes_eq};
@@ -5,7 +6,7 @@ ghost use Rattle.sysdef_text.specs.Kinds as spec;
 ghost use Rattle.sysdef_text.specs.Pcbs as pcbs;
 
 use crate::pcbs::{PcbForm, form_of, is_form_key, is_pcb_key};
-use text_rows::rules::{UNKNOWN_MACRO, UNKNOWN_OPERAND};
+use crate::rules::{UNKNOWN_MACRO, UNKNOWN_OPERAND};
 use text_rows::{Operands, is_word, split_at};
 
 /// The macros that have operands with keys.

@@ -5,11 +5,13 @@
 //! and ENDPROG stand the lines of a script.
 #![tactic(auto)]
 
+pub use ends::DefinitionReader;
 pub use kinds::Kind;
 pub use modes::{Mode, Step};
 pub use pcbs::PcbForm;
 pub use reader::{read_definition, read_definition_lines};
 
+mod ends;
 mod kinds;
 mod modes;
 mod pcbs;
@@ -17,6 +19,7 @@ mod places;
 mod programs;
 mod reader;
 mod rows;
+mod rules;
 mod source;
 #[cfg(test)]
 mod tests;

@@ -1,3 +1,4 @@
+//! What has come before a line, and what the line does.
 use system_types::Macro;
 
 /// What has come before a line.

@@ -1,3 +1,4 @@
+//! The three forms of a PCB.
 ghost use Rattle.std.specs.Prelude.{◌≡◌, [], ◌∷◌, Err, codes};
 ghost use Rattle.std.specs.List.{list_any};
 ghost use Rattle.std.specs.Str.{bytes_eq};
@@ -7,9 +8,9 @@ ghost use Rattle.sysdef_text.specs.Values as values;
 ghost use Rattle.sysdef_text.specs.Pcbs as spec;
 
 use crate::rows::needed_name;
+use crate::rules::{OPERAND_MISSING, WRONG_WORD};
 use crate::values::{modify_of, options_of};
 use system_types::Macro;
-use text_rows::rules::{OPERAND_MISSING, WRONG_WORD};
 use text_rows::{Operands, also, both, is_word, name_of};
 use tm_types::Name;
 

@@ -1,11 +1,12 @@
+//! Where a macro may stand.
 ghost use Rattle.std.specs.Prelude.{◌≡◌};
 ghost use Rattle.sysdef_text.specs.Places as spec;
 
 use crate::kinds::known;
 use crate::rows::{program_name, row};
+use crate::rules::{CONTROL_NOT_FIRST, OUT_OF_PLACE, TEXT_TOO_LONG};
 use crate::{Kind, Mode};
 use system_types::Macro;
-use text_rows::rules::{CONTROL_NOT_FIRST, OUT_OF_PLACE, TEXT_TOO_LONG};
 use text_rows::{also, is_word, printable_line, split_macro};
 use tm_edge::Line;
 use tm_types::Name;

@@ -1,12 +1,14 @@
+//! The lines of a program within a definition.
 ghost use Rattle.std.specs.Prelude.{◌≡◌, ◌+◌, ◌<◌, ◌≤◌, ◌^◌, length};
 ghost use Rattle.text_rows.specs.Refusals.{Answers};
 ghost use Rattle.sysdef_text.specs.Programs as spec;
 
 use crate::places::within;
+use crate::rules::END_MISSING;
 use script_text::rules::ENDPROG_MISSING;
 use script_text::{Program, is_last, read_program};
 use std::alloc::Global;
-use text_rows::rules::{END_MISSING, NOT_PRINTABLE};
+use text_rows::rules::NOT_PRINTABLE;
 use text_rows::{LineRefused, also, is_passed_over, printable_line};
 use tm_edge::Line;
 

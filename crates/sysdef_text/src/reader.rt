@@ -1,3 +1,4 @@
+//! The reader of definitions.
 ghost use Rattle.std.specs.Prelude.{◌≡◌, ◌+◌, ◌<◌, ◌^◌, length, Ok};
 ghost use Rattle.text_rows.specs.Refusals.{Answers};
 ghost use Rattle.sysdef_text.specs.declared.modes.Mode.TheVariants.{Start};
@@ -9,12 +10,12 @@ ghost use Rattle.sysdef_text.specs.Definitions as spec;
 use crate::kinds::kind_of;
 use crate::places::{is_program, macro_line, mode_after, program_line, within};
 use crate::programs::program_block;
+use crate::rules::END_MISSING;
 use crate::source::{TEXT_LIMIT, kept, lines_of};
 use crate::{Kind, Mode, Step};
 use script_text::is_last;
 use std::alloc::Global;
 use system_types::{Definition, Macro, MacroLine};
-use text_rows::rules::END_MISSING;
 use text_rows::{LineRefused, is_passed_over, split_macro};
 use tm_edge::Line;
 

@@ -1,3 +1,4 @@
+//! The table of macros: a row for each.
 ghost use Rattle.std.specs.Prelude.{◌≡◌, ◌<◌, Ok, codes};
 ghost use Rattle.std.specs.Prelude.{false};
 ghost use Rattle.text_rows.specs.Numbers.{number_between};
@@ -9,13 +10,13 @@ ghost use Rattle.sysdef_text.specs.Rows as spec;
 
 use crate::Kind;
 use crate::pcbs::pcb_row;
+use crate::rules::OPERAND_MISSING;
 use crate::values::{
     byte_between, classes_of, limits_of, message_type_of, parent_of, priorities_of, serial_of,
     short_between,
 };
 use model_system::{Classes, SegmentKind, Transaction};
 use system_types::Macro;
-use text_rows::rules::OPERAND_MISSING;
 use text_rows::{Operands, both, name_of, number_between, split_at};
 use tm_types::Name;
 

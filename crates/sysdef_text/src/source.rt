@@ -1,3 +1,4 @@
+//! A text cut into lines.
 ghost use Rattle.std.specs.Prelude.{◌≡◌, ◌≤◌, ◌+◌, ◌==◌, length, IfOk, count_by};
 ghost use Rattle.std.specs.Str.Lines.{strip_carriage_return};
 ghost use Rattle.sysdef_text.specs.Definitions as spec;

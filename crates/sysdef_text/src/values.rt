@@ -1,10 +1,12 @@
+//! The values of operands.
 ghost use Rattle.std.specs.Prelude.{◌≡◌, ◌<◌, ◌≤◌, ◌+◌, ◌||◌, length, Ok, IfOk};
 ghost use Rattle.text_rows.specs.Lowest.{both};
 ghost use Rattle.text_rows.specs.Numbers.{number_between};
 ghost use Rattle.sysdef_text.specs.Values as spec;
 
+use crate::rules::WRONG_WORD;
 use model_system::{Classes, SegmentKind};
-use text_rows::rules::{WRONG_LIST, WRONG_WORD};
+use text_rows::rules::WRONG_LIST;
 use text_rows::{Pieces, also, both, is_word, list_of, name_of, number_between, three_of, two_of};
 use tm_types::Name;
 use tm_types::processing::{DELETE, GET, INSERT, REPLACE};

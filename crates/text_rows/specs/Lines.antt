@@ -3,7 +3,6 @@ use Rattle.std.specs.Prelude.{ℕ, suc, Bool, true, List, [], ◌∷◌, ◌==�
 use Rattle.std.specs.List.{list_all}
 use Rattle.std.specs.Option.{option_map}
 use Rattle.tm_types.specs.Segment.{is_printable}
-use Rattle.text_rows.specs.declared.rules.TheConstants.{NOT_PRINTABLE}
 
 -- what stands before the first such byte, and what stands behind it
 abbrev pub split_at : ℕ → List ℕ → Option (List ℕ × List ℕ)
@@ -16,4 +15,4 @@ is_passed_over (byte ∷ bytes) = byte == 42
 
 -- each byte of a line is printable
 unfoldable pub printable_line : List ℕ → Result (Unit {0}) ℕ
-printable_line line = if list_all is_printable line then Ok tt else Err NOT_PRINTABLE
+printable_line line = if list_all is_printable line then Ok tt else Err 11

@@ -1,7 +1,6 @@
 -- Lists in brackets.
 use Rattle.std.specs.Prelude.{ℕ, List, [], ◌∷◌, ◌==◌, Option, Some, None, Result, Ok, Err, if◌then◌else◌}
 use Rattle.text_rows.specs.declared.pieces.Place.TheVariants.{Element}
-use Rattle.text_rows.specs.declared.rules.TheConstants.{WRONG_LIST}
 use Rattle.text_rows.specs.Pieces.{pieces}
 use Rattle.text_rows.specs.Lines.{split_at}
 
@@ -13,12 +12,12 @@ elements (byte ∷ bytes) = pieces Element (byte ∷ bytes)
 -- nothing stands behind the closing bracket
 abbrev pub closed : Option (List ℕ × List ℕ) → Result (List (List ℕ)) ℕ
 closed (Some (inside, [])) = Ok (elements inside)
-closed (Some (inside, byte ∷ bytes)) = Err WRONG_LIST
-closed None = Err WRONG_LIST
+closed (Some (inside, byte ∷ bytes)) = Err 8
+closed None = Err 8
 
 abbrev pub opened : List ℕ → Result (List (List ℕ)) ℕ
-opened [] = Err WRONG_LIST
-opened (byte ∷ bytes) = if byte == 40 then closed (split_at 41 bytes) else Err WRONG_LIST
+opened [] = Err 8
+opened (byte ∷ bytes) = if byte == 40 then closed (split_at 41 bytes) else Err 8
 
 -- the elements of a list: rule 8 where the text is none
 unfoldable pub list_of : List ℕ → Result (List (List ℕ)) ℕ
@@ -27,12 +26,12 @@ list_of text = opened text
 -- Rule 8 also where the list has another number of elements.
 abbrev pub as_two : Result (List (List ℕ)) ℕ → Result (List ℕ × List ℕ) ℕ
 as_two (Ok (a ∷ b ∷ [])) = Ok (a, b)
-as_two (Ok _) = Err WRONG_LIST
+as_two (Ok _) = Err 8
 as_two (Err rule) = Err rule
 
 abbrev pub as_three : Result (List (List ℕ)) ℕ → Result (List ℕ × List ℕ × List ℕ) ℕ
 as_three (Ok (a ∷ b ∷ c ∷ [])) = Ok (a, b, c)
-as_three (Ok _) = Err WRONG_LIST
+as_three (Ok _) = Err 8
 as_three (Err rule) = Err rule
 
 unfoldable pub two_of : List ℕ → Result (List ℕ × List ℕ) ℕ

@@ -1,7 +1,6 @@
 -- Numbers.
 use Rattle.std.specs.Prelude.{ℕ, ◌+◌, ◌-◌, ◌*◌, nat_le, Bool, ◌&&◌, List, [], ◌∷◌, length, Result, Ok, Err, if◌then◌else◌}
 use Rattle.std.specs.List.{list_all}
-use Rattle.text_rows.specs.declared.rules.TheConstants.{NO_NUMBER, OUT_OF_RANGE}
 
 abbrev pub is_digit : ℕ → Bool
 is_digit byte = nat_le 48 byte && nat_le byte 57
@@ -20,4 +19,4 @@ number_of digits = number_after 0 digits
 
 -- The number that the text spells: rule 5 where it spells none, rule 6 where it is out of range.
 unfoldable pub number_between : ℕ → ℕ → List ℕ → Result ℕ ℕ
-number_between low high text = if is_number text then (if nat_le low (number_of text) && nat_le (number_of text) high then Ok (number_of text) else Err OUT_OF_RANGE) else Err NO_NUMBER
+number_between low high text = if is_number text then (if nat_le low (number_of text) && nat_le (number_of text) high then Ok (number_of text) else Err 6) else Err 5

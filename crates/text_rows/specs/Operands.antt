@@ -2,7 +2,6 @@
 use Rattle.std.specs.Prelude.{ℕ, List, [], ◌∷◌, Option, Some, None, Result, Ok, Err, if◌then◌else◌}
 use Rattle.std.specs.Str.{bytes_eq}
 use Rattle.text_rows.specs.declared.pieces.Place.TheVariants.{Operand}
-use Rattle.text_rows.specs.declared.rules.TheConstants.{OPERAND_TWICE, OPERAND_MISSING}
 use Rattle.text_rows.specs.Pieces.{pieces}
 use Rattle.text_rows.specs.Lines.{split_at}
 
@@ -43,7 +42,7 @@ values key (operand ∷ operands) = value_and (value_under key operand) (values 
 abbrev pub only : List (List ℕ) → Result (Option (List ℕ)) ℕ
 only [] = Ok None
 only (value ∷ []) = Ok (Some value)
-only (value ∷ other ∷ values) = Err OPERAND_TWICE
+only (value ∷ other ∷ values) = Err 3
 
 abbrev pub read_or : {A : Type 0} → Result A ℕ → (List ℕ → Result A ℕ) → Result (Option (List ℕ)) ℕ → Result A ℕ
 read_or missing read (Ok None) = missing
@@ -52,7 +51,7 @@ read_or missing read (Err rule) = Err rule
 
 -- Rule 4: an operand without a default is there.
 unfoldable pub needed : {A : Type 0} → List ℕ → (List ℕ → Result A ℕ) → List (List ℕ) → Result A ℕ
-needed key read operands = read_or (Err OPERAND_MISSING) read (only (values key operands))
+needed key read operands = read_or (Err 4) read (only (values key operands))
 
 -- an operand that stands for the default where it is missing
 unfoldable pub or_as : {A : Type 0} → List ℕ → (List ℕ → Result A ℕ) → A → List (List ℕ) → Result A ℕ

@@ -1,10 +1,10 @@
+//! Lines: where a byte stands, and which lines are passed over.
 ghost use Rattle.std.specs.Prelude.{◌≡◌, ◌==◌, ◌<◌, length, position, IfSome};
-ghost use Rattle.std.specs.List.{list_all};
 ghost use Rattle.std.specs.Option.{option_map};
-ghost use Rattle.tm_types.specs.Segment as types;
 ghost use Rattle.text_rows.specs.Lines as spec;
 
 use crate::rules::NOT_PRINTABLE;
+use tm_types::are_printable;
 
 /// What stands before the first such byte, and what stands behind it.
 pub fn split_at(byte: u8, text: &[u8]) -> Option<(&[u8], &[u8])>
@@ -41,16 +41,4 @@ pub fn printable_line(line: &[u8]) -> Result<(), u8>
     } else {
         Err(NOT_PRINTABLE)
     }
-}
-
-fn are_printable(line: &[u8]) -> bool
-    ensures { result ≡ list_all types.is_printable line.now }
-{
-    line.iter().all(|&byte| is_printable(byte))
-}
-
-fn is_printable(byte: u8) -> bool
-    ensures { result ≡ types.is_printable byte }
-{
-    32 <= byte && byte <= 126
 }

@@ -1,3 +1,4 @@
+//! Lists in brackets.
 ghost use Rattle.std.specs.Prelude.{◌≡◌, Ok, Err, MatchResult};
 ghost use Rattle.text_rows.specs.Lists as spec;
 

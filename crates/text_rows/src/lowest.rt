@@ -1,3 +1,4 @@
+//! Of several rules that are broken the lowest is told.
 ghost use Rattle.std.specs.Prelude.{◌≡◌, Ok, IfOk, OnOk, IsOk};
 ghost use Rattle.text_rows.specs.Lowest as lowest;
 

@@ -1,3 +1,4 @@
+//! Names.
 ghost use Rattle.std.specs.Prelude.{◌≡◌};
 ghost use Rattle.text_rows.specs.Names as spec;
 

@@ -1,3 +1,4 @@
+//! Numbers.
 ghost use Rattle.std.specs.Prelude.{◌≡◌, ◌<◌, ◌≤◌, min, IfOk};
 ghost use Rattle.std.specs.List.{list_all};
 ghost use Rattle.text_rows.specs.Numbers as spec;

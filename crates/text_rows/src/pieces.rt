@@ -1,3 +1,4 @@
+//! A line cut into words or operands.
 ghost use Rattle.std.specs.Prelude.{◌≡◌, ◌≤◌, [], ◌∷◌, length};
 ghost use Rattle.std.specs.Iterator.{item_count, YieldsFirstRef};
 ghost use Rattle.text_rows.specs.Pieces as spec;
