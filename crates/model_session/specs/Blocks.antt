@@ -1,15 +1,8 @@
 -- The blocks that a session's lines make: a line, with the `+` lines that belong to it.
-use Rattle.std.specs.Prelude.{ℕ, ◌==◌, Bool, Option, Some, None, if◌then◌else◌, List, [], ◌∷◌, ◌++◌, codes}
-use Rattle.std.specs.List.{before_first, after_first}
+use Rattle.std.specs.Prelude.{ℕ, Bool, Option, Some, None, if◌then◌else◌, List, [], ◌∷◌, ◌++◌, codes}
 use Rattle.std.specs.Str.{bytes_eq}
+use Rattle.tm_types.specs.Words.{first_word}
 use Rattle.text_rows.specs.Lines.{is_passed_over}
-
--- Words are parted by one blank. What stands before the first one, and what stands behind it.
-abbrev pub first_word : List ℕ → List ℕ
-first_word text = before_first (λ b. b == 32) text
-
-abbrev pub operands : List ℕ → List ℕ
-operands text = after_first (λ b. b == 32) text
 
 -- a `+` line
 abbrev pub is_further : List ℕ → Bool
@@ -48,3 +41,9 @@ blocks_of (line ∷ lines) = if is_passed_over line then blocks_of lines else li
 abbrev pub blocks_behind : Option Block → List Block → List Block
 blocks_behind (Some block) blocks = open_before block blocks
 blocks_behind None blocks = blocks
+
+-- The closed blocks of some blocks: all but a last one that may still take `+` lines.
+abbrev pub closed : List Block → List Block
+closed [] = []
+closed (block ∷ []) = if takes_further block.line then [] else block ∷ []
+closed (block ∷ next ∷ blocks) = block ∷ closed (next ∷ blocks)

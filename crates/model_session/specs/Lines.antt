@@ -1,17 +1,19 @@
--- What a block of session lines asks for.
+-- What a block of session lines asks for, or the lowest rule that it breaks: 1 a first word that is not
+-- known, 2 operands missing or too many, 3 no number in its range, 4 no name, 5 a `+` line that belongs to
+-- no line, 6 a byte that is not printable.
 use Rattle.std.specs.Prelude.{ℕ, ◌<◌, ◌≤◌, ⊤, ◌==◌, nat_lt, nat_le, Bool, ◌&&◌, if◌then◌else◌, Option, Some, None, Result, Ok, Err, List, [], ◌∷◌, length, map, codes}
 use Rattle.std.specs.List.{list_all, count_by}
 use Rattle.std.specs.Str.{bytes_eq}
 use Rattle.text_rows.specs.Lowest.{both, also}
-use Rattle.tm_types.specs.Segment.{is_printable}
+use Rattle.tm_types.specs.Segment.{are_printable}
+use Rattle.tm_types.specs.Words.{first_word, operands}
 use Rattle.model_machine.specs.declared.entry.ControlCall.TheVariants.{Input, Receive, Acknowledge, Turn}
 use Rattle.model_session.specs.declared.asked.Form.{Form}
 use Rattle.model_session.specs.declared.asked.Form.TheVariants.{Input as InputForm, Receive as ReceiveForm, Acknowledge as AcknowledgeForm, Turn as TurnForm, Quiet as QuietForm}
 use Rattle.model_session.specs.declared.asked.Asked.{Asked}
 use Rattle.model_session.specs.declared.asked.Asked.TheVariants.{Bad, TooLong, Call, Quiet}
-use Rattle.model_session.specs.declared.rules.TheConstants.{UNKNOWN_WORD, WRONG_OPERANDS, NO_LINE, NOT_PRINTABLE}
 use Rattle.model_session.specs.Numbers.{number_operand, name_operand}
-use Rattle.model_session.specs.Blocks.{Block, first_word, operands, is_further}
+use Rattle.model_session.specs.Blocks.{Block, is_further}
 
 -- ---- the form of one line
 
@@ -40,32 +42,32 @@ unfoldable pub input_form : List ℕ → Result Form ℕ
 input_form line =
     if nat_le 3 (operand_count line)
     then numbered (λ t n. InputForm t n) (both (name_operand (first_word (operands line))) (message_number (first_word (operands (operands line)))))
-    else Err WRONG_OPERANDS
+    else Err 2
 
 -- RECV t
 unfoldable pub receive_form : List ℕ → Result Form ℕ
-receive_form line = if operand_count line == 1 then named (name_operand (operands line)) else Err WRONG_OPERANDS
+receive_form line = if operand_count line == 1 then named (name_operand (operands line)) else Err 2
 
 -- ACK t n
 unfoldable pub acknowledge_form : List ℕ → Result Form ℕ
 acknowledge_form line =
     if operand_count line == 2
     then numbered (λ t n. AcknowledgeForm t n) (both (name_operand (first_word (operands line))) (message_number (operands (operands line))))
-    else Err WRONG_OPERANDS
+    else Err 2
 
 -- TURN r, of so many regions
 unfoldable pub turn_form : ℕ → List ℕ → Result Form ℕ
 turn_form regions line =
-    if operand_count line == 1 then counted (λ r. TurnForm r) (number_operand 1 regions (operands line)) else Err WRONG_OPERANDS
+    if operand_count line == 1 then counted (λ r. TurnForm r) (number_operand 1 regions (operands line)) else Err 2
 
 -- QUIET n
 unfoldable pub quiet_form : List ℕ → Result Form ℕ
 quiet_form line =
-    if operand_count line == 1 then counted (λ n. QuietForm n) (number_operand 1 1000000 (operands line)) else Err WRONG_OPERANDS
+    if operand_count line == 1 then counted (λ n. QuietForm n) (number_operand 1 1000000 (operands line)) else Err 2
 
 -- a `+` line that belongs to no line
 unfoldable pub lone_form : List ℕ → Result Form ℕ
-lone_form line = if operand_count line == 0 then Err WRONG_OPERANDS else Err NO_LINE
+lone_form line = if operand_count line == 0 then Err 2 else Err 5
 
 -- by its first word
 unfoldable pub form_of : ℕ → List ℕ → Result Form ℕ
@@ -76,7 +78,7 @@ form_of regions line =
     else if bytes_eq (first_word line) (codes "ACK") then acknowledge_form line
     else if bytes_eq (first_word line) (codes "QUIET") then quiet_form line
     else if is_further line then lone_form line
-    else Err UNKNOWN_WORD
+    else Err 1
 
 -- ---- a whole block
 
@@ -85,13 +87,10 @@ abbrev pub has_operand : List ℕ → Bool
 has_operand line = nat_le 1 (operand_count line)
 
 unfoldable pub further_forms : List (List ℕ) → Result (Unit {0}) ℕ
-further_forms lines = if list_all has_operand lines then Ok tt else Err WRONG_OPERANDS
-
-abbrev pub is_text : List ℕ → Bool
-is_text line = list_all is_printable line
+further_forms lines = if list_all has_operand lines then Ok tt else Err 2
 
 unfoldable pub printable_block : Block → Result (Unit {0}) ℕ
-printable_block block = if is_text block.line && list_all is_text block.further then Ok tt else Err NOT_PRINTABLE
+printable_block block = if are_printable block.line && list_all are_printable block.further then Ok tt else Err 6
 
 -- the form of the first line, where no line of the block breaks a rule; else the lowest rule that one of them breaks
 unfoldable pub block_form : ℕ → Block → Result Form ℕ

@@ -5,7 +5,6 @@ use Rattle.std.specs.List.{list_all}
 use Rattle.std.specs.Char.{is_ascii_digit}
 use Rattle.std.specs.Str.Parse.{digits_value}
 use Rattle.text_rows.specs.Names.{is_name}
-use Rattle.model_session.specs.declared.rules.TheConstants.{NO_NUMBER, NO_NAME}
 
 -- a number is written with 1 to 20 decimal digits, zeros at its front being allowed
 abbrev pub is_number : List ℕ → Bool
@@ -17,13 +16,13 @@ number_in low high text =
     if is_number text && nat_le low (digits_value 10 text) && nat_le (digits_value 10 text) high
     then Some (digits_value 10 text) else None
 
--- the number of an operand, and the name
+-- the number of an operand, and the name; rule 3 where it is no number, and rule 4 where it is no name
 abbrev pub number_or : Option ℕ → Result ℕ ℕ
 number_or (Some number) = Ok number
-number_or None = Err NO_NUMBER
+number_or None = Err 3
 
 unfoldable pub number_operand : ℕ → ℕ → List ℕ → Result ℕ ℕ
 number_operand low high text = number_or (number_in low high text)
 
 unfoldable pub name_operand : List ℕ → Result (List ℕ) ℕ
-name_operand text = if is_name text then Ok text else Err NO_NAME
+name_operand text = if is_name text then Ok text else Err 4

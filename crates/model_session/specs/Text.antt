@@ -1,28 +1,32 @@
 -- What is printed for an entry.
-use Rattle.std.specs.Prelude.{ℕ, Bool, if◌then◌else◌, Option, List, [], ◌∷◌, ◌++◌, take, slice_get, codes, decimal}
+use Rattle.std.specs.Prelude.{ℕ, Bool, if◌then◌else◌, Option, Result, Ok, Err, List, [], ◌∷◌, ◌++◌, take, slice_get, codes, decimal}
 use Rattle.std.specs.Option.{option_map_or, option_and_then}
 use Rattle.std.specs.List.{flat_map, list_any}
 use Rattle.std.specs.Str.{bytes_eq}
-use Rattle.tm_types.specs.declared.function.Function.{Function}
 use Rattle.tm_types.specs.Function.{function_name}
+use Rattle.tm_types.specs.Digits.{four_digits}
 use Rattle.tm_types.specs.declared.status.Status.{Status}
 use Rattle.tm_types.specs.declared.status.Status.TheVariants.{Blank}
 use Rattle.tm_types.specs.Status.{status_text}
 use Rattle.tm_types.specs.declared.message.Reply.{Reply}
-use Rattle.tm_types.specs.declared.abend.AbendCode.{AbendCode}
 use Rattle.model_system.specs.System.{System}
 use Rattle.model_machine.specs.declared.entry.Entry.{Entry}
-use Rattle.model_machine.specs.declared.entry.Entry.TheVariants.{Accept, Show, Acked, Took, Held, Idle, Called, Done, Abended}
-use Rattle.model_machine.specs.declared.entry.Accepted.{Accepted}
-use Rattle.model_machine.specs.declared.entry.Accepted.TheVariants.{New, Already, Terminal as NoTerminal, Expected, Code as NoCode, SegmentsOver, QueueFull}
+use Rattle.model_machine.specs.declared.entry.Entry.TheVariants.{Accept, Show, Acked as AckedEntry, Turn}
+use Rattle.model_machine.specs.declared.entry.ControlFault.{ControlFault}
+use Rattle.model_machine.specs.declared.entry.Taken.{Taken}
+use Rattle.model_machine.specs.declared.entry.Taken.TheVariants.{New, Already}
+use Rattle.model_machine.specs.declared.entry.InputRefused.{InputRefused}
+use Rattle.model_machine.specs.declared.entry.InputRefused.TheVariants.{Terminal as NoTerminal, Expected, Code as NoCode, SegmentsOver, QueueFull, Fault as InputFault}
 use Rattle.model_machine.specs.declared.entry.ShowAnswer.{ShowAnswer}
 use Rattle.model_machine.specs.declared.entry.ShowAnswer.TheVariants.{Reply as Showed, Empty, Unknown as ShowUnknown}
-use Rattle.model_machine.specs.declared.entry.AckAnswer.{AckAnswer}
-use Rattle.model_machine.specs.declared.entry.AckAnswer.TheVariants.{Removed, Already as AckAlready, Unknown as AckUnknown, Ahead}
-use Rattle.model_machine.specs.declared.entry.SyncPoint.{SyncPoint}
-use Rattle.model_machine.specs.declared.entry.SyncPoint.TheVariants.{End, Next, NoMore}
+use Rattle.model_machine.specs.declared.entry.Acked.{Acked}
+use Rattle.model_machine.specs.declared.entry.Acked.TheVariants.{Removed, Already as AckAlready}
+use Rattle.model_machine.specs.declared.entry.AckRefused.{AckRefused}
+use Rattle.model_machine.specs.declared.entry.AckRefused.TheVariants.{Unknown as AckUnknown, Ahead, Fault as AckFault}
+use Rattle.model_machine.specs.declared.entry.Turned.{Turned}
+use Rattle.model_machine.specs.declared.entry.Turned.TheVariants.{Scheduled, Called, Next, QC, Done, Abended, Idle, Held}
 use Rattle.model_machine.specs.Machine.{Moment, output_at}
-use Rattle.model_machine.specs.Steps.{code_word, four_digits}
+use Rattle.model_machine.specs.Lasting.{code_word}
 
 -- a word and a blank
 abbrev pub spaced : List ℕ → List ℕ
@@ -41,14 +45,16 @@ abbrev pub shown_word : List ℕ → List ℕ
 shown_word [] = codes "-"
 shown_word (b ∷ bytes) = take 8 (b ∷ bytes)
 
-abbrev pub accepted_text : List ℕ → ℕ → List (List ℕ) → Accepted → List ℕ
-accepted_text terminal number segments (New id) = about (codes "ACK") terminal number ++ line_end
-accepted_text terminal number segments Already = about (codes "ALREADY") terminal number ++ line_end
-accepted_text terminal number segments NoTerminal = about (codes "REFUSED") terminal number ++ codes " TERMINAL" ++ line_end
-accepted_text terminal number segments (Expected next) = about (codes "REFUSED") terminal number ++ codes " EXPECTED " ++ decimal next ++ line_end
-accepted_text terminal number segments (SegmentsOver count most) = about (codes "REFUSED") terminal number ++ codes " SEGMENTS " ++ decimal count ++ 32 ∷ [] ++ decimal most ++ line_end
-accepted_text terminal number segments (QueueFull need limit) = about (codes "REFUSED") terminal number ++ codes " QUEUE FULL " ++ decimal need ++ 32 ∷ [] ++ decimal limit ++ line_end
-accepted_text terminal number segments NoCode = about (codes "REFUSED") terminal number ++ codes " CODE " ++ shown_word (code_word segments) ++ line_end
+-- what is printed for an input whose first word is shown so
+abbrev pub input_text : List ℕ → ℕ → List ℕ → Result Taken InputRefused → List ℕ
+input_text terminal number word (Ok (New id)) = about (codes "ACK") terminal number ++ line_end
+input_text terminal number word (Ok Already) = about (codes "ALREADY") terminal number ++ line_end
+input_text terminal number word (Err NoTerminal) = about (codes "REFUSED") terminal number ++ codes " TERMINAL" ++ line_end
+input_text terminal number word (Err (Expected next)) = about (codes "REFUSED") terminal number ++ codes " EXPECTED " ++ decimal next ++ line_end
+input_text terminal number word (Err NoCode) = about (codes "REFUSED") terminal number ++ codes " CODE " ++ word ++ line_end
+input_text terminal number word (Err (SegmentsOver count most)) = about (codes "REFUSED") terminal number ++ codes " SEGMENTS " ++ decimal count ++ 32 ∷ [] ++ decimal most ++ line_end
+input_text terminal number word (Err (QueueFull need limit)) = about (codes "REFUSED") terminal number ++ codes " QUEUE FULL " ++ decimal need ++ 32 ∷ [] ++ decimal limit ++ line_end
+input_text terminal number word (Err (InputFault fault)) = []
 
 -- a further segment stands on a line of its own
 abbrev pub further_line : List ℕ → List ℕ
@@ -78,11 +84,12 @@ show_text moment terminal (Showed number) = option_map_or (reply_text terminal) 
 show_text moment terminal Empty = none_text terminal
 show_text moment terminal ShowUnknown = unknown_text terminal
 
-abbrev pub ack_text : List ℕ → ℕ → AckAnswer → List ℕ
-ack_text terminal number Removed = about (codes "ACKED") terminal number ++ line_end
-ack_text terminal number AckAlready = about (codes "ALREADY") terminal number ++ line_end
-ack_text terminal number AckUnknown = about (codes "REFUSED") terminal number ++ codes " TERMINAL" ++ line_end
-ack_text terminal number (Ahead first) = about (codes "REFUSED") terminal number ++ codes " FIRST " ++ decimal first ++ line_end
+abbrev pub ack_text : List ℕ → ℕ → Result Acked AckRefused → List ℕ
+ack_text terminal number (Ok Removed) = about (codes "ACKED") terminal number ++ line_end
+ack_text terminal number (Ok AckAlready) = about (codes "ALREADY") terminal number ++ line_end
+ack_text terminal number (Err AckUnknown) = about (codes "REFUSED") terminal number ++ codes " TERMINAL" ++ line_end
+ack_text terminal number (Err (Ahead first)) = about (codes "REFUSED") terminal number ++ codes " FIRST " ++ decimal first ++ line_end
+ack_text terminal number (Err (AckFault fault)) = []
 
 -- a region's lines begin with its number
 abbrev pub region_text : ℕ → List ℕ
@@ -93,40 +100,30 @@ abbrev pub printed_status : Status → List ℕ
 printed_status Blank = codes "OK"
 printed_status status = status_text status
 
-abbrev pub scheduled_text : ℕ → List ℕ → ℕ → List ℕ
-scheduled_text region code id = region_text region ++ about (codes "SCHEDULED") code id ++ line_end
+-- what a region did
+abbrev pub did_text : Turned → List ℕ
+did_text (Scheduled code id) = about (codes "SCHEDULED") code id
+did_text (Called function pcb status) = spaced (function_name function) ++ spaced (decimal pcb) ++ printed_status status
+did_text (Next code id next) = about (codes "NEXT") code id ++ 32 ∷ [] ++ decimal next
+did_text (QC code id) = about (codes "QC") code id
+did_text (Done code id) = about (codes "DONE") code id
+did_text (Abended code id abend) = about (codes "ABENDED") code id ++ codes " U" ++ four_digits abend.number
+did_text Idle = codes "IDLE"
+did_text (Held need limit) = codes "HELD " ++ decimal need ++ 32 ∷ [] ++ decimal limit
 
-abbrev pub idle_text : ℕ → List ℕ
-idle_text region = region_text region ++ codes "IDLE" ++ line_end
+abbrev pub turned_text : ℕ → Turned → List ℕ
+turned_text region turned = region_text region ++ did_text turned ++ line_end
 
-abbrev pub called_text : ℕ → Function → ℕ → Status → List ℕ
-called_text region function pcb status =
-    region_text region ++ spaced (function_name function) ++ spaced (decimal pcb) ++ printed_status status ++ line_end
+abbrev pub turn_text : ℕ → Result Turned ControlFault → List ℕ
+turn_text region (Ok turned) = turned_text region turned
+turn_text region (Err fault) = []
 
--- a message was completed, and how its region goes on
-abbrev pub done_text : ℕ → List ℕ → ℕ → SyncPoint → List ℕ
-done_text region code id End = region_text region ++ about (codes "DONE") code id ++ line_end
-done_text region code id (Next next) = region_text region ++ about (codes "NEXT") code id ++ 32 ∷ [] ++ decimal next ++ line_end
-done_text region code id NoMore = region_text region ++ about (codes "QC") code id ++ line_end
-
-abbrev pub abended_text : ℕ → List ℕ → ℕ → AbendCode → List ℕ
-abended_text region code id abend =
-    region_text region ++ about (codes "ABENDED") code id ++ codes " U" ++ four_digits abend.number ++ line_end
-
-abbrev pub held_text : ℕ → ℕ → ℕ → List ℕ
-held_text region need limit = region_text region ++ codes "HELD " ++ decimal need ++ 32 ∷ [] ++ decimal limit ++ line_end
-
--- what is printed for an entry at the moment before it
+-- What is printed for an entry at the moment before it. A fault has no text yet, since no call meets one.
 abbrev pub entry_text : Moment → Entry → List ℕ
-entry_text moment (Accept terminal number segments answer) = accepted_text terminal number segments answer
+entry_text moment (Accept terminal number segments answer) = input_text terminal number (shown_word (code_word segments)) answer
 entry_text moment (Show terminal answer) = show_text moment terminal answer
-entry_text moment (Acked terminal number answer) = ack_text terminal number answer
-entry_text moment (Took region code id) = scheduled_text region code id
-entry_text moment (Held region need limit) = held_text region need limit
-entry_text moment (Idle region) = idle_text region
-entry_text moment (Called region function pcb status) = called_text region function pcb status
-entry_text moment (Done region code id answer) = done_text region code id answer
-entry_text moment (Abended region code id abend) = abended_text region code id abend
+entry_text moment (AckedEntry terminal number answer) = ack_text terminal number answer
+entry_text moment (Turn region answer) = turn_text region answer
 
 -- what is printed for a block that breaks a rule
 abbrev pub bad_line_text : ℕ → List ℕ

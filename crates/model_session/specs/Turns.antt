@@ -19,7 +19,7 @@ abbrev pub AreTurns : System → ℕ → Moment → List Entry → Type 0
 AreTurns system before moment [] = Unit {0}
 AreTurns system before moment (entry ∷ entries) =
     (is_quiet system moment ≡ false) × (call_of entry ≡ Turn (region_after system before))
-    × AreTurns system (suc before) (After system moment entry) entries
+    × AreTurns system (suc before) (After system moment (call_of entry)) entries
 
 -- So many turns at most were done from this moment on. They ended where nothing was left to do, or
 -- with the last of them.

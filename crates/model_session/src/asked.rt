@@ -1,3 +1,5 @@
+//! What a line says, and what a block asks for.
+
 use model_machine::ControlCall;
 use tm_types::Name;
 

@@ -1,9 +1,10 @@
-//! What a session's lines ask for, and what is printed for them.
+//! What a session is: how its lines make blocks, what a block asks for, what is printed for it, and for
+//! which entries of which lives the blocks stand.
 //!
-//! The crate holds definitions and the small types that they speak of.
+//! The crate holds definitions and the small types that they speak of. `session_lines` reads blocks,
+//! `session_text` prints answers, and `tm_session` drives a session, each by these definitions.
 #![tactic(auto)]
 
 pub use asked::{Asked, Form};
 
 mod asked;
-pub mod rules;

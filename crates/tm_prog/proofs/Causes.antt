@@ -1,10 +1,9 @@
--- The causes of a status.
-use Rattle.std.proofs.Common.{◌≡◌, ◌≢◌, ℕ, ◌≤◌, ◌<◌, ◌+◌, true, false, ◌&&◌, Bool, List, [], ◌∷◌, ◌++◌, length, map, sym, ◌∙◌, ap, subst, arith, inl, inr, ◌⊎◌, length-append, refl}
+-- Where no count rose and no limit is met, the status is that of the definition, or memory was wanting.
+use Rattle.std.proofs.Common.{◌≡◌, ◌≢◌, ℕ, ◌≤◌, ◌<◌, ◌+◌, true, false, ◌&&◌, Bool, List, [], ◌∷◌, ◌++◌, length, sym, ◌∙◌, ap, subst, refl, arith, inl, inr, length-append}
 use Rattle.std.proofs.lemmas.List.Folds.{list_all-append}
 use Rattle.std.proofs.lemmas.Bool.Decides.{nat_tests}
-use Rattle.std.specs.Prelude.{Option, Some, None, IsNone, IfSome, Ok, Err, nat_le}
+use Rattle.std.specs.Prelude.{Option, Some, None, IsNone, IfSome, nat_le}
 use Rattle.std.specs.List.{list_all}
-use Rattle.model_session.specs.Blocks.{Block}
 use Rattle.tm_control.specs.declared.life.Life.{Life}
 use Rattle.tm_edge.specs.Fault.{HasRisen}
 use Rattle.tm_edge.specs.Lines.{CutLine, cut_lines, is_short, line_size, line_text, behind_line, HasServed, IsTooLong}
@@ -12,52 +11,10 @@ use Rattle.tm_edge.proofs.ServedSoFar.{long_first}
 use Rattle.tm_edge.proofs.CutLines.{cut_first}
 use Rattle.tm_session.specs.declared.outcome.Ended.{Ended}
 use Rattle.tm_session.specs.declared.outcome.Ended.TheVariants.{Done, Words, BadLine, BadCross, Read, Write, Memory, Limit}
-use Rattle.tm_session.specs.Outcome.{HasRead, HasReadTold, IsLimit, HasCause}
-use Rattle.tm_session.specs.Opening.{IsCutShort}
-use Rattle.tm_session.specs.Headline.{IsLife, IsSession, BreaksRule}
+use Rattle.tm_session.specs.Outcome.{IsLimit, HasCause}
+use Rattle.tm_session.specs.Headline.{IsSession, BreaksRule}
 use Rattle.tm_prog.specs.Words.{WordFault, word_fault}
-use Rattle.tm_prog.specs.Status.{IsCaused, IsByWords, IsWithinLimits, IsComplete, judged_status}
-
-risen_more : (a b c : ℕ) → HasRisen a b → b ≤ c → HasRisen a c
-risen_more a b c (inl less) more = inl (omega arith)
-risen_more a b c (inr full) more = inr (omega arith)
-
-pub caused_more : (status : Ended) (reads_old reads_new writes_old writes_mid writes_new : ℕ)
-    → HasCause status reads_old reads_new writes_old writes_mid → writes_mid ≤ writes_new → HasCause status reads_old reads_new writes_old writes_new
-caused_more Done a b c d e h more = h
-caused_more (Words word rule) a b c d e h more = h
-caused_more (BadLine line rule) a b c d e h more = h
-caused_more (BadCross line rule) a b c d e h more = h
-caused_more Read a b c d e h more = h
-caused_more Write a b c d e h more = risen_more c d e h more
-caused_more Memory a b c d e h more = h
-caused_more (Limit n) a b c d e h more = h
-
--- a definition that breaks a rule, told by the session
-breaks : (line rule : ℕ) (told old new : Option (List ℕ)) (lives : List Life) → IsSession told old new (BadLine line rule) lives
-    → IsCaused [] told (BadLine line rule) 0 0 0 0
-breaks line rule told old new [] session = session.0
-breaks line rule (Some bytes) old new (life ∷ []) session = absurd session.2.read.end
-breaks line rule None old new (life ∷ []) session = tt
-breaks line rule told old new (life ∷ other ∷ lives) session = absurd session
-
-breaks_cross : (line rule : ℕ) (told old new : Option (List ℕ)) (lives : List Life) → IsSession told old new (BadCross line rule) lives
-    → IsCaused [] told (BadCross line rule) 0 0 0 0
-breaks_cross line rule told old new [] session = session.0
-breaks_cross line rule (Some bytes) old new (life ∷ []) session = absurd session.2.read.end
-breaks_cross line rule None old new (life ∷ []) session = tt
-breaks_cross line rule told old new (life ∷ other ∷ lives) session = absurd session
-
-pub session_caused : (words : List (List ℕ)) (status : Ended) (told old new : Option (List ℕ)) (lives : List Life) (a b c d : ℕ)
-    → IsSession told old new status lives → HasCause status a b c d → IsCaused words told status a b c d
-session_caused words Done told old new lives a b c d session h = tt
-session_caused words (Words word rule) told old new lives a b c d session h = absurd h
-session_caused words (BadLine line rule) told old new lives a b c d session h = breaks line rule told old new lives session
-session_caused words (BadCross line rule) told old new lives a b c d session h = breaks_cross line rule told old new lives session
-session_caused words Read told old new lives a b c d session h = h
-session_caused words Write told old new lives a b c d session h = h
-session_caused words Memory told old new lives a b c d session h = tt
-session_caused words (Limit n) told old new lives a b c d session h = tt
+use Rattle.tm_prog.specs.Status.{IsByWords, IsRun, IsLastLine, IsWithinLimits, IsComplete, judged_status, status_text}
 
 -- ---- limits
 
@@ -89,37 +46,62 @@ no_limit n bytes rest cut served (inr many) within =
     let few : length (cut_lines bytes) ≤ 1000000 = within.0 in
     omega (arith, many.1)
 
-session_limit : (n : ℕ) (told old new : Option (List ℕ)) (lives : List Life) → IsSession told old new (Limit n) lives → IsWithinLimits told → ⊥
-session_limit n (Some bytes) old new [] session within = long_line bytes session.0.1.rest session.0.1.cut session.0.1.served session.0.1.long within
-session_limit n (Some bytes) old new (life ∷ []) session within = no_limit n bytes session.2.read.rest session.2.read.cut session.2.read.served session.2.read.end.0 within
-session_limit n (Some bytes) old new (life ∷ other ∷ lives) session within = session
-session_limit n None old new lives session within = within
+session_limit : (n : ℕ) (told left old new : Option (List ℕ)) (lives : List Life) → IsSession told left old new (Limit n) lives → IsWithinLimits told → ⊥
+session_limit n (Some bytes) left old new [] session within = long_line bytes session.0.1.rest session.0.1.cut session.0.1.served session.0.1.long within
+session_limit n (Some bytes) (Some left) old new (life ∷ lives) session within =
+    no_limit n bytes (session.2.read.held ++ left) session.2.read.cut session.2.read.served session.2.read.limit within
+session_limit n (Some bytes) None old new (life ∷ lives) session within = session.2.read
+session_limit n None left old new lives session within = within
 
--- ---- completeness
+-- ---- by the status
 
-by_done : (told old new : Option (List ℕ)) (lives : List Life) → IsSession told old new Done lives → IsComplete told Done
-by_done told old new [] session = absurd session.0
-by_done (Some bytes) old new (life ∷ []) session = inl (sym (ap judged_status session.1))
-by_done None old new (life ∷ []) session = tt
-by_done told old new (life ∷ other ∷ lives) session = absurd session
+by_done : (told left old new : Option (List ℕ)) (lives : List Life) → IsSession told left old new Done lives → IsComplete told Done
+by_done told left old new [] session = absurd session.0
+by_done (Some bytes) left old new (life ∷ lives) session = inl (sym (ap judged_status session.1))
+by_done None left old new (life ∷ lives) session = tt
 
 by_break : (told : Option (List ℕ)) (status : Ended) → IfSome told (λ bytes. BreaksRule bytes status) → IsComplete told status
 by_break (Some bytes) status h = inl (sym (ap judged_status h))
 by_break None status h = tt
 
+bad_line : (line rule : ℕ) (told left old new : Option (List ℕ)) (lives : List Life) → IsSession told left old new (BadLine line rule) lives → IsComplete told (BadLine line rule)
+bad_line line rule told left old new [] session = by_break told (BadLine line rule) session.0
+bad_line line rule told left old new (life ∷ lives) session = absurd (session.2.begun refl)
+
+bad_cross : (line rule : ℕ) (told left old new : Option (List ℕ)) (lives : List Life) → IsSession told left old new (BadCross line rule) lives → IsComplete told (BadCross line rule)
+bad_cross line rule told left old new [] session = by_break told (BadCross line rule) session.0
+bad_cross line rule told left old new (life ∷ lives) session = absurd (session.2.begun refl)
+
+no_words : (word rule : ℕ) (told left old new : Option (List ℕ)) (lives : List Life) → IsSession told left old new (Words word rule) lives → ⊥
+no_words word rule told left old new [] session = session.0
+no_words word rule told left old new (life ∷ lives) session = session.2.begun refl
+
 by_memory : (told : Option (List ℕ)) → IsComplete told Memory
 by_memory (Some bytes) = inr refl
 by_memory None = tt
 
--- where no count rose and no limit is met, the status is that of the definition, or memory was wanting
-pub complete : (status : Ended) (told old new : Option (List ℕ)) (lives : List Life) (a b c d : ℕ)
-    → IsSession told old new status lives → HasCause status a b c d
-    → ¬ HasRisen a b → ¬ HasRisen c d → IsWithinLimits told → IsComplete told status
-complete Done told old new lives a b c d session cause reads writes within = by_done told old new lives session
-complete Memory told old new lives a b c d session cause reads writes within = by_memory told
-complete Read told old new lives a b c d session cause reads writes within = absurd (reads cause)
-complete Write told old new lives a b c d session cause reads writes within = absurd (writes cause)
-complete (Words word rule) told old new lives a b c d session cause reads writes within = absurd cause
-complete (BadLine line rule) told old new lives a b c d session cause reads writes within = by_break told (BadLine line rule) (breaks line rule told old new lives session)
-complete (BadCross line rule) told old new lives a b c d session cause reads writes within = by_break told (BadCross line rule) (breaks_cross line rule told old new lives session)
-complete (Limit n) told old new lives a b c d session cause reads writes within = absurd (session_limit n told old new lives session within)
+complete : (status : Ended) (told left old mid new : Option (List ℕ)) (lives : List Life) (r r' w w1 w2 : ℕ)
+    → IsSession told left old mid status lives → HasCause status r r' w w1 → IsLastLine mid new (status_text status) w1 w2
+    → ¬ HasRisen r r' → ¬ HasRisen w w2 → IsWithinLimits told → IsComplete told status
+complete Done told left old mid new lives r r' w w1 w2 session cause last reads writes within = by_done told left old mid lives session
+complete Memory told left old mid new lives r r' w w1 w2 session cause last reads writes within = by_memory told
+complete Read told left old mid new lives r r' w w1 w2 session cause last reads writes within = absurd (reads cause.0)
+complete Write told left old mid new lives r r' w w1 w2 session cause last reads writes within = absurd (writes (subst (HasRisen w) (sym last.1) cause.1))
+complete (Words word rule) told left old mid new lives r r' w w1 w2 session cause last reads writes within = absurd (no_words word rule told left old mid lives session)
+complete (BadLine line rule) told left old mid new lives r r' w w1 w2 session cause last reads writes within = bad_line line rule told left old mid lives session
+complete (BadCross line rule) told left old mid new lives r r' w w1 w2 session cause last reads writes within = bad_cross line rule told left old mid lives session
+complete (Limit n) told left old mid new lives r r' w w1 w2 session cause last reads writes within = absurd (session_limit n told left old mid lives session within)
+
+never : true ≡ false → ⊥
+never e = cc
+
+session_of : (fault : Option WordFault) (told left old new : Option (List ℕ)) (status : Ended) (lives : List Life) → IsNone fault → IsByWords fault told left old new status lives
+    → IsSession told left old new status lives
+session_of None told left old new status lives none session = session
+session_of (Some fault) told left old new status lives none session = absurd (never none)
+
+pub complete_run : (words : List (List ℕ)) (told left old new : Option (List ℕ)) (status : Ended) (lives : List Life) (r r' w w' : ℕ)
+    → IsRun words told left old new status lives r r' w w' → IsNone (word_fault words) → ¬ HasRisen r r' → ¬ HasRisen w w' → IsWithinLimits told → IsComplete told status
+complete_run words told left old new status lives r r' w w' run none reads writes within =
+    complete status told left old run.before new lives r r' w run.writes w'
+    (session_of (word_fault words) told left old run.before status lives none run.session) run.cause run.last reads writes within

@@ -1,6 +1,6 @@
 -- The numbers of status lines, as they are printed.
 use Rattle.std.proofs.Common.{◌≡◌, ◌≢◌, ℕ, refl, arith, inl, inr}
-use Rattle.std.specs.Fmt.{digits, decimal}
+use Rattle.std.specs.Fmt.{digits}
 use Rattle.std.specs.Prelude.{codes}
 use Rattle.tm_session.specs.declared.outcome.Ended.TheVariants.{Words}
 use Rattle.tm_prog.specs.Status.{status_text, IsPrintable}

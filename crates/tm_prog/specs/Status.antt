@@ -1,5 +1,5 @@
 -- The last line of a session by its status, and what a whole run comes to.
-use Rattle.std.specs.Prelude.{◌≡◌, ℕ, ◌≤◌, ◌++◌, ◌⊎◌, ⊤, true, Option, Some, None, IfSome, Result, Ok, Err, List, [], ◌∷◌, length, codes, decimal}
+use Rattle.std.specs.Prelude.{◌≡◌, ℕ, ◌≤◌, ◌++◌, ◌⊎◌, true, Option, Some, None, Result, Ok, Err, List, [], ◌∷◌, length, codes, decimal}
 use Rattle.std.specs.List.{list_all}
 use Rattle.std.specs.Io.KnownBytes.{append_known}
 use Rattle.model_system.specs.System.{System}
@@ -9,7 +9,8 @@ use Rattle.tm_edge.specs.Lines.{cut_lines, lines_of, is_short}
 use Rattle.tm_session.specs.declared.outcome.Ended.{Ended}
 use Rattle.tm_session.specs.declared.outcome.Ended.TheVariants.{Done, Words, BadLine, BadCross, Read, Write, Memory, Limit}
 use Rattle.tm_session.specs.Source.{definition_lines, judged}
-use Rattle.tm_session.specs.Headline.{IsSession, BreaksRule}
+use Rattle.tm_session.specs.Outcome.{HasCause}
+use Rattle.tm_session.specs.Headline.{IsSession}
 use Rattle.tm_prog.specs.Words.{WordFault, word_fault}
 
 -- The line that a status ends with; 0 and 5 have none.
@@ -23,38 +24,35 @@ status_text Write = []
 status_text Memory = codes "STATUS 7 MEMORY" ++ 10 ∷ []
 status_text (Limit n) = codes "STATUS 9 LIMIT " ++ decimal n ++ 10 ∷ []
 
--- The last line was written behind the others; or writing failed, and a front of it was written.
+-- The last line was written behind the others, and the sink met no fault; or writing it failed, and a
+-- front of it was written. A status without a line writes nothing.
 abbrev pub IsLastLine : Option (List ℕ) → Option (List ℕ) → List ℕ → ℕ → ℕ → Type 0
-IsLastLine old new line faults_old faults_new = (new ≡ append_known old line) ⊎ (AppendsFront old new line × HasRisen faults_old faults_new)
+IsLastLine old new [] faults_old faults_new = (new ≡ old) × (faults_new ≡ faults_old)
+IsLastLine old new (b ∷ line) faults_old faults_new =
+    ((new ≡ append_known old (b ∷ line)) × (faults_new ≡ faults_old))
+    ⊎ (AppendsFront old new (b ∷ line) × HasRisen faults_old faults_new)
 
 -- Words that break a rule are told, and nothing else is done. Otherwise the session is served.
-abbrev pub IsByWords : Option WordFault → Option (List ℕ) → Option (List ℕ) → Option (List ℕ) → Ended → List Life → Type 0
-IsByWords (Some fault) told old new status lives = (status ≡ Words fault.word fault.rule) × (lives ≡ []) × (new ≡ old)
-IsByWords None told old new status lives = IsSession told old new status lives
+abbrev pub IsByWords : Option WordFault → Option (List ℕ) → Option (List ℕ) → Option (List ℕ) → Option (List ℕ) → Ended → List Life → Type 0
+IsByWords (Some fault) told left old new status lives = (status ≡ Words fault.word fault.rule) × (lives ≡ []) × (new ≡ old)
+IsByWords None told left old new status lives = IsSession told left old new status lives
 
--- A run: what the words ask for is done, and then the status line is printed, where the status has one.
-pub record IsRun (words : List (List ℕ)) (told old new : Option (List ℕ)) (status : Ended) (lives : List Life) (faults_old faults_new : ℕ) : Type 0 where
+-- A run: what the words ask for is done, which has its cause in the counts of faults; and then the status
+-- line is printed, where the status has one.
+pub record IsRun (words : List (List ℕ)) (told left old new : Option (List ℕ)) (status : Ended) (lives : List Life) (reads_old reads_new writes_old writes_new : ℕ) : Type 0 where
   pub before : Option (List ℕ)
-  pub session : IsByWords (word_fault words) told old before status lives
-  pub last : IsLastLine before new (status_text status) faults_old faults_new
+  pub writes : ℕ
+  pub session : IsByWords (word_fault words) told left old before status lives
+  pub cause : HasCause status reads_old reads_new writes_old writes
+  pub last : IsLastLine before new (status_text status) writes writes_new
 
 -- the same of a session that is served
-pub record IsDrilled (told old new : Option (List ℕ)) (status : Ended) (lives : List Life) (faults_old faults_new : ℕ) : Type 0 where
+pub record IsDrill (told left old new : Option (List ℕ)) (status : Ended) (lives : List Life) (reads_old reads_new writes_old writes_new : ℕ) : Type 0 where
   pub before : Option (List ℕ)
-  pub session : IsSession told old before status lives
-  pub last : IsLastLine before new (status_text status) faults_old faults_new
-
--- The causes of a status: the words or the definition break this rule; the source's or the sink's
--- count of faults rose.
-abbrev pub IsCaused : List (List ℕ) → Option (List ℕ) → Ended → ℕ → ℕ → ℕ → ℕ → Type 0
-IsCaused words told (Words word rule) reads_old reads_new writes_old writes_new = word_fault words ≡ Some (record { word = word; rule = rule })
-IsCaused words told (BadLine line rule) reads_old reads_new writes_old writes_new = IfSome told (λ bytes. BreaksRule bytes (BadLine line rule))
-IsCaused words told (BadCross line rule) reads_old reads_new writes_old writes_new = IfSome told (λ bytes. BreaksRule bytes (BadCross line rule))
-IsCaused words told Read reads_old reads_new writes_old writes_new = HasRisen reads_old reads_new
-IsCaused words told Write reads_old reads_new writes_old writes_new = HasRisen writes_old writes_new
-IsCaused words told Done reads_old reads_new writes_old writes_new = ⊤
-IsCaused words told Memory reads_old reads_new writes_old writes_new = ⊤
-IsCaused words told (Limit n) reads_old reads_new writes_old writes_new = ⊤
+  pub writes : ℕ
+  pub session : IsSession told left old before status lives
+  pub cause : HasCause status reads_old reads_new writes_old writes
+  pub last : IsLastLine before new (status_text status) writes writes_new
 
 -- no limit is met in these bytes: at most a million lines, none of 4,097 bytes or more
 abbrev pub IsWithinLimits : Option (List ℕ) → Type 0
@@ -69,7 +67,7 @@ judged_status (Err ended) = ended
 -- Where nothing else comes between, the status is that of the definition, or memory was wanting.
 abbrev pub IsComplete : Option (List ℕ) → Ended → Type 0
 IsComplete (Some bytes) status = (status ≡ judged_status (judged (definition_lines (lines_of bytes)))) ⊎ (status ≡ Memory)
-IsComplete None status = ⊤
+IsComplete None status = Unit {0}
 
 -- the numbers that word faults are told by
 abbrev pub IsPrintable : ℕ → ℕ → Type 0

@@ -1,5 +1,6 @@
-use crate::tests::expect_source;
-use std::alloc::{AllocError, Global};
+//! Worked sessions over databases.
+
+use crate::tests::{expect_source, joined};
 use std::test::Fail;
 
 /// Accounts with their movements, and codes that open one, move money, tell a balance, abend behind a
@@ -275,15 +276,6 @@ CALL ROLL 0
 ENDPROG
 END
 ";
-
-/// These texts, one behind another.
-fn joined(alloc: Global, texts: &[&[u8]]) -> Result<Vec<u8>, AllocError> {
-    let mut all = Vec::new(alloc);
-    for text in texts {
-        all.extend_from_slice(text)?;
-    }
-    Ok(all)
-}
 
 #[test]
 fn accounts(rt: HostRuntime) -> Result<(), Fail> {

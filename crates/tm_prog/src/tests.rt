@@ -1,3 +1,5 @@
+//! Worked sessions, words, definitions, faults and limits.
+
 use crate::run::run;
 use crate::status_number;
 use std::alloc::{AllocError, Global};
@@ -46,7 +48,7 @@ const FIRST_PRINTED: &[u8] =
     b"ACK T1 1\nR1 SCHEDULED ECHO 1\nR1 GU 0 OK\nR1 ISRT 0 OK\nR1 DONE ECHO 1\nOUT T1 1 ECHO HELLO\nACKED T1 1\n";
 
 /// These texts, one behind another.
-fn joined(alloc: Global, texts: &[&[u8]]) -> Result<Vec<u8>, AllocError> {
+pub fn joined(alloc: Global, texts: &[&[u8]]) -> Result<Vec<u8>, AllocError> {
     let mut all = Vec::new(alloc);
     for text in texts {
         all.extend_from_slice(text)?;

@@ -1,5 +1,5 @@
 -- A reader that holds nothing yet.
-use Rattle.std.proofs.Common.{◌≡◌, ℕ, List, [], refl, sym, ap, subst}
+use Rattle.std.proofs.Common.{◌≡◌, ℕ, List, [], refl}
 use Rattle.std.specs.Prelude.{Option, Some, None}
 use Rattle.tm_edge.specs.Lines.{unread}
 

@@ -1,5 +1,5 @@
 -- Blocks that were served, one after another.
-use Rattle.std.proofs.Common.{◌≡◌, ℕ, ◌+◌, ◌≤◌, List, [], ◌∷◌, ◌++◌, length, take, sym, ◌∙◌, ap, subst, refl, arith, append_assoc, length-append, inl, inr}
+use Rattle.std.proofs.Common.{◌≡◌, ℕ, ◌+◌, List, [], ◌∷◌, ◌++◌, length, take, sym, ◌∙◌, ap, subst, refl, arith, append_assoc, length-append, inl, inr}
 use Rattle.std.proofs.lemmas.List.{append-nil}
 use Rattle.std.proofs.Math.Seq.{take-append-add}
 use Rattle.std.specs.Prelude.{Option, Some, None}
@@ -13,39 +13,37 @@ use Rattle.model_session.specs.declared.asked.Asked.TheVariants.{Bad, TooLong, C
 use Rattle.model_session.specs.Blocks.{Block}
 use Rattle.model_session.specs.Text.{entry_text, bad_line_text, too_long_text}
 use Rattle.model_session.specs.Turns.{quieted_text}
-use Rattle.model_session.specs.Session.{IsServedBy, IsServed, IsBegunBy, IsBegun, asked_in}
-use Rattle.model_session.proofs.Sessions.{IsServed-append, moment_behind}
+use Rattle.model_session.specs.Session.{none_left, IsServedBy, AreServed, IsBegunBy, IsBegun, asked_in}
+use Rattle.model_session.specs.Session.Standing.{Up}
+use Rattle.model_session.proofs.Sessions.{AreServed-append, moment_behind}
 use Rattle.tm_edge.specs.Fault.{AppendsFront}
 use Rattle.tm_session.specs.declared.outcome.Ended.{Ended}
 use Rattle.tm_session.specs.declared.outcome.Ended.TheVariants.{Done, Words, BadLine, BadCross, Read, Write, Memory, Limit}
 use Rattle.tm_session.specs.Serving.{AddsEntries, IsDone, BreaksOff}
-use Rattle.tm_session.specs.Outcome.{HasWritten, AreUnprinted}
+use Rattle.tm_session.specs.Outcome.{HasWritten, left_by}
 use Rattle.tm_session.specs.Driving.{Serves, Stops, FailsAt}
 use Rattle.tm_session.proofs.Turned.{now_behind, adds_nothing, adds_twice, adds_one}
 
 -- ---- one block
 
-Behind : System → Moment → List Entry → List ℕ → Type 0
-Behind system moment entries text = (entries ≡ []) × (text ≡ [])
-
 -- what was done for one block: the entries that it added
 pub record AddsBlock (asked : Asked) (text : List ℕ) (old new : ControlState) : Type 0 where
   pub entries : List Entry
   pub adds : AddsEntries old new entries
-  pub served : IsServedBy asked old.system (now_of old) entries text (λ after others later. IsServed old.system after [] others later)
+  pub served : IsServedBy asked old.system (Up (now_of old) entries) [] text (λ after ahead later. AreServed old.system none_left [] after ahead later)
 
 by_done : (asked : Asked) (text : List ℕ) (old new : ControlState) → IsDone asked old new text → AddsBlock asked text old new
 by_done (Bad rule) text old new (nothing, printed) =
-    record { entries = []; adds = adds_nothing old new nothing; served = ([], printed ∙ sym (append-nil (bad_line_text rule)), (refl, refl)) }
+    record { entries = []; adds = adds_nothing old new nothing; served = ([], printed ∙ sym (append-nil (bad_line_text rule)), (refl, refl, refl)) }
 by_done (TooLong terminal number long) text old new (nothing, printed) =
-    record { entries = []; adds = adds_nothing old new nothing; served = ([], printed ∙ sym (append-nil (too_long_text old.system terminal number long)), (refl, refl)) }
+    record { entries = []; adds = adds_nothing old new nothing; served = ([], printed ∙ sym (append-nil (too_long_text old.system terminal number long)), (refl, refl, refl)) }
 by_done (Call call) text old new (entry, added, asked, printed) =
-    record { entries = entry ∷ []; adds = adds_one old new entry added; served = (entry, [], [], refl, asked, printed ∙ sym (append-nil (entry_text (now_of old) entry)), (refl, refl)) }
+    record { entries = entry ∷ []; adds = adds_one old new entry added; served = (entry, [], [], refl, asked, printed ∙ sym (append-nil (entry_text (now_of old) entry)), (refl, refl, refl)) }
 by_done (Quiet most) text old new turned =
     record {
       entries = turned.entries;
       adds = turned.adds;
-      served = (turned.entries, [], [], sym (append-nil turned.entries), turned.quieted, turned.printed ∙ sym (append-nil (quieted_text old.system (now_of old) turned.entries)), (refl, refl));
+      served = (turned.entries, [], [], sym (append-nil turned.entries), turned.quieted, turned.printed ∙ sym (append-nil (quieted_text old.system (now_of old) turned.entries)), (refl, refl, refl));
     }
 
 -- a block was done, and its text was written
@@ -56,9 +54,9 @@ serves_one block text written written' old new done printed =
     record { entries = added.entries; text = text; adds = added.adds; served = added.served; printed = printed }
 
 -- or a front of it
-pub fails_writing : (block : Block) (others : List Block) (text : List ℕ) (written written' : Option (List ℕ)) (old new : ControlState)
+writes_front : (block : Block) (others : List Block) (text : List ℕ) (written written' : Option (List ℕ)) (old new : ControlState)
     → IsDone (asked_in old.system block) old new text → AppendsFront written written' text → Stops Write (block ∷ []) others written written' old new
-fails_writing block others text written written' old new done front =
+writes_front block others text written written' old new done front =
     let added : AddsBlock (asked_in old.system block) text old new = by_done (asked_in old.system block) text old new done in
     record {
       entries = added.entries;
@@ -76,18 +74,26 @@ nothing_written (Some bytes) = ap Some (sym (append-nil bytes))
 nothing_written None = refl
 
 -- or memory was wanting
-pub fails_memory : (block : Block) (others : List Block) (written written' : Option (List ℕ)) (old new : ControlState)
+wants_memory : (block : Block) (others : List Block) (written written' : Option (List ℕ)) (old new : ControlState)
     → BreaksOff (asked_in old.system block) old new → written' ≡ written → Stops Memory [] (block ∷ others) written written' old new
-fails_memory block others written written' old new broken same =
+wants_memory block others written written' old new broken same =
     record {
       entries = [];
       turns = broken.entries;
       text = [];
       adds = broken.adds;
-      served = (refl, refl);
+      served = (refl, refl, refl);
       unprinted = broken.begun;
       printed = same ∙ nothing_written written;
     }
+
+pub fails_writing : (block : Block) (text : List ℕ) (written written' : Option (List ℕ)) (old new : ControlState)
+    → IsDone (asked_in old.system block) old new text → AppendsFront written written' text → FailsAt Write block written written' old new
+fails_writing block text written written' old new done front = inl (refl, λ others. writes_front block others text written written' old new done front)
+
+pub fails_memory : (block : Block) (written written' : Option (List ℕ)) (old new : ControlState)
+    → BreaksOff (asked_in old.system block) old new → written' ≡ written → FailsAt Memory block written written' old new
+fails_memory block written written' old new broken same = inr (refl, λ others. wants_memory block others written written' old new broken same)
 
 pub ruleset served_steps = (serves_one, fails_writing, fails_memory)
 
@@ -98,7 +104,7 @@ serves_none written control = record {
   entries = [];
   text = [];
   adds = adds_nothing control control (record { system = refl; opening = refl; history = refl });
-  served = (refl, refl);
+  served = (refl, refl, refl);
   printed = nothing_written written;
 }
 
@@ -108,13 +114,13 @@ append_twice None a b = refl
 
 -- blocks behind others
 served_behind : (old now : ControlState) (xs ys : List Block) (entries more : List Entry) (text tail : List ℕ) → AddsEntries old now entries
-    → IsServed old.system (now_of old) xs entries text → IsServed now.system (now_of now) ys more tail
-    → IsServed old.system (now_of old) (xs ++ ys) (entries ++ more) (text ++ tail)
+    → AreServed old.system none_left xs (Up (now_of old) entries) [] text → AreServed now.system none_left ys (Up (now_of now) more) [] tail
+    → AreServed old.system none_left (xs ++ ys) (Up (now_of old) (entries ++ more)) [] (text ++ tail)
 served_behind old now xs ys entries more text tail adds first second =
     let here : now_of now ≡ moment_after old.system (now_of old) entries = now_behind old now entries adds in
-    let last : IsServed old.system (moment_after old.system (now_of old) entries) ys more tail =
-    subst (λ m. IsServed old.system m ys more tail) here (subst (λ s. IsServed s (now_of now) ys more tail) adds.system second) in
-    IsServed-append old.system (moment_after old.system (now_of old) entries) more tail ys last xs (now_of old) entries text refl first
+    let last : AreServed old.system none_left ys (Up (moment_after old.system (now_of old) entries) more) [] tail =
+    subst (λ m. AreServed old.system none_left ys (Up m more) [] tail) here (subst (λ s. AreServed s none_left ys (Up (now_of now) more) [] tail) adds.system second) in
+    AreServed-append old.system (moment_after old.system (now_of old) entries) more tail none_left ys last xs (now_of old) entries text refl first
 
 pub serves_twice : (xs ys : List Block) (w w1 w2 : Option (List ℕ)) (a b c : ControlState) → Serves xs w w1 a b → Serves ys w1 w2 b c → Serves (xs ++ ys) w w2 a c
 serves_twice xs ys w w1 w2 a b c first second = record {
@@ -157,8 +163,8 @@ serves_stops ended xs ys others w w1 w2 a b c first second =
       adds = subst (λ e. AddsEntries a c e) (sym (append_assoc first.entries second.entries second.turns))
           (adds_twice a b c first.entries (second.entries ++ second.turns) first.adds second.adds);
       served = served_behind a b xs ys first.entries second.entries first.text second.text first.adds first.served second.served;
-      unprinted = subst (λ m. AreUnprinted ended a.system m others second.turns) there
-          (subst (λ s. AreUnprinted ended s (moment_after b.system (now_of b) second.entries) others second.turns) first.adds.system second.unprinted);
+      unprinted = subst (λ m. left_by ended a.system others m second.turns) there
+          (subst (λ s. left_by ended s others (moment_after b.system (now_of b) second.entries) second.turns) first.adds.system second.unprinted);
       printed = written_behind ended w w1 w2 first.text second.text first.printed second.printed;
     }
 
@@ -169,11 +175,11 @@ nothing_begun (TooLong terminal number long) system moment = refl
 nothing_begun (Call call) system moment = refl
 nothing_begun (Quiet most) system moment = inl refl
 
-none_begun : (system : System) (moment : Moment) (others : List Block) → IsBegun system moment others []
+none_begun : (system : System) (moment : Moment) (others : List Block) → IsBegun system others moment []
 none_begun system moment [] = refl
 none_begun system moment (block ∷ others) = nothing_begun (asked_in system block) system moment
 
-none_unprinted : (ended : Ended) (system : System) (moment : Moment) (others : List Block) → AreUnprinted ended system moment others []
+none_unprinted : (ended : Ended) (system : System) (moment : Moment) (others : List Block) → left_by ended system others moment []
 none_unprinted Memory system moment others = none_begun system moment others
 none_unprinted Write system moment others = refl
 none_unprinted Done system moment others = refl
@@ -199,11 +205,12 @@ stops_none ended others written control = record {
   turns = [];
   text = [];
   adds = adds_nothing control control (record { system = refl; opening = refl; history = refl });
-  served = (refl, refl);
+  served = (refl, refl, refl);
   unprinted = none_unprinted ended control.system (now_of control) others;
   printed = all_written ended written;
 }
 
--- a block that was served last of all
-pub stops_served : (block : Block) (w w' : Option (List ℕ)) (a b : ControlState) → Serves (block ∷ []) w w' a b → Stops Done (block ∷ []) [] w w' a b
-stops_served block w w' a b one = serves_stops Done (block ∷ []) [] [] w w' w' a b b one (stops_none Done [] w' b)
+-- blocks that were served last of all
+pub stops_served : (blocks : List Block) (w w' : Option (List ℕ)) (a b : ControlState) → Serves blocks w w' a b → Stops Done blocks [] w w' a b
+stops_served blocks w w' a b one =
+    subst (λ bs. Stops Done bs [] w w' a b) (append-nil blocks) (serves_stops Done blocks [] [] w w' w' a b b one (stops_none Done [] w' b))

@@ -1,12 +1,9 @@
-pub mod Places
-pub mod Digits
-pub mod SegmentLines
-pub mod Printable
+pub mod Begun
 pub mod Turned
 pub mod Driven
 pub mod Steps
-pub mod Reading
 pub mod Taking
+pub mod Reading
 pub mod Opened
 pub mod Whole
-pub mod Begun
+pub mod Answered

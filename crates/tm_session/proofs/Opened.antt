@@ -1,23 +1,24 @@
 -- The definition, read line by line.
-use Rattle.std.proofs.Common.{◌≡◌, ◌≢◌, ℕ, ◌+◌, ◌-◌, ◌≤◌, ◌<◌, Bool, true, false, ◌&&◌, List, [], ◌∷◌, ◌++◌, length, map, sym, ◌∙◌, ap, subst, refl, arith, append_assoc, length-append, append-nil, inl, inr}
+use Rattle.std.proofs.Common.{◌≡◌, ℕ, suc, ◌+◌, ◌-◌, ◌≤◌, Bool, true, false, ◌&&◌, List, [], ◌∷◌, ◌++◌, length, map, sym, ◌∙◌, ap, subst, refl, arith, append_assoc, length-append, append-nil, inl, inr, ◌⊎◌}
 use Rattle.std.specs.Prelude.{Option, Some, None, IfSome, if◌then◌else◌}
 use Rattle.std.specs.List.{list_all}
 use Rattle.std.proofs.lemmas.List.Folds.{list_all-append}
-use Rattle.model_session.specs.Blocks.{Block, blocks_of}
-use Rattle.tm_edge.specs.Lines.{CutLine, HasServed, IsTooLong, ServesTold, cut_lines, lines_of, line_size, line_text, behind_line, is_short}
+use Rattle.model_session.specs.Blocks.{Block}
+use Rattle.tm_edge.specs.Lines.{CutLine, HasServed, IsTooLong, ServesTold, unread, cut_lines, lines_of, line_size, line_text, behind_line, is_short}
 use Rattle.tm_edge.proofs.ServedSoFar.{none_served, one_served, long_first}
 use Rattle.tm_session.specs.declared.outcome.Ended.{Ended}
-use Rattle.tm_session.specs.declared.outcome.Ended.TheVariants.{Limit}
+use Rattle.tm_session.specs.declared.outcome.Ended.TheVariants.{Done, Words, BadLine, BadCross, Read, Write, Memory, Limit}
 use Rattle.tm_session.specs.Source.{ends_definition, stays_inside, definition_from, session_from, definition_lines, session_lines}
-use Rattle.tm_session.specs.Outcome.{EndsBefore, HasRead, HasReadTold}
-use Rattle.tm_session.specs.Driving.{ReadsSession, ReadsTold}
-use Rattle.tm_session.specs.Opening.{ReadsLines, ReadsDefinition, IsCutShort, StopsBefore, ReadsSome, DefinitionSoFar}
+use Rattle.tm_session.specs.Outcome.{texts_of, ending_of, AreSettled, IsAtLimit, HasRead, HasReadTold}
+use Rattle.tm_session.specs.Driving.{may_pass, ReadsSession, ReadsTold}
+use Rattle.tm_session.specs.Opening.{IsUnread, ReadsLines, ReadsDefinition, IsCutShort, StopsBefore, ReadsSome, DefinitionSoFar}
+use Rattle.tm_session.proofs.Reading.{told_behind, texts_twice}
 
 texts_line : (bytes rest line : List ℕ) (size : ℕ) → cut_lines bytes ≡ record { text = line; size = size } ∷ cut_lines rest → lines_of bytes ≡ line ∷ lines_of rest
 texts_line bytes rest line size cut = ap (map (λ (l : CutLine). l.text)) cut
 
 pub reading_start : (told : Option (List ℕ)) → DefinitionSoFar told [] told false 262144
-reading_start (Some bytes) = record { cut = []; count = refl; served = none_served bytes; definition = refl; session = refl }
+reading_start (Some bytes) = record { cut = []; lines = refl; served = none_served bytes; definition = refl; session = λ more. refl }
 reading_start None = refl
 
 choose : {A : Type 0} (b : Bool) (x y : A) → b ≡ true → (if b then x else y) ≡ x
@@ -28,10 +29,9 @@ other : {A : Type 0} (b : Bool) (x y : A) → b ≡ false → (if b then x else 
 other true x y e = cc
 other false x y e = refl
 
-one_cut : (cut : List CutLine) (texts : List (List ℕ)) (line : List ℕ) (size : ℕ) → length cut ≡ length texts
-    → length (cut ++ record { text = line; size = size } ∷ []) ≡ length (texts ++ line ∷ [])
-one_cut cut texts line size count =
-    length-append cut (record { text = line; size = size } ∷ []) ∙ ap (λ n. n + 1) count ∙ sym (length-append texts (line ∷ []))
+one_cut : (cut : List CutLine) (texts : List (List ℕ)) (line : List ℕ) (size : ℕ) → texts_of cut ≡ texts
+    → texts_of (cut ++ record { text = line; size = size } ∷ []) ≡ texts ++ line ∷ []
+one_cut cut texts line size same = texts_twice cut (record { text = line; size = size } ∷ []) ∙ ap (λ ts. ts ++ line ∷ []) same
 
 pub reading_next : (told now after : Option (List ℕ)) (texts : List (List ℕ)) (line : List ℕ) (inside : Bool) (room : ℕ) → DefinitionSoFar told texts now inside room
     → ServesTold now (Some line) after → ends_definition inside room line ≡ false
@@ -40,13 +40,13 @@ reading_next (Some bytes) (Some rest) (Some behind) texts line inside room far s
     let cut : lines_of rest ≡ line ∷ lines_of behind = texts_line rest behind line (line_size rest) serves.lines in
     record {
       cut = far.cut ++ record { text = line; size = line_size rest } ∷ [];
-      count = one_cut far.cut texts line (line_size rest) far.count;
+      lines = one_cut far.cut texts line (line_size rest) far.lines;
       served = one_served bytes far.cut rest line behind far.served serves;
       definition = far.definition ∙ ap (λ ls. texts ++ definition_from inside room ls) cut
           ∙ ap (λ ls. texts ++ line ∷ ls) (other (ends_definition inside room line) [] (definition_from (stays_inside inside line) (room - (length line + 1)) (lines_of behind)) goes)
           ∙ sym (append_assoc texts (line ∷ []) (definition_from (stays_inside inside line) (room - (length line + 1)) (lines_of behind)));
-      session = far.session ∙ ap (session_from inside room) cut
-          ∙ other (ends_definition inside room line) (lines_of behind) (session_from (stays_inside inside line) (room - (length line + 1)) (lines_of behind)) goes;
+      session = λ more. ap session_lines (append_assoc texts (line ∷ []) more) ∙ far.session (line ∷ more)
+          ∙ other (ends_definition inside room line) more (session_from (stays_inside inside line) (room - (length line + 1)) more) goes;
     }
 reading_next (Some bytes) (Some rest) None texts line inside room far serves goes = absurd serves
 reading_next (Some bytes) None after texts line inside room far serves goes = absurd far
@@ -59,12 +59,12 @@ reading_ends (Some bytes) (Some rest) (Some behind) texts line inside room far s
     let cut : lines_of rest ≡ line ∷ lines_of behind = texts_line rest behind line (line_size rest) serves.lines in
     record {
       cut = far.cut ++ record { text = line; size = line_size rest } ∷ [];
-      count = one_cut far.cut texts line (line_size rest) far.count;
+      lines = one_cut far.cut texts line (line_size rest) far.lines;
       served = one_served bytes far.cut rest line behind far.served serves;
       definition = far.definition ∙ ap (λ ls. texts ++ definition_from inside room ls) cut
           ∙ ap (λ ls. texts ++ line ∷ ls) (choose (ends_definition inside room line) [] (definition_from (stays_inside inside line) (room - (length line + 1)) (lines_of behind)) ends);
-      session = far.session ∙ ap (session_from inside room) cut
-          ∙ choose (ends_definition inside room line) (lines_of behind) (session_from (stays_inside inside line) (room - (length line + 1)) (lines_of behind)) ends;
+      session = inl (λ more. ap session_lines (append_assoc texts (line ∷ []) more) ∙ far.session (line ∷ more)
+          ∙ choose (ends_definition inside room line) more (session_from (stays_inside inside line) (room - (length line + 1)) more) ends);
     }
 reading_ends (Some bytes) (Some rest) None texts line inside room far serves ends = absurd serves
 reading_ends (Some bytes) None after texts line inside room far serves ends = absurd far
@@ -84,15 +84,19 @@ pub reading_none : (told now after : Option (List ℕ)) (texts : List (List ℕ)
 reading_none (Some bytes) (Some rest) (Some behind) texts inside room far serves =
     record {
       cut = far.cut;
-      count = far.count;
+      lines = far.lines;
       served = subst (HasServed bytes far.cut) (serves.0 ∙ sym serves.1) far.served;
       definition = far.definition ∙ ap (λ ls. texts ++ definition_from inside room ls) (no_lines rest serves.0) ∙ append-nil texts;
-      session = far.session ∙ ap (session_from inside room) (no_lines rest serves.0) ∙ sym (no_lines behind serves.1);
+      session = inr (serves.1, ap session_lines (sym (append-nil texts)) ∙ far.session []);
     }
 reading_none (Some bytes) (Some rest) None texts inside room far serves = absurd serves
 reading_none (Some bytes) None after texts inside room far serves = absurd far
 reading_none None None after texts inside room far serves = serves
 reading_none None (Some rest) after texts inside room far serves = cc
+
+length_texts : (cut : List CutLine) → length (texts_of cut) ≡ length cut
+length_texts [] = refl
+length_texts (line ∷ cut) = ap suc (length_texts cut)
 
 cut_short : (bytes rest : List ℕ) (texts : List (List ℕ)) (inside : Bool) (room : ℕ) → ReadsSome bytes texts rest inside room → IsTooLong rest → IsCutShort bytes
 cut_short bytes rest texts inside room far long =
@@ -100,14 +104,25 @@ cut_short bytes rest texts inside room far long =
     let all : length (definition_lines (lines_of bytes)) ≡ length texts + length (definition_from inside room (lines_of rest)) =
     ap length far.definition ∙ length-append texts (definition_from inside room (lines_of rest)) in
     let more : 1 ≤ length (definition_from inside room (lines_of rest)) = rw next (omega arith) in
-    record { cut = far.cut; rest = rest; served = far.served; within = omega (arith, far.count); long = long }
+    record { cut = far.cut; rest = rest; served = far.served; within = omega (arith, sym (ap length far.lines) ∙ length_texts far.cut); long = long }
 
--- a line of it is too long
-pub reading_long : (told now : Option (List ℕ)) (texts : List (List ℕ)) (inside : Bool) (room : ℕ) → DefinitionSoFar told texts now inside room → IfSome now IsTooLong
-    → StopsBefore (Limit 4097) told
-reading_long (Some bytes) (Some rest) texts inside room far long = (refl, cut_short bytes rest texts inside room far long)
-reading_long (Some bytes) None texts inside room far long = absurd far
-reading_long None now texts inside room far long = (refl, tt)
+long_limit : (n : ℕ) (told now : Option (List ℕ)) (texts : List (List ℕ)) (inside : Bool) (room : ℕ) → DefinitionSoFar told texts now inside room → n ≡ 4097 → IfSome now IsTooLong
+    → StopsBefore (Limit n) told
+long_limit n (Some bytes) (Some rest) texts inside room far number long = (number, cut_short bytes rest texts inside room far long)
+long_limit n (Some bytes) None texts inside room far number long = absurd far
+long_limit n None now texts inside room far number long = (number, tt)
+
+-- it wasn't read to its end
+pub reading_stops : (ended : Ended) (told now : Option (List ℕ)) (texts : List (List ℕ)) (inside : Bool) (room : ℕ) (held : List ℕ) (r r' : ℕ) → DefinitionSoFar told texts now inside room
+    → IsUnread ended now held r r' → StopsBefore ended told
+reading_stops Read told now texts inside room held r r' far h = tt
+reading_stops Memory told now texts inside room held r r' far h = tt
+reading_stops (Limit n) told now texts inside room held r r' far h = long_limit n told now texts inside room far h.0 h.1
+reading_stops Done told now texts inside room held r r' far h = absurd h
+reading_stops Write told now texts inside room held r r' far h = absurd h
+reading_stops (Words word rule) told now texts inside room held r r' far h = absurd h
+reading_stops (BadLine line rule) told now texts inside room held r r' far h = absurd h
+reading_stops (BadCross line rule) told now texts inside room held r r' far h = absurd h
 
 -- ---- a definition and a session
 
@@ -120,14 +135,50 @@ served_twice bytes mid rest a b first second = record {
   cut = first.cut ∙ ap (λ ls. a ++ ls) second.cut ∙ sym (append_assoc a b (cut_lines rest));
 }
 
-pub whole_read : (ended : Ended) (told mid : Option (List ℕ)) (texts : List (List ℕ)) (blocks others : List Block)
-    → ReadsDefinition told texts mid → ReadsTold (length texts) mid blocks others ended → HasReadTold told blocks others ended
-whole_read ended (Some bytes) (Some behind) texts blocks others first second = record {
-  cut = first.cut ++ second.cut;
-  rest = second.rest;
-  served = served_twice bytes behind second.rest first.cut second.cut first.served second.served;
-  all = ap blocks_of first.session ∙ second.all;
-  end = subst (λ n. EndsBefore ended n second.rest others) (ap (λ n. n + length second.cut) (sym first.count) ∙ sym (length-append first.cut second.cut)) second.end;
-}
-whole_read ended (Some bytes) None texts blocks others first second = absurd first
-whole_read ended None mid texts blocks others first second = tt
+-- nothing is cut from no bytes
+none_cut : (behind rest : List ℕ) (cut : List CutLine) → behind ≡ [] → HasServed behind cut rest → cut ≡ []
+none_cut behind rest [] none served = refl
+none_cut behind rest (line ∷ cut) none served =
+    let empty : cut_lines behind ≡ [] = ap cut_lines none ∙ cut_none in
+    let never : line ∷ (cut ++ cut_lines rest) ≡ [] = sym served.cut ∙ empty in
+    cc
+
+-- the session's lines are those that were read behind the definition
+session_read : (texts : List (List ℕ)) (behind rest : List ℕ) (first second : List CutLine) → texts_of first ≡ texts → HasServed behind second rest
+    → ((more : List (List ℕ)) → session_lines (texts ++ more) ≡ more) ⊎ ((behind ≡ []) × (session_lines texts ≡ []))
+    → session_lines (texts_of (first ++ second)) ≡ texts_of second
+session_read texts behind rest first second same served (inl all) =
+    ap session_lines (texts_twice first second ∙ ap (λ ts. ts ++ texts_of second) same) ∙ all (texts_of second)
+session_read texts behind rest first second same served (inr (none, nothing)) =
+    let no_cut : second ≡ [] = none_cut behind rest second none served in
+    ap (λ more. session_lines (texts_of (first ++ more))) no_cut ∙ ap (λ cut. session_lines (texts_of cut)) (append-nil first) ∙ ap session_lines same ∙ nothing
+    ∙ ap texts_of (sym no_cut)
+
+read_all : (ended : Ended) (bytes behind held left : List ℕ) (texts : List (List ℕ)) (blocks others : List Block)
+    → ReadsLines bytes texts behind → ReadsSession (length texts) behind (held ++ left) blocks others ended → HasRead bytes left blocks others ended
+read_all ended bytes behind held left texts blocks others first second =
+    let back = told_behind (may_pass ended) second.rest (Some (held ++ left)) second.behind in
+    let front : List ℕ = back.0 in
+    let same : second.rest ≡ (front ++ held) ++ left = back.1 ∙ sym (append_assoc front held left) in
+    let served : HasServed bytes (first.cut ++ second.cut) second.rest = served_twice bytes behind second.rest first.cut second.cut first.served second.served in
+    let count : length (first.cut ++ second.cut) ≡ length texts + length second.cut =
+    length-append first.cut second.cut ∙ ap (λ n. n + length second.cut) (sym (length_texts first.cut) ∙ ap length first.lines) in
+    let lines : session_lines (texts_of (first.cut ++ second.cut)) ≡ texts_of second.cut = session_read texts behind second.rest first.cut second.cut first.lines second.served first.session in
+    record {
+      cut = first.cut ++ second.cut;
+      held = front ++ held;
+      served = subst (HasServed bytes (first.cut ++ second.cut)) same served;
+      few = rw count second.few;
+      settled = subst (λ rest. AreSettled (ending_of ended) (session_lines (texts_of (first.cut ++ second.cut))) rest blocks others) same
+          (subst (λ ls. AreSettled (ending_of ended) ls second.rest blocks others) (sym lines) second.settled);
+      limit = subst (λ rest. IsAtLimit ended (length (first.cut ++ second.cut)) rest) same (subst (λ n. IsAtLimit ended n second.rest) (sym count) second.limit);
+    }
+
+pub whole_session : (ended : Ended) (told mid : Option (List ℕ)) (held : List ℕ) (left : Option (List ℕ)) (texts : List (List ℕ)) (blocks others : List Block)
+    → ReadsDefinition told texts mid → ReadsTold (length texts) mid (unread held left) blocks others ended → HasReadTold told left blocks others ended
+whole_session ended (Some bytes) (Some behind) held (Some left) texts blocks others first second = read_all ended bytes behind held left texts blocks others first second
+whole_session ended (Some bytes) (Some behind) held None texts blocks others first second = absurd second
+whole_session ended (Some bytes) None held left texts blocks others first second = absurd first
+whole_session ended None (Some behind) held left texts blocks others first second = cc
+whole_session ended None None held (Some left) texts blocks others first second = cc
+whole_session ended None None held None texts blocks others first second = refl

@@ -1,297 +1,347 @@
--- Lines that are read, and the blocks that lie ahead.
-use Rattle.std.proofs.Common.{◌≡◌, ◌≢◌, ℕ, ◌+◌, ◌≤◌, ◌<◌, List, [], ◌∷◌, ◌++◌, length, map, sym, ◌∙◌, ap, subst, refl, arith, append_assoc, length-append, inl, inr}
+-- Lines that are read, what was served of them, and how a session ends.
+use Rattle.std.proofs.Common.{◌≡◌, ◌≢◌, ◌⊎◌, ℕ, ◌+◌, ◌≤◌, ◌<◌, Bool, true, false, List, [], ◌∷◌, ◌++◌, length, sym, ◌∙◌, ap, subst, refl, arith, append_assoc, length-append, inl, inr}
+use Rattle.std.proofs.lemmas.List.{append-nil}
 use Rattle.std.specs.Prelude.{Option, Some, None, IfSome, MatchOption}
 use Rattle.model_machine.specs.History.{ControlState}
-use Rattle.model_session.specs.Blocks.{Block, blocks_of, blocks_behind}
-use Rattle.tm_edge.specs.Lines.{CutLine, HasServed, IsTooLong, ServesTold, cut_lines, lines_of, line_size}
+use Rattle.model_session.specs.Blocks.{Block, blocks_of, blocks_behind, closed}
+use Rattle.tm_edge.specs.Fault.{HasRisen}
+use Rattle.tm_edge.specs.Lines.{CutLine, IsTooLong, ServesTold, line_size}
 use Rattle.tm_edge.proofs.ServedSoFar.{none_served, one_served}
 use Rattle.tm_session.specs.declared.outcome.Ended.{Ended}
 use Rattle.tm_session.specs.declared.outcome.Ended.TheVariants.{Done, Words, BadLine, BadCross, Read, Write, Memory, Limit}
-use Rattle.tm_session.specs.Outcome.{IsLimit, AreAhead, EndsBefore}
-use Rattle.tm_session.specs.Driving.{Serves, Stops, Goes, Ends, Splits, SplitsLast, Steps, StopsHere, StopsLast, EndsThere, EndsLast, ReadSoFar, SoFar, ReadsSession, ReadsTold, HasDriven, IsOpen, IsFailure, FailsAt, ahead_with, blocks_ahead}
-use Rattle.tm_session.proofs.Driven.{serves_none, serves_twice, serves_stops, stops_none, stops_served}
+use Rattle.tm_session.specs.Outcome.{ending_of, texts_of, AreSettled, IsLimit, IsAtLimit, IsBack, IsReadToEnd, HasCause}
+use Rattle.tm_session.specs.Outcome.Ending.{Stopped, NotBegun}
+use Rattle.tm_session.specs.Opening.{IsUnread}
+use Rattle.tm_session.specs.Driving.{Stops, Goes, Ends, EndsWhole, IsBroken, AreClosed, ahead_with, kept_blocks, may_pass, IsBehind, behind_last, StopsBetween, StopsAt, StopsWhole, StopsLast, StopsHere, Steps, ReadSoFar, SoFar, ReadsTold, HasDriven}
+use Rattle.tm_session.proofs.Driven.{serves_none, serves_twice, serves_stops, stops_none}
+use Rattle.tm_session.proofs.Steps.{open_last}
+use Rattle.tm_session.proofs.Taking.{back_same, back_served}
 
 -- ---- one line
 
-splits_line : (told told' : Option (List ℕ)) (pending after : Option Block) (line : List ℕ) (blocks : List Block) → ServesTold told (Some line) told'
-    → ((behind : List Block) → ahead_with pending line behind ≡ blocks ++ blocks_behind after behind) → Splits told pending blocks told' after
-splits_line (Some bytes) (Some rest) pending after line blocks serves split =
-    ap (λ cut. blocks_behind pending (blocks_of (map (λ (l : CutLine). l.text) cut))) serves.lines ∙ split (blocks_of (lines_of rest))
-splits_line (Some bytes) None pending after line blocks serves split = serves
-splits_line None told' pending after line blocks serves split = serves
-
-pub steps_line : (told told' : Option (List ℕ)) (pending after : Option Block) (line : List ℕ) (w w' : Option (List ℕ)) (a b : ControlState)
-    → ServesTold told (Some line) told' → Goes (ahead_with pending line) (blocks_behind after) w w' a b → Steps told told' pending after w w' a b
-steps_line told told' pending after line w w' a b serves goes =
-    record { line = line; read = serves; blocks = goes.blocks; split = splits_line told told' pending after line goes.blocks serves goes.split; serves = goes.serves }
-
-there_failure : (ended : Ended) (told : Option (List ℕ)) (pending : Option Block) (others : List Block) → IsFailure ended → EndsThere ended told pending others
-there_failure Write told pending others h = tt
-there_failure Memory told pending others h = tt
-there_failure Done told pending others h = absurd h
-there_failure Read told pending others h = absurd h
-there_failure (Limit n) told pending others h = absurd h
-there_failure (Words word rule) told pending others h = absurd h
-there_failure (BadLine line rule) told pending others h = absurd h
-there_failure (BadCross line rule) told pending others h = absurd h
-
-pub stops_line : (ended : Ended) (told told' : Option (List ℕ)) (pending : Option Block) (line : List ℕ) (w w' : Option (List ℕ)) (a b : ControlState)
-    → ServesTold told (Some line) told' → Ends ended (ahead_with pending line) w w' a b → StopsHere ended told pending w w' a b
-stops_line ended (Some bytes) (Some rest) pending line w w' a b serves ends = record {
-  blocks = ends.blocks;
-  others = ends.others (blocks_of (lines_of rest));
-  split = ap (λ cut. blocks_behind pending (blocks_of (map (λ (l : CutLine). l.text) cut))) serves.lines ∙ ends.split (blocks_of (lines_of rest));
-  stops = ends.stops (blocks_of (lines_of rest));
-  end = there_failure ended (Some bytes) pending (ends.others (blocks_of (lines_of rest))) ends.failure;
-}
-stops_line ended (Some bytes) None pending line w w' a b serves ends = absurd serves
-stops_line ended None told' pending line w w' a b serves ends =
-    record { blocks = ends.blocks; others = ends.others []; split = tt; stops = ends.stops []; end = there_failure ended None pending (ends.others []) ends.failure }
-
 pub next_step : (result : Option Ended) (told told' : Option (List ℕ)) (pending after : Option Block) (line : List ℕ) (w w' : Option (List ℕ)) (a b : ControlState)
     → ServesTold told (Some line) told'
-    → MatchOption result (Goes (ahead_with pending line) (blocks_behind after) w w' a b) (λ ended. Ends ended (ahead_with pending line) w w' a b)
-    → MatchOption result (Steps told told' pending after w w' a b) (λ ended. StopsHere ended told pending w w' a b)
-next_step None told told' pending after line w w' a b serves step = steps_line told told' pending after line w w' a b serves step
-next_step (Some ended) told told' pending after line w w' a b serves step = stops_line ended told told' pending line w w' a b serves step
+    → MatchOption result (Goes pending line after w w' a b) (λ ended. Ends ended pending line w w' a b)
+    → MatchOption result (Steps told told' pending after w w' a b) (λ ended. (count : ℕ) → count < 1000000 → StopsHere count ended told told' pending w w' a b)
+next_step None told told' pending after line w w' a b serves step = record { line = line; read = serves; goes = step }
+next_step (Some ended) told told' pending after line w w' a b serves step = λ count below. inr (record { line = line; read = serves; ends = step })
+
+pub stops_whole : (ended : Ended) (told told' : Option (List ℕ)) (pending : Option Block) (w w' : Option (List ℕ)) (a b : ControlState)
+    → ServesTold told None told' → EndsWhole ended pending w w' a b → (count : ℕ) → StopsLast count ended told told' pending w w' a b
+stops_whole ended told told' pending w w' a b serves ends count = inr (record { read = serves; ends = ends })
 
 -- ---- no line
 
-cut_none : cut_lines [] ≡ []
-unfolding cut_lines
-cut_none = refl
+none_at : (told : Option (List ℕ)) → IfSome told (λ rest. Unit {0})
+none_at (Some rest) = tt
+none_at None = tt
 
-ahead_none : (pending : Option Block) → blocks_ahead pending [] ≡ blocks_behind pending []
-ahead_none pending = ap (λ cut. blocks_behind pending (blocks_of (map (λ (l : CutLine). l.text) cut))) cut_none
+too_long_at : (n count : ℕ) (told : Option (List ℕ)) → n ≡ 4097 → count < 1000000 → IfSome told IsTooLong → IfSome told (λ rest. IsLimit n count rest)
+too_long_at n count (Some rest) number below long = inl (number, below, long)
+too_long_at n count None number below long = tt
 
--- at the end of the source the line that was kept is served
-pub end_plain : (w : Option (List ℕ)) (a : ControlState) → StopsHere Done (Some []) None w w a a
-end_plain w a = record { blocks = []; others = []; split = ahead_none None; stops = stops_none Done [] w a; end = (refl, refl) }
-
-pub end_served : (block : Block) (w w' : Option (List ℕ)) (a b : ControlState) → Serves (block ∷ []) w w' a b → StopsHere Done (Some []) (Some block) w w' a b
-end_served block w w' a b one = record { blocks = block ∷ []; others = []; split = ahead_none (Some block); stops = stops_served block w w' a b one; end = (refl, refl) }
-
-pub end_failed : (ended : Ended) (block : Block) (w w' : Option (List ℕ)) (a b : ControlState) → ((others : List Block) → FailsAt ended block others w w' a b)
-    → StopsHere ended (Some []) (Some block) w w' a b
-end_failed Write block w w' a b fails = record { blocks = block ∷ []; others = []; split = ahead_none (Some block); stops = fails []; end = tt }
-end_failed Memory block w w' a b fails = record { blocks = []; others = block ∷ []; split = ahead_none (Some block); stops = fails []; end = tt }
-end_failed Done block w w' a b fails = absurd (fails [])
-end_failed Read block w w' a b fails = absurd (fails [])
-end_failed (Limit n) block w w' a b fails = absurd (fails [])
-end_failed (Words word rule) block w w' a b fails = absurd (fails [])
-end_failed (BadLine line rule) block w w' a b fails = absurd (fails [])
-end_failed (BadCross line rule) block w w' a b fails = absurd (fails [])
-
-untold_there : (ended : Ended) (bytes : List ℕ) (pending : Option Block) (others : List Block) → EndsThere ended (Some bytes) pending others → EndsThere ended None pending others
-untold_there Done bytes pending others h = (tt, h.1)
-untold_there (Limit n) bytes pending others h = (h.0, tt)
-untold_there Write bytes pending others h = tt
-untold_there Memory bytes pending others h = tt
-untold_there Read bytes pending others h = tt
-untold_there (Words word rule) bytes pending others h = h
-untold_there (BadLine line rule) bytes pending others h = h
-untold_there (BadCross line rule) bytes pending others h = h
-
-pub stops_end : (ended : Ended) (told told' : Option (List ℕ)) (pending : Option Block) (w w' : Option (List ℕ)) (a b : ControlState)
-    → ServesTold told None told' → StopsHere ended (Some []) pending w w' a b → StopsHere ended told pending w w' a b
-stops_end ended (Some bytes) (Some rest) pending w w' a b serves stops = subst (λ bs. StopsHere ended (Some bs) pending w w' a b) (sym serves.0) stops
-stops_end ended (Some bytes) None pending w w' a b serves stops = absurd serves
-stops_end ended None told' pending w w' a b serves stops =
-    record { blocks = stops.blocks; others = stops.others; split = tt; stops = stops.stops; end = untold_there ended [] pending stops.others stops.end }
-
--- the reader failed: all that was ahead was not served
-not_served : (told : Option (List ℕ)) (pending : Option Block) → List Block
-not_served (Some bytes) pending = blocks_ahead pending bytes
-not_served None pending = []
-
-none_split : (told : Option (List ℕ)) (pending : Option Block) → SplitsLast told pending [] (not_served told pending)
-unfolding not_served
-none_split (Some bytes) pending = refl
-none_split None pending = tt
-
-pub stops_read : (told : Option (List ℕ)) (pending : Option Block) (w : Option (List ℕ)) (a : ControlState) → StopsHere Read told pending w w a a
-stops_read told pending w a = record { blocks = []; others = not_served told pending; split = none_split told pending; stops = stops_none Read (not_served told pending) w a; end = tt }
-
-pub stops_memory : (told : Option (List ℕ)) (pending : Option Block) (w : Option (List ℕ)) (a : ControlState) → StopsHere Memory told pending w w a a
-stops_memory told pending w a = record { blocks = []; others = not_served told pending; split = none_split told pending; stops = stops_none Memory (not_served told pending) w a; end = tt }
-
-too_long : (told : Option (List ℕ)) (pending : Option Block) → IfSome told IsTooLong → IfSome told (λ bytes. IsTooLong bytes × (not_served told pending ≡ blocks_ahead pending bytes))
-unfolding not_served
-too_long (Some bytes) pending h = (h, refl)
-too_long None pending h = tt
-
-pub stops_limit : (told : Option (List ℕ)) (pending : Option Block) (w : Option (List ℕ)) (a : ControlState) → IfSome told IsTooLong → StopsHere (Limit 4097) told pending w w a a
-stops_limit told pending w a long =
-    record { blocks = []; others = not_served told pending; split = none_split told pending; stops = stops_none (Limit 4097) (not_served told pending) w a; end = (refl, too_long told pending long) }
-
-pub ruleset reader_steps = (stops_read, stops_memory, stops_limit)
-
--- ---- behind the last line that there may be
-
-last_by : (ended : Ended) (pending : Option Block) (others : List Block) → IsFailure ended → (told : Option (List ℕ)) → EndsLast ended told pending others
-last_by Write pending others h told = tt
-last_by Memory pending others h told = tt
-last_by Done pending others h told = absurd h
-last_by Read pending others h told = absurd h
-last_by (Limit n) pending others h told = absurd h
-last_by (Words word rule) pending others h told = absurd h
-last_by (BadLine line rule) pending others h told = absurd h
-last_by (BadCross line rule) pending others h told = absurd h
-
--- at the end of the source no limit is met
-end_last : (ended : Ended) (pending : Option Block) (others : List Block) (told : Option (List ℕ)) → IfSome told (λ bytes. bytes ≡ []) → EndsThere ended (Some []) pending others
-    → EndsLast ended told pending others
-end_last Done pending others told none h = (none, h.1)
-end_last Write pending others told none h = tt
-end_last Memory pending others told none h = tt
-end_last Read pending others told none h = tt
-end_last (Limit n) pending others told none h = absurd (omega (arith, h.1.0))
-end_last (Words word rule) pending others told none h = h
-end_last (BadLine line rule) pending others told none h = h
-end_last (BadCross line rule) pending others told none h = h
-
-pub last_end : (ended : Ended) (told told' : Option (List ℕ)) (pending : Option Block) (w w' : Option (List ℕ)) (a b : ControlState)
-    → ServesTold told None told' → StopsHere ended (Some []) pending w w' a b → StopsLast ended told pending w w' a b
-last_end ended (Some bytes) (Some rest) pending w w' a b serves stops = record {
-  blocks = stops.blocks;
-  others = stops.others;
-  split = ap (blocks_ahead pending) serves.0 ∙ stops.split;
-  stops = stops.stops;
-  end = end_last ended pending stops.others (Some bytes) serves.0 stops.end;
-}
-last_end ended (Some bytes) None pending w w' a b serves stops = absurd serves
-last_end ended None told' pending w w' a b serves stops =
-    record { blocks = stops.blocks; others = stops.others; split = tt; stops = stops.stops; end = end_last ended pending stops.others None tt stops.end }
-
-pub last_read : (told : Option (List ℕ)) (pending : Option Block) (w : Option (List ℕ)) (a : ControlState) → StopsLast Read told pending w w a a
-last_read told pending w a = record { blocks = []; others = not_served told pending; split = none_split told pending; stops = stops_none Read (not_served told pending) w a; end = tt }
-
-pub last_memory : (told : Option (List ℕ)) (pending : Option Block) (w : Option (List ℕ)) (a : ControlState) → StopsLast Memory told pending w w a a
-last_memory told pending w a = record { blocks = []; others = not_served told pending; split = none_split told pending; stops = stops_none Memory (not_served told pending) w a; end = tt }
-
-more_there : (told : Option (List ℕ)) (pending : Option Block) → IfSome told (λ bytes. bytes ≢ []) → IfSome told (λ bytes. (bytes ≢ []) × (not_served told pending ≡ blocks_ahead pending bytes))
-unfolding not_served
-more_there (Some bytes) pending h = (h, refl)
-more_there None pending h = tt
-
-pub last_limit : (told : Option (List ℕ)) (pending : Option Block) (w : Option (List ℕ)) (a : ControlState) → IfSome told (λ bytes. bytes ≢ []) → StopsLast (Limit 1000001) told pending w w a a
-last_limit told pending w a more =
-    record { blocks = []; others = not_served told pending; split = none_split told pending; stops = stops_none (Limit 1000001) (not_served told pending) w a; end = (refl, more_there told pending more) }
+pub unread_between : (ended : Ended) (told told' : Option (List ℕ)) (held : List ℕ) (r r' : ℕ) (w : Option (List ℕ)) (a : ControlState)
+    → told' ≡ told → IsUnread ended told held r r' → (count : ℕ) → count < 1000000 → StopsBetween count ended told told' w w a a
+unread_between Read told told' held r r' w a same h count below = record { stopped = inl refl; behind = same; limit = none_at told; printed = refl; same = refl }
+unread_between Memory told told' held r r' w a same h count below = record { stopped = inr refl; behind = same; limit = none_at told; printed = refl; same = refl }
+unread_between (Limit n) told told' held r r' w a same h count below =
+    record { stopped = inl refl; behind = back_same told told' same; limit = too_long_at n count told h.0 below h.1; printed = refl; same = refl }
+unread_between Done told told' held r r' w a same h count below = absurd h
+unread_between Write told told' held r r' w a same h count below = absurd h
+unread_between (Words word rule) told told' held r r' w a same h count below = absurd h
+unread_between (BadLine line rule) told told' held r r' w a same h count below = absurd h
+unread_between (BadCross line rule) told told' held r r' w a same h count below = absurd h
 
 some_bytes : (bytes : List ℕ) → 0 < length bytes → bytes ≢ []
 some_bytes [] h = absurd (omega (arith, h))
 some_bytes (b ∷ bytes) h = λ e. cc
 
-pub line_there : (told told' : Option (List ℕ)) (line : List ℕ) → ServesTold told (Some line) told' → IfSome told (λ bytes. bytes ≢ [])
-line_there (Some bytes) (Some rest) line serves = some_bytes bytes serves.some
-line_there (Some bytes) None line serves = absurd serves
-line_there None told' line serves = tt
-
 long_bytes : (bytes : List ℕ) → IsTooLong bytes → bytes ≢ []
 long_bytes [] long = absurd (omega (arith, long))
 long_bytes (b ∷ bytes) long = λ e. cc
 
-pub long_there : (told : Option (List ℕ)) → IfSome told IsTooLong → IfSome told (λ bytes. bytes ≢ [])
-long_there (Some bytes) long = long_bytes bytes long
-long_there None long = tt
+past_at : (told : Option (List ℕ)) → IfSome told IsTooLong → IfSome told (λ rest. IsLimit 1000001 1000000 rest)
+past_at (Some rest) long = inr (refl, refl, long_bytes rest long)
+past_at None long = tt
 
-pub ruleset last_steps = (last_read, last_memory, last_limit, long_there)
+line_at : (told told' : Option (List ℕ)) (line : List ℕ) → ServesTold told (Some line) told' → IfSome told (λ rest. IsLimit 1000001 1000000 rest)
+line_at (Some rest) (Some behind) line serves = inr (refl, refl, some_bytes rest serves.some)
+line_at (Some rest) None line serves = absurd serves
+line_at None told' line serves = tt
+
+-- behind the last line that there may be
+pub last_between : (ended : Ended) (told told' : Option (List ℕ)) (held : List ℕ) (r r' : ℕ) (w : Option (List ℕ)) (a : ControlState)
+    → told' ≡ told → IsUnread ended told held r r' → StopsBetween 1000000 (behind_last ended) told told' w w a a
+last_between Read told told' held r r' w a same h = record { stopped = inl refl; behind = same; limit = none_at told; printed = refl; same = refl }
+last_between Memory told told' held r r' w a same h = record { stopped = inr refl; behind = same; limit = none_at told; printed = refl; same = refl }
+last_between (Limit n) told told' held r r' w a same h =
+    record { stopped = inl refl; behind = back_same told told' same; limit = past_at told h.1; printed = refl; same = refl }
+last_between Done told told' held r r' w a same h = absurd h
+last_between Write told told' held r r' w a same h = absurd h
+last_between (Words word rule) told told' held r r' w a same h = absurd h
+last_between (BadLine line rule) told told' held r r' w a same h = absurd h
+last_between (BadCross line rule) told told' held r r' w a same h = absurd h
+
+pub past_between : (told told' : Option (List ℕ)) (line : List ℕ) (w : Option (List ℕ)) (a : ControlState)
+    → ServesTold told (Some line) told' → StopsBetween 1000000 (Limit 1000001) told told' w w a a
+past_between told told' line w a serves =
+    record { stopped = inl refl; behind = back_served told (Some line) told' serves; limit = line_at told told' line serves; printed = refl; same = refl }
+
+-- ---- causes
+
+pub unread_cause : (ended : Ended) (told : Option (List ℕ)) (held : List ℕ) (r r' w : ℕ) → IsUnread ended told held r r' → HasCause ended r r' w w
+unread_cause Read told held r r' w h = (h, refl)
+unread_cause Memory told held r r' w h = (h.1, refl)
+unread_cause (Limit n) told held r r' w h = (inl h.0, h.2, refl)
+unread_cause Done told held r r' w h = absurd h
+unread_cause Write told held r r' w h = absurd h
+unread_cause (Words word rule) told held r r' w h = absurd h
+unread_cause (BadLine line rule) told held r r' w h = absurd h
+unread_cause (BadCross line rule) told held r r' w h = absurd h
+
+pub last_cause : (ended : Ended) (told : Option (List ℕ)) (held : List ℕ) (r r' w : ℕ) → IsUnread ended told held r r' → HasCause (behind_last ended) r r' w w
+last_cause Read told held r r' w h = (h, refl)
+last_cause Memory told held r r' w h = (h.1, refl)
+last_cause (Limit n) told held r r' w h = (inr refl, h.2, refl)
+last_cause Done told held r r' w h = absurd h
+last_cause Write told held r r' w h = absurd h
+last_cause (Words word rule) told held r r' w h = absurd h
+last_cause (BadLine line rule) told held r r' w h = absurd h
+last_cause (BadCross line rule) told held r r' w h = absurd h
+
+pub last_whole : (ended : Ended) (told : Option (List ℕ)) (held : List ℕ) (r r' : ℕ) (left : Option (List ℕ)) → IsUnread ended told held r r' → IsReadToEnd (behind_last ended) left
+last_whole Read told held r r' left h = tt
+last_whole Memory told held r r' left h = tt
+last_whole (Limit n) told held r r' left h = tt
+last_whole Done told held r r' left h = absurd h
+last_whole Write told held r r' left h = absurd h
+last_whole (Words word rule) told held r r' left h = absurd h
+last_whole (BadLine line rule) told held r r' left h = absurd h
+last_whole (BadCross line rule) told held r r' left h = absurd h
+
+pub unread_whole : (ended : Ended) (told : Option (List ℕ)) (held : List ℕ) (r r' : ℕ) (left : Option (List ℕ)) → IsUnread ended told held r r' → IsReadToEnd ended left
+unread_whole Read told held r r' left h = tt
+unread_whole Memory told held r r' left h = tt
+unread_whole (Limit n) told held r r' left h = tt
+unread_whole Done told held r r' left h = absurd h
+unread_whole Write told held r r' left h = absurd h
+unread_whole (Words word rule) told held r r' left h = absurd h
+unread_whole (BadLine line rule) told held r r' left h = absurd h
+unread_whole (BadCross line rule) told held r r' left h = absurd h
+
+no_rise : HasRisen 0 0 → ⊥
+no_rise (inl less) = omega (arith, less)
+no_rise (inr full) = omega (arith, full)
+
+-- a cause that lies with the sink, where reading met no fault
+pub sink_cause : (ended : Ended) (r r' w w' : ℕ) → r' ≡ r → HasCause ended 0 0 w w' → HasCause ended r r' w w'
+sink_cause Read r r' w w' same h = absurd (no_rise h.0)
+sink_cause Write r r' w w' same h = (same, h.1)
+sink_cause (Limit n) r r' w w' same h = (h.0, same, h.2)
+sink_cause Memory r r' w w' same h = (same, h.1)
+sink_cause Done r r' w w' same h = (same, h.1)
+sink_cause (Words word rule) r r' w w' same h = (same, h.1)
+sink_cause (BadLine line rule) r r' w w' same h = (same, h.1)
+sink_cause (BadCross line rule) r r' w w' same h = (same, h.1)
+
+-- by the two ways to break off
+broken_cases : (P : Ended → Type 0) (ended : Ended) → IsBroken ended → P Write → P Memory → P ended
+broken_cases P ended (inl same) write memory = subst P (sym same) write
+broken_cases P ended (inr same) write memory = subst P (sym same) memory
+
+pub broken_whole : (ended : Ended) (left : Option (List ℕ)) → IsBroken ended → IsReadToEnd ended left
+broken_whole ended left broken = broken_cases (λ s. IsReadToEnd s left) ended broken tt tt
 
 -- ---- a session so far
 
-read_start : (before : ℕ) (told : Option (List ℕ)) → ReadSoFar before told before told
-read_start before (Some bytes) = ([], omega arith, none_served bytes)
+pub texts_twice : (cut more : List CutLine) → texts_of (cut ++ more) ≡ texts_of cut ++ texts_of more
+texts_twice [] more = refl
+texts_twice (line ∷ cut) more = ap (λ texts. line.text ∷ texts) (texts_twice cut more)
+
+read_start : (before : ℕ) (told : Option (List ℕ)) → ReadSoFar before before told told None []
+read_start before (Some bytes) = record { cut = []; counted = omega arith; served = none_served bytes; split = λ lines. refl }
 read_start before None = refl
 
-splits_start : (told : Option (List ℕ)) → Splits told None [] told None
-splits_start (Some bytes) = refl
-splits_start None = refl
-
 pub so_far_start : (before : ℕ) (told w : Option (List ℕ)) (a : ControlState) → SoFar before before told told None w w a a
-so_far_start before told w a = record { blocks = []; split = splits_start told; serves = serves_none w a; read = read_start before told; begun = tt }
+so_far_start before told w a = record { blocks = []; serves = serves_none w a; read = read_start before told; shut = refl }
 
-splits_twice : (first second third : Option (List ℕ)) (p q r : Option Block) (xs ys : List Block) → Splits first p xs second q → Splits second q ys third r → Splits first p (xs ++ ys) third r
-splits_twice (Some a) (Some b) (Some c) p q r xs ys h k = h ∙ ap (λ bs. xs ++ bs) k ∙ sym (append_assoc xs ys (blocks_ahead r c))
-splits_twice (Some a) (Some b) None p q r xs ys h k = absurd k
-splits_twice (Some a) None third p q r xs ys h k = absurd h
-splits_twice None (Some b) third p q r xs ys h k = cc
-splits_twice None None third p q r xs ys h k = k
+split_line : (cut : List CutLine) (line : List ℕ) (size : ℕ) (pending : Option Block) (blocks : List Block) (lines : List (List ℕ))
+    → ((more : List (List ℕ)) → blocks_of (texts_of cut ++ more) ≡ blocks ++ blocks_behind pending (blocks_of more))
+    → blocks_of (texts_of (cut ++ record { text = line; size = size } ∷ []) ++ lines) ≡ blocks ++ ahead_with pending line (blocks_of lines)
+split_line cut line size pending blocks lines split =
+    ap (λ texts. blocks_of (texts ++ lines)) (texts_twice cut (record { text = line; size = size } ∷ []))
+    ∙ ap blocks_of (append_assoc (texts_of cut) (line ∷ []) lines) ∙ split (line ∷ lines)
 
-read_next : (before count : ℕ) (told now after : Option (List ℕ)) (line : List ℕ) → ReadSoFar before told count now → ServesTold now (Some line) after → ReadSoFar before told (count + 1) after
-read_next before count (Some bytes) (Some rest) (Some after) line (cut, counted, served) serves = (
-  cut ++ record { text = line; size = line_size rest } ∷ [],
-  rw (length-append cut (record { text = line; size = line_size rest } ∷ [])) (omega arith),
-  one_served bytes cut rest line after served serves,
-)
-read_next before count (Some bytes) (Some rest) None line h serves = absurd serves
-read_next before count (Some bytes) None after line h serves = absurd h
-read_next before count None None after line h serves = serves
-read_next before count None (Some rest) after line h serves = cc
+read_next : (before count : ℕ) (told now after : Option (List ℕ)) (line : List ℕ) (p q : Option Block) (xs ys : List Block) → ReadSoFar before count told now p xs
+    → ServesTold now (Some line) after → ((behind : List Block) → ahead_with p line behind ≡ ys ++ blocks_behind q behind)
+    → ReadSoFar before (count + 1) told after q (xs ++ ys)
+read_next before count (Some bytes) (Some rest) (Some after) line p q xs ys far serves split = record {
+  cut = far.cut ++ record { text = line; size = line_size rest } ∷ [];
+  counted = rw (length-append far.cut (record { text = line; size = line_size rest } ∷ [])) (omega (arith, far.counted));
+  served = one_served bytes far.cut rest line after far.served serves;
+  split = λ lines. split_line far.cut line (line_size rest) p xs lines far.split ∙ ap (λ bs. xs ++ bs) (split (blocks_of lines)) ∙ sym (append_assoc xs ys (blocks_behind q (blocks_of lines)));
+}
+read_next before count (Some bytes) (Some rest) None line p q xs ys far serves split = absurd serves
+read_next before count (Some bytes) None after line p q xs ys far serves split = absurd far
+read_next before count None None after line p q xs ys far serves split = serves
+read_next before count None (Some rest) after line p q xs ys far serves split = cc
 
 pub so_far_next : (before count : ℕ) (told now after : Option (List ℕ)) (p q : Option Block) (w w1 w2 : Option (List ℕ)) (a b c : ControlState)
-    → SoFar before count told now p w w1 a b → Steps now after p q w1 w2 b c → IfSome q IsOpen → SoFar before (count + 1) told after q w w2 a c
-so_far_next before count told now after p q w w1 w2 a b c far one begun = record {
-  blocks = far.blocks ++ one.blocks;
-  split = splits_twice told now after None p q far.blocks one.blocks far.split one.split;
-  serves = serves_twice far.blocks one.blocks w w1 w2 a b c far.serves one.serves;
-  read = read_next before count told now after one.line far.read one.read;
-  begun = begun;
+    → SoFar before count told now p w w1 a b → Steps now after p q w1 w2 b c → SoFar before (count + 1) told after q w w2 a c
+so_far_next before count told now after p q w w1 w2 a b c far one = record {
+  blocks = far.blocks ++ one.goes.blocks;
+  serves = serves_twice far.blocks one.goes.blocks w w1 w2 a b c far.serves one.goes.serves;
+  read = read_next before count told now after one.line p q far.blocks one.goes.blocks far.read one.read one.goes.split;
+  shut = one.goes.shut far.blocks (λ passed. far.shut);
 }
 
 -- ---- how it ends
 
--- what the end says, from what it says where it comes
-ends_before : (ended : Ended) (count : ℕ) (rest : List ℕ) (pending : Option Block) (others : List Block) → count < 1000000 → IfSome pending IsOpen
-    → EndsThere ended (Some rest) pending others → EndsBefore ended count rest others
-ends_before Done count rest pending others below begun h = (omega arith, h.0, h.1)
-ends_before (Limit n) count rest pending others below begun h = (inl (h.0, below, h.1.0), (pending, begun, h.1.1))
-ends_before Read count rest pending others below begun h = tt
-ends_before Write count rest pending others below begun h = tt
-ends_before Memory count rest pending others below begun h = tt
-ends_before (Words word rule) count rest pending others below begun h = h
-ends_before (BadLine line rule) count rest pending others below begun h = h
-ends_before (BadCross line rule) count rest pending others below begun h = h
+-- all blocks of the lines that were read
+all_blocks : (cut : List CutLine) (pending : Option Block) (blocks : List Block)
+    → ((more : List (List ℕ)) → blocks_of (texts_of cut ++ more) ≡ blocks ++ blocks_behind pending (blocks_of more))
+    → blocks_of (texts_of cut) ≡ blocks ++ kept_blocks pending
+all_blocks cut pending blocks split = ap blocks_of (sym (append-nil (texts_of cut))) ∙ split []
 
-ends_last : (ended : Ended) (count : ℕ) (rest : List ℕ) (pending : Option Block) (others : List Block) → count ≡ 1000000 → IfSome pending IsOpen
-    → EndsLast ended (Some rest) pending others → EndsBefore ended count rest others
-ends_last Done count rest pending others last begun h = (omega arith, h.0, h.1)
-ends_last (Limit n) count rest pending others last begun h = (inr (h.0, last, h.1.0), (pending, begun, h.1.1))
-ends_last Read count rest pending others last begun h = tt
-ends_last Write count rest pending others last begun h = tt
-ends_last Memory count rest pending others last begun h = tt
-ends_last (Words word rule) count rest pending others last begun h = h
-ends_last (BadLine line rule) count rest pending others last begun h = h
-ends_last (BadCross line rule) count rest pending others last begun h = h
+-- just the closed ones were served
+closed_kept : (pending : Option Block) (blocks : List Block) → AreClosed pending blocks → closed (blocks ++ kept_blocks pending) ≡ blocks
+closed_kept (Some block) blocks takes = open_last blocks block takes
+closed_kept None blocks shut = ap closed (append-nil blocks) ∙ shut
 
-driven_read : (before count : ℕ) (told now : Option (List ℕ)) (pending : Option Block) (xs ys others : List Block) (ended : Ended)
-    → Splits told None xs now pending → SplitsLast now pending ys others → ReadSoFar before told count now
-    → ((rest : List ℕ) → now ≡ Some rest → EndsBefore ended count rest others) → ReadsTold before told (xs ++ ys) others ended
-driven_read before count (Some bytes) (Some rest) pending xs ys others ended split last (cut, counted, served) ends = record {
-  cut = cut;
+stopped_settled : (ended : Ended) (lines : List (List ℕ)) (rest : List ℕ) (blocks : List Block) → (ending_of ended ≡ Stopped) ⊎ (ended ≡ Memory)
+    → closed (blocks_of lines) ≡ blocks → AreSettled (ending_of ended) lines rest blocks []
+stopped_settled ended lines rest blocks (inl stopped) same = subst (λ k. AreSettled k lines rest blocks []) (sym stopped) (same, refl)
+stopped_settled ended lines rest blocks (inr memory) same = subst (λ s. AreSettled (ending_of s) lines rest blocks []) (sym memory) (inl (same ∙ sym (append-nil blocks)))
+
+stopped_begun : (ended : Ended) → (ending_of ended ≡ Stopped) ⊎ (ended ≡ Memory) → ending_of ended ≢ NotBegun
+stopped_begun ended (inl stopped) = λ e. let never : Stopped ≡ NotBegun = sym stopped ∙ e in cc
+stopped_begun ended (inr memory) = subst (λ s. ending_of s ≢ NotBegun) (sym memory) (λ e. cc)
+
+broken_begun : (ended : Ended) → IsBroken ended → ending_of ended ≢ NotBegun
+broken_begun ended broken = broken_cases (λ s. ending_of s ≢ NotBegun) ended broken (λ e. cc) (λ e. cc)
+
+pub told_behind : (past : Bool) (rest : List ℕ) (told' : Option (List ℕ)) → IsBehind past (Some rest) told' → IsBack (Some rest) told'
+told_behind true rest told' h = h
+told_behind false rest told' h = back_same (Some rest) told' h
+
+between_read : (before count : ℕ) (told now told' : Option (List ℕ)) (pending : Option Block) (w w' : Option (List ℕ)) (a b : ControlState) (blocks : List Block) (ended : Ended)
+    → ReadSoFar before count told now pending blocks → AreClosed pending blocks → count ≤ 1000000
+    → StopsBetween count ended now told' w w' a b → ReadsTold before told told' blocks [] ended
+between_read before count (Some bytes) (Some rest) (Some left) pending w w' a b blocks ended far shut few stops = record {
+  cut = far.cut;
   rest = rest;
-  served = served;
-  all = split ∙ ap (λ bs. xs ++ bs) last ∙ sym (append_assoc xs ys others);
-  end = subst (λ n. EndsBefore ended n rest others) (sym counted) (ends rest refl);
+  served = far.served;
+  few = omega (arith, far.counted);
+  settled = stopped_settled ended (texts_of far.cut) rest blocks stops.stopped (ap closed (all_blocks far.cut pending blocks far.split) ∙ closed_kept pending blocks shut);
+  limit = subst (λ n. IsAtLimit ended n rest) (sym far.counted) stops.limit;
+  behind = stops.behind;
 }
-driven_read before count (Some bytes) None pending xs ys others ended split last read ends = absurd read
-driven_read before count None now pending xs ys others ended split last read ends = tt
+between_read before count (Some bytes) (Some rest) None pending w w' a b blocks ended far shut few stops = absurd (told_behind (may_pass ended) rest None stops.behind)
+between_read before count (Some bytes) None told' pending w w' a b blocks ended far shut few stops = absurd far
+between_read before count None now told' pending w w' a b blocks ended far shut few stops = untold (may_pass ended) now told' far stops.behind
+  where
+    untold : (past : Bool) (now told' : Option (List ℕ)) → now ≡ None → IsBehind past now told' → told' ≡ None
+    untold true None told' none h = h
+    untold true (Some rest) told' none h = cc
+    untold false now told' none h = h ∙ none
 
-pub driven_here : (before count : ℕ) (told now : Option (List ℕ)) (pending : Option Block) (w w1 w2 : Option (List ℕ)) (a b c : ControlState) (ended : Ended)
-    → SoFar before count told now pending w w1 a b → count < 1000000 → StopsHere ended now pending w1 w2 b c → HasDriven before told w w2 a c ended
-driven_here before count told now pending w w1 w2 a b c ended far below stops = record {
-  blocks = far.blocks ++ stops.blocks;
-  others = stops.others;
-  stops = serves_stops ended far.blocks stops.blocks stops.others w w1 w2 a b c far.serves stops.stops;
-  read = driven_read before count told now pending far.blocks stops.blocks stops.others ended far.split stops.split far.read
-      (λ rest e. ends_before ended count rest pending stops.others below far.begun (subst (λ n. EndsThere ended n pending stops.others) e stops.end));
-}
+whole_settled : (ended : Ended) (lines : List (List ℕ)) (rest : List ℕ) (pending : Option Block) (served blocks others : List Block) → rest ≡ []
+    → blocks_of lines ≡ served ++ kept_blocks pending
+    → ((ended ≡ Done) × (kept_blocks pending ≡ blocks) × (others ≡ [])) ⊎ (IsBroken ended × (kept_blocks pending ≡ blocks ++ others))
+    → AreSettled (ending_of ended) lines rest (served ++ blocks) others
+whole_settled ended lines rest pending served blocks others none all (inl (done, kept, no_others)) =
+    subst (λ s. AreSettled (ending_of s) lines rest (served ++ blocks) others) (sym done) (none, all ∙ ap (λ bs. served ++ bs) kept, no_others)
+whole_settled ended lines rest pending served blocks others none all (inr (broken, kept)) =
+    let front : blocks_of lines ≡ (served ++ blocks) ++ others = all ∙ ap (λ bs. served ++ bs) kept ∙ sym (append_assoc served blocks others) in
+    broken_cases (λ s. AreSettled (ending_of s) lines rest (served ++ blocks) others) ended broken (inr (none, front)) (inr (none, front))
 
-pub driven_last : (before count : ℕ) (told now : Option (List ℕ)) (pending : Option Block) (w w1 w2 : Option (List ℕ)) (a b c : ControlState) (ended : Ended)
-    → SoFar before count told now pending w w1 a b → count ≡ 1000000 → StopsLast ended now pending w1 w2 b c → HasDriven before told w w2 a c ended
-driven_last before count told now pending w w1 w2 a b c ended far last stops = record {
-  blocks = far.blocks ++ stops.blocks;
-  others = stops.others;
-  stops = serves_stops ended far.blocks stops.blocks stops.others w w1 w2 a b c far.serves stops.stops;
-  read = driven_read before count told now pending far.blocks stops.blocks stops.others ended far.split stops.split far.read
-      (λ rest e. ends_last ended count rest pending stops.others last far.begun (subst (λ n. EndsLast ended n pending stops.others) e stops.end));
+whole_cases : (P : Ended → Type 0) (ended : Ended) (pending : Option Block) (blocks others : List Block)
+    → ((ended ≡ Done) × (kept_blocks pending ≡ blocks) × (others ≡ [])) ⊎ (IsBroken ended × (kept_blocks pending ≡ blocks ++ others)) → P Done → P Write → P Memory → P ended
+whole_cases P ended pending blocks others (inl (done, kept, none)) first write memory = subst P (sym done) first
+whole_cases P ended pending blocks others (inr (broken, kept)) first write memory = broken_cases P ended broken write memory
+
+whole_of : (P : Ended → Type 0) (ended : Ended) (pending : Option Block) (w w' : Option (List ℕ)) (a b : ControlState) → EndsWhole ended pending w w' a b → P Done → P Write → P Memory → P ended
+whole_of P ended pending w w' a b ends first write memory = whole_cases P ended pending ends.blocks ends.others ends.settled first write memory
+
+whole_read : (before count : ℕ) (told now told' : Option (List ℕ)) (pending : Option Block) (w w' : Option (List ℕ)) (a b : ControlState) (served : List Block) (ended : Ended)
+    → ReadSoFar before count told now pending served → count ≤ 1000000 → ServesTold now None told' → (ends : EndsWhole ended pending w w' a b)
+    → ReadsTold before told told' (served ++ ends.blocks) ends.others ended
+whole_read before count (Some bytes) (Some rest) (Some left) pending w w' a b served ended far few serves ends = record {
+  cut = far.cut;
+  rest = rest;
+  served = far.served;
+  few = omega (arith, far.counted);
+  settled = whole_settled ended (texts_of far.cut) rest pending served ends.blocks ends.others serves.0 (all_blocks far.cut pending served far.split) ends.settled;
+  limit = whole_of (λ s. IsAtLimit s (before + length far.cut) rest) ended pending w w' a b ends tt tt tt;
+  behind =
+      let same : Some left ≡ Some rest = ap Some (serves.1 ∙ sym serves.0) in
+      whole_of (λ s. IsBehind (may_pass s) (Some rest) (Some left)) ended pending w w' a b ends same same same;
 }
+whole_read before count (Some bytes) (Some rest) None pending w w' a b served ended far few serves ends = absurd serves
+whole_read before count (Some bytes) None told' pending w w' a b served ended far few serves ends = absurd far
+whole_read before count None None told' pending w w' a b served ended far few serves ends = serves
+whole_read before count None (Some rest) told' pending w w' a b served ended far few serves ends = cc
+
+broken_read : (before count : ℕ) (told now told' : Option (List ℕ)) (pending : Option Block) (line : List ℕ) (w w' : Option (List ℕ)) (a b : ControlState) (served : List Block) (ended : Ended)
+    → ReadSoFar before count told now pending served → count < 1000000 → ServesTold now (Some line) told' → (ends : Ends ended pending line w w' a b)
+    → ReadsTold before told told' (served ++ ends.blocks) ends.others ended
+broken_read before count (Some bytes) (Some rest) (Some left) pending line w w' a b served ended far below serves ends =
+    let cut : List CutLine = far.cut ++ record { text = line; size = line_size rest } ∷ [] in
+    let all : blocks_of (texts_of cut) ≡ served ++ ahead_with pending line [] =
+    ap blocks_of (sym (append-nil (texts_of cut))) ∙ split_line far.cut line (line_size rest) pending served [] far.split in
+    let front : closed (blocks_of (texts_of cut)) ≡ (served ++ ends.blocks) ++ ends.others =
+    ap closed all ∙ ends.front served ∙ sym (append_assoc served ends.blocks ends.others) in
+    record {
+      cut = cut;
+      rest = left;
+      served = one_served bytes far.cut rest line left far.served serves;
+      few = rw (length-append far.cut (record { text = line; size = line_size rest } ∷ [])) (omega (arith, far.counted));
+      settled = broken_cases (λ s. AreSettled (ending_of s) (texts_of cut) left (served ++ ends.blocks) ends.others) ended ends.broken (inl front) (inl front);
+      limit = broken_cases (λ s. IsAtLimit s (before + length cut) left) ended ends.broken tt tt;
+      behind = broken_cases (λ s. IsBehind (may_pass s) (Some left) (Some left)) ended ends.broken refl refl;
+    }
+broken_read before count (Some bytes) (Some rest) None pending line w w' a b served ended far below serves ends = absurd serves
+broken_read before count (Some bytes) None told' pending line w w' a b served ended far below serves ends = absurd far
+broken_read before count None None told' pending line w w' a b served ended far below serves ends = serves
+broken_read before count None (Some rest) told' pending line w w' a b served ended far below serves ends = cc
+
+module _ (before count : ℕ) (told now told' : Option (List ℕ)) (pending : Option Block) (w w1 w2 : Option (List ℕ)) (a b c : ControlState) (ended : Ended) (far : SoFar before count told now pending w w1 a b) where
+  driven_between : count ≤ 1000000 → StopsBetween count ended now told' w1 w2 b c → HasDriven before told told' w w2 a c ended
+  driven_between few stops = record {
+    blocks = far.blocks ++ [];
+    others = [];
+    begun = stopped_begun ended stops.stopped;
+    stops = serves_stops ended far.blocks [] [] w w1 w2 a b c far.serves
+        (subst (λ v. Stops ended [] [] w1 v b c) (sym stops.printed) (subst (λ d. Stops ended [] [] w1 w1 b d) (sym stops.same) (stops_none ended [] w1 b)));
+    read = subst (λ bs. ReadsTold before told told' bs [] ended) (sym (append-nil far.blocks))
+        (between_read before count told now told' pending w1 w2 b c far.blocks ended far.read far.shut few stops);
+  }
+
+  driven_whole : count ≤ 1000000 → StopsWhole ended now told' pending w1 w2 b c → HasDriven before told told' w w2 a c ended
+  driven_whole few stops = record {
+    blocks = far.blocks ++ stops.ends.blocks;
+    others = stops.ends.others;
+    begun = whole_of (λ s. ending_of s ≢ NotBegun) ended pending w1 w2 b c stops.ends (λ e. cc) (λ e. cc) (λ e. cc);
+    stops = serves_stops ended far.blocks stops.ends.blocks stops.ends.others w w1 w2 a b c far.serves stops.ends.stops;
+    read = whole_read before count told now told' pending w1 w2 b c far.blocks ended far.read few stops.read stops.ends;
+  }
+
+  driven_broken : count < 1000000 → StopsAt ended now told' pending w1 w2 b c → HasDriven before told told' w w2 a c ended
+  driven_broken below stops = record {
+    blocks = far.blocks ++ stops.ends.blocks;
+    others = stops.ends.others;
+    begun = broken_begun ended stops.ends.broken;
+    stops = serves_stops ended far.blocks stops.ends.blocks stops.ends.others w w1 w2 a b c far.serves stops.ends.stops;
+    read = broken_read before count told now told' pending stops.line w1 w2 b c far.blocks ended far.read below stops.read stops.ends;
+  }
+
+  driven_last : count ≤ 1000000 → StopsLast count ended now told' pending w1 w2 b c → HasDriven before told told' w w2 a c ended
+  driven_last few (inl between) = driven_between few between
+  driven_last few (inr whole) = driven_whole few whole
+
+  pub driven_here : count < 1000000 → StopsHere count ended now told' pending w1 w2 b c → HasDriven before told told' w w2 a c ended
+  driven_here below (inl last) = driven_last (omega arith) last
+  driven_here below (inr broken) = driven_broken below broken
+
+  pub driven_end : count ≡ 1000000 → StopsLast 1000000 ended now told' pending w1 w2 b c → HasDriven before told told' w w2 a c ended
+  driven_end last stops = driven_last (omega arith) (subst (λ n. StopsLast n ended now told' pending w1 w2 b c) (sym last) stops)

@@ -1,17 +1,17 @@
 -- What one line does to the blocks ahead.
-use Rattle.std.proofs.Common.{◌≡◌, ℕ, Bool, true, false, cond, List, [], ◌∷◌, ◌++◌, codes, sym, ◌∙◌, ap, subst, refl, append_assoc}
+use Rattle.std.proofs.Common.{◌≡◌, ℕ, Bool, true, false, List, [], ◌∷◌, ◌++◌, codes, sym, ◌∙◌, ap, subst, refl, append_assoc, inl, inr}
+use Rattle.std.proofs.lemmas.List.{append-nil}
 use Rattle.std.specs.Prelude.{Option, Some, None, MatchOption, if◌then◌else◌}
 use Rattle.std.specs.Str.{bytes_eq}
 use Rattle.std.proofs.lemmas.Slice.Eq.{bytes_eq-Decides}
 use Rattle.text_rows.specs.Lines.{is_passed_over}
+use Rattle.tm_types.specs.Words.{first_word}
 use Rattle.model_machine.specs.History.{ControlState}
-use Rattle.model_session.specs.Blocks.{Block, alone, and_line, is_further, takes_further, open_before, line_before, blocks_behind, first_word}
+use Rattle.model_session.specs.Blocks.{Block, alone, and_line, is_further, takes_further, open_before, line_before, blocks_behind, closed}
 use Rattle.tm_session.specs.declared.outcome.Ended.{Ended}
-use Rattle.tm_session.specs.declared.outcome.Ended.TheVariants.{Done, Words, BadLine, BadCross, Read, Write, Memory, Limit}
-use Rattle.tm_session.specs.Driving.{Serves, Stops, FailsAt, Goes, Ends, line_blocks, ahead_with, closed_before}
-use Rattle.tm_session.proofs.Driven.{serves_none, serves_twice, serves_stops, stops_none}
-
--- ---- a line alone
+use Rattle.tm_session.specs.declared.outcome.Ended.TheVariants.{Done, Memory}
+use Rattle.tm_session.specs.Driving.{Serves, FailsAt, Goes, Ends, EndsWhole, AreClosed, IsOpen, line_blocks, ahead_with}
+use Rattle.tm_session.proofs.Driven.{serves_none, serves_twice, serves_stops, stops_none, stops_served}
 
 choose : {A : Type 0} (b : Bool) (x y : A) → b ≡ true → (if b then x else y) ≡ x
 choose true x y e = refl
@@ -21,45 +21,91 @@ other : {A : Type 0} (b : Bool) (x y : A) → b ≡ false → (if b then x else 
 other true x y e = cc
 other false x y e = refl
 
-pub goes_open : (line : List ℕ) (w : Option (List ℕ)) (a : ControlState) → takes_further line ≡ true → Goes (line_before line) (blocks_behind (Some (alone line))) w w a a
-goes_open line w a takes = record { blocks = []; split = λ behind. choose (takes_further line) (open_before (alone line) behind) (alone line ∷ behind) takes; serves = serves_none w a }
+-- ---- closed blocks
 
-pub goes_alone : (line : List ℕ) (w w' : Option (List ℕ)) (a b : ControlState) → takes_further line ≡ false → Serves (alone line ∷ []) w w' a b
-    → Goes (line_before line) (blocks_behind None) w w' a b
-goes_alone line w w' a b takes serves =
-    record { blocks = alone line ∷ []; split = λ behind. other (takes_further line) (open_before (alone line) behind) (alone line ∷ behind) takes; serves = serves }
+-- the last blocks alone tell what is closed
+closed_behind : (blocks : List Block) (block : Block) (more : List Block) → closed (blocks ++ block ∷ more) ≡ blocks ++ closed (block ∷ more)
+closed_behind [] block more = refl
+closed_behind (first ∷ []) block more = refl
+closed_behind (first ∷ second ∷ blocks) block more = ap (λ bs. first ∷ bs) (closed_behind (second ∷ blocks) block more)
 
-pub ends_alone : (ended : Ended) (line : List ℕ) (w w' : Option (List ℕ)) (a b : ControlState) → takes_further line ≡ false
-    → ((others : List Block) → FailsAt ended (alone line) others w w' a b) → Ends ended (line_before line) w w' a b
-ends_alone Write line w w' a b takes fails =
-    record { failure = tt; blocks = alone line ∷ []; others = λ behind. behind; split = λ behind. other (takes_further line) (open_before (alone line) behind) (alone line ∷ behind) takes; stops = fails }
-ends_alone Memory line w w' a b takes fails =
-    record { failure = tt; blocks = []; others = λ behind. alone line ∷ behind; split = λ behind. other (takes_further line) (open_before (alone line) behind) (alone line ∷ behind) takes; stops = fails }
-ends_alone Done line w w' a b takes fails = absurd (fails [])
-ends_alone Read line w w' a b takes fails = absurd (fails [])
-ends_alone (Limit n) line w w' a b takes fails = absurd (fails [])
-ends_alone (Words word rule) line w w' a b takes fails = absurd (fails [])
-ends_alone (BadLine number rule) line w w' a b takes fails = absurd (fails [])
-ends_alone (BadCross number rule) line w w' a b takes fails = absurd (fails [])
+shut : (block : Block) → takes_further block.line ≡ false → closed (block ∷ []) ≡ block ∷ []
+shut block plain = other (takes_further block.line) [] (block ∷ []) plain
+
+still_open : (block : Block) → takes_further block.line ≡ true → closed (block ∷ []) ≡ []
+still_open block takes = choose (takes_further block.line) [] (block ∷ []) takes
+
+-- a last block that takes no `+` line is closed, and one that does is not
+pub closed_last : (blocks : List Block) (block : Block) → takes_further block.line ≡ false → closed (blocks ++ block ∷ []) ≡ blocks ++ block ∷ []
+closed_last blocks block plain = closed_behind blocks block [] ∙ ap (λ bs. blocks ++ bs) (shut block plain)
+
+pub open_last : (blocks : List Block) (block : Block) → takes_further block.line ≡ true → closed (blocks ++ block ∷ []) ≡ blocks
+open_last blocks block takes = closed_behind blocks block [] ∙ ap (λ bs. blocks ++ bs) (still_open block takes) ∙ append-nil blocks
+
+-- ---- a line alone
+
+not_passed : (line : List ℕ) (behind : List Block) → is_passed_over line ≡ false → line_blocks line behind ≡ line_before line behind
+not_passed line behind seen = other (is_passed_over line) behind (line_before line behind) seen
+
+before_open : (line : List ℕ) (behind : List Block) → is_passed_over line ≡ false → takes_further line ≡ true → line_blocks line behind ≡ open_before (alone line) behind
+before_open line behind seen takes = not_passed line behind seen ∙ choose (takes_further line) (open_before (alone line) behind) (alone line ∷ behind) takes
+
+before_alone : (line : List ℕ) (behind : List Block) → is_passed_over line ≡ false → takes_further line ≡ false → line_blocks line behind ≡ alone line ∷ behind
+before_alone line behind seen plain = not_passed line behind seen ∙ other (takes_further line) (open_before (alone line) behind) (alone line ∷ behind) plain
+
+pub goes_open : (line : List ℕ) (w : Option (List ℕ)) (a : ControlState) → is_passed_over line ≡ false → takes_further line ≡ true
+    → Goes None line (Some (alone line)) w w a a
+goes_open line w a seen takes =
+    record { blocks = []; split = λ behind. before_open line behind seen takes; shut = λ served h. takes; serves = serves_none w a }
+
+pub goes_alone : (line : List ℕ) (w w' : Option (List ℕ)) (a b : ControlState) → is_passed_over line ≡ false → takes_further line ≡ false
+    → Serves (alone line ∷ []) w w' a b → Goes None line None w w' a b
+goes_alone line w w' a b seen plain serves = record {
+  blocks = alone line ∷ [];
+  split = λ behind. before_alone line behind seen plain;
+  shut = λ served h. closed_last served (alone line) plain;
+  serves = serves;
+}
+
+alone_front : (line : List ℕ) (served : List Block) → is_passed_over line ≡ false → takes_further line ≡ false
+    → closed (served ++ ahead_with None line []) ≡ served ++ alone line ∷ []
+alone_front line served seen plain = ap (λ bs. closed (served ++ bs)) (before_alone line [] seen plain) ∙ closed_last served (alone line) plain
+
+pub ends_alone : (ended : Ended) (line : List ℕ) (w w' : Option (List ℕ)) (a b : ControlState) → is_passed_over line ≡ false → takes_further line ≡ false
+    → FailsAt ended (alone line) w w' a b → Ends ended None line w w' a b
+ends_alone ended line w w' a b seen plain (inl (same, fails)) =
+    subst (λ s. Ends s None line w w' a b) (sym same)
+    (record { broken = inl refl; blocks = alone line ∷ []; others = []; front = λ served. alone_front line served seen plain; stops = fails [] })
+ends_alone ended line w w' a b seen plain (inr (same, fails)) =
+    subst (λ s. Ends s None line w w' a b) (sym same)
+    (record { broken = inr refl; blocks = []; others = alone line ∷ []; front = λ served. alone_front line served seen plain; stops = fails [] })
 
 -- ---- a line behind one that may take `+` lines
 
 -- a `+` line takes none
-pub further_takes : (line : List ℕ) → is_further line ≡ true → takes_further line ≡ false
+further_takes : (line : List ℕ) → is_further line ≡ true → takes_further line ≡ false
 further_takes line plus = ap (λ w. bytes_eq w (codes "IN")) ((bytes_eq-Decides (first_word line) (codes "+")).0 plus)
 
-longer : (block : Block) (line : List ℕ) (behind : List Block) → is_further line ≡ true
-    → closed_before block line behind ≡ open_before (and_line block line) behind
-longer block line behind plus =
-    ap (open_before block) (other (takes_further line) (open_before (alone line) behind) (alone line ∷ behind) (further_takes line plus))
+longer : (block : Block) (line : List ℕ) (behind : List Block) → is_passed_over line ≡ false → is_further line ≡ true
+    → ahead_with (Some block) line behind ≡ open_before (and_line block line) behind
+longer block line behind seen plus =
+    ap (open_before block) (before_alone line behind seen (further_takes line plus))
     ∙ choose (is_further line) (open_before (and_line block line) behind) (block ∷ alone line ∷ behind) plus
 
-pub goes_longer : (block : Block) (line : List ℕ) (w : Option (List ℕ)) (a : ControlState) → is_further line ≡ true
-    → Goes (closed_before block line) (blocks_behind (Some (and_line block line))) w w a a
-goes_longer block line w a plus = record { blocks = []; split = λ behind. longer block line behind plus; serves = serves_none w a }
+pub goes_longer : (block : Block) (line : List ℕ) (w : Option (List ℕ)) (a : ControlState) → is_passed_over line ≡ false → is_further line ≡ true → IsOpen block
+    → Goes (Some block) line (Some (and_line block line)) w w a a
+goes_longer block line w a seen plus takes =
+    record { blocks = []; split = λ behind. longer block line behind seen plus; shut = λ served h. takes; serves = serves_none w a }
 
-pub ends_memory : (ahead : List Block → List Block) (w : Option (List ℕ)) (a : ControlState) → Ends Memory ahead w w a a
-ends_memory ahead w a = record { failure = tt; blocks = []; others = ahead; split = λ behind. refl; stops = λ behind. stops_none Memory (ahead behind) w a }
+pub ends_longer : (block : Block) (line : List ℕ) (w : Option (List ℕ)) (a : ControlState) → is_passed_over line ≡ false → is_further line ≡ true → IsOpen block
+    → Ends Memory (Some block) line w w a a
+ends_longer block line w a seen plus takes = record {
+  broken = inr refl;
+  blocks = [];
+  others = [];
+  front = λ served. ap (λ bs. closed (served ++ bs)) (longer block line [] seen plus) ∙ open_last served (and_line block line) takes ∙ sym (append-nil served);
+  stops = stops_none Memory [] w a;
+}
 
 -- another line closes it
 closes : (block begun : Block) (behind : List Block) → is_further begun.line ≡ false → open_before block (open_before begun behind) ≡ block ∷ open_before begun behind
@@ -71,77 +117,100 @@ closes block begun (next ∷ behind) plain =
       | false ↦ other (is_further begun.line) (open_before (and_line block begun.line) (next ∷ behind)) (block ∷ begun ∷ next ∷ behind) plain
     ]
 
-closed : (block : Block) (line : List ℕ) (behind : List Block) → is_further line ≡ false → closed_before block line behind ≡ block ∷ line_before line behind
-closed block line behind plain =
+closes_before : (block : Block) (line : List ℕ) (behind : List Block) → is_further line ≡ false → open_before block (line_before line behind) ≡ block ∷ line_before line behind
+closes_before block line behind plain =
     elim (takes_further line) as
     (λ t. open_before block (if t then open_before (alone line) behind else alone line ∷ behind) ≡ block ∷ (if t then open_before (alone line) behind else alone line ∷ behind)) [
       | true ↦ closes block (alone line) behind plain
       | false ↦ other (is_further line) (open_before (and_line block line) behind) (block ∷ alone line ∷ behind) plain
     ]
 
-pub goes_both : (block : Block) (line : List ℕ) (after : List Block → List Block) (w w1 w2 : Option (List ℕ)) (a b c : ControlState) → is_further line ≡ false
-    → Serves (block ∷ []) w w1 a b → Goes (line_before line) after w1 w2 b c → Goes (closed_before block line) after w w2 a c
-goes_both block line after w w1 w2 a b c plain first second = record {
-  blocks = block ∷ second.blocks;
-  split = λ behind. closed block line behind plain ∙ ap (λ bs. block ∷ bs) (second.split behind);
-  serves = serves_twice (block ∷ []) second.blocks w w1 w2 a b c first second.serves;
-}
+both_ahead : (block : Block) (line : List ℕ) (behind : List Block) → is_passed_over line ≡ false → is_further line ≡ false
+    → ahead_with (Some block) line behind ≡ block ∷ ahead_with None line behind
+both_ahead block line behind seen plain =
+    ap (open_before block) (not_passed line behind seen) ∙ closes_before block line behind plain ∙ ap (λ bs. block ∷ bs) (sym (not_passed line behind seen))
 
-pub ends_first : (ended : Ended) (block : Block) (line : List ℕ) (w w' : Option (List ℕ)) (a b : ControlState) → is_further line ≡ false
-    → ((others : List Block) → FailsAt ended block others w w' a b) → Ends ended (closed_before block line) w w' a b
-ends_first Write block line w w' a b plain fails =
-    record { failure = tt; blocks = block ∷ []; others = line_before line; split = λ behind. closed block line behind plain; stops = λ behind. fails (line_before line behind) }
-ends_first Memory block line w w' a b plain fails =
-    record { failure = tt; blocks = []; others = λ behind. block ∷ line_before line behind; split = λ behind. closed block line behind plain; stops = λ behind. fails (line_before line behind) }
-ends_first Done block line w w' a b plain fails = absurd (fails [])
-ends_first Read block line w w' a b plain fails = absurd (fails [])
-ends_first (Limit n) block line w w' a b plain fails = absurd (fails [])
-ends_first (Words word rule) block line w w' a b plain fails = absurd (fails [])
-ends_first (BadLine number rule) block line w w' a b plain fails = absurd (fails [])
-ends_first (BadCross number rule) block line w w' a b plain fails = absurd (fails [])
+module _ (block : Block) (line : List ℕ) (w w1 w2 : Option (List ℕ)) (a b c : ControlState) (seen : is_passed_over line ≡ false) (plain : is_further line ≡ false) where
+  goes_both : (after : Option Block) → Serves (block ∷ []) w w1 a b → Goes None line after w1 w2 b c → Goes (Some block) line after w w2 a c
+  goes_both after first second = record {
+    blocks = block ∷ second.blocks;
+    split = λ behind. both_ahead block line behind seen plain ∙ ap (λ bs. block ∷ bs) (second.split behind);
+    shut = λ served h. subst (λ bs. AreClosed after bs) (append_assoc served (block ∷ []) second.blocks) (second.shut (served ++ block ∷ []) (λ passed. cc));
+    serves = serves_twice (block ∷ []) second.blocks w w1 w2 a b c first second.serves;
+  }
 
-pub ends_second : (ended : Ended) (block : Block) (line : List ℕ) (w w1 w2 : Option (List ℕ)) (a b c : ControlState) → is_further line ≡ false
-    → Serves (block ∷ []) w w1 a b → Ends ended (line_before line) w1 w2 b c → Ends ended (closed_before block line) w w2 a c
-ends_second ended block line w w1 w2 a b c plain first second = record {
-  failure = second.failure;
-  blocks = block ∷ second.blocks;
-  others = second.others;
-  split = λ behind. closed block line behind plain ∙ ap (λ bs. block ∷ bs) (second.split behind);
-  stops = λ behind. serves_stops ended (block ∷ []) second.blocks (second.others behind) w w1 w2 a b c first (second.stops behind);
-}
+  front_behind : (blocks others served : List Block) → ((before : List Block) → closed (before ++ ahead_with None line []) ≡ before ++ (blocks ++ others))
+      → closed (served ++ ahead_with (Some block) line []) ≡ served ++ (block ∷ (blocks ++ others))
+  front_behind blocks others served front =
+      ap (λ bs. closed (served ++ bs)) (both_ahead block line [] seen plain)
+      ∙ ap closed (sym (append_assoc served (block ∷ []) (ahead_with None line [])))
+      ∙ front (served ++ block ∷ []) ∙ append_assoc served (block ∷ []) (blocks ++ others)
+
+  ends_second : (ended : Ended) → Serves (block ∷ []) w w1 a b → Ends ended None line w1 w2 b c → Ends ended (Some block) line w w2 a c
+  ends_second ended first second = record {
+    broken = second.broken;
+    blocks = block ∷ second.blocks;
+    others = second.others;
+    front = λ served. front_behind second.blocks second.others served second.front;
+    stops = serves_stops ended (block ∷ []) second.blocks second.others w w1 w2 a b c first second.stops;
+  }
+
+  pub both_step : (result : Option Ended) (after : Option Block) → Serves (block ∷ []) w w1 a b
+      → MatchOption result (Goes None line after w1 w2 b c) (λ ended. Ends ended None line w1 w2 b c)
+      → MatchOption result (Goes (Some block) line after w w2 a c) (λ ended. Ends ended (Some block) line w w2 a c)
+  both_step None after first step = goes_both after first step
+  both_step (Some ended) after first step = ends_second ended first step
+
+-- a line behind nothing makes one block
+alone_of : (line : List ℕ) → is_passed_over line ≡ false → ahead_with None line [] ≡ alone line ∷ []
+alone_of line seen =
+    not_passed line [] seen
+    ∙ (elim (takes_further line) as (λ t. (if t then alone line ∷ [] else alone line ∷ []) ≡ alone line ∷ []) [
+      | true ↦ refl
+      | false ↦ refl
+    ])
+
+closed_two : (block : Block) (line : List ℕ) → is_passed_over line ≡ false → closed (block ∷ ahead_with None line []) ≡ block ∷ closed (ahead_with None line [])
+closed_two block line seen = ap (λ bs. closed (block ∷ bs)) (alone_of line seen) ∙ ap (λ bs. block ∷ closed bs) (sym (alone_of line seen))
+
+-- the last of the two is closed, or may still take `+` lines
+first_front : (block : Block) (line : List ℕ) (served : List Block) → is_passed_over line ≡ false → is_further line ≡ false
+    → closed (served ++ ahead_with (Some block) line []) ≡ served ++ (block ∷ closed (ahead_with None line []))
+first_front block line served seen plain =
+    ap (λ bs. closed (served ++ bs)) (both_ahead block line [] seen plain) ∙ closed_behind served block (ahead_with None line [])
+    ∙ ap (λ bs. served ++ bs) (closed_two block line seen)
+
+pub ends_first : (ended : Ended) (block : Block) (line : List ℕ) (w w' : Option (List ℕ)) (a b : ControlState) → is_passed_over line ≡ false → is_further line ≡ false
+    → FailsAt ended block w w' a b → Ends ended (Some block) line w w' a b
+ends_first ended block line w w' a b seen plain (inl (same, fails)) =
+    subst (λ s. Ends s (Some block) line w w' a b) (sym same)
+    (record { broken = inl refl; blocks = block ∷ []; others = closed (ahead_with None line []); front = λ served. first_front block line served seen plain; stops = fails (closed (ahead_with None line [])) })
+ends_first ended block line w w' a b seen plain (inr (same, fails)) =
+    subst (λ s. Ends s (Some block) line w w' a b) (sym same)
+    (record { broken = inr refl; blocks = []; others = block ∷ closed (ahead_with None line []); front = λ served. first_front block line served seen plain; stops = fails (closed (ahead_with None line [])) })
 
 -- ---- any line
 
-pub goes_passed : (pending : Option Block) (line : List ℕ) (w : Option (List ℕ)) (a : ControlState) → is_passed_over line ≡ true
-    → Goes (ahead_with pending line) (blocks_behind pending) w w a a
-goes_passed pending line w a passed = record { blocks = []; split = λ behind. ap (blocks_behind pending) (choose (is_passed_over line) behind (line_before line behind) passed); serves = serves_none w a }
+pub goes_passed : (pending : Option Block) (line : List ℕ) (w : Option (List ℕ)) (a : ControlState) → is_passed_over line ≡ true → Goes pending line pending w w a a
+goes_passed pending line w a passed = record {
+  blocks = [];
+  split = λ behind. ap (blocks_behind pending) (choose (is_passed_over line) behind (line_before line behind) passed);
+  shut = λ served h. subst (λ bs. AreClosed pending bs) (sym (append-nil served)) (h passed);
+  serves = serves_none w a;
+}
 
-not_passed : (line : List ℕ) (behind : List Block) → is_passed_over line ≡ false → line_blocks line behind ≡ line_before line behind
-not_passed line behind plain = other (is_passed_over line) behind (line_before line behind) plain
+-- ---- the end of the source
 
-pub goes_plain : (pending : Option Block) (line : List ℕ) (after : List Block → List Block) (w w' : Option (List ℕ)) (a b : ControlState) → is_passed_over line ≡ false
-    → Goes (λ behind. blocks_behind pending (line_before line behind)) after w w' a b → Goes (ahead_with pending line) after w w' a b
-goes_plain pending line after w w' a b plain goes =
-    record { blocks = goes.blocks; split = λ behind. ap (blocks_behind pending) (not_passed line behind plain) ∙ goes.split behind; serves = goes.serves }
+pub whole_none : (w : Option (List ℕ)) (a : ControlState) → EndsWhole Done None w w a a
+whole_none w a = record { blocks = []; others = []; settled = inl (refl, refl, refl); stops = stops_none Done [] w a }
 
-pub ends_plain : (ended : Ended) (pending : Option Block) (line : List ℕ) (w w' : Option (List ℕ)) (a b : ControlState) → is_passed_over line ≡ false
-    → Ends ended (λ behind. blocks_behind pending (line_before line behind)) w w' a b → Ends ended (ahead_with pending line) w w' a b
-ends_plain ended pending line w w' a b plain ends =
-    record { failure = ends.failure; blocks = ends.blocks; others = ends.others; split = λ behind. ap (blocks_behind pending) (not_passed line behind plain) ∙ ends.split behind; stops = ends.stops }
+pub whole_served : (block : Block) (w w' : Option (List ℕ)) (a b : ControlState) → Serves (block ∷ []) w w' a b → EndsWhole Done (Some block) w w' a b
+whole_served block w w' a b serves = record { blocks = block ∷ []; others = []; settled = inl (refl, refl, refl); stops = stops_served (block ∷ []) w w' a b serves }
 
-pub both_step : (result : Option Ended) (block : Block) (line : List ℕ) (after : List Block → List Block) (w w1 w2 : Option (List ℕ)) (a b c : ControlState)
-    → is_further line ≡ false → Serves (block ∷ []) w w1 a b
-    → MatchOption result (Goes (line_before line) after w1 w2 b c) (λ ended. Ends ended (line_before line) w1 w2 b c)
-    → MatchOption result (Goes (closed_before block line) after w w2 a c) (λ ended. Ends ended (closed_before block line) w w2 a c)
-both_step None block line after w w1 w2 a b c plain first step = goes_both block line after w w1 w2 a b c plain first step
-both_step (Some ended) block line after w w1 w2 a b c plain first step = ends_second ended block line w w1 w2 a b c plain first step
-
--- a line behind what was kept, by whether it was passed over
-pub plain_step : (result : Option Ended) (pending : Option Block) (line : List ℕ) (after : List Block → List Block) (w w' : Option (List ℕ)) (a b : ControlState)
-    → is_passed_over line ≡ false
-    → MatchOption result (Goes (λ behind. blocks_behind pending (line_before line behind)) after w w' a b) (λ ended. Ends ended (λ behind. blocks_behind pending (line_before line behind)) w w' a b)
-    → MatchOption result (Goes (ahead_with pending line) after w w' a b) (λ ended. Ends ended (ahead_with pending line) w w' a b)
-plain_step None pending line after w w' a b plain step = goes_plain pending line after w w' a b plain step
-plain_step (Some ended) pending line after w w' a b plain step = ends_plain ended pending line w w' a b plain step
+pub whole_failed : (ended : Ended) (block : Block) (w w' : Option (List ℕ)) (a b : ControlState) → FailsAt ended block w w' a b → EndsWhole ended (Some block) w w' a b
+whole_failed ended block w w' a b (inl (same, fails)) =
+    subst (λ s. EndsWhole s (Some block) w w' a b) (sym same) (record { blocks = block ∷ []; others = []; settled = inr (inl refl, refl); stops = fails [] })
+whole_failed ended block w w' a b (inr (same, fails)) =
+    subst (λ s. EndsWhole s (Some block) w w' a b) (sym same) (record { blocks = []; others = block ∷ []; settled = inr (inr refl, refl); stops = fails [] })
 
 pub ruleset line_steps = (goes_open, goes_alone, ends_alone)

@@ -1,9 +1,8 @@
 -- What is taken from a source is taken from its front.
-use Rattle.std.proofs.Common.{◌≡◌, ℕ, List, [], ◌∷◌, ◌++◌, ◌+◌, take, drop, sym, ◌∙◌, ap, refl, append_assoc}
+use Rattle.std.proofs.Common.{◌≡◌, ℕ, List, [], ◌∷◌, ◌++◌, ◌+◌, take, sym, ◌∙◌, ap, refl, append_assoc}
 use Rattle.std.proofs.lemmas.List.{take-append-drop}
 use Rattle.std.specs.Prelude.{Option, Some, None}
-use Rattle.std.specs.Io.KnownBytes.{prepend_known, IsAtEnd}
-use Rattle.tm_edge.specs.Lines.{ServesTold, Serves, line_size, unread}
+use Rattle.tm_edge.specs.Lines.{ServesTold, line_size, unread}
 use Rattle.tm_session.specs.declared.outcome.Ended.{Ended}
 use Rattle.tm_session.specs.declared.outcome.Ended.TheVariants.{Done, Words, BadLine, BadCross, Read, Write, Memory, Limit}
 use Rattle.tm_session.specs.Outcome.{IsBack, IsReadToEnd}

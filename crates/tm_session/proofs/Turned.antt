@@ -1,20 +1,20 @@
 -- Turns that were done, and how they end.
-use Rattle.std.proofs.Common.{◌≡◌, ◌≢◌, ℕ, suc, ◌+◌, ◌≤◌, ◌<◌, Bool, true, false, List, [], ◌∷◌, ◌++◌, length, sym, ◌∙◌, ap, subst, refl, arith, append_assoc, length-append, zero-add, inl, inr}
+use Rattle.std.proofs.Common.{◌≡◌, ℕ, ◌+◌, ◌≤◌, ◌<◌, Bool, false, List, [], ◌∷◌, ◌++◌, length, sym, ◌∙◌, ap, subst, refl, arith, append_assoc, length-append, zero-add, inl, inr}
 use Rattle.std.proofs.lemmas.List.{append-nil}
+use Rattle.std.specs.Prelude.{Ok}
 use Rattle.model_machine.specs.declared.entry.Entry.{Entry}
+use Rattle.model_machine.specs.declared.entry.Entry.TheVariants.{Turn as TurnEntry}
 use Rattle.model_machine.specs.declared.entry.ControlCall.TheVariants.{Turn}
 use Rattle.model_machine.specs.Machine.{start_of}
 use Rattle.model_machine.specs.Steps.{is_quiet}
-use Rattle.model_machine.specs.History.{ControlState, AddsEntry, AddsNothing, call_of, now_of, moment_after}
+use Rattle.model_machine.specs.History.{ControlState, AddsEntry, AddsNothing, now_of, moment_after}
 use Rattle.model_session.specs.declared.asked.Asked.{Asked}
 use Rattle.model_session.specs.declared.asked.Asked.TheVariants.{Bad, TooLong, Call, Quiet}
-use Rattle.model_session.specs.Turns.{region_after, AreTurns, IsQuieted, IsBrokenOff, quieted_text}
+use Rattle.model_session.specs.Turns.{region_after}
 use Rattle.model_session.specs.Session.{IsBegunBy}
 use Rattle.model_session.proofs.Sessions.{moment_behind}
 use Rattle.model_session.proofs.Turning.{AreTurns-append}
-use Rattle.tm_machine.specs.declared.turned.Turned.{Turned}
-use Rattle.tm_machine.specs.declared.turned.Turned.TheVariants.{Scheduled, Called, Next, QC, Done, Abended, Idle, Held}
-use Rattle.tm_machine.specs.Turns.{turned_entry}
+use Rattle.model_machine.specs.declared.entry.Turned.{Turned}
 use Rattle.tm_session.specs.Serving.{AddsEntries, BreaksOff, TurnsSoFar, HasTurned}
 
 -- where entries that were added lead
@@ -50,25 +50,15 @@ breaks_nothing asked old new nothing = record { entries = []; adds = adds_nothin
 
 -- ---- turns, one after another
 
-turned_call : (region : ℕ) (turned : Turned) → call_of (turned_entry region turned) ≡ Turn region
-turned_call region (Scheduled code id) = refl
-turned_call region (Called function pcb status) = refl
-turned_call region (Next code id next) = refl
-turned_call region (QC code id) = refl
-turned_call region (Done code id) = refl
-turned_call region (Abended code id abend) = refl
-turned_call region Idle = refl
-turned_call region (Held need limit) = refl
-
 pub turns_none : (old : ControlState) → TurnsSoFar 0 old old
 turns_none old = record { entries = []; adds = adds_nothing old old (record { system = refl; opening = refl; history = refl }); turns = tt; counted = refl }
 
 pub turns_next : (count : ℕ) (old now new : ControlState) (turned : Turned)
     → TurnsSoFar count old now → is_quiet now.system (now_of now) ≡ false
-    → AddsEntry now new (turned_entry (region_after now.system count) turned)
+    → AddsEntry now new (TurnEntry (region_after now.system count) (Ok turned))
     → TurnsSoFar (count + 1) old new
 turns_next count old now new turned far left adds =
-    let entry : Entry = turned_entry (region_after now.system count) turned in
+    let entry : Entry = TurnEntry (region_after now.system count) (Ok turned) in
     let here : now_of now ≡ moment_after old.system (now_of old) far.entries = now_behind old now far.entries far.adds in
     let still : is_quiet old.system (moment_after old.system (now_of old) far.entries) ≡ false =
     sym (ap (λ s. is_quiet s (moment_after old.system (now_of old) far.entries)) far.adds.system) ∙ sym (ap (is_quiet now.system) here) ∙ left in
@@ -76,7 +66,7 @@ turns_next count old now new turned far left adds =
       entries = far.entries ++ entry ∷ [];
       adds = adds_twice old now new far.entries (entry ∷ []) far.adds (adds_one now new entry adds);
       turns = AreTurns-append old.system entry far.entries 0 (now_of old) far.turns still
-          (turned_call (region_after now.system count) turned ∙ ap (λ s. Turn (region_after s count)) far.adds.system ∙ ap (λ n. Turn (region_after old.system n)) (sym far.counted ∙ sym (zero-add (length far.entries))));
+          (ap (λ s. Turn (region_after s count)) far.adds.system ∙ ap (λ n. Turn (region_after old.system n)) (sym far.counted ∙ sym (zero-add (length far.entries))));
       counted = length-append far.entries (entry ∷ []) ∙ ap (λ n. n + 1) far.counted;
     }
 

@@ -1,16 +1,18 @@
 -- A session as it is driven, line by line and block by block.
-use Rattle.std.specs.Prelude.{◌≡◌, ◌≢◌, ℕ, ◌+◌, ◌≤◌, ⊤, true, Option, Some, None, IfSome, if◌then◌else◌, List, [], ◌∷◌, ◌++◌, map, length}
+use Rattle.std.specs.Prelude.{◌≡◌, ◌≢◌, ℕ, ◌+◌, ◌≤◌, ◌⊎◌, Bool, true, false, Option, Some, None, IfSome, if◌then◌else◌, List, [], ◌∷◌, ◌++◌, length}
 use Rattle.std.specs.Io.KnownBytes.{append_known}
 use Rattle.text_rows.specs.Lines.{is_passed_over}
 use Rattle.model_machine.specs.declared.entry.Entry.{Entry}
 use Rattle.model_machine.specs.History.{ControlState, now_of, moment_after}
-use Rattle.model_session.specs.Blocks.{Block, blocks_of, blocks_behind, line_before, takes_further}
-use Rattle.model_session.specs.Session.{IsServed}
-use Rattle.tm_edge.specs.Lines.{CutLine, HasServed, IsTooLong, ServesTold, lines_of}
+use Rattle.model_session.specs.Blocks.{Block, blocks_of, blocks_behind, line_before, takes_further, closed}
+use Rattle.model_session.specs.Session.{AreServed, none_left}
+use Rattle.model_session.specs.Session.Standing.{Up}
+use Rattle.tm_edge.specs.Lines.{CutLine, HasServed, ServesTold}
 use Rattle.tm_session.specs.declared.outcome.Ended.{Ended}
-use Rattle.tm_session.specs.declared.outcome.Ended.TheVariants.{Done, Words, BadLine, BadCross, Read, Write, Memory, Limit}
+use Rattle.tm_session.specs.declared.outcome.Ended.TheVariants.{Done, Write, Memory, Limit}
 use Rattle.tm_session.specs.Serving.{AddsEntries}
-use Rattle.tm_session.specs.Outcome.{HasWritten, AreUnprinted, EndsBefore}
+use Rattle.tm_session.specs.Outcome.{ending_of, texts_of, HasWritten, left_by, AreSettled, IsAtLimit, IsBack}
+use Rattle.tm_session.specs.Outcome.Ending.{Stopped, NotBegun}
 
 -- ---- blocks that were served
 
@@ -19,7 +21,7 @@ pub record Serves (blocks : List Block) (written written' : Option (List ℕ)) (
   pub entries : List Entry
   pub text : List ℕ
   pub adds : AddsEntries old new entries
-  pub served : IsServed old.system (now_of old) blocks entries text
+  pub served : AreServed old.system none_left blocks (Up (now_of old) entries) [] text
   pub printed : written' ≡ append_known written text
 
 -- These blocks were served, and the others were not; the session ended there.
@@ -28,20 +30,15 @@ pub record Stops (ended : Ended) (blocks others : List Block) (written written' 
   pub turns : List Entry
   pub text : List ℕ
   pub adds : AddsEntries old new (entries ++ turns)
-  pub served : IsServed old.system (now_of old) blocks entries text
-  pub unprinted : AreUnprinted ended old.system (moment_after old.system (now_of old) entries) others turns
+  pub served : AreServed old.system none_left blocks (Up (now_of old) entries) [] text
+  pub unprinted : left_by ended old.system others (moment_after old.system (now_of old) entries) turns
   pub printed : HasWritten written written' text ended
 
 -- serving this block failed: its text was not written whole, or memory was wanting
-abbrev pub FailsAt : Ended → Block → List Block → Option (List ℕ) → Option (List ℕ) → ControlState → ControlState → Type 0
-FailsAt Write block others written written' old new = Stops Write (block ∷ []) others written written' old new
-FailsAt Memory block others written written' old new = Stops Memory [] (block ∷ others) written written' old new
-FailsAt Done block others written written' old new = ⊥
-FailsAt Read block others written written' old new = ⊥
-FailsAt (Limit n) block others written written' old new = ⊥
-FailsAt (Words word rule) block others written written' old new = ⊥
-FailsAt (BadLine line rule) block others written written' old new = ⊥
-FailsAt (BadCross line rule) block others written written' old new = ⊥
+abbrev pub FailsAt : Ended → Block → Option (List ℕ) → Option (List ℕ) → ControlState → ControlState → Type 0
+FailsAt ended block written written' old new =
+    ((ended ≡ Write) × ((others : List Block) → Stops Write (block ∷ []) others written written' old new))
+    ⊎ ((ended ≡ Memory) × ((others : List Block) → Stops Memory [] (block ∷ others) written written' old new))
 
 -- ---- lines that were read
 
@@ -53,131 +50,138 @@ line_blocks line behind = if is_passed_over line then behind else line_before li
 abbrev pub ahead_with : Option Block → List ℕ → List Block → List Block
 ahead_with pending line behind = blocks_behind pending (line_blocks line behind)
 
-abbrev pub closed_before : Block → List ℕ → List Block → List Block
-closed_before block line behind = blocks_behind (Some block) (line_before line behind)
-
 -- a line that may still take `+` lines
 abbrev pub IsOpen : Block → Type 0
 IsOpen block = takes_further block.line ≡ true
 
--- Some blocks were served, whatever lines come behind: what was ahead is they and what is ahead now.
-pub record Goes (ahead after : List Block → List Block) (written written' : Option (List ℕ)) (old new : ControlState) : Type 0 where
+-- What was served are the closed blocks: a line that is kept may still take `+` lines; where none is kept,
+-- no `+` line can belong to the last one.
+abbrev pub AreClosed : Option Block → List Block → Type 0
+AreClosed (Some block) served = IsOpen block
+AreClosed None served = closed served ≡ served
+
+-- A line was read behind what was kept, and then other is kept: some blocks were served, whatever lines
+-- come behind.
+pub record Goes (pending : Option Block) (line : List ℕ) (after : Option Block) (written written' : Option (List ℕ)) (old new : ControlState) : Type 0 where
   pub blocks : List Block
-  pub split : (behind : List Block) → ahead behind ≡ blocks ++ after behind
+  pub split : (behind : List Block) → ahead_with pending line behind ≡ blocks ++ blocks_behind after behind
+  pub shut : (served : List Block) → (is_passed_over line ≡ true → AreClosed pending served) → AreClosed after (served ++ blocks)
   pub serves : Serves blocks written written' old new
 
--- what serving a block may fail with
-abbrev pub IsFailure : Ended → Type 0
-IsFailure Write = ⊤
-IsFailure Memory = ⊤
-IsFailure Done = ⊥
-IsFailure Read = ⊥
-IsFailure (Limit n) = ⊥
-IsFailure (Words word rule) = ⊥
-IsFailure (BadLine line rule) = ⊥
-IsFailure (BadCross line rule) = ⊥
+-- writing failed, or memory was wanting
+abbrev pub IsBroken : Ended → Type 0
+IsBroken ended = (ended ≡ Write) ⊎ (ended ≡ Memory)
 
--- The session ended so, whatever lines come behind.
-pub record Ends (ended : Ended) (ahead : List Block → List Block) (written written' : Option (List ℕ)) (old new : ControlState) : Type 0 where
-  pub failure : IsFailure ended
+-- The session broke off at a line that was read: a front of the closed blocks was served.
+pub record Ends (ended : Ended) (pending : Option Block) (line : List ℕ) (written written' : Option (List ℕ)) (old new : ControlState) : Type 0 where
+  pub broken : IsBroken ended
   pub blocks : List Block
-  pub others : List Block → List Block
-  pub split : (behind : List Block) → ahead behind ≡ blocks ++ others behind
-  pub stops : (behind : List Block) → Stops ended blocks (others behind) written written' old new
+  pub others : List Block
+  pub front : (served : List Block) → closed (served ++ ahead_with pending line []) ≡ served ++ (blocks ++ others)
+  pub stops : Stops ended blocks others written written' old new
 
--- ---- steps of a session
+-- the block that was kept, if one was
+abbrev pub kept_blocks : Option Block → List Block
+kept_blocks pending = blocks_behind pending []
 
--- the blocks ahead, where the source tells its bytes
-abbrev pub blocks_ahead : Option Block → List ℕ → List Block
-blocks_ahead pending bytes = blocks_behind pending (blocks_of (lines_of bytes))
+-- The session ended with the source: what was kept was served; or that broke off.
+pub record EndsWhole (ended : Ended) (pending : Option Block) (written written' : Option (List ℕ)) (old new : ControlState) : Type 0 where
+  pub blocks : List Block
+  pub others : List Block
+  pub settled : ((ended ≡ Done) × (kept_blocks pending ≡ blocks) × (others ≡ [])) ⊎ (IsBroken ended × (kept_blocks pending ≡ blocks ++ others))
+  pub stops : Stops ended blocks others written written' old new
 
-abbrev pub Splits : Option (List ℕ) → Option Block → List Block → Option (List ℕ) → Option Block → Type 0
-Splits (Some bytes) pending blocks (Some rest) after = blocks_ahead pending bytes ≡ blocks ++ blocks_ahead after rest
-Splits (Some bytes) pending blocks None after = ⊥
-Splits None pending blocks told after = told ≡ None
+-- ---- where a session ended
 
-abbrev pub SplitsLast : Option (List ℕ) → Option Block → List Block → List Block → Type 0
-SplitsLast (Some bytes) pending blocks others = blocks_ahead pending bytes ≡ blocks ++ others
-SplitsLast None pending blocks others = ⊤
+-- The same bytes lie before the reader; but behind a limit it may have gone on.
+abbrev pub may_pass : Ended → Bool
+may_pass (Limit n) = true
+may_pass _ = false
+
+abbrev pub IsBehind : Bool → Option (List ℕ) → Option (List ℕ) → Type 0
+IsBehind true told told' = IsBack told told'
+IsBehind false told told' = told' ≡ told
+
+-- a limit that is met behind the last line is the one of lines
+abbrev pub behind_last : Ended → Ended
+behind_last (Limit n) = Limit 1000001
+behind_last ended = ended
+
+-- It ended before a line, behind so many in all: a limit was met, reading failed or memory was wanting.
+pub record StopsBetween (count : ℕ) (ended : Ended) (told told' : Option (List ℕ)) (written written' : Option (List ℕ)) (old new : ControlState) : Type 0 where
+  pub stopped : (ending_of ended ≡ Stopped) ⊎ (ended ≡ Memory)
+  pub behind : IsBehind (may_pass ended) told told'
+  pub limit : IfSome told (IsAtLimit ended count)
+  pub printed : written' ≡ written
+  pub same : new ≡ old
+
+-- It ended at a line that was read.
+pub record StopsAt (ended : Ended) (told told' : Option (List ℕ)) (pending : Option Block) (written written' : Option (List ℕ)) (old new : ControlState) : Type 0 where
+  pub line : List ℕ
+  pub read : ServesTold told (Some line) told'
+  pub ends : Ends ended pending line written written' old new
+
+-- It ended with the source.
+pub record StopsWhole (ended : Ended) (told told' : Option (List ℕ)) (pending : Option Block) (written written' : Option (List ℕ)) (old new : ControlState) : Type 0 where
+  pub read : ServesTold told None told'
+  pub ends : EndsWhole ended pending written written' old new
+
+-- behind so many lines in all, of which there may be a million
+abbrev pub StopsLast : ℕ → Ended → Option (List ℕ) → Option (List ℕ) → Option Block → Option (List ℕ) → Option (List ℕ) → ControlState → ControlState → Type 0
+StopsLast count ended told told' pending written written' old new =
+    StopsBetween count ended told told' written written' old new ⊎ StopsWhole ended told told' pending written written' old new
+
+abbrev pub StopsHere : ℕ → Ended → Option (List ℕ) → Option (List ℕ) → Option Block → Option (List ℕ) → Option (List ℕ) → ControlState → ControlState → Type 0
+StopsHere count ended told told' pending written written' old new =
+    StopsLast count ended told told' pending written written' old new ⊎ StopsAt ended told told' pending written written' old new
 
 -- a line was read, and some blocks were served
 pub record Steps (told told' : Option (List ℕ)) (pending pending' : Option Block) (written written' : Option (List ℕ)) (old new : ControlState) : Type 0 where
   pub line : List ℕ
   pub read : ServesTold told (Some line) told'
-  pub blocks : List Block
-  pub split : Splits told pending blocks told' pending'
-  pub serves : Serves blocks written written' old new
-
--- What the end says of the bytes that lie before the reader and of the blocks that were not served:
--- no bytes were left; or a limit was met.
-abbrev pub EndsThere : Ended → Option (List ℕ) → Option Block → List Block → Type 0
-EndsThere Done told pending others = IfSome told (λ bytes. bytes ≡ []) × (others ≡ [])
-EndsThere (Limit n) told pending others = (n ≡ 4097) × IfSome told (λ bytes. IsTooLong bytes × (others ≡ blocks_ahead pending bytes))
-EndsThere Read told pending others = ⊤
-EndsThere Write told pending others = ⊤
-EndsThere Memory told pending others = ⊤
-EndsThere (Words word rule) told pending others = ⊥
-EndsThere (BadLine line rule) told pending others = ⊥
-EndsThere (BadCross line rule) told pending others = ⊥
-
--- the same behind the millionth line
-abbrev pub EndsLast : Ended → Option (List ℕ) → Option Block → List Block → Type 0
-EndsLast Done told pending others = IfSome told (λ bytes. bytes ≡ []) × (others ≡ [])
-EndsLast (Limit n) told pending others = (n ≡ 1000001) × IfSome told (λ bytes. (bytes ≢ []) × (others ≡ blocks_ahead pending bytes))
-EndsLast Read told pending others = ⊤
-EndsLast Write told pending others = ⊤
-EndsLast Memory told pending others = ⊤
-EndsLast (Words word rule) told pending others = ⊥
-EndsLast (BadLine line rule) told pending others = ⊥
-EndsLast (BadCross line rule) told pending others = ⊥
-
--- the session ended here
-pub record StopsHere (ended : Ended) (told : Option (List ℕ)) (pending : Option Block) (written written' : Option (List ℕ)) (old new : ControlState) : Type 0 where
-  pub blocks : List Block
-  pub others : List Block
-  pub split : SplitsLast told pending blocks others
-  pub stops : Stops ended blocks others written written' old new
-  pub end : EndsThere ended told pending others
-
-pub record StopsLast (ended : Ended) (told : Option (List ℕ)) (pending : Option Block) (written written' : Option (List ℕ)) (old new : ControlState) : Type 0 where
-  pub blocks : List Block
-  pub others : List Block
-  pub split : SplitsLast told pending blocks others
-  pub stops : Stops ended blocks others written written' old new
-  pub end : EndsLast ended told pending others
+  pub goes : Goes pending line pending' written written' old new
 
 -- ---- a session so far
 
--- The bytes that lie before the reader now, behind so many lines in all, where the source tells them.
--- So many stood before the session.
-abbrev pub ReadSoFar : ℕ → Option (List ℕ) → ℕ → Option (List ℕ) → Type 0
-ReadSoFar before (Some bytes) count (Some rest) = (cut : List CutLine) × (before + length cut ≡ count) × HasServed bytes cut rest
-ReadSoFar before (Some bytes) count None = ⊥
-ReadSoFar before None count told = told ≡ None
+-- The lines that were read behind so many others, so that there are so many in all; and the blocks that
+-- were served of them, whatever lines come behind.
+pub record ReadsBlocks (before count : ℕ) (bytes rest : List ℕ) (pending : Option Block) (blocks : List Block) : Type 0 where
+  pub cut : List CutLine
+  pub counted : before + length cut ≡ count
+  pub served : HasServed bytes cut rest
+  pub split : (lines : List (List ℕ)) → blocks_of (texts_of cut ++ lines) ≡ blocks ++ blocks_behind pending (blocks_of lines)
 
--- some blocks were served, and so many lines were read in all
+abbrev pub ReadSoFar : ℕ → ℕ → Option (List ℕ) → Option (List ℕ) → Option Block → List Block → Type 0
+ReadSoFar before count (Some bytes) (Some rest) pending blocks = ReadsBlocks before count bytes rest pending blocks
+ReadSoFar before count (Some bytes) None pending blocks = ⊥
+ReadSoFar before count None told pending blocks = told ≡ None
+
 pub record SoFar (before count : ℕ) (told told' : Option (List ℕ)) (pending : Option Block) (written written' : Option (List ℕ)) (old new : ControlState) : Type 0 where
   pub blocks : List Block
-  pub split : Splits told None blocks told' pending
   pub serves : Serves blocks written written' old new
-  pub read : ReadSoFar before told count told'
-  pub begun : IfSome pending IsOpen
+  pub read : ReadSoFar before count told told' pending blocks
+  pub shut : AreClosed pending blocks
 
--- what was read of the bytes of a session, before which so many lines stood
-pub record ReadsSession (before : ℕ) (bytes : List ℕ) (blocks others : List Block) (ended : Ended) : Type 0 where
+-- What was read of the bytes of a session, before which so many lines stood; these bytes lie before the
+-- reader then.
+pub record ReadsSession (before : ℕ) (bytes left : List ℕ) (blocks others : List Block) (ended : Ended) : Type 0 where
   pub cut : List CutLine
   pub rest : List ℕ
   pub served : HasServed bytes cut rest
-  pub all : blocks_of (lines_of bytes) ≡ blocks ++ others
-  pub end : EndsBefore ended (before + length cut) rest others
+  pub few : before + length cut ≤ 1000000
+  pub settled : AreSettled (ending_of ended) (texts_of cut) rest blocks others
+  pub limit : IsAtLimit ended (before + length cut) rest
+  pub behind : IsBehind (may_pass ended) (Some rest) (Some left)
 
-abbrev pub ReadsTold : ℕ → Option (List ℕ) → List Block → List Block → Ended → Type 0
-ReadsTold before (Some bytes) blocks others ended = ReadsSession before bytes blocks others ended
-ReadsTold before None blocks others ended = ⊤
+abbrev pub ReadsTold : ℕ → Option (List ℕ) → Option (List ℕ) → List Block → List Block → Ended → Type 0
+ReadsTold before (Some bytes) (Some left) blocks others ended = ReadsSession before bytes left blocks others ended
+ReadsTold before (Some bytes) None blocks others ended = ⊥
+ReadsTold before None left blocks others ended = left ≡ None
 
 -- Some blocks were served one after another, and then the session ended.
-pub record HasDriven (before : ℕ) (told written written' : Option (List ℕ)) (old new : ControlState) (ended : Ended) : Type 0 where
+pub record HasDriven (before : ℕ) (told told' written written' : Option (List ℕ)) (old new : ControlState) (ended : Ended) : Type 0 where
   pub blocks : List Block
   pub others : List Block
+  pub begun : ending_of ended ≢ NotBegun
   pub stops : Stops ended blocks others written written' old new
-  pub read : ReadsTold before told blocks others ended
+  pub read : ReadsTold before told told' blocks others ended

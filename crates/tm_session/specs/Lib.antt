@@ -1,9 +1,7 @@
-pub mod Printed
-pub mod Asking
 pub mod Serving
 pub mod Source
 pub mod Outcome
-pub mod Driving
 pub mod Opening
+pub mod Driving
 pub mod Headline
 pub mod Opened

@@ -1,7 +1,7 @@
 -- A control region that was opened, and a life that ended.
-use Rattle.std.specs.Prelude.{◌≡◌, ℕ, Option, Some, None, IfSome, List, [], ◌∷◌, length}
+use Rattle.std.specs.Prelude.{◌≡◌, ℕ, Option, IfSome, List, [], ◌∷◌, length}
 use Rattle.model_machine.specs.Machine.{empty_state, start_of}
-use Rattle.model_machine.specs.History.{ControlState, IsLegal, now_of}
+use Rattle.model_machine.specs.History.{ControlState, AreSteps, now_of}
 use Rattle.tm_control.specs.declared.life.Life.{Life}
 use Rattle.tm_session.specs.Opening.{ReadsDefinition}
 use Rattle.tm_session.specs.Headline.{Defines}
@@ -20,7 +20,7 @@ pub record IsLifeOf (control : ControlState) (life : Life) : Type 0 where
   pub opening : life.opening ≡ control.opening
   pub history : life.history ≡ control.history
   pub kept : life.kept ≡ (now_of control).lasting.steps
-  pub legal : IsLegal control.system (start_of control.system control.opening) control.history
+  pub steps : AreSteps control.system (start_of control.system control.opening) control.history
 
 abbrev pub IsOneLife : ControlState → List Life → Type 0
 IsOneLife control [] = ⊥

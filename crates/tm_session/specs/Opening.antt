@@ -1,18 +1,33 @@
--- The definition, as it is read before a session.
-use Rattle.std.specs.Prelude.{◌≡◌, ℕ, ◌<◌, ⊤, Bool, Option, Some, None, IfSome, Result, Ok, Err, List, ◌++◌, length}
+-- The reader's next line, and the definition, as it is read before a session.
+use Rattle.std.specs.Prelude.{◌≡◌, ℕ, ◌<◌, ◌≤◌, ◌⊎◌, Bool, Option, Some, None, IfSome, Result, Ok, Err, List, [], ◌++◌, length}
 use Rattle.model_system.specs.System.{System}
-use Rattle.tm_edge.specs.Lines.{CutLine, HasServed, IsTooLong, lines_of}
+use Rattle.tm_edge.specs.Fault.{HasRisen}
+use Rattle.tm_edge.specs.Lines.{CutLine, HasServed, IsTooLong, line_size, lines_of}
 use Rattle.tm_session.specs.declared.outcome.Ended.{Ended}
-use Rattle.tm_session.specs.declared.outcome.Ended.TheVariants.{Done, Words, BadLine, BadCross, Read, Write, Memory, Limit}
+use Rattle.tm_session.specs.declared.outcome.Ended.TheVariants.{BadLine, BadCross, Read, Memory, Limit}
 use Rattle.tm_session.specs.Source.{definition_lines, session_lines, definition_from, session_from}
+use Rattle.tm_session.specs.Outcome.{texts_of}
 
--- These are the lines of the definition, and the session's lines are those of the bytes behind them.
+-- ---- one line
+
+-- No line was read, and the same bytes lie before the reader, some of which it holds: reading failed; or
+-- the next line is too long; or memory was wanting, and nothing that is held is a line that is too long.
+abbrev pub IsUnread : Ended → Option (List ℕ) → List ℕ → ℕ → ℕ → Type 0
+IsUnread Read told held reads_old reads_new = HasRisen reads_old reads_new
+IsUnread (Limit n) told held reads_old reads_new = (n ≡ 4097) × IfSome told IsTooLong × (reads_new ≡ reads_old)
+IsUnread Memory told held reads_old reads_new = (line_size held ≤ 4096) × (reads_new ≡ reads_old)
+IsUnread _ told held reads_old reads_new = ⊥
+
+-- ---- a definition
+
+-- These are the lines of the definition. The lines behind them, however many, are the session's; or the
+-- source ended with them, within the definition.
 pub record ReadsLines (bytes : List ℕ) (texts : List (List ℕ)) (rest : List ℕ) : Type 0 where
   pub cut : List CutLine
-  pub count : length cut ≡ length texts
+  pub lines : texts_of cut ≡ texts
   pub served : HasServed bytes cut rest
   pub definition : definition_lines (lines_of bytes) ≡ texts
-  pub session : session_lines (lines_of bytes) ≡ lines_of rest
+  pub session : ((more : List (List ℕ)) → session_lines (texts ++ more) ≡ more) ⊎ ((rest ≡ []) × (session_lines texts ≡ []))
 
 abbrev pub ReadsDefinition : Option (List ℕ) → List (List ℕ) → Option (List ℕ) → Type 0
 ReadsDefinition (Some bytes) texts (Some rest) = ReadsLines bytes texts rest
@@ -29,34 +44,26 @@ pub record IsCutShort (bytes : List ℕ) : Type 0 where
 
 -- how a run ends before its definition is read
 abbrev pub StopsBefore : Ended → Option (List ℕ) → Type 0
-StopsBefore Read told = ⊤
-StopsBefore Memory told = ⊤
+StopsBefore Read told = Unit {0}
+StopsBefore Memory told = Unit {0}
 StopsBefore (Limit n) told = (n ≡ 4097) × IfSome told IsCutShort
-StopsBefore Write told = ⊥
-StopsBefore Done told = ⊥
-StopsBefore (Words word rule) told = ⊥
-StopsBefore (BadLine line rule) told = ⊥
-StopsBefore (BadCross line rule) told = ⊥
+StopsBefore _ told = ⊥
 
 -- the definition was judged, unless memory was wanting
 abbrev pub IsJudged : Result System Ended → Result System Ended → Type 0
 IsJudged judged (Ok system) = judged ≡ Ok system
 IsJudged judged (Err (BadLine line rule)) = judged ≡ Err (BadLine line rule)
 IsJudged judged (Err (BadCross line rule)) = judged ≡ Err (BadCross line rule)
-IsJudged judged (Err Memory) = ⊤
-IsJudged judged (Err Done) = ⊥
-IsJudged judged (Err Read) = ⊥
-IsJudged judged (Err Write) = ⊥
-IsJudged judged (Err (Limit n)) = ⊥
-IsJudged judged (Err (Words word rule)) = ⊥
+IsJudged judged (Err Memory) = Unit {0}
+IsJudged judged (Err _) = ⊥
 
 -- the lines so far, and those that are still to come
 pub record ReadsSome (bytes : List ℕ) (texts : List (List ℕ)) (rest : List ℕ) (inside : Bool) (room : ℕ) : Type 0 where
   pub cut : List CutLine
-  pub count : length cut ≡ length texts
+  pub lines : texts_of cut ≡ texts
   pub served : HasServed bytes cut rest
   pub definition : definition_lines (lines_of bytes) ≡ texts ++ definition_from inside room (lines_of rest)
-  pub session : session_lines (lines_of bytes) ≡ session_from inside room (lines_of rest)
+  pub session : (more : List (List ℕ)) → session_lines (texts ++ more) ≡ session_from inside room more
 
 abbrev pub DefinitionSoFar : Option (List ℕ) → List (List ℕ) → Option (List ℕ) → Bool → ℕ → Type 0
 DefinitionSoFar (Some bytes) texts (Some rest) inside room = ReadsSome bytes texts rest inside room

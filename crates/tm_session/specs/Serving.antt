@@ -1,5 +1,5 @@
 -- What serving one block does.
-use Rattle.std.specs.Prelude.{◌≡◌, ℕ, ◌≤◌, Bool, List, [], ◌∷◌, ◌++◌, length}
+use Rattle.std.specs.Prelude.{◌≡◌, ℕ, Bool, List, ◌++◌, length}
 use Rattle.model_machine.specs.declared.entry.Entry.{Entry}
 use Rattle.model_machine.specs.declared.entry.ControlCall.{ControlCall}
 use Rattle.model_machine.specs.Steps.{is_quiet}
@@ -7,7 +7,7 @@ use Rattle.model_machine.specs.History.{ControlState, AddsEntry, AddsNothing, ca
 use Rattle.model_session.specs.declared.asked.Asked.{Asked}
 use Rattle.model_session.specs.declared.asked.Asked.TheVariants.{Bad, TooLong, Call, Quiet}
 use Rattle.model_session.specs.Text.{entry_text, bad_line_text, too_long_text}
-use Rattle.model_session.specs.Turns.{AreTurns, IsQuieted, IsBrokenOff, quieted_text}
+use Rattle.model_session.specs.Turns.{AreTurns, IsQuieted, quieted_text}
 use Rattle.model_session.specs.Session.{IsBegunBy}
 
 -- these entries were added, and nothing else

@@ -4,7 +4,7 @@ use Rattle.std.specs.Str.{bytes_eq}
 use Rattle.text_rows.specs.Operands.{macro_name}
 use Rattle.script_text.specs.Scripts.{is_last}
 use Rattle.model_system.specs.System.{System}
-use Rattle.sysdef_check.specs.declared.definition.MacroLine.{MacroLine}
+use Rattle.system_types.specs.declared.definition.MacroLine.{MacroLine}
 use Rattle.sysdef_check.specs.Systems.{checked}
 use Rattle.sysdef_text.specs.Places.{is_program}
 use Rattle.sysdef_text.specs.Definitions.{definition_in}

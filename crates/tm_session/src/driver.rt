@@ -1,27 +1,26 @@
 //! A session, driven line by line.
-ghost use Rattle.std.specs.Prelude.{◌≡◌, ◌+◌, ◌<◌, ◌≤◌, ◌^◌, [], ◌∷◌, List, Some, None, true, false, length, MatchOption, IfSome, IfErr, OnOk, IsNone, IsTrue};
+ghost use Rattle.std.specs.Prelude.{◌≡◌, ◌<◌, ◌≤◌, ℕ, [], ◌∷◌, Some, None, true, false, MatchOption, IfSome, IfErr, OnOk, IsNone, IsTrue};
+ghost use Rattle.text_rows.specs.Lines.{is_passed_over};
 ghost use Rattle.tm_edge.specs.Lines.{unread};
 ghost use Rattle.model_session.specs.Blocks as spec;
-ghost use Rattle.tm_session.specs.Driving.{Serves, FailsAt, Goes, Ends, Steps, StopsHere, StopsLast, HasDriven, IsOpen, ahead_with, closed_before};
+ghost use Rattle.tm_session.specs.Driving.{Serves, FailsAt, Goes, Ends, EndsWhole, Steps, StopsHere, StopsLast, HasDriven, IsOpen, behind_last};
 ghost use Rattle.tm_session.specs.Outcome.{HasCause, IsBack, IsReadToEnd};
 
-use crate::block::{Block, is_further, takes_further};
 use crate::outcome::Ended;
-use crate::printed::Printed;
+use crate::reader::read_line;
 use crate::serve::serve_block;
+use session_lines::{Block, is_further, takes_further};
+use session_text::Printed;
 use std::alloc::Global;
 use text_rows::is_passed_over;
 use tm_control::Control;
-use tm_edge::{Line, LineFault, Lines, Sink, Source};
+use tm_edge::{Line, Lines, Sink, Source};
 
 /// The most lines that a source has.
-pub(crate) const LINE_COUNT: u32 = 1_000_000;
+const LINE_COUNT: u32 = 1_000_000;
 
 /// The number of the first line past them.
 const LINE_PAST: u64 = 1_000_001;
-
-/// The number of bytes of a line that is too long.
-pub(crate) const BYTE_PAST: u64 = 4097;
 
 /// Serves a block, and writes its text.
 #[tactic(auto, using(crate::proofs::Driven::served_steps))]
@@ -32,12 +31,10 @@ fn serve_whole<K: Sink>(
     sink: &mut K,
     block: &Block,
 ) -> Result<(), Ended>
-    requires { length control.old.system.regions < 2 ^ 32 }
     ensures ok { OnOk result (Serves (block.now ∷ []) (K.written sink.old) (K.written sink.new) control.old control.new) }
-    ensures failed { IfErr result (λ ended. (others : List spec.Block) → FailsAt ended block.now others (K.written sink.old) (K.written sink.new) control.old control.new) }
+    ensures calm { OnOk result (K.faults sink.new ≡ K.faults sink.old) }
+    ensures failed { IfErr result (λ ended. FailsAt ended block.now (K.written sink.old) (K.written sink.new) control.old control.new) }
     ensures cause { IfErr result (λ ended. HasCause ended 0 0 (K.faults sink.old) (K.faults sink.new)) }
-    ensures system { control.new.system ≡ control.old.system }
-    ensures writes { K.faults sink.old ≤ K.faults sink.new }
 {
     let Ok(()) = serve_block(alloc, control, printed, block) else {
         return Err(Ended::Memory);
@@ -58,15 +55,14 @@ fn begin_block<K: Sink>(
     pending: &mut Option<Block>,
     line: Line,
 ) -> Option<Ended>
-    requires regions { length control.old.system.regions < 2 ^ 32 }
     requires none { pending.old ≡ None }
+    requires seen { is_passed_over line ≡ false }
     ensures step { MatchOption result
-        (Goes (spec.line_before line) (spec.blocks_behind pending.new) (K.written sink.old) (K.written sink.new) control.old control.new)
-        (λ ended. Ends ended (spec.line_before line) (K.written sink.old) (K.written sink.new) control.old control.new) }
+        (Goes None line pending.new (K.written sink.old) (K.written sink.new) control.old control.new)
+        (λ ended. Ends ended None line (K.written sink.old) (K.written sink.new) control.old control.new) }
     ensures begun { IfSome pending.new IsOpen }
+    ensures calm { IsNone result → K.faults sink.new ≡ K.faults sink.old }
     ensures cause { IfSome result (λ ended. HasCause ended 0 0 (K.faults sink.old) (K.faults sink.new)) }
-    ensures system { control.new.system ≡ control.old.system }
-    ensures writes { K.faults sink.old ≤ K.faults sink.new }
 {
     let block = Block::alone(alloc, line);
     if takes_further(block.line()) {
@@ -101,16 +97,15 @@ fn serve_both<K: Sink>(
     block: Block,
     line: Line,
 ) -> Option<Ended>
-    requires regions { length control.old.system.regions < 2 ^ 32 }
     requires none { pending.old ≡ None }
+    requires seen { is_passed_over line ≡ false }
     requires plain { spec.is_further line ≡ false }
     ensures step { MatchOption result
-        (Goes (closed_before block line) (spec.blocks_behind pending.new) (K.written sink.old) (K.written sink.new) control.old control.new)
-        (λ ended. Ends ended (closed_before block line) (K.written sink.old) (K.written sink.new) control.old control.new) }
+        (Goes (Some block) line pending.new (K.written sink.old) (K.written sink.new) control.old control.new)
+        (λ ended. Ends ended (Some block) line (K.written sink.old) (K.written sink.new) control.old control.new) }
     ensures begun { IfSome pending.new IsOpen }
+    ensures calm { IsNone result → K.faults sink.new ≡ K.faults sink.old }
     ensures cause { IfSome result (λ ended. HasCause ended 0 0 (K.faults sink.old) (K.faults sink.new)) }
-    ensures system { control.new.system ≡ control.old.system }
-    ensures writes { K.faults sink.old ≤ K.faults sink.new }
 {
     match serve_whole(alloc, control, printed, sink, &block) {
         Ok(()) => begin_block(alloc, control, printed, sink, pending, line),
@@ -127,15 +122,13 @@ fn serve_read<K: Sink>(
     pending: &mut Option<Block>,
     line: Line,
 ) -> Option<Ended>
-    requires regions { length control.old.system.regions < 2 ^ 32 }
     requires begun { IfSome pending.old IsOpen }
     ensures step { MatchOption result
-        (Goes (ahead_with pending.old line) (spec.blocks_behind pending.new) (K.written sink.old) (K.written sink.new) control.old control.new)
-        (λ ended. Ends ended (ahead_with pending.old line) (K.written sink.old) (K.written sink.new) control.old control.new) }
+        (Goes pending.old line pending.new (K.written sink.old) (K.written sink.new) control.old control.new)
+        (λ ended. Ends ended pending.old line (K.written sink.old) (K.written sink.new) control.old control.new) }
     ensures begun { IfSome pending.new IsOpen }
+    ensures calm { IsNone result → K.faults sink.new ≡ K.faults sink.old }
     ensures cause { IfSome result (λ ended. HasCause ended 0 0 (K.faults sink.old) (K.faults sink.new)) }
-    ensures system { control.new.system ≡ control.old.system }
-    ensures writes { K.faults sink.old ≤ K.faults sink.new }
 {
     if is_passed_over(line.bytes()) {
         return None;
@@ -160,11 +153,9 @@ fn serve_end<K: Sink>(
     sink: &mut K,
     pending: &mut Option<Block>,
 ) -> Ended
-    requires { length control.old.system.regions < 2 ^ 32 }
-    ensures step { StopsHere result (Some []) pending.old (K.written sink.old) (K.written sink.new) control.old control.new }
+    ensures step { EndsWhole result pending.old (K.written sink.old) (K.written sink.new) control.old control.new }
     ensures none { pending.new ≡ None }
     ensures cause { HasCause result 0 0 (K.faults sink.old) (K.faults sink.new) }
-    ensures writes { K.faults sink.old ≤ K.faults sink.new }
 {
     match pending.take() {
         None => Ended::Done,
@@ -176,7 +167,6 @@ fn serve_end<K: Sink>(
 }
 
 /// Reads the next line and does what it asks for, or says how the session ended.
-#[tactic(auto, using(crate::proofs::Reading::reader_steps))]
 fn serve_next<S: Source, K: Sink>(
     alloc: Global,
     lines: &mut Lines,
@@ -186,30 +176,25 @@ fn serve_next<S: Source, K: Sink>(
     printed: &mut Printed,
     pending: &mut Option<Block>,
 ) -> Option<Ended>
-    requires regions { length control.old.system.regions < 2 ^ 32 }
     requires begun { IfSome pending.old IsOpen }
     ensures step { MatchOption result
         (Steps (unread lines.old (S.left source.old)) (unread lines.new (S.left source.new)) pending.old pending.new (K.written sink.old) (K.written sink.new) control.old control.new)
-        (λ ended. StopsHere ended (unread lines.old (S.left source.old)) pending.old (K.written sink.old) (K.written sink.new) control.old control.new) }
+        (λ ended. (count : ℕ) → count < 1000000 → StopsHere count ended (unread lines.old (S.left source.old)) (unread lines.new (S.left source.new)) pending.old (K.written sink.old) (K.written sink.new) control.old control.new) }
     ensures begun { IfSome pending.new IsOpen }
+    ensures reads { IsNone result → S.faults source.new ≡ S.faults source.old }
+    ensures writes { IsNone result → K.faults sink.new ≡ K.faults sink.old }
     ensures back { IsBack (unread lines.old (S.left source.old)) (unread lines.new (S.left source.new)) }
     ensures whole { IfSome result (λ ended. IsReadToEnd ended (unread lines.new (S.left source.new))) }
     ensures cause { IfSome result (λ ended. HasCause ended (S.faults source.old) (S.faults source.new) (K.faults sink.old) (K.faults sink.new)) }
-    ensures system { IsNone result → control.new.system ≡ control.old.system }
-    ensures reads { S.faults source.old ≤ S.faults source.new }
-    ensures writes { K.faults sink.old ≤ K.faults sink.new }
 {
-    match lines.next_line(source) {
+    match read_line(lines, source) {
         Ok(Some(line)) => serve_read(alloc, control, printed, sink, pending, line),
         Ok(None) => Some(serve_end(alloc, control, printed, sink, pending)),
-        Err(LineFault::Read) => Some(Ended::Read),
-        Err(LineFault::TooLong) => Some(Ended::Limit(BYTE_PAST)),
-        Err(LineFault::Memory) => Some(Ended::Memory),
+        Err(stopped) => Some(stopped),
     }
 }
 
 /// How a session ends behind the last line that it may have.
-#[tactic(auto, using(crate::proofs::Reading::last_steps))]
 fn end_of<S: Source, K: Sink>(
     alloc: Global,
     lines: &mut Lines,
@@ -219,20 +204,25 @@ fn end_of<S: Source, K: Sink>(
     printed: &mut Printed,
     pending: &mut Option<Block>,
 ) -> Ended
-    requires { length control.old.system.regions < 2 ^ 32 }
-    ensures step { StopsLast result (unread lines.old (S.left source.old)) pending.old (K.written sink.old) (K.written sink.new) control.old control.new }
+    ensures step { StopsLast 1000000 result (unread lines.old (S.left source.old)) (unread lines.new (S.left source.new)) pending.old (K.written sink.old) (K.written sink.new) control.old control.new }
     ensures back { IsBack (unread lines.old (S.left source.old)) (unread lines.new (S.left source.new)) }
     ensures whole { IsReadToEnd result (unread lines.new (S.left source.new)) }
     ensures cause { HasCause result (S.faults source.old) (S.faults source.new) (K.faults sink.old) (K.faults sink.new) }
-    ensures reads { S.faults source.old ≤ S.faults source.new }
-    ensures writes { K.faults sink.old ≤ K.faults sink.new }
 {
-    match lines.next_line(source) {
+    match read_line(lines, source) {
         Ok(Some(_)) => Ended::Limit(LINE_PAST),
         Ok(None) => serve_end(alloc, control, printed, sink, pending),
-        Err(LineFault::Read) => Ended::Read,
-        Err(LineFault::TooLong) => Ended::Limit(LINE_PAST),
-        Err(LineFault::Memory) => Ended::Memory,
+        Err(ended) => behind_last(ended),
+    }
+}
+
+/// A limit that is met behind the last line that there may be is the one of lines.
+fn behind_last(ended: Ended) -> Ended
+    ensures { result ≡ behind_last ended }
+{
+    match ended {
+        Ended::Limit(_) => Ended::Limit(LINE_PAST),
+        _ => ended,
     }
 }
 
@@ -246,14 +236,11 @@ pub fn serve_lines<S: Source, K: Sink>(
     sink: &mut K,
     control: &mut Control,
 ) -> Ended
-    requires before { before ≤ LINE_COUNT }
-    requires regions { length control.old.system.regions < 2 ^ 32 }
-    ensures driven { HasDriven before (unread lines.old (S.left source.old)) (K.written sink.old) (K.written sink.new) control.old control.new result }
+    requires { before ≤ 1000000 }
+    ensures driven { HasDriven before (unread lines.old (S.left source.old)) (unread lines.new (S.left source.new)) (K.written sink.old) (K.written sink.new) control.old control.new result }
     ensures taken { IsBack (unread lines.old (S.left source.old)) (S.left source.new) }
     ensures whole { IsReadToEnd result (S.left source.new) }
     ensures cause { HasCause result (S.faults source.old) (S.faults source.new) (K.faults sink.old) (K.faults sink.new) }
-    ensures reads { S.faults source.old ≤ S.faults source.new }
-    ensures writes { K.faults sink.old ≤ K.faults sink.new }
 {
     let mut printed = Printed::new(alloc);
     let mut pending = None;

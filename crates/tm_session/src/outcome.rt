@@ -1,3 +1,4 @@
+//! How a session ended, and what it came to.
 use std::marker::Model;
 use tm_control::Life;
 

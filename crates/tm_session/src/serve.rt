@@ -1,26 +1,23 @@
 //! One block of a session, served.
-ghost use Rattle.std.specs.Prelude.{◌≡◌, ◌<◌, ◌≤◌, ◌^◌, ◌++◌, [], length, OnOk, OnErr};
-ghost use Rattle.model_machine.specs.Machine.{IsRegion, Moment};
-ghost use Rattle.tm_machine.specs.Turns.{turned_entry};
-ghost use Rattle.model_session.specs.Text.{entry_text, accepted_text, bad_line_text, too_long_text};
-ghost use Rattle.model_machine.specs.History.{AddsNothing};
+ghost use Rattle.std.specs.Prelude.{◌≡◌, ℕ, List, ◌<◌, [], length, OnOk, OnErr};
+ghost use Rattle.model_machine.specs.Machine.{IsRegion};
+ghost use Rattle.model_machine.specs.declared.entry.Entry.TheVariants.{Accept, Acked as AckedEntry};
+ghost use Rattle.model_machine.specs.History.{AddsNothing, is_fault};
+ghost use Rattle.model_session.specs.Text.{bad_line_text, too_long_text};
 ghost use Rattle.model_session.specs.Lines.{CanAsk};
 ghost use Rattle.model_session.specs.Session.{asked_in};
 ghost use Rattle.tm_session.specs.Serving.{IsDone, IsAnswered, BreaksOff};
 
-use crate::asking::read_block;
-use crate::block::Block;
-use crate::printed::Printed;
-use crate::reply::reply_lines;
-use crate::text::{
-    ANSWER_ROOM, abended_line, accepted_line, ack_line, bad_line, called_line, done_line,
-    held_line, idle_line, none_line, scheduled_line, too_long_line, unknown_line,
-};
 use crate::turns::answer_quiet;
-use model_machine::{Accepted, AckAnswer, ControlCall, SyncPoint};
+use model_machine::ControlCall;
 use model_session::Asked;
+use session_lines::{Block, read_block};
+use session_text::{
+    ANSWER_ROOM, Printed, WORD_ROOM, ack_line, bad_line, input_line, none_line, reply_lines,
+    shown_word, too_long_line, turned_line, unknown_line,
+};
 use std::alloc::Global;
-use tm_control::{AckRefused, Acked, Control, ControlFault, InputRefused, Shown, Taken, Turned};
+use tm_control::{AckRefused, Acked, Control, ControlFault, InputRefused, Shown, Taken};
 use tm_types::{Memory, Name, Segments};
 
 /// Serves a block, and leaves what is to be printed for it as the printed text. After want of memory
@@ -32,7 +29,6 @@ pub fn serve_block(
     printed: &mut Printed,
     block: &Block,
 ) -> Result<(), Memory>
-    requires { length control.old.system.regions < 2 ^ 32 }
     ensures done { OnOk result (IsDone (asked_in control.old.system block.now) control.old control.new printed.new.text) }
     ensures err { OnErr result (BreaksOff (asked_in control.old.system block.now) control.old control.new) }
 {
@@ -114,44 +110,30 @@ fn answer_input(
     ensures err { OnErr result (AddsNothing control.old control.new) }
 {
     printed.make_room(ANSWER_ROOM)?;
-    // The one answer that names a word of the input is written while the input is at hand.
-    let mut no_code = Printed::new(alloc);
-    no_code.make_room(ANSWER_ROOM)?;
-    accepted_line(&mut no_code, terminal, number, &segments, Accepted::Code);
-    match control.input(terminal, number, segments) {
-        Ok(Taken::New(id)) => plain_line(alloc, printed, terminal, number, Accepted::New(id)),
-        Ok(Taken::Already) => plain_line(alloc, printed, terminal, number, Accepted::Already),
-        Err(InputRefused::Terminal) => {
-            plain_line(alloc, printed, terminal, number, Accepted::Terminal);
-        }
-        Err(InputRefused::Expected(next)) => {
-            plain_line(alloc, printed, terminal, number, Accepted::Expected(next));
-        }
-        Err(InputRefused::SegmentsOver(count, most)) => {
-            let answer = Accepted::SegmentsOver(count, most);
-            plain_line(alloc, printed, terminal, number, answer);
-        }
-        Err(InputRefused::QueueFull(need, limit)) => {
-            plain_line(
-                alloc,
-                printed,
-                terminal,
-                number,
-                Accepted::QueueFull(need, limit),
-            );
-        }
-        Err(InputRefused::Code) => *printed = no_code,
-        Err(InputRefused::Fault(ControlFault::Memory)) => return Err(Memory),
+    let mut word = Printed::new(alloc);
+    word.make_room(WORD_ROOM)?;
+    word.push(shown_word(&segments));
+    let answer = control.input(terminal, number, segments);
+    if is_input_fault(&answer) {
+        return Err(Memory);
     }
+    input_line(printed, terminal, number, word.as_slice(), &answer);
     Ok(())
 }
 
-/// Adds the line of an answer that names no word of the input.
-fn plain_line(alloc: Global, printed: &mut Printed, terminal: &Name, number: u64, answer: Accepted)
-    requires { ANSWER_ROOM ≤ printed.old.room }
-    ensures { printed.new.text ≡ printed.old.text ++ accepted_text terminal.now number [] answer }
+/// Whether an input met a fault.
+fn is_input_fault(answer: &Result<Taken, InputRefused>) -> bool
+    ensures { (terminal : List ℕ) → (number : ℕ) → (segments : List (List ℕ)) → is_fault (Accept terminal number segments answer.now) ≡ result }
 {
-    accepted_line(printed, terminal, number, &Segments::new(alloc), answer);
+    match answer {
+        Ok(_) => false,
+        Err(InputRefused::Fault(_)) => true,
+        Err(InputRefused::Terminal) => false,
+        Err(InputRefused::Expected(_)) => false,
+        Err(InputRefused::Code) => false,
+        Err(InputRefused::SegmentsOver(_, _)) => false,
+        Err(InputRefused::QueueFull(_, _)) => false,
+    }
 }
 
 fn answer_receive(
@@ -185,15 +167,24 @@ fn answer_acknowledge(
     ensures err { OnErr result (AddsNothing control.old control.new) }
 {
     printed.make_room(ANSWER_ROOM)?;
-    let answer = match control.acknowledge(terminal, number) {
-        Ok(Acked::Removed) => AckAnswer::Removed,
-        Ok(Acked::Already) => AckAnswer::Already,
-        Err(AckRefused::Unknown) => AckAnswer::Unknown,
-        Err(AckRefused::Ahead(first)) => AckAnswer::Ahead(first),
-        Err(AckRefused::Fault(ControlFault::Memory)) => return Err(Memory),
-    };
-    ack_line(printed, terminal, number, answer);
+    let answer = control.acknowledge(terminal, number);
+    if is_ack_fault(&answer) {
+        return Err(Memory);
+    }
+    ack_line(printed, terminal, number, &answer);
     Ok(())
+}
+
+/// Whether an acknowledgement met a fault.
+fn is_ack_fault(answer: &Result<Acked, AckRefused>) -> bool
+    ensures { (terminal : List ℕ) → (number : ℕ) → is_fault (AckedEntry terminal number answer.now) ≡ result }
+{
+    match answer {
+        Ok(_) => false,
+        Err(AckRefused::Fault(_)) => true,
+        Err(AckRefused::Unknown) => false,
+        Err(AckRefused::Ahead(_)) => false,
+    }
 }
 
 fn answer_turn(control: &mut Control, printed: &mut Printed, region: u32) -> Result<(), Memory>
@@ -203,31 +194,11 @@ fn answer_turn(control: &mut Control, printed: &mut Printed, region: u32) -> Res
     ensures err { OnErr result (AddsNothing control.old control.new) }
 {
     printed.make_room(ANSWER_ROOM)?;
-    let turned = match control.turn(region) {
-        Ok(turned) => turned,
-        Err(ControlFault::Memory) => return Err(Memory),
-    };
-    turned_line(printed, region, &turned);
-    Ok(())
-}
-
-/// Adds the line of a turn.
-fn turned_line(printed: &mut Printed, region: u32, turned: &Turned)
-    requires room { ANSWER_ROOM ≤ printed.old.room }
-    ensures { (moment : Moment) → printed.new.text ≡ printed.old.text ++ entry_text moment (turned_entry region turned.now) }
-{
-    match turned {
-        Turned::Scheduled(code, id) => scheduled_line(printed, region, code, *id),
-        Turned::Called(function, pcb, status) => {
-            called_line(printed, region, *function, *pcb, *status)
+    match control.turn(region) {
+        Ok(turned) => {
+            turned_line(printed, region, &turned);
+            Ok(())
         }
-        Turned::Next(code, id, next) => {
-            done_line(printed, region, code, *id, SyncPoint::Next(*next))
-        }
-        Turned::QC(code, id) => done_line(printed, region, code, *id, SyncPoint::NoMore),
-        Turned::Done(code, id) => done_line(printed, region, code, *id, SyncPoint::End),
-        Turned::Abended(code, id, abend) => abended_line(printed, region, code, *id, *abend),
-        Turned::Held(need, limit) => held_line(printed, region, *need, *limit),
-        Turned::Idle => idle_line(printed, region),
+        Err(ControlFault::Memory) => Err(Memory),
     }
 }

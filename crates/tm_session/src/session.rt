@@ -1,5 +1,5 @@
 //! A whole session.
-ghost use Rattle.std.specs.Prelude.{◌≡◌, ◌<◌, ◌≤◌, ◌^◌, [], length, IfOk, IfErr, IfSome, vec_len, vec_capacity};
+ghost use Rattle.std.specs.Prelude.{◌≡◌, ◌<◌, ◌≤◌, [], IfOk, IfErr, OnOk, vec_len, vec_capacity};
 ghost use Rattle.model_machine.specs.Machine.{empty_state};
 ghost use Rattle.tm_edge.specs.Lines.{unread};
 ghost use Rattle.tm_session.specs.Opened.{IsOpened, IsOneLife};
@@ -10,7 +10,7 @@ use crate::driver::serve_lines;
 use crate::outcome::{Ended, Lives, Outcome};
 use crate::source::{definition_lines, judge};
 use std::alloc::Global;
-use sysdef_check::System;
+use system_types::System;
 use tm_control::{Control, Life};
 use tm_edge::{Lines, Sink, Source};
 use tm_types::Memory;
@@ -21,12 +21,10 @@ use tm_types::Memory;
 /// The status is that of the first cause met: a rule that the definition breaks, the source's end,
 /// its failure, the sink's, want of memory, or a limit.
 pub fn drill_session<S: Source, K: Sink>(alloc: Global, source: &mut S, sink: &mut K) -> Outcome
-    ensures session { IsSession (S.left source.old) (K.written sink.old) (K.written sink.new) result.status result.lives }
+    ensures session { IsSession (S.left source.old) (S.left source.new) (K.written sink.old) (K.written sink.new) result.status result.lives }
     ensures taken { IsBack (S.left source.old) (S.left source.new) }
     ensures whole { IsReadToEnd result.status (S.left source.new) }
     ensures cause { HasCause result.status (S.faults source.old) (S.faults source.new) (K.faults sink.old) (K.faults sink.new) }
-    ensures reads { S.faults source.old ≤ S.faults source.new }
-    ensures writes { K.faults sink.old ≤ K.faults sink.new }
 {
     let mut lines = Lines::new(alloc);
     match open(alloc, &mut lines, source) {
@@ -68,13 +66,12 @@ fn open<S: Source>(
 ) -> Result<(u32, Vec<Life>, Control), Ended>
     ensures opened { IfOk result (λ opened. IsOpened (unread lines.old (S.left source.old)) (unread lines.new (S.left source.new)) opened.0 opened.2) }
     ensures few { IfOk result (λ opened. opened.0 ≤ 1000000) }
-    ensures regions { IfOk result (λ opened. length opened.2.system.regions < 2 ^ 32) }
     ensures empty { IfOk result (λ opened. opened.1.items ≡ []) }
     ensures room { IfOk result (λ opened. vec_len opened.1 < vec_capacity opened.1) }
     ensures unbegun { IfErr result (IsUnbegun (unread lines.old (S.left source.old))) }
     ensures back { IsBack (unread lines.old (S.left source.old)) (unread lines.new (S.left source.new)) }
     ensures cause { IfErr result (λ ended. HasCause ended (S.faults source.old) (S.faults source.new) 0 0) }
-    ensures reads { S.faults source.old ≤ S.faults source.new }
+    ensures calm { OnOk result (S.faults source.new ≡ S.faults source.old) }
 {
     let read = match definition_lines(alloc, lines, source) {
         Ok(read) => read,
@@ -95,14 +92,9 @@ fn begin(alloc: Global, system: System) -> Result<(Vec<Life>, Control), Memory>
     ensures empty { IfOk result (λ begun. begun.0.items ≡ []) }
     ensures room { IfOk result (λ begun. vec_len begun.0 < vec_capacity begun.0) }
     ensures system { IfOk result (λ begun. begun.1.system ≡ system) }
-    ensures regions { IfOk result (λ begun. length begun.1.system.regions < 2 ^ 32) }
     ensures opening { IfOk result (λ begun. begun.1.opening ≡ empty_state system) }
     ensures history { IfOk result (λ begun. begun.1.history ≡ []) }
 {
-    // A region's number has 32 bits; there is no memory for so many regions.
-    if system.regions().len() > u32::MAX as usize {
-        return Err(Memory);
-    }
     let lives = Vec::with_capacity(alloc, 1)?;
     let control = Control::start(alloc, system)?;
     Ok((lives, control))

@@ -1,19 +1,20 @@
 //! The lines of a definition, and the system that they define.
-ghost use Rattle.std.specs.Prelude.{◌≡◌, ◌+◌, ◌<◌, ◌≤◌, ◌^◌, Ok, Err, length, IfOk, IfErr, IsFalse};
+ghost use Rattle.std.specs.Prelude.{◌≡◌, ◌+◌, ◌<◌, ◌≤◌, ◌^◌, Ok, Err, length, IfOk, IfErr, OnOk, IsFalse};
 ghost use Rattle.tm_edge.specs.Lines.{unread};
 ghost use Rattle.sysdef_text.specs.Places as places;
 ghost use Rattle.tm_session.specs.Source as spec;
 ghost use Rattle.tm_session.specs.Opening.{ReadsDefinition, StopsBefore, IsJudged};
 ghost use Rattle.tm_session.specs.Outcome.{HasCause, IsBack};
 
-use crate::driver::BYTE_PAST;
 use crate::outcome::Ended;
+use crate::reader::read_line;
 use script_text::is_last;
 use std::alloc::Global;
-use sysdef_check::{CrossRefused, System, check};
+use sysdef_check::{CrossRefused, check};
 use sysdef_text::read_definition_lines;
+use system_types::System;
 use text_rows::{LineRefused, is_word, split_macro};
-use tm_edge::{Line, LineFault, Lines, Source};
+use tm_edge::{Line, Lines, Source};
 
 /// The most bytes that a definition has; each of its lines counts with its LF.
 const DEFINITION_LIMIT: usize = 262_144;
@@ -63,21 +64,19 @@ pub(crate) fn definition_lines<S: Source>(
 ) -> Result<Vec<Line>, Ended>
     ensures read { IfOk result (λ read. ReadsDefinition (unread lines.old (S.left source.old)) read.items (unread lines.new (S.left source.new))) }
     ensures few { IfOk result (λ read. length read.items ≤ 262145) }
+    ensures calm { OnOk result (S.faults source.new ≡ S.faults source.old) }
     ensures stops { IfErr result (λ ended. StopsBefore ended (unread lines.old (S.left source.old))) }
     ensures back { IsBack (unread lines.old (S.left source.old)) (unread lines.new (S.left source.new)) }
     ensures cause { IfErr result (λ ended. HasCause ended (S.faults source.old) (S.faults source.new) 0 0) }
-    ensures count { S.faults source.old ≤ S.faults source.new }
 {
     let mut read = Vec::new(alloc);
     let mut inside = false;
     let mut room = DEFINITION_LIMIT;
     loop {
-        let line = match lines.next_line(source) {
+        let line = match read_line(lines, source) {
             Ok(Some(line)) => line,
             Ok(None) => return Ok(read),
-            Err(LineFault::Read) => return Err(Ended::Read),
-            Err(LineFault::TooLong) => return Err(Ended::Limit(BYTE_PAST)),
-            Err(LineFault::Memory) => return Err(Ended::Memory),
+            Err(ended) => return Err(ended),
         };
         let ends = ends_definition(inside, room, line.bytes());
         let size = line.bytes().len() + 1;

@@ -3,8 +3,7 @@ ghost use Rattle.std.specs.Prelude.{◌≡◌, ◌≤◌, IfOk, OnErr, [], OnOk}
 ghost use Rattle.model_session.specs.declared.asked.Asked.TheVariants.{Quiet};
 ghost use Rattle.tm_session.specs.Serving.{IsTurned, BreaksOff, HasTurned};
 
-use crate::printed::Printed;
-use crate::text::{ANSWER_ROOM, quiet_line};
+use session_text::{ANSWER_ROOM, Printed, quiet_line};
 use tm_control::{Control, ControlFault};
 use tm_types::Memory;
 

@@ -1,5 +1,5 @@
 -- the definition was read and opened, and then its session was driven
-use Rattle.std.proofs.Common.{◌≡◌, ℕ, List, sym, subst}
+use Rattle.std.proofs.Common.{ℕ, List, subst}
 use Rattle.std.specs.Prelude.{Option}
 use Rattle.tm_edge.specs.Lines.{unread}
 use Rattle.tm_session.specs.Outcome.{IsBack}
@@ -12,7 +12,8 @@ use Rattle.tm_session.proofs.session.drill_session.Goals as goal
 pub returns-in-Ok-clause-session : goal.returns-in-Ok-clause-session
 returns-in-Ok-clause-session g c =
     rw c.ended.ensures.status
-    (is_session (g.S.Source.left c.args.source.now) (unread c.open.new.lines (g.S.Source.left c.open.new.source)) (g.K.Sink.written c.args.sink.now) (g.K.Sink.written c.serve_lines-status.new.sink)
+    (is_session (g.S.Source.left c.args.source.now) (unread c.open.new.lines (g.S.Source.left c.open.new.source)) c.serve_lines-status.new.lines (g.S.Source.left c.serve_lines-status.new.source)
+    (g.K.Sink.written c.args.sink.now) (g.K.Sink.written c.serve_lines-status.new.sink)
     c.in-Ok.count c.in-Ok.control c.serve_lines-status.new.control c.serve_lines-status.result c.ended.result.lives
     (subst (λ (told : Option (List ℕ)). IsOpened told (unread c.open.new.lines (g.S.Source.left c.open.new.source)) c.in-Ok.count c.in-Ok.control)
     (begun_is c.new-lines.result (g.S.Source.left c.args.source.now) c.new-lines.ensures) c.in-Ok.ensures.opened)

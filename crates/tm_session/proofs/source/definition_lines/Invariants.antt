@@ -10,7 +10,7 @@ invariant-loop-line g l = record {
   so_far : DefinitionSoFar (unread l.fn.lines (g.S.Source.left l.fn.source)) l.read.items (unread l.lines (g.S.Source.left l.source)) l.inside l.room;
   few : length l.read.items + l.room ≤ 262144;
   back : IsBack (unread l.fn.lines (g.S.Source.left l.fn.source)) (unread l.lines (g.S.Source.left l.source));
-  count : g.S.Source.faults l.fn.source ≤ g.S.Source.faults l.source;
+  count : g.S.Source.faults l.source ≡ g.S.Source.faults l.fn.source;
 }
 
 abbrev pub decreases-loop-line : goal.decreases-loop-line

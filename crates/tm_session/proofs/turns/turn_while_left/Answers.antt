@@ -1,19 +1,18 @@
 -- where something is left to do there is a region, which turns next
 use Rattle.std.proofs.Common.{◌≡◌, ◌≤◌, length, ap, sym, ◌∙◌, arith}
-use Rattle.model_session.proofs.Turning.{some_region}
 use Rattle.tm_session.proofs.Turned.{turns_break}
 use Rattle.tm_session.proofs.turns.turn_while_left.Goals as goal
 
 pub nonzero_rem-region : goal.nonzero_rem-region
 nonzero_rem-region c =
-    let some : 1 ≤ length c.loop-turns.control.system.regions = some_region c.loop-turns.control (sym c.quiet.ensures ∙ c.if-quiet.false) in
-    let same : length c.regions-regions.result.now ≡ length c.loop-turns.control.system.regions = ap length (c.regions-regions.ensures.value ∙ ap (λ s. s.regions) c.system.ensures) in
-    omega arith
+    let same : length c.regions-regions.result.now ≡ length c.system.result.now.regions = ap length c.regions-regions.ensures.value in
+    omega (arith, c.regions-regions.ensures.valid.some_region)
 
 pub turn-requires : goal.turn-requires
 turn-requires c =
-    let some : 1 ≤ length c.loop-turns.control.system.regions = some_region c.loop-turns.control (sym c.quiet.ensures ∙ c.if-quiet.false) in
     let same : length c.regions-regions.result.now ≡ length c.loop-turns.control.system.regions = ap length (c.regions-regions.ensures.value ∙ ap (λ s. s.regions) c.system.ensures) in
+    let some : 1 ≤ length c.system.result.now.regions = c.regions-regions.ensures.valid.some_region in
+    let there : length c.system.result.now.regions ≡ length c.loop-turns.control.system.regions = ap (λ s. length s.regions) c.system.ensures in
     (omega arith, omega arith)
 
 pub returns-in-Err-Memory-clause-err : goal.returns-in-Err-Memory-clause-err

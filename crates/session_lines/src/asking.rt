@@ -1,0 +1,166 @@
+//! What a block asks for.
+ghost use Rattle.std.specs.Prelude.{◌≡◌, ℕ, ◌<◌, ◌≤◌, ◌++◌, ◌∷◌, [], true, Some, None, IsTrue, IfOk, IfErr, OnOk, length, map};
+ghost use Rattle.std.specs.List.{list_all};
+ghost use Rattle.tm_types.specs.Segment.{are_printable};
+ghost use Rattle.model_session.specs.Lines as spec;
+ghost use Rattle.session_lines.specs.Asking.{IsPrintable, IsStop, IsWithin};
+
+use crate::block::Block;
+use crate::forms::form_of;
+use crate::rules::{NOT_PRINTABLE, WRONG_OPERANDS};
+use crate::words::operand_count;
+use model_machine::ControlCall;
+use model_session::{Asked, Form};
+use std::alloc::Global;
+use text_rows::also;
+use tm_edge::Line;
+use tm_types::{Memory, Name, Segment, SegmentRefused, Segments, are_printable, operands};
+
+/// What a block asks for, of a system with so many regions.
+///
+/// The one error is want of memory. It comes only for an input that is well formed, since an
+/// input's texts are copied.
+#[tactic(auto, unfolding(model_session::specs::Lines::asked_of))]
+pub fn read_block(alloc: Global, regions: u32, block: &Block) -> Result<Asked, Memory>
+    ensures asked { IfOk result (λ asked. asked ≡ spec.asked_of regions block.now) }
+    ensures can { IfOk result (spec.CanAsk regions) }
+{
+    let form = match block_form(regions, block) {
+        Ok(form) => form,
+        Err(rule) => return Ok(Asked::Bad(rule)),
+    };
+    match form {
+        Form::Input(terminal, number) => input_asked(alloc, terminal, number, block),
+        Form::Receive(terminal) => Ok(Asked::Call(ControlCall::Receive(terminal))),
+        Form::Acknowledge(terminal, number) => {
+            Ok(Asked::Call(ControlCall::Acknowledge(terminal, number)))
+        }
+        Form::Turn(region) => Ok(Asked::Call(ControlCall::Turn(region))),
+        Form::Quiet(most) => Ok(Asked::Quiet(most)),
+    }
+}
+
+/// The form of the block's line, or the lowest rule that one of its lines breaks.
+#[tactic(auto, unfolding(model_session::specs::Lines::block_form))]
+fn block_form(regions: u32, block: &Block) -> Result<Form, u8>
+    ensures value { result ≡ spec.block_form regions block.now }
+    ensures printable { OnOk result (IsPrintable block.now) }
+    ensures within { IfOk result (IsWithin regions) }
+{
+    let lines = also(further_forms(block.further()), printable_block(block));
+    also(form_of(regions, block.line()), lines)
+}
+
+/// Rule 2 where a `+` line has no blank.
+#[tactic(auto, unfolding(model_session::specs::Lines::further_forms))]
+fn further_forms(lines: &[Line]) -> Result<(), u8>
+    ensures { result ≡ spec.further_forms lines.now }
+{
+    if have_operands(lines) {
+        Ok(())
+    } else {
+        Err(WRONG_OPERANDS)
+    }
+}
+
+fn have_operands(lines: &[Line]) -> bool
+    ensures { result ≡ list_all spec.has_operand lines.now }
+{
+    lines.iter().all(|line| has_operand(line))
+}
+
+fn has_operand(line: &Line) -> bool
+    ensures { result ≡ spec.has_operand line.now }
+{
+    1 <= operand_count(line.bytes())
+}
+
+/// Rule 6 where a byte of the block isn't printable.
+#[tactic(auto, unfolding(model_session::specs::Lines::printable_block))]
+fn printable_block(block: &Block) -> Result<(), u8>
+    ensures value { result ≡ spec.printable_block block.now }
+    ensures printable { OnOk result (IsPrintable block.now) }
+{
+    if are_printable(block.line()) && are_texts(block.further()) {
+        Ok(())
+    } else {
+        Err(NOT_PRINTABLE)
+    }
+}
+
+fn are_texts(lines: &[Line]) -> bool
+    ensures { result ≡ list_all are_printable lines.now }
+{
+    lines.iter().all(|line| is_text(line))
+}
+
+fn is_text(line: &Line) -> bool
+    ensures { result ≡ are_printable line.now }
+{
+    are_printable(line.bytes())
+}
+
+/// Why no input was made.
+#[derive(Debug, Drop)]
+enum Stop {
+    /// A segment has so many bytes, which are too many.
+    TooLong(u64),
+    Memory,
+}
+
+/// The input of a block that breaks no rule.
+fn input_asked(alloc: Global, terminal: Name, number: u64, block: &Block) -> Result<Asked, Memory>
+    requires { IsPrintable block.now }
+    ensures asked { IfOk result (λ asked. asked ≡ spec.input_asked terminal number (spec.input_texts block.now) (spec.first_long (spec.input_texts block.now))) }
+    ensures can { IfOk result (λ asked. (regions : ℕ) → spec.CanAsk regions asked) }
+{
+    match segments_of(alloc, block) {
+        Ok(segments) => Ok(Asked::Call(ControlCall::Input(terminal, number, segments))),
+        Err(Stop::TooLong(long)) => Ok(Asked::TooLong(terminal, number, long)),
+        Err(Stop::Memory) => Err(Memory),
+    }
+}
+
+/// The segments of an input.
+fn segments_of(alloc: Global, block: &Block) -> Result<Segments, Stop>
+    requires { IsPrintable block.now }
+    ensures made { IfOk result (λ segments. segments ≡ spec.input_texts block.now) }
+    ensures short { OnOk result (spec.first_long (spec.input_texts block.now) ≡ None) }
+    ensures stopped { IfErr result (IsStop (spec.first_long (spec.input_texts block.now))) }
+{
+    let mut segments = Segments::new(alloc);
+    add_segment(alloc, &mut segments, input_text(block.line()))?;
+    for line in block.further() {
+        add_segment(alloc, &mut segments, operands(line.bytes()))?;
+    }
+    Ok(segments)
+}
+
+/// The text of an input line, its third operand.
+#[tactic(auto, using(crate::proofs::Printable::printable_operands))]
+fn input_text(line: &[u8]) -> &[u8]
+    ensures value { result.now ≡ spec.input_text line.now }
+    ensures printable { IsTrue (are_printable line.now) → IsTrue (are_printable result.now) }
+{
+    operands(operands(operands(line)))
+}
+
+/// Adds a segment with this text.
+#[tactic(auto, using(crate::proofs::Places::unprintable))]
+fn add_segment(alloc: Global, segments: &mut Segments, text: &[u8]) -> Result<(), Stop>
+    requires { IsTrue (are_printable text.now) }
+    ensures ok { OnOk result (segments.new ≡ segments.old ++ text.now ∷ []) }
+    ensures short { OnOk result (length text.now ≤ 1996) }
+    ensures stopped { IfErr result (IsStop (spec.first_long (text.now ∷ []))) }
+{
+    let segment = match Segment::make(alloc, text) {
+        Ok(segment) => segment,
+        Err(SegmentRefused::Memory) => return Err(Stop::Memory),
+        Err(SegmentRefused::TooLong(long)) => return Err(Stop::TooLong(long as u64)),
+        Err(SegmentRefused::BadByte(_)) => unreachable!(),
+    };
+    match segments.push(segment) {
+        Ok(()) => Ok(()),
+        Err(_) => Err(Stop::Memory),
+    }
+}

@@ -1,0 +1,17 @@
+//! What a session prints: a text with room that was taken beforehand, the line of each answer, and the
+//! lines of a reply.
+//!
+//! Each function adds the text that the definitions of `model_session` (specs/Text.antt) name. Where the
+//! room is there, printing takes no memory; only the lines of a reply, which may be long, take their own.
+#![tactic(auto)]
+
+pub use lines::{
+    ANSWER_ROOM, WORD_ROOM, ack_line, bad_line, input_line, none_line, quiet_line, shown_word,
+    too_long_line, turned_line, unknown_line,
+};
+pub use printed::{NUMBER_ROOM, Printed};
+pub use reply::reply_lines;
+
+mod lines;
+mod printed;
+mod reply;
