@@ -9,3 +9,4 @@ pub mod Asking
 pub mod NewRows
 pub mod Setting
 pub mod Standing
+pub mod Removing

@@ -1,8 +1,8 @@
 -- What a plan of a call says, by the call's definition.
-use Rattle.std.specs.Prelude.{◌≡◌, List, Option, None, Some}
+use Rattle.std.specs.Prelude.{◌≡◌, ◌≢◌, List, [], Option, None, Some}
 use Rattle.tm_types.specs.declared.dbd.Dbd.{Dbd}
 use Rattle.model_rows.specs.declared.row.Row.{Row}
-use Rattle.model_rows.specs.Rows.{with_record, IsImage}
+use Rattle.model_rows.specs.Rows.{record_of, with_record, IsImage}
 use Rattle.model_dli.specs.declared.call.RowsLimit.{RowsLimit}
 use Rattle.model_dli.specs.declared.call.RowsLimit.TheVariants.{Roots, RecordLength}
 use Rattle.model_dli.specs.Dli.{DliResult}
@@ -48,3 +48,8 @@ PlansTo dbd before d p (Some e) = PlansEdit dbd before d p e
 -- the plan of a call on these rows, which comes to d
 abbrev pub Plans : Dbd → List Row → DliResult → Planned → Type 0
 Plans dbd before d p = PlansTo dbd before d p p.edit
+
+-- a record that is removed is there
+abbrev pub IsThere : List Row → Option Edit → Type 0
+IsThere before None = Unit {0}
+IsThere before (Some e) = e.image ≡ [] → record_of e.root before ≢ []

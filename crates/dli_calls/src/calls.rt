@@ -8,7 +8,7 @@ ghost use Rattle.model_dli.specs.Conditions.{IsDbCall, IsPosition, AreInsertSsas
 ghost use Rattle.model_dli.specs.Dli.{dli, get, has_option, is_allowed, position_denied, insert, replace, delete};
 ghost use Rattle.model_dli.specs.declared.call.Position.{Position};
 ghost use Rattle.dli_calls.specs.Performs.{RefusesCall};
-ghost use Rattle.dli_calls.specs.Plans.{Plans};
+ghost use Rattle.dli_calls.specs.Plans.{IsThere, Plans};
 ghost use Rattle.dli_calls.specs.Edited.{rows_set, edit_limit};
 
 use crate::change::{self, delete_fault, replace_fault};
@@ -41,6 +41,7 @@ pub fn plan<R: Rows>(
     ensures planned { IfOk result (Plans dbd.now (R.rows rows.now) (dli dbd.now call.now at.now (R.rows rows.now))) }
     ensures position { IfOk result (λ p. IsPosition dbd.now.types p.position) }
     ensures text { All (λ type. type.bytes ≤ 1996) dbd.now.types → IfOk result (λ p. IfSome p.area IsSegmentText) }
+    ensures there { IfOk result (λ p. IsThere (R.rows rows.now) p.edit) }
 {
     let position = copied(at)?;
     if !is_allowed(call.function, call.options) {
@@ -77,16 +78,15 @@ fn plan_get<R: Rows>(
     ensures planned { IfOk result (Plans dbd.now (R.rows rows.now) (get reach hold dbd.now call.now at (R.rows rows.now))) }
     ensures position { IfOk result (λ p. IsPosition dbd.now.types p.position) }
     ensures text { All (λ type. type.bytes ≤ 1996) dbd.now.types → IfOk result (λ p. IfSome p.area IsSegmentText) }
+    ensures there { IfOk result (λ p. IsThere (R.rows rows.now) p.edit) }
 {
-    match get(reach, hold, dbd, call, &mut at, rows) {
-        Ok(performed) => Ok(Planned {
-            status: performed.status,
-            area: performed.area,
-            position: at,
-            edit: None,
-        }),
-        Err(_) => Err(Memory),
-    }
+    let performed = get(reach, hold, dbd, call, &mut at, rows)?;
+    Ok(Planned {
+        status: performed.status,
+        area: performed.area,
+        position: at,
+        edit: None,
+    })
 }
 
 /// Makes a call on the rows of a database, by a PCB that stands at `position`.

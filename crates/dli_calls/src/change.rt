@@ -1,5 +1,5 @@
 //! The calls that change a record: ISRT, REPL and DLET.
-ghost use Rattle.std.specs.Prelude.{◌≡◌, ◌≤◌, length, IfOk, IfNone, IsTrue};
+ghost use Rattle.std.specs.Prelude.{◌≡◌, ◌≢◌, ◌≤◌, [], length, IfOk, IfNone, IsTrue, None};
 ghost use Rattle.std.specs.List.{list_all};
 ghost use Rattle.std.specs.Ordering.{is_eq};
 ghost use Rattle.tm_types.specs.Segment.{is_printable};
@@ -10,7 +10,7 @@ ghost use Rattle.model_dli.specs.Search.{fitted, key_length, data_length};
 ghost use Rattle.model_dli.specs.Change.{replace_fault, delete_fault, with_row, with_data, without};
 ghost use Rattle.model_dli.specs.Conditions.{AreInsertSsas, IsPosition};
 ghost use Rattle.model_dli.specs.Dli.{insert, replace, delete};
-ghost use Rattle.dli_calls.specs.Plans.{Plans};
+ghost use Rattle.dli_calls.specs.Plans.{IsThere, Plans};
 ghost use Rattle.dli_calls.specs.Edited.{IsEdit};
 
 use crate::asked::{data_length, fitted_bytes, fitted_key};
@@ -40,6 +40,7 @@ pub fn insert<R: Rows>(
     ensures planned { IfOk result (Plans dbd.now (R.rows rows.now) (insert dbd.now call.now at (R.rows rows.now))) }
     ensures position { IfOk result (λ p. IsPosition dbd.now.types p.position) }
     ensures no_data { IfOk result (λ p. p.area ≡ None) }
+    ensures there { IfOk result (λ p. IsThere (R.rows rows.now) p.edit) }
 {
     let _hierarchy = dbd.types.as_slice();
     let ssas = call.ssas.as_slice();
@@ -72,6 +73,7 @@ pub fn replace<R: Rows>(
     ensures planned { IfOk result (Plans dbd.now (R.rows rows.now) (replace dbd.now call.now at (R.rows rows.now))) }
     ensures position { IfOk result (λ p. IsPosition dbd.now.types p.position) }
     ensures no_data { IfOk result (λ p. p.area ≡ None) }
+    ensures there { IfOk result (λ p. IsThere (R.rows rows.now) p.edit) }
 {
     let _hierarchy = dbd.types.as_slice();
     let area = call.area.as_slice();
@@ -102,6 +104,7 @@ pub fn delete<R: Rows>(
     ensures planned { IfOk result (Plans dbd.now (R.rows rows.now) (delete dbd.now at (R.rows rows.now))) }
     ensures position { IfOk result (λ p. IsPosition dbd.now.types p.position) }
     ensures no_data { IfOk result (λ p. p.area ≡ None) }
+    ensures there { IfOk result (λ p. IsThere (R.rows rows.now) p.edit) }
 {
     let Some(held) = &at.hold else {
         return Ok(answer_at(Status::DJ, at));
@@ -180,7 +183,8 @@ fn with_row<R: Rows>(
     requires rows { R.database rows.now ≡ dbd.now }
     requires row { IsRow dbd.now.types (R.rows rows.now) row.now }
     requires root { root_of row.now.path ≡ root.now }
-    ensures { IfOk result (IsEdit dbd.now root.now (R.rows rows.now) (with_row row.now (R.rows rows.now))) }
+    ensures edit { IfOk result (IsEdit dbd.now root.now (R.rows rows.now) (with_row row.now (R.rows rows.now))) }
+    ensures some { IfOk result (λ image. image ≢ []) }
 {
     let _hierarchy = dbd.types.as_slice();
     edit::with_row(alloc, row, record_rows(root, rows))

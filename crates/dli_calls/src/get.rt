@@ -1,5 +1,5 @@
 //! The gets: GU, GN and GNP, and the same with hold.
-ghost use Rattle.std.specs.Prelude.{◌≡◌, ◌≤◌, length, All, IfOk, IfSome, IfErr, OnOk, OnErr, OnSome, None, Some, if◌then◌else◌};
+ghost use Rattle.std.specs.Prelude.{◌≡◌, ◌≤◌, length, All, IfOk, IfSome, OnOk, OnErr, OnSome, None, Some, if◌then◌else◌};
 ghost use Rattle.std.specs.Option.{option_copied};
 ghost use Rattle.model_dli.specs.Get.{reached, missed_status, level_status, moved_status, reached_status, position_at, position_failed, position_missed};
 ghost use Rattle.model_dli.specs.Dli.{get};
@@ -9,17 +9,16 @@ ghost use Rattle.tm_types.specs.declared.status.Status.TheVariants.{GE, GP};
 ghost use Rattle.model_dli.specs.Conditions.{IsPosition};
 ghost use Rattle.tm_types.specs.Segment.{IsSegmentText};
 ghost use Rattle.model_rows.specs.Rows.{AreRows};
-ghost use Rattle.dli_calls.specs.Performs.{Performs, RefusesCall};
+ghost use Rattle.dli_calls.specs.Performs.{Performs};
 
 use crate::asked::asked_root;
 use crate::search::{first_row, first_row_below, is_there};
 use model_dli::{DbCall, Performed, Position, Reach};
 use model_rows::{Path, Row};
-use seg_rows::{Rows, StoreRefused};
+use seg_rows::Rows;
 use tm_types::{Dbd, Memory, Ssa, Status};
 
-/// A get of the rows. It changes none; its one refusal is want of memory, which leaves the PCB where
-/// it stood.
+/// A get of the rows. It changes none. Want of memory leaves the PCB where it stood.
 pub fn get<R: Rows>(
     reach: Reach,
     hold: bool,
@@ -27,12 +26,11 @@ pub fn get<R: Rows>(
     call: &DbCall,
     at: &mut Position,
     rows: &R,
-) -> Result<Performed, StoreRefused>
+) -> Result<Performed, Memory>
     requires types { length dbd.now.types ≤ 255 }
     requires rows { R.database rows.now ≡ dbd.now }
     requires position { IsPosition dbd.now.types at.old }
     ensures performed { IfOk result (λ p. Performs (get reach hold dbd.now call.now at.old (R.rows rows.now)) p (R.rows rows.now) at.new) }
-    ensures refused { IfErr result (RefusesCall None) }
     ensures kept { OnErr result (at.new ≡ at.old) }
     ensures valid { IsPosition dbd.now.types at.new }
     ensures text { All (λ type. type.bytes ≤ 1996) dbd.now.types → IfOk result (λ p. IfSome p.area IsSegmentText) }
@@ -65,24 +63,19 @@ fn get_reached(
     ssas: &[Ssa],
     at: &mut Position,
     row: &Row,
-) -> Result<Performed, StoreRefused>
+) -> Result<Performed, Memory>
     ensures answer { IfOk result (λ p. p ≡ record { status = reached_status reach ssas.now at.old row.now.path; area = Some row.now.bytes; changed = None }) }
     ensures position { OnOk result (at.new ≡ position_at reach hold at.old row.now.path) }
-    ensures refused { IfErr result (RefusesCall None) }
     ensures kept { OnErr result (at.new ≡ at.old) }
 {
     let status = reached_status(reach, ssas, at, &row.path);
-    let Ok(bytes) = row.bytes.clone() else {
-        return Err(StoreRefused::Memory);
-    };
-    match settle(reach, hold, at, &row.path) {
-        Ok(()) => Ok(Performed {
-            status,
-            area: Some(bytes),
-            changed: None,
-        }),
-        Err(_) => Err(StoreRefused::Memory),
-    }
+    let bytes = row.bytes.clone()?;
+    settle(reach, hold, at, &row.path)?;
+    Ok(Performed {
+        status,
+        area: Some(bytes),
+        changed: None,
+    })
 }
 
 /// The row that a get reaches.

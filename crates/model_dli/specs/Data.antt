@@ -6,7 +6,6 @@ use Rattle.std.specs.Str.{bytes_eq}
 use Rattle.tm_types.specs.declared.abend.AbendCode.{AbendCode}
 use Rattle.tm_types.specs.declared.dbd.Dbd.{Dbd}
 use Rattle.model_rows.specs.declared.row.Row.{Row}
-use Rattle.model_dli.specs.declared.abends.TheConstants.{TOO_MANY_RECORDS, TOO_MANY_ROOTS, RECORD_TOO_LONG}
 use Rattle.model_dli.specs.declared.call.DbCall.{DbCall}
 use Rattle.model_dli.specs.declared.call.Position.{Position}
 use Rattle.model_dli.specs.declared.call.RowsLimit.{RowsLimit}
@@ -51,16 +50,17 @@ most_changed = 32
 abbrev pub data_call : Dbd → ℕ → ℕ → DbCall → Data → DliResult
 data_call dbd number pcb call d = dli dbd call (position_at d pcb) (rows_at d number)
 
+-- a limit of the database ends the work abnormally: U0902 one root too many, U0903 a record too long
 abbrev pub limit_abend : RowsLimit → AbendCode
-limit_abend Roots = record { number = TOO_MANY_ROOTS }
-limit_abend RecordLength = record { number = RECORD_TOO_LONG }
+limit_abend Roots = record { number = 902 }
+limit_abend RecordLength = record { number = 903 }
 
--- The abend to which a call leads in place of its answer. One changed record too many goes before a
--- limit of the database.
+-- The abend to which a call leads in place of its answer. One changed record too many, U0900, goes before
+-- a limit of the database.
 abbrev pub abend_by : ℕ → List (ℕ × List ℕ) → Option (List ℕ) → Option RowsLimit → Option AbendCode
 abend_by number changed None refusal = None
 abend_by number changed (Some root) refusal =
-    if not (is_changed number root changed) && nat_le most_changed (length changed) then Some (record { number = TOO_MANY_RECORDS })
+    if not (is_changed number root changed) && nat_le most_changed (length changed) then Some (record { number = 900 })
     else option_map limit_abend refusal
 
 abbrev pub data_abend : ℕ → Data → DliResult → Option AbendCode

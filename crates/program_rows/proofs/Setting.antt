@@ -9,7 +9,6 @@ use Rattle.std.proofs.lemmas.Option.{slice_get_within}
 use Rattle.tm_types.specs.declared.dbd.Dbd.{Dbd}
 use Rattle.model_rows.specs.Rows.{record_of, with_record}
 use Rattle.model_dli.specs.declared.call.RowsLimit.{RowsLimit}
-use Rattle.model_dli.specs.declared.abends.TheConstants.{TOO_MANY_RECORDS}
 use Rattle.model_dli.specs.Data as dat
 use Rattle.model_dli.specs.Data.{with_changed, abend_by, limit_abend}
 use Rattle.seg_rows.specs.StoreRefused.{set_refusal}
@@ -115,9 +114,9 @@ full_same number root records =
     by true b = refl
     by false b = refl
 
-pub full_abend : (number : ℕ) (dbd : Dbd) (e : Edit) (w : Work) → is_full number e.root w.records ≡ true → edit_abend number dbd e w ≡ Some (record { number = TOO_MANY_RECORDS })
+pub full_abend : (number : ℕ) (dbd : Dbd) (e : Edit) (w : Work) → is_full number e.root w.records ≡ true → edit_abend number dbd e w ≡ Some (record { number = 900 })
 full_abend number dbd e w full =
-    ap (λ b. cond b (Some (record { number = TOO_MANY_RECORDS })) (option_map limit_abend (limit_of (set_refusal dbd e.root e.image (rows_at number w.stores)))))
+    ap (λ b. cond b (Some (record { number = 900 })) (option_map limit_abend (limit_of (set_refusal dbd e.root e.image (rows_at number w.stores)))))
     (full_same number e.root w.records ∙ full)
 
 -- else the limit of the database
@@ -125,6 +124,6 @@ pub limit_is : (number : ℕ) (dbd : Dbd) (e : Edit) (records : List Change) (st
     → slice_get stores (number - 1) ≡ Some s → limit_of (set_refusal dbd e.root e.image (rows_of_slots s.slots)) ≡ o
     → edit_abend number dbd e (record { records = records; stores = stores }) ≡ option_map limit_abend o
 limit_is number dbd e records stores s o room at limit =
-    ap (λ b. cond b (Some (record { number = TOO_MANY_RECORDS })) (option_map limit_abend (limit_of (set_refusal dbd e.root e.image (rows_at number stores)))))
+    ap (λ b. cond b (Some (record { number = 900 })) (option_map limit_abend (limit_of (set_refusal dbd e.root e.image (rows_at number stores)))))
     (full_same number e.root records ∙ room)
     ∙ ap (option_map limit_abend) (ap (λ rows. limit_of (set_refusal dbd e.root e.image rows)) (rows_at_is number stores s at) ∙ limit)

@@ -7,8 +7,8 @@ ghost use Rattle.seg_rows.specs.StoreRefused.{set_refusal};
 ghost use Rattle.seg_store.specs.Slots.{AreSlots, rows_of_slots, slot_for};
 ghost use Rattle.unit_work.specs.Changes.{is_full, with_change};
 ghost use Rattle.unit_work.specs.BackOut.{CanBackOut};
-ghost use Rattle.dli_calls.specs.Plans.{limit_of};
-ghost use Rattle.program_rows.specs.Making.{TakesSlot, IsSet, EditMade, Makes, edit_abend};
+ghost use Rattle.dli_calls.specs.Plans.{IsThere, limit_of};
+ghost use Rattle.program_rows.specs.Making.{TakesSlot, IsSet, EditMade, Makes, edit_abend, rows_at};
 
 use crate::{Answered, DataAnswer};
 use dli_calls::{Edit, Planned};
@@ -32,6 +32,7 @@ pub fn make(
     requires number { 1 ≤ number }
     requires database { slice_get (map (λ s. s.dbd) stores.old) (number - 1) ≡ Some dbd.now }
     requires image { IfSome planned.edit (λ e. IsImage dbd.now e.root e.image) }
+    requires there { IsThere (rows_at number stores.old) planned.edit }
     requires can { CanBackOut changes.old.records stores.old }
     ensures made { IfOk result (Makes number dbd.now planned (record { records = changes.old.records; stores = stores.old }) (record { records = changes.new.records; stores = stores.new })) }
     ensures kept_changes { OnErr result (changes.new ≡ changes.old) }
@@ -65,6 +66,7 @@ fn change(
     requires number { 1 ≤ number }
     requires database { slice_get (map (λ s. s.dbd) stores.old) (number - 1) ≡ Some dbd.now }
     requires image { IsImage dbd.now edit.root edit.image }
+    requires there { IsThere (rows_at number stores.old) (Some edit) }
     requires can { CanBackOut changes.old.records stores.old }
     ensures abend { IfOk result (λ o. o ≡ edit_abend number dbd.now edit (record { records = changes.old.records; stores = stores.old })) }
     ensures made { IfOk result (EditMade number edit (record { records = changes.old.records; stores = stores.old }) (record { records = changes.new.records; stores = stores.new })) }
@@ -77,23 +79,21 @@ fn change(
         }));
     }
     match slot_to_take(dbd, &edit, stores.store(number)) {
-        Ok(Some(slot)) => match set(alloc, number, slot, edit, changes, stores) {
+        Ok(slot) => match set(alloc, number, slot, edit, changes, stores) {
             Ok(()) => Ok(None),
             Err(error) => Err(error),
         },
-        // No call removes a record that isn't there.
-        Ok(None) => Err(Memory),
         Err(limit) => Ok(Some(limit_abend(limit))),
     }
 }
 
-// The slot that a record takes, or the limit of the database that it would pass. There is none for
-// an image without rows where no record has its root and no slot is free.
-fn slot_to_take(dbd: &Dbd, edit: &Edit, store: &Store) -> Result<Option<u16>, RowsLimit>
+// The slot that a record takes, or the limit of the database that it would pass.
+fn slot_to_take(dbd: &Dbd, edit: &Edit, store: &Store) -> Result<u16, RowsLimit>
     requires database { store.now.dbd ≡ dbd.now }
     requires image { IsImage dbd.now edit.now.root edit.now.image }
+    requires there { IsThere (rows_of_slots store.now.slots) (Some edit.now) }
     ensures valid { AreSlots store.now.dbd store.now.slots }
-    ensures slot { IfOk result (λ slot. slot_for edit.now.root store.now.slots ≡ slot) }
+    ensures slot { IfOk result (λ slot. slot_for edit.now.root store.now.slots ≡ Some slot) }
     ensures accepted { OnOk result (set_refusal dbd.now edit.now.root edit.now.image (rows_of_slots store.now.slots) ≡ None) }
     ensures refused { IfErr result (λ limit. limit_of (set_refusal dbd.now edit.now.root edit.now.image (rows_of_slots store.now.slots)) ≡ Some limit) }
 {
@@ -102,14 +102,9 @@ fn slot_to_take(dbd: &Dbd, edit: &Edit, store: &Store) -> Result<Option<u16>, Ro
             if !edit.image.fits(record_limit(dbd)) {
                 return Err(RowsLimit::RecordLength);
             }
-            Ok(Some(slot))
+            Ok(slot)
         }
-        None => {
-            if !edit.image.is_empty() {
-                return Err(RowsLimit::Roots);
-            }
-            Ok(None)
-        }
+        None => Err(RowsLimit::Roots),
     }
 }
 

@@ -29,7 +29,7 @@ returns-clause-planned g c =
     let none : insert_fault (insert_path types ssas area) rows ≡ None =
     sym (c.in_default.ensures.value ∙ (λ i. insert_fault (insert_path types (c.as_slice-ssas.ensures i) (c.as_slice-area.ensures i)) rows)) in
     let row : c.in_ok-row.row ≡ insert_row types ssas area = c.in_ok-row.ensures ∙ (λ i. insert_row types (c.as_slice-ssas.ensures i) (c.as_slice-area.ensures i)) in
-    plans_insert c.args.dbd.now c.args.call.now c.args.at rows c.in_ok-row.row c.in-Some-root.root c.in_ok-image.image c.set_record.result none row c.in-Some-root.ensures.value c.in_ok-image.ensures c.set_record.ensures
+    plans_insert c.args.dbd.now c.args.call.now c.args.at rows c.in_ok-row.row c.in-Some-root.root c.in_ok-image.image c.set_record.result none row c.in-Some-root.ensures.value c.in_ok-image.ensures.edit c.set_record.ensures
 
 pub returns-clause-position : goal.returns-clause-position
 returns-clause-position g c =

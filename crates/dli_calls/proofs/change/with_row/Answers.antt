@@ -2,11 +2,12 @@ use Rattle.std.proofs.Common.{subst, ap}
 use Rattle.model_rows.specs.Rows.{record_of, AreRows}
 use Rattle.model_dli.specs.Change.{with_row}
 use Rattle.dli_calls.proofs.Edits.{row_added, under_with_row, image_with_row}
+use Rattle.dli_calls.proofs.Removing.{some_with}
 use Rattle.dli_calls.proofs.Setting.{edits}
 use Rattle.dli_calls.proofs.change.with_row.Goals as goal
 
-pub returns : goal.returns
-returns g c =
+pub returns-clause-edit : goal.returns-clause-edit
+returns-clause-edit g c =
     let dbd = c.args.dbd.now in
     let rows = g.R.Rows.rows c.args.rows.now in
     let root = c.args.root.now in
@@ -17,3 +18,6 @@ returns g c =
     (image_with_row dbd types rows valid root row c.requires.root c.requires.row)
     (row_added dbd types rows valid root row c.requires.root c.requires.row)
     (under_with_row dbd types rows valid root row c.requires.root c.requires.row).one_root
+
+pub returns-clause-some : goal.returns-clause-some
+returns-clause-some g c = some_with c.with_row.result c.args.row.now c.record_rows.result.now c.with_row.ensures

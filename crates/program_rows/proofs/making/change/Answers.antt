@@ -1,11 +1,12 @@
-use Rattle.std.proofs.Common.{◌≡◌, Some, None, sym, subst, ap, ◌∙◌}
+use Rattle.std.proofs.Common.{◌≡◌, List, Some, None, sym, subst, ap, ◌∙◌}
 use Rattle.std.specs.Prelude.{IfSome}
 use Rattle.model_rows.specs.Rows.{IsImage}
 use Rattle.seg_rows.specs.StoreRefused.{set_refusal}
 use Rattle.seg_store.specs.Slots.{rows_of_slots}
-use Rattle.dli_calls.specs.Plans.{limit_of}
+use Rattle.model_rows.specs.declared.row.Row.{Row}
+use Rattle.dli_calls.specs.Plans.{IsThere, limit_of}
 use Rattle.program_rows.specs.Making.{TakesSlot}
-use Rattle.program_rows.proofs.Setting.{is_stored, dbd_there, full_abend, limit_is}
+use Rattle.program_rows.proofs.Setting.{is_stored, dbd_there, full_abend, limit_is, rows_at_is}
 use Rattle.program_rows.proofs.making.change.Goals as goal
 
 pub returns-then-is_full-clause-abend : goal.returns-then-is_full-clause-abend
@@ -24,22 +25,26 @@ set-requires-clause-most c = is_stored c.args.number c.args.stores.now c.args.db
 pub set-requires-clause-takes : goal.set-requires-clause-takes
 set-requires-clause-takes c =
     let dbd : c.store.result.now.dbd ≡ c.args.dbd.now = dbd_there c.args.stores.now _ c.store.result.now c.args.dbd.now c.store.ensures c.requires.database in
-    let takes : TakesSlot c.store.result.now c.args.edit c.in-Ok-Some.slot =
+    let takes : TakesSlot c.store.result.now c.args.edit c.in-Ok.slot =
     record {
       valid = c.slot_to_take.ensures.valid;
-      place = c.in-Ok-Some.ensures.slot ∙ c.in-Ok-Some.field-0-is;
+      place = c.in-Ok.ensures.slot;
       image = subst (λ d. IsImage d c.args.edit.root c.args.edit.image) (sym dbd) c.requires.image;
-      accepted = ap (λ d. set_refusal d c.args.edit.root c.args.edit.image (rows_of_slots c.store.result.now.slots)) dbd ∙ c.in-Ok-Some.ensures.accepted;
+      accepted = ap (λ d. set_refusal d c.args.edit.root c.args.edit.image (rows_of_slots c.store.result.now.slots)) dbd ∙ c.in-Ok.ensures.accepted;
     } in
-    subst (λ o. IfSome o (λ s. TakesSlot s c.args.edit c.in-Ok-Some.slot)) (sym c.store.ensures) takes
+    subst (λ o. IfSome o (λ s. TakesSlot s c.args.edit c.in-Ok.slot)) (sym c.store.ensures) takes
 
-pub returns-in-Ok-clause-abend : goal.returns-in-Ok-clause-abend
-returns-in-Ok-clause-abend c =
+pub returns-in-Ok-set-clause-abend : goal.returns-in-Ok-set-clause-abend
+returns-in-Ok-set-clause-abend c =
     sym (limit_is c.args.number c.args.dbd.now c.args.edit c.args.changes.now.records c.args.stores.now c.store.result.now None (sym c.is_full.ensures ∙ c.if-is_full.false) c.store.ensures
-    (ap limit_of c.in-Ok-Some.ensures.accepted))
+    (ap limit_of c.in-Ok.ensures.accepted))
 
 pub returns-in-Err-clause-abend : goal.returns-in-Err-clause-abend
 returns-in-Err-clause-abend c =
     ap Some c.limit_abend.ensures
     ∙ sym (limit_is c.args.number c.args.dbd.now c.args.edit c.args.changes.now.records c.args.stores.now c.store.result.now (Some c.in-Err.limit) (sym c.is_full.ensures ∙ c.if-is_full.false) c.store.ensures
     c.in-Err.ensures.refused)
+
+pub slot_to_take-requires-clause-there : goal.slot_to_take-requires-clause-there
+slot_to_take-requires-clause-there c =
+    subst (λ (rows : List Row). IsThere rows (Some c.args.edit)) (rows_at_is c.args.number c.args.stores.now c.store.result.now c.store.ensures) c.requires.there

@@ -1,8 +1,8 @@
-use Rattle.std.proofs.Common.{◌≢◌, ◌<◌, ◌≤◌, [], length, sym, subst}
+use Rattle.std.proofs.Common.{◌<◌, ◌≤◌, length, refl, sym, subst}
 use Rattle.model_rows.specs.Record.{spelling, record_limit}
 use Rattle.seg_rows.proofs.Kept.{passed}
 use Rattle.seg_store.specs.Slots.{AreSlots}
-use Rattle.program_rows.proofs.Limits.{past_roots, past_length, within_limits}
+use Rattle.program_rows.proofs.Limits.{past_slots, past_length, within_limits}
 use Rattle.program_rows.proofs.making.slot_to_take.Goals as goal
 
 pub returns-then-not-fits-clause-refused : goal.returns-then-not-fits-clause-refused
@@ -12,11 +12,10 @@ returns-then-not-fits-clause-refused c =
     subst (λ n. n < length (spelling c.args.edit.now.image)) c.record_limit.ensures (passed c.fits.result _ _ c.fits.ensures c.if-not-fits.true) in
     past_length c.args.dbd.now c.args.store.now.slots valid c.args.edit.now.root c.args.edit.now.image c.in-Some.slot (sym c.in-Some.ensures.value) long
 
-pub returns-then-not-is_empty-clause-refused : goal.returns-then-not-is_empty-clause-refused
-returns-then-not-is_empty-clause-refused c =
+pub returns-in-None-clause-refused : goal.returns-in-None-clause-refused
+returns-in-None-clause-refused c =
     let valid : AreSlots c.args.dbd.now c.args.store.now.slots = subst (λ d. AreSlots d c.args.store.now.slots) c.requires.database c.slot_for.ensures.valid in
-    let some : c.args.edit.now.image ≢ [] = λ e. let t = c.is_empty.ensures.1 e in let f = c.if-not-is_empty.true in absurd (cc) in
-    past_roots c.args.dbd.now c.args.store.now.slots valid c.args.edit.now.root c.args.edit.now.image some (sym c.in-None.ensures.value)
+    past_slots c.args.dbd.now c.args.store.now.slots valid c.args.edit.now.root c.args.edit.now c.requires.there refl (sym c.in-None.ensures.value)
 
 pub returns-else-not-fits-clause-accepted : goal.returns-else-not-fits-clause-accepted
 returns-else-not-fits-clause-accepted c =
