@@ -19,7 +19,6 @@ mod calls;
 mod counts;
 mod cross;
 mod databases;
-mod indexes;
 mod lookups;
 mod named;
 mod segments;

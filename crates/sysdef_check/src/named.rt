@@ -1,14 +1,14 @@
 //! Macros with indexes of their names.
 ghost use Rattle.std.specs.Prelude.{◌≡◌, [], ◌∷◌, ◌++◌, ℕ, List, Some, None, IfOk, OnOk, cond, is_some};
 ghost use Rattle.std.specs.Option.{option_or};
-ghost use Rattle.sysdef_check.specs.Indexes.{place_in};
+ghost use Rattle.system_types.specs.Indexes.{place_in};
 ghost use Rattle.sysdef_check.specs.Lookups as spec;
 
-use crate::indexes::add_name;
 use crate::{Macro, MacroLine};
 use std::alloc::{AllocError, Global};
 use std::collections::BTreeMap;
 use std::marker::Model;
+use system_types::add_name;
 use tm_types::Name;
 
 /// Macros with indexes of their names; seen as the list of their lines.
@@ -137,7 +137,7 @@ fn has_name(index: &BTreeMap<Name, usize>, name: &Name) -> bool
     index.contains_key(name)
 }
 
-#[tactic(auto, using(crate::proofs::Indexed::first_none))]
+#[tactic(auto, using(system_types::proofs::Indexed::first_none))]
 fn note_database(
     index: &mut BTreeMap<Name, usize>,
     content: &Macro,
@@ -151,7 +151,7 @@ fn note_database(
     }
 }
 
-#[tactic(auto, using(crate::proofs::Indexed::first_none))]
+#[tactic(auto, using(system_types::proofs::Indexed::first_none))]
 fn note_application(
     index: &mut BTreeMap<Name, usize>,
     content: &Macro,
@@ -165,7 +165,7 @@ fn note_application(
     }
 }
 
-#[tactic(auto, using(crate::proofs::Indexed::first_none))]
+#[tactic(auto, using(system_types::proofs::Indexed::first_none))]
 fn note_code(
     index: &mut BTreeMap<Name, usize>,
     content: &Macro,
@@ -179,7 +179,7 @@ fn note_code(
     }
 }
 
-#[tactic(auto, using(crate::proofs::Indexed::first_none))]
+#[tactic(auto, using(system_types::proofs::Indexed::first_none))]
 fn note_terminal(
     index: &mut BTreeMap<Name, usize>,
     content: &Macro,
@@ -193,7 +193,7 @@ fn note_terminal(
     }
 }
 
-#[tactic(auto, using(crate::proofs::Indexed::first_none))]
+#[tactic(auto, using(system_types::proofs::Indexed::first_none))]
 fn note_program(
     index: &mut BTreeMap<Name, usize>,
     content: &Macro,

@@ -51,8 +51,9 @@ fn programs_by_name(
     Ok(index)
 }
 
-/// Adds a name with its place, unless it is there.
-pub(crate) fn add_name(
+/// Adds a name with its place to an index by name, unless it is there: an index has of each name the
+/// place of the first that has it. Where there is no memory the index may be used no more.
+pub fn add_name(
     index: &mut BTreeMap<Name, usize>,
     name: &Name,
     place: usize,

@@ -6,6 +6,7 @@
 
 pub use codes::Codes;
 pub use definition::{Definition, Macro, MacroLine};
+pub use indexes::add_name;
 pub use job::Job;
 pub use model_system::{
     Classes, Code, CodeState, Pcb, Pcbs, SegmentKind, SystemProgram, Transaction,

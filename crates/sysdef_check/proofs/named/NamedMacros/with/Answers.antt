@@ -1,7 +1,7 @@
 use Rattle.std.proofs.Common.{◌≡◌, ◌++◌, ◌∷◌, []}
 use Rattle.sysdef_check.specs.Indexes.{on_line}
 use Rattle.sysdef_check.specs.Lookups.{is_application, is_code, is_database, is_program, is_terminal}
-use Rattle.sysdef_check.proofs.Indexed.{next_index}
+use Rattle.system_types.proofs.Indexed.{next_index}
 use Rattle.sysdef_check.proofs.named.NamedMacros.with.Goals as goal
 
 pub invariant_of-result : goal.invariant_of-result

@@ -1,7 +1,0 @@
-use Rattle.std.proofs.Common.{sym, ◌∙◌}
-use Rattle.sysdef_check.specs.Indexes.{place_in}
-use Rattle.sysdef_check.proofs.Indexed.{added}
-use Rattle.sysdef_check.proofs.indexes.add_name.Goals as goal
-
-pub returns-in_ok-insert : goal.returns-in_ok-insert
-returns-in_ok-insert c = λ other. added (place_in c.args.index.now) (place_in c.insert.new.self) c.args.name.now other c.args.place (sym c.contains_key.ensures ∙ c.if-not-contains_key.true) (c.in_ok-insert.ensures.updates.0 other)
