@@ -1,5 +1,5 @@
 //! The gets: GU, GN and GNP, and the same with hold.
-ghost use Rattle.std.specs.Prelude.{◌≡◌, ◌≤◌, length, All, IfOk, IfSome, OnOk, OnErr, OnSome, None, Some, if◌then◌else◌};
+ghost use Rattle.std.specs.Prelude.{◌≡◌, ◌≤◌, length, All, IfOk, IfSome, IsSome, OnOk, OnErr, OnSome, None, Some, if◌then◌else◌};
 ghost use Rattle.std.specs.Option.{option_copied};
 ghost use Rattle.model_dli.specs.Get.{reached, missed_status, level_status, moved_status, reached_status, position_at, position_failed, position_missed};
 ghost use Rattle.model_dli.specs.Dli.{get};
@@ -32,6 +32,8 @@ pub fn get<R: Rows>(
     requires position { IsPosition dbd.now.types at.old }
     ensures performed { IfOk result (λ p. Performs (get reach hold dbd.now call.now at.old (R.rows rows.now)) p (R.rows rows.now) at.new) }
     ensures kept { OnErr result (at.new ≡ at.old) }
+    // A get that reaches no row takes no memory.
+    ensures memory { OnErr result (IsSome (reached reach dbd.now.types call.now.ssas at.old (R.rows rows.now))) }
     ensures valid { IsPosition dbd.now.types at.new }
     ensures text { All (λ type. type.bytes ≤ 1996) dbd.now.types → IfOk result (λ p. IfSome p.area IsSegmentText) }
 {

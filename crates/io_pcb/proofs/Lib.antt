@@ -1,2 +1,3 @@
 pub mod Trimmed
 pub mod Changed
+pub mod Printable

@@ -15,7 +15,7 @@ use std::alloc::Global;
 use std::collections::VecDeque;
 use std::marker::Model;
 use system_types::System;
-use tm_types::{Memory, Message, Segment, Segments, Status};
+use tm_types::{Memory, Message, Segment, SegmentRefused, Segments, Status};
 
 /// What a get is answered.
 #[derive(Debug, Drop)]
@@ -164,9 +164,7 @@ impl Work {
         if self.inserted >= self.count_limit {
             return Ok(Status::A7);
         }
-        let Ok(segment) = Segment::make(self.alloc, text) else {
-            return Err(Memory);
-        };
+        let segment = segment_of(self.alloc, text)?;
         pcbs::add_at(&mut self.pcbs, pcb, segment)?;
         self.inserted += 1;
         Ok(Status::Blank)
@@ -238,6 +236,20 @@ impl Work {
             }),
             None => None,
         }
+    }
+}
+
+/// The segment of a text that is one.
+#[tactic(auto, using(crate::proofs::Printable::no_bad_byte))]
+fn segment_of(alloc: Global, text: &[u8]) -> Result<Segment, Memory>
+    requires { IsSegmentText text.now }
+    ensures { IfOk result (λ segment. segment ≡ text.now) }
+{
+    match Segment::make(alloc, text) {
+        Ok(segment) => Ok(segment),
+        Err(SegmentRefused::Memory) => Err(Memory),
+        Err(SegmentRefused::TooLong(_)) => unreachable!(),
+        Err(SegmentRefused::BadByte(_)) => unreachable!(),
     }
 }
 
