@@ -1,0 +1,4 @@
+pub mod Modes
+pub mod Table
+pub mod Ask
+pub mod Cycle
