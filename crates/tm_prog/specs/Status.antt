@@ -8,7 +8,8 @@ use Rattle.tm_edge.specs.Fault.{HasRisen, AppendsFront}
 use Rattle.tm_edge.specs.Lines.{cut_lines, lines_of, is_short}
 use Rattle.tm_session.specs.declared.outcome.Ended.{Ended}
 use Rattle.tm_session.specs.declared.outcome.Ended.TheVariants.{Done, Words, BadLine, BadCross, Read, Write, Memory, Limit}
-use Rattle.tm_session.specs.Source.{definition_lines, judged}
+use Rattle.sysdef_text.specs.Ends.{definition_lines}
+use Rattle.tm_session.specs.Source.{judged}
 use Rattle.tm_session.specs.Outcome.{HasCause}
 use Rattle.tm_session.specs.Headline.{IsSession}
 use Rattle.tm_prog.specs.Words.{WordFault, word_fault}

@@ -8,7 +8,9 @@ use Rattle.tm_edge.specs.Lines.{CutLine, HasServed, IsTooLong, ServesTold, unrea
 use Rattle.tm_edge.proofs.ServedSoFar.{none_served, one_served, long_first}
 use Rattle.tm_session.specs.declared.outcome.Ended.{Ended}
 use Rattle.tm_session.specs.declared.outcome.Ended.TheVariants.{Done, Words, BadLine, BadCross, Read, Write, Memory, Limit}
-use Rattle.tm_session.specs.Source.{ends_definition, stays_inside, definition_from, session_from, definition_lines, session_lines}
+use Rattle.std.specs.Prelude.{◌||◌, nat_lt}
+use Rattle.std.proofs.lemmas.Bool.Decides.{nat_tests}
+use Rattle.sysdef_text.specs.Ends.{is_end, ends_definition, stays_inside, definition_from, behind_from, definition_lines, lines_behind}
 use Rattle.tm_session.specs.Outcome.{texts_of, ending_of, AreSettled, IsAtLimit, HasRead, HasReadTold}
 use Rattle.tm_session.specs.Driving.{may_pass, ReadsSession, ReadsTold}
 use Rattle.tm_session.specs.Opening.{IsUnread, ReadsLines, ReadsDefinition, IsCutShort, StopsBefore, ReadsSome, DefinitionSoFar}
@@ -45,8 +47,8 @@ reading_next (Some bytes) (Some rest) (Some behind) texts line inside room far s
       definition = far.definition ∙ ap (λ ls. texts ++ definition_from inside room ls) cut
           ∙ ap (λ ls. texts ++ line ∷ ls) (other (ends_definition inside room line) [] (definition_from (stays_inside inside line) (room - (length line + 1)) (lines_of behind)) goes)
           ∙ sym (append_assoc texts (line ∷ []) (definition_from (stays_inside inside line) (room - (length line + 1)) (lines_of behind)));
-      session = λ more. ap session_lines (append_assoc texts (line ∷ []) more) ∙ far.session (line ∷ more)
-          ∙ other (ends_definition inside room line) more (session_from (stays_inside inside line) (room - (length line + 1)) more) goes;
+      session = λ more. ap lines_behind (append_assoc texts (line ∷ []) more) ∙ far.session (line ∷ more)
+          ∙ other (ends_definition inside room line) more (behind_from (stays_inside inside line) (room - (length line + 1)) more) goes;
     }
 reading_next (Some bytes) (Some rest) None texts line inside room far serves goes = absurd serves
 reading_next (Some bytes) None after texts line inside room far serves goes = absurd far
@@ -63,13 +65,24 @@ reading_ends (Some bytes) (Some rest) (Some behind) texts line inside room far s
       served = one_served bytes far.cut rest line behind far.served serves;
       definition = far.definition ∙ ap (λ ls. texts ++ definition_from inside room ls) cut
           ∙ ap (λ ls. texts ++ line ∷ ls) (choose (ends_definition inside room line) [] (definition_from (stays_inside inside line) (room - (length line + 1)) (lines_of behind)) ends);
-      session = inl (λ more. ap session_lines (append_assoc texts (line ∷ []) more) ∙ far.session (line ∷ more)
-          ∙ choose (ends_definition inside room line) more (session_from (stays_inside inside line) (room - (length line + 1)) more) ends);
+      session = inl (λ more. ap lines_behind (append_assoc texts (line ∷ []) more) ∙ far.session (line ∷ more)
+          ∙ choose (ends_definition inside room line) more (behind_from (stays_inside inside line) (room - (length line + 1)) more) ends);
     }
 reading_ends (Some bytes) (Some rest) None texts line inside room far serves ends = absurd serves
 reading_ends (Some bytes) None after texts line inside room far serves ends = absurd far
 reading_ends None None after texts line inside room far serves ends = serves
 reading_ends None (Some rest) after texts line inside room far serves ends = cc
+
+-- a line that doesn't end the definition has room
+later_one : (a b : Bool) → (a || b) ≡ false → b ≡ false
+later_one true b e = cc
+later_one false b e = e
+
+pub room_for : (inside : Bool) (room : ℕ) (line : List ℕ) → ends_definition inside room line ≡ false → length line + 1 ≤ room
+unfolding ends_definition
+room_for inside room line goes =
+    let within : nat_lt room (length line + 1) ≡ false = later_one (is_end inside line) (nat_lt room (length line + 1)) goes in
+    grind (arith, nat_tests)
 
 cut_none : cut_lines [] ≡ []
 unfolding cut_lines
@@ -87,7 +100,7 @@ reading_none (Some bytes) (Some rest) (Some behind) texts inside room far serves
       lines = far.lines;
       served = subst (HasServed bytes far.cut) (serves.0 ∙ sym serves.1) far.served;
       definition = far.definition ∙ ap (λ ls. texts ++ definition_from inside room ls) (no_lines rest serves.0) ∙ append-nil texts;
-      session = inr (serves.1, ap session_lines (sym (append-nil texts)) ∙ far.session []);
+      session = inr (serves.1, ap lines_behind (sym (append-nil texts)) ∙ far.session []);
     }
 reading_none (Some bytes) (Some rest) None texts inside room far serves = absurd serves
 reading_none (Some bytes) None after texts inside room far serves = absurd far
@@ -145,13 +158,13 @@ none_cut behind rest (line ∷ cut) none served =
 
 -- the session's lines are those that were read behind the definition
 session_read : (texts : List (List ℕ)) (behind rest : List ℕ) (first second : List CutLine) → texts_of first ≡ texts → HasServed behind second rest
-    → ((more : List (List ℕ)) → session_lines (texts ++ more) ≡ more) ⊎ ((behind ≡ []) × (session_lines texts ≡ []))
-    → session_lines (texts_of (first ++ second)) ≡ texts_of second
+    → ((more : List (List ℕ)) → lines_behind (texts ++ more) ≡ more) ⊎ ((behind ≡ []) × (lines_behind texts ≡ []))
+    → lines_behind (texts_of (first ++ second)) ≡ texts_of second
 session_read texts behind rest first second same served (inl all) =
-    ap session_lines (texts_twice first second ∙ ap (λ ts. ts ++ texts_of second) same) ∙ all (texts_of second)
+    ap lines_behind (texts_twice first second ∙ ap (λ ts. ts ++ texts_of second) same) ∙ all (texts_of second)
 session_read texts behind rest first second same served (inr (none, nothing)) =
     let no_cut : second ≡ [] = none_cut behind rest second none served in
-    ap (λ more. session_lines (texts_of (first ++ more))) no_cut ∙ ap (λ cut. session_lines (texts_of cut)) (append-nil first) ∙ ap session_lines same ∙ nothing
+    ap (λ more. lines_behind (texts_of (first ++ more))) no_cut ∙ ap (λ cut. lines_behind (texts_of cut)) (append-nil first) ∙ ap lines_behind same ∙ nothing
     ∙ ap texts_of (sym no_cut)
 
 read_all : (ended : Ended) (bytes behind held left : List ℕ) (texts : List (List ℕ)) (blocks others : List Block)
@@ -163,13 +176,13 @@ read_all ended bytes behind held left texts blocks others first second =
     let served : HasServed bytes (first.cut ++ second.cut) second.rest = served_twice bytes behind second.rest first.cut second.cut first.served second.served in
     let count : length (first.cut ++ second.cut) ≡ length texts + length second.cut =
     length-append first.cut second.cut ∙ ap (λ n. n + length second.cut) (sym (length_texts first.cut) ∙ ap length first.lines) in
-    let lines : session_lines (texts_of (first.cut ++ second.cut)) ≡ texts_of second.cut = session_read texts behind second.rest first.cut second.cut first.lines second.served first.session in
+    let lines : lines_behind (texts_of (first.cut ++ second.cut)) ≡ texts_of second.cut = session_read texts behind second.rest first.cut second.cut first.lines second.served first.session in
     record {
       cut = first.cut ++ second.cut;
       held = front ++ held;
       served = subst (HasServed bytes (first.cut ++ second.cut)) same served;
       few = rw count second.few;
-      settled = subst (λ rest. AreSettled (ending_of ended) (session_lines (texts_of (first.cut ++ second.cut))) rest blocks others) same
+      settled = subst (λ rest. AreSettled (ending_of ended) (lines_behind (texts_of (first.cut ++ second.cut))) rest blocks others) same
           (subst (λ ls. AreSettled (ending_of ended) ls second.rest blocks others) (sym lines) second.settled);
       limit = subst (λ rest. IsAtLimit ended (length (first.cut ++ second.cut)) rest) same (subst (λ n. IsAtLimit ended n second.rest) (sym count) second.limit);
     }

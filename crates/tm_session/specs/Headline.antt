@@ -7,7 +7,8 @@ use Rattle.tm_edge.specs.Lines.{lines_of}
 use Rattle.tm_control.specs.declared.life.Life.{Life}
 use Rattle.tm_session.specs.declared.outcome.Ended.{Ended}
 use Rattle.tm_session.specs.declared.outcome.Ended.TheVariants.{BadLine, BadCross, Read, Memory, Limit}
-use Rattle.tm_session.specs.Source.{definition_lines, judged}
+use Rattle.sysdef_text.specs.Ends.{definition_lines}
+use Rattle.tm_session.specs.Source.{judged}
 use Rattle.tm_session.specs.Opening.{IsCutShort}
 use Rattle.tm_session.specs.Outcome.{ending_of, HasReadTold, HasWritten, left_by}
 use Rattle.tm_session.specs.Outcome.Ending.{NotBegun}

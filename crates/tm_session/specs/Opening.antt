@@ -5,7 +5,7 @@ use Rattle.tm_edge.specs.Fault.{HasRisen}
 use Rattle.tm_edge.specs.Lines.{CutLine, HasServed, IsTooLong, line_size, lines_of}
 use Rattle.tm_session.specs.declared.outcome.Ended.{Ended}
 use Rattle.tm_session.specs.declared.outcome.Ended.TheVariants.{BadLine, BadCross, Read, Memory, Limit}
-use Rattle.tm_session.specs.Source.{definition_lines, session_lines, definition_from, session_from}
+use Rattle.sysdef_text.specs.Ends.{definition_lines, lines_behind, definition_from, behind_from}
 use Rattle.tm_session.specs.Outcome.{texts_of}
 
 -- ---- one line
@@ -27,7 +27,7 @@ pub record ReadsLines (bytes : List ℕ) (texts : List (List ℕ)) (rest : List 
   pub lines : texts_of cut ≡ texts
   pub served : HasServed bytes cut rest
   pub definition : definition_lines (lines_of bytes) ≡ texts
-  pub session : ((more : List (List ℕ)) → session_lines (texts ++ more) ≡ more) ⊎ ((rest ≡ []) × (session_lines texts ≡ []))
+  pub session : ((more : List (List ℕ)) → lines_behind (texts ++ more) ≡ more) ⊎ ((rest ≡ []) × (lines_behind texts ≡ []))
 
 abbrev pub ReadsDefinition : Option (List ℕ) → List (List ℕ) → Option (List ℕ) → Type 0
 ReadsDefinition (Some bytes) texts (Some rest) = ReadsLines bytes texts rest
@@ -63,7 +63,7 @@ pub record ReadsSome (bytes : List ℕ) (texts : List (List ℕ)) (rest : List �
   pub lines : texts_of cut ≡ texts
   pub served : HasServed bytes cut rest
   pub definition : definition_lines (lines_of bytes) ≡ texts ++ definition_from inside room (lines_of rest)
-  pub session : (more : List (List ℕ)) → session_lines (texts ++ more) ≡ session_from inside room more
+  pub session : (more : List (List ℕ)) → lines_behind (texts ++ more) ≡ behind_from inside room more
 
 abbrev pub DefinitionSoFar : Option (List ℕ) → List (List ℕ) → Option (List ℕ) → Bool → ℕ → Type 0
 DefinitionSoFar (Some bytes) texts (Some rest) inside room = ReadsSome bytes texts rest inside room

@@ -8,7 +8,7 @@ use Rattle.tm_edge.specs.Fault.{HasRisen, AppendsFront}
 use Rattle.tm_edge.specs.Lines.{CutLine, HasServed, IsTooLong}
 use Rattle.tm_session.specs.declared.outcome.Ended.{Ended}
 use Rattle.tm_session.specs.declared.outcome.Ended.TheVariants.{Done, Words, BadLine, BadCross, Read, Write, Memory, Limit}
-use Rattle.tm_session.specs.Source.{session_lines}
+use Rattle.sysdef_text.specs.Ends.{lines_behind}
 
 -- ---- ways to end
 
@@ -64,7 +64,7 @@ pub record HasRead (bytes left : List ℕ) (blocks others : List Block) (ended :
   pub held : List ℕ
   pub served : HasServed bytes cut (held ++ left)
   pub few : length cut ≤ 1000000
-  pub settled : AreSettled (ending_of ended) (session_lines (texts_of cut)) (held ++ left) blocks others
+  pub settled : AreSettled (ending_of ended) (lines_behind (texts_of cut)) (held ++ left) blocks others
   pub limit : IsAtLimit ended (length cut) (held ++ left)
 
 -- the same, where the source tells its bytes

@@ -8,7 +8,7 @@ ghost use Rattle.tm_session.specs.Headline.{IsSession, IsUnbegun};
 
 use crate::driver::serve_lines;
 use crate::outcome::{Ended, Lives, Outcome};
-use crate::source::{definition_lines, judge};
+use crate::source::{judge, read_definition};
 use std::alloc::Global;
 use system_types::System;
 use tm_control::{Control, Life};
@@ -73,16 +73,16 @@ fn open<S: Source>(
     ensures cause { IfErr result (λ ended. HasCause ended (S.faults source.old) (S.faults source.new) 0 0) }
     ensures calm { OnOk result (S.faults source.new ≡ S.faults source.old) }
 {
-    let read = match definition_lines(alloc, lines, source) {
-        Ok(read) => read,
+    let definition = match read_definition(alloc, lines, source) {
+        Ok(definition) => definition,
         Err(ended) => return Err(ended),
     };
-    let system = match judge(alloc, &read) {
+    let system = match judge(alloc, &definition) {
         Ok(system) => system,
         Err(ended) => return Err(ended),
     };
     match begin(alloc, system) {
-        Ok((lives, control)) => Ok((read.len() as u32, lives, control)),
+        Ok((lives, control)) => Ok((definition.lines().len() as u32, lives, control)),
         Err(_) => Err(Ended::Memory),
     }
 }
