@@ -1,5 +1,5 @@
 //! The small types and functions that every crate of the transaction manager speaks of: names, keys,
-//! segments, messages and replies, segment search arguments, resources, status codes, words, digits.
+//! segments, messages and replies, segment search arguments, status codes, words and digits.
 //!
 //! A value of such a type keeps its rule by itself: a text that breaks it is refused, with the place.
 //! The rules are the definitions in specs/, one file a type; each call answers what they say.
@@ -13,7 +13,6 @@ pub use function::Function;
 pub use key::Key;
 pub use message::{Message, Reply};
 pub use name::{Name, is_name_byte};
-pub use resource::{Mode, Resource};
 pub use segment::{
     SEGMENT_LIMIT, Segment, SegmentRefused, Segments, are_printable, first_unprintable,
     is_printable,
@@ -33,7 +32,6 @@ mod key;
 mod message;
 mod name;
 pub mod processing;
-mod resource;
 mod segment;
 mod ssa;
 mod status;
