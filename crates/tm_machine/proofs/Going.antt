@@ -1,33 +1,32 @@
 -- What a turn of a region that is at work comes to.
 use Rattle.std.proofs.Common.{◌≡◌, ℕ, ◌+◌, ◌-◌, List, refl, sym, ap, ◌∙◌, subst}
 use Rattle.std.specs.Prelude.{Option, Some, None, IsSomeAnd, Result, Ok, Err, IfOk, OnErr, slice_get, slice_set}
-use Rattle.std.specs.Option.{option_and_then}
 use Rattle.tm_types.specs.declared.message.Message.{Message}
-use Rattle.model_script.specs.declared.program.ScriptLine.{ScriptLine}
-use Rattle.model_queues.specs.Queue.{message_at}
+use Rattle.model_queues.specs.Queue.{message_at, free_count}
 use Rattle.model_system.specs.declared.code_state.CodeState.{CodeState}
+use Rattle.model_machine.specs.declared.lasting.CodeSetting.{CodeSetting}
 use Rattle.model_system.specs.System.{System}
-use Rattle.model_machine.specs.Trial.{Trial, CalledWith, trial_of, trial_end}
-use Rattle.model_machine.specs.Machine.{Moment, Slot, IsRegion, slot_at}
-use Rattle.model_machine.specs.Steps.{called_slot}
+use Rattle.model_machine.specs.declared.entry.Turned.TheVariants.{Called as TurnCalled}
+use Rattle.model_machine.specs.Trial.{trial_of}
+use Rattle.model_machine.specs.Trial.Advance.{Goes as TrialGoes}
+use Rattle.model_machine.specs.Machine.{Moment, Slot, IsRegion, slot_at, moment_with, waiting_now}
+use Rattle.model_machine.specs.Steps.{slot_work, turn_answer, work_by}
 use Rattle.message_run.specs.declared.run.Advanced.{Advanced}
 use Rattle.message_run.specs.declared.run.Advanced.TheVariants.{Called, Ended}
 use Rattle.program_rows.specs.State.{DatabasesState, rows_of}
 use Rattle.lasting_state.specs.Tables.{TablesState, lasting_of}
-use Rattle.message_run.specs.Ahead.{end_of}
+use Rattle.message_run.specs.Ahead.{Advances}
 use Rattle.tm_machine.specs.declared.region.Busy.{Busy}
 use Rattle.tm_machine.specs.Region.{SameMessage, StepsOn, Steps, SameWork, Stays, calls_made}
-use Rattle.tm_machine.specs.Parts.{slots_of, AreParts}
+use Rattle.tm_machine.specs.Parts.{slots_of, settings_of, flags_of, AreParts}
 use Rattle.tm_machine.specs.Turns.{Goes}
-use Rattle.tm_machine.proofs.Linked.{set_slots}
-use Rattle.tm_machine.proofs.Stepped.{Keeps, steps_keep, same_keep, moment_at, slot_is, trial_is, end_at, set_same}
+use Rattle.model_machine.proofs.Flags.{now_same}
+use Rattle.tm_machine.proofs.Linked.{free_count_is, set_slots, slot_told}
+use Rattle.tm_machine.proofs.Leaving.{turn_leaves, turn_works, turn_steps}
+use Rattle.tm_machine.proofs.Stepped.{Keeps, steps_keep, same_keep, moment_at, slot_is, work_is, set_same}
 
 pub some_and : {X : Type 0} (P : X → Type 0) (o : Option X) (x : X) → o ≡ Some x → P x → IsSomeAnd o P
 some_and P o x e h = rw e h
-
-last_trial : (o : Option Trial) (called : CalledWith) → option_and_then (λ t. t.last) o ≡ Some called → IsSomeAnd o (λ t. t.last ≡ Some called)
-last_trial (Some t) called e = e
-last_trial None called e = cc
 
 some-is : {X : Type 0} (a b : X) → Some a ≡ Some b → a ≡ b
 some-is a b e = cc
@@ -37,15 +36,15 @@ ok_map P Q (Ok x) f h = f x h
 ok_map P Q (Err e) f h = tt
 
 -- what lasts stays while the work goes on
-pub lasting_stays : (tables tables' : TablesState) → tables' ≡ record tables { databases = tables'.databases } → tables'.databases.committed ≡ tables.databases.committed
-    → lasting_of tables' ≡ lasting_of tables
-lasting_stays tables tables' is same =
-    ap lasting_of is ∙ ap (λ c. record (lasting_of tables) { rows = rows_of c }) same
+pub lasting_stays : (settings : List CodeSetting) (tables tables' : TablesState) → tables' ≡ record tables { databases = tables'.databases } → tables'.databases.committed ≡ tables.databases.committed
+    → lasting_of settings tables' ≡ lasting_of settings tables
+lasting_stays settings tables tables' is same =
+    ap (lasting_of settings) is ∙ ap (λ c. record (lasting_of settings tables) { rows = rows_of c }) same
 
-module _ (system : System) (no_program : List ScriptLine) (tables : TablesState) (states : List CodeState) (regions : List (Option Busy)) (region : ℕ)
-    (parts : AreParts system no_program tables states regions) (here : IsRegion system region) where
+module _ (system : System) (tables : TablesState) (states : List CodeState) (regions : List (Option Busy)) (region : ℕ)
+    (parts : AreParts system tables states regions) (here : IsRegion system region) where
   abbrev moment_of : List (Option Busy) → Moment
-  moment_of rs = moment_at system no_program tables states regions (region - 1) parts rs
+  moment_of rs = moment_at system tables states regions (region - 1) parts rs
 
   abbrev slot_for : Busy → Slot
   slot_for busy = record { code = busy.code; taken = busy.taken; id = busy.id; calls = calls_made busy.unit }
@@ -64,34 +63,54 @@ module _ (system : System) (no_program : List ScriptLine) (tables : TablesState)
       ∙ ap (λ i. record { code = old.code; taken = old.taken; id = i; calls = calls_made new.unit }) same.id
       ∙ ap (λ n. record { code = old.code; taken = old.taken; id = old.id; calls = n }) count
 
+  -- a slot that keeps its message changes no flag
+  slots_stay : (slot : Slot) (old : Busy) → slice_get regions (region - 1) ≡ Some (Some old) → slot.id ≡ old.id
+      → record (moment_of regions) { slots = slice_set (slots_of regions) (region - 1) (Some slot) }
+      ≡ moment_with system (moment_of regions).lasting (slice_set (slots_of regions) (region - 1) (Some slot)) (flags_of states)
+  slots_stay slot old e same =
+      ap (λ f. record (moment_of regions) { slots = slice_set (slots_of regions) (region - 1) (Some slot); raised = f })
+      (sym parts.settled ∙ now_same (λ name. free_count name tables.queues.queued) (waiting_now (moment_of regions).lasting (slice_set (slots_of regions) (region - 1) (Some slot))) system.codes (flags_of states)
+      (λ name. sym (free_count_is name (slice_set (slots_of regions) (region - 1) (Some slot)) tables.queues.queued
+      (slot_told tables.queues.queued regions (region - 1) old slot e same parts.told))))
+
   goes_on : (left : DatabasesState) (old new : Busy) (message : Message) (advanced : Advanced) → slice_get regions (region - 1) ≡ Some (Some old) → message_at old.id tables.queues.queued ≡ Some message
       → StepsOn system tables.databases left message old new advanced
       → Goes (record { system = system; moment = moment_of regions }) (record { system = system; moment = moment_of (slice_set regions (region - 1) (Some new)) }) region (Some advanced)
-  goes_on left old new message (Called function pcb status) e found s = (
-    (
-      here,
-      some_and _ (slot_at (moment_of regions) region) (slot_for old) (slot_is system no_program tables states regions (region - 1) parts (Some old) e)
-          (rw (trial_is system no_program tables states regions (region - 1) parts old message s.job (calls_made old.unit) (calls_made old.unit + 1) found s.serves)
-          (last_trial _ _ (subst (λ n. option_and_then (λ t. t.last) (trial_of s.job (rows_of tables.databases.committed) message (n + 1)) ≡ Some (record { function = function; pcb = pcb; status = status })) s.calls s.advances.2))),
-    ),
-    refl,
-    ap (λ ss. record (moment_of regions) { slots = ss })
-        (set_slots regions (region - 1) (Some new)
-        ∙ ap (λ slot. slice_set (slots_of regions) (region - 1) (Some slot)) (slot_same old new (calls_made old.unit + 1) s.same (ap calls_made s.is ∙ s.advances.0 ∙ ap (λ n. n + 1) s.calls))
-        ∙ ap (λ o. slice_set (slots_of regions) (region - 1) (called_slot o)) (sym (slot_is system no_program tables states regions (region - 1) parts (Some old) e))),
-  )
-  goes_on left old new message (Ended ending) e found s = (
-    some_and _ (slot_at (moment_of regions) region) (slot_for old) (slot_is system no_program tables states regions (region - 1) parts (Some old) e)
-        (end_at system no_program tables states regions (region - 1) parts old message s.job found s.serves
-        ∙ subst (λ n. option_and_then (trial_end s.job) (trial_of s.job (rows_of tables.databases.committed) message n) ≡ Some (end_of ending)) s.calls s.advances.2),
-    ap (λ ss. record { system = system; moment = record (moment_of regions) { slots = ss } })
-        (same_slots old new e (slot_same old new (calls_made old.unit) s.same (ap calls_made s.is ∙ s.advances.0 ∙ s.calls))),
-  )
+  goes_on left old new message advanced e found s = by advanced s.steps.advances
+    where
+      here-slot : slot_at (moment_of regions) region ≡ Some (slot_for old)
+      here-slot = slot_is system tables states regions (region - 1) parts (Some old) e
+
+      works : slot_work system (moment_of regions).lasting (slot_for old) ≡ Some (work_by s.steps.job (moment_of regions).lasting s.steps.ahead.trial)
+      works = work_is system tables states regions (region - 1) parts (slot_for old) message s.steps.job s.steps.ahead.trial found s.steps.serves
+          (subst (λ n. trial_of s.steps.job (rows_of tables.databases.committed) message n ≡ Some s.steps.ahead.trial) s.calls s.steps.ahead.made)
+
+      by : (a : Advanced) → Advances s.steps.job message tables.databases left s.steps.ahead.trial s.before s.after a
+          → Goes (record { system = system; moment = moment_of regions }) (record { system = system; moment = moment_of (slice_set regions (region - 1) (Some new)) }) region (Some a)
+      by (Called function pcb status) a =
+          let next = TrialGoes a.ahead.trial (record { function = function; pcb = pcb; status = status }) in
+          let answer : turn_answer system (moment_of regions) region ≡ TurnCalled function pcb status =
+          turn_works system (moment_of regions) region (slot_for old) (work_by s.steps.job (moment_of regions).lasting s.steps.ahead.trial) next here-slot works a.goes in (
+            sym answer,
+            refl,
+            ap (λ ss. record (moment_of regions) { slots = ss })
+                (set_slots regions (region - 1) (Some new)
+                ∙ ap (λ slot. slice_set (slots_of regions) (region - 1) (Some slot)) (slot_same old new (calls_made old.unit + 1) s.same (ap calls_made s.is ∙ a.calls ∙ ap (λ n. n + 1) s.calls)))
+                ∙ slots_stay (record (slot_for old) { calls = calls_made old.unit + 1 }) (old) e refl
+                ∙ sym (turn_leaves system (moment_of regions) region (Some (slot_for old)) (TurnCalled function pcb status) None here-slot answer
+                (turn_steps system (moment_of regions).lasting (slot_for old) (work_by s.steps.job (moment_of regions).lasting s.steps.ahead.trial) next works a.goes)),
+          )
+      by (Ended ending) a = (
+        some_and _ (slot_at (moment_of regions) region) (slot_for old) here-slot
+            (some_and _ (slot_work system (moment_of regions).lasting (slot_for old)) (work_by s.steps.job (moment_of regions).lasting s.steps.ahead.trial) works a.stops),
+        ap (λ ss. record { system = system; moment = record (moment_of regions) { slots = ss } })
+            (same_slots old new e (slot_same old new (calls_made old.unit) s.same (ap calls_made s.is ∙ a.calls ∙ s.calls))),
+      )
 
   goes_by : (left : DatabasesState) (old new : Option Busy) (advanced : Option Advanced) → slice_get regions (region - 1) ≡ Some old → Steps system tables left old new advanced
       → Goes (record { system = system; moment = moment_of regions }) (record { system = system; moment = moment_of (slice_set regions (region - 1) new) }) region advanced
   goes_by left None new None e h = (
-    slot_is system no_program tables states regions (region - 1) parts None e,
+    slot_is system tables states regions (region - 1) parts None e,
     ap (λ rs. record { system = system; moment = moment_of rs }) (ap (slice_set regions (region - 1)) h.0 ∙ set_same regions (region - 1) None e),
   )
   goes_by left None new (Some advanced) e h = absurd h
@@ -108,11 +127,11 @@ module _ (system : System) (no_program : List ScriptLine) (tables : TablesState)
   pub goes_is : (tables' : TablesState) (old new : Option Busy) (advanced : Option Advanced) → slice_get regions (region - 1) ≡ Some old
       → tables' ≡ record tables { databases = tables'.databases } → Stays tables.databases tables'.databases → Steps system tables tables'.databases old new advanced
       → Goes (record { system = system; moment = moment_of regions })
-      (record { system = system; moment = record { lasting = lasting_of tables'; slots = slots_of (slice_set regions (region - 1) new); codes = states } }) region advanced
+      (record { system = system; moment = record { lasting = lasting_of (settings_of states) tables'; slots = slots_of (slice_set regions (region - 1) new); raised = flags_of states } }) region advanced
   goes_is tables' old new advanced e is stays h =
       subst (λ l. Goes (record { system = system; moment = moment_of regions })
-      (record { system = system; moment = record { lasting = l; slots = slots_of (slice_set regions (region - 1) new); codes = states } }) region advanced)
-      (sym (lasting_stays tables tables' is stays.committed))
+      (record { system = system; moment = record { lasting = l; slots = slots_of (slice_set regions (region - 1) new); raised = flags_of states } }) region advanced)
+      (sym (lasting_stays (settings_of states) tables tables' is stays.committed))
       (goes_by tables'.databases old new advanced e h)
 
   pub same_moment : (old new : Option Busy) → slice_get regions (region - 1) ≡ Some old → SameWork system tables old new

@@ -1,13 +1,18 @@
 mod Linked
 mod Alone
 mod Named
-mod Started
-mod Following
+mod Raising
+pub mod Counting
+mod Free
+mod Firsts
+mod Leaving
+mod Taken
 mod Stepped
 mod Going
+mod Tried
 mod Scheduled
 mod Resting
-mod Sent
-mod Tried
+mod Started
+mod Asked
+mod Roomed
 mod Finished
-pub mod Counting

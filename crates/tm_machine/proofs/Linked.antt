@@ -124,6 +124,20 @@ module _ (system : System) (databases : DatabasesState) (queued : List Queued) (
           number-of place other (holder-of (record { message = m; holder = Some (place + 1) }) (record { message = n; holder = Some (other + 1) })
           (sym x ∙ ap (λ id. queued_at id queued) same ∙ y))
 
+-- a slot whose message stays
+pub slot_told : (queued : List Queued) (regions : List (Option Busy)) (place : ℕ) (old : Busy) (slot : Slot) → slice_get regions place ≡ Some (Some old) → slot.id ≡ old.id
+    → IsTold (slots_of regions) queued → IsTold (slice_set (slots_of regions) place (Some slot)) queued
+slot_told [] regions place old slot e same told = tt
+slot_told (q ∷ qs) regions place old slot e same told =
+    (slot_held q.message.id regions place e ∙ told.0, slot_told qs regions place old slot e same told.1)
+  where
+    slot_held : (id : ℕ) (rs : List (Option Busy)) (at : ℕ) → slice_get rs at ≡ Some (Some old) → is_held (slice_set (slots_of rs) at (Some slot)) id ≡ is_held (slots_of rs) id
+    slot_held id [] at f = cc
+    slot_held id (r ∷ rs) zero f =
+        let here : r ≡ Some old = cc in
+        ap (λ n. (n == id) || is_held (slots_of rs) id) same ∙ sym (ap (λ o. has_message id (slot_of o) || is_held (slots_of rs) id) here)
+    slot_held id (r ∷ rs) (suc at) f = ap (λ b. has_message id (slot_of r) || b) (slot_held id rs at f)
+
 -- a region that makes a step keeps its message
 pub step_told : (queued : List Queued) (regions : List (Option Busy)) (place : ℕ) (old new : Busy) → slice_get regions place ≡ Some (Some old) → new.id ≡ old.id
     → IsTold (slots_of regions) queued → IsTold (slots_of (slice_set regions place (Some new))) queued

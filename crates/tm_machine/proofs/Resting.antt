@@ -3,7 +3,6 @@ use Rattle.std.proofs.Common.{◌≡◌, ℕ, zero, suc, ◌+◌, ◌-◌, ◌�
 use Rattle.std.specs.Prelude.{Option, Some, None, is_some, nat_lt, slice_get}
 use Rattle.std.specs.Option.{option_map}
 use Rattle.std.proofs.Math.ListN.{drop_of_length-le}
-use Rattle.model_script.specs.declared.program.ScriptLine.{ScriptLine}
 use Rattle.model_queues.specs.Queue.{first_free}
 use Rattle.model_system.specs.declared.code_state.CodeState.{CodeState}
 use Rattle.model_system.specs.System.{System}
@@ -44,26 +43,26 @@ map_some : (o : Option Candidate) → is_some (option_map pick_with o) ≡ is_so
 map_some (Some c) = refl
 map_some None = refl
 
-module _ (system : System) (no_program : List ScriptLine) (tables : TablesState) (states : List CodeState) (regions : List (Option Busy)) (region : ℕ)
-    (parts : AreParts system no_program tables states regions) (work : Option Busy) (get : slice_get regions (region - 1) ≡ Some work)
+module _ (system : System) (tables : TablesState) (states : List CodeState) (regions : List (Option Busy)) (region : ℕ)
+    (parts : AreParts system tables states regions) (work : Option Busy) (get : slice_get regions (region - 1) ≡ Some work)
     (picked : Option Pick) (value : picked ≡ option_map pick_with (pick_of system region states (λ name. first_free name tables.queues.queued))) where
   -- a region rests by its work, what it could pick, and whether there is room
-  pub rests_is : rests system (moment_now system no_program tables states regions region parts) region
-      ≡ (not (is_some work) && (not (is_some picked) || nat_lt system.qbytes (need_now (moment_now system no_program tables states regions region parts))))
+  pub rests_is : rests system (moment_now system tables states regions region parts) region
+      ≡ (not (is_some work) && (not (is_some picked) || nat_lt system.qbytes (need_now (moment_now system tables states regions region parts))))
   rests_is =
-      ap (λ b. not b && (not (is_some (pick_now system (moment_now system no_program tables states regions region parts) region)) || nat_lt system.qbytes (need_now (moment_now system no_program tables states regions region parts))))
-      (ap is_some (slot_is system no_program tables states regions (region - 1) parts work get) ∙ slot_some work)
-      ∙ ap (λ b. not (is_some work) && (not b || nat_lt system.qbytes (need_now (moment_now system no_program tables states regions region parts))))
-      (ap is_some (pick_is system no_program tables states regions region parts) ∙ sym (map_some _) ∙ ap is_some (sym value))
+      ap (λ b. not b && (not (is_some (pick_now system (moment_now system tables states regions region parts) region)) || nat_lt system.qbytes (need_now (moment_now system tables states regions region parts))))
+      (ap is_some (slot_is system tables states regions (region - 1) parts work get) ∙ slot_some work)
+      ∙ ap (λ b. not (is_some work) && (not b || nat_lt system.qbytes (need_now (moment_now system tables states regions region parts))))
+      (ap is_some (pick_is system tables states regions region parts) ∙ sym (map_some _) ∙ ap is_some (sym value))
 
-  pub rests_idle : is_some work ≡ false → is_some picked ≡ false → true ≡ rests system (moment_now system no_program tables states regions region parts) region
+  pub rests_idle : is_some work ≡ false → is_some picked ≡ false → true ≡ rests system (moment_now system tables states regions region parts) region
   rests_idle a b = sym (rests_is
-      ∙ ap (λ x. not x && (not (is_some picked) || nat_lt system.qbytes (need_now (moment_now system no_program tables states regions region parts)))) a
-      ∙ ap (λ x. not x || nat_lt system.qbytes (need_now (moment_now system no_program tables states regions region parts))) b)
+      ∙ ap (λ x. not x && (not (is_some picked) || nat_lt system.qbytes (need_now (moment_now system tables states regions region parts)))) a
+      ∙ ap (λ x. not x || nat_lt system.qbytes (need_now (moment_now system tables states regions region parts))) b)
 
-  pub rests_short : is_some work ≡ false → is_some picked ≡ true → (limit need : ℕ) → limit ≡ system.qbytes → need ≡ need_now (moment_now system no_program tables states regions region parts)
-      → nat_lt limit need ≡ rests system (moment_now system no_program tables states regions region parts) region
+  pub rests_short : is_some work ≡ false → is_some picked ≡ true → (limit need : ℕ) → limit ≡ system.qbytes → need ≡ need_now (moment_now system tables states regions region parts)
+      → nat_lt limit need ≡ rests system (moment_now system tables states regions region parts) region
   rests_short a b limit need l n =
       ap (λ x. nat_lt x need) l ∙ ap (nat_lt system.qbytes) n ∙ sym (rests_is
-      ∙ ap (λ x. not x && (not (is_some picked) || nat_lt system.qbytes (need_now (moment_now system no_program tables states regions region parts)))) a
-      ∙ ap (λ x. not x || nat_lt system.qbytes (need_now (moment_now system no_program tables states regions region parts))) b)
+      ∙ ap (λ x. not x && (not (is_some picked) || nat_lt system.qbytes (need_now (moment_now system tables states regions region parts)))) a
+      ∙ ap (λ x. not x || nat_lt system.qbytes (need_now (moment_now system tables states regions region parts))) b)

@@ -1,27 +1,42 @@
 -- An empty region takes a message.
-use Rattle.std.proofs.Common.{◌≡◌, ℕ, ◌+◌, ◌-◌, ◌≤◌, List, length, refl, sym, ap, ◌∙◌, subst, arith}
-use Rattle.std.specs.Prelude.{Option, Some, None, IsSome, IsSomeAnd, slice_get, slice_set, unwrap_or}
-use Rattle.std.specs.Option.{option_map}
+use Rattle.std.proofs.Common.{◌≡◌, ℕ, ◌+◌, ◌-◌, ◌≤◌, ◌<◌, Bool, true, false, List, [], ◌∷◌, map, length, refl, sym, ap, ◌∙◌, subst, arith}
+use Rattle.std.proofs.lemmas.Bool.{lt-ltb, le-ltb}
+use Rattle.std.specs.Str.{bytes_eq}
+use Rattle.std.proofs.lemmas.List.Elements.{All-head, All-tail}
+use Rattle.std.specs.Prelude.{Option, Some, None, IsSome, IsSomeAnd, All, find, if◌then◌else◌, nat_lt, slice_get, slice_set, unwrap_or}
+use Rattle.std.specs.Option.{option_map, option_and_then, IfSome}
 use Rattle.tm_types.specs.declared.message.Message.{Message}
-use Rattle.model_script.specs.declared.program.ScriptLine.{ScriptLine}
 use Rattle.model_queues.specs.declared.queued.Queued.{Queued}
 use Rattle.model_queues.specs.Queue.{queued_at, messages_of, with_holder, first_free, free_count}
-use Rattle.model_queues.specs.Waiting.{count_waiting}
+use Rattle.model_queues.specs.Waiting.{first_waiting}
 use Rattle.model_queues.proofs.Laws.{messages_held}
 use Rattle.model_system.specs.declared.code_state.CodeState.{CodeState}
 use Rattle.model_system.specs.System.{System}
-use Rattle.model_system.specs.declared.code.Code.{Code}
 use Rattle.model_system.specs.Codes.{code_at}
-use Rattle.model_machine.specs.Machine.{Moment, Slot, is_held, job_by, followed}
+use Rattle.model_system.specs.declared.code.Code.{Code}
+use Rattle.model_system.specs.declared.system_program.SystemProgram.{SystemProgram}
+use Rattle.model_system.specs.Jobs.{Job, job_of, job_by, job_with, program_at}
+use Rattle.model_machine.specs.declared.entry.ControlCall.TheVariants.{Turn}
+use Rattle.model_machine.specs.declared.entry.Turned.{Turned}
+use Rattle.model_machine.specs.declared.entry.Turned.TheVariants.{Scheduled, Idle, Held}
+use Rattle.model_machine.specs.Machine.{Moment, Slot, is_held, slot_at, raised_now, moment_with}
 use Rattle.model_machine.specs.Pick.{Candidate, pick_of}
-use Rattle.model_machine.specs.Steps.{pick_now, taken}
+use Rattle.model_machine.specs.Steps.{pick_now, need_now, schedule_answer, slot_after, turn_by, turn_answer, After}
+use Rattle.model_machine.specs.Flags.{all_followed}
+use Rattle.model_machine.proofs.Flags.{states_again}
 use Rattle.model_machine.proofs.Picks.{pick_same}
+use Rattle.tran_pick.specs.Picked.{IsFirstFree}
+use Rattle.tran_pick.proofs.Found.{first_codes}
 use Rattle.tran_pick.specs.declared.picked.Pick.{Pick}
 use Rattle.lasting_state.specs.Tables.{TablesState, lasting_of, held}
 use Rattle.tm_machine.specs.declared.region.Busy.{Busy}
 use Rattle.tm_machine.specs.Region.{IsWork, calls_made}
-use Rattle.tm_machine.specs.Parts.{slot_of, slots_of, AreAtWork, AreParts}
-use Rattle.tm_machine.proofs.Linked.{first_free_is, free_count_is, take_told, take_at_work, set_length, set_slots, get_slots}
+use Rattle.tm_machine.specs.Parts.{slot_of, slots_of, settings_of, flags_of, IsTold, AreAtWork, AreParts}
+use Rattle.tm_machine.proofs.Linked.{first_free_is, take_told, take_at_work, set_length, set_slots, get_slots}
+use Rattle.tm_machine.proofs.Free.{count_held, or_none}
+use Rattle.tm_machine.proofs.Leaving.{moment_is, moment_stays, turn_leaves}
+use Rattle.tm_machine.proofs.Raising.{IsFollowed, followed_all}
+use Rattle.tm_machine.proofs.Stepped.{slot_is, set_same}
 use Rattle.tm_machine.proofs.Alone.{alone_taken, clean_here}
 
 abbrev pub pick_with : Candidate → Pick
@@ -35,9 +50,23 @@ some_map : (o : Option Candidate) (p : Pick) → Some p ≡ option_map pick_with
 some_map None p e = cc
 some_map (Some c) p e = let same : pick_with c ≡ p = cc in (ap (λ q. q.code) same, ap (λ q. q.id) same)
 
-is_there : (P : Candidate → Type 0) (o : Option Candidate) → IsSomeAnd o P → IsSome o
-is_there P (Some c) h = cc
-is_there P None h = absurd h
+-- what holds of each code holds of the one that is found
+found_holds : (P : Code → Type 0) (p : Code → Bool) (codes : List Code) → All P codes → IfSome (find p codes) P
+found_holds P p [] h = tt
+found_holds P p (code ∷ codes) h = by (p code) (All-head P code codes h) (found_holds P p codes (All-tail P code codes h))
+  where
+    by : (b : Bool) → P code → IfSome (find p codes) P → IfSome (if b then Some code else find p codes) P
+    by true here rest = here
+    by false here rest = rest
+
+-- a code with a program has a job
+job_there : (system : System) (code : Option Code) → IsSome code → IfSome code (λ c. IsSome (program_at system.programs c.psb)) → IsSome (option_and_then (job_by system) code)
+job_there system (Some code) there program = by (program_at system.programs code.psb) program
+  where
+    by : (found : Option SystemProgram) → IsSome found → IsSome (option_map (job_with system code) found)
+    by (Some p) h = cc
+    by None h = cc
+job_there system None there program = cc
 
 -- a region whose slot is empty is empty
 pub empty_at : (regions : List (Option Busy)) (place : ℕ) (found : Option Busy) → slice_get regions place ≡ Some found
@@ -49,13 +78,15 @@ empty_at regions place (Some busy) e empty =
     no-slot : (s : Option Slot) → s ≡ slot_of (Some busy) → s ≡ None → ⊥
     no-slot s a b = cc
 
-module _ (system : System) (no_program : List ScriptLine) (tables : TablesState) (states : List CodeState) (regions : List (Option Busy)) (region : ℕ)
-    (parts : AreParts system no_program tables states regions) where
+module _ (system : System) (tables : TablesState) (states : List CodeState) (regions : List (Option Busy)) (region : ℕ)
+    (parts : AreParts system tables states regions) where
   abbrev pub moment_now : Moment
-  moment_now = record { lasting = lasting_of tables; slots = slots_of regions; codes = states }
+  moment_now = record { lasting = lasting_of (settings_of states) tables; slots = slots_of regions; raised = flags_of states }
 
   pub pick_is : pick_now system moment_now region ≡ pick_of system region states (λ name. first_free name tables.queues.queued)
-  pick_is = pick_same system region states _ _ (λ name. first_free_is name (slots_of regions) tables.queues.queued parts.told)
+  pick_is =
+      ap (λ ss. pick_of system region ss (λ code. first_waiting (is_held (slots_of regions)) code (messages_of tables.queues.queued))) (states_again states)
+      ∙ pick_same system region states _ _ (λ name. first_free_is name (slots_of regions) tables.queues.queued parts.told)
 
   pub none_picked : (result : Option Pick) → result ≡ None → result ≡ option_map pick_with (pick_of system region states (λ name. first_free name tables.queues.queued))
       → pick_now system moment_now region ≡ None
@@ -65,72 +96,117 @@ module _ (system : System) (no_program : List ScriptLine) (tables : TablesState)
       → IsSomeAnd (pick_now system moment_now region) (λ c. (c.code ≡ p.code) × (c.id ≡ p.id))
   some_picked result p e value = rw pick_is (some_map _ p (sym e ∙ value))
 
-  pub is_picked : (result : Option Pick) (p : Pick) → result ≡ Some p → result ≡ option_map pick_with (pick_of system region states (λ name. first_free name tables.queues.queued))
-      → IsSome (pick_now system moment_now region)
-  is_picked result p e value = is_there (λ c. (c.code ≡ p.code) × (c.id ≡ p.id)) _ (some_picked result p e value)
+  -- an empty region's turn, by what is picked
+  module _ (empty : slice_get regions (region - 1) ≡ Some None) where
+    pub empty_slot : slot_at moment_now region ≡ None
+    empty_slot = slot_is system tables states regions (region - 1) parts None empty
+
+    answers : (picked : Option Candidate) → pick_now system moment_now region ≡ picked → turn_answer system moment_now region ≡ schedule_answer picked (need_now moment_now) system.qbytes
+    answers picked e = ap (turn_by system moment_now region) empty_slot ∙ ap (λ p. schedule_answer p (need_now moment_now) system.qbytes) e
+
+    pub idle_answer : pick_now system moment_now region ≡ None → Idle ≡ turn_answer system moment_now region
+    idle_answer e = sym (answers None e)
+
+    by_pick : (p : Pick) → IsSomeAnd (pick_now system moment_now region) (λ c. (c.code ≡ p.code) × (c.id ≡ p.id))
+        → turn_answer system moment_now region ≡ (if nat_lt system.qbytes (need_now moment_now) then Held (need_now moment_now) system.qbytes else Scheduled p.code p.id)
+    by_pick p h = by (pick_now system moment_now region) refl h
+      where
+        by : (found : Option Candidate) → pick_now system moment_now region ≡ found → IsSomeAnd found (λ c. (c.code ≡ p.code) × (c.id ≡ p.id))
+            → turn_answer system moment_now region ≡ (if nat_lt system.qbytes (need_now moment_now) then Held (need_now moment_now) system.qbytes else Scheduled p.code p.id)
+        by (Some c) e g =
+            answers (Some c) e
+            ∙ ap (λ n. if nat_lt system.qbytes (need_now moment_now) then Held (need_now moment_now) system.qbytes else Scheduled n c.id) g.0
+            ∙ ap (λ n. if nat_lt system.qbytes (need_now moment_now) then Held (need_now moment_now) system.qbytes else Scheduled p.code n) g.1
+        by None e g = absurd g
+
+    pub held_answer : (p : Pick) (need limit : ℕ) → IsSomeAnd (pick_now system moment_now region) (λ c. (c.code ≡ p.code) × (c.id ≡ p.id))
+        → need ≡ need_now moment_now → limit ≡ system.qbytes → limit < need → Held need limit ≡ turn_answer system moment_now region
+    held_answer p need limit h n l less =
+        ap (λ k. Held k limit) n ∙ ap (Held (need_now moment_now)) l
+        ∙ sym (by_pick p h ∙ ap (λ b. if b then Held (need_now moment_now) system.qbytes else Scheduled p.code p.id) (lt-ltb system.qbytes (need_now moment_now) (omega (arith, n, l, less))))
+
+    pub scheduled_answer : (p : Pick) (need limit : ℕ) → IsSomeAnd (pick_now system moment_now region) (λ c. (c.code ≡ p.code) × (c.id ≡ p.id))
+        → need ≡ need_now moment_now → limit ≡ system.qbytes → need ≤ limit → Scheduled p.code p.id ≡ turn_answer system moment_now region
+    scheduled_answer p need limit h n l fits =
+        sym (by_pick p h ∙ ap (λ b. if b then Held (need_now moment_now) system.qbytes else Scheduled p.code p.id) (le-ltb system.qbytes (need_now moment_now) (omega (arith, n, l, fits))))
+
+    -- a region that stays empty
+    slots_same : slice_set (slots_of regions) (region - 1) None ≡ slots_of regions
+    slots_same = sym (set_slots regions (region - 1) None) ∙ ap slots_of (set_same regions (region - 1) None empty)
+
+    pub stays_empty : (answer : Turned) → answer ≡ turn_answer system moment_now region → slot_after answer None ≡ None → moment_now ≡ After system moment_now (Turn region)
+    stays_empty answer says none =
+        moment_stays system tables states regions parts
+        ∙ ap (λ ss. moment_with system moment_now.lasting ss (flags_of states)) (sym slots_same)
+        ∙ ap (λ s. moment_with system moment_now.lasting (slice_set (slots_of regions) (region - 1) s) (flags_of states)) (sym none)
+        ∙ sym (turn_leaves system moment_now region None answer None empty_slot (sym says) refl)
 
   module _ (busy : Busy) (empty : slice_get regions (region - 1) ≡ Some None) (positive : 1 ≤ region) where
     back : region - 1 + 1 ≡ region
     back = omega (arith, positive)
 
+    -- the flags behind the taking, where those of some names followed
+    pub told_taken : IsTold (slots_of (slice_set regions (region - 1) (Some busy))) (with_holder busy.id (Some region) tables.queues.queued)
+    told_taken = take_told busy.id region tables.queues.queued regions (region - 1) busy empty refl parts.told
+
     pub parts_taken : (tables' : TablesState) (states' : List CodeState) → tables' ≡ held tables busy.id region
         → IsSomeAnd (queued_at busy.id tables.queues.queued) (λ q. q.holder ≡ None)
         → IsSome (code_at system.codes busy.code) → busy.unit ≡ None → length states' ≡ length states
-        → AreParts system no_program tables' states' (slice_set regions (region - 1) (Some busy))
-    parts_taken tables' states' is free known fresh same =
-        rw is (by (queued_at busy.id tables.queues.queued) (code_at system.codes busy.code) refl refl free known)
+        → raised_now (λ name. free_count name tables'.queues.queued) system.codes (flags_of states') ≡ flags_of states'
+        → AreParts system tables' states' (slice_set regions (region - 1) (Some busy))
+    parts_taken tables' states' is free known fresh same settled = record {
+      valid = parts.valid;
+      limit = ap (λ t. t.queues.limit) is ∙ parts.limit;
+      names = ap (λ t. map (λ n. n.name) t.terminals) is ∙ parts.names;
+      regions_are = set_length regions (region - 1) (Some busy) ∙ parts.regions_are;
+      states_are = same ∙ parts.states_are;
+      settled = settled;
+      told = rw is told_taken;
+      at_work = rw is (by (queued_at busy.id tables.queues.queued) (job_of system busy.code) refl refl free (is_served_by known));
+      databases = rw is parts.databases;
+      alone = rw is (alone_taken system tables.databases regions (region - 1) busy empty parts.regions_are parts.alone);
+    }
       where
-        by : (found : Option Queued) (code : Option Code) → queued_at busy.id tables.queues.queued ≡ found → code_at system.codes busy.code ≡ code
-            → IsSomeAnd found (λ q. q.holder ≡ None) → IsSome code
-            → AreParts system no_program (held tables busy.id region) states' (slice_set regions (region - 1) (Some busy))
-        by (Some q) (Some c) f g none k =
+        is_served_by : IsSome (code_at system.codes busy.code) → IsSome (job_of system busy.code)
+        is_served_by there = job_there system (code_at system.codes busy.code) there
+            (found_holds (λ code. IsSome (program_at system.programs code.psb)) (λ code. bytes_eq code.transaction.code busy.code) system.codes parts.valid.served)
+
+        by : (found : Option Queued) (job : Option Job) → queued_at busy.id tables.queues.queued ≡ found → job_of system busy.code ≡ job
+            → IsSomeAnd found (λ q. q.holder ≡ None) → IsSome job
+            → AreAtWork system tables.databases (with_holder busy.id (Some region) tables.queues.queued) (slice_set regions (region - 1) (Some busy))
+        by (Some q) (Some job) f g none k =
             let here : queued_at busy.id tables.queues.queued ≡ Some (record { message = q.message; holder = None }) = f ∙ ap (λ h. Some (record { message = q.message; holder = h })) none in
             let work : IsWork system tables.databases q.message busy
-            = record { job = job_by system c; serves = ap (option_map (job_by system)) g; unit = rw fresh (clean_here system tables.databases regions (region - 1) empty parts.alone) } in
-            record {
-              no_lines = parts.no_lines;
-              limit = parts.limit;
-              regions_are = set_length regions (region - 1) (Some busy) ∙ parts.regions_are;
-              few = rw (set_length regions (region - 1) (Some busy)) parts.few;
-              states_are = same ∙ parts.states_are;
-              told = take_told busy.id region tables.queues.queued regions (region - 1) busy empty refl parts.told;
-              at_work = subst (λ n. AreAtWork system tables.databases (with_holder busy.id (Some n) tables.queues.queued) (slice_set regions (region - 1) (Some busy))) back
-                  (take_at_work system tables.databases busy.id tables.queues.queued regions (region - 1) busy q.message empty refl here work parts.at_work);
-              databases = parts.databases;
-              alone = alone_taken system tables.databases regions (region - 1) busy empty parts.regions_are parts.alone;
-            }
+            = record { job = job; serves = g; unit = rw fresh (clean_here system tables.databases regions (region - 1) empty parts.alone) } in
+            subst (λ n. AreAtWork system tables.databases (with_holder busy.id (Some n) tables.queues.queued) (slice_set regions (region - 1) (Some busy))) back
+            (take_at_work system tables.databases busy.id tables.queues.queued regions (region - 1) busy q.message empty refl here work parts.at_work)
         by (Some q) None f g none k = cc
-        by None code f g none k = absurd none
+        by None job f g none k = absurd none
 
-    -- the moment with these messages and slots
-    abbrev moment_with : List Message → List (Option Slot) → Moment
-    moment_with messages slots = record {
-      lasting = record (lasting_of tables) { messages = messages };
-      slots = slots;
-      codes = followed system busy.code (count_waiting (is_held slots) busy.code messages) states;
-    }
+    -- as many messages of other codes wait
+    pub others_wait : (tables' : TablesState) → tables' ≡ held tables busy.id region → IsFirstFree tables.queues.queued busy.code busy.id → (name : List ℕ)
+        → bytes_eq name busy.code ≡ false → free_count name tables'.queues.queued ≡ free_count name tables.queues.queued
+    others_wait tables' is free name other =
+        ap (λ t. free_count name t.queues.queued) is
+        ∙ count_held name busy.code busy.id (Some region) tables.queues.queued other (first_codes busy.code tables.queues.queued busy.id free.ordered free.first)
 
-    pub moment_taken : (tables' : TablesState) → tables' ≡ held tables busy.id region → busy.taken ≡ 1 → calls_made busy.unit ≡ 0
-        → record {
-          lasting = lasting_of tables';
-          slots = slots_of (slice_set regions (region - 1) (Some busy));
-          codes = followed system busy.code (free_count busy.code tables'.queues.queued) states;
-        }
-        ≡ taken system moment_now region (record { code = busy.code; taken = 1; id = busy.id; calls = 0 })
-    moment_taken tables' is one none =
-        ap (λ t. record {
-          lasting = lasting_of t;
-          slots = slots_of (slice_set regions (region - 1) (Some busy));
-          codes = followed system busy.code (free_count busy.code t.queues.queued) states;
-        }) is
-        ∙ ap (λ n. record {
-          lasting = lasting_of (held tables busy.id region);
-          slots = slots_of (slice_set regions (region - 1) (Some busy));
-          codes = followed system busy.code n states;
-        }) (sym (free_count_is busy.code (slots_of (slice_set regions (region - 1) (Some busy))) (with_holder busy.id (Some region) tables.queues.queued)
-        (take_told busy.id region tables.queues.queued regions (region - 1) busy empty refl parts.told)))
-        ∙ ap (λ ms. moment_with ms (slots_of (slice_set regions (region - 1) (Some busy)))) (messages_held busy.id (Some region) tables.queues.queued)
-        ∙ ap (moment_with (messages_of tables.queues.queued))
+    pub follows_taken : (tables' : TablesState) (states' : List CodeState) → tables' ≡ held tables busy.id region → IsFirstFree tables.queues.queued busy.code busy.id
+        → states' ≡ all_followed system.codes (λ name. free_count name tables'.queues.queued) (busy.code ∷ []) states
+        → IsFollowed system (λ name. free_count name tables'.queues.queued) states states'
+    follows_taken tables' states' is free follow =
+        followed_all system (λ name. free_count name tables.queues.queued) (λ name. free_count name tables'.queues.queued) (busy.code ∷ []) states states' parts.valid parts.states_are parts.settled
+        (λ name none. others_wait tables' is free name (or_none (bytes_eq name busy.code) false none).0) follow
+
+    pub moment_taken : (tables' : TablesState) (states' : List CodeState) → tables' ≡ held tables busy.id region → busy.taken ≡ 1 → calls_made busy.unit ≡ 0
+        → IsFollowed system (λ name. free_count name tables'.queues.queued) states states'
+        → Scheduled busy.code busy.id ≡ turn_answer system moment_now region
+        → record { lasting = lasting_of (settings_of states') tables'; slots = slots_of (slice_set regions (region - 1) (Some busy)); raised = flags_of states' }
+        ≡ After system moment_now (Turn region)
+    moment_taken tables' states' is one none follows says =
+        moment_is system moment_now.lasting (slice_set (slots_of regions) (region - 1) (Some (record { code = busy.code; taken = 1; id = busy.id; calls = 0 }))) tables' states states' (slice_set regions (region - 1) (Some busy))
+        follows (rw is told_taken)
+        (ap (lasting_of (settings_of states)) is ∙ ap {A = List Message} (λ ms. record (lasting_of (settings_of states) tables) { messages = ms }) (messages_held busy.id (Some region) tables.queues.queued))
         (set_slots regions (region - 1) (Some busy)
         ∙ ap (λ n. slice_set (slots_of regions) (region - 1) (Some (record { code = busy.code; taken = n; id = busy.id; calls = calls_made busy.unit }))) one
         ∙ ap (λ n. slice_set (slots_of regions) (region - 1) (Some (record { code = busy.code; taken = 1; id = busy.id; calls = n }))) none)
+        ∙ sym (turn_leaves system moment_now region None (Scheduled busy.code busy.id) None (empty_slot empty) (sym says) refl)

@@ -1,25 +1,34 @@
 -- An empty control region, and an input that comes.
-use Rattle.std.proofs.Common.{◌≡◌, ℕ, zero, suc, ◌<◌, ◌≤◌, ◌⊎◌, inl, inr, ⊎_elim, ◌^◌, Bool, false, List, [], ◌∷◌, ◌++◌, map, length, replicate, refl, sym, ap, ◌∙◌, subst}
-use Rattle.std.specs.Prelude.{Option, Some, None, slice_get}
+use Rattle.std.proofs.Common.{◌≡◌, ℕ, zero, suc, inl, inr, ⊎_elim, false, List, [], ◌∷◌, map, length, replicate, refl, sym, ap, ◌∙◌}
+use Rattle.std.specs.Prelude.{Option, Some, None, Result, Ok, slice_get, slice_set}
 use Rattle.std.specs.Option.{option_map_or}
+use Rattle.std.specs.Str.{bytes_eq}
 use Rattle.tm_types.specs.declared.message.Message.{Message}
-use Rattle.model_script.specs.declared.program.ScriptLine.{ScriptLine}
-use Rattle.model_queues.specs.Queue.{IsNewId, messages_of, with_message, free_count}
-use Rattle.model_queues.specs.Waiting.{count_waiting}
-use Rattle.model_queues.proofs.Laws.{messages_behind}
+use Rattle.model_queues.specs.Queue.{IsNewId, free_count}
 use Rattle.model_system.specs.declared.code.Code.{Code}
 use Rattle.model_system.specs.declared.code_state.CodeState.{CodeState}
-use Rattle.model_system.specs.CodeStates.{with_raised}
+use Rattle.model_system.specs.Lists.{change_at}
 use Rattle.model_system.specs.System.{System}
-use Rattle.sysdef_check.specs.Codes as codes
-use Rattle.model_system.specs.Codes.{code_place}
-use Rattle.model_machine.specs.Machine.{Moment, is_held, first_state, empty_state, start_of, followed, followed_by, flagged, is_raised, raised_by}
-use Rattle.model_machine.specs.Steps.{accepted_state, code_word, with_lasting}
+use Rattle.system_types.specs.Codes as codes
+use Rattle.system_types.specs.Valid.{IsSystem}
+use Rattle.model_machine.specs.declared.entry.Taken.{Taken}
+use Rattle.model_machine.specs.declared.entry.Taken.TheVariants.{New}
+use Rattle.model_machine.specs.declared.entry.InputRefused.{InputRefused}
+use Rattle.model_machine.specs.declared.entry.ControlCall.TheVariants.{Input}
+use Rattle.model_machine.specs.declared.lasting.TerminalState.{TerminalState}
+use Rattle.model_machine.specs.Machine.{terminal_place, fresh_terminal_state, first_setting, raised_now, moment_with, empty_state, start_of}
+use Rattle.model_machine.specs.Lasting.{code_word, with_last, applied}
+use Rattle.model_machine.specs.Lasting.LastingStep.{Accepts}
+use Rattle.model_machine.specs.Steps.{accepts, input_answer, After}
+use Rattle.model_machine.specs.Flags.{all_followed}
 use Rattle.program_rows.specs.State.{IsClean}
 use Rattle.lasting_state.specs.Tables.{TablesState, lasting_of, enqueued}
 use Rattle.tm_machine.specs.declared.region.Busy.{Busy}
-use Rattle.tm_machine.specs.Parts.{slots_of, IsTold, AreParts, AreDatabases}
-use Rattle.tm_machine.proofs.Linked.{new_told, new_free, new_at_work, free_count_is}
+use Rattle.tm_machine.specs.Parts.{slots_of, settings_of, flags_of, IsTold, AreParts, AreDatabases}
+use Rattle.tm_machine.proofs.Free.{count_added, or_none}
+use Rattle.tm_machine.proofs.Leaving.{moment_is, moment_stays}
+use Rattle.tm_machine.proofs.Linked.{new_told, new_free, new_at_work}
+use Rattle.tm_machine.proofs.Raising.{IsFollowed, followed_all, followed_settled}
 
 none_busy : (n place : ℕ) (busy : Busy) → slice_get (replicate n None) place ≡ Some (Some busy) → ⊥
 none_busy zero place busy e = cc
@@ -38,90 +47,110 @@ states_length : (all : List Code) → length (map codes.first_state all) ≡ len
 states_length [] = refl
 states_length (code ∷ all) = ap suc (states_length all)
 
-first_states : (system : System) (all : List Code) → map codes.first_state all ≡ map (first_state (empty_state system)) all
-first_states system [] = refl
-first_states system (code ∷ all) = ap (λ ss. codes.first_state code ∷ ss) (first_states system all)
+first_settings : (all : List Code) → settings_of (map codes.first_state all) ≡ map first_setting all
+first_settings [] = refl
+first_settings (code ∷ all) = ap (λ ss. first_setting code ∷ ss) (first_settings all)
 
-pub parts_start : (system : System) (no_program : List ScriptLine) (tables : TablesState) (states : List CodeState) (regions : List (Option Busy))
-    → no_program ≡ [] → tables.queues ≡ record { limit = system.qbytes; queued = [] } → regions ≡ replicate (length system.regions) None
-    → length system.regions < 2 ^ 32 → states ≡ map codes.first_state system.codes
-    → AreDatabases system tables.databases → IsClean tables.databases → ((system.databases ≡ []) ⊎ (length system.regions ≤ 1))
-    → AreParts system no_program tables states regions
-parts_start system no_program tables states regions nothing queues empty few first databases clean alone = record {
-  no_lines = nothing;
+first_flags : (all : List Code) → flags_of (map codes.first_state all) ≡ map (λ _. false) all
+first_flags [] = refl
+first_flags (code ∷ all) = ap (λ ss. false ∷ ss) (first_flags all)
+
+none_raised : (all : List Code) → raised_now (λ _. 0) all (map (λ _. false) all) ≡ map (λ _. false) all
+none_raised [] = refl
+none_raised (code ∷ all) = ap (λ bs. false ∷ bs) (none_raised all)
+
+fresh_names : (terminals : List (List ℕ)) → map (λ t. t.name) (map fresh_terminal_state terminals) ≡ terminals
+fresh_names [] = refl
+fresh_names (name ∷ terminals) = ap (λ ns. name ∷ ns) (fresh_names terminals)
+
+pub parts_start : (system : System) (tables : TablesState) (states : List CodeState) (regions : List (Option Busy))
+    → IsSystem system → tables.queues ≡ record { limit = system.qbytes; queued = [] } → lasting_of (map first_setting system.codes) tables ≡ empty_state system
+    → regions ≡ replicate (length system.regions) None → states ≡ map codes.first_state system.codes
+    → AreDatabases system tables.databases → IsClean tables.databases
+    → AreParts system tables states regions
+parts_start system tables states regions valid queues lasting empty first databases clean = record {
+  valid = valid;
   limit = ap (λ q. q.limit) queues;
+  names = ap (λ l. map (λ t. t.name) l.terminals) lasting ∙ fresh_names system.terminals;
   regions_are = ap length empty ∙ none_length (length system.regions);
-  few = subst (λ n. n < 2 ^ 32) (sym (ap length empty ∙ none_length (length system.regions))) few;
   states_are = ap length first ∙ states_length system.codes;
+  settled = rw first (rw (ap (λ q. q.queued) queues) (rw (first_flags system.codes) (none_raised system.codes)));
   told = rw (ap (λ q. q.queued) queues) tt;
   at_work = λ place busy e. absurd (none_busy (length system.regions) place busy (sym (ap (λ rs. slice_get rs place) empty) ∙ e));
   databases = databases;
-  alone = ⊎_elim (λ h. inl (h, clean)) (λ h. inr (h, λ place e. clean)) alone;
+  alone = ⊎_elim (λ h. inl (h, clean)) (λ h. inr (h, λ place e. clean)) valid.one_region;
 }
 
-pub moment_start : (system : System) (tables : TablesState) (states : List CodeState) (regions : List (Option Busy))
-    → lasting_of tables ≡ empty_state system → regions ≡ replicate (length system.regions) None → states ≡ map codes.first_state system.codes
-    → record { lasting = lasting_of tables; slots = slots_of regions; codes = states } ≡ start_of system (empty_state system)
-moment_start system tables states regions lasting empty first =
-    ap (λ l. record { lasting = l; slots = slots_of regions; codes = states }) lasting
-    ∙ ap (λ ss. record { lasting = empty_state system; slots = ss; codes = states }) (ap slots_of empty ∙ none_slots (length system.regions))
-    ∙ ap (λ cs. record { lasting = empty_state system; slots = replicate (length system.regions) None; codes = cs }) (first ∙ first_states system system.codes)
+pub moment_start : (system : System) (tables : TablesState) (states : List CodeState) (regions : List (Option Busy)) → AreParts system tables states regions
+    → lasting_of (map first_setting system.codes) tables ≡ empty_state system → regions ≡ replicate (length system.regions) None → states ≡ map codes.first_state system.codes
+    → record { lasting = lasting_of (settings_of states) tables; slots = slots_of regions; raised = flags_of states } ≡ start_of system (empty_state system)
+moment_start system tables states regions parts lasting empty first =
+    moment_stays system tables states regions parts
+    ∙ ap (λ l. moment_with system l (slots_of regions) (flags_of states)) (ap (λ ss. lasting_of ss tables) (ap settings_of first ∙ first_settings system.codes) ∙ lasting)
+    ∙ ap (λ ss. moment_with system (empty_state system) ss (flags_of states)) (ap slots_of empty ∙ none_slots (length system.regions))
+    ∙ ap (moment_with system (empty_state system) (replicate (length system.regions) None)) (ap flags_of first ∙ first_flags system.codes)
 
-raised_length : (place : ℕ) (raised : Bool) (states : List CodeState) → length (with_raised place raised states) ≡ length states
-raised_length place raised [] = refl
-raised_length zero raised (state ∷ states) = refl
-raised_length (suc place) raised (state ∷ states) = ap suc (raised_length place raised states)
-
-pub followed_length : (system : System) (name : List ℕ) (count : ℕ) (states : List CodeState) → length (followed system name count states) ≡ length states
-followed_length system name count states = by (code_place system.codes name)
+-- ---- an input comes
+names_kept : (terminals : List TerminalState) (place : Option ℕ) (number : ℕ) → map (λ t. t.name) (change_at terminals place (with_last number)) ≡ map (λ t. t.name) terminals
+names_kept terminals None number = refl
+names_kept terminals (Some place) number = at terminals place
   where
-    one : (place : ℕ) (code : Option Code) → length (followed_by count code states place) ≡ length states
-    one place (Some code) = raised_length place (raised_by code.transaction count (is_raised states place)) states
-    one place None = refl
+    at : (ts : List TerminalState) (p : ℕ) → map (λ t. t.name) (change_at ts (Some p) (with_last number)) ≡ map (λ t. t.name) ts
+    at [] p = refl
+    at (t ∷ ts) zero = refl
+    at (t ∷ ts) (suc p) = by (slice_get ts p) (at ts p)
+      where
+        by : (found : Option TerminalState) → map (λ x. x.name) (option_map_or (λ f. slice_set ts p (with_last number f)) found ts) ≡ map (λ x. x.name) ts
+            → map (λ x. x.name) (option_map_or (λ f. slice_set (t ∷ ts) (suc p) (with_last number f)) found (t ∷ ts)) ≡ t.name ∷ map (λ x. x.name) ts
+        by (Some f) rest = ap (λ ns. t.name ∷ ns) rest
+        by None rest = refl
 
-    by : (found : Option ℕ) → length (option_map_or (λ place. followed_by count (slice_get system.codes place) states place) found states) ≡ length states
-    by (Some place) = one place (slice_get system.codes place)
-    by None = refl
+module _ (system : System) (tables : TablesState) (states : List CodeState) (regions : List (Option Busy)) (terminal : List ℕ) (number : ℕ) (segments : List (List ℕ))
+    (parts : AreParts system tables states regions) (above : IsNewId tables.next_id tables.queues.queued)
+    (tables' : TablesState) (is : tables' ≡ enqueued tables terminal number segments) where
+  abbrev message_of : Message
+  message_of = record { id = tables.next_id; origin = terminal; code = code_word segments; conversation = false; segments = segments }
 
-pub parts_enqueued : (system : System) (no_program : List ScriptLine) (tables tables' : TablesState) (states : List CodeState) (regions : List (Option Busy))
-    (terminal : List ℕ) (number : ℕ) (name : List ℕ) (segments : List (List ℕ)) (count : ℕ)
-    → AreParts system no_program tables states regions → IsNewId tables.next_id tables.queues.queued
-    → tables' ≡ enqueued tables terminal number name segments
-    → AreParts system no_program tables' (followed system name count states) regions
-parts_enqueued system no_program tables tables' states regions terminal number name segments count parts above is = rw is (record {
-  no_lines = parts.no_lines;
-  limit = parts.limit;
-  regions_are = parts.regions_are;
-  few = parts.few;
-  states_are = followed_length system name count states ∙ parts.states_are;
-  told = new_told tables.queues.queued (slots_of regions) _ (new_free system tables.databases tables.next_id tables.queues.queued regions above parts.at_work) parts.told;
-  at_work = new_at_work system tables.databases tables.queues.queued regions _ parts.at_work;
-  databases = parts.databases;
-  alone = parts.alone;
-})
+  told_after : IsTold (slots_of regions) tables'.queues.queued
+  told_after = rw is (new_told tables.queues.queued (slots_of regions) message_of (new_free system tables.databases tables.next_id tables.queues.queued regions above parts.at_work) parts.told)
 
-module _ (system : System) (no_program : List ScriptLine) (tables : TablesState) (states : List CodeState) (regions : List (Option Busy))
-    (terminal : List ℕ) (number : ℕ) (segments : List (List ℕ))
-    (parts : AreParts system no_program tables states regions) (above : IsNewId tables.next_id tables.queues.queued) where
-  abbrev message_of : List ℕ → Message
-  message_of name = record { id = tables.next_id; origin = terminal; code = name; conversation = false; segments = segments }
+  pub follows_enqueued : (states' : List CodeState) (name : List ℕ) → name ≡ code_word segments
+      → states' ≡ all_followed system.codes (λ n. free_count n tables'.queues.queued) (name ∷ []) states → IsFollowed system (λ n. free_count n tables'.queues.queued) states states'
+  follows_enqueued states' name named follow =
+      followed_all system (λ n. free_count n tables.queues.queued) (λ n. free_count n tables'.queues.queued) (name ∷ []) states states' parts.valid parts.states_are parts.settled
+      (λ n none. ap (λ t. free_count n t.queues.queued) is
+      ∙ count_added n message_of tables.queues.queued (ap (bytes_eq n) (sym named) ∙ (or_none (bytes_eq n name) false none).0)) follow
 
-  abbrev moment_with : List ℕ → List Message → Moment
-  moment_with name messages = record {
-    lasting = record (lasting_of (enqueued tables terminal number name segments)) { messages = messages };
-    slots = slots_of regions;
-    codes = followed system name (count_waiting (is_held (slots_of regions)) name messages) states;
+  pub parts_enqueued : (states' : List CodeState) → IsFollowed system (λ n. free_count n tables'.queues.queued) states states' → AreParts system tables' states' regions
+  parts_enqueued states' follows = record {
+    valid = parts.valid;
+    limit = ap (λ t. t.queues.limit) is ∙ parts.limit;
+    names = ap (λ t. map (λ n. n.name) t.terminals) is ∙ names_kept tables.terminals (terminal_place tables.terminals terminal) number ∙ parts.names;
+    regions_are = parts.regions_are;
+    states_are = follows.size ∙ parts.states_are;
+    settled = followed_settled system (λ n. free_count n tables'.queues.queued) states states' follows;
+    told = told_after;
+    at_work = rw is (new_at_work system tables.databases tables.queues.queued regions message_of parts.at_work);
+    databases = rw is parts.databases;
+    alone = rw is parts.alone;
   }
 
-  told_after : (name : List ℕ) → IsTold (slots_of regions) (with_message (message_of name) tables.queues.queued)
-  told_after name = new_told tables.queues.queued (slots_of regions) (message_of name) (new_free system tables.databases tables.next_id tables.queues.queued regions above parts.at_work) parts.told
+  pub moment_enqueued : (states' : List CodeState) (id : ℕ) → IsFollowed system (λ n. free_count n tables'.queues.queued) states states'
+      → lasting_of (settings_of states) tables' ≡ applied (Accepts terminal number segments) (lasting_of (settings_of states) tables)
+      → Ok (New id) ≡ input_answer system (record { lasting = lasting_of (settings_of states) tables; slots = slots_of regions; raised = flags_of states }) terminal number segments
+      → record { lasting = lasting_of (settings_of states') tables'; slots = slots_of regions; raised = flags_of states' }
+      ≡ After system (record { lasting = lasting_of (settings_of states) tables; slots = slots_of regions; raised = flags_of states }) (Input terminal number segments)
+  moment_enqueued states' id follows applies answer =
+      moment_is system (applied (Accepts terminal number segments) (lasting_of (settings_of states) tables)) (slots_of regions) tables' states states' regions follows told_after applies refl
+      ∙ ap (λ a. moment_with system (option_map_or (λ s. applied s (lasting_of (settings_of states) tables)) (accepts terminal number segments a) (lasting_of (settings_of states) tables)) (slots_of regions) (flags_of states)) answer
 
-  pub moment_enqueued : (tables' : TablesState) (name : List ℕ) → tables' ≡ enqueued tables terminal number name segments → name ≡ code_word segments
-      → record { lasting = lasting_of tables'; slots = slots_of regions; codes = followed system name (free_count name tables'.queues.queued) states }
-      ≡ flagged system (code_word segments) (with_lasting (record { lasting = lasting_of tables; slots = slots_of regions; codes = states }) (accepted_state (lasting_of tables) terminal number segments tables.next_id))
-  moment_enqueued tables' name is named =
-      ap (λ t. record { lasting = lasting_of t; slots = slots_of regions; codes = followed system name (free_count name t.queues.queued) states }) is
-      ∙ ap (λ n. record { lasting = lasting_of (enqueued tables terminal number name segments); slots = slots_of regions; codes = followed system name n states })
-      (sym (free_count_is name (slots_of regions) (with_message (message_of name) tables.queues.queued) (told_after name)))
-      ∙ ap (λ ms. moment_with name ms) (messages_behind tables.queues.queued (message_of name))
-      ∙ ap (λ n. moment_with n (messages_of tables.queues.queued ++ message_of n ∷ [])) named
+-- an input that isn't new leaves the moment
+pub moment_refused : (system : System) (tables : TablesState) (states : List CodeState) (regions : List (Option Busy)) (terminal : List ℕ) (number : ℕ) (segments : List (List ℕ))
+    (answer : Result Taken InputRefused) → AreParts system tables states regions → accepts terminal number segments answer ≡ None
+    → answer ≡ input_answer system (record { lasting = lasting_of (settings_of states) tables; slots = slots_of regions; raised = flags_of states }) terminal number segments
+    → record { lasting = lasting_of (settings_of states) tables; slots = slots_of regions; raised = flags_of states }
+    ≡ After system (record { lasting = lasting_of (settings_of states) tables; slots = slots_of regions; raised = flags_of states }) (Input terminal number segments)
+moment_refused system tables states regions terminal number segments answer parts none says =
+    moment_stays system tables states regions parts
+    ∙ ap (λ o. moment_with system (option_map_or (λ s. applied s (lasting_of (settings_of states) tables)) o (lasting_of (settings_of states) tables)) (slots_of regions) (flags_of states))
+    (sym none ∙ ap (accepts terminal number segments) says)

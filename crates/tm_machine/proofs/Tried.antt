@@ -7,8 +7,8 @@ use Rattle.model_system.specs.declared.pcb.Pcb.{Pcb}
 use Rattle.model_system.specs.declared.pcb.Pcb.TheVariants.{Destination}
 use Rattle.model_message.specs.Work.{fresh_pcb, ended_by, ended_to, destination_of}
 use Rattle.model_message.specs.Calls.{finish_work}
-use Rattle.model_machine.specs.Trial.{Job, Trial, trial_of, trial_start}
-use Rattle.model_machine.specs.Steps.{outputs_of}
+use Rattle.model_system.specs.Jobs.{Job}
+use Rattle.model_machine.specs.Trial.{Trial, trial_of, trial_start, outputs_of}
 use Rattle.program_rows.specs.State.{DatabasesState, rows_of}
 use Rattle.message_run.specs.RunState.{RunState}
 use Rattle.tm_machine.specs.Region.{IsUnit, calls_made, outputs_by}

@@ -1,5 +1,7 @@
 pub mod Region
 pub mod Parts
 pub mod PartsView
+pub mod Answers
+pub mod Inputs
 pub mod Turns
 pub mod Ends

@@ -1,14 +1,15 @@
 -- The parts of a control region as its calls see them, and what holds among them.
-use Rattle.std.specs.Prelude.{◌≡◌, ◌⊎◌, ℕ, ◌+◌, ◌<◌, ◌≤◌, ◌^◌, Option, Some, None, List, [], length, map, slice_get}
+use Rattle.std.specs.Prelude.{◌≡◌, ◌⊎◌, ℕ, ◌+◌, ◌≤◌, Bool, Option, Some, None, List, [], length, map, slice_get}
 use Rattle.std.specs.Option.{is_some}
 use Rattle.std.specs.List.{AllByRecursion}
 use Rattle.tm_types.specs.declared.message.Message.{Message}
 use Rattle.model_queues.specs.declared.queued.Queued.{Queued}
-use Rattle.model_queues.specs.Queue.{queued_at}
+use Rattle.model_queues.specs.Queue.{queued_at, free_count}
 use Rattle.model_system.specs.declared.code_state.CodeState.{CodeState}
 use Rattle.model_system.specs.System.{System}
-use Rattle.model_machine.specs.Machine.{Moment, Slot, is_held}
-use Rattle.model_script.specs.declared.program.ScriptLine.{ScriptLine}
+use Rattle.model_machine.specs.declared.lasting.CodeSetting.{CodeSetting}
+use Rattle.model_machine.specs.Machine.{Moment, Slot, is_held, setting_of, raised_now}
+use Rattle.system_types.specs.Valid.{IsSystem}
 use Rattle.program_rows.specs.State.{DatabasesState, IsClean, dbds_of}
 use Rattle.lasting_state.specs.Tables.{TablesState}
 use Rattle.tm_machine.specs.declared.region.Busy.{Busy}
@@ -26,6 +27,13 @@ slot_of None = None
 
 abbrev pub slots_of : List (Option Busy) → List (Option Slot)
 slots_of regions = map slot_of regions
+
+-- what lasts of the codes, and their flags
+abbrev pub settings_of : List CodeState → List CodeSetting
+settings_of states = map setting_of states
+
+abbrev pub flags_of : List CodeState → List Bool
+flags_of states = map (λ state. state.raised) states
 
 -- A region works on a message that the queues keep for it. Its work, made from the start on the rows
 -- that are committed, leads to what it has, and to the rows that the stores have.
@@ -55,12 +63,15 @@ IsAlone system databases regions =
     ((system.databases ≡ []) × IsClean databases)
     ⊎ ((length system.regions ≤ 1) × ((place : ℕ) → slice_get regions place ≡ Some None → IsClean databases))
 
-pub record AreParts (system : System) (no_program : List ScriptLine) (tables : TablesState) (states : List CodeState) (regions : List (Option Busy)) : Type 0 where
-  pub no_lines : no_program ≡ []
+-- The system is valid, and its lists and those of the parts go together. Each flag is as it would follow
+-- on itself now. What holds of the regions and their messages is above.
+pub record AreParts (system : System) (tables : TablesState) (states : List CodeState) (regions : List (Option Busy)) : Type 0 where
+  pub valid : IsSystem system
   pub limit : tables.queues.limit ≡ system.qbytes
+  pub names : map (λ t. t.name) tables.terminals ≡ system.terminals
   pub regions_are : length regions ≡ length system.regions
-  pub few : length regions < 2 ^ 32
   pub states_are : length states ≡ length system.codes
+  pub settled : raised_now (λ name. free_count name tables.queues.queued) system.codes (flags_of states) ≡ flags_of states
   pub told : IsTold (slots_of regions) tables.queues.queued
   pub at_work : AreAtWork system tables.databases tables.queues.queued regions
   pub databases : AreDatabases system tables.databases

@@ -6,8 +6,7 @@ use Rattle.model_queues.specs.Queue.{message_at}
 use Rattle.model_system.specs.System.{System}
 use Rattle.model_message.specs.declared.ended_message.EndedMessage.{EndedMessage}
 use Rattle.model_message.specs.Calls.{finish_work}
-use Rattle.model_machine.specs.Trial.{Job}
-use Rattle.model_machine.specs.Machine.{job_of}
+use Rattle.model_system.specs.Jobs.{Job, job_of}
 use Rattle.program_rows.specs.State.{DatabasesState, IsClean, dbds_of}
 use Rattle.message_run.specs.declared.run.Advanced.{Advanced}
 use Rattle.message_run.specs.Ahead.{IsAhead, Advances}
@@ -51,16 +50,26 @@ pub record SameMessage (old new : Busy) : Type 0 where
   pub taken : new.taken ≡ old.taken
   pub id : new.id ≡ old.id
 
+-- the work on a message of a code made a step: behind the calls so far, on the code's job
+pub record UnitSteps (system : System) (databases left : DatabasesState) (message : Message) (code : List ℕ) (before after : RunState) (advanced : Advanced) : Type 0 where
+  pub job : Job
+  pub serves : job_of system code ≡ Some job
+  pub ahead : IsAhead job message databases before
+  pub advances : Advances job message databases left ahead.trial before after advanced
+
+-- the same, whatever the message on which the work has come so far
+abbrev pub GoesSo : System → List ℕ → DatabasesState → DatabasesState → RunState → RunState → Advanced → Type 0
+GoesSo system code databases left before after advanced =
+    (message : Message) (job : Job) → job_of system code ≡ Some job → IsAhead job message databases before → UnitSteps system databases left message code before after advanced
+
 -- a step of a region's work on a message, which was started at the latest now
 pub record StepsOn (system : System) (databases left : DatabasesState) (message : Message) (old new : Busy) (advanced : Advanced) : Type 0 where
-  pub job : Job
-  pub serves : job_of system old.code ≡ Some job
   pub same : SameMessage old new
   pub before : RunState
   pub calls : before.calls ≡ calls_made old.unit
   pub after : RunState
   pub is : new.unit ≡ Some after
-  pub advances : Advances job message databases left before after advanced
+  pub steps : UnitSteps system databases left message old.code before after advanced
 
 -- A region that is empty does nothing; another one takes a step in its work.
 abbrev pub Steps : System → TablesState → DatabasesState → Option Busy → Option Busy → Option Advanced → Type 0

@@ -1,15 +1,18 @@
 //! The end of a region's work on a message.
-ghost use Rattle.std.specs.Prelude.{◌≡◌, ◌≤◌, ◌-◌, ◌∷◌, None, Some, length, map, slice_get, slice_set, IfOk, OnOk, OnErr, IsSome, IsSomeAnd};
+ghost use Rattle.std.specs.Prelude.{◌≡◌, ◌≤◌, ◌-◌, ◌∷◌, None, Some, length, slice_get, slice_set, IfOk, OnOk, OnErr, IsSome, IsSomeAnd};
 ghost use Rattle.model_queues.specs.Queue.{IsNewId, queued_at};
-ghost use Rattle.model_machine.specs.Steps.{destinations};
-ghost use Rattle.tm_machine.specs.Ends.{IsCompleted, IsAbandoned};
+ghost use Rattle.model_machine.specs.Lasting.{abend_outputs};
+ghost use Rattle.model_machine.specs.Lasting.LastingStep.{Completes, Discards};
+ghost use Rattle.program_rows.specs.State.{rows_of};
+ghost use Rattle.lasting_state.specs.Tables.{committed_databases, backed_databases, Applies, IsClosed};
+ghost use Rattle.tm_machine.specs.Ends.{destinations};
 
 use crate::region::Busy;
 use lasting_state::Tables;
 use model_message::EndedMessage;
 use std::alloc::Global;
 use std::collections::VecDeque;
-use tm_types::{Memory, Name};
+use tm_types::{AbendCode, Memory, Name};
 
 /// The code of a message, and the names to which outputs go.
 pub fn names_moved(
@@ -27,8 +30,7 @@ pub fn names_moved(
     Ok(names)
 }
 
-/// Completes the message of this id, which goes: its outputs are sent, and what was changed in the
-/// databases is committed. Want of memory changes nothing.
+/// Completes the message of this id, and empties its region. Want of memory changes nothing.
 pub fn complete(
     regions: &mut Vec<Option<Busy>>,
     region: u32,
@@ -40,14 +42,14 @@ pub fn complete(
     requires defined { region ≤ length regions.old.items }
     requires found { IsSome (queued_at id tables.old.queues.queued) }
     ensures regions { OnOk result (regions.new.items ≡ slice_set regions.old.items (region - 1) None) }
-    ensures ok { OnOk result (IsCompleted tables.old tables.new id outputs.items) }
+    ensures step { OnOk result (Applies (Completes id (rows_of tables.old.databases.stores) outputs.items) tables.old tables.new) }
+    ensures closed { OnOk result (IsClosed (committed_databases tables.old.databases) (λ _. outputs.items) tables.old tables.new id) }
     ensures same { OnErr result (regions.new ≡ regions.old) }
     ensures err { OnErr result (tables.new ≡ tables.old) }
     ensures above { IsNewId tables.old.next_id tables.old.queues.queued }
 {
-    match tables.finish(id, outputs) {
+    match tables.complete(id, outputs) {
         Ok(()) => {
-            tables.commit();
             empty(&mut regions[region as usize - 1]);
             Ok(())
         }
@@ -55,27 +57,28 @@ pub fn complete(
     }
 }
 
-/// Ends the work on the message of this id, which goes, abnormally: these outputs are sent in place of
-/// its own, and what was changed in the databases is taken back. Want of memory changes nothing.
-pub fn abandon(
+/// Discards the message of this id, the work on which ended abnormally, and empties its region. Want of
+/// memory changes nothing.
+pub fn discard(
+    alloc: Global,
     regions: &mut Vec<Option<Busy>>,
     region: u32,
     tables: &mut Tables,
     id: u64,
-    outputs: VecDeque<EndedMessage>,
+    abend: AbendCode,
 ) -> Result<(), Memory>
     requires positive { 1 ≤ region }
     requires defined { region ≤ length regions.old.items }
     requires found { IsSome (queued_at id tables.old.queues.queued) }
     ensures regions { OnOk result (regions.new.items ≡ slice_set regions.old.items (region - 1) None) }
-    ensures ok { OnOk result (IsAbandoned tables.old tables.new id outputs.items) }
+    ensures step { OnOk result (Applies (Discards id abend) tables.old tables.new) }
+    ensures closed { OnOk result (IsClosed (backed_databases tables.old.databases) (λ message. abend_outputs message abend) tables.old tables.new id) }
     ensures same { OnErr result (regions.new ≡ regions.old) }
     ensures err { OnErr result (tables.new ≡ tables.old) }
     ensures above { IsNewId tables.old.next_id tables.old.queues.queued }
 {
-    match tables.finish(id, outputs) {
+    match tables.discard(alloc, id, abend) {
         Ok(()) => {
-            tables.back_out();
             empty(&mut regions[region as usize - 1]);
             Ok(())
         }

@@ -1,22 +1,21 @@
 //! How a region's work on a message ends.
-ghost use Rattle.std.specs.Prelude.{◌≡◌, IfOk, IsSome, IsSomeAnd, OnErr};
+ghost use Rattle.std.specs.Prelude.{◌≡◌, IfOk, OnOk, OnErr, IsSome, IsSomeAnd};
 ghost use Rattle.model_queues.specs.Queue.{message_at};
+ghost use Rattle.model_machine.specs.declared.entry.ControlCall.TheVariants.{Turn};
 ghost use Rattle.model_machine.specs.Machine.{IsRegion};
 ghost use Rattle.model_machine.specs.Trial.WorkEnd.{Ends, Syncs, Abends};
-ghost use Rattle.model_machine.specs.Steps.{May, After};
+ghost use Rattle.model_machine.specs.Steps.{turn_answer, After};
 ghost use Rattle.message_run.specs.Ahead.{end_of};
 ghost use Rattle.tm_machine.specs.Ends.{EndsSo};
-ghost use Rattle.tm_machine.specs.Turns.{turned_entry};
 
-use crate::Turned;
-use crate::abend::abend_outputs;
-use crate::close::{abandon, busy_at, complete, names_moved};
-use crate::flags::follow_all;
+use crate::close::{busy_at, complete, discard, names_moved};
+use crate::flags::{follow, follow_all};
 use crate::next::next_message;
 use crate::parts::Parts;
 use crate::region::{Busy, count_busy, outputs_by, take};
 use lasting_state::{COUNT_LIMIT, Tables};
 use message_run::Ending;
+use model_machine::Turned;
 use tm_types::{AbendCode, Memory, Name};
 
 impl Parts {
@@ -25,8 +24,8 @@ impl Parts {
     pub fn finish(&mut self, region: u32, ending: Ending) -> Result<Turned, Memory>
         requires region { IsRegion self.old.system region }
         requires ends { EndsSo self.old region (end_of ending) }
-        ensures may { IfOk result (λ turned. May self.old.system self.old.moment (turned_entry region turned)) }
-        ensures after { IfOk result (λ turned. self.new.moment ≡ After self.old.system self.old.moment (turned_entry region turned)) }
+        ensures answer { IfOk result (λ turned. turned ≡ turn_answer self.old.system self.old.moment region) }
+        ensures after { OnOk result (self.new.moment ≡ After self.old.system self.old.moment (Turn region)) }
         ensures system { self.new.system ≡ self.old.system }
         ensures err { OnErr result (self.new ≡ self.old) }
     {
@@ -41,8 +40,8 @@ impl Parts {
     fn complete(&mut self, region: u32) -> Result<Turned, Memory>
         requires region { IsRegion self.old.system region }
         requires ends { EndsSo self.old region Ends }
-        ensures may { IfOk result (λ turned. May self.old.system self.old.moment (turned_entry region turned)) }
-        ensures after { IfOk result (λ turned. self.new.moment ≡ After self.old.system self.old.moment (turned_entry region turned)) }
+        ensures answer { IfOk result (λ turned. turned ≡ turn_answer self.old.system self.old.moment region) }
+        ensures after { OnOk result (self.new.moment ≡ After self.old.system self.old.moment (Turn region)) }
         ensures system { self.new.system ≡ self.old.system }
         ensures err { OnErr result (self.new ≡ self.old) }
     {
@@ -67,8 +66,8 @@ impl Parts {
     fn go_on(&mut self, region: u32) -> Result<Turned, Memory>
         requires region { IsRegion self.old.system region }
         requires ends { EndsSo self.old region Syncs }
-        ensures may { IfOk result (λ turned. May self.old.system self.old.moment (turned_entry region turned)) }
-        ensures after { IfOk result (λ turned. self.new.moment ≡ After self.old.system self.old.moment (turned_entry region turned)) }
+        ensures answer { IfOk result (λ turned. turned ≡ turn_answer self.old.system self.old.moment region) }
+        ensures after { OnOk result (self.new.moment ≡ After self.old.system self.old.moment (Turn region)) }
         ensures system { self.new.system ≡ self.old.system }
         ensures err { OnErr result (self.new ≡ self.old) }
     {
@@ -105,12 +104,12 @@ impl Parts {
         Ok(Turned::Next(code, id, next))
     }
 
-    /// Ends the work on a message whose script has ended abnormally; its origin is told so.
+    /// Discards a message whose script has ended abnormally; its origin is told so.
     fn abend(&mut self, region: u32, abend: AbendCode) -> Result<Turned, Memory>
         requires region { IsRegion self.old.system region }
         requires ends { EndsSo self.old region (Abends abend) }
-        ensures may { IfOk result (λ turned. May self.old.system self.old.moment (turned_entry region turned)) }
-        ensures after { IfOk result (λ turned. self.new.moment ≡ After self.old.system self.old.moment (turned_entry region turned)) }
+        ensures answer { IfOk result (λ turned. turned ≡ turn_answer self.old.system self.old.moment region) }
+        ensures after { OnOk result (self.new.moment ≡ After self.old.system self.old.moment (Turn region)) }
         ensures system { self.new.system ≡ self.old.system }
         ensures err { OnErr result (self.new ≡ self.old) }
     {
@@ -118,12 +117,19 @@ impl Parts {
         let code = busy.code;
         let id = busy.id;
         let origin = origin_of(&self.tables, id);
-        let Ok(outputs) = abend_outputs(self.alloc, &origin, &code, abend) else {
+        let Ok(()) = discard(
+            self.alloc,
+            &mut self.regions,
+            region,
+            &mut self.tables,
+            id,
+            abend,
+        ) else {
             return Err(Memory);
         };
-        let Ok(()) = abandon(&mut self.regions, region, &mut self.tables, id, outputs) else {
-            return Err(Memory);
-        };
+        // Where no terminal has the name of the origin, it is told as a code would be.
+        let waiting = self.tables.queues().waiting(&origin);
+        follow(&mut self.codes, &self.system, &origin, waiting);
         Ok(Turned::Abended(code, id, abend))
     }
 }

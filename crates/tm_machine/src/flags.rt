@@ -1,12 +1,12 @@
 //! Which priorities count.
 ghost use Rattle.std.specs.Prelude.{◌≡◌, length};
 ghost use Rattle.model_queues.specs.Queue.{free_count};
-ghost use Rattle.model_machine.specs.Machine.{raised_by, followed};
-ghost use Rattle.tm_machine.specs.Ends.{all_followed};
+ghost use Rattle.model_machine.specs.Machine.{raised_by};
+ghost use Rattle.model_machine.specs.Flags.{followed, all_followed};
 
 use model_system::Transaction;
 use msg_queues::Queues;
-use sysdef_check::{Codes, System};
+use system_types::{Codes, System};
 use tm_types::Name;
 
 /// Whether the limit priority counts, with so many messages waiting.
@@ -25,7 +25,7 @@ fn raised_by(transaction: &Transaction, waiting: u64, raised: bool) -> bool
 /// Makes the flag of a code follow how many of its messages wait.
 pub fn follow(codes: &mut Codes, system: &System, name: &Name, waiting: u64)
     requires { length codes.old ≡ length system.now.codes }
-    ensures { codes.new ≡ followed system.now name.now waiting codes.old }
+    ensures { codes.new ≡ followed system.now.codes name.now waiting codes.old }
 {
     if let Some(place) = system.code_place(name) {
         let raised = raised_by(
@@ -38,10 +38,10 @@ pub fn follow(codes: &mut Codes, system: &System, name: &Name, waiting: u64)
 }
 
 /// Makes the flags of these codes follow how many of their messages wait in the queues.
-#[tactic(auto, using(crate::proofs::Started::followed_length))]
+#[tactic(auto, using(model_machine::proofs::Flags::followed_length))]
 pub fn follow_all(codes: &mut Codes, system: &System, queues: &Queues, names: &[Name])
     requires { length codes.old ≡ length system.now.codes }
-    ensures { codes.new ≡ all_followed system.now (λ name. free_count name queues.now.queued) names.now codes.old }
+    ensures { codes.new ≡ all_followed system.now.codes (λ name. free_count name queues.now.queued) names.now codes.old }
 {
     for name in names {
         follow(codes, system, name, queues.waiting(name));

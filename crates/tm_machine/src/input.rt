@@ -1,25 +1,26 @@
 //! Inputs of terminals.
-ghost use Rattle.std.specs.Prelude.{◌≡◌, ◌<◌, IfOk, OnErr, length};
-ghost use Rattle.model_machine.specs.Steps.{accept_answer, room_answer, code_word, most_segments, After};
+ghost use Rattle.std.specs.Prelude.{◌≡◌, ◌<◌, length, IfOk, IfErr, IfSome, Some};
+ghost use Rattle.std.specs.Option.{is_some};
+ghost use Rattle.model_machine.specs.declared.entry.Entry.TheVariants.{Accept};
+ghost use Rattle.model_machine.specs.Steps.{by_number, most_segments, input_answer};
+ghost use Rattle.tm_machine.specs.Answers.{Answers};
+ghost use Rattle.tm_machine.specs.Inputs.{IsNewInput, IsRefusal};
 
 use crate::flags::follow;
-use crate::lookup::{find_code, first_word};
+use crate::lookup::{code_word, find_code};
 use crate::parts::Parts;
 use crate::region::count_busy;
 use lasting_state::Enqueued;
-use model_machine::{Accepted, Entry};
-use model_system::{Code, SegmentKind};
-use tm_types::{Memory, Name, Segments};
+use model_machine::{ControlFault, InputRefused, Taken};
+use model_system::SegmentKind;
+use tm_types::{Name, Segments};
 
-/// The word of an input that names its code.
-fn code_word(segments: &Segments) -> &[u8]
-    requires { 0 < length segments.now }
-    ensures { result.now ≡ code_word segments.now }
-{
-    match segments.get(0) {
-        Some(segment) => first_word(segment.text()),
-        None => &[],
-    }
+/// Where an input that is new goes, but for the room.
+#[derive(Clone, Copy, Debug)]
+pub struct NewInput {
+    /// The place of its terminal.
+    pub place: usize,
+    pub code: Name,
 }
 
 /// How many segments an input may have.
@@ -32,66 +33,93 @@ fn most_segments(kind: SegmentKind) -> u32
     }
 }
 
+/// What answers an input of this number in place of its being new, with this last number.
+fn by_number(last: u64, number: u64) -> Option<Result<Taken, InputRefused>>
+    ensures { result ≡ by_number last number }
+{
+    if number <= last {
+        return Some(Ok(Taken::Already));
+    }
+    if number - last > 1 {
+        return Some(Err(InputRefused::Expected(last + 1)));
+    }
+    None
+}
+
 impl Parts {
-    /// Takes an input, or says why not. Want of memory changes nothing; it is answered too where a
-    /// count would pass 2^62.
+    /// Takes an input, or says why not. A fault changes nothing.
     pub fn accept(
         &mut self,
         terminal: &Name,
         number: u64,
         segments: Segments,
-    ) -> Result<Accepted, Memory>
-        requires segment { 0 < length segments }
-        ensures answer { IfOk result (λ answer. answer ≡ accept_answer self.old.system self.old.moment terminal.now number segments) }
-        ensures after { IfOk result (λ answer. self.new.moment ≡ After self.old.system self.old.moment (Entry.Accept terminal.now number segments answer)) }
-        ensures system { self.new.system ≡ self.old.system }
-        ensures err { OnErr result (self.new ≡ self.old) }
+    ) -> Result<Taken, InputRefused>
+        requires { 0 < length segments }
+        ensures { Answers self.old self.new (Accept terminal.now number segments result) }
     {
-        let Some(last) = self.tables.last_input(terminal) else {
-            return Ok(Accepted::Terminal);
-        };
-        if number <= last {
-            return Ok(Accepted::Already);
+        let _ = &self.alloc;
+        match self.new_input(terminal, number, &segments) {
+            Ok(input) => self.enqueue(terminal, number, input, segments),
+            Err(answer) => answer,
         }
-        if number - last > 1 {
-            return Ok(Accepted::Expected(last + 1));
-        }
-        let Some(code) = find_code(self.system.codes(), code_word(&segments)) else {
-            return Ok(Accepted::Code);
-        };
-        let code = *code;
-        let most = most_segments(code.transaction.segment_kind);
-        let count = u32::try_from(segments.len()).or(Err(Memory))?;
-        if count > most {
-            return Ok(Accepted::SegmentsOver(count, most));
-        }
-        self.enqueue(terminal, number, &code, segments)
     }
 
-    /// Adds an input to the queues, if they have the room.
+    /// Where an input goes, if it is new; else its answer.
+    fn new_input(
+        &self,
+        terminal: &Name,
+        number: u64,
+        segments: &Segments,
+    ) -> Result<NewInput, Result<Taken, InputRefused>>
+        requires { 0 < length segments.now }
+        ensures new { IfOk result (IsNewInput self.now terminal.now number segments.now) }
+        ensures refused { IfErr result (IsRefusal (input_answer self.now.system self.now.moment terminal.now number segments.now)) }
+    {
+        let Some(place) = self.system.terminal_place(terminal) else {
+            return Err(Err(InputRefused::Terminal));
+        };
+        if let Some(answer) = by_number(self.tables.last_input(place), number) {
+            return Err(answer);
+        }
+        let Some(code) = find_code(self.system.codes(), code_word(segments)) else {
+            return Err(Err(InputRefused::Code));
+        };
+        let most = most_segments(code.transaction.segment_kind);
+        let Ok(count) = u32::try_from(segments.len()) else {
+            return Err(Err(InputRefused::Fault(ControlFault::Memory)));
+        };
+        if count > most {
+            return Err(Err(InputRefused::SegmentsOver(count, most)));
+        }
+        let code = code.transaction.code;
+        Ok(NewInput { place, code })
+    }
+
+    /// Adds a new input to the queues, if they have the room.
     fn enqueue(
         &mut self,
         terminal: &Name,
         number: u64,
-        code: &Code,
+        input: NewInput,
         segments: Segments,
-    ) -> Result<Accepted, Memory>
-        requires code { code.now.transaction.code ≡ code_word segments }
-        ensures answer { IfOk result (λ answer. answer ≡ room_answer self.old.system self.old.moment segments) }
-        ensures after { IfOk result (λ answer. self.new.moment ≡ After self.old.system self.old.moment (Entry.Accept terminal.now number segments answer)) }
-        ensures system { self.new.system ≡ self.old.system }
-        ensures err { OnErr result (self.new ≡ self.old) }
+    ) -> Result<Taken, InputRefused>
+        requires new { IsNewInput self.old terminal.now number segments input }
+        requires segment { 0 < length segments }
+        ensures { Answers self.old self.new (Accept terminal.now number segments result) }
     {
         let busy = count_busy(&self.regions);
-        let name = code.transaction.code;
-        match self.tables.enqueue(terminal, number, &name, segments, busy) {
+        let code = input.code;
+        match self
+            .tables
+            .enqueue(input.place, terminal, number, &code, segments, busy)
+        {
             Ok(Enqueued::New(id)) => {
-                let waiting = self.tables.queues().waiting(&name);
-                follow(&mut self.codes, &self.system, &name, waiting);
-                Ok(Accepted::New(id))
+                let waiting = self.tables.queues().waiting(&code);
+                follow(&mut self.codes, &self.system, &code, waiting);
+                Ok(Taken::New(id))
             }
-            Ok(Enqueued::Full(need, limit)) => Ok(Accepted::QueueFull(need, limit)),
-            Err(error) => Err(error),
+            Ok(Enqueued::Full(need, limit)) => Err(InputRefused::QueueFull(need, limit)),
+            Err(_) => Err(InputRefused::Fault(ControlFault::Memory)),
         }
     }
 }

@@ -1,11 +1,13 @@
-//! The parts of a control region: what lasts, the codes, and what each region works on, with the
-//! calls that change them. Each call answers and changes as the machine does.
+//! The parts of a control region: what lasts, the codes, and what each region works on.
+//!
+//! `Parts` is a machine at a moment. Each call answers what `specs/Steps.antt` of model_machine says,
+//! and leaves the moment that `After` gives; after a fault it is as before. What holds among the parts
+//! stands in `specs/Parts.antt`.
 #![tactic(auto)]
 
+pub use model_machine::Turned;
 pub use parts::Parts;
-pub use turned::Turned;
 
-mod abend;
 mod close;
 mod finish;
 mod flags;
@@ -17,4 +19,3 @@ mod parts;
 mod quiet;
 mod region;
 mod turn;
-mod turned;

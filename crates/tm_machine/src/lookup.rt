@@ -1,12 +1,22 @@
-//! The codes, programs and terminals of a system by their names.
-ghost use Rattle.std.specs.Prelude.{◌≡◌, IfSome};
+//! The code that an input's first word names.
+ghost use Rattle.std.specs.Prelude.{◌≡◌, ◌<◌, IfSome, length};
 ghost use Rattle.std.specs.Option.{option_copied};
 ghost use Rattle.model_system.specs.Codes.{code_at};
-ghost use Rattle.model_machine.specs.Machine.{program_at};
-ghost use Rattle.model_machine.specs.Steps.{first_word};
+ghost use Rattle.model_machine.specs.Lasting.{code_word};
 
-use model_system::{Code, SystemProgram};
-use tm_types::Name;
+use model_system::Code;
+use tm_types::{Segments, first_word};
+
+/// The word of an input that names its code.
+pub fn code_word(segments: &Segments) -> &[u8]
+    requires { 0 < length segments.now }
+    ensures { result.now ≡ code_word segments.now }
+{
+    match segments.get(0) {
+        Some(segment) => first_word(segment.text()),
+        None => &[],
+    }
+}
 
 /// The code of this name, which may be any word.
 #[tactic(auto, using(crate::proofs::Named::code_named))]
@@ -23,23 +33,4 @@ fn code_named<'a>(codes: &'a [Code], name: &[u8]) -> Option<&'a Code>
     codes
         .iter()
         .find(|code| code.transaction.code.as_bytes() == name)
-}
-
-/// The program of this PSB.
-pub fn find_program<'a>(programs: &'a [SystemProgram], psb: &Name) -> Option<&'a SystemProgram>
-    ensures { option_copied result ≡ program_at programs.now psb.now }
-{
-    programs.iter().find(|program| program.psb == *psb)
-}
-
-/// The first word of a text, which a blank or the end ends.
-pub fn first_word(text: &[u8]) -> &[u8]
-    ensures { result.now ≡ first_word text.now }
-{
-    for (place, byte) in text.iter().enumerate() {
-        if *byte == b' ' {
-            return &text[..place];
-        }
-    }
-    text
 }

@@ -1,18 +1,18 @@
 //! The message that a region goes on with.
-ghost use Rattle.std.specs.Prelude.{◌≡◌, ◌+◌, ◌*◌, nat_le, None, length, slice_get, IfSome, IsSomeAnd};
+ghost use Rattle.std.specs.Prelude.{◌≡◌, ◌+◌, ◌*◌, nat_le, length, slice_get, IfSome};
 ghost use Rattle.std.specs.Option.{option_and_then};
-ghost use Rattle.model_queues.specs.Queue.{queued_at, first_free};
+ghost use Rattle.model_queues.specs.Queue.{first_free};
 ghost use Rattle.model_queues.specs.Room.{slot_room};
 ghost use Rattle.model_system.specs.Codes.{code_at, code_place};
-ghost use Rattle.model_machine.specs.Machine.{content};
 ghost use Rattle.model_machine.specs.Steps.{may_go_on};
-ghost use Rattle.lasting_state.specs.Tables.{lasting_of};
+ghost use Rattle.lasting_state.specs.Tables.{content_of};
+ghost use Rattle.tran_pick.specs.Picked.{IsFirstFree};
 ghost use Rattle.tm_machine.specs.Ends.{goes_on_with};
 
 use lasting_state::Tables;
 use model_system::{CodeState, Transaction};
 use msg_queues::Queues;
-use sysdef_check::{Codes, System};
+use system_types::{Codes, System};
 use tm_types::Name;
 
 /// The room that the queues keep for each region at work.
@@ -29,7 +29,7 @@ fn may_go_on(transaction: &Transaction, state: &CodeState, taken: u64) -> bool
 
 /// Whether the queues have room for so many regions at work.
 fn has_room(tables: &Tables, limit: u32, busy: u32) -> bool
-    ensures { result ≡ nat_le (content (lasting_of tables.now) + slot_room * busy) limit }
+    ensures { result ≡ nat_le (content_of tables.now + slot_room * busy) limit }
 {
     tables.content() + SLOT_ROOM * u64::from(busy) <= u64::from(limit)
 }
@@ -37,7 +37,7 @@ fn has_room(tables: &Tables, limit: u32, busy: u32) -> bool
 /// The code's first message that no region has.
 fn first_free(queues: &Queues, code: &Name) -> Option<u64>
     ensures value { result ≡ first_free code.now queues.now.queued }
-    ensures free { IfSome result (λ id. IsSomeAnd (queued_at id queues.now.queued) (λ q. q.holder ≡ None)) }
+    ensures free { IfSome result (λ id. IsFirstFree queues.now.queued code.now id) }
 {
     queues.first_free(code)
 }
@@ -53,7 +53,7 @@ pub fn next_message(
 ) -> Option<u64>
     requires { length codes.now ≡ length system.now.codes }
     ensures value { result ≡ goes_on_with system.now.qbytes tables.now code.now taken busy (code_at system.now.codes code.now) (option_and_then (slice_get codes.now) (code_place system.now.codes code.now)) }
-    ensures free { IfSome result (λ id. IsSomeAnd (queued_at id tables.now.queues.queued) (λ q. q.holder ≡ None)) }
+    ensures free { IfSome result (λ id. IsFirstFree tables.now.queues.queued code.now id) }
 {
     let Some(found) = system.code(code) else {
         return None;

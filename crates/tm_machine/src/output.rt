@@ -1,13 +1,15 @@
 //! Replies that terminals see and acknowledge.
-ghost use Rattle.std.specs.Prelude.{◌≡◌, IfOk, OnErr};
+ghost use Rattle.std.specs.Prelude.{◌≡◌};
+ghost use Rattle.model_machine.specs.declared.entry.Entry.TheVariants.{Acked as AckedEntry, Show as ShowEntry};
 ghost use Rattle.model_machine.specs.Machine.{output_at};
-ghost use Rattle.model_machine.specs.Steps.{show_by, ack_by, After};
+ghost use Rattle.model_machine.specs.Steps.{show_answer};
 ghost use Rattle.lasting_state.specs.Showing.{IsShown};
+ghost use Rattle.tm_machine.specs.Answers.{Answers};
 
 use crate::parts::Parts;
 use lasting_state::Shown;
-use model_machine::{AckAnswer, Entry, ShowAnswer};
-use tm_types::{Memory, Name};
+use model_machine::{AckRefused, Acked, ShowAnswer};
+use tm_types::Name;
 
 impl Parts {
     /// What the terminal is to be shown.
@@ -19,7 +21,15 @@ impl Parts {
 
     /// The answer of an entry that shows it.
     pub fn show_answer(&self, terminal: &Name) -> ShowAnswer
-        ensures { result ≡ show_by (output_at self.now.moment.lasting.outputs terminal.now) }
+        ensures value { result ≡ show_answer self.now.moment terminal.now }
+        ensures answers { Answers self.now self.now (ShowEntry terminal.now result) }
+    {
+        let _ = &self.alloc;
+        self.shown_answer(terminal)
+    }
+
+    fn shown_answer(&self, terminal: &Name) -> ShowAnswer
+        ensures { result ≡ show_answer self.now.moment terminal.now }
     {
         match self.showing(terminal) {
             Shown::Unknown => ShowAnswer::Unknown,
@@ -35,13 +45,9 @@ impl Parts {
         self.tables.steps()
     }
 
-    /// Takes an acknowledgement, or says why not. Want of memory changes nothing; it is answered too
-    /// where a count would pass its limit.
-    pub fn acknowledge(&mut self, terminal: &Name, number: u64) -> Result<AckAnswer, Memory>
-        ensures answer { IfOk result (λ answer. answer ≡ ack_by (output_at self.old.moment.lasting.outputs terminal.now) number) }
-        ensures after { IfOk result (λ answer. self.new.moment ≡ After self.old.system self.old.moment (Entry.Acked terminal.now number answer)) }
-        ensures system { self.new.system ≡ self.old.system }
-        ensures err { OnErr result (self.new ≡ self.old) }
+    /// Takes an acknowledgement, or says why not. A fault changes nothing.
+    pub fn acknowledge(&mut self, terminal: &Name, number: u64) -> Result<Acked, AckRefused>
+        ensures { Answers self.old self.new (AckedEntry terminal.now number result) }
     {
         self.tables.acknowledge(terminal, number)
     }

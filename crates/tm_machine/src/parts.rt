@@ -1,12 +1,12 @@
-ghost use Rattle.std.specs.Prelude.{◌≡◌, ◌<◌, ◌^◌, [], None, replicate, IfOk, OnOk};
+//! The parts of a control region.
+ghost use Rattle.std.specs.Prelude.{◌≡◌, None, replicate, IfOk};
 ghost use Rattle.model_machine.specs.Machine.{empty_state, start_of};
 
 use crate::region::Busy;
 use lasting_state::Tables;
-use model_script::Program;
 use std::alloc::Global;
 use std::marker::Model;
-use sysdef_check::{Codes, System};
+use system_types::{Codes, System};
 use tm_types::Memory;
 
 /// The state of a control region, as its calls change it.
@@ -14,10 +14,9 @@ use tm_types::Memory;
 pub struct Parts {
     pub(crate) alloc: Global,
     pub(crate) system: System,
-    /// The script of a PSB that has none.
-    pub(crate) no_program: Program,
     /// Messages, replies and numbers.
     pub(crate) tables: Tables,
+    /// The states of the codes, of which all but the flags lasts.
     pub(crate) codes: Codes,
     /// What each region works on; the first has number 1.
     pub(crate) regions: Vec<Option<Busy>>,
@@ -31,7 +30,7 @@ impl Model for Parts {
 
     ghost view = { λ p. record { system = p.system; moment = moment_of p } };
 
-    ghost invariant = { λ p. AreParts p.system p.no_program p.tables p.codes p.regions.items };
+    ghost invariant = { λ p. AreParts p.system p.tables p.codes p.regions.items };
 }
 
 impl Parts {
@@ -45,7 +44,6 @@ impl Parts {
         let codes = Codes::of(alloc, &system)?;
         Ok(Parts {
             alloc,
-            no_program: Program::new(Vec::new(alloc)),
             tables,
             codes,
             regions,
@@ -63,14 +61,10 @@ impl Parts {
     }
 }
 
-/// So many regions, all empty; want of memory where they are 2^32 or more.
+/// So many regions, all empty.
 fn empty_regions(alloc: Global, count: usize) -> Result<Vec<Option<Busy>>, Memory>
-    ensures empty { IfOk result (λ regions. regions.items ≡ replicate count None) }
-    ensures few { OnOk result (count < 2 ^ 32) }
+    ensures { IfOk result (λ regions. regions.items ≡ replicate count None) }
 {
-    if count >= 1 << 32 {
-        return Err(Memory);
-    }
     let mut regions = Vec::with_capacity(alloc, count)?;
     for _place in 0..count {
         regions.push(None)?;

@@ -1,23 +1,22 @@
 //! What a region works on.
-ghost use Rattle.std.specs.Prelude.{◌≡◌, ◌≤◌, ◌-◌, None, slice_set, ◌<◌, ◌^◌, [], length, count_by, is_some, IfOk, OnErr, OnOk, IfSome, Some, IsSome, IsSomeAnd};
-ghost use Rattle.model_queues.specs.Queue.{queued_at, free_count};
-ghost use Rattle.model_system.specs.Codes.{code_at};
+ghost use Rattle.std.specs.Prelude.{◌≡◌, ◌≤◌, ◌-◌, None, slice_set, ◌<◌, ◌^◌, length, count_by, is_some, IfOk, OnErr, OnOk, IfSome, Some, IsSome, IsSomeAnd};
+ghost use Rattle.model_queues.specs.Queue.{queued_at};
+ghost use Rattle.model_system.specs.Jobs.{job_of};
+ghost use Rattle.system_types.specs.Jobs.{lent_job};
+ghost use Rattle.system_types.specs.Valid.{IsServable};
 ghost use Rattle.lasting_state.specs.Tables.{held};
 ghost use Rattle.program_rows.specs.State.{dbds_of};
-ghost use Rattle.model_machine.specs.Machine.{lines_of, pcbs_of, job_of, followed};
-ghost use Rattle.message_run.specs.Ahead.{IsStart, GoesOn, StaysAhead};
-ghost use Rattle.tm_machine.specs.Region.{IsQueuedWork, IsTaken, Steps, SameWork, Stays, outputs_by};
+ghost use Rattle.message_run.specs.RunState.{AreStanding};
+ghost use Rattle.message_run.specs.Ahead.{IsStart, StaysAhead};
+ghost use Rattle.tm_machine.specs.Region.{IsQueuedWork, IsTaken, GoesSo, Steps, SameWork, Stays, outputs_by};
 
-use crate::lookup::find_program;
 use lasting_state::Tables;
 use message_run::{Advanced, Run};
 use model_message::EndedMessage;
-use model_script::Program;
-use model_system::Pcbs;
 use program_rows::Databases;
 use std::alloc::Global;
 use std::collections::VecDeque;
-use sysdef_check::System;
+use system_types::{Job, System};
 use tm_types::{Memory, Message, Name};
 
 /// The work of a region on a message.
@@ -33,47 +32,24 @@ pub struct Busy {
     pub unit: Option<Run>,
 }
 
-/// The script of a PSB; one without a program has no lines.
-fn script_of<'a>(system: &'a System, no_program: &'a Program, psb: &Name) -> &'a Program
-    requires { no_program.now ≡ [] }
-    ensures { result.now ≡ lines_of system.now psb.now }
+/// What serves the messages of a code of the system.
+fn job_of<'a>(system: &'a System, code: &Name) -> Job<'a>
+    requires { IsSome (job_of system.now code.now) }
+    ensures value { job_of system.now code.now ≡ Some (lent_job system.now result) }
+    ensures servable { IsServable system.now.databases result.pcbs.now result.program.now }
 {
-    match find_program(system.programs(), psb) {
-        Some(program) => &program.program,
-        None => no_program,
-    }
-}
-
-/// The PCBs of a PSB; one without a program has none.
-fn pcbs_of<'a>(system: &'a System, no_pcbs: &'a Pcbs, psb: &Name) -> &'a Pcbs
-    requires { no_pcbs.now ≡ [] }
-    ensures { result.now ≡ pcbs_of system.now psb.now }
-{
-    match find_program(system.programs(), psb) {
-        Some(program) => &program.pcbs,
-        None => no_pcbs,
-    }
+    let Some(job) = system.job(code) else {
+        unreachable!()
+    };
+    job
 }
 
 /// The work on a message of a code, whose script has made no call yet.
-fn start_unit(
-    alloc: Global,
-    system: &System,
-    no_program: &Program,
-    code: &Name,
-    message: &Message,
-) -> Result<Run, Memory>
-    requires program { no_program.now ≡ [] }
-    requires code { IsSome (code_at system.now.codes code.now) }
-    ensures { IfOk result (λ unit. IsSomeAnd (job_of system.now code.now) (λ job. IsStart job.transaction job.lines job.pcbs message.now unit)) }
+fn start_unit(alloc: Global, system: &System, code: &Name, message: &Message) -> Result<Run, Memory>
+    requires { IsSome (job_of system.now code.now) }
+    ensures { IfOk result (λ unit. IsSomeAnd (job_of system.now code.now) (λ job. IsStart job message.now unit)) }
 {
-    let Some(code) = system.code(code) else {
-        unreachable!()
-    };
-    let program = script_of(system, no_program, &code.psb);
-    let no_pcbs = Pcbs::new(alloc);
-    let pcbs = pcbs_of(system, &no_pcbs, &code.psb);
-    Run::start(alloc, &code.transaction, program, pcbs, message)
+    Run::start(alloc, &job_of(system, code), message)
 }
 
 /// The work of a region as it has come so far, taken out of it; it is started where it wasn't. Want of
@@ -81,11 +57,9 @@ fn start_unit(
 fn take_unit(
     alloc: Global,
     system: &System,
-    no_program: &Program,
     tables: &Tables,
     busy: &mut Busy,
 ) -> Result<Run, Memory>
-    requires program { no_program.now ≡ [] }
     requires work { IsQueuedWork system.now tables.now busy.old }
     requires databases { dbds_of tables.now.databases ≡ system.now.databases }
     ensures ahead { IfOk result (IsTaken system.now tables.now busy.old) }
@@ -98,7 +72,7 @@ fn take_unit(
             let Some(message) = tables.queues().find(busy.id) else {
                 unreachable!()
             };
-            start_unit(alloc, system, no_program, &busy.code, message)
+            start_unit(alloc, system, &busy.code, message)
         }
     }
 }
@@ -106,40 +80,30 @@ fn take_unit(
 /// Lets the script of a code go on to its next call, and answers that. After want of memory the work is
 /// as far as before.
 fn advance_unit(
-    alloc: Global,
     system: &System,
-    no_program: &Program,
     code: &Name,
     databases: &mut Databases,
     unit: &mut Run,
 ) -> Result<Advanced, Memory>
-    requires program { no_program.now ≡ [] }
     requires databases { dbds_of databases.old ≡ system.now.databases }
-    requires code { IsSomeAnd (job_of system.now code.now) (λ job. length unit.old.positions ≡ length job.pcbs) }
-    ensures advances { IfOk result (λ advanced. IsSomeAnd (job_of system.now code.now) (λ job. GoesOn job databases.old databases.new unit.old unit.new advanced)) }
+    requires code { IsSomeAnd (job_of system.now code.now) (λ job. AreStanding system.now.databases job.pcbs unit.old.positions) }
+    ensures advances { IfOk result (GoesSo system.now code.now databases.old databases.new unit.old unit.new) }
     ensures calls { OnErr result (unit.new.calls ≡ unit.old.calls) }
     ensures ahead { OnErr result (IsSomeAnd (job_of system.now code.now) (λ job. StaysAhead job databases.old unit.old unit.new)) }
     ensures kept { OnErr result (databases.new ≡ databases.old) }
     ensures stays { Stays databases.old databases.new }
 {
-    let Some(code) = system.code(code) else {
-        unreachable!()
-    };
-    let program = script_of(system, no_program, &code.psb);
-    let no_pcbs = Pcbs::new(alloc);
-    let pcbs = pcbs_of(system, &no_pcbs, &code.psb);
-    unit.advance(system, &code.transaction, program, pcbs, databases)
+    let job = job_of(system, code);
+    unit.advance(system, &job, databases)
 }
 
 /// Lets the script of a region that has a message go on, as `advance`.
 fn advance_busy(
     alloc: Global,
     system: &System,
-    no_program: &Program,
     tables: &mut Tables,
     busy: &mut Busy,
 ) -> Result<Advanced, Memory>
-    requires program { no_program.now ≡ [] }
     requires work { IsQueuedWork system.now tables.old busy.old }
     requires databases { dbds_of tables.old.databases ≡ system.now.databases }
     ensures steps { IfOk result (λ advanced. Steps system.now tables.old tables.new.databases (Some busy.old) (Some busy.new) (Some advanced)) }
@@ -148,18 +112,11 @@ fn advance_busy(
     ensures err { OnErr result (SameWork system.now tables.old (Some busy.old) (Some busy.new)) }
     ensures kept { OnErr result (tables.new ≡ tables.old) }
 {
-    let mut unit = match take_unit(alloc, system, no_program, tables, busy) {
+    let mut unit = match take_unit(alloc, system, tables, busy) {
         Ok(unit) => unit,
         Err(error) => return Err(error),
     };
-    let advanced = advance_unit(
-        alloc,
-        system,
-        no_program,
-        &busy.code,
-        tables.databases_mut(),
-        &mut unit,
-    );
+    let advanced = advance_unit(system, &busy.code, tables.databases_mut(), &mut unit);
     busy.unit = Some(unit);
     advanced
 }
@@ -169,11 +126,9 @@ fn advance_busy(
 pub fn advance(
     alloc: Global,
     system: &System,
-    no_program: &Program,
     tables: &mut Tables,
     region: &mut Option<Busy>,
 ) -> Result<Option<Advanced>, Memory>
-    requires program { no_program.now ≡ [] }
     requires work { IfSome region.old (IsQueuedWork system.now tables.old) }
     requires databases { dbds_of tables.old.databases ≡ system.now.databases }
     ensures steps { IfOk result (Steps system.now tables.old tables.new.databases region.old region.new) }
@@ -185,7 +140,7 @@ pub fn advance(
     let Some(busy) = region else {
         return Ok(None);
     };
-    match advance_busy(alloc, system, no_program, tables, busy) {
+    match advance_busy(alloc, system, tables, busy) {
         Ok(advanced) => Ok(Some(advanced)),
         Err(error) => Err(error),
     }

@@ -1,26 +1,39 @@
 //! The turns of the regions.
-ghost use Rattle.std.specs.Prelude.{◌≡◌, IfOk, OnErr, None};
+ghost use Rattle.std.specs.Prelude.{◌≡◌, IfOk, OnOk, OnErr, None};
+ghost use Rattle.model_machine.specs.declared.entry.Entry.TheVariants.{Turn as TurnEntry};
+ghost use Rattle.model_machine.specs.declared.entry.ControlCall.TheVariants.{Turn};
 ghost use Rattle.model_machine.specs.Machine.{IsRegion, slot_at};
-ghost use Rattle.model_machine.specs.Steps.{May, After, need_now};
-ghost use Rattle.tm_machine.specs.Turns.{Goes, turned_entry};
+ghost use Rattle.model_machine.specs.Steps.{turn_answer, need_now, After};
+ghost use Rattle.tm_machine.specs.Answers.{Answers};
+ghost use Rattle.tm_machine.specs.Turns.{Goes};
 
-use crate::Turned;
 use crate::flags::follow;
 use crate::next::SLOT_ROOM;
 use crate::parts::Parts;
 use crate::region::{Busy, advance, count_busy, take};
 use message_run::Advanced;
-use model_machine::Entry;
+use model_machine::{ControlFault, Turned};
 use tm_types::Memory;
 use tran_pick::pick;
 
 impl Parts {
+    /// Lets a region do its next step. A fault changes nothing.
+    pub fn turn(&mut self, region: u32) -> Result<Turned, ControlFault>
+        requires { IsRegion self.old.system region }
+        ensures { Answers self.old self.new (TurnEntry region result) }
+    {
+        match self.step(region) {
+            Ok(turned) => Ok(turned),
+            Err(_) => Err(ControlFault::Memory),
+        }
+    }
+
     /// Lets a region do its next step. Want of memory changes nothing; it is answered too where a count
     /// would pass its limit.
-    pub fn turn(&mut self, region: u32) -> Result<Turned, Memory>
+    fn step(&mut self, region: u32) -> Result<Turned, Memory>
         requires { IsRegion self.old.system region }
-        ensures may { IfOk result (λ turned. May self.old.system self.old.moment (turned_entry region turned)) }
-        ensures after { IfOk result (λ turned. self.new.moment ≡ After self.old.system self.old.moment (turned_entry region turned)) }
+        ensures answer { IfOk result (λ turned. turned ≡ turn_answer self.old.system self.old.moment region) }
+        ensures after { OnOk result (self.new.moment ≡ After self.old.system self.old.moment (Turn region)) }
         ensures system { self.new.system ≡ self.old.system }
         ensures err { OnErr result (self.new ≡ self.old) }
     {
@@ -44,7 +57,6 @@ impl Parts {
         advance(
             self.alloc,
             &self.system,
-            &self.no_program,
             &mut self.tables,
             &mut self.regions[region as usize - 1],
         )
@@ -62,8 +74,8 @@ impl Parts {
     fn schedule(&mut self, region: u32) -> Result<Turned, Memory>
         requires region { IsRegion self.old.system region }
         requires empty { slot_at self.old.moment region ≡ None }
-        ensures may { IfOk result (λ turned. May self.old.system self.old.moment (turned_entry region turned)) }
-        ensures after { IfOk result (λ turned. self.new.moment ≡ After self.old.system self.old.moment (turned_entry region turned)) }
+        ensures answer { IfOk result (λ turned. turned ≡ turn_answer self.old.system self.old.moment region) }
+        ensures after { OnOk result (self.new.moment ≡ After self.old.system self.old.moment (Turn region)) }
         ensures system { self.new.system ≡ self.old.system }
         ensures err { OnErr result (self.new ≡ self.old) }
     {

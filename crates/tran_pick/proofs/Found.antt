@@ -6,7 +6,7 @@ use Rattle.std.specs.Option.{IfSome, IsSome, IsSomeAnd, is_none, is_some, option
 use Rattle.std.specs.Ordering.{nat_cmp}
 use Rattle.std.specs.declared.cmp.Ordering.TheVariants.{Less, Equal}
 use Rattle.std.specs.Str.{bytes_eq}
-use Rattle.std.proofs.lemmas.Bool.{eq-eqb, ne_eqb, and_parts}
+use Rattle.std.proofs.lemmas.Bool.{eq-eqb, eqb-true, ne_eqb, and_parts}
 use Rattle.std.proofs.lemmas.Map.Keys.{sorted_head, sorted_tail}
 use Rattle.std.proofs.lemmas.Slice.Eq.{bytes_eq-Decides}
 use Rattle.model_queues.specs.declared.queued.Queued.{Queued}
@@ -75,6 +75,37 @@ first_is_free code qs id ordered e = by (find (is_free_of code) qs) refl e
         subst (IsFree qs) same
         (subst (λ found. IsSomeAnd found (λ r. r.holder ≡ None)) (sym (found_by_id (is_free_of code) qs q ordered is))
         (no_holder q.holder (and_parts (bytes_eq q.message.code code) (is_none q.holder) passes).1))
+
+-- where an id is below all others, none of these has it
+none_above : (code : List ℕ) (id : ℕ) (qs : List Queued) → AllByRecursion (λ k. nat_cmp id k ≡ Less) (ids_of qs) → AllByRecursion (λ q. has_id id q ≡ true → q.message.code ≡ code) qs
+none_above code id [] below = tt
+none_above code id (q ∷ qs) below =
+    (λ same. let clash : Less ≡ Equal = sym below.0 ∙ equal_from id q.message.id (sym (eqb-true q.message.id id same)) in absurd (cc), none_above code id qs below.1)
+
+-- all messages that have the id of the code's first free message are of this code
+pub first_codes : (code : List ℕ) (qs : List Queued) (id : ℕ) → AreInOrder qs → first_free code qs ≡ Some id → AllByRecursion (λ q. has_id id q ≡ true → q.message.code ≡ code) qs
+first_codes code [] id ordered e = tt
+first_codes code (p ∷ qs) id ordered e =
+    by (is_free_of code p) refl e (first_codes code qs id (sorted_tail nat_cmp p.message.id (ids_of qs) ordered))
+  where
+    Rest : Type 0
+    Rest = AllByRecursion (λ q. has_id id q ≡ true → q.message.code ≡ code) qs
+
+    later : (found : Option Queued) → find (is_free_of code) qs ≡ found → option_map (λ q. q.message.id) found ≡ Some id → has_id id p ≡ true → ⊥
+    later None is h same = cc
+    later (Some q) is h same =
+        let there : q.message.id ≡ id = cc in
+        let clash : Less ≡ Equal = sym (found_above p.message.id (is_free_of code) qs q (sorted_head nat_cmp p.message.id (ids_of qs) ordered) is)
+        ∙ equal_from p.message.id q.message.id (eqb-true p.message.id id same ∙ sym there) in cc
+
+    by : (b : Bool) → is_free_of code p ≡ b → option_map (λ q. q.message.id) (cond b (Some p) (find (is_free_of code) qs)) ≡ Some id
+        → (first_free code qs ≡ Some id → Rest) → (has_id id p ≡ true → p.message.code ≡ code) × Rest
+    by true passes h rest =
+        let here : p.message.id ≡ id = cc in (
+          λ same. (bytes_eq-Decides p.message.code code).0 (and_parts (bytes_eq p.message.code code) (is_none p.holder) passes).0,
+          none_above code id qs (subst (λ n. AllByRecursion (λ k. nat_cmp n k ≡ Less) (ids_of qs)) here (sorted_head nat_cmp p.message.id (ids_of qs) ordered)),
+        )
+    by false passes h rest = (λ same. absurd (later (find (is_free_of code) qs) refl h same), rest h)
 
 -- what holds of both candidates holds of the one that goes first
 pub better_keeps : (P : Candidate → Type 0) (a b : Option Candidate) → IfSome a P → IfSome b P → IfSome (better a b) P

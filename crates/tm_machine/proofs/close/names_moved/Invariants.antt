@@ -1,5 +1,5 @@
 use Rattle.std.proofs.Common.{◌≡◌, ◌∷◌, ◌++◌, drop}
-use Rattle.model_machine.specs.Steps.{destinations}
+use Rattle.tm_machine.specs.Ends.{destinations}
 use Rattle.tm_machine.proofs.close.names_moved.Given as goal
 
 -- the names so far, and those of the outputs to come

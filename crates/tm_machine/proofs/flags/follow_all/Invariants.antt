@@ -1,12 +1,12 @@
 use Rattle.std.proofs.Common.{◌≡◌, drop, length}
 use Rattle.model_queues.specs.Queue.{free_count}
-use Rattle.tm_machine.specs.Ends.{all_followed}
+use Rattle.model_machine.specs.Flags.{all_followed}
 use Rattle.tm_machine.proofs.flags.follow_all.Given as goal
 
 -- the flags of the codes to come are left to follow
 abbrev pub invariant-loop-name : goal.invariant-loop-name
 invariant-loop-name l = record {
   count : length l.codes ≡ length l.system.codes;
-  rest : all_followed l.system (λ name. free_count name l.queues.queued) l.names l.initial.codes
-      ≡ all_followed l.system (λ name. free_count name l.queues.queued) (drop l.name-index l.names) l.codes;
+  rest : all_followed l.system.codes (λ name. free_count name l.queues.queued) l.names l.initial.codes
+      ≡ all_followed l.system.codes (λ name. free_count name l.queues.queued) (drop l.name-index l.names) l.codes;
 }

@@ -1,28 +1,30 @@
-use Rattle.std.proofs.Common.{sym, ap, ◌∙◌, subst}
-use Rattle.model_queues.specs.Queue.{free_count}
-use Rattle.model_machine.specs.Machine.{followed, flagged}
-use Rattle.model_machine.specs.Steps.{accepted_state, code_word, with_lasting}
-use Rattle.lasting_state.specs.Tables.{lasting_of}
-use Rattle.tm_machine.specs.Parts.{slots_of, AreParts}
-use Rattle.tm_machine.proofs.Started.{parts_enqueued, moment_enqueued}
+use Rattle.std.proofs.Common.{sym, ap, ◌∙◌}
+use Rattle.std.specs.List.{count_by}
+use Rattle.std.specs.Option.{is_some}
+use Rattle.tm_machine.proofs.Raising.{follow_one}
+use Rattle.tm_machine.proofs.Started.{follows_enqueued, parts_enqueued}
+use Rattle.tm_machine.proofs.Roomed.{new_answer, full_answer}
 use Rattle.tm_machine.proofs.parts.Parts.enqueue.Goals as goal
 
 pub invariant_of-self : goal.invariant_of-self
 invariant_of-self c =
-    subst (λ states. AreParts c.self.inside.system c.self.inside.no_program c.enqueue.new.self states c.self.inside.regions.items) (sym c.follow.ensures)
-    (parts_enqueued c.self.inside.system c.self.inside.no_program c.self.inside.tables c.enqueue.new.self c.self.inside.codes c.self.inside.regions.items
-    c.args.terminal.now c.args.number c.args.code.now.transaction.code c.args.segments c.waiting-waiting.result
-    c.self.invariant c.in-Ok-New.ensures.above (rw c.in-Ok-New.field-0-is at c.in-Ok-New.ensures.ok).2)
+    let ok = (rw c.in-Ok-New.field-0-is at c.in-Ok-New.ensures.ok) in
+    let follow = follow_one c.self.inside.system.codes c.args.input.code c.waiting-waiting.result c.self.inside.codes c.follow.new.codes c.queues.result.now c.enqueue.new.self.queues
+    c.follow.ensures c.waiting-waiting.ensures c.queues.ensures in
+    let follows = follows_enqueued c.self.inside.system c.self.inside.tables c.self.inside.codes c.self.inside.regions.items c.args.terminal.now c.args.number c.args.segments c.self.invariant c.in-Ok-New.ensures.above c.enqueue.new.self ok.2 c.follow.new.codes c.args.input.code c.requires.new.code follow in
+    parts_enqueued c.self.inside.system c.self.inside.tables c.self.inside.codes c.self.inside.regions.items c.args.terminal.now c.args.number c.args.segments c.self.invariant c.in-Ok-New.ensures.above c.enqueue.new.self ok.2 c.follow.new.codes follows
 
-pub returns-in-Ok-New-clause-after : goal.returns-in-Ok-New-clause-after
-returns-in-Ok-New-clause-after c =
-    rw (sym c.self.view_is)
-    (ap (λ states. record { lasting = lasting_of c.enqueue.new.self; slots = slots_of c.self.inside.regions.items; codes = states })
-    (c.follow.ensures ∙ ap (λ n. followed c.self.inside.system c.args.code.now.transaction.code n c.self.inside.codes)
-    (c.waiting-waiting.ensures ∙ ap (λ q. free_count c.args.code.now.transaction.code q.queued) c.queues.ensures))
-    ∙ moment_enqueued c.self.inside.system c.self.inside.no_program c.self.inside.tables c.self.inside.codes c.self.inside.regions.items
-    c.args.terminal.now c.args.number c.args.segments c.self.invariant c.in-Ok-New.ensures.above
-    c.enqueue.new.self c.args.code.now.transaction.code (rw c.in-Ok-New.field-0-is at c.in-Ok-New.ensures.ok).2 c.requires.code
-    ∙ ap (λ id. flagged c.self.inside.system (code_word c.args.segments)
-    (with_lasting (record { lasting = lasting_of c.self.inside.tables; slots = slots_of c.self.inside.regions.items; codes = c.self.inside.codes })
-    (accepted_state (lasting_of c.self.inside.tables) c.args.terminal.now c.args.number c.args.segments id))) (sym (rw c.in-Ok-New.field-0-is at c.in-Ok-New.ensures.ok).0))
+pub returns-in-Ok-New : goal.returns-in-Ok-New
+returns-in-Ok-New c =
+    let ok = (rw c.in-Ok-New.field-0-is at c.in-Ok-New.ensures.ok) in
+    let follow = follow_one c.self.inside.system.codes c.args.input.code c.waiting-waiting.result c.self.inside.codes c.follow.new.codes c.queues.result.now c.enqueue.new.self.queues
+    c.follow.ensures c.waiting-waiting.ensures c.queues.ensures in
+    let follows = follows_enqueued c.self.inside.system c.self.inside.tables c.self.inside.codes c.self.inside.regions.items c.args.terminal.now c.args.number c.args.segments c.self.invariant c.in-Ok-New.ensures.above c.enqueue.new.self ok.2 c.follow.new.codes c.args.input.code c.requires.new.code follow in
+    rw (sym c.self.view_is) (new_answer c.self.inside.system c.self.inside.tables c.self.inside.codes c.self.inside.regions.items c.self.invariant c.args.terminal.now c.args.number c.args.segments c.args.input c.requires.segment c.count_busy-busy.result (c.count_busy-busy.ensures ∙ ap (count_by is_some) c.deref.ensures.value)
+    (rw (← c.self.view_is) at c.requires.new) c.in-Ok-New.ensures.above c.enqueue.new.self c.follow.new.codes c.in-Ok-New.id ok.0 ok.1 ok.2 ok.3 follows)
+
+pub returns-in-Ok-Full : goal.returns-in-Ok-Full
+returns-in-Ok-Full c =
+    let ok = (rw c.in-Ok-Full.field-0-is at c.in-Ok-Full.ensures.ok) in
+    rw (sym c.self.view_is) (full_answer c.self.inside.system c.self.inside.tables c.self.inside.codes c.self.inside.regions.items c.self.invariant c.args.terminal.now c.args.number c.args.segments c.args.input c.requires.segment c.count_busy-busy.result (c.count_busy-busy.ensures ∙ ap (count_by is_some) c.deref.ensures.value)
+    (rw (← c.self.view_is) at c.requires.new) c.enqueue.new.self c.in-Ok-Full.need c.in-Ok-Full.limit ok.0 ok.1 ok.2 ok.3)

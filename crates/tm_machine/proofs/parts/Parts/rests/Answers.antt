@@ -11,7 +11,7 @@ returns-then-is_none c =
     let get : slice_get c.self.inside.regions.items (c.args.region - 1) ≡ Some c.index.result.now =
     slice_get-get_or c.self.inside.regions.items (c.args.region - 1) _ within ∙ ap Some (sym c.index.ensures) in
     rw (sym c.self.view_is)
-    (rests_idle c.self.inside.system c.self.inside.no_program c.self.inside.tables c.self.inside.codes c.self.inside.regions.items c.args.region c.self.invariant c.index.result.now get c.pick.result (rw (ap (λ q. q.queued) c.queues.ensures) at c.pick.ensures.value)
+    (rests_idle c.self.inside.system c.self.inside.tables c.self.inside.codes c.self.inside.regions.items c.args.region c.self.invariant c.index.result.now get c.pick.result (rw (ap (λ q. q.queued) c.queues.ensures) at c.pick.ensures.value)
     (sym c.is_some.ensures ∙ c.if-is_some.false) c.if-is_none.ensures)
 
 pub returns : goal.returns
@@ -21,7 +21,7 @@ returns c =
     let get : slice_get c.self.inside.regions.items (c.args.region - 1) ≡ Some c.index.result.now =
     slice_get-get_or c.self.inside.regions.items (c.args.region - 1) _ within ∙ ap Some (sym c.index.ensures) in
     rw (sym c.self.view_is)
-    (rests_short c.self.inside.system c.self.inside.no_program c.self.inside.tables c.self.inside.codes c.self.inside.regions.items c.args.region c.self.invariant c.index.result.now get c.pick.result (rw (ap (λ q. q.queued) c.queues.ensures) at c.pick.ensures.value)
+    (rests_short c.self.inside.system c.self.inside.tables c.self.inside.codes c.self.inside.regions.items c.args.region c.self.invariant c.index.result.now get c.pick.result (rw (ap (λ q. q.queued) c.queues.ensures) at c.pick.ensures.value)
     (sym c.is_some.ensures ∙ c.if-is_some.false) c.if-is_none.ensures c.from.result c.slot_need.result
     (c.from.ensures ∙ c.limit.ensures ∙ ap (λ q. q.limit) c.queues-2.ensures ∙ c.self.invariant.limit)
     (rw (← c.self.view_is) at c.slot_need.ensures))

@@ -1,0 +1,224 @@
+-- What an input and an acknowledgement are answered.
+use Rattle.std.proofs.Common.{◌≡◌, ℕ, ◌+◌, ◌<◌, ◌≤◌, Bool, true, false, not, List, [], ◌∷◌, map, length, refl, sym, ap, ◌∙◌, subst, arith}
+use Rattle.std.specs.Prelude.{Option, Some, None, IsSomeAnd, Result, Ok, Err, cond, if◌then◌else◌, nat_lt, nat_le, slice_get}
+use Rattle.std.specs.Option.{option_map_or, option_and_then, unwrap_or, is_some}
+use Rattle.std.specs.Str.{bytes_eq}
+use Rattle.std.specs.List.{position, prefix_len}
+use Rattle.std.proofs.lemmas.Bool.{lt-ltb, le-ltb}
+use Rattle.model_queues.specs.Queue.{free_count}
+use Rattle.model_system.specs.declared.code.Code.{Code}
+use Rattle.model_system.specs.declared.code_state.CodeState.{CodeState}
+use Rattle.model_system.specs.System.{System}
+use Rattle.system_types.proofs.Indexed.{found_at}
+use Rattle.model_machine.specs.declared.entry.Taken.{Taken}
+use Rattle.model_machine.specs.declared.entry.Taken.TheVariants.{New, Already}
+use Rattle.model_machine.specs.declared.entry.InputRefused.{InputRefused}
+use Rattle.model_machine.specs.declared.entry.InputRefused.TheVariants.{Terminal as NoTerminal, Expected, Code as NoCode, SegmentsOver, QueueFull, Fault}
+use Rattle.model_machine.specs.declared.entry.Acked.{Acked}
+use Rattle.model_machine.specs.declared.entry.Acked.TheVariants.{Removed, Already as AckAlready}
+use Rattle.model_machine.specs.declared.entry.AckRefused.{AckRefused}
+use Rattle.model_machine.specs.declared.entry.AckRefused.TheVariants.{Unknown, Ahead, Fault as AckFault}
+use Rattle.model_machine.specs.declared.entry.Entry.TheVariants.{Accept, Acked as AckedEntry}
+use Rattle.model_machine.specs.declared.lasting.TerminalState.{TerminalState}
+use Rattle.model_machine.specs.Machine.{Moment, terminal_at, terminal_place, output_at, moment_with}
+use Rattle.model_machine.specs.Lasting.{applied}
+use Rattle.model_machine.specs.Lasting.LastingStep.{Acknowledges}
+use Rattle.model_machine.specs.Steps.{Refusal, first_of, by_number, by_count, most_segments, accepts, acknowledges, ack_by, input_answer}
+use Rattle.lasting_state.specs.Tables.{TablesState, lasting_of, IsAcknowledged}
+use Rattle.tm_machine.specs.declared.region.Busy.{Busy}
+use Rattle.tm_machine.specs.Answers.{IsAnswered, Answers}
+use Rattle.tm_machine.specs.Inputs.{IsRefusal}
+use Rattle.tm_machine.specs.Parts.{PartsState, slots_of, settings_of, flags_of, AreParts}
+use Rattle.tm_machine.proofs.Leaving.{moment_is, moment_stays}
+use Rattle.tm_machine.proofs.Raising.{followed_none}
+use Rattle.tm_machine.proofs.Started.{moment_refused}
+
+-- ---- terminals by their places
+prefix_map : {X Y : Type 0} (q : Y → Bool) (f : X → Y) (xs : List X) → prefix_len q (map f xs) ≡ prefix_len (λ x. q (f x)) xs
+prefix_map q f [] = refl
+prefix_map q f (x ∷ xs) = ap (λ n. if q (f x) then 1 + n else 0) (prefix_map q f xs)
+
+pub length_map : {X Y : Type 0} (f : X → Y) (xs : List X) → length (map f xs) ≡ length xs
+length_map f [] = refl
+length_map f (x ∷ xs) = let rest = length_map f xs in omega (arith, rest)
+
+pub place_is : (terminals : List TerminalState) (names : List (List ℕ)) (name : List ℕ) → map (λ t. t.name) terminals ≡ names
+    → position (λ n. bytes_eq n name) names ≡ terminal_place terminals name
+place_is terminals names name e =
+    ap (position (λ n. bytes_eq n name)) (sym e)
+    ∙ ap (λ k. cond (nat_lt k (length (map (λ (t : TerminalState). t.name) terminals))) (Some k) None) (prefix_map (λ n. not (bytes_eq n name)) (λ (t : TerminalState). t.name) terminals)
+    ∙ ap (λ m. cond (nat_lt (prefix_len (λ (t : TerminalState). not (bytes_eq t.name name)) terminals) m) (Some (prefix_len (λ (t : TerminalState). not (bytes_eq t.name name)) terminals)) None) (length_map (λ (t : TerminalState). t.name) terminals)
+
+pub at_place : (terminals : List TerminalState) (name : List ℕ) (place : Option ℕ) → terminal_place terminals name ≡ place → terminal_at terminals name ≡ option_and_then (slice_get terminals) place
+at_place terminals name place e = sym (found_at (λ (t : TerminalState). bytes_eq t.name name) terminals) ∙ ap (option_and_then (slice_get terminals)) e
+
+-- ---- the answer of an input, by what was looked up
+abbrev pub answer_by : Option TerminalState → ℕ → Option Code → ℕ → Refusal → ℕ → Result Taken InputRefused
+answer_by terminal number code count room next =
+    unwrap_or (first_of (
+    (if is_some terminal then None else Some (Err NoTerminal))
+    ∷ option_and_then (λ t. by_number t.last number) terminal
+    ∷ (if is_some code then None else Some (Err NoCode))
+    ∷ option_and_then (λ c. by_count (most_segments c.transaction.segment_kind) count) code
+    ∷ room
+    ∷ [])) (Ok (New next))
+
+pub no_terminal : (t : Option TerminalState) (number : ℕ) (code : Option Code) (count : ℕ) (room : Refusal) (next : ℕ) → t ≡ None → Err NoTerminal ≡ answer_by t number code count room next
+no_terminal t number code count room next e = sym (ap (λ o. answer_by o number code count room next) e)
+
+not_new : (last number id : ℕ) → by_number last number ≡ Some (Ok (New id)) → ⊥
+not_new last number id e = by (nat_le number last) (nat_lt (last + 1) number) e
+  where
+    by : (a b : Bool) → ◌≡◌ {A = Refusal} (if a then Some (Ok Already) else if b then Some (Err (Expected (last + 1))) else None) (Some (Ok (New id))) → ⊥
+    by true b f = cc
+    by false true f = cc
+    by false false f = cc
+
+is_refusal : (right answer : Result Taken InputRefused) → answer ≡ right → ((id : ℕ) → answer ≡ Ok (New id) → ⊥) → IsRefusal right answer
+is_refusal right (Ok (New id)) e other = absurd (other id refl)
+is_refusal right (Ok Already) e other = e
+is_refusal right (Err NoTerminal) e other = e
+is_refusal right (Err (Expected next)) e other = e
+is_refusal right (Err NoCode) e other = e
+is_refusal right (Err (SegmentsOver count most)) e other = e
+is_refusal right (Err (QueueFull need limit)) e other = e
+is_refusal right (Err (Fault fault)) e other = tt
+
+pub numbered : (t : Option TerminalState) (last number : ℕ) (code : Option Code) (count : ℕ) (room : Refusal) (next : ℕ) (answer : Result Taken InputRefused)
+    → IsSomeAnd t (λ s. last ≡ s.last) → Some answer ≡ by_number last number → IsRefusal (answer_by t number code count room next) answer
+numbered (Some s) last number code count room next answer same e =
+    let here : by_number s.last number ≡ Some answer = ap (λ n. by_number n number) (sym same) ∙ sym e in
+    is_refusal (answer_by (Some s) number code count room next) answer (sym (step here))
+    (λ id f. not_new last number id (sym e ∙ ap (λ a. Some a) f))
+  where
+    step : by_number s.last number ≡ Some answer → answer_by (Some s) number code count room next ≡ answer
+    step h = rw h refl
+numbered None last number code count room next answer same e = absurd same
+
+-- an input whose number is the next one
+pub past_number : (t : Option TerminalState) (last number : ℕ) (code : Option Code) (count : ℕ) (room : Refusal) (next : ℕ)
+    → IsSomeAnd t (λ s. last ≡ s.last) → None ≡ by_number last number
+    → answer_by t number code count room next
+    ≡ unwrap_or (first_of ((if is_some code then None else Some (Err NoCode)) ∷ option_and_then (λ c. by_count (most_segments c.transaction.segment_kind) count) code ∷ room ∷ [])) (Ok (New next))
+past_number (Some s) last number code count room next same e = step (ap (λ n. by_number n number) (sym same) ∙ sym e)
+  where
+    step : by_number s.last number ≡ None → answer_by (Some s) number code count room next
+        ≡ unwrap_or (first_of ((if is_some code then None else Some (Err NoCode)) ∷ option_and_then (λ c. by_count (most_segments c.transaction.segment_kind) count) code ∷ room ∷ [])) (Ok (New next))
+    step h = rw h refl
+past_number None last number code count room next same e = absurd same
+
+pub no_code : (t : Option TerminalState) (last number : ℕ) (code : Option Code) (count : ℕ) (room : Refusal) (next : ℕ)
+    → IsSomeAnd t (λ s. last ≡ s.last) → None ≡ by_number last number → code ≡ None → Err NoCode ≡ answer_by t number code count room next
+no_code t last number code count room next same e none =
+    sym (past_number t last number code count room next same e
+    ∙ ap (λ c. unwrap_or (first_of ((if is_some c then None else Some (Err NoCode)) ∷ option_and_then (λ k. by_count (most_segments k.transaction.segment_kind) count) c ∷ room ∷ [])) (Ok (New next))) none)
+
+counted_by : (t : Option TerminalState) (last number : ℕ) (code : Option Code) (found : Code) (count : ℕ) (room : Refusal) (next : ℕ)
+    → IsSomeAnd t (λ s. last ≡ s.last) → None ≡ by_number last number → code ≡ Some found
+    → answer_by t number code count room next ≡ unwrap_or (first_of (by_count (most_segments found.transaction.segment_kind) count ∷ room ∷ [])) (Ok (New next))
+counted_by t last number code found count room next same e there =
+    past_number t last number code count room next same e
+    ∙ ap (λ c. unwrap_or (first_of ((if is_some c then None else Some (Err NoCode)) ∷ option_and_then (λ k. by_count (most_segments k.transaction.segment_kind) count) c ∷ room ∷ [])) (Ok (New next))) there
+
+pub many : (t : Option TerminalState) (last number : ℕ) (code : Option Code) (found : Code) (count : ℕ) (room : Refusal) (next most size : ℕ)
+    → IsSomeAnd t (λ s. last ≡ s.last) → None ≡ by_number last number → code ≡ Some found → most ≡ most_segments found.transaction.segment_kind → size ≡ count → most < size
+    → Err (SegmentsOver size most) ≡ answer_by t number code count room next
+many t last number code found count room next most size same e there m s over =
+    sym (counted_by t last number code found count room next same e there
+    ∙ ap (λ n. unwrap_or (first_of (by_count n count ∷ room ∷ [])) (Ok (New next))) (sym m)
+    ∙ ap (λ n. unwrap_or (first_of (by_count most n ∷ room ∷ [])) (Ok (New next))) (sym s)
+    ∙ ap (λ b. unwrap_or (first_of ((if b then Some (Err (SegmentsOver size most)) else None) ∷ room ∷ [])) (Ok (New next))) (lt-ltb most size over)) ∙ refl
+
+pub room_left : (t : Option TerminalState) (last number : ℕ) (code : Option Code) (found : Code) (count : ℕ) (room : Refusal) (next most size : ℕ)
+    → IsSomeAnd t (λ s. last ≡ s.last) → None ≡ by_number last number → code ≡ Some found → most ≡ most_segments found.transaction.segment_kind → size ≡ count → size ≤ most
+    → answer_by t number code count room next ≡ unwrap_or room (Ok (New next))
+room_left t last number code found count room next most size same e there m s fits =
+    counted_by t last number code found count room next same e there
+    ∙ ap (λ n. unwrap_or (first_of (by_count n count ∷ room ∷ [])) (Ok (New next))) (sym m)
+    ∙ ap (λ n. unwrap_or (first_of (by_count most n ∷ room ∷ [])) (Ok (New next))) (sym s)
+    ∙ ap (λ b. unwrap_or (first_of ((if b then Some (Err (SegmentsOver size most)) else None) ∷ room ∷ [])) (Ok (New next))) (le-ltb most size fits)
+    ∙ none_last room
+  where
+    none_last : (r : Refusal) → unwrap_or (first_of (r ∷ [])) (Ok (New next)) ≡ unwrap_or r (Ok (New next))
+    none_last (Some answer) = refl
+    none_last None = refl
+
+-- ---- whole calls
+module _ (system : System) (tables : TablesState) (states : List CodeState) (regions : List (Option Busy)) (parts : AreParts system tables states regions) where
+  abbrev moment_now : Moment
+  moment_now = record { lasting = lasting_of (settings_of states) tables; slots = slots_of regions; raised = flags_of states }
+
+  abbrev state_now : PartsState
+  state_now = record { system = system; moment = moment_now }
+
+  answered : (terminal : List ℕ) (number : ℕ) (segments : List (List ℕ)) (answer : Result Taken InputRefused) → 0 < length segments
+      → answer ≡ input_answer system moment_now terminal number segments → accepts terminal number segments answer ≡ None
+      → IsAnswered state_now state_now (Accept terminal number segments answer)
+  answered terminal number segments answer some says none = record {
+    may = record { call = some; answer = ap (Accept terminal number segments) says };
+    after = moment_refused system tables states regions terminal number segments answer parts none says;
+    system = refl;
+  }
+
+  -- an input that is refused
+  pub refused_input : (terminal : List ℕ) (number : ℕ) (segments : List (List ℕ)) (answer : Result Taken InputRefused) → 0 < length segments
+      → IsRefusal (input_answer system moment_now terminal number segments) answer → Answers state_now state_now (Accept terminal number segments answer)
+  refused_input terminal number segments (Ok (New id)) some h = absurd h
+  refused_input terminal number segments (Ok Already) some h = answered terminal number segments (Ok Already) some h refl
+  refused_input terminal number segments (Err NoTerminal) some h = answered terminal number segments (Err NoTerminal) some h refl
+  refused_input terminal number segments (Err (Expected next)) some h = answered terminal number segments (Err (Expected next)) some h refl
+  refused_input terminal number segments (Err NoCode) some h = answered terminal number segments (Err NoCode) some h refl
+  refused_input terminal number segments (Err (SegmentsOver count most)) some h = answered terminal number segments (Err (SegmentsOver count most)) some h refl
+  refused_input terminal number segments (Err (QueueFull need limit)) some h = answered terminal number segments (Err (QueueFull need limit)) some h refl
+  refused_input terminal number segments (Err (Fault fault)) some h = refl
+
+  -- an acknowledgement
+  abbrev state_with : TablesState → PartsState
+  state_with t = record { system = system; moment = record { lasting = lasting_of (settings_of states) t; slots = slots_of regions; raised = flags_of states } }
+
+  unchanged : (tables' : TablesState) (terminal : List ℕ) (number : ℕ) (answer : Result Acked AckRefused) → ack_by (output_at tables.outputs terminal) number ≡ answer
+      → acknowledges terminal answer ≡ None → tables' ≡ tables → IsAnswered state_now (state_with tables') (AckedEntry terminal number answer)
+  unchanged tables' terminal number answer says none same = record {
+    may = record { call = tt; answer = ap (AckedEntry terminal number) (sym says) };
+    after = ap (λ t. (state_with t).moment) same ∙ moment_stays system tables states regions parts
+        ∙ ap (λ o. moment_with system (option_map_or (λ s. applied s moment_now.lasting) o moment_now.lasting) (slots_of regions) (flags_of states))
+        (sym none ∙ ap (acknowledges terminal) (sym says));
+    system = refl;
+  }
+
+  pub acknowledged_is : (tables' : TablesState) (terminal : List ℕ) (number : ℕ) (answer : Result Acked AckRefused) → IsAcknowledged tables tables' terminal number answer
+      → Answers state_now (state_with tables') (AckedEntry terminal number answer)
+  acknowledged_is tables' terminal number (Ok Removed) h = record {
+    may = record { call = tt; answer = ap (AckedEntry terminal number) (sym h.0) };
+    after =
+        moment_is system (applied (Acknowledges terminal) moment_now.lasting) (slots_of regions) tables' states states regions
+        (followed_none system (λ name. free_count name tables.queues.queued) (λ name. free_count name tables'.queues.queued) states parts.settled (λ name. ap (λ t. free_count name t.queues.queued) h.1))
+        (rw h.1 parts.told) (ap (lasting_of (settings_of states)) h.1) refl
+        ∙ ap (λ a. moment_with system (option_map_or (λ s. applied s moment_now.lasting) (acknowledges terminal a) moment_now.lasting) (slots_of regions) (flags_of states)) (sym h.0);
+    system = refl;
+  }
+  acknowledged_is tables' terminal number (Ok AckAlready) h = unchanged tables' terminal number (Ok AckAlready) h.0 refl h.1
+  acknowledged_is tables' terminal number (Err Unknown) h = unchanged tables' terminal number (Err Unknown) h.0 refl h.1
+  acknowledged_is tables' terminal number (Err (Ahead first)) h = unchanged tables' terminal number (Err (Ahead first)) h.0 refl h.1
+  acknowledged_is tables' terminal number (Err (AckFault fault)) h = ap state_with h
+
+  parts_same : (tables' : TablesState) → tables' ≡ tables → AreParts system tables' states regions
+  parts_same tables' same = subst (λ t. AreParts system t states regions) (sym same) parts
+
+  pub parts_acknowledged : (tables' : TablesState) (terminal : List ℕ) (number : ℕ) (answer : Result Acked AckRefused) → IsAcknowledged tables tables' terminal number answer → AreParts system tables' states regions
+  parts_acknowledged tables' terminal number (Ok Removed) h = rw h.1 (record {
+    valid = parts.valid;
+    limit = parts.limit;
+    names = parts.names;
+    regions_are = parts.regions_are;
+    states_are = parts.states_are;
+    settled = parts.settled;
+    told = parts.told;
+    at_work = parts.at_work;
+    databases = parts.databases;
+    alone = parts.alone;
+  })
+  parts_acknowledged tables' terminal number (Ok AckAlready) h = parts_same tables' h.1
+  parts_acknowledged tables' terminal number (Err Unknown) h = parts_same tables' h.1
+  parts_acknowledged tables' terminal number (Err (Ahead first)) h = parts_same tables' h.1
+  parts_acknowledged tables' terminal number (Err (AckFault fault)) h = parts_same tables' h

@@ -1,0 +1,67 @@
+-- An input that is new, but for the room.
+use Rattle.std.proofs.Common.{◌≡◌, ℕ, ◌<◌, ◌≤◌, List, length, refl, sym, ap, ◌∙◌, subst}
+use Rattle.std.specs.Prelude.{Option, Some, None, Ok, Err, if◌then◌else◌, nat_lt}
+use Rattle.std.specs.Option.{unwrap_or, is_some}
+use Rattle.std.specs.List.{count_by}
+use Rattle.std.proofs.lemmas.Bool.{lt-ltb, le-ltb}
+use Rattle.tm_types.specs.Segment.{counted_bytes}
+use Rattle.model_queues.specs.Queue.{IsNewId, free_count}
+use Rattle.model_queues.specs.Room.{input_needs}
+use Rattle.model_system.specs.declared.code_state.CodeState.{CodeState}
+use Rattle.model_system.specs.System.{System}
+use Rattle.model_machine.specs.declared.entry.Taken.TheVariants.{New}
+use Rattle.model_machine.specs.declared.entry.InputRefused.TheVariants.{QueueFull}
+use Rattle.model_machine.specs.declared.entry.Entry.TheVariants.{Accept}
+use Rattle.model_machine.specs.Lasting.LastingStep.{Accepts}
+use Rattle.model_machine.specs.Steps.{no_room, input_answer}
+use Rattle.lasting_state.specs.Tables.{TablesState, lasting_of, content_of, needs, enqueued, Applies}
+use Rattle.tm_machine.specs.declared.region.Busy.{Busy}
+use Rattle.tm_machine.specs.declared.input.NewInput.{NewInput}
+use Rattle.tm_machine.specs.Answers.{IsAnswered}
+use Rattle.tm_machine.specs.Inputs.{IsNewInput}
+use Rattle.tm_machine.specs.Parts.{PartsState, slots_of, settings_of, flags_of, AreParts}
+use Rattle.tm_machine.proofs.Linked.{busy_is}
+use Rattle.tm_machine.proofs.Raising.{IsFollowed}
+use Rattle.tm_machine.proofs.Started.{moment_enqueued, moment_refused}
+
+module _ (system : System) (tables : TablesState) (states : List CodeState) (regions : List (Option Busy)) (parts : AreParts system tables states regions)
+    (terminal : List ℕ) (number : ℕ) (segments : List (List ℕ)) (input : NewInput) (some : 0 < length segments) (busy : ℕ) (counted : busy ≡ count_by is_some regions) where
+  abbrev state_with : TablesState → List CodeState → PartsState
+  state_with t ss = record { system = system; moment = record { lasting = lasting_of (settings_of ss) t; slots = slots_of regions; raised = flags_of ss } }
+
+  room_is : no_room system (state_with tables states).moment segments
+      ≡ (if nat_lt system.qbytes (needs tables segments busy) then Some (Err (QueueFull (needs tables segments busy) system.qbytes)) else None)
+  room_is =
+      ap (λ n. if nat_lt system.qbytes (input_needs (content_of tables) (counted_bytes segments) n) then Some (Err (QueueFull (input_needs (content_of tables) (counted_bytes segments) n) system.qbytes)) else None)
+      (busy_is regions ∙ sym counted)
+
+  pub new_answer : IsNewInput (state_with tables states) terminal number segments input → IsNewId tables.next_id tables.queues.queued → (tables' : TablesState) (states' : List CodeState) (id : ℕ) → id ≡ tables.next_id
+      → needs tables segments busy ≤ tables.queues.limit → tables' ≡ enqueued tables terminal number segments → Applies (Accepts terminal number segments) tables tables'
+      → IsFollowed system (λ n. free_count n tables'.queues.queued) states states'
+      → IsAnswered (state_with tables states) (state_with tables' states') (Accept terminal number segments (Ok (New id)))
+  new_answer new above tables' states' id same fits is applies follows = record {
+    may = record { call = some; answer = ap (Accept terminal number segments) says };
+    after = moment_enqueued system tables states regions terminal number segments parts above tables' is states' id follows (applies (settings_of states)) says;
+    system = refl;
+  }
+    where
+      says : Ok (New id) ≡ input_answer system (state_with tables states).moment terminal number segments
+      says =
+          ap (λ n. Ok (New n)) same
+          ∙ sym (new.answer ∙ ap (λ r. unwrap_or r (Ok (New tables.next_id))) (room_is
+          ∙ ap (λ b. if b then Some (Err (QueueFull (needs tables segments busy) system.qbytes)) else None) (le-ltb system.qbytes (needs tables segments busy) (subst (λ n. needs tables segments busy ≤ n) parts.limit fits))))
+
+  pub full_answer : IsNewInput (state_with tables states) terminal number segments input → (tables' : TablesState) (need limit : ℕ) → need ≡ needs tables segments busy → limit ≡ tables.queues.limit
+      → limit < need → tables' ≡ tables → IsAnswered (state_with tables states) (state_with tables' states) (Accept terminal number segments (Err (QueueFull need limit)))
+  full_answer new tables' need limit n l less stays = record {
+    may = record { call = some; answer = ap (Accept terminal number segments) says };
+    after = ap (λ t. (state_with t states).moment) stays ∙ moment_refused system tables states regions terminal number segments (Err (QueueFull need limit)) parts refl says;
+    system = refl;
+  }
+    where
+      says : Err (QueueFull need limit) ≡ input_answer system (state_with tables states).moment terminal number segments
+      says =
+          ap (λ k. Err (QueueFull k limit)) n ∙ ap (λ k. Err (QueueFull (needs tables segments busy) k)) (l ∙ parts.limit)
+          ∙ sym (new.answer ∙ ap (λ r. unwrap_or r (Ok (New tables.next_id))) (room_is
+          ∙ ap (λ b. if b then Some (Err (QueueFull (needs tables segments busy) system.qbytes)) else None)
+          (lt-ltb system.qbytes (needs tables segments busy) (subst (λ k. k < needs tables segments busy) (l ∙ parts.limit) (subst (λ k. limit < k) n less)))))

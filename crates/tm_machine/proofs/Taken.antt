@@ -1,0 +1,62 @@
+-- A region's work that is taken out of it, and goes on.
+use Rattle.std.proofs.Common.{◌≡◌, sym, ap, ◌∙◌, subst, List, ℕ}
+use Rattle.std.specs.Prelude.{Option, Some, None, IsSomeAnd, Result, Ok, Err, IfOk}
+use Rattle.tm_types.specs.declared.message.Message.{Message}
+use Rattle.model_queues.specs.Queue.{message_at}
+use Rattle.model_system.specs.Jobs.{Job, job_of}
+use Rattle.model_system.specs.System.{System}
+use Rattle.system_types.specs.declared.job.Job.{Job as Lent}
+use Rattle.system_types.specs.Jobs.{lent_job}
+use Rattle.program_rows.specs.State.{DatabasesState}
+use Rattle.message_run.specs.declared.run.Advanced.{Advanced}
+use Rattle.message_run.specs.Ahead.{IsStart, GoesOn}
+use Rattle.message_run.specs.RunState.{RunState}
+use Rattle.lasting_state.specs.Tables.{TablesState}
+use Rattle.tm_machine.specs.declared.region.Busy.{Busy}
+use Rattle.tm_machine.specs.Region.{GoesSo, IsTakenOn, IsTaken, StepsOn, Steps}
+
+-- a work that is started serves the code's job
+pub starts : {E : Type 0} (system : System) (code : List ℕ) (message : Message) (lent : Lent) (made : Result RunState E) → job_of system code ≡ Some (lent_job system lent)
+    → IfOk made (λ run. (other : System) → IsStart (lent_job other lent) message run) → IfOk made (λ run. IsSomeAnd (job_of system code) (λ job. IsStart job message run))
+starts system code message lent (Ok run) e h = rw e (h system)
+starts system code message lent (Err error) e h = tt
+
+some_same : (a b : Job) → Some a ≡ Some b → a ≡ b
+some_same a b e = cc
+
+-- what goes on by the job that is lent goes on by the code's
+pub goes_so : {E : Type 0} (system : System) (code : List ℕ) (lent : Lent) (before after : DatabasesState) (old new : RunState) (made : Result Advanced E)
+    → job_of system code ≡ Some (lent_job system lent) → IfOk made (GoesOn (lent_job system lent) before after old new) → IfOk made (GoesSo system code before after old new)
+goes_so system code lent before after old new (Ok advanced) e h = λ message job serves ahead. record {
+  job = job;
+  serves = serves;
+  ahead = ahead;
+  advances = subst (λ j. GoesOn j before after old new advanced) (some_same (lent_job system lent) job (sym e ∙ serves)) h message ahead;
+}
+goes_so system code lent before after old new (Err error) e h = tt
+
+-- a work that was taken out made a step
+pub steps_from : (system : System) (tables : TablesState) (left databases : DatabasesState) (old middle new : Busy) (before after : RunState) (advanced : Advanced) → IsTaken system tables old before
+    → middle ≡ record old { unit = None } → databases ≡ tables.databases → GoesSo system middle.code databases left before after advanced → new ≡ record middle { unit = Some after }
+    → Steps system tables left (Some old) (Some new) (Some advanced)
+steps_from system tables left databases old middle new before after advanced taken out same goes is =
+    by (message_at old.id tables.queues.queued) taken
+  where
+    new_is : new ≡ record old { unit = Some after }
+    new_is = is ∙ ap (λ (b : Busy). record b { unit = Some after }) out
+
+    one : (message : Message) → IsTakenOn system tables.databases message old before → StepsOn system tables.databases left message old new advanced
+    one message t = record {
+      same = record { code = ap (λ b. b.code) new_is; taken = ap (λ b. b.taken) new_is; id = ap (λ b. b.id) new_is };
+      before = before;
+      calls = t.calls;
+      after = after;
+      is = ap (λ b. b.unit) new_is;
+      steps = subst (λ d. GoesSo system old.code d left before after advanced) same (subst (λ c. GoesSo system c databases left before after advanced) (ap (λ b. b.code) out) goes)
+          message t.job t.serves t.ahead;
+    }
+
+    by : (found : Option Message) → IsSomeAnd found (λ message. IsTakenOn system tables.databases message old before)
+        → IsSomeAnd found (λ message. StepsOn system tables.databases left message old new advanced)
+    by (Some message) t = one message t
+    by None t = absurd t
