@@ -13,15 +13,15 @@ use Rattle.system_types.specs.declared.definition.MacroLine.{MacroLine}
 use Rattle.system_types.specs.Definitions.{IsInRange}
 use Rattle.system_types.specs.Valid.{IsDatabase}
 use Rattle.system_types.proofs.Indexed.{found_at}
-use Rattle.sysdef_check.specs.declared.cross.CrossRule.TheVariants.{OfSegments, WrongCount}
-use Rattle.sysdef_check.specs.declared.lookups.MacroKind.TheVariants.{Segments}
-use Rattle.sysdef_check.specs.declared.segments.SegmentRule.TheVariants.{ParentAstray}
-use Rattle.sysdef_check.specs.Counts.{past_limit}
-use Rattle.sysdef_check.specs.Cross.{broken_line, first_line}
-use Rattle.sysdef_check.specs.Lookups.{behind, front, has, is_database, is_of, segments_of}
-use Rattle.sysdef_check.specs.Segments.{broken_by_segment, broken_in, first_segment}
+use Rattle.sysdef_rules.specs.declared.cross.CrossRule.TheVariants.{OfSegments, WrongCount}
+use Rattle.sysdef_rules.specs.declared.lookups.MacroKind.TheVariants.{Segments}
+use Rattle.sysdef_rules.specs.declared.segments.SegmentRule.TheVariants.{ParentAstray}
+use Rattle.sysdef_rules.specs.Counts.{past_limit}
+use Rattle.sysdef_rules.specs.Cross.{broken_line, first_line}
+use Rattle.sysdef_rules.specs.Lookups.{behind, front, has, is_database, is_of, segments_of}
+use Rattle.sysdef_rules.specs.Segments.{broken_by_segment, broken_in, first_segment}
 use Rattle.sysdef_check.specs.Systems.{and_then, database_in, database_number, databases_in, type_in, types_in}
-use Rattle.sysdef_check.proofs.Fronts.{front_all, front_holds}
+use Rattle.sysdef_rules.proofs.Fronts.{front_all, front_holds}
 use Rattle.sysdef_check.proofs.Kept.{and_parts, kept_count, kept_database, neither}
 use Rattle.sysdef_check.proofs.Made.{made_holds, none_holds, short_list}
 

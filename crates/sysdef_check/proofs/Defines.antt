@@ -7,10 +7,10 @@ use Rattle.system_types.specs.declared.definition.Macro.{Macro}
 use Rattle.system_types.specs.declared.definition.Macro.TheVariants.{Control}
 use Rattle.system_types.specs.Definitions.{IsDefinition, IsInRange, begins_well, is_control}
 use Rattle.system_types.specs.Valid.{IsSystem}
-use Rattle.sysdef_check.specs.declared.cross.CrossRule.TheVariants.{CodeTwice, DatabaseUnknown, OfCalls, OfSegments, ProgramMissing, WrongCount, SecondRegion}
-use Rattle.sysdef_check.specs.declared.calls.CallRule.TheVariants.{PcbMissing, SsaAstray, NoInsertPath}
-use Rattle.sysdef_check.specs.declared.segments.SegmentRule.TheVariants.{ParentAstray}
-use Rattle.sysdef_check.specs.Cross.{cross_rules}
+use Rattle.sysdef_rules.specs.declared.cross.CrossRule.TheVariants.{CodeTwice, DatabaseUnknown, OfCalls, OfSegments, ProgramMissing, WrongCount, SecondRegion}
+use Rattle.sysdef_rules.specs.declared.calls.CallRule.TheVariants.{PcbMissing, SsaAstray, NoInsertPath}
+use Rattle.sysdef_rules.specs.declared.segments.SegmentRule.TheVariants.{ParentAstray}
+use Rattle.sysdef_rules.specs.Cross.{cross_rules}
 use Rattle.sysdef_check.specs.Systems.{system_of, control_in, control_of, databases_in}
 use Rattle.sysdef_check.proofs.Dbds.{databases_valid}
 use Rattle.sysdef_check.proofs.Kept.{rule_kept}

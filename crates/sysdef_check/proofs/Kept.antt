@@ -6,12 +6,13 @@ use Rattle.std.proofs.lemmas.Bool.{false≢true}
 use Rattle.std.proofs.lemmas.List.{take_all, take_more}
 use Rattle.std.proofs.lemmas.List.Elements.{All-drop, All-take}
 use Rattle.system_types.specs.declared.definition.MacroLine.{MacroLine}
-use Rattle.sysdef_check.specs.declared.cross.CrossRule.{CrossRule}
-use Rattle.sysdef_check.specs.declared.cross.CrossRule.TheVariants.{OfSegments, WrongCount, SecondRegion}
-use Rattle.sysdef_check.specs.declared.segments.SegmentRule.{SegmentRule}
-use Rattle.sysdef_check.specs.Segments.{own_line, breaks_segment, broken_by_segment, first_segment}
-use Rattle.sysdef_check.specs.Counts.{breaks_count, past_limit}
-use Rattle.sysdef_check.specs.Cross.{before_others, breaks_region, broken_line, cross_rules, first_line, keeps, keeps_all, rules, unless_broken}
+use Rattle.sysdef_rules.proofs.Cuts.{cut_at, more_at}
+use Rattle.sysdef_rules.specs.declared.cross.CrossRule.{CrossRule}
+use Rattle.sysdef_rules.specs.declared.cross.CrossRule.TheVariants.{OfSegments, WrongCount, SecondRegion}
+use Rattle.sysdef_rules.specs.declared.segments.SegmentRule.{SegmentRule}
+use Rattle.sysdef_rules.specs.Segments.{own_line, breaks_segment, broken_by_segment, first_segment}
+use Rattle.sysdef_rules.specs.Counts.{breaks_count, past_limit}
+use Rattle.sysdef_rules.specs.Cross.{before_others, breaks_region, broken_line, cross_rules, first_line, keeps, keeps_all, rules, unless_broken}
 
 -- neither of two is there
 pub neither : (a b : Option ℕ) → option_or a b ≡ None → (a ≡ None) × (b ≡ None)
@@ -21,13 +22,6 @@ neither (Some n) b h = cc
 pub not_broken : (line : MacroLine) (b : Bool) → own_line line b ≡ None → b ≡ false
 not_broken line false h = refl
 not_broken line true h = cc
-
--- the first of the lines that are left, and the lines up to it
-pub cut_at : (lines : List MacroLine) (index : ℕ) (line : MacroLine) → index < length lines → line ≡ get_or lines index line → drop index lines ≡ line ∷ drop (index + 1) lines
-cut_at lines index line h e = rw (add-one index) (drop-cons lines index line h ∙ ap (λ (l : MacroLine). l ∷ drop (suc index) lines) (sym e))
-
-pub more_at : (lines : List MacroLine) (index : ℕ) (line : MacroLine) → index < length lines → line ≡ get_or lines index line → take (index + 1) lines ≡ take index lines ++ line ∷ []
-more_at lines index line h e = take_more lines index line h ∙ ap (λ (l : MacroLine). take index lines ++ l ∷ []) (sym e)
 
 -- the first of the macros that are left keeps the rule, and so do the others
 pub kept_line : (rule : CrossRule) (all lines : List MacroLine) (index : ℕ) (line : MacroLine) → index < length lines → line ≡ get_or lines index line

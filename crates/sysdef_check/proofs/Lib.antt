@@ -1,13 +1,9 @@
-pub mod Counted
-pub mod Fronts
-pub mod Ancestors
-pub mod Types
-pub mod Kept
-pub mod Limits
-pub mod Indexed
-pub mod Defines
 pub mod Made
 pub mod Served
 pub mod Dbds
 pub mod Paths
 pub mod Servable
+pub mod Types
+pub mod Kept
+pub mod Limits
+pub mod Defines

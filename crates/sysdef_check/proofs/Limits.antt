@@ -11,13 +11,13 @@ use Rattle.model_system.specs.declared.pcb.Pcb.{Pcb}
 use Rattle.model_system.specs.declared.system_program.SystemProgram.{SystemProgram}
 use Rattle.system_types.specs.declared.definition.MacroLine.{MacroLine}
 use Rattle.system_types.specs.Definitions.{ends_well, is_end}
-use Rattle.sysdef_check.specs.declared.cross.CrossRule.{CrossRule}
-use Rattle.sysdef_check.specs.declared.cross.CrossRule.TheVariants.{WrongCount, SecondRegion}
-use Rattle.sysdef_check.specs.declared.lookups.MacroKind.{MacroKind}
-use Rattle.sysdef_check.specs.declared.lookups.MacroKind.TheVariants.{Databases, Codes, Terminals, Regions, Programs}
-use Rattle.sysdef_check.specs.Counts.{breaks_count}
-use Rattle.sysdef_check.specs.Cross.{breaks_region, broken_line, first_line}
-use Rattle.sysdef_check.specs.Lookups.{count, has, is_of}
+use Rattle.sysdef_rules.specs.declared.cross.CrossRule.{CrossRule}
+use Rattle.sysdef_rules.specs.declared.cross.CrossRule.TheVariants.{WrongCount, SecondRegion}
+use Rattle.sysdef_rules.specs.declared.lookups.MacroKind.{MacroKind}
+use Rattle.sysdef_rules.specs.declared.lookups.MacroKind.TheVariants.{Databases, Codes, Terminals, Regions, Programs}
+use Rattle.sysdef_rules.specs.Counts.{breaks_count}
+use Rattle.sysdef_rules.specs.Cross.{breaks_region, broken_line, first_line}
+use Rattle.sysdef_rules.specs.Lookups.{count, has, is_of}
 use Rattle.sysdef_check.specs.Systems.{and_then, code_in, codes_in, psb_after, database_in, databases_in, region_in, regions_in, terminal_in, terminals_in, pcbs_for, program_in, programs_in, programs_with}
 use Rattle.sysdef_check.proofs.Made.{either_false}
 use Rattle.sysdef_check.proofs.Kept.{kept_count, kept_region, neither}

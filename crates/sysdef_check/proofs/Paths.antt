@@ -20,11 +20,11 @@ use Rattle.system_types.specs.declared.definition.Macro.TheVariants.{Segment}
 use Rattle.system_types.specs.declared.definition.MacroLine.{MacroLine}
 use Rattle.system_types.specs.Calls.{segment_name}
 use Rattle.system_types.proofs.Indexed.{found_at}
-use Rattle.sysdef_check.specs.declared.lookups.MacroKind.TheVariants.{Segments}
-use Rattle.sysdef_check.specs.declared.segments.SegmentRule.TheVariants.{ParentAstray}
-use Rattle.sysdef_check.specs.Calls.{fill_levels, go_down, has_insert_form, is_below, is_parent}
-use Rattle.sysdef_check.specs.Lookups.{has, is_of, is_segment, number_of, parent_at, parent_named}
-use Rattle.sysdef_check.specs.Segments.{breaks_parent, breaks_segment, first_segment, own_line}
+use Rattle.sysdef_rules.specs.declared.lookups.MacroKind.TheVariants.{Segments}
+use Rattle.sysdef_rules.specs.declared.segments.SegmentRule.TheVariants.{ParentAstray}
+use Rattle.sysdef_rules.specs.Calls.{fill_levels, go_down, has_insert_form, is_below, is_parent}
+use Rattle.sysdef_rules.specs.Lookups.{has, is_of, is_segment, number_of, parent_at, parent_named}
+use Rattle.sysdef_rules.specs.Segments.{breaks_parent, breaks_segment, first_segment, own_line}
 use Rattle.sysdef_check.specs.Systems.{and_then, parent_number, type_in, types_in}
 use Rattle.sysdef_check.proofs.Kept.{and_parts, neither, not_broken}
 use Rattle.sysdef_check.proofs.Made.{none_holds}

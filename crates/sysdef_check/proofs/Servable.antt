@@ -23,19 +23,19 @@ use Rattle.system_types.specs.declared.definition.Macro.TheVariants.{Application
 use Rattle.system_types.specs.declared.definition.MacroLine.{MacroLine}
 use Rattle.system_types.specs.Calls.{is_database_function, segment_name}
 use Rattle.system_types.specs.Valid.{IsCallOn, IsDatabaseCall, IsPcbOf, IsServable}
-use Rattle.sysdef_check.specs.declared.calls.CallRule.{CallRule}
-use Rattle.sysdef_check.specs.declared.calls.CallRule.TheVariants.{PcbMissing, SsaAstray, NoInsertPath}
-use Rattle.sysdef_check.specs.declared.cross.CrossRule.TheVariants.{DatabaseUnknown, OfCalls, OfSegments, WrongCount}
-use Rattle.sysdef_check.specs.declared.lookups.MacroKind.TheVariants.{Pcbs, Segments}
-use Rattle.sysdef_check.specs.declared.segments.SegmentRule.TheVariants.{ParentAstray}
-use Rattle.sysdef_check.specs.Calls.{breaks_call, broken_by_call, broken_call, go_down, is_insert_path, misses_path, pcb_has, segments_at, segments_in, serves, strays}
-use Rattle.sysdef_check.specs.Counts.{past_limit}
-use Rattle.sysdef_check.specs.Cross.{breaks_pcb, broken_line, first_line}
-use Rattle.sysdef_check.specs.Lookups.{behind, front, has, is_application, is_database, is_of, is_segment, numbered, pcbs_of, segments_of}
-use Rattle.sysdef_check.specs.Segments.{first_segment}
+use Rattle.sysdef_rules.specs.declared.calls.CallRule.{CallRule}
+use Rattle.sysdef_rules.specs.declared.calls.CallRule.TheVariants.{PcbMissing, SsaAstray, NoInsertPath}
+use Rattle.sysdef_rules.specs.declared.cross.CrossRule.TheVariants.{DatabaseUnknown, OfCalls, OfSegments, WrongCount}
+use Rattle.sysdef_rules.specs.declared.lookups.MacroKind.TheVariants.{Pcbs, Segments}
+use Rattle.sysdef_rules.specs.declared.segments.SegmentRule.TheVariants.{ParentAstray}
+use Rattle.sysdef_rules.specs.Calls.{breaks_call, broken_by_call, broken_call, go_down, is_insert_path, misses_path, pcb_has, segments_at, segments_in, serves, strays}
+use Rattle.sysdef_rules.specs.Counts.{past_limit}
+use Rattle.sysdef_rules.specs.Cross.{breaks_pcb, broken_line, first_line}
+use Rattle.sysdef_rules.specs.Lookups.{behind, front, has, is_application, is_database, is_of, is_segment, numbered, pcbs_of, segments_of}
+use Rattle.sysdef_rules.specs.Segments.{first_segment}
 use Rattle.sysdef_check.specs.Systems.{and_then, databases_in, pcb_in, pcbs_for, pcbs_in, program_in, programs_in, types_in}
 use Rattle.sysdef_check.proofs.Dbds.{database_found, database_numbered, parents_kept}
-use Rattle.sysdef_check.proofs.Fronts.{front_all, front_holds}
+use Rattle.sysdef_rules.proofs.Fronts.{front_all, front_holds}
 use Rattle.sysdef_check.proofs.Kept.{and_parts, kept_count, neither, not_broken}
 use Rattle.sysdef_check.proofs.Made.{made_holds, none_holds, short_list}
 use Rattle.sysdef_check.proofs.Paths.{all_there, in_order, is_named}

@@ -15,9 +15,9 @@ use Rattle.model_system.specs.Jobs.{program_at}
 use Rattle.system_types.specs.declared.definition.Macro.{Macro}
 use Rattle.system_types.specs.declared.definition.Macro.TheVariants.{Application, Transaction, Program}
 use Rattle.system_types.specs.declared.definition.MacroLine.{MacroLine}
-use Rattle.sysdef_check.specs.declared.cross.CrossRule.TheVariants.{CodeTwice, ProgramMissing}
-use Rattle.sysdef_check.specs.Cross.{breaks_application, breaks_code, broken_line, first_line}
-use Rattle.sysdef_check.specs.Lookups.{has, is_code, is_program, is_terminal}
+use Rattle.sysdef_rules.specs.declared.cross.CrossRule.TheVariants.{CodeTwice, ProgramMissing}
+use Rattle.sysdef_rules.specs.Cross.{breaks_application, breaks_code, broken_line, first_line}
+use Rattle.sysdef_rules.specs.Lookups.{has, is_code, is_program, is_terminal}
 use Rattle.sysdef_check.specs.Systems.{and_then, code_in, codes_in, psb_after, pcbs_for, program_in, programs_in}
 use Rattle.sysdef_check.proofs.Kept.{neither, not_broken}
 use Rattle.sysdef_check.proofs.Made.{either_false, made_holds, none_holds}

@@ -9,10 +9,10 @@ use Rattle.system_types.specs.declared.definition.Macro.{Macro}
 use Rattle.system_types.specs.declared.definition.Macro.TheVariants.{Segment}
 use Rattle.system_types.specs.declared.definition.MacroLine.{MacroLine}
 use Rattle.system_types.specs.Definitions.{IsInRange}
-use Rattle.sysdef_check.specs.Lookups.{is_segment}
-use Rattle.sysdef_check.specs.Segments.{breaks_key, breaks_parent}
+use Rattle.sysdef_rules.specs.Lookups.{is_segment}
+use Rattle.sysdef_rules.specs.Segments.{breaks_key, breaks_parent}
 use Rattle.sysdef_check.specs.Systems.{and_then, parent_number, type_in, types_in, database_in, databases_in}
-use Rattle.sysdef_check.proofs.Kept.{cut_at, more_at}
+use Rattle.sysdef_rules.proofs.Cuts.{cut_at, more_at}
 use Rattle.tm_types.specs.declared.dbd.Dbd.{Dbd}
 
 -- a place within a list as a number from 1

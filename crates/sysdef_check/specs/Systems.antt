@@ -4,19 +4,17 @@ use Rattle.std.specs.Option.{option_map_or}
 use Rattle.std.specs.Str.{bytes_eq}
 use Rattle.tm_types.specs.declared.dbd.Dbd.{Dbd}
 use Rattle.tm_types.specs.declared.dbd.SegType.{SegType}
-use Rattle.sysdef_check.specs.declared.system_check.CrossRefused.{CrossRefused}
-use Rattle.sysdef_check.specs.declared.system_check.CrossRefused.TheVariants.{BadCross, Memory}
 use Rattle.system_types.specs.declared.definition.Macro.{Macro}
 use Rattle.system_types.specs.declared.definition.Macro.TheVariants.{Control, Database, Segment, Application, DatabasePcb, DestinationPcb, ModifiablePcb, Transaction, Terminal, Region, Program}
 use Rattle.system_types.specs.declared.definition.MacroLine.{MacroLine}
-use Rattle.sysdef_check.specs.declared.lookups.MacroKind.TheVariants.{Segments}
+use Rattle.sysdef_rules.specs.declared.lookups.MacroKind.TheVariants.{Segments}
 use Rattle.model_system.specs.declared.code.Code.{Code}
 use Rattle.model_system.specs.declared.pcb.Pcb.{Pcb}
 use Rattle.model_system.specs.declared.pcb.Pcb.TheVariants as pcb
 use Rattle.model_system.specs.declared.system_program.SystemProgram.{SystemProgram}
 use Rattle.model_system.specs.System.{System}
-use Rattle.sysdef_check.specs.Lookups.{front, is_segment, number_of, pcbs_of}
-use Rattle.sysdef_check.specs.Cross.{cross_rules}
+use Rattle.sysdef_rules.specs.Lookups.{front, is_segment, number_of, pcbs_of}
+use Rattle.sysdef_rules.specs.Cross.{cross_rules}
 
 -- the value before those that follow, where there is one
 abbrev pub and_then : {A : Type 0} → Option A → List A → List A
@@ -136,9 +134,3 @@ made system (Err fault) = Err fault
 -- the system, or the rule that is broken first and its line
 unfoldable pub checked : List MacroLine → Result System (ℕ × ℕ)
 checked lines = made (system_of lines) (cross_rules lines)
-
--- The answer is the system, or the rule that is broken first, unless memory ran out.
-abbrev pub Answers : {X : Type 0} → Result X CrossRefused → Result X (ℕ × ℕ) → Type 0
-Answers (Ok value) read = read ≡ Ok value
-Answers (Err (BadCross line rule)) read = read ≡ Err (line, rule)
-Answers (Err Memory) read = Unit {0}

@@ -2,15 +2,14 @@
 ghost use Rattle.std.specs.Prelude.{◌≡◌, ◌<◌, Ok, None, IfOk, length, map};
 ghost use Rattle.system_types.specs.Definitions.{IsDefinition};
 ghost use Rattle.system_types.specs.Parts.{parts_of};
-ghost use Rattle.sysdef_check.specs.Cross.{cross_rules};
+ghost use Rattle.sysdef_rules.specs.Cross.{cross_rules};
 ghost use Rattle.sysdef_check.specs.Systems as spec;
 
 use crate::databases::{databases_in, pcbs_in};
-use crate::lookups::pcbs_of;
-use crate::{Macro, MacroLine};
 use model_system::{Classes, Code, Pcbs, SystemProgram};
 use std::alloc::{AllocError, Global};
-use system_types::{System, SystemParts};
+use sysdef_rules::pcbs_of;
+use system_types::{Macro, MacroLine, System, SystemParts};
 use tm_types::{Dbd, Name};
 
 /// The system that the macros define, which break no rule among each other.

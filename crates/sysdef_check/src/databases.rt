@@ -2,20 +2,20 @@
 ghost use Rattle.std.specs.Prelude.{◌≡◌, ◌+◌, ◌<◌, ◌≤◌, [], ◌++◌, true, false, None, IfOk, IfSome, OnOk, IsTrue, All, length, position};
 ghost use Rattle.std.specs.List.{list_all};
 ghost use Rattle.std.specs.Str.{bytes_eq};
-ghost use Rattle.sysdef_check.specs.declared.cross.CrossRule.TheVariants.{OfSegments, WrongCount};
-ghost use Rattle.sysdef_check.specs.declared.lookups.MacroKind.TheVariants.{Segments};
-ghost use Rattle.sysdef_check.specs.declared.segments.SegmentRule.TheVariants.{ParentAstray, KeyTooLong};
-ghost use Rattle.sysdef_check.specs.Counts.{past_limit};
-ghost use Rattle.sysdef_check.specs.Cross.{first_line};
-ghost use Rattle.sysdef_check.specs.Lookups.{is_of};
+ghost use Rattle.sysdef_rules.specs.declared.cross.CrossRule.TheVariants.{OfSegments, WrongCount};
+ghost use Rattle.sysdef_rules.specs.declared.lookups.MacroKind.TheVariants.{Segments};
+ghost use Rattle.sysdef_rules.specs.declared.segments.SegmentRule.TheVariants.{ParentAstray, KeyTooLong};
+ghost use Rattle.sysdef_rules.specs.Counts.{past_limit};
+ghost use Rattle.sysdef_rules.specs.Cross.{first_line};
+ghost use Rattle.sysdef_rules.specs.Lookups.{is_of};
 ghost use Rattle.system_types.specs.Definitions.{IsInRange};
-ghost use Rattle.sysdef_check.specs.Segments.{breaks_key, breaks_parent, broken_by_segment, first_segment};
+ghost use Rattle.sysdef_rules.specs.Segments.{breaks_key, breaks_parent, broken_by_segment, first_segment};
 ghost use Rattle.sysdef_check.specs.Systems as spec;
 
-use crate::lookups::{MacroKind, front, segment_number};
-use crate::{Macro, MacroLine};
 use model_system::{Pcb, Pcbs};
 use std::alloc::{AllocError, Global};
+use sysdef_rules::{MacroKind, front, segment_number};
+use system_types::{Macro, MacroLine};
 use tm_types::{Dbd, Name, SegType, SegTypes};
 
 fn parent_number(before: &[MacroLine], parent: &Option<Name>) -> u8

@@ -1,25 +1,16 @@
-//! The rules that the macros of a system definition keep among each other, and the system that they
-//! define.
+//! The system that a definition defines, where its macros keep the rules among each other.
 //!
 //! `check` answers the system exactly where no rule is broken, else the lowest rule that is, with its
-//! first line. `specs/Cross.antt` has the rules, `specs/Systems.antt` what the macros define.
+//! first line. `specs/Systems.antt` has what the macros define; the rules are those of `sysdef_rules`.
 #![tactic(auto)]
 
-pub use calls::CallRule;
-pub use cross::CrossRule;
-pub use segments::SegmentRule;
-pub use system_check::{CrossRefused, check};
+pub use sysdef_rules::{CallRule, CrossRefused, CrossRule, SegmentRule};
+pub use system_check::check;
 pub use system_types::{
     Classes, Code, CodeState, Codes, Definition, Macro, MacroLine, Pcb, Pcbs, SegmentKind, System,
     SystemProgram, Transaction,
 };
 
 mod build;
-mod calls;
-mod counts;
-mod cross;
 mod databases;
-mod lookups;
-mod named;
-mod segments;
 mod system_check;

@@ -1,22 +1,12 @@
 //! A definition is checked.
 ghost use Rattle.std.specs.Prelude.{◌≡◌};
-ghost use Rattle.sysdef_check.specs.Systems.{Answers, checked};
+ghost use Rattle.sysdef_check.specs.Systems.{checked};
+ghost use Rattle.sysdef_rules.specs.Refused.{Answers};
 
 use crate::build::system_of;
-use crate::cross::cross_rules;
 use std::alloc::Global;
+use sysdef_rules::{CrossRefused, cross_rules};
 use system_types::{Definition, System};
-use thiserror::Error;
-
-/// Why a definition is refused.
-#[derive(Debug, Drop, Error)]
-pub enum CrossRefused {
-    /// The lowest line that breaks the lowest rule that is broken, and this rule.
-    #[error("line {0} breaks cross rule {1}")]
-    BadCross(u32, u8),
-    #[error("no memory")]
-    Memory,
-}
 
 /// The system that the definition defines.
 ///

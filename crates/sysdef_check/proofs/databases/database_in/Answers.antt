@@ -1,8 +1,8 @@
 use Rattle.std.proofs.Common.{All, List, sym, subst}
 use Rattle.system_types.specs.declared.definition.MacroLine.{MacroLine}
 use Rattle.system_types.specs.Definitions.{IsInRange}
-use Rattle.sysdef_check.specs.declared.lookups.MacroKind.TheVariants.{Segments}
-use Rattle.sysdef_check.proofs.Fronts.{front_holds}
+use Rattle.sysdef_rules.specs.declared.lookups.MacroKind.TheVariants.{Segments}
+use Rattle.sysdef_rules.proofs.Fronts.{front_holds}
 use Rattle.sysdef_check.proofs.databases.database_in.Goals as goal
 
 pub types_in-requires-clause-range : goal.types_in-requires-clause-range

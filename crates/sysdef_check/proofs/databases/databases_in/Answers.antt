@@ -1,6 +1,6 @@
 use Rattle.std.proofs.Common.{◌+◌, take, drop}
-use Rattle.sysdef_check.specs.declared.cross.CrossRule.TheVariants.{OfSegments, WrongCount}
-use Rattle.sysdef_check.specs.declared.segments.SegmentRule.TheVariants.{ParentAstray, KeyTooLong}
+use Rattle.sysdef_rules.specs.declared.cross.CrossRule.TheVariants.{OfSegments, WrongCount}
+use Rattle.sysdef_rules.specs.declared.segments.SegmentRule.TheVariants.{ParentAstray, KeyTooLong}
 use Rattle.system_types.specs.Definitions.{IsInRange}
 use Rattle.sysdef_check.specs.Systems.{databases_in}
 use Rattle.sysdef_check.proofs.Kept.{behind_all, behind_index, kept_count, kept_database, kept_line}

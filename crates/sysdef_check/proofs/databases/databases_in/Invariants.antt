@@ -1,7 +1,7 @@
 use Rattle.std.proofs.Common.{◌≡◌, ◌++◌, None, take, drop}
-use Rattle.sysdef_check.specs.declared.cross.CrossRule.TheVariants.{OfSegments, WrongCount}
-use Rattle.sysdef_check.specs.declared.segments.SegmentRule.TheVariants.{ParentAstray, KeyTooLong}
-use Rattle.sysdef_check.specs.Cross.{first_line}
+use Rattle.sysdef_rules.specs.declared.cross.CrossRule.TheVariants.{OfSegments, WrongCount}
+use Rattle.sysdef_rules.specs.declared.segments.SegmentRule.TheVariants.{ParentAstray, KeyTooLong}
+use Rattle.sysdef_rules.specs.Cross.{first_line}
 use Rattle.sysdef_check.specs.Systems as spec
 use Rattle.sysdef_check.proofs.databases.databases_in.Given as goal
 

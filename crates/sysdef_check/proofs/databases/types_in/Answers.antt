@@ -1,7 +1,7 @@
 use Rattle.std.proofs.Common.{[], arith}
-use Rattle.sysdef_check.specs.declared.lookups.MacroKind.TheVariants.{Segments}
-use Rattle.sysdef_check.specs.declared.segments.SegmentRule.TheVariants.{ParentAstray, KeyTooLong}
-use Rattle.sysdef_check.specs.Lookups.{is_of}
+use Rattle.sysdef_rules.specs.declared.lookups.MacroKind.TheVariants.{Segments}
+use Rattle.sysdef_rules.specs.declared.segments.SegmentRule.TheVariants.{ParentAstray, KeyTooLong}
+use Rattle.sysdef_rules.specs.Lookups.{is_of}
 use Rattle.system_types.specs.Definitions.{IsInRange}
 use Rattle.sysdef_check.specs.Systems.{types_in}
 use Rattle.sysdef_check.proofs.Kept.{at_index, kept_segment, kept_test}

@@ -1,9 +1,9 @@
 use Rattle.std.proofs.Common.{◌≡◌, ◌++◌, [], None, IsTrue, length, take, drop}
 use Rattle.std.specs.List.{list_all}
-use Rattle.sysdef_check.specs.declared.lookups.MacroKind.TheVariants.{Segments}
-use Rattle.sysdef_check.specs.declared.segments.SegmentRule.TheVariants.{ParentAstray, KeyTooLong}
-use Rattle.sysdef_check.specs.Lookups.{is_of}
-use Rattle.sysdef_check.specs.Segments.{first_segment}
+use Rattle.sysdef_rules.specs.declared.lookups.MacroKind.TheVariants.{Segments}
+use Rattle.sysdef_rules.specs.declared.segments.SegmentRule.TheVariants.{ParentAstray, KeyTooLong}
+use Rattle.sysdef_rules.specs.Lookups.{is_of}
+use Rattle.sysdef_rules.specs.Segments.{first_segment}
 use Rattle.sysdef_check.specs.Systems as spec
 use Rattle.sysdef_check.proofs.databases.types_in.Given as goal
 

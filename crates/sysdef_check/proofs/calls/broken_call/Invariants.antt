@@ -1,6 +1,0 @@
-use Rattle.std.proofs.Common.{◌≡◌, drop}
-use Rattle.sysdef_check.specs.Calls as spec
-use Rattle.sysdef_check.proofs.calls.broken_call.Given as goal
-
-abbrev pub invariant-loop-line : goal.invariant-loop-line
-invariant-loop-line l = spec.broken_call l.rule l.all l.pcbs (drop l.line-index l.lines) ≡ spec.broken_call l.rule l.all l.pcbs l.lines

@@ -1,6 +1,0 @@
-use Rattle.std.proofs.Common.{◌≡◌, drop}
-use Rattle.sysdef_check.specs.Cross as spec
-use Rattle.sysdef_check.proofs.cross.keep_all.Given as goal
-
-abbrev pub invariant-loop-rule : goal.invariant-loop-rule
-invariant-loop-rule l = spec.keeps_all (drop l.rule-index l.rules) l.all ≡ spec.keeps_all l.rules l.all

@@ -1,6 +1,0 @@
-use Rattle.std.proofs.Common.{◌≡◌, drop, find}
-use Rattle.sysdef_check.specs.Lookups as spec
-use Rattle.sysdef_check.proofs.lookups.segment_named.Given as goal
-
-abbrev pub invariant-loop-line : goal.invariant-loop-line
-invariant-loop-line l = find (λ line. spec.is_segment l.name line.content) (drop l.line-index l.segments) ≡ find (λ line. spec.is_segment l.name line.content) l.segments

@@ -1,0 +1,130 @@
+-- The rules that macros keep among each other.
+use Rattle.std.specs.Prelude.{ℕ, Bool, false, ◌&&◌, ◌||◌, not, List, [], ◌∷◌, ◌++◌, nat_le, Option, Some, None, Result, Ok, Err}
+use Rattle.std.specs.Option.{option_or}
+use Rattle.system_types.specs.declared.definition.Macro.{Macro}
+use Rattle.system_types.specs.declared.definition.Macro.TheVariants.{Database, Application, DatabasePcb, DestinationPcb, Transaction, Terminal, Region, Program}
+use Rattle.system_types.specs.declared.definition.MacroLine.{MacroLine}
+use Rattle.sysdef_rules.specs.declared.lookups.MacroKind.TheVariants.{Databases, Regions}
+use Rattle.sysdef_rules.specs.declared.segments.SegmentRule.TheVariants.{Twice, ParentAstray, KeyTooLong, LevelTooHigh}
+use Rattle.sysdef_rules.specs.declared.calls.CallRule.TheVariants.{PcbMissing, SsaAstray, NoInsertPath}
+use Rattle.sysdef_rules.specs.declared.cross.CrossRule.{CrossRule}
+use Rattle.sysdef_rules.specs.declared.cross.CrossRule.TheVariants.{DatabaseTwice, OfSegments, PsbTwice, DatabaseUnknown, DestinationUnknown, CodeTwice, TerminalTwice, ProgramMissing, ProgramAstray, OfCalls, WrongCount, SecondRegion}
+use Rattle.sysdef_rules.specs.Lookups.{has, count, is_of, is_database, is_application, is_code, is_terminal, is_program}
+use Rattle.sysdef_rules.specs.Segments.{own_line, broken_by_segment}
+use Rattle.sysdef_rules.specs.Calls.{broken_by_call}
+use Rattle.sysdef_rules.specs.Counts.{broken_by_count}
+
+-- Each rule says whether a macro breaks it, among all macros and behind those before it. The rules on
+-- segments, on calls and on counts name the line of a segment, of a call or of a PCB too.
+
+-- a database stands once
+unfoldable pub breaks_database : List MacroLine → Macro → Bool
+breaks_database before (Database name roots) = has (is_database name) before
+breaks_database before _ = false
+
+-- a PSB stands once
+unfoldable pub breaks_psb : List MacroLine → Macro → Bool
+breaks_psb before (Application psb) = has (is_application psb) before
+breaks_psb before _ = false
+
+-- the database of a PCB stands somewhere
+unfoldable pub breaks_pcb : List MacroLine → Macro → Bool
+breaks_pcb all (DatabasePcb database options) = not (has (is_database database) all)
+breaks_pcb all _ = false
+
+-- the destination of a PCB is a terminal or a code
+unfoldable pub breaks_destination : List MacroLine → Macro → Bool
+breaks_destination all (DestinationPcb destination) = not (has (is_terminal destination) all || has (is_code destination) all)
+breaks_destination all _ = false
+
+-- a code stands once, and is no terminal
+unfoldable pub breaks_code : List MacroLine → List MacroLine → Macro → Bool
+breaks_code all before (Transaction transaction) = has (is_code transaction.code) before || has (is_terminal transaction.code) all
+breaks_code all before _ = false
+
+-- a terminal stands once
+unfoldable pub breaks_terminal : List MacroLine → Macro → Bool
+breaks_terminal before (Terminal name) = has (is_terminal name) before
+breaks_terminal before _ = false
+
+-- an APPLCTN has its PROGRAM
+unfoldable pub breaks_application : List MacroLine → Macro → Bool
+breaks_application all (Application psb) = not (has (is_program psb) all)
+breaks_application all _ = false
+
+-- a PROGRAM has its APPLCTN, and stands once
+unfoldable pub breaks_program : List MacroLine → List MacroLine → Macro → Bool
+breaks_program all before (Program name lines) = not (has (is_application name) all) || has (is_program name) before
+breaks_program all before _ = false
+
+-- where there is a database there is one region, until several regions can work on databases
+unfoldable pub breaks_region : List MacroLine → List MacroLine → Macro → Bool
+breaks_region all before (Region classes) = has (is_of Databases) all && nat_le 1 (count Regions before)
+breaks_region all before _ = false
+
+-- the lowest line of a macro, and of those that belong to it, that breaks the rule
+unfoldable pub broken_line : CrossRule → List MacroLine → List MacroLine → MacroLine → List MacroLine → Option ℕ
+broken_line DatabaseTwice all before line behind = own_line line (breaks_database before line.content)
+broken_line (OfSegments rule) all before line behind = broken_by_segment rule line line.content behind
+broken_line PsbTwice all before line behind = own_line line (breaks_psb before line.content)
+broken_line DatabaseUnknown all before line behind = own_line line (breaks_pcb all line.content)
+broken_line DestinationUnknown all before line behind = own_line line (breaks_destination all line.content)
+broken_line CodeTwice all before line behind = own_line line (breaks_code all before line.content)
+broken_line TerminalTwice all before line behind = own_line line (breaks_terminal before line.content)
+broken_line ProgramMissing all before line behind = own_line line (breaks_application all line.content)
+broken_line ProgramAstray all before line behind = own_line line (breaks_program all before line.content)
+broken_line (OfCalls rule) all before line behind = broken_by_call rule all line.content
+broken_line WrongCount all before line behind = broken_by_count all before line behind
+broken_line SecondRegion all before line behind = own_line line (breaks_region all before line.content)
+
+-- the number of a rule
+abbrev pub number_of : CrossRule → ℕ
+number_of DatabaseTwice = 1
+number_of (OfSegments Twice) = 2
+number_of (OfSegments ParentAstray) = 3
+number_of (OfSegments KeyTooLong) = 4
+number_of (OfSegments LevelTooHigh) = 5
+number_of PsbTwice = 6
+number_of DatabaseUnknown = 7
+number_of DestinationUnknown = 8
+number_of CodeTwice = 9
+number_of TerminalTwice = 10
+number_of ProgramMissing = 11
+number_of ProgramAstray = 12
+number_of (OfCalls PcbMissing) = 13
+number_of (OfCalls SsaAstray) = 14
+number_of (OfCalls NoInsertPath) = 15
+number_of WrongCount = 17
+number_of SecondRegion = 19
+
+-- The lowest line that breaks a rule. What belongs to a macro stands behind it and before the next
+-- macro that has such lines, so the first macro that breaks the rule has the lowest line.
+abbrev pub first_line : CrossRule → List MacroLine → List MacroLine → List MacroLine → Option ℕ
+first_line rule all before [] = None
+first_line rule all before (line ∷ lines) = option_or (broken_line rule all before line lines) (first_line rule all (before ++ line ∷ []) lines)
+
+abbrev pub unless_broken : CrossRule → Option ℕ → Result (Unit {0}) (ℕ × ℕ)
+unless_broken rule (Some line) = Err (line, number_of rule)
+unless_broken rule None = Ok tt
+
+unfoldable pub keeps : CrossRule → List MacroLine → Result (Unit {0}) (ℕ × ℕ)
+keeps rule all = unless_broken rule (first_line rule all [] all)
+
+abbrev pub before_others : Result (Unit {0}) (ℕ × ℕ) → Result (Unit {0}) (ℕ × ℕ) → Result (Unit {0}) (ℕ × ℕ)
+before_others (Ok _) others = others
+before_others (Err fault) others = Err fault
+
+-- the lowest rule of the list that is broken, and of it the lowest line
+abbrev pub keeps_all : List CrossRule → List MacroLine → Result (Unit {0}) (ℕ × ℕ)
+keeps_all [] all = Ok tt
+keeps_all (rule ∷ rules) all = before_others (keeps rule all) (keeps_all rules all)
+
+-- the rules in the order of their numbers
+abbrev pub rules : List CrossRule
+rules =
+    DatabaseTwice ∷ OfSegments Twice ∷ OfSegments ParentAstray ∷ OfSegments KeyTooLong ∷ OfSegments LevelTooHigh ∷ PsbTwice ∷ DatabaseUnknown
+    ∷ DestinationUnknown ∷ CodeTwice ∷ TerminalTwice ∷ ProgramMissing ∷ ProgramAstray ∷ OfCalls PcbMissing ∷ OfCalls SsaAstray ∷ OfCalls NoInsertPath
+    ∷ WrongCount ∷ SecondRegion ∷ []
+
+unfoldable pub cross_rules : List MacroLine → Result (Unit {0}) (ℕ × ℕ)
+cross_rules all = keeps_all rules all

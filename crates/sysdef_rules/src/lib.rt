@@ -1,0 +1,19 @@
+//! The rules that the macros of a system definition keep among each other.
+//!
+//! `cross_rules` tells the lowest rule that is broken, with its first line. `specs/Cross.antt` has the
+//! rules in the order of their numbers.
+#![tactic(auto)]
+
+pub use calls::CallRule;
+pub use cross::{CrossRule, cross_rules};
+pub use lookups::{MacroKind, front, pcbs_of, segment_number};
+pub use refused::CrossRefused;
+pub use segments::SegmentRule;
+
+mod calls;
+mod counts;
+mod cross;
+mod lookups;
+mod named;
+mod refused;
+mod segments;
