@@ -1,3 +1,4 @@
+//! What a call comes to, before its record is set.
 ghost use Rattle.std.specs.Prelude.{◌≡◌, None, Some};
 ghost use Rattle.tm_types.specs.declared.status.Status.TheVariants.{Blank};
 

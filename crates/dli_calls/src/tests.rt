@@ -1,3 +1,4 @@
+//! Worked calls, and calls at the limits of a database.
 ghost use Rattle.std.specs.Prelude.{◌≡◌, ◌≤◌, length, IsTrue, IsSomeAnd};
 ghost use Rattle.std.specs.List.{list_all};
 ghost use Rattle.tm_types.specs.Segment.{is_printable};

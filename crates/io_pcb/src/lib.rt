@@ -1,4 +1,7 @@
 //! A program's calls on PCB 0 and on its output PCBs.
+//!
+//! Each call answers and leaves what `model_message` defines. Want of memory changes nothing, and what
+//! only moves on, chooses a destination or takes output back needs no memory.
 #![tactic(auto)]
 
 pub use output::Output;

@@ -1,3 +1,4 @@
+//! A call on a database, what it answers, and where a PCB stands.
 ghost use Rattle.std.specs.Prelude.{◌≡◌, None};
 
 use model_rows::Path;

@@ -1,5 +1,7 @@
 //! Database calls, as every layer that works with databases speaks of them: what a call asks for,
 //! where a PCB stands, and what a call answers and leaves.
+//!
+//! The definitions are over the whole list of a database's rows. The crate has no code.
 #![tactic(auto)]
 
 pub use call::{DbCall, Performed, Position, Reach, RowsLimit};

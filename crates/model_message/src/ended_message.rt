@@ -1,3 +1,4 @@
+//! A message that a program has ended.
 use tm_types::{Name, Segments};
 
 /// A message that a program has ended.

@@ -1,3 +1,4 @@
+//! A PCB within the work on a message.
 use model_system::Pcb;
 use tm_types::{Name, Segments};
 

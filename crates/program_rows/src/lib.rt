@@ -1,4 +1,8 @@
 //! The databases with the changes of the work on one message, and the calls on them.
+//!
+//! A call gives and leaves what `model_dli` defines, over the rows of its database; backing out gives
+//! back what was committed, slots included. A call that leads to an abend, and want of memory, change
+//! nothing.
 #![tactic(auto)]
 
 pub use answer::{Answered, DataAnswer};

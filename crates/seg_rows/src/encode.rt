@@ -1,3 +1,4 @@
+//! A record is written as bytes.
 ghost use Rattle.std.specs.Prelude.{◌≡◌, ◌≤◌, ◌++◌, ◌∷◌, length, IfOk, IfErr, OnOk};
 ghost use Rattle.model_rows.specs.Record.{spelling, row_spelling, record_limit};
 ghost use Rattle.seg_rows.specs.EncodeRefused.{RefusesRecord};

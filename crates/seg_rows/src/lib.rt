@@ -1,4 +1,7 @@
 //! Records of a database: their images, their bytes, and the rows that a database holds.
+//!
+//! Bytes are read exactly where they spell a record, and rows stay those of a database whatever is set
+//! in them. The definitions are those of `model_rows`.
 #![tactic(auto)]
 
 pub use decode::{DecodeFault, decode_record};

@@ -1,3 +1,4 @@
+//! The rows of a database, kept by the keys of their roots.
 ghost use Rattle.std.specs.Prelude.{◌≡◌, [], IfOk, find, slice_get, not, is_some, nat_le, ◌&&◌};
 ghost use Rattle.std.specs.Ordering.{is_lt};
 ghost use Rattle.std.specs.BTreeMap.{keys, get_by, btree_map_len, IsOrdered};

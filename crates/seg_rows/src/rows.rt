@@ -1,3 +1,4 @@
+//! The rows of a database, however they are kept.
 ghost use Rattle.std.specs.Prelude.{◌≡◌, ◌↔◌, [], IfSome, IfErr, IsNone, IfNone, OnOk, OnErr, None, Option};
 ghost use Rattle.std.specs.Option.{option_copied};
 

@@ -1,3 +1,4 @@
+//! Worked records, and rows at their limits.
 ghost use Rattle.std.specs.Prelude.{◌≡◌};
 
 use crate::{

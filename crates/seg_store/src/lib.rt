@@ -1,4 +1,8 @@
 //! The rows of a database by slots: a store keeps the image of each record in a slot of its own.
+//!
+//! Each record keeps its slot while it is there, a new one takes the lowest free slot, and the rows of
+//! all slots are at any time those of a database, as `model_rows` defines them. After `empty` nothing
+//! takes memory.
 #![tactic(auto)]
 
 pub use store::Store;

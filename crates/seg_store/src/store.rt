@@ -1,3 +1,4 @@
+//! The store of one database.
 ghost use Rattle.std.specs.Prelude.{◌≡◌, ◌↔◌, ◌*◌, ◌≤◌, ◌<◌, ◌≢◌, ℕ, [], IfOk, IfErr, OnOk, OnErr, IsOk, None, Some, slice_get, slice_set, length};
 ghost use Rattle.std.specs.Vec.{vec_len};
 ghost use Rattle.model_rows.specs.Record.{IsRecord, IsLongRecord, record_limit};

@@ -1,3 +1,4 @@
+//! The stores of a system.
 ghost use Rattle.std.specs.Prelude.{◌≡◌, ◌≤◌, ◌-◌, IfOk, Some, length, slice_get, IsTrue, ◌↔◌, []};
 ghost use Rattle.std.specs.Borrow.{sem};
 

@@ -1,3 +1,4 @@
+//! Which slots records take.
 ghost use Rattle.std.specs.Prelude.{◌≡◌, IfOk};
 
 use crate::{Store, Stores};

@@ -1,3 +1,4 @@
+//! What a unit keeps and takes back.
 ghost use Rattle.std.specs.Prelude.{◌≡◌, IfOk};
 
 use crate::{TouchRefused, Unit};

@@ -1,3 +1,4 @@
+//! The changes of a unit of work.
 ghost use Rattle.std.specs.Prelude.{◌≡◌, false, [], length, slice_get, IfErr, OnOk, OnErr};
 ghost use Rattle.std.specs.Option.{option_map};
 ghost use Rattle.std.specs.List.{AllByRecursion};
