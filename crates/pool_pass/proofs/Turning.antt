@@ -1,9 +1,8 @@
 -- What a turn tells of a value's list.
-use Rattle.std.proofs.Common.{◌≡◌, ℕ, zero, suc, List, [], ◌∷◌, ◌++◌, drop, map, length, refl, sym, ap, ◌∙◌, subst, Some}
-use Rattle.std.specs.List.{All}
+use Rattle.std.proofs.Common.{◌≡◌, ℕ, List, [], ◌∷◌, ◌++◌, drop, length, refl, sym, ap, ◌∙◌, subst}
 use Rattle.pool_pass.specs.Book.{items_of, under, tagged}
 use Rattle.pool_pass.specs.Rule.{Tells}
-use Rattle.pool_pass.specs.Passes.{PassState, kept, holding, book_in, IsShare, Lengthens}
+use Rattle.pool_pass.specs.Passes.{PassState, holding, book_in, IsShare, Lengthens}
 use Rattle.pool_pass.specs.declared.views.View.{View}
 use Rattle.pool_pass.proofs.Books.{All-first, items-append, items-tagged}
 

@@ -1,8 +1,8 @@
 -- Turns one after another until one answers true.
-use Rattle.std.proofs.Common.{◌≡◌, ℕ, List, [], ◌∷◌, ◌++◌, Bool, true, false, refl, sym, ap, ◌∙◌, subst, append_assoc, append-nil}
+use Rattle.std.proofs.Common.{◌≡◌, List, [], ◌∷◌, ◌++◌, Bool, true, false, refl, sym, ap, ◌∙◌, subst, append_assoc, append-nil}
 use Rattle.std.specs.List.{FoldsTo}
 use Rattle.std.proofs.lemmas.Fn.{FoldsTo-push}
-use Rattle.pool_pass.specs.Passes.{PassState, pass_of, with_list, number_in, list_in, IsPass, IsShare, IsTurn, TurnsOnce, IsTurnsUntil, Lengthens}
+use Rattle.pool_pass.specs.Passes.{PassState, pass_of, with_list, number_in, list_in, IsTurn, TurnsOnce, IsTurnsUntil, Lengthens}
 use Rattle.pool_pass.specs.declared.views.View.{View}
 
 module _ {T I F : Type 0} (list : T → List I) (calls : F → T → Bool → F → T → Type 0) where

@@ -1,5 +1,5 @@
 -- The book of a pool: all items of its value in their order, each with the number of the pass that added it.
-use Rattle.std.specs.Prelude.{◌≡◌, ℕ, ◌+◌, List, [], ◌∷◌, ◌++◌, map, cond, ◌==◌}
+use Rattle.std.specs.Prelude.{ℕ, ◌+◌, List, [], ◌∷◌, map, cond, ◌==◌}
 
 module _ {I : Type 0} where
   -- the items without their numbers: the list of the value

@@ -14,6 +14,7 @@ use std::marker::{Brand, PhantomData};
 use std::mem;
 
 /// The value of a pool, and the seat of the book, which has the items of the value's list.
+#[derive(Drop)]
 pub struct Locked<T: Listed, J: Naming> {
     value: T,
     book: Badge<View<T::Item>>,

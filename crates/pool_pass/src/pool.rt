@@ -21,6 +21,7 @@ use std::sync::{Condvar, Mutex, Wait};
 use tm_types::Memory;
 
 /// A value behind a lock, which remembers the turns of its passes.
+#[derive(Drop)]
 pub struct Pool<T: Listed, J: Naming> {
     lock: Mutex<Locked<T, J>>,
     changed: Condvar,
@@ -29,6 +30,7 @@ pub struct Pool<T: Listed, J: Naming> {
 }
 
 /// A pool and its passes.
+#[derive(Drop)]
 pub struct PoolParts<T: Listed, J: Naming> {
     pub pool: Pool<T, J>,
     pub passes: Passes<T::Item, J>,
@@ -42,6 +44,7 @@ pub struct OpenPool<T> {
 }
 
 /// A pool and its passes whose table has no name yet. To contracts it is its table and the list of its passes.
+#[derive(Drop)]
 pub struct NewPool<T: Listed> {
     value: T,
     book: Badge<View<T::Item>>,

@@ -1,6 +1,6 @@
-use Rattle.std.proofs.Common.{◌≡◌, ◌<◌, ◌≤◌, ◌+◌, ◌-◌, ◌++◌, ℕ, map, length}
+use Rattle.std.proofs.Common.{◌≡◌, ◌≤◌, ◌-◌, ◌++◌, map, length}
 use Rattle.std.specs.List.{All}
-use Rattle.std.specs.Vec.{vec_len, vec_capacity}
+use Rattle.std.specs.Vec.{vec_capacity}
 use Rattle.pool_pass.specs.Passes.{pass_of, passes_from, IsPass}
 use Rattle.pool_pass.proofs.pool.make_passes.Given as goal
 

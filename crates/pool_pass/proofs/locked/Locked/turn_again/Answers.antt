@@ -1,6 +1,6 @@
-use Rattle.std.proofs.Common.{◌≡◌, sym, ap, ◌∙◌, ◌++◌}
+use Rattle.std.proofs.Common.{sym, ap, ◌∙◌, ◌++◌}
 use Rattle.pool_pass.specs.Book.{items_of}
-use Rattle.pool_pass.specs.Passes.{pass_of, book_in, book_of, IsShare, IsNoted, Lengthens, number_in, list_in}
+use Rattle.pool_pass.specs.Passes.{pass_of, book_in, book_of, list_in}
 use Rattle.pool_pass.proofs.Turning.{share}
 use Rattle.pool_pass.proofs.locked.Locked.turn_again.Goals as goal
 

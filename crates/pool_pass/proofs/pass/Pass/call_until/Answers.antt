@@ -1,6 +1,6 @@
-use Rattle.std.proofs.Common.{ap, ◌∙◌, subst}
+use Rattle.std.proofs.Common.{subst}
 use Rattle.std.specs.Fn.{CalledAtMut}
-use Rattle.pool_pass.specs.Passes.{PassState, IsShare, IsTurnsUntil, Lengthens, with_list, list_in}
+use Rattle.pool_pass.specs.Passes.{PassState, IsShare, IsTurnsUntil, Lengthens, list_in}
 use Rattle.pool_pass.proofs.pass.Pass.call_until.Goals as goal
 
 pub turns_until-requires-clause-takes : goal.turns_until-requires-clause-takes

@@ -1,11 +1,11 @@
-use Rattle.std.proofs.Common.{◌≡◌, List, [], ◌∷◌, length, drop, refl, sym, ap, ◌∙◌, subst, rules, arith}
+use Rattle.std.proofs.Common.{◌≡◌, List, [], ◌∷◌, length, drop, refl, sym, ap, ◌∙◌, subst, arith}
 use Rattle.std.specs.List.{All}
 use Rattle.std.proofs.lemmas.List.Elements.{All-push}
 use Rattle.std.proofs.lemmas.List.Sorted.{All-permutation}
 use Rattle.atomic_table.specs.declared.shared.Seat.{Seat}
 use Rattle.pool_pass.specs.declared.views.View.{View}
 use Rattle.pool_pass.specs.Book.{items_of}
-use Rattle.pool_pass.specs.Rule.{maker, written, without_book, book_alone}
+use Rattle.pool_pass.specs.Rule.{written, without_book, book_alone}
 use Rattle.pool_pass.specs.Passes.{all_made, book_in, book_of, IsBook, IsPass}
 use Rattle.pool_pass.proofs.Books.{items-tagged}
 use Rattle.pool_pass.proofs.pool.NewPool.made.Goals as goal

@@ -1,4 +1,4 @@
-use Rattle.std.proofs.Common.{◌≡◌, rules, Bool, refl, sym, ap, ◌∙◌, subst}
+use Rattle.std.proofs.Common.{Bool, refl, ◌∙◌, subst}
 use Rattle.std.specs.Fn.{CalledAtMut}
 use Rattle.pool_pass.specs.Passes.{IsShare, IsTurn, list_in, number_in}
 use Rattle.pool_pass.proofs.Waiting.{waiting_first, waiting_more, waiting_ends, number_stays}
