@@ -1,22 +1,23 @@
-ghost use Rattle.std.specs.Prelude.{◌≡◌, ◌+◌, ◌<◌, ◌≤◌, [], length, IfOk, OnOk, OnErr};
-ghost use Rattle.model_machine.specs.Machine.{empty_state, start_of, output_at, IsRegion};
-ghost use Rattle.model_machine.specs.Steps.{is_quiet};
-ghost use Rattle.model_machine.specs.History.{AddsEntry, AddsNothing, IsLegal, now_of};
+//! The calls of the control region.
+ghost use Rattle.std.specs.Prelude.{◌≡◌, ◌<◌, ◌≤◌, [], length, Ok, IfOk, OnOk, OnErr};
 ghost use Rattle.std.specs.Borrow.{sem};
+ghost use Rattle.std.specs.Vec.{vec_len, vec_capacity};
 ghost use Rattle.std.specs.Io.BufRead.{Rests};
+ghost use Rattle.model_machine.specs.declared.entry.Entry.TheVariants.{Accept, Show, Acked as AckedEntry, Turn as TurnEntry};
+ghost use Rattle.model_machine.specs.Machine.{empty_state, start_of, output_at, IsRegion};
+ghost use Rattle.model_machine.specs.Steps.{is_quiet, show_answer};
+ghost use Rattle.model_machine.specs.History.{Adds, AddsEntry, AddsNothing, AreSteps, is_fault, now_of};
+ghost use Rattle.lasting_state.specs.Showing.{IsShown};
+ghost use Rattle.tm_control.specs.Noting.{noted};
 ghost use Rattle.tm_control.specs.contracts.control.Control.{the_row};
-ghost use Rattle.lasting_state.specs.Showing.{IsShown, show_entry};
-ghost use Rattle.tm_machine.specs.Turns.{turned_entry};
-ghost use Rattle.tm_control.specs.Calls.{InputAdds, AcknowledgeAdds, TurnAdds};
 
-use crate::answers::{AckRefused, Acked, ControlFault, InputRefused, Taken};
 use crate::life::{History, Life};
-use model_machine::{Accepted, AckAnswer, Entry, Lasting, SyncPoint};
+use lasting_state::{Shown, empty_lasting};
+use model_machine::{AckRefused, Acked, ControlFault, Entry, InputRefused, Lasting, Taken, Turned};
 use std::alloc::Global;
 use std::marker::Model;
-use sysdef_check::System;
-use tm_machine::{Parts, Turned};
-use lasting_state::{Shown, empty_lasting};
+use system_types::System;
+use tm_machine::Parts;
 use tm_types::{Memory, Name, Segments};
 
 /// The control region. Contracts see its system, what it opened with, its history and the room for
@@ -91,7 +92,7 @@ impl Control {
         segments: Segments,
     ) -> Result<Taken, InputRefused>
         requires { 0 < length segments }
-        ensures { InputAdds self.old self.new terminal.now number segments result }
+        ensures { Adds self.old self.new (Accept terminal.now number segments result) }
     {
         let Ok(kept) = segments.clone() else {
             return Err(InputRefused::Fault(ControlFault::Memory));
@@ -99,20 +100,12 @@ impl Control {
         if self.history.reserve(1).is_err() {
             return Err(InputRefused::Fault(ControlFault::Memory));
         }
-        let Ok(answer) = self.parts.accept(terminal, number, segments) else {
-            return Err(InputRefused::Fault(ControlFault::Memory));
-        };
-        self.history
-            .push_reserved(Entry::Accept(*terminal, number, kept, answer));
-        match answer {
-            Accepted::New(id) => Ok(Taken::New(id)),
-            Accepted::Already => Ok(Taken::Already),
-            Accepted::Terminal => Err(InputRefused::Terminal),
-            Accepted::Expected(next) => Err(InputRefused::Expected(next)),
-            Accepted::Code => Err(InputRefused::Code),
-            Accepted::SegmentsOver(count, most) => Err(InputRefused::SegmentsOver(count, most)),
-            Accepted::QueueFull(need, limit) => Err(InputRefused::QueueFull(need, limit)),
-        }
+        let answer = self.parts.accept(terminal, number, segments);
+        note(
+            &mut self.history,
+            Entry::Accept(*terminal, number, kept, answer),
+        );
+        answer
     }
 
     /// What the terminal is to be shown; this adds no entry.
@@ -127,7 +120,7 @@ impl Control {
     pub fn receive(&mut self, terminal: &Name) -> Shown<'_>
         requires { 0 < self.old.room }
         ensures shown { IsShown (output_at (now_of self.old).lasting.outputs terminal.now) result }
-        ensures* adds { sem 𝓛 (Rests the_row self.entry (λ new. AddsEntry self.old new (show_entry self.old terminal.now))) }
+        ensures* adds { sem 𝓛 (Rests the_row self.entry (λ new. AddsEntry self.old new (Show terminal.now (show_answer (now_of self.old) terminal.now)))) }
     {
         let answer = self.parts.show_answer(terminal);
         self.history.push_reserved(Entry::Show(*terminal, answer));
@@ -139,7 +132,7 @@ impl Control {
         ensures opening { result.opening ≡ self.opening }
         ensures history { result.history ≡ self.history }
         ensures kept { result.kept ≡ (now_of self).lasting.steps }
-        ensures legal { IsLegal self.system (start_of self.system self.opening) self.history }
+        ensures legal { AreSteps self.system (start_of self.system self.opening) self.history }
     {
         Life {
             opening: self.opening,
@@ -152,22 +145,14 @@ impl Control {
     ///
     /// Each answer but a fault adds its entry; after a fault nothing has changed.
     pub fn acknowledge(&mut self, terminal: &Name, number: u64) -> Result<Acked, AckRefused>
-        ensures { AcknowledgeAdds self.old self.new terminal.now number result }
+        ensures { Adds self.old self.new (AckedEntry terminal.now number result) }
     {
         if self.history.reserve(1).is_err() {
             return Err(AckRefused::Fault(ControlFault::Memory));
         }
-        let Ok(answer) = self.parts.acknowledge(terminal, number) else {
-            return Err(AckRefused::Fault(ControlFault::Memory));
-        };
-        self.history
-            .push_reserved(Entry::Acked(*terminal, number, answer));
-        match answer {
-            AckAnswer::Removed => Ok(Acked::Removed),
-            AckAnswer::Already => Ok(Acked::Already),
-            AckAnswer::Unknown => Err(AckRefused::Unknown),
-            AckAnswer::Ahead(first) => Err(AckRefused::Ahead(first)),
-        }
+        let answer = self.parts.acknowledge(terminal, number);
+        note(&mut self.history, Entry::Acked(*terminal, number, answer));
+        answer
     }
 
     /// Lets a region do its next step.
@@ -175,31 +160,44 @@ impl Control {
     /// Each answer adds its entry; after a fault nothing has changed.
     pub fn turn(&mut self, region: u32) -> Result<Turned, ControlFault>
         requires { IsRegion self.old.system region }
-        ensures { TurnAdds self.old self.new region result }
+        ensures { Adds self.old self.new (TurnEntry region result) }
     {
         if self.history.reserve(1).is_err() {
             return Err(ControlFault::Memory);
         }
-        let Ok(turned) = self.parts.turn(region) else {
-            return Err(ControlFault::Memory);
-        };
-        self.history.push_reserved(turned_entry(region, &turned));
-        Ok(turned)
+        match self.parts.turn(region) {
+            Ok(turned) => {
+                self.history.push_reserved(turn_entry(region, &turned));
+                Ok(turned)
+            }
+            Err(fault) => Err(fault),
+        }
     }
 }
 
-/// The entry of a region's turn.
-fn turned_entry(region: u32, turned: &Turned) -> Entry
-    ensures { result ≡ turned_entry region turned.now }
+fn turn_entry(region: u32, turned: &Turned) -> Entry
+    ensures { result ≡ TurnEntry region (Ok turned.now) }
 {
-    match turned {
-        Turned::Scheduled(code, id) => Entry::Took(region, *code, *id),
-        Turned::Called(function, pcb, status) => Entry::Called(region, *function, *pcb, *status),
-        Turned::Next(code, id, next) => Entry::Done(region, *code, *id, SyncPoint::Next(*next)),
-        Turned::QC(code, id) => Entry::Done(region, *code, *id, SyncPoint::NoMore),
-        Turned::Done(code, id) => Entry::Done(region, *code, *id, SyncPoint::End),
-        Turned::Abended(code, id, abend) => Entry::Abended(region, *code, *id, *abend),
-        Turned::Idle => Entry::Idle(region),
-        Turned::Held(need, limit) => Entry::Held(region, *need, *limit),
+    Entry::Turn(region, Ok(*turned))
+}
+
+/// Adds an entry to a history that has room for it, unless it is of a call that met a fault.
+fn note(history: &mut Vec<Entry>, entry: Entry)
+    requires { vec_len history.old < vec_capacity history.old }
+    ensures { history.new.items ≡ noted (is_fault entry) history.old.items entry }
+{
+    if !is_fault(&entry) {
+        history.push_reserved(entry);
+    }
+}
+
+fn is_fault(entry: &Entry) -> bool
+    ensures { result ≡ is_fault entry.now }
+{
+    match entry {
+        Entry::Accept(_, _, _, Err(InputRefused::Fault(_))) => true,
+        Entry::Acked(_, _, Err(AckRefused::Fault(_))) => true,
+        Entry::Turn(_, Err(_)) => true,
+        _ => false,
     }
 }

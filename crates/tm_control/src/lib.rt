@@ -1,13 +1,14 @@
-//! The control region: inputs are queued, regions serve them turn by turn, and replies wait under
-//! their numbers until they are acknowledged. Each call adds one entry to a legal history.
+//! The control region: a machine with its history.
+//!
+//! Each call that is answered adds one entry, which is the machine's answer at its place; a call that
+//! met a fault adds nothing. So the history is legal from the opening on: `specs/History.antt` of
+//! model_machine says what that means.
 #![tactic(auto)]
 
-pub use answers::{AckRefused, Acked, ControlFault, InputRefused, Taken};
 pub use control::Control;
-pub use life::{History, Life};
-pub use tm_machine::Turned;
 pub use lasting_state::Shown;
+pub use life::{History, Life};
+pub use model_machine::{AckRefused, Acked, ControlFault, InputRefused, Taken, Turned};
 
-mod answers;
 mod control;
 mod life;

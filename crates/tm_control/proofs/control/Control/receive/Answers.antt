@@ -1,5 +1,4 @@
 -- the parts stay, and the new entry says what they show
-use Rattle.std.proofs.Common.{refl}
 use Rattle.tm_control.proofs.Invariant.{IsControl-next}
 use Rattle.model_machine.specs.declared.entry.Entry.TheVariants.{Show}
 use Rattle.tm_control.proofs.control.Control.receive.Goals as goal
@@ -8,4 +7,4 @@ pub invariant_of-self : goal.invariant_of-self
 invariant_of-self c =
     IsControl-next c.self.inside.parts c.self.inside.parts c.self.inside.opening c.self.inside.history.items c.push_reserved.new.self.items
     (Show c.args.terminal.now c.show_answer-answer.result)
-    c.self.invariant c.push_reserved.ensures.items refl c.show_answer-answer.ensures refl
+    c.self.invariant c.push_reserved.ensures.items c.show_answer-answer.ensures.answers
