@@ -11,11 +11,12 @@ mod run;
 mod tests;
 
 use run::{print_last, run};
-use std::env;
+use std::env::FillError;
 use std::process::ExitCode;
 use std::rt::Env;
 use tm_edge::{StdSink, StdSource};
 use tm_session::Ended;
+use tm_types::Memory;
 
 fn main(rt: HostRuntime) -> ExitCode {
     let alloc = rt.alloc();
@@ -29,9 +30,25 @@ fn main(rt: HostRuntime) -> ExitCode {
     ExitCode::from(status_number(outcome.status))
 }
 
-/// The words that the program is called with, without its own name.
-fn words<R: Env + AllocGlobal>(rt: &R) -> std::io::Result<Vec<String>> {
-    let words = env::args(rt)?.skip(1).collect(rt.alloc())?;
+/// The most bytes of a word that is looked at. A longer one is no word of the grammar.
+const WORD_ROOM: usize = 4096;
+
+/// The most words that are looked at. No command of the grammar has so many.
+const WORD_COUNT: usize = 8;
+
+/// The words that the program is called with, without its own name. One that isn't UTF-8 stands with a mark in place of
+/// what isn't, and a word that is too long as a mark alone, so that neither is a word of the grammar.
+fn words<R: Env + AllocGlobal>(rt: &R) -> Result<Vec<String>, Memory> {
+    let alloc = rt.alloc();
+    let mut words = Vec::new(alloc);
+    let mut bytes = [0; WORD_ROOM];
+    for place in 0..WORD_COUNT {
+        match rt.arg(place + 1, &mut bytes) {
+            Ok(length) => words.push(String::from_utf8_lossy(alloc, &bytes[..length])?)?,
+            Err(FillError::TooLong) => words.push(String::from_str(alloc, "?")?)?,
+            Err(FillError::NotPresent) => break,
+        }
+    }
     Ok(words)
 }
 
