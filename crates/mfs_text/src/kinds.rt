@@ -4,7 +4,7 @@ ghost use Rattle.std.specs.List.{list_any};
 ghost use Rattle.std.specs.Str.{bytes_eq};
 ghost use Rattle.mfs_text.specs.Kinds as spec;
 
-use text_rows::rules::{OUT_OF_PLACE, UNKNOWN_MACRO, UNKNOWN_OPERAND};
+use crate::rules::{OUT_OF_PLACE, UNKNOWN_MACRO, UNKNOWN_OPERAND};
 use text_rows::{Operands, is_word, split_at};
 
 /// The macros of a format.

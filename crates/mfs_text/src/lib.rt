@@ -18,4 +18,5 @@ mod kinds;
 mod lines;
 mod reader;
 mod rows;
+mod rules;
 mod values;

@@ -9,11 +9,11 @@ ghost use Rattle.mfs_text.specs.Lines as lines;
 
 use crate::built::add;
 use crate::lines::{format_line, section_after};
+use crate::rules::END_MISSING;
 use crate::{Built, FormatLine, Section};
 use model_format::Format;
 use std::alloc::Global;
 use text_rows::LineRefused;
-use text_rows::rules::END_MISSING;
 use tm_edge::Line;
 
 /// Reads the lines behind an FMT line, up to and with FMTEND; the first of them has the number

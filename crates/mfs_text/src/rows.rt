@@ -11,11 +11,12 @@ ghost use Rattle.mfs_text.specs.Values as values;
 ghost use Rattle.mfs_text.specs.Rows as spec;
 
 use crate::kinds::is_literal;
+use crate::rules::OPERAND_MISSING;
 use crate::values::{byte_between, direction_of, fill_of, justify_of, literal_of, place_of};
 use crate::{Direction, FormatLine, Kind};
 use model_format::{DeviceField, Justify, MessageField, MessageFieldLine, Source};
 use std::alloc::Global;
-use text_rows::rules::{OPERAND_MISSING, OUT_OF_RANGE};
+use text_rows::rules::OUT_OF_RANGE;
 use text_rows::{Operands, both, name_of};
 use tm_types::{Bytes, Memory, Name};
 

@@ -6,8 +6,9 @@ ghost use Rattle.model_format.specs.Valid.{is_fill, is_literal};
 ghost use Rattle.mfs_text.specs.Values as spec;
 
 use crate::Direction;
+use crate::rules::WRONG_WORD;
 use model_format::Justify;
-use text_rows::rules::{NOT_PRINTABLE, WRONG_WORD};
+use text_rows::rules::NOT_PRINTABLE;
 use text_rows::{both, is_word, number_between, split_at, two_of};
 use tm_types::{are_printable, is_printable};
 
