@@ -2,7 +2,7 @@
 use Rattle.std.specs.Prelude.{ℕ, ◌==◌, not, if◌then◌else◌, ◌&&◌, List, [], ◌∷◌, Option, None, Some, filter}
 use Rattle.std.specs.BTreeMap.{insert_entry}
 use Rattle.std.specs.Option.{option_map_or}
-use Rattle.model_enqueue.specs.declared.resource.Mode.{Mode}
+use Rattle.tm_types.specs.declared.resource.Mode.{Mode}
 use Rattle.model_enqueue.specs.declared.request.Asked.{Asked}
 use Rattle.model_enqueue.specs.declared.request.Asked.TheVariants.{Granted, Waits}
 use Rattle.model_enqueue.specs.declared.request.Holder.{Holder}

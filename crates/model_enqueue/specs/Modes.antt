@@ -4,9 +4,9 @@ use Rattle.std.specs.Option.{option_eq, option_cmp}
 use Rattle.std.specs.Ordering.{nat_cmp, ordering_then}
 use Rattle.std.specs.declared.cmp.Ordering.{Ordering}
 use Rattle.std.specs.Cmp.Lexicographic.{pointwise, slice_cmp}
-use Rattle.model_enqueue.specs.declared.resource.Resource.{Resource}
-use Rattle.model_enqueue.specs.declared.resource.Mode.{Mode}
-use Rattle.model_enqueue.specs.declared.resource.Mode.TheVariants.{Shared, Exclusive}
+use Rattle.tm_types.specs.declared.resource.Resource.{Resource}
+use Rattle.tm_types.specs.declared.resource.Mode.{Mode}
+use Rattle.tm_types.specs.declared.resource.Mode.TheVariants.{Shared, Exclusive}
 use Rattle.model_enqueue.specs.declared.request.Holder.{Holder}
 
 -- the same record of the same database, or its sequence resource both times

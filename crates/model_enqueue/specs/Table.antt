@@ -3,8 +3,8 @@ use Rattle.std.specs.Prelude.{ℕ, ◌==◌, Bool, false, not, ◌&&◌, if◌th
 use Rattle.std.specs.List.{list_any}
 use Rattle.std.specs.Map.{lookup}
 use Rattle.std.specs.Option.{option_map_or, option_and_then, is_some}
-use Rattle.model_enqueue.specs.declared.resource.Resource.{Resource}
-use Rattle.model_enqueue.specs.declared.resource.Mode.{Mode}
+use Rattle.tm_types.specs.declared.resource.Resource.{Resource}
+use Rattle.tm_types.specs.declared.resource.Mode.{Mode}
 use Rattle.model_enqueue.specs.declared.request.Holder.{Holder}
 use Rattle.model_enqueue.specs.declared.request.Request.{Request}
 use Rattle.model_enqueue.specs.Modes.{same_resource, excludes, serves}

@@ -5,7 +5,5 @@
 #![tactic(auto)]
 
 pub use request::{Asked, Holder, Request};
-pub use resource::{Mode, Resource};
 
 mod request;
-mod resource;

@@ -1,5 +1,5 @@
 //! Requests for resources, their answers and their holders.
-use crate::{Mode, Resource};
+use tm_types::{Mode, Resource};
 
 /// What a region asks for. While it waits, the request stands in a queue.
 #[derive(Clone, Copy, Debug)]

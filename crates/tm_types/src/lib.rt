@@ -13,6 +13,7 @@ pub use function::Function;
 pub use key::Key;
 pub use message::{Message, Reply};
 pub use name::{Name, is_name_byte};
+pub use resource::{Mode, Resource};
 pub use segment::{
     SEGMENT_LIMIT, Segment, SegmentRefused, Segments, are_printable, first_unprintable,
     is_printable,
@@ -32,6 +33,7 @@ mod key;
 mod message;
 mod name;
 pub mod processing;
+mod resource;
 mod segment;
 mod ssa;
 mod status;

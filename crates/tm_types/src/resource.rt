@@ -1,5 +1,5 @@
 //! What regions ask for, and how.
-use tm_types::Key;
+use crate::Key;
 
 /// What a region holds until its unit ends: one database record, there or not, or the sequence
 /// resource of a database.
