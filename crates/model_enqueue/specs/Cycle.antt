@@ -3,6 +3,7 @@ use Rattle.std.specs.Prelude.{◌≡◌, ℕ, ◌-◌, ◌==◌, ◌≤◌, nat_
 use Rattle.std.specs.List.{IsDistinct}
 use Rattle.std.specs.Ordering.{nat_cmp, is_gt}
 use Rattle.std.specs.Cmp.Lexicographic.{slice_cmp}
+use Rattle.model_enqueue.specs.declared.victim.Victim.{Victim}
 use Rattle.model_enqueue.specs.Table.{EnqueueTable, waits_for}
 use Rattle.model_enqueue.specs.Ask.{released}
 
@@ -51,13 +52,13 @@ victim_of weights [] = 0
 victim_of weights (region ∷ regions) = fold (gives_way weights) region regions
 
 -- What a turn does where its region's wait closes cycles: of the least one the victim gives all
--- back, and so on until no cycle goes through the region. Each victim stands with its cycle.
-abbrev pub Breaks : List ℕ → ℕ → EnqueueTable → List (ℕ × List ℕ) → Type 0
+-- back, and so on until no cycle goes through the region.
+abbrev pub Breaks : List ℕ → ℕ → EnqueueTable → List Victim → Type 0
 Breaks weights region table [] = HasNoCycle table region
 Breaks weights region table (v ∷ victims) =
-    IsLeastCycle table region v.1 × (v.0 ≡ victim_of weights v.1) × Breaks weights region (released v.0 table) victims
+    IsLeastCycle table region v.cycle × (v.region ≡ victim_of weights v.cycle) × Breaks weights region (released v.region table) victims
 
 -- what the victims leave
-abbrev pub after_victims : List (ℕ × List ℕ) → EnqueueTable → EnqueueTable
+abbrev pub after_victims : List Victim → EnqueueTable → EnqueueTable
 after_victims [] table = table
-after_victims (v ∷ victims) table = after_victims victims (released v.0 table)
+after_victims (v ∷ victims) table = after_victims victims (released v.region table)

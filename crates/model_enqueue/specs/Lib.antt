@@ -1,3 +1,5 @@
+pub mod Padded
+pub mod Nobody
 pub mod Modes
 pub mod Table
 pub mod Ask

@@ -4,6 +4,12 @@
 //! The crate holds definitions and the small types that they speak of, and no code.
 #![tactic(auto)]
 
+pub use cycle::Cycle;
 pub use request::{Asked, Holder, Request};
+pub use victim::Victim;
+pub use victims::Victims;
 
+mod cycle;
 mod request;
+mod victim;
+mod victims;
