@@ -1,5 +1,5 @@
 -- The calls that change a record: ISRT, REPL and DLET.
-use Rattle.std.specs.Prelude.{ℕ, ◌==◌, not, ◌&&◌, List, ◌∷◌, ◌++◌, Option, None, Some, if◌then◌else◌, length, map, filter}
+use Rattle.std.specs.Prelude.{ℕ, ◌==◌, Bool, not, ◌&&◌, List, ◌∷◌, ◌++◌, Option, None, Some, if◌then◌else◌, length, map, filter}
 use Rattle.std.specs.Ordering.{is_lt, is_eq, is_gt}
 use Rattle.tm_types.specs.declared.dbd.Dbd.{Dbd}
 use Rattle.tm_types.specs.declared.dbd.SegType.{SegType}
@@ -50,12 +50,14 @@ insert_fault path rows =
 abbrev pub delete_fault : List (ℕ × List ℕ) → List Row → Option Status
 delete_fault held rows = if is_there held rows then None else Some DJ
 
+-- whether this data has the key of a segment that was got with hold
+abbrev pub keeps_key : List SegType → List (ℕ × List ℕ) → List ℕ → Bool
+keeps_key types held area = is_eq (key_cmp (end_key held) (fitted (key_length types (end_type held)) area))
+
 -- why a segment that was got with hold isn't replaced by this data: the key differs, or the segment
 -- isn't there any more
 abbrev pub replace_fault : List SegType → List (ℕ × List ℕ) → List ℕ → List Row → Option Status
-replace_fault types held area rows =
-    if not (is_eq (key_cmp (end_key held) (fitted (key_length types (end_type held)) area))) then Some DA
-    else delete_fault held rows
+replace_fault types held area rows = if not (keeps_key types held area) then Some DA else delete_fault held rows
 
 -- the rows with one more, at its place in hierarchic order
 abbrev pub with_row : Row → List Row → List Row

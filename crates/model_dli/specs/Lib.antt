@@ -4,3 +4,4 @@ pub mod Change
 pub mod Dli
 pub mod Conditions
 pub mod Data
+pub mod Footprint
