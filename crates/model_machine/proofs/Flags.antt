@@ -11,7 +11,6 @@ use Rattle.model_system.specs.CodeStates.{with_raised}
 use Rattle.model_system.specs.Codes.{code_place}
 use Rattle.model_system.specs.declared.code_state.CodeState.{CodeState}
 use Rattle.model_system.specs.declared.code.Code.{Code}
-use Rattle.model_system.specs.declared.code.Transaction.{Transaction}
 use Rattle.model_machine.specs.Machine.{raised_by, raised_now, setting_of, states_by}
 use Rattle.model_machine.specs.Flags.{is_raised, followed_by, followed, all_followed}
 

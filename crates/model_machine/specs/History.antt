@@ -1,6 +1,5 @@
 -- Whole lives: which histories are legal, and where they lead.
-use Rattle.std.specs.Prelude.{◌≡◌, ◌<◌, ⊤, ℕ, Bool, true, false, Ok, Err, Result, Option, None, Some, List, [], ◌∷◌, ◌++◌, length}
-use Rattle.std.specs.Option.{is_some}
+use Rattle.std.specs.Prelude.{◌≡◌, ◌<◌, ⊤, ℕ, Bool, true, false, Ok, Err, Option, None, Some, List, [], ◌∷◌, ◌++◌, length}
 use Rattle.model_machine.specs.declared.entry.Entry.{Entry}
 use Rattle.model_machine.specs.declared.entry.Entry.TheVariants.{Accept, Show, Acked, Turn as TurnEntry}
 use Rattle.model_machine.specs.declared.entry.ControlCall.{ControlCall}
@@ -8,7 +7,10 @@ use Rattle.model_machine.specs.declared.entry.ControlCall.TheVariants.{Input, Re
 use Rattle.model_machine.specs.declared.entry.InputRefused.TheVariants.{Fault as InputFault}
 use Rattle.model_machine.specs.declared.entry.AckRefused.TheVariants.{Fault as AckFault}
 use Rattle.model_system.specs.System.{System}
-use Rattle.model_machine.specs.Machine.{LastingState, Moment, start_of, IsRegion}
+use Rattle.model_machine.specs.Machine.{LastingState, Moment, start_of, slot_at, IsRegion}
+use Rattle.model_machine.specs.declared.entry.Turned.TheVariants.{Backed}
+use Rattle.model_enqueue.specs.declared.victim.Victim.{Victim}
+use Rattle.model_machine.specs.Requests.{BreaksAt}
 use Rattle.model_machine.specs.Steps.{input_answer, show_answer, ack_answer, turn_answer, After}
 
 -- the call that an entry answers
@@ -18,12 +20,23 @@ call_of (Show terminal answer) = Receive terminal
 call_of (Acked terminal number answer) = Acknowledge terminal number
 call_of (TurnEntry region answer) = Turn region
 
--- the entry that a call adds at a moment, and no other: the call with the machine's answer
-abbrev pub entry_now : System → Moment → ControlCall → Entry
-entry_now system moment (Input terminal number segments) = Accept terminal number segments (input_answer system moment terminal number segments)
-entry_now system moment (Receive terminal) = Show terminal (show_answer moment terminal)
-entry_now system moment (Acknowledge terminal number) = Acked terminal number (ack_answer moment terminal number)
-entry_now system moment (Turn region) = TurnEntry region (Ok (turn_answer system moment region))
+-- the regions that gave way in the turn that an entry tells of
+abbrev pub victims_in : Entry → List Victim
+victims_in (TurnEntry region (Ok (Backed victims))) = victims
+victims_in _ = []
+
+-- The entry that a call adds at a moment, and no other: the call with the machine's answer. These are the
+-- victims, where the call is a turn whose request is blocked.
+abbrev pub entry_now : System → Moment → List Victim → ControlCall → Entry
+entry_now system moment victims (Input terminal number segments) = Accept terminal number segments (input_answer system moment terminal number segments)
+entry_now system moment victims (Receive terminal) = Show terminal (show_answer moment terminal)
+entry_now system moment victims (Acknowledge terminal number) = Acked terminal number (ack_answer moment terminal number)
+entry_now system moment victims (Turn region) = TurnEntry region (Ok (turn_answer system moment region victims))
+
+-- the victims of a call are the right ones
+abbrev pub AreVictims : System → Moment → List Victim → ControlCall → Type 0
+AreVictims system moment victims (Turn region) = BreaksAt system moment region victims (slot_at moment region)
+AreVictims system moment victims _ = victims ≡ []
 
 -- an input has a segment, and a turn is one of a region that is there
 abbrev pub IsCall : System → ControlCall → Type 0
@@ -35,17 +48,22 @@ IsCall system (Turn region) = IsRegion system region
 -- the entry has the right answer at the moment
 pub record May (system : System) (moment : Moment) (entry : Entry) : Type 0 where
   pub call : IsCall system (call_of entry)
-  pub answer : entry ≡ entry_now system moment (call_of entry)
+  pub victims : AreVictims system moment (victims_in entry) (call_of entry)
+  pub answer : entry ≡ entry_now system moment (victims_in entry) (call_of entry)
+
+-- what the call of an entry leaves
+abbrev pub after_entry : System → Moment → Entry → Moment
+after_entry system moment entry = After system moment (call_of entry) (victims_in entry)
 
 -- the moment that these entries lead to
 abbrev pub moment_after : System → Moment → List Entry → Moment
 moment_after system moment [] = moment
-moment_after system moment (entry ∷ entries) = moment_after system (After system moment (call_of entry)) entries
+moment_after system moment (entry ∷ entries) = moment_after system (after_entry system moment entry) entries
 
 -- each entry's answer is the right one at the moment that the entries before it lead to
 abbrev pub AreSteps : System → Moment → List Entry → Type 0
 AreSteps system moment [] = Unit {0}
-AreSteps system moment (entry ∷ entries) = May system moment entry × AreSteps system (After system moment (call_of entry)) entries
+AreSteps system moment (entry ∷ entries) = May system moment entry × AreSteps system (after_entry system moment entry) entries
 
 -- an entry has a fault in place of its answer
 abbrev pub is_fault : Entry → Bool

@@ -2,6 +2,8 @@ pub mod Trial
 pub mod Machine
 pub mod Pick
 pub mod Lasting
+pub mod Work
+pub mod Requests
 pub mod Steps
 pub mod History
 pub mod Flags

@@ -1,5 +1,5 @@
 -- The state of the machine that serves a system.
-use Rattle.std.specs.Prelude.{ℕ, ◌+◌, ◌-◌, ◌≤◌, ◌==◌, nat_le, Bool, true, false, not, ◌&&◌, if◌then◌else◌, Option, Some, None, List, [], ◌∷◌, map, replicate, length, slice_get, slice_set, position, find}
+use Rattle.std.specs.Prelude.{ℕ, ◌+◌, ◌-◌, ◌≤◌, ◌==◌, nat_le, Bool, true, false, not, ◌&&◌, if◌then◌else◌, Option, Some, None, List, [], ◌∷◌, map, replicate, length, slice_get, position, find}
 use Rattle.std.specs.Option.{unwrap_or, is_some}
 use Rattle.std.specs.List.{list_any, count_by}
 use Rattle.std.specs.Str.{bytes_eq}
@@ -13,6 +13,7 @@ use Rattle.model_system.specs.declared.code.Code.{Code}
 use Rattle.model_system.specs.declared.code.Transaction.{Transaction}
 use Rattle.model_system.specs.System.{System}
 use Rattle.model_rows.specs.declared.row.Row.{Row}
+use Rattle.model_enqueue.specs.Table.{EnqueueTable, empty_table}
 use Rattle.model_machine.specs.declared.lasting.TerminalState.{TerminalState}
 use Rattle.model_machine.specs.declared.lasting.CodeSetting.{CodeSetting}
 
@@ -37,11 +38,12 @@ pub record Slot : Type 0 where
   pub id : ℕ
   pub calls : ℕ
 
--- the machine at a moment: what lasts of it; for each region its slot, which may be empty; and for each
--- code whether its limit priority counts
+-- the machine at a moment: what lasts of it; for each region its slot, which may be empty; what the regions
+-- hold and wait for; and for each code whether its limit priority counts
 pub record Moment : Type 0 where
   pub lasting : LastingState
   pub slots : List (Option Slot)
+  pub enqueues : EnqueueTable
   pub raised : List Bool
 
 -- Look-ups by name and by id, each the first that there is.
@@ -118,10 +120,11 @@ raised_now waiting (code ∷ codes) (raised ∷ flags) =
 abbrev pub waiting_now : LastingState → List (Option Slot) → List ℕ → ℕ
 waiting_now lasting slots code = count_waiting (is_held slots) code lasting.messages
 
--- the machine with what lasts, with these slots, and with the flags as they follow on those before
-abbrev pub moment_with : System → LastingState → List (Option Slot) → List Bool → Moment
-moment_with system lasting slots flags =
-    record { lasting = lasting; slots = slots; raised = raised_now (waiting_now lasting slots) system.codes flags }
+-- the machine with what lasts, with these slots and this enqueue table, and with the flags as they follow on
+-- those before
+abbrev pub moment_with : System → LastingState → List (Option Slot) → EnqueueTable → List Bool → Moment
+moment_with system lasting slots table flags =
+    record { lasting = lasting; slots = slots; enqueues = table; raised = raised_now (waiting_now lasting slots) system.codes flags }
 
 abbrev pub fresh_terminal_state : List ℕ → TerminalState
 fresh_terminal_state name = record { name = name; last = 0; stopped = false }
@@ -147,6 +150,7 @@ empty_state system = record {
   steps = 0;
 }
 
--- a life starts with what lasted, empty slots, and the flags by what waits
+-- a life starts with what lasted, empty slots, nothing held, and the flags by what waits
 abbrev pub start_of : System → LastingState → Moment
-start_of system lasting = moment_with system lasting (replicate (length system.regions) None) (map (λ _. false) system.codes)
+start_of system lasting =
+    moment_with system lasting (replicate (length system.regions) None) (empty_table (length system.regions)) (map (λ _. false) system.codes)

@@ -1,5 +1,5 @@
 -- The calls of the machine: what each is answered at a moment, and what it leaves.
-use Rattle.std.specs.Prelude.{◌≡◌, ℕ, suc, ◌+◌, ◌-◌, ◌*◌, ◌<◌, ⊤, ◌==◌, nat_lt, nat_le, Bool, true, false, not, ◌&&◌, ◌||◌, if◌then◌else◌, Option, Some, None, Result, Ok, Err, List, [], ◌∷◌, length, slice_get, slice_set}
+use Rattle.std.specs.Prelude.{ℕ, suc, ◌+◌, ◌-◌, ◌*◌, ◌==◌, nat_lt, nat_le, Bool, true, not, ◌&&◌, ◌||◌, if◌then◌else◌, Option, Some, None, Result, Ok, Err, List, [], ◌∷◌, length, slice_get, slice_set}
 use Rattle.std.specs.Option.{option_map_or, option_and_then, option_or, unwrap_or, is_some}
 use Rattle.tm_types.specs.Segment.{counted_bytes}
 use Rattle.model_system.specs.declared.code_state.CodeState.{CodeState}
@@ -27,14 +27,19 @@ use Rattle.model_machine.specs.declared.entry.Acked.TheVariants.{Removed, Alread
 use Rattle.model_machine.specs.declared.entry.AckRefused.{AckRefused}
 use Rattle.model_machine.specs.declared.entry.AckRefused.TheVariants.{Unknown as AckUnknown, Ahead}
 use Rattle.model_machine.specs.declared.entry.Turned.{Turned}
-use Rattle.model_machine.specs.declared.entry.Turned.TheVariants.{Scheduled, Called, Next, QC, Done, Abended, Idle, Held}
-use Rattle.model_machine.specs.Trial.{Trial, WorkEnd, CalledWith, Advance, trial_of, advance, outputs_of}
+use Rattle.model_machine.specs.declared.entry.Turned.TheVariants.{Scheduled, Called, Next, QC, Done, Abended, Idle, Held, Waits, Backed}
+use Rattle.model_machine.specs.Trial.{Trial, WorkEnd, Advance, advance, outputs_of}
 use Rattle.model_machine.specs.Trial.WorkEnd.{Ends, Syncs, Abends}
 use Rattle.model_machine.specs.Trial.Advance.{Goes, Stops}
-use Rattle.model_machine.specs.Machine.{LastingState, Moment, Slot, terminal_at, output_at, message_at, IsRegion, slot_at, is_held, busy_slots, content, states_of, moment_with}
+use Rattle.model_machine.specs.Machine.{LastingState, Moment, Slot, terminal_at, output_at, slot_at, is_held, busy_slots, content, states_of, moment_with}
 use Rattle.model_machine.specs.Lasting.{LastingStep, code_word, applied}
 use Rattle.model_machine.specs.Lasting.LastingStep.{Accepts, Acknowledges, Completes, Discards}
 use Rattle.model_machine.specs.Pick.{Candidate, pick_of}
+use Rattle.model_machine.specs.Work.{slot_trial}
+use Rattle.model_machine.specs.Requests.{blocked_now, asked_table, table_after, without_victims}
+use Rattle.model_enqueue.specs.declared.request.Request.{Request}
+use Rattle.model_enqueue.specs.declared.victim.Victim.{Victim}
+use Rattle.model_enqueue.specs.Table.{EnqueueTable}
 
 -- ---- inputs
 
@@ -134,12 +139,7 @@ abbrev pub schedule_answer : Option Candidate → ℕ → ℕ → Turned
 schedule_answer None need limit = Idle
 schedule_answer (Some pick) need limit = if nat_lt limit need then Held need limit else Scheduled pick.code pick.id
 
--- what so many calls of a slot's script give for its message, on the rows that are committed; and what
--- comes behind them
-abbrev pub slot_trial : System → LastingState → Slot → Option Trial
-slot_trial system lasting slot =
-    option_and_then (λ job. option_and_then (λ message. trial_of job lasting.rows message slot.calls) (message_at lasting.messages slot.id)) (job_of system slot.code)
-
+-- the same, and what comes behind them
 pub record AtWork : Type 0 where
   pub trial : Trial
   pub advance : Advance
@@ -188,13 +188,22 @@ work_answer system moment slot trial (Stops Syncs) =
     sync_answer slot (next_message system moment (applied (ending_step slot trial Syncs) moment.lasting) slot)
 work_answer system moment slot trial (Stops (Abends abend)) = Abended slot.code slot.id abend
 
-abbrev pub turn_by : System → Moment → ℕ → Option Slot → Turned
-turn_by system moment region None = schedule_answer (pick_now system moment region) (need_now moment) system.qbytes
-turn_by system moment region (Some slot) =
-    option_map_or (λ work. work_answer system moment slot work.trial work.advance) (slot_work system moment.lasting slot) Idle
+abbrev pub slot_answer : System → Moment → Slot → Turned
+slot_answer system moment slot = option_map_or (λ work. work_answer system moment slot work.trial work.advance) (slot_work system moment.lasting slot) Idle
 
-abbrev pub turn_answer : System → Moment → ℕ → Turned
-turn_answer system moment region = turn_by system moment region (slot_at moment region)
+-- A blocked region waits; where its wait closes rings, the victims give way.
+abbrev pub blocked_answer : Request × ℕ → List Victim → Turned
+blocked_answer blocked [] = Waits blocked.0.resource blocked.1
+blocked_answer blocked (v ∷ victims) = Backed (v ∷ victims)
+
+-- A turn by the region's slot. These are the victims, if its request is blocked.
+abbrev pub turn_by : System → Moment → ℕ → List Victim → Option Slot → Turned
+turn_by system moment region victims None = schedule_answer (pick_now system moment region) (need_now moment) system.qbytes
+turn_by system moment region victims (Some slot) =
+    option_map_or (λ blocked. blocked_answer blocked victims) (blocked_now system moment region slot) (slot_answer system moment slot)
+
+abbrev pub turn_answer : System → Moment → ℕ → List Victim → Turned
+turn_answer system moment region victims = turn_by system moment region victims (slot_at moment region)
 
 -- ---- what a call leaves
 
@@ -214,12 +223,20 @@ ended_step slot trial (Stops end) = Some (ending_step slot trial end)
 abbrev pub turn_step : System → LastingState → Slot → Option LastingStep
 turn_step system lasting slot = option_and_then (λ work. ended_step slot work.trial work.advance) (slot_work system lasting slot)
 
+-- a region whose request is blocked does nothing that lasts
+abbrev pub unless_blocked : Option (Request × ℕ) → Option LastingStep → Option LastingStep
+unless_blocked (Some blocked) step = None
+unless_blocked None step = step
+
+abbrev pub step_in_turn : System → Moment → ℕ → Slot → Option LastingStep
+step_in_turn system moment region slot = unless_blocked (blocked_now system moment region slot) (turn_step system moment.lasting slot)
+
 abbrev pub lasting_step : System → Moment → ControlCall → Option LastingStep
 lasting_step system moment (Input terminal number segments) = accepts terminal number segments (input_answer system moment terminal number segments)
 lasting_step system moment (Receive terminal) = None
 lasting_step system moment (Acknowledge terminal number) = acknowledges terminal (ack_answer moment terminal number)
 lasting_step system moment (Turn region) =
-    option_and_then (turn_step system moment.lasting) (slot_at moment region)
+    option_and_then (step_in_turn system moment region) (slot_at moment region)
 
 abbrev pub lasting_after : System → Moment → ControlCall → LastingState
 lasting_after system moment call = option_map_or (λ step. applied step moment.lasting) (lasting_step system moment call) moment.lasting
@@ -236,15 +253,23 @@ slot_after (Done code id) slot = None
 slot_after (Abended code id abend) slot = None
 slot_after Idle slot = slot
 slot_after (Held need limit) slot = slot
+slot_after (Waits resource by) slot = slot
+slot_after (Backed victims) slot = slot
 
-abbrev pub slots_after : System → Moment → ControlCall → List (Option Slot)
-slots_after system moment (Turn region) =
-    slice_set moment.slots (region - 1) (slot_after (turn_answer system moment region) (slot_at moment region))
-slots_after system moment _ = moment.slots
+abbrev pub slots_after : System → Moment → ControlCall → List Victim → List (Option Slot)
+slots_after system moment (Turn region) victims =
+    without_victims victims (slice_set moment.slots (region - 1) (slot_after (turn_answer system moment region victims) (slot_at moment region)))
+slots_after system moment _ victims = moment.slots
 
--- What a call leaves: its step is done, its region's slot follows, and then the flag of each code.
-abbrev pub After : System → Moment → ControlCall → Moment
-After system moment call = moment_with system (lasting_after system moment call) (slots_after system moment call) moment.raised
+abbrev pub enqueues_after : System → Moment → ControlCall → List Victim → EnqueueTable
+enqueues_after system moment (Turn region) victims = table_after (turn_answer system moment region victims) region (asked_table system moment region)
+enqueues_after system moment _ victims = moment.enqueues
+
+-- What a call leaves: its step is done, its region's slot and what it holds follow, victims have neither, and
+-- then the flag of each code follows.
+abbrev pub After : System → Moment → ControlCall → List Victim → Moment
+After system moment call victims =
+    moment_with system (lasting_after system moment call) (slots_after system moment call victims) (enqueues_after system moment call victims) moment.raised
 
 -- ---- quiet
 

@@ -18,6 +18,7 @@ use Rattle.model_system.specs.Jobs.{Job}
 use Rattle.model_system.specs.Pcbs.{pcb_at}
 use Rattle.model_system.specs.System.{System}
 use Rattle.model_rows.specs.declared.row.Row.{Row}
+use Rattle.model_dli.specs.declared.call.DbCall.{DbCall}
 use Rattle.model_dli.specs.Dli.{DliResult}
 use Rattle.model_dli.specs.Data.{Data, data_start, data_call, data_abend, data_after}
 use Rattle.model_message.specs.declared.ended_message.EndedMessage.{EndedMessage}
@@ -67,10 +68,13 @@ abbrev pub roll_abend : Function → Option AbendCode
 roll_abend ROLL = Some (record { number = 778 })
 roll_abend _ = None
 
+-- a script's call as one on a database
+abbrev pub db_call : DbPcb → CallText → DbCall
+db_call target call = record { function = call.function; options = target.options; area = call.area; ssas = call.ssas }
+
 -- what a call on a database gives, as the work on the message sees the databases
 abbrev pub db_result : DbPcb → Data → CallText → DliResult
-db_result target d call =
-    data_call target.dbd target.number call.pcb (record { function = call.function; options = target.options; area = call.area; ssas = call.ssas }) d
+db_result target d call = data_call target.dbd target.number call.pcb (db_call target call) d
 
 abbrev pub db_outcome : DbPcb → MessageWork → Data → CallText → DliResult → Outcome
 db_outcome target work d call result = record {

@@ -1,7 +1,8 @@
 //! The calls of a control region, and what they are answered.
 
+use model_enqueue::Victims;
 use thiserror::Error;
-use tm_types::{AbendCode, Function, Name, Segments, Status};
+use tm_types::{AbendCode, Function, Name, Resource, Segments, Status};
 
 /// A call of a control region.
 #[derive(Debug, Drop)]
@@ -102,6 +103,12 @@ pub enum Turned {
     /// It was empty and could take a message, but the queues would need so many bytes, and have so
     /// many.
     Held(u64, u64),
+    /// Its script's call needs this resource, which this region blocks; the call wasn't made, and the
+    /// region waits.
+    Waits(Resource, u32),
+    /// Its script's call needs a resource that is blocked, and waiting for it closed rings of regions.
+    /// These gave all back, each for a ring; no ring is left.
+    Backed(Victims),
 }
 
 /// A call of the control region with its answer, or with a fault in the answer's place.
