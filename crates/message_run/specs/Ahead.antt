@@ -1,77 +1,108 @@
--- A region's work is what as many calls of its script, made from the start, lead to.
-use Rattle.std.specs.Prelude.{◌≡◌, ◌+◌, ⊤, Some, []}
+-- A region's work is what as many calls of its script, made from the start on the rows that are committed, lead
+-- to, whatever other regions have changed meanwhile.
+use Rattle.std.specs.Prelude.{◌≡◌, ℕ, ◌+◌, ◌-◌, ⊤, All, IsTrue, None, Some, [], length, slice_set}
 use Rattle.tm_types.specs.declared.message.Message.{Message}
+use Rattle.tm_types.specs.declared.resource.Resource.{Resource}
 use Rattle.model_script.specs.Script.{script_start, script_after, settled}
 use Rattle.model_system.specs.Jobs.{Job}
 use Rattle.model_system.specs.System.{System}
 use Rattle.model_machine.specs.Trial.{Trial, WorkEnd, CalledWith, trial_of, advance}
 use Rattle.model_machine.specs.Trial.Advance.{Goes, Stops}
 use Rattle.model_machine.specs.Trial.WorkEnd.{Ends, Syncs, Abends}
-use Rattle.program_rows.specs.State.{DatabasesState, IsClean, rows_of, dbds_of, data_of}
+use Rattle.model_enqueue.specs.Table.{EnqueueTable, is_served}
+use Rattle.model_enqueue.specs.Ask.{after_asks, first_blocked}
+use Rattle.model_enqueue.specs.declared.request.Request.{Request}
+use Rattle.model_machine.specs.Requests.{asked_before, requests_of}
+use Rattle.program_rows.specs.Answering.{told_blocked}
+use Rattle.program_rows.specs.State.{DatabasesState, IsClean, region_at, committed_rows, dbds_of, data_of}
 use Rattle.message_run.specs.RunState.{RunState, AreStanding}
 use Rattle.message_run.specs.declared.run.Advanced.{Advanced}
-use Rattle.message_run.specs.declared.run.Advanced.TheVariants.{Called, Ended}
+use Rattle.message_run.specs.declared.run.Advanced.TheVariants.{Called, Ended, Waits}
 use Rattle.message_run.specs.declared.run.Ending.{Ending}
 use Rattle.message_run.specs.declared.run.Ending.TheVariants.{End, Sync, Abend}
 
--- The script stands where the answers to these calls lead it, but for lines that it executes alone.
--- The message's work is as these calls leave it, and the databases are as they have changed the rows
--- that are committed.
-pub record IsAhead (job : Job) (message : Message) (databases : DatabasesState) (run : RunState) : Type 0 where
+-- a region holds what it asked for, in this mode or a stronger one
+abbrev pub IsHeld : EnqueueTable → Request → Type 0
+IsHeld table request = IsTrue (is_served request table.holds)
+
+-- The script stands where the answers to these calls lead it, but for lines that it executes alone. The
+-- message's work is as these calls leave it, and the region sees the databases as they have changed the rows
+-- that are committed. What they asked for the region holds.
+pub record IsAhead (job : Job) (message : Message) (region : ℕ) (databases : DatabasesState) (run : RunState) : Type 0 where
   pub trial : Trial
-  pub made : trial_of job (rows_of databases.committed) message run.calls ≡ Some trial
+  pub made : trial_of job (committed_rows databases) message run.calls ≡ Some trial
   pub limit : run.machine.limit ≡ job.transaction.statement_limit
   pub script : settled job.lines job.transaction.statement_limit (script_after job.lines job.transaction.statement_limit script_start trial.answers)
       ≡ settled job.lines job.transaction.statement_limit run.machine.script
   pub work : trial.work ≡ run.work
-  pub seen : trial.databases ≡ data_of databases run.positions
+  pub seen : trial.databases ≡ data_of region databases run.positions
+  pub held : All (IsHeld databases.table) (asked_before region job (committed_rows databases) message run.calls)
   pub dbds : dbds_of databases ≡ job.system.databases
   pub standing : AreStanding job.system.databases job.pcbs run.positions
 
--- the work whose script has made no call yet, on databases in which nothing was changed
+-- the work whose script has made no call yet, in a region that has changed nothing
 pub record IsStart (job : Job) (message : Message) (run : RunState) : Type 0 where
   pub calls : run.calls ≡ 0
-  pub ahead : (databases : DatabasesState) → IsClean databases → dbds_of databases ≡ job.system.databases → IsAhead job message databases run
+  pub ahead : (region : ℕ) (databases : DatabasesState) → IsClean region databases → dbds_of databases ≡ job.system.databases
+      → IsAhead job message region databases run
 
 abbrev pub end_of : Ending → WorkEnd
 end_of End = Ends
 end_of Sync = Syncs
 end_of (Abend abend) = Abends abend
 
+-- What the script's next call needs was asked for, and nothing of it is blocked.
+pub record IsFree (job : Job) (region : ℕ) (before after : DatabasesState) (trial : Trial) : Type 0 where
+  pub free : first_blocked (requests_of region job trial) before.table ≡ None
+  pub asked : after.table ≡ after_asks region (requests_of region job trial) before.table
+
 -- The script's next call was made on the databases before, told, and answered with this status: the
 -- trial goes on by that call.
-pub record GoesBy (job : Job) (message : Message) (before after : DatabasesState) (trial : Trial) (old new : RunState) (call : CalledWith) : Type 0 where
+pub record GoesBy (job : Job) (message : Message) (region : ℕ) (before after : DatabasesState) (trial : Trial) (old new : RunState) (call : CalledWith) : Type 0 where
   pub calls : new.calls ≡ old.calls + 1
-  pub ahead : IsAhead job message after new
-  pub goes : advance job (rows_of before.committed) trial ≡ Goes ahead.trial call
+  pub free : IsFree job region before after trial
+  pub ahead : IsAhead job message region after new
+  pub goes : advance job (committed_rows before) trial ≡ Goes ahead.trial call
 
 -- The work has ended: the trial stops so.
-pub record StopsSo (job : Job) (message : Message) (before after : DatabasesState) (trial : Trial) (old new : RunState) (end : WorkEnd) : Type 0 where
+pub record StopsSo (job : Job) (message : Message) (region : ℕ) (before after : DatabasesState) (trial : Trial) (old new : RunState) (end : WorkEnd) : Type 0 where
   pub calls : new.calls ≡ old.calls
-  pub ahead : IsAhead job message after new
-  pub stops : advance job (rows_of before.committed) trial ≡ Stops end
+  pub free : IsFree job region before after trial
+  pub ahead : IsAhead job message region after new
+  pub stops : advance job (committed_rows before) trial ≡ Stops end
 
--- A region's next step behind a trial: its script's next call was made and answered, or the work has
--- ended. The databases before and after it come first, then the work before and after it.
-abbrev pub Advances : Job → Message → DatabasesState → DatabasesState → Trial → RunState → RunState → Advanced → Type 0
-Advances job message before after trial old new (Called function pcb status) =
-    GoesBy job message before after trial old new (record { function = function; pcb = pcb; status = status })
-Advances job message before after trial old new (Ended ending) = StopsSo job message before after trial old new (end_of ending)
+-- What the script's next call needs was asked for, and this of it is blocked; the call wasn't made.
+pub record WaitsFor (job : Job) (message : Message) (region : ℕ) (before after : DatabasesState) (trial : Trial) (old new : RunState) (resource : Resource) (by : ℕ) : Type 0 where
+  pub calls : new.calls ≡ old.calls
+  pub blocked : told_blocked (first_blocked (requests_of region job trial) before.table) ≡ Some (resource, by)
+  pub asked : after.table ≡ after_asks region (requests_of region job trial) before.table
+  pub ahead : IsAhead job message region after new
+
+-- A region's next step behind a trial: its script's next call was made and answered, or the work has ended, or
+-- the region waits. The databases before and after it come first, then the work before and after it.
+abbrev pub Advances : Job → Message → ℕ → DatabasesState → DatabasesState → Trial → RunState → RunState → Advanced → Type 0
+Advances job message region before after trial old new (Called function pcb status) =
+    GoesBy job message region before after trial old new (record { function = function; pcb = pcb; status = status })
+Advances job message region before after trial old new (Ended ending) = StopsSo job message region before after trial old new (end_of ending)
+Advances job message region before after trial old new (Waits resource by) = WaitsFor job message region before after trial old new resource by
 
 -- The same, whatever the message on which the work has come so far.
-abbrev pub GoesOn : Job → DatabasesState → DatabasesState → RunState → RunState → Advanced → Type 0
-GoesOn job before after old new advanced =
-    (message : Message) (ahead : IsAhead job message before old) → Advances job message before after ahead.trial old new advanced
+abbrev pub GoesOn : Job → ℕ → DatabasesState → DatabasesState → RunState → RunState → Advanced → Type 0
+GoesOn job region before after old new advanced =
+    (message : Message) (ahead : IsAhead job message region before old) → Advances job message region before after ahead.trial old new advanced
 
 -- the work is as far as before
-abbrev pub StaysAhead : Job → DatabasesState → RunState → RunState → Type 0
-StaysAhead job databases old new = (message : Message) → IsAhead job message databases old → IsAhead job message databases new
+abbrev pub StaysAhead : Job → ℕ → DatabasesState → RunState → RunState → Type 0
+StaysAhead job region databases old new = (message : Message) → IsAhead job message region databases old → IsAhead job message region databases new
 
--- the end of the work leaves the databases as they are
-abbrev pub StayAtEnd : DatabasesState → DatabasesState → Advanced → Type 0
-StayAtEnd before after (Called function pcb status) = ⊤
-StayAtEnd before after (Ended ending) = after ≡ before
+-- Only a call that was answered changes what its region sees.
+abbrev pub StaysUnlessCalled : DatabasesState → DatabasesState → Advanced → Type 0
+StaysUnlessCalled before after (Called function pcb status) = ⊤
+StaysUnlessCalled before after (Ended ending) = after.regions ≡ before.regions
+StaysUnlessCalled before after (Waits resource by) = after.regions ≡ before.regions
 
--- Nothing changes in a system without databases.
-abbrev pub StayWithout : System → DatabasesState → DatabasesState → Type 0
-StayWithout system before after = system.databases ≡ [] → IsClean before → after ≡ before
+-- A region's step leaves what is committed, and what other regions see.
+pub record StayOthers (region : ℕ) (before after : DatabasesState) : Type 0 where
+  pub committed : after.committed ≡ before.committed
+  pub dbds : dbds_of after ≡ dbds_of before
+  pub regions : after.regions ≡ slice_set before.regions (region - 1) (region_at region after)

@@ -9,7 +9,7 @@ use Rattle.model_dli.specs.Data.{nowhere}
 use Rattle.model_machine.specs.Trial.{Reached, Outcome, outcome_at}
 use Rattle.script_run.specs.Running.{Running}
 use Rattle.tm_types.specs.declared.status.Status.{Status}
-use Rattle.program_rows.specs.State.{DatabasesState, rows_of, data_of}
+use Rattle.program_rows.specs.State.{DatabasesState, committed_rows, data_of}
 use Rattle.program_rows.specs.declared.answer.Answered.{Answered as DataAnswered}
 use Rattle.message_run.specs.RunState.{RunState}
 use Rattle.message_run.specs.declared.answer.CallEnd.{CallEnd}
@@ -20,9 +20,9 @@ abbrev pub answered_machine : Running → Answer → Running
 answered_machine machine answer = record machine { script = moved_on machine.script machine.waiting answer; waiting = None }
 
 -- what a call comes to by what it reaches, where the work has come so far
-abbrev pub outcome_of : System → Reached → DatabasesState → RunState → CallText → Outcome
-outcome_of system target databases run call =
-    outcome_at system (rows_of databases.committed) target run.work (data_of databases run.positions) call
+abbrev pub outcome_of : System → Reached → ℕ → DatabasesState → RunState → CallText → Outcome
+outcome_of system target region databases run call =
+    outcome_at system (committed_rows databases) target run.work (data_of region databases run.positions) call
 
 -- A call was answered: the script has the answer, and the work, the databases and the PCBs are as the
 -- call leaves them.

@@ -20,7 +20,7 @@ use std::alloc::Global;
 use std::collections::VecDeque;
 use std::marker::Model;
 use system_types::{Job, System};
-use tm_types::{AbendCode, Function, Memory, Message, Status};
+use tm_types::{AbendCode, Function, Memory, Message, Resource, Status};
 
 /// How the work on a message ends.
 #[derive(Clone, Copy, Debug)]
@@ -40,6 +40,9 @@ pub enum Advanced {
     Called(Function, u8, Status),
     /// The work has ended.
     Ended(Ending),
+    /// A resource that its next call needs is blocked by this region; the call wasn't made, and the
+    /// region waits.
+    Waits(Resource, u32),
 }
 
 /// The work of a region on one message, between two turns. What it changes in the databases is in

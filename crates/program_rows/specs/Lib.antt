@@ -1,3 +1,3 @@
 pub mod State
+pub mod Isolation
 pub mod Answering
-pub mod Making

@@ -1,19 +1,28 @@
--- The databases, with the changes of the work on one message.
-use Rattle.std.specs.Prelude.{◌≡◌, ℕ, ◌-◌, List, [], map, slice_index_or}
+-- The databases, with the changes of the work on a message in each region.
+use Rattle.std.specs.Prelude.{◌≡◌, ℕ, ◌-◌, ◌≤◌, List, [], ◌∷◌, length, map, slice_index_or, slice_set}
 use Rattle.tm_types.specs.declared.dbd.Dbd.{Dbd}
 use Rattle.model_rows.specs.declared.row.Row.{Row}
+use Rattle.model_rows.specs.Rows.{record_of, with_record}
 use Rattle.model_dli.specs.declared.call.Position.{Position}
 use Rattle.model_dli.specs.Data.{Data}
+use Rattle.model_enqueue.specs.Table.{EnqueueTable}
 use Rattle.seg_store.specs.Slots.{Stored, rows_of_slots}
 use Rattle.unit_work.specs.declared.change.Change.{Change}
 
--- The stores as they were committed, which backing out would leave, slots included; the stores as
--- they are; and the records that were changed since, each once: the number of its database and its
--- root, in the order of their first changes.
+-- what the work in a region sees: the rows of each database; and the records that it has changed, each once,
+-- the number of its database and its root, in the order of their first changes
+pub record RegionRows : Type 0 where
+  pub rows : List (List Row)
+  pub changed : List (ℕ × List ℕ)
+
+-- The stores as they were committed, which backing out all regions would leave, slots included; the stores as
+-- they are, with the changes of all regions; what each region sees and has changed; and what the regions hold
+-- and wait for.
 pub record DatabasesState : Type 0 where
   pub committed : List Stored
   pub stores : List Stored
-  pub changed : List (ℕ × List ℕ)
+  pub regions : List RegionRows
+  pub table : EnqueueTable
 
 -- the records of these changes
 abbrev pub roots_of : List Change → List (ℕ × List ℕ)
@@ -27,16 +36,49 @@ dbds_of databases = map (λ s. s.dbd) databases.stores
 abbrev pub rows_of : List Stored → List (List Row)
 rows_of stores = map (λ s. rows_of_slots s.slots) stores
 
+-- the rows that are committed
+abbrev pub committed_rows : DatabasesState → List (List Row)
+committed_rows databases = rows_of databases.committed
+
 -- the rows of the database of this number, counted from 1
-abbrev pub rows_numbered : ℕ → DatabasesState → List Row
-rows_numbered number databases = slice_index_or (rows_of databases.stores) (number - 1) []
+abbrev pub rows_in : ℕ → List (List Row) → List Row
+rows_in number rows = slice_index_or rows (number - 1) []
 
--- the databases as the definition of a call sees them, by a program whose PCBs stand here
-abbrev pub data_of : DatabasesState → List Position → Data
-data_of databases positions =
-    record { rows = rows_of databases.stores; positions = positions; changed = databases.changed }
+-- one record of the database of this number is as in the first rows, all else as in the second
+abbrev pub with_record_from : ℕ → List ℕ → List (List Row) → List (List Row) → List (List Row)
+with_record_from number root from to =
+    slice_set to (number - 1) (with_record root (record_of root (rows_in number from)) (rows_in number to))
 
--- nothing was changed since the last commit
-pub record IsClean (databases : DatabasesState) : Type 0 where
-  pub stores : databases.stores ≡ databases.committed
-  pub changed : databases.changed ≡ []
+-- these records are as in the first rows, all others as in the second
+abbrev pub with_records_from : List (ℕ × List ℕ) → List (List Row) → List (List Row) → List (List Row)
+with_records_from [] from to = to
+with_records_from (c ∷ changed) from to = with_record_from c.0 c.1 from (with_records_from changed from to)
+
+-- regions are numbered from 1; one that isn't there sees nothing
+abbrev pub no_rows : RegionRows
+no_rows = record { rows = []; changed = [] }
+
+abbrev pub region_at : ℕ → DatabasesState → RegionRows
+region_at region databases = slice_index_or databases.regions (region - 1) no_rows
+
+pub record IsRegionOf (databases : DatabasesState) (region : ℕ) : Type 0 where
+  pub least : 1 ≤ region
+  pub most : region ≤ length databases.regions
+
+-- a region that has changed nothing sees what is committed
+abbrev pub clean_region : List (List Row) → RegionRows
+clean_region rows = record { rows = rows; changed = [] }
+
+-- the rows of the database of this number, as a region sees them
+abbrev pub rows_numbered : ℕ → ℕ → DatabasesState → List Row
+rows_numbered region number databases = rows_in number (region_at region databases).rows
+
+-- the databases as the definition of a call sees them, by a program in this region whose PCBs stand here
+abbrev pub data_of : ℕ → DatabasesState → List Position → Data
+data_of region databases positions =
+    record { rows = (region_at region databases).rows; positions = positions; changed = (region_at region databases).changed }
+
+-- the region has changed nothing since its last commit
+pub record IsClean (region : ℕ) (databases : DatabasesState) : Type 0 where
+  pub sees : (region_at region databases).rows ≡ committed_rows databases
+  pub changed : (region_at region databases).changed ≡ []

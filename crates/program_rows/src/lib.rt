@@ -5,10 +5,9 @@
 //! nothing.
 #![tactic(auto)]
 
-pub use answer::{Answered, DataAnswer};
+pub use answer::{Answered, Blocked, DataAnswer};
 pub use databases::Databases;
 pub use model_dli::{DbCall, Position};
 
 mod answer;
 mod databases;
-mod making;
