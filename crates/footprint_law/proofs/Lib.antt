@@ -1,3 +1,4 @@
 pub mod Keys
 pub mod Walk
 pub mod Front
+pub mod Same
