@@ -2,3 +2,4 @@ pub mod Keys
 pub mod Walk
 pub mod Front
 pub mod Same
+pub mod Changes

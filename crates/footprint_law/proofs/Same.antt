@@ -59,7 +59,7 @@ still dbd a b status other area bytes at after s d p =
       rows_b = refl;
     }
 
-path_some : (types : List SegType) (path : List (ℕ × List ℕ)) → IsPath types path → 1 ≤ length path
+pub path_some : (types : List SegType) (path : List (ℕ × List ℕ)) → IsPath types path → 1 ≤ length path
 path_some types [] h = absurd h
 path_some types (p ∷ path) h = omega arith
 
@@ -260,7 +260,7 @@ module _ (dbd : Dbd) (all : IsHierarchy dbd.types) (a b : List Row) (valid_a : A
           rw e (λ i. cond (not (parent i)) (Some GE) (cond (here i) (Some II) None))
 
   -- where a dependent may be inserted, its record is there
-  parent_some : (path : List (ℕ × List ℕ)) → eqb (length path) 1 ≡ false → insert_fault path a ≡ None → record_of (root_of path) a ≢ []
+  pub parent_some : (path : List (ℕ × List ℕ)) → eqb (length path) 1 ≡ false → insert_fault path a ≡ None → record_of (root_of path) a ≢ []
   parent_some path e none empty = by (is_there (parent_path path) a) refl
     where
       by : (c : Bool) → is_there (parent_path path) a ≡ c → ⊥
