@@ -32,7 +32,7 @@ use Rattle.model_dli.specs.Change.{insert_path, insert_row, insert_fault, keeps_
 use Rattle.model_dli.specs.Dli.{DliResult, answered, changed_to, unheld, get, insert, replace, delete, is_allowed, denied, allowed, dli}
 use Rattle.model_dli.specs.Conditions.{AreInsertSsas, AreSsasOf, IsDbCall, IsPosition}
 use Rattle.model_dli.specs.Footprint.{record_need, sequence_need, insert_needs, replace_needs, delete_needs, allowed_needs, footprint, IsNeeded}
-use Rattle.dli_calls.proofs.Rising.{rows_rising, split_at_root, record_under}
+use Rattle.row_search.proofs.Rising.{rows_rising, split_at_root, record_under}
 use Rattle.dli_calls.proofs.Edits.{row_added, under_with_row, row_changed as data_changed, under_changed, rows_removed, under_removed}
 use Rattle.dli_calls.proofs.NewRows.{insert_is_row, replace_is_row}
 use Rattle.dli_calls.proofs.Removing.{kept_there, held_there}

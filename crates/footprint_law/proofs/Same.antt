@@ -36,7 +36,7 @@ use Rattle.model_dli.specs.Conditions.{AreInsertSsas, AreSsasOf, IsDbCall, IsPos
 use Rattle.model_dli.specs.Footprint.{record_need, sequence_need, behind, onward, search_needs, parent_needs, insert_needs, replace_needs, delete_needs, allowed_needs, footprint, AgreeOn}
 use Rattle.dli_calls.proofs.Edits.{row_added, under_with_row, row_changed as data_changed, under_changed, rows_removed, under_removed}
 use Rattle.dli_calls.proofs.NewRows.{insert_is_row, replace_is_row}
-use Rattle.dli_calls.proofs.Places.{there_in_record, below_in_record, asked_in_record}
+use Rattle.row_search.proofs.Places.{there_in_record, below_in_record, asked_in_record}
 use Rattle.dli_calls.proofs.Removing.{kept_there, held_there}
 use Rattle.footprint_law.specs.Alike.{AreAlike}
 use Rattle.footprint_law.proofs.Keys.{roots_ascending}
