@@ -54,7 +54,9 @@ still dbd a b status other area bytes at after s d p =
       refusal = refl;
       change = None;
       root = tt;
+      whole = λ e. refl;
       under = tt;
+      within = tt;
       rows_a = refl;
       rows_b = refl;
     }
@@ -186,7 +188,7 @@ module _ (dbd : Dbd) (all : IsHierarchy dbd.types) (a b : List Row) (valid_a : A
       → IsUnder dbd.types root image → record_of root a ≡ record_of root b → (record_of root a ≡ [] → roots a ≡ roots b)
       → AreAlike dbd a b (changed_to dbd root a before new_a after) (changed_to dbd root b before new_b after)
   changed_alike root new_a new_b image before after is_a is_b under kept same_roots =
-      subst (λ o. AreAlike dbd a b (changed_to dbd root a before new_a after) (by_limit b new_b o)) limits (by (passed_limit dbd root new_a a))
+      subst (λ o. AreAlike dbd a b (changed_to dbd root a before new_a after) (by_limit b new_b o)) limits (by (passed_limit dbd root new_a a) refl)
     where
       by_limit : List Row → List Row → Option RowsLimit → DliResult
       by_limit old new o =
@@ -200,8 +202,8 @@ module _ (dbd : Dbd) (all : IsHierarchy dbd.types) (a b : List Row) (valid_a : A
       limits : passed_limit dbd root new_a a ≡ passed_limit dbd root new_b b
       limits = limits_alike root new_a new_b (own a new_a is_a ∙ sym (own b new_b is_b)) kept same_roots
 
-      by : (o : Option RowsLimit) → AreAlike dbd a b (by_limit a new_a o) (by_limit b new_b o)
-      by None =
+      by : (o : Option RowsLimit) → passed_limit dbd root new_a a ≡ o → AreAlike dbd a b (by_limit a new_a o) (by_limit b new_b o)
+      by None e =
           record {
             status = refl;
             area = refl;
@@ -210,11 +212,13 @@ module _ (dbd : Dbd) (all : IsHierarchy dbd.types) (a b : List Row) (valid_a : A
             refusal = refl;
             change = Some (root, image);
             root = refl;
+            whole = λ accepted. refl;
             under = under;
+            within = e;
             rows_a = is_a;
             rows_b = is_b;
           }
-      by (Some limit) =
+      by (Some limit) e =
           record {
             status = refl;
             area = refl;
@@ -223,7 +227,9 @@ module _ (dbd : Dbd) (all : IsHierarchy dbd.types) (a b : List Row) (valid_a : A
             refusal = refl;
             change = None;
             root = tt;
+            whole = λ accepted. (let clash : Some limit ≡ None = accepted in absurd (cc));
             under = tt;
+            within = tt;
             rows_a = refl;
             rows_b = refl;
           }
