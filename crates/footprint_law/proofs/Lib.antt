@@ -3,3 +3,5 @@ pub mod Walk
 pub mod Front
 pub mod Same
 pub mod Changes
+pub mod Kept
+pub mod Stands
