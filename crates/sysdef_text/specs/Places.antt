@@ -5,12 +5,12 @@ use Rattle.text_rows.specs.Lines.{printable_line}
 use Rattle.text_rows.specs.Lowest.{also}
 use Rattle.text_rows.specs.Operands.{macro_name, macro_operands}
 use Rattle.system_types.specs.declared.definition.Macro.{Macro}
-use Rattle.sysdef_text.specs.declared.kinds.Kind.{Kind}
-use Rattle.sysdef_text.specs.declared.kinds.Kind.TheVariants.{Control, Database, Segment, Application, Pcb, Transaction}
+use Rattle.sysdef_rows.specs.declared.kinds.Kind.{Kind}
+use Rattle.sysdef_rows.specs.declared.kinds.Kind.TheVariants.{Control, Database, Segment, Application, Pcb, Transaction}
 use Rattle.sysdef_text.specs.declared.modes.Mode.{Mode}
 use Rattle.sysdef_text.specs.declared.modes.Mode.TheVariants.{Start, BehindDatabase, BehindApplication, BehindTransaction, Elsewhere}
-use Rattle.sysdef_text.specs.Kinds.{known}
-use Rattle.sysdef_text.specs.Rows.{row, program_name}
+use Rattle.sysdef_rows.specs.Kinds.{known}
+use Rattle.sysdef_rows.specs.Rows.{row, program_name}
 
 -- what has come behind a macro
 abbrev pub mode_after : Kind → Mode

@@ -7,13 +7,13 @@ use Rattle.model_script.specs.declared.program.ScriptLine.{ScriptLine}
 use Rattle.script_text.specs.Scripts.{is_last}
 use Rattle.system_types.specs.declared.definition.Macro.{Macro}
 use Rattle.system_types.specs.declared.definition.Macro.TheVariants.{Program}
-use Rattle.sysdef_text.specs.declared.kinds.Kind.{Kind}
-use Rattle.sysdef_text.specs.declared.kinds.Kind.TheVariants.{End}
+use Rattle.sysdef_rows.specs.declared.kinds.Kind.{Kind}
+use Rattle.sysdef_rows.specs.declared.kinds.Kind.TheVariants.{End}
 use Rattle.sysdef_text.specs.declared.modes.Mode.{Mode}
 use Rattle.sysdef_text.specs.declared.modes.Mode.TheVariants.{InProgram, Elsewhere}
 use Rattle.sysdef_text.specs.declared.modes.Step.{Step}
 use Rattle.sysdef_text.specs.declared.modes.Step.TheVariants.{Pass, Item, Last}
-use Rattle.sysdef_text.specs.Kinds.{kind_of}
+use Rattle.sysdef_rows.specs.Kinds.{kind_of}
 use Rattle.sysdef_text.specs.Places.{mode_after, within, macro_line, program_line, is_program}
 use Rattle.sysdef_text.specs.Programs.{program_block}
 

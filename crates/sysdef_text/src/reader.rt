@@ -3,7 +3,7 @@ ghost use Rattle.std.specs.Prelude.{◌≡◌, ◌+◌, ◌<◌, ◌^◌, length
 ghost use Rattle.text_rows.specs.Refusals.{Answers};
 ghost use Rattle.sysdef_text.specs.declared.modes.Mode.TheVariants.{Start};
 ghost use Rattle.text_rows.specs.Operands as operands;
-ghost use Rattle.sysdef_text.specs.Kinds as kinds;
+ghost use Rattle.sysdef_rows.specs.Kinds as kinds;
 ghost use Rattle.sysdef_text.specs.Steps as steps;
 ghost use Rattle.sysdef_text.specs.Definitions as spec;
 

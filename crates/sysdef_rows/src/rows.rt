@@ -1,14 +1,14 @@
 //! The table of macros: a row for each.
-ghost use Rattle.std.specs.Prelude.{◌≡◌, ◌<◌, Ok, codes};
-ghost use Rattle.std.specs.Prelude.{false};
+ghost use Rattle.std.specs.Prelude.{◌≡◌, false, None, codes};
 ghost use Rattle.text_rows.specs.Numbers.{number_between};
 ghost use Rattle.text_rows.specs.Names as names;
 ghost use Rattle.text_rows.specs.Operands.{needed, or_as};
 ghost use Rattle.model_system.specs.declared.code.SegmentKind.TheVariants.{Multiple};
-ghost use Rattle.sysdef_text.specs.Values as values;
-ghost use Rattle.sysdef_text.specs.Rows as spec;
+ghost use Rattle.sysdef_rows.specs.Values as values;
+ghost use Rattle.sysdef_rows.specs.Rows as spec;
 
 use crate::Kind;
+use crate::kinds::known_name;
 use crate::pcbs::pcb_row;
 use crate::rules::OPERAND_MISSING;
 use crate::values::{
@@ -17,7 +17,7 @@ use crate::values::{
 };
 use model_system::{Classes, SegmentKind, Transaction};
 use system_types::Macro;
-use text_rows::{Operands, both, name_of, number_between, split_at};
+use text_rows::{Operands, also, both, name_of, number_between, split_at};
 use tm_types::Name;
 
 /// The name under a key that must be there.
@@ -151,6 +151,17 @@ fn serial(operands: &Operands<'_>) -> Result<bool, u8>
     }
 }
 
+/// The name of a terminal's format, if it has one.
+#[tactic(auto, unfolding(text_rows::specs::Operands::or_as))]
+fn format(operands: &Operands<'_>) -> Result<Option<Name>, u8>
+    ensures { result ≡ or_as (codes "FORMAT") (λ text. values.named (names.name_of text)) None operands.now }
+{
+    match operands.only_value(b"FORMAT")? {
+        Some(text) => Ok(Some(name_of(text)?)),
+        None => Ok(None),
+    }
+}
+
 #[tactic(auto, unfolding(text_rows::specs::Operands::needed))]
 fn classes(operands: &Operands<'_>) -> Result<Classes, u8>
     ensures { result ≡ needed (codes "CLASS") values.classes_of operands.now }
@@ -216,8 +227,8 @@ fn application_row(operands: &Operands<'_>) -> Result<Macro, u8>
 fn terminal_row(operands: &Operands<'_>) -> Result<Macro, u8>
     ensures { result ≡ spec.terminal_row operands.now }
 {
-    let name = needed_name(b"LTERM", operands)?;
-    Ok(Macro::Terminal { name })
+    let (name, format) = both(needed_name(b"LTERM", operands), format(operands))?;
+    Ok(Macro::Terminal { name, format })
 }
 
 #[tactic(auto, unfolding(crate::specs::Rows::region_row))]
@@ -282,7 +293,7 @@ fn transaction_row(operands: &Operands<'_>) -> Result<Macro, u8>
 
 /// The macro of a kind that has these operands, or the lowest rule that their values break.
 #[tactic(auto, unfolding(crate::specs::Rows::row))]
-pub(crate) fn row(kind: Kind, operands: &Operands<'_>) -> Result<Macro, u8>
+pub fn row(kind: Kind, operands: &Operands<'_>) -> Result<Macro, u8>
     ensures { result ≡ spec.row kind operands.now }
 {
     match kind {
@@ -300,11 +311,19 @@ pub(crate) fn row(kind: Kind, operands: &Operands<'_>) -> Result<Macro, u8>
 
 /// The name that stands behind PROGRAM and a blank.
 #[tactic(auto, unfolding(crate::specs::Rows::program_name))]
-pub(crate) fn program_name(line: &[u8]) -> Result<Name, u8>
+pub fn program_name(line: &[u8]) -> Result<Name, u8>
     ensures { result ≡ spec.program_name line.now }
 {
     match split_at(b' ', line) {
         None | Some((_, [])) => Err(OPERAND_MISSING),
         Some((_, text)) => name_of(text),
     }
+}
+
+/// The name of an FMT that has these operands, or the lowest rule that they break.
+#[tactic(auto, unfolding(crate::specs::Rows::format_name))]
+pub fn format_name(operands: &Operands<'_>) -> Result<Name, u8>
+    ensures { result ≡ spec.format_name operands.now }
+{
+    also(needed_name(b"NAME", operands), known_name(operands))
 }

@@ -3,9 +3,9 @@ use Rattle.std.specs.Prelude.{ℕ, Bool, false, List, [], ◌∷◌, codes, Opti
 use Rattle.std.specs.List.{list_all, list_any}
 use Rattle.std.specs.Str.{bytes_eq}
 use Rattle.text_rows.specs.Lines.{split_at}
-use Rattle.sysdef_text.specs.declared.kinds.Kind.{Kind}
-use Rattle.sysdef_text.specs.declared.kinds.Kind.TheVariants.{Control, Database, Segment, Application, Pcb, Transaction, Terminal, Region, End}
-use Rattle.sysdef_text.specs.Pcbs.{form_keys, form_of, pcb_keys}
+use Rattle.sysdef_rows.specs.declared.kinds.Kind.{Kind}
+use Rattle.sysdef_rows.specs.declared.kinds.Kind.TheVariants.{Control, Database, Segment, Application, Pcb, Transaction, Terminal, Region, End}
+use Rattle.sysdef_rows.specs.Pcbs.{form_keys, form_of, pcb_keys}
 
 -- Rule 1: the name is one of these.
 unfoldable pub kind_of : List ℕ → Result Kind ℕ
@@ -35,9 +35,12 @@ keys Segment = segment_keys
 keys Application = codes "PSB" ∷ []
 keys Pcb = pcb_keys
 keys Transaction = transaction_keys
-keys Terminal = codes "LTERM" ∷ []
+keys Terminal = codes "LTERM" ∷ codes "FORMAT" ∷ []
 keys Region = codes "CLASS" ∷ []
 keys End = []
+
+abbrev pub format_keys : List (List ℕ)
+format_keys = codes "NAME" ∷ []
 
 abbrev pub is_among : List (List ℕ) → Option (List ℕ × List ℕ) → Bool
 is_among words None = false

@@ -1,7 +1,7 @@
 -- Classes that are read one after another.
 use Rattle.std.proofs.Common.{ℕ, ◌≡◌, List, [], ◌∷◌, ◌++◌, Result, Ok, Err, min, refl, ap, sym, append_assoc, append-nil, arith}
 use Rattle.text_rows.specs.Lowest.{both}
-use Rattle.sysdef_text.specs.Values.{with_class, with_last}
+use Rattle.sysdef_rows.specs.Values.{with_class, with_last}
 
 -- the classes so far, and those that are still to be read
 abbrev pub joined : Result (List ℕ) ℕ → Result (List ℕ) ℕ → Result (List ℕ) ℕ

@@ -6,9 +6,9 @@ use Rattle.text_rows.specs.Names.{name_of}
 use Rattle.text_rows.specs.Operands.{needed, only, or_as, values}
 use Rattle.system_types.specs.declared.definition.Macro.{Macro}
 use Rattle.system_types.specs.declared.definition.Macro.TheVariants as macro
-use Rattle.sysdef_text.specs.declared.pcbs.PcbForm.{PcbForm}
-use Rattle.sysdef_text.specs.declared.pcbs.PcbForm.TheVariants.{OnDatabase, ToDestination, Modifiable}
-use Rattle.sysdef_text.specs.Values.{options_of, modify_of}
+use Rattle.sysdef_rows.specs.declared.pcbs.PcbForm.{PcbForm}
+use Rattle.sysdef_rows.specs.declared.pcbs.PcbForm.TheVariants.{OnDatabase, ToDestination, Modifiable}
+use Rattle.sysdef_rows.specs.Values.{options_of, modify_of}
 
 -- an operand with a key stands there, be it once or twice
 abbrev pub is_there : Result (Option (List ℕ)) ℕ → Bool

@@ -2,7 +2,7 @@
 ghost use Rattle.std.specs.Prelude.{◌≡◌, ◌<◌, ◌≤◌, ◌+◌, ◌||◌, length, Ok, IfOk};
 ghost use Rattle.text_rows.specs.Lowest.{both};
 ghost use Rattle.text_rows.specs.Numbers.{number_between};
-ghost use Rattle.sysdef_text.specs.Values as spec;
+ghost use Rattle.sysdef_rows.specs.Values as spec;
 
 use crate::rules::WRONG_WORD;
 use model_system::{Classes, SegmentKind};

@@ -1,7 +1,7 @@
 use Rattle.std.proofs.Common.{◌≡◌, ◌+◌, ◌≤◌, length, IfOk}
-use Rattle.sysdef_text.proofs.ClassSteps.{joined}
-use Rattle.sysdef_text.specs.Values as spec
-use Rattle.sysdef_text.proofs.values.classes_in.Given as goal
+use Rattle.sysdef_rows.proofs.ClassSteps.{joined}
+use Rattle.sysdef_rows.specs.Values as spec
+use Rattle.sysdef_rows.proofs.values.classes_in.Given as goal
 
 abbrev pub invariant-loop-element : goal.invariant-loop-element
 invariant-loop-element l =

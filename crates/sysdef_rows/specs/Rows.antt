@@ -1,7 +1,7 @@
 -- The table of macros: a row for each, with its operands and their defaults.
 use Rattle.std.specs.Prelude.{ℕ, Bool, false, List, [], ◌∷◌, codes, Option, Some, None, Result, Ok, Err}
 use Rattle.text_rows.specs.Lines.{split_at}
-use Rattle.text_rows.specs.Lowest.{both}
+use Rattle.text_rows.specs.Lowest.{also, both}
 use Rattle.text_rows.specs.Names.{name_of}
 use Rattle.text_rows.specs.Numbers.{number_between}
 use Rattle.text_rows.specs.Operands.{needed, or_as}
@@ -9,10 +9,11 @@ use Rattle.model_system.specs.declared.code.SegmentKind.{SegmentKind}
 use Rattle.model_system.specs.declared.code.SegmentKind.TheVariants.{Multiple}
 use Rattle.system_types.specs.declared.definition.Macro.{Macro}
 use Rattle.system_types.specs.declared.definition.Macro.TheVariants as macro
-use Rattle.sysdef_text.specs.declared.kinds.Kind.{Kind}
-use Rattle.sysdef_text.specs.declared.kinds.Kind.TheVariants.{Control, Database, Segment, Application, Pcb, Transaction, Terminal, Region, End}
-use Rattle.sysdef_text.specs.Pcbs.{pcb_row}
-use Rattle.sysdef_text.specs.Values.{parent_of, message_type_of, priorities_of, limits_of, serial_of, classes_of}
+use Rattle.sysdef_rows.specs.declared.kinds.Kind.{Kind}
+use Rattle.sysdef_rows.specs.declared.kinds.Kind.TheVariants.{Control, Database, Segment, Application, Pcb, Transaction, Terminal, Region, End}
+use Rattle.sysdef_rows.specs.Kinds.{format_keys, known_among}
+use Rattle.sysdef_rows.specs.Pcbs.{pcb_row}
+use Rattle.sysdef_rows.specs.Values.{named, parent_of, message_type_of, priorities_of, limits_of, serial_of, classes_of}
 
 -- IMSCTRL QBYTES, LOGS
 abbrev pub control_made : Result (ℕ × ℕ) ℕ → Result Macro ℕ
@@ -52,13 +53,13 @@ application_made (Err rule) = Err rule
 unfoldable pub application_row : List (List ℕ) → Result Macro ℕ
 application_row ops = application_made (needed (codes "PSB") name_of ops)
 
--- NAME LTERM
-abbrev pub terminal_made : Result (List ℕ) ℕ → Result Macro ℕ
-terminal_made (Ok name) = Ok (macro.Terminal name)
+-- NAME LTERM, FORMAT
+abbrev pub terminal_made : Result (List ℕ × Option (List ℕ)) ℕ → Result Macro ℕ
+terminal_made (Ok (name, format)) = Ok (macro.Terminal name format)
 terminal_made (Err rule) = Err rule
 
 unfoldable pub terminal_row : List (List ℕ) → Result Macro ℕ
-terminal_row ops = terminal_made (needed (codes "LTERM") name_of ops)
+terminal_row ops = terminal_made (both (needed (codes "LTERM") name_of ops) (or_as (codes "FORMAT") (λ text. named (name_of text)) None ops))
 
 -- REGION CLASS
 abbrev pub region_made : Result (List ℕ) ℕ → Result Macro ℕ
@@ -118,3 +119,7 @@ program_name_in (Some (name, byte ∷ bytes)) = name_of (byte ∷ bytes)
 
 unfoldable pub program_name : List ℕ → Result (List ℕ) ℕ
 program_name line = program_name_in (split_at 32 line)
+
+-- FMT: its one operand is the name
+unfoldable pub format_name : List (List ℕ) → Result (List ℕ) ℕ
+format_name ops = also (needed (codes "NAME") name_of ops) (known_among format_keys ops)

@@ -2,8 +2,8 @@
 ghost use Rattle.std.specs.Prelude.{◌≡◌};
 ghost use Rattle.std.specs.List.{list_any};
 ghost use Rattle.std.specs.Str.{bytes_eq};
-ghost use Rattle.sysdef_text.specs.Kinds as spec;
-ghost use Rattle.sysdef_text.specs.Pcbs as pcbs;
+ghost use Rattle.sysdef_rows.specs.Kinds as spec;
+ghost use Rattle.sysdef_rows.specs.Pcbs as pcbs;
 
 use crate::pcbs::{PcbForm, form_of, is_form_key, is_pcb_key};
 use crate::rules::{UNKNOWN_MACRO, UNKNOWN_OPERAND};
@@ -34,7 +34,7 @@ pub enum Kind {
 
 /// The kind that a name stands for: rule 1 where it stands for none.
 #[tactic(auto, unfolding(crate::specs::Kinds::kind_of))]
-pub(crate) fn kind_of(name: &[u8]) -> Result<Kind, u8>
+pub fn kind_of(name: &[u8]) -> Result<Kind, u8>
     ensures { result ≡ spec.kind_of name.now }
 {
     if is_word(name, b"IMSCTRL") {
@@ -62,7 +62,7 @@ pub(crate) fn kind_of(name: &[u8]) -> Result<Kind, u8>
 
 /// Rule 2 where an operand isn't one of the macro's, or of the PCB's form.
 #[tactic(auto, unfolding(crate::specs::Kinds::known))]
-pub(crate) fn known(kind: Kind, operands: &Operands<'_>) -> Result<(), u8>
+pub fn known(kind: Kind, operands: &Operands<'_>) -> Result<(), u8>
     ensures { result ≡ spec.known kind operands.now }
 {
     match kind {
@@ -113,6 +113,28 @@ fn has_key(kind: Kind, operand: &[u8]) -> bool
     }
 }
 
+/// Rule 2 where an operand isn't the name of an FMT.
+pub(crate) fn known_name(operands: &Operands<'_>) -> Result<(), u8>
+    ensures { result ≡ spec.known_among spec.format_keys operands.now }
+{
+    for operand in operands.pieces() {
+        if !has_name_key(operand) {
+            return Err(UNKNOWN_OPERAND);
+        }
+    }
+    Ok(())
+}
+
+#[tactic(auto, unfolding(crate::specs::Kinds::has_key))]
+fn has_name_key(operand: &[u8]) -> bool
+    ensures { result ≡ spec.has_key spec.format_keys operand.now }
+{
+    match split_at(b'=', operand) {
+        Some((word, _)) => is_word(word, b"NAME"),
+        None => false,
+    }
+}
+
 fn is_key(kind: Kind, word: &[u8]) -> bool
     ensures { result ≡ list_any (bytes_eq word.now) (spec.keys kind) }
 {
@@ -123,7 +145,7 @@ fn is_key(kind: Kind, word: &[u8]) -> bool
         Kind::Application => is_word(word, b"PSB"),
         Kind::Pcb => is_pcb_key(word),
         Kind::Transaction => is_transaction_key(word),
-        Kind::Terminal => is_word(word, b"LTERM"),
+        Kind::Terminal => is_word(word, b"LTERM") || is_word(word, b"FORMAT"),
         Kind::Region => is_word(word, b"CLASS"),
         Kind::End => false,
     }

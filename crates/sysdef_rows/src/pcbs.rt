@@ -4,8 +4,8 @@ ghost use Rattle.std.specs.List.{list_any};
 ghost use Rattle.std.specs.Str.{bytes_eq};
 ghost use Rattle.text_rows.specs.Names as names;
 ghost use Rattle.text_rows.specs.Operands.{needed, or_as};
-ghost use Rattle.sysdef_text.specs.Values as values;
-ghost use Rattle.sysdef_text.specs.Pcbs as spec;
+ghost use Rattle.sysdef_rows.specs.Values as values;
+ghost use Rattle.sysdef_rows.specs.Pcbs as spec;
 
 use crate::rows::needed_name;
 use crate::rules::{OPERAND_MISSING, WRONG_WORD};
