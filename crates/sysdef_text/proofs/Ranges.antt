@@ -98,6 +98,11 @@ named_steps mode (Ok name) (Ok lines) h = (tt, λ e. absurd (first_place mode h 
 named_steps mode (Ok name) (Err fault) h = tt
 named_steps mode (Err fault) lines h = tt
 
+formed_steps : (mode : Mode) (name : Result (List ℕ) (ℕ × ℕ)) (format : Result FormatLines (ℕ × ℕ)) → IfOk name (λ n. program_place mode ≡ Ok tt) → Steps mode (format_read name format)
+formed_steps mode (Ok name) (Ok format) h = (tt, λ e. absurd (first_place mode h e))
+formed_steps mode (Ok name) (Err fault) h = tt
+formed_steps mode (Err fault) format h = tt
+
 at_ok : {A : Type 0} (Q : Type 0) (number : ℕ) (read : Result A ℕ) → IfOk read (λ value. Q) → IfOk (at_line number read) (λ value. Q)
 at_ok Q number (Ok value) h = h
 at_ok Q number (Err rule) h = tt
@@ -107,29 +112,42 @@ unfolding program_line
 program_ok mode over line behind =
     also_right (program_place mode ≡ Ok tt) _ _ (also_left (λ value. program_place mode ≡ Ok tt) (program_place mode) (within over behind) (itself (program_place mode)))
 
+format_ok : (mode : Mode) (over : Bool) (line : List ℕ) (behind : List (List ℕ)) → IfOk (format_line mode over line behind) (λ name. program_place mode ≡ Ok tt)
+unfolding format_line
+format_ok mode over line behind =
+    also_right (program_place mode ≡ Ok tt) _ _ (also_left (λ value. program_place mode ≡ Ok tt) (program_place mode) (within over behind) (itself (program_place mode)))
+
 passed_steps : (mode : Mode) (judged : Result (Unit {0}) (ℕ × ℕ)) → Steps mode (passed mode judged)
 passed_steps mode (Ok value) = λ e. e
 passed_steps mode (Err fault) = tt
 
-choose_steps : (mode : Mode) (b c : Bool) (pass program others : Result Step (ℕ × ℕ)) → Steps mode pass → Steps mode program → Steps mode others → Steps mode (cond b pass (cond c program others))
-choose_steps mode true c pass program others h k l = h
-choose_steps mode false true pass program others h k l = k
-choose_steps mode false false pass program others h k l = l
+choose_steps : (mode : Mode) (b c d : Bool) (pass program format others : Result Step (ℕ × ℕ)) → Steps mode pass → Steps mode program → Steps mode format → Steps mode others
+    → Steps mode (cond b pass (cond c program (cond d format others)))
+choose_steps mode true c d pass program format others h k f l = h
+choose_steps mode false true d pass program format others h k f l = k
+choose_steps mode false false true pass program format others h k f l = f
+choose_steps mode false false false pass program format others h k f l = l
 
 outside_steps : (mode : Mode) (over : Bool) (number : ℕ) (line : List ℕ) (behind : List (List ℕ)) → Steps mode (outside_step mode over number line behind)
 outside_steps mode over number line behind =
-    choose_steps mode (is_passed_over line) (is_program line) (passed mode (at_line number (within over behind))) (program_step mode over number line behind)
-    (macro_step (kind_of (macro_name line)) mode over number line behind) (passed_steps mode (at_line number (within over behind)))
+    choose_steps mode (is_passed_over line) (is_program line) (is_format line) (passed mode (at_line number (within over behind))) (program_step mode over number line behind)
+    (format_step mode over number line behind) (macro_step (kind_of (macro_name line)) mode over number line behind) (passed_steps mode (at_line number (within over behind)))
     (named_steps mode (at_line number (program_line mode over line behind)) (program_block over (suc number) behind)
     (at_ok (program_place mode ≡ Ok tt) number (program_line mode over line behind) (program_ok mode over line behind)))
+    (formed_steps mode (at_line number (format_line mode over line behind)) (format_block over (suc number) behind)
+    (at_ok (program_place mode ≡ Ok tt) number (format_line mode over line behind) (format_ok mode over line behind)))
     (kind_steps (kind_of (macro_name line)) mode over number line behind)
 
 inside_start : (next : Mode) → InProgram ≡ Start → next ≡ Start
 inside_start next e = cc
 
+in_format_start : (next : Mode) → InFormat ≡ Start → next ≡ Start
+in_format_start next e = cc
+
 line_steps : (mode : Mode) (over : Bool) (number : ℕ) (line : List ℕ) (behind : List (List ℕ)) → Steps mode (step mode over number line behind)
 unfolding step
 line_steps InProgram over number line behind = inside_start (cond (is_last line) Elsewhere InProgram)
+line_steps InFormat over number line behind = in_format_start (cond (is_format_end line) Elsewhere InFormat)
 line_steps Start over number line behind = outside_steps Start over number line behind
 line_steps BehindDatabase over number line behind = outside_steps BehindDatabase over number line behind
 line_steps BehindApplication over number line behind = outside_steps BehindApplication over number line behind
