@@ -1,11 +1,10 @@
 -- What is read is a definition: it begins with IMSCTRL, ends with END, and its numbers lie in their ranges.
-use Rattle.std.proofs.Common.{ℕ, suc, ◌≡◌, cond, Bool, true, false, List, [], ◌∷◌, Result, Ok, Err, IsTrue, IfOk, All, refl, subst}
+use Rattle.std.proofs.Common.{ℕ, suc, ◌≡◌, cond, Bool, true, false, List, [], ◌∷◌, Result, Ok, Err, IsTrue, IfOk, All, refl, subst, arith}
 use Rattle.std.proofs.lemmas.Bool.{false≢true}
 use Rattle.std.proofs.lemmas.List.Elements.{All-cons}
 use Rattle.model_script.specs.declared.program.ScriptLine.{ScriptLine}
 use Rattle.model_format.specs.Formats.{FormatLines}
 use Rattle.text_rows.specs.Lines.{is_passed_over}
-use Rattle.text_rows.specs.Lowest.{also}
 use Rattle.text_rows.specs.Operands.{macro_name}
 use Rattle.text_rows.specs.Refusals.{at_line, then_lines}
 use Rattle.script_text.specs.Scripts.{is_last}
