@@ -6,7 +6,7 @@ ghost use Rattle.model_dli.specs.Dli.{dli};
 ghost use Rattle.model_enqueue.specs.Table.{empty_table};
 ghost use Rattle.model_enqueue.specs.Ask.{first_blocked, waits_for_nothing};
 ghost use Rattle.seg_store.specs.Stores.{empty_stores};
-ghost use Rattle.program_rows.specs.State.{clean_region, data_of, dbds_of, region_at, rows_numbered, rows_of, IsClean, IsRegionOf};
+ghost use Rattle.program_rows.specs.State.{clean_region, committed_rows, data_of, dbds_of, region_at, rows_numbered, rows_of, AreRowsOf, IsClean, IsRegionOf};
 ghost use Rattle.program_rows.specs.Isolation.{requests_of_call};
 ghost use Rattle.program_rows.specs.Answering.{blocked_of, told_blocked, regions_after, regions_backed, Gives, IsCommitted, IsGivenUp, LeadsToAbend, Stands, StaysAtAbend, table_left};
 
@@ -49,6 +49,7 @@ impl Databases {
         ensures committed { IfOk result (λ d. d.committed ≡ empty_stores dbds.now) }
         ensures regions { IfOk result (λ d. d.regions ≡ replicate regions (clean_region (rows_of (empty_stores dbds.now)))) }
         ensures table { IfOk result (λ d. d.table ≡ empty_table regions) }
+        ensures rows { IfOk result (λ d. AreRowsOf (dbds_of d) (committed_rows d)) }
     {
         Err(Memory)
     }
@@ -129,6 +130,7 @@ impl Databases {
     pub fn commit(&mut self, region: u32)
         requires { IsRegionOf self.old region }
         ensures value { IsCommitted region self.old self.new }
+        ensures rows { AreRowsOf (dbds_of self.new) (committed_rows self.new) }
         ensures databases { dbds_of self.new ≡ dbds_of self.old }
     {
         match self.never {}
