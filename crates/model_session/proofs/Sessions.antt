@@ -6,11 +6,12 @@ use Rattle.model_machine.specs.Machine.{Moment}
 use Rattle.model_machine.specs.Steps.{After}
 use Rattle.model_machine.specs.History.{call_of, moment_after}
 use Rattle.model_session.specs.declared.asked.Asked.{Asked}
-use Rattle.model_session.specs.declared.asked.Asked.TheVariants.{Bad, TooLong, Call, Quiet}
+use Rattle.model_session.specs.declared.asked.Asked.TheVariants.{Bad, Stopped, Call, Quiet}
 use Rattle.model_session.specs.Blocks.{Block}
-use Rattle.model_session.specs.Text.{entry_text, bad_line_text, too_long_text}
+use Rattle.model_session.specs.Text.{entry_text, bad_line_text, stopped_text}
+use Rattle.model_session.specs.Lines.{asked_of}
 use Rattle.model_session.specs.Turns.{quieted_text}
-use Rattle.model_session.specs.Session.{Onward, Left, none_left, IsServedBy, AreServed, asked_in}
+use Rattle.model_session.specs.Session.{Onward, Left, none_left, IsServedBy, AreServed}
 use Rattle.model_session.specs.Session.Standing.{Up}
 
 -- where entries behind others lead
@@ -27,15 +28,15 @@ module _ (system : System) (end : Moment) (more : List Entry) (tail : List ℕ) 
       → IsServedBy asked system (Up moment entries) [] text Rest → IsServedBy asked system (Up moment (entries ++ more)) [] (text ++ tail) Longer
   by-append (Bad rule) moment entries text Rest Longer goes ends (later, same, h) =
       (later ++ tail, ap (λ t. t ++ tail) same ∙ append_assoc (bad_line_text rule) later tail, goes moment entries later ends h)
-  by-append (TooLong terminal number long) moment entries text Rest Longer goes ends (later, same, h) =
-      (later ++ tail, ap (λ t. t ++ tail) same ∙ append_assoc (too_long_text system terminal number long) later tail, goes moment entries later ends h)
+  by-append (Stopped terminal number reason) moment entries text Rest Longer goes ends (later, same, h) =
+      (later ++ tail, ap (λ t. t ++ tail) same ∙ append_assoc (stopped_text terminal number reason) later tail, goes moment entries later ends h)
   by-append (Call call) moment entries text Rest Longer goes ends (entry, others, later, made, asked, same, h) = (
     entry,
     others ++ more,
     later ++ tail,
     ap (λ e. e ++ more) made,
     asked,
-    ap (λ t. t ++ tail) same ∙ append_assoc (entry_text moment entry) later tail,
+    ap (λ t. t ++ tail) same ∙ append_assoc (entry_text system moment entry) later tail,
     goes (After system moment call) others later (ap (λ c. moment_after system (After system moment c) others) (sym asked) ∙ sym (ap (moment_after system moment) made) ∙ ends) h,
   )
   by-append (Quiet most) moment entries text Rest Longer goes ends (turns, others, later, made, quieted, same, h) = (
@@ -59,7 +60,7 @@ module _ (system : System) (end : Moment) (more : List Entry) (tail : List ℕ) 
       (subst (λ t. AreServed system left others (Up moment more) [] (t ++ tail)) (sym empty)
       (subst (λ m. AreServed system left others (Up m more) [] tail) (sym here) last))
   AreServed-append left others last (first ∷ blocks) moment entries text ends h =
-      by-append (asked_in system first) moment entries text
+      by-append (asked_of system first) moment entries text
       (λ after ahead later. AreServed system none_left blocks after ahead later)
       (λ after ahead later. AreServed system left (blocks ++ others) after ahead later)
       (λ m behind later e served. AreServed-append left others last blocks m behind later e served)

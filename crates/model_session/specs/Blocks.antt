@@ -1,5 +1,5 @@
 -- The blocks that a session's lines make: a line, with the `+` lines that belong to it.
-use Rattle.std.specs.Prelude.{ℕ, Bool, Option, Some, None, if◌then◌else◌, List, [], ◌∷◌, ◌++◌, codes}
+use Rattle.std.specs.Prelude.{ℕ, Bool, ◌||◌, Option, Some, None, if◌then◌else◌, List, [], ◌∷◌, ◌++◌, codes}
 use Rattle.std.specs.Str.{bytes_eq}
 use Rattle.tm_types.specs.Words.{first_word}
 use Rattle.text_rows.specs.Lines.{is_passed_over}
@@ -8,9 +8,13 @@ use Rattle.text_rows.specs.Lines.{is_passed_over}
 abbrev pub is_further : List ℕ → Bool
 is_further line = bytes_eq (first_word line) (codes "+")
 
+-- a line of SCREEN, well formed or not
+abbrev pub is_screen : List ℕ → Bool
+is_screen line = bytes_eq (first_word line) (codes "SCREEN")
+
 -- a line that takes `+` lines, well formed or not
 abbrev pub takes_further : List ℕ → Bool
-takes_further line = bytes_eq (first_word line) (codes "IN")
+takes_further line = bytes_eq (first_word line) (codes "IN") || is_screen line
 
 pub record Block : Type 0 where
   pub line : List ℕ

@@ -1,19 +1,27 @@
 -- What a block of session lines asks for, or the lowest rule that it breaks: 1 a first word that is not
 -- known, 2 operands missing or too many, 3 no number in its range, 4 no name, 5 a `+` line that belongs to
--- no line, 6 a byte that is not printable.
+-- no line, 6 a byte that is not printable, 8 a field line without =.
 use Rattle.std.specs.Prelude.{ℕ, ◌<◌, ◌≤◌, ⊤, ◌==◌, nat_lt, nat_le, Bool, ◌&&◌, if◌then◌else◌, Option, Some, None, Result, Ok, Err, List, [], ◌∷◌, length, map, codes}
-use Rattle.std.specs.List.{list_all, count_by}
+use Rattle.std.specs.List.{list_all, list_any, count_by}
 use Rattle.std.specs.Str.{bytes_eq}
+use Rattle.text_rows.specs.Lines.{split_at}
 use Rattle.text_rows.specs.Lowest.{both, also}
 use Rattle.tm_types.specs.Segment.{are_printable}
 use Rattle.tm_types.specs.Words.{first_word, operands}
 use Rattle.model_machine.specs.declared.entry.ControlCall.TheVariants.{Input, Receive, Acknowledge, Turn}
+use Rattle.model_format.specs.declared.fields.FieldValue.{FieldValue}
+use Rattle.model_format.specs.Entering.{entered}
+use Rattle.model_format.specs.Formats.{FormatLines}
+use Rattle.model_system.specs.Formats.{format_of}
+use Rattle.model_system.specs.System.{System}
 use Rattle.model_session.specs.declared.asked.Form.{Form}
-use Rattle.model_session.specs.declared.asked.Form.TheVariants.{Input as InputForm, Receive as ReceiveForm, Acknowledge as AcknowledgeForm, Turn as TurnForm, Quiet as QuietForm}
+use Rattle.model_session.specs.declared.asked.Form.TheVariants.{Input as InputForm, Screen as ScreenForm, Receive as ReceiveForm, Acknowledge as AcknowledgeForm, Turn as TurnForm, Quiet as QuietForm}
 use Rattle.model_session.specs.declared.asked.Asked.{Asked}
-use Rattle.model_session.specs.declared.asked.Asked.TheVariants.{Bad, TooLong, Call, Quiet}
+use Rattle.model_session.specs.declared.asked.Asked.TheVariants.{Bad, Stopped, Call, Quiet}
+use Rattle.model_session.specs.declared.asked.InputStopped.{InputStopped}
+use Rattle.model_session.specs.declared.asked.InputStopped.TheVariants.{Terminal, Format, Field, TooLong}
 use Rattle.model_session.specs.Numbers.{number_operand, name_operand}
-use Rattle.model_session.specs.Blocks.{Block, is_further}
+use Rattle.model_session.specs.Blocks.{Block, is_further, is_screen}
 
 -- ---- the form of one line
 
@@ -42,6 +50,13 @@ unfoldable pub input_form : List ℕ → Result Form ℕ
 input_form line =
     if nat_le 3 (operand_count line)
     then numbered (λ t n. InputForm t n) (both (name_operand (first_word (operands line))) (message_number (first_word (operands (operands line)))))
+    else Err 2
+
+-- SCREEN t n
+unfoldable pub screen_form : List ℕ → Result Form ℕ
+screen_form line =
+    if operand_count line == 2
+    then numbered (λ t n. ScreenForm t n) (both (name_operand (first_word (operands line))) (message_number (operands (operands line))))
     else Err 2
 
 -- RECV t
@@ -73,6 +88,7 @@ lone_form line = if operand_count line == 0 then Err 2 else Err 5
 unfoldable pub form_of : ℕ → List ℕ → Result Form ℕ
 form_of regions line =
     if bytes_eq (first_word line) (codes "IN") then input_form line
+    else if is_screen line then screen_form line
     else if bytes_eq (first_word line) (codes "TURN") then turn_form regions line
     else if bytes_eq (first_word line) (codes "RECV") then receive_form line
     else if bytes_eq (first_word line) (codes "ACK") then acknowledge_form line
@@ -86,15 +102,39 @@ form_of regions line =
 abbrev pub has_operand : List ℕ → Bool
 has_operand line = nat_le 1 (operand_count line)
 
-unfoldable pub further_forms : List (List ℕ) → Result (Unit {0}) ℕ
-further_forms lines = if list_all has_operand lines then Ok tt else Err 2
+abbrev pub text_forms : List (List ℕ) → Result (Unit {0}) ℕ
+text_forms lines = if list_all has_operand lines then Ok tt else Err 2
+
+-- + NAME=text: the name stands before the first =, and the text is all that follows this, and may be empty
+abbrev pub with_text : List ℕ → Result (List ℕ) ℕ → Result (List ℕ × List ℕ) ℕ
+with_text text (Ok name) = Ok (name, text)
+with_text text (Err rule) = Err rule
+
+abbrev pub field_parts : Option (List ℕ × List ℕ) → Result (List ℕ × List ℕ) ℕ
+field_parts (Some (name, text)) = with_text text (name_operand name)
+field_parts None = Err 8
+
+unfoldable pub field_of : List ℕ → Result (List ℕ × List ℕ) ℕ
+field_of line = if has_operand line then field_parts (split_at 61 (operands line)) else Err 2
+
+abbrev pub judged : Result (List ℕ × List ℕ) ℕ → Result (Unit {0}) ℕ
+judged (Ok field) = Ok tt
+judged (Err rule) = Err rule
+
+abbrev pub field_forms : List (List ℕ) → Result (Unit {0}) ℕ
+field_forms [] = Ok tt
+field_forms (line ∷ lines) = also (judged (field_of line)) (field_forms lines)
+
+-- behind SCREEN stand field lines, and behind another line texts
+unfoldable pub further_forms : Block → Result (Unit {0}) ℕ
+further_forms block = if is_screen block.line then field_forms block.further else text_forms block.further
 
 unfoldable pub printable_block : Block → Result (Unit {0}) ℕ
 printable_block block = if are_printable block.line && list_all are_printable block.further then Ok tt else Err 6
 
 -- the form of the first line, where no line of the block breaks a rule; else the lowest rule that one of them breaks
 unfoldable pub block_form : ℕ → Block → Result Form ℕ
-block_form regions block = also (form_of regions block.line) (also (further_forms block.further) (printable_block block))
+block_form regions block = also (form_of regions block.line) (also (further_forms block) (printable_block block))
 
 -- the texts of an input's segments: the first is the third operand of its line
 abbrev pub input_text : List ℕ → List ℕ
@@ -108,21 +148,51 @@ abbrev pub first_long : List (List ℕ) → Option ℕ
 first_long [] = None
 first_long (text ∷ texts) = if nat_lt 1996 (length text) then Some (length text) else first_long texts
 
-abbrev pub input_asked : List ℕ → ℕ → List (List ℕ) → Option ℕ → Asked
-input_asked terminal number texts (Some long) = TooLong terminal number long
-input_asked terminal number texts None = Call (Input terminal number texts)
+-- the values that the field lines of a screen give
+abbrev pub value_before : Result (List ℕ × List ℕ) ℕ → List FieldValue → List FieldValue
+value_before (Ok (name, text)) values = (record { name = name; text = text }) ∷ values
+value_before (Err rule) values = values
 
-abbrev pub asked_by : List (List ℕ) → Result Form ℕ → Asked
-asked_by texts (Ok (InputForm terminal number)) = input_asked terminal number texts (first_long texts)
-asked_by texts (Ok (ReceiveForm terminal)) = Call (Receive terminal)
-asked_by texts (Ok (AcknowledgeForm terminal number)) = Call (Acknowledge terminal number)
-asked_by texts (Ok (TurnForm region)) = Call (Turn region)
-asked_by texts (Ok (QuietForm most)) = Quiet most
-asked_by texts (Err rule) = Bad rule
+abbrev pub values_in : List (List ℕ) → List FieldValue
+values_in [] = []
+values_in (line ∷ lines) = value_before (field_of line) (values_in lines)
 
--- What a block asks for, of a system with so many regions. A block that breaks a rule asks for nothing.
-unfoldable pub asked_of : ℕ → Block → Asked
-asked_of regions block = asked_by (input_texts block) (block_form regions block)
+-- An input is refused for a segment that is too long, the first; before that one from a screen is refused
+-- where the terminal has no format, or for a name that is no field, the first. Where there is such a
+-- reason, a name that is no terminal's is refused as such before.
+abbrev pub is_terminal : System → List ℕ → Bool
+is_terminal system name = list_any (λ terminal. bytes_eq terminal name) system.terminals
+
+abbrev pub stopped : System → List ℕ → ℕ → InputStopped → Asked
+stopped system terminal number reason = Stopped terminal number (if is_terminal system terminal then reason else Terminal)
+
+abbrev pub unless_long : System → List ℕ → ℕ → List (List ℕ) → Option ℕ → Asked
+unless_long system terminal number texts (Some long) = stopped system terminal number (TooLong long)
+unless_long system terminal number texts None = Call (Input terminal number texts)
+
+abbrev pub input_asked : System → List ℕ → ℕ → List (List ℕ) → Asked
+input_asked system terminal number texts = unless_long system terminal number texts (first_long texts)
+
+abbrev pub entered_asked : System → List ℕ → ℕ → Result (List (List ℕ)) (List ℕ) → Asked
+entered_asked system terminal number (Ok texts) = input_asked system terminal number texts
+entered_asked system terminal number (Err name) = stopped system terminal number (Field name)
+
+abbrev pub screen_asked : System → List ℕ → ℕ → List FieldValue → Option FormatLines → Asked
+screen_asked system terminal number values (Some format) = entered_asked system terminal number (entered format values)
+screen_asked system terminal number values None = stopped system terminal number Format
+
+abbrev pub asked_by : System → Block → Result Form ℕ → Asked
+asked_by system block (Ok (InputForm terminal number)) = input_asked system terminal number (input_texts block)
+asked_by system block (Ok (ScreenForm terminal number)) = screen_asked system terminal number (values_in block.further) (format_of system terminal)
+asked_by system block (Ok (ReceiveForm terminal)) = Call (Receive terminal)
+asked_by system block (Ok (AcknowledgeForm terminal number)) = Call (Acknowledge terminal number)
+asked_by system block (Ok (TurnForm region)) = Call (Turn region)
+asked_by system block (Ok (QuietForm most)) = Quiet most
+asked_by system block (Err rule) = Bad rule
+
+-- What a block asks for of a system. A block that breaks a rule asks for nothing.
+unfoldable pub asked_of : System → Block → Asked
+asked_of system block = asked_by system block (block_form (length system.regions) block)
 
 -- What is asked can be asked of a system with so many regions: an input has a segment, and the region
 -- is there.
@@ -132,5 +202,5 @@ CanAsk regions (Call (Turn region)) = (1 ≤ region) × (region ≤ regions)
 CanAsk regions (Call (Receive terminal)) = ⊤
 CanAsk regions (Call (Acknowledge terminal number)) = ⊤
 CanAsk regions (Quiet most) = ⊤
-CanAsk regions (TooLong terminal number long) = ⊤
+CanAsk regions (Stopped terminal number reason) = ⊤
 CanAsk regions (Bad rule) = ⊤

@@ -1,15 +1,15 @@
 -- A session: its blocks, the lives whose entries they stand for, and what is printed.
-use Rattle.std.specs.Prelude.{◌≡◌, ◌⊎◌, ℕ, None, List, [], ◌∷◌, ◌++◌, length}
+use Rattle.std.specs.Prelude.{◌≡◌, ◌⊎◌, ℕ, None, List, [], ◌∷◌, ◌++◌}
 use Rattle.model_machine.specs.declared.entry.Entry.{Entry}
 use Rattle.model_system.specs.System.{System}
 use Rattle.model_machine.specs.Machine.{LastingState, Moment, empty_state, start_of}
 use Rattle.model_machine.specs.Steps.{After}
 use Rattle.model_machine.specs.History.{call_of, moment_after, IsLegal}
 use Rattle.model_session.specs.declared.asked.Asked.{Asked}
-use Rattle.model_session.specs.declared.asked.Asked.TheVariants.{Bad, TooLong, Call, Quiet}
+use Rattle.model_session.specs.declared.asked.Asked.TheVariants.{Bad, Stopped, Call, Quiet}
 use Rattle.model_session.specs.Blocks.{Block}
 use Rattle.model_session.specs.Lines.{asked_of}
-use Rattle.model_session.specs.Text.{entry_text, bad_line_text, too_long_text}
+use Rattle.model_session.specs.Text.{entry_text, bad_line_text, stopped_text}
 use Rattle.model_session.specs.Turns.{IsQuieted, IsBrokenOff, quieted_text}
 
 -- ---- lives
@@ -40,22 +40,18 @@ pub data Standing : Type 0 where
 abbrev pub Onward : Type 1
 Onward = Standing → List LifeState → List ℕ → Type 0
 
--- what a block asks for of this system
-abbrev pub asked_in : System → Block → Asked
-asked_in system block = asked_of (length system.regions) block
-
 -- One block takes its part off the entries and the text; `Rest` holds of what is left. A bad one, and an
--- input with a segment that is too long, have a text of their own and no entry. One that asks for a call
+-- input that is refused before it is asked for, have a text of their own and no entry. One that asks for a call
 -- stands for the next entry, which answers that call, and has the entry's text. QUIET stands for turns,
 -- and has one text for all of them. No block is served while the system is down, as it never is yet.
 abbrev pub IsServedBy : Asked → System → Standing → List LifeState → List ℕ → Onward → Type 0
 IsServedBy (Bad rule) system (Up moment entries) lives text Rest =
     (later : List ℕ) × (text ≡ bad_line_text rule ++ later) × Rest (Up moment entries) lives later
-IsServedBy (TooLong terminal number long) system (Up moment entries) lives text Rest =
-    (later : List ℕ) × (text ≡ too_long_text system terminal number long ++ later) × Rest (Up moment entries) lives later
+IsServedBy (Stopped terminal number reason) system (Up moment entries) lives text Rest =
+    (later : List ℕ) × (text ≡ stopped_text terminal number reason ++ later) × Rest (Up moment entries) lives later
 IsServedBy (Call call) system (Up moment entries) lives text Rest =
     (entry : Entry) × (others : List Entry) × (later : List ℕ)
-    × (entries ≡ entry ∷ others) × (call_of entry ≡ call) × (text ≡ entry_text moment entry ++ later)
+    × (entries ≡ entry ∷ others) × (call_of entry ≡ call) × (text ≡ entry_text system moment entry ++ later)
     × Rest (Up (After system moment call) others) lives later
 IsServedBy (Quiet most) system (Up moment entries) lives text Rest =
     (turns : List Entry) × (others : List Entry) × (later : List ℕ)
@@ -76,7 +72,7 @@ abbrev pub AreServed : System → Left → List Block → Standing → List Life
 AreServed system left [] (Up moment entries) lives text = left moment entries × (lives ≡ []) × (text ≡ [])
 AreServed system left [] Down lives text = ⊥
 AreServed system left (block ∷ blocks) standing lives text =
-    IsServedBy (asked_in system block) system standing lives text (λ after ahead later. AreServed system left blocks after ahead later)
+    IsServedBy (asked_of system block) system standing lives text (λ after ahead later. AreServed system left blocks after ahead later)
 
 -- What stands of the first of these blocks, none of which was served: nothing, but of a QUIET the
 -- turns up to where they broke off.
@@ -86,7 +82,7 @@ IsBegunBy _ system moment entries = entries ≡ []
 
 abbrev pub IsBegun : System → List Block → Left
 IsBegun system [] moment entries = entries ≡ []
-IsBegun system (block ∷ blocks) moment entries = IsBegunBy (asked_in system block) system moment entries
+IsBegun system (block ∷ blocks) moment entries = IsBegunBy (asked_of system block) system moment entries
 
 -- ---- sessions
 

@@ -1,15 +1,18 @@
 -- What is printed for an entry.
-use Rattle.std.specs.Prelude.{ℕ, Bool, if◌then◌else◌, Option, Result, Ok, Err, List, [], ◌∷◌, ◌++◌, take, slice_get, codes, decimal}
+use Rattle.std.specs.Prelude.{ℕ, suc, Option, Some, None, Result, Ok, Err, List, [], ◌∷◌, ◌++◌, ◌/◌, take, slice_get, codes, decimal}
 use Rattle.std.specs.Option.{option_map_or, option_and_then}
-use Rattle.std.specs.List.{flat_map, list_any}
-use Rattle.std.specs.Str.{bytes_eq}
+use Rattle.std.specs.List.{flat_map}
 use Rattle.tm_types.specs.Function.{function_name}
-use Rattle.tm_types.specs.Digits.{four_digits}
+use Rattle.tm_types.specs.Digits.{four_digits, digit}
 use Rattle.tm_types.specs.declared.status.Status.{Status}
 use Rattle.tm_types.specs.declared.status.Status.TheVariants.{Blank}
 use Rattle.tm_types.specs.Status.{status_text}
 use Rattle.tm_types.specs.declared.message.Reply.{Reply}
+use Rattle.model_format.specs.Formats.{FormatLines}
+use Rattle.model_format.specs.Showing.{shown}
+use Rattle.model_system.specs.Formats.{format_of}
 use Rattle.model_system.specs.System.{System}
+use Rattle.model_message.specs.Calls.{without_blanks}
 use Rattle.model_machine.specs.declared.entry.Entry.{Entry}
 use Rattle.model_machine.specs.declared.entry.Entry.TheVariants.{Accept, Show, Acked as AckedEntry, Turn}
 use Rattle.model_machine.specs.declared.entry.ControlFault.{ControlFault}
@@ -26,6 +29,8 @@ use Rattle.model_machine.specs.declared.entry.AckRefused.TheVariants.{Unknown as
 use Rattle.model_machine.specs.declared.entry.Turned.{Turned}
 use Rattle.model_machine.specs.declared.entry.Turned.TheVariants.{Scheduled, Called, Next, QC, Done, Abended, Idle, Held}
 use Rattle.model_machine.specs.Machine.{Moment, output_at}
+use Rattle.model_session.specs.declared.asked.InputStopped.{InputStopped}
+use Rattle.model_session.specs.declared.asked.InputStopped.TheVariants.{Terminal as StoppedTerminal, Format as StoppedFormat, Field as StoppedField, TooLong}
 use Rattle.model_machine.specs.Lasting.{code_word}
 
 -- a word and a blank
@@ -67,6 +72,24 @@ segments_text (segment ∷ segments) = segment ++ line_end ++ flat_map further_l
 abbrev pub reply_text : List ℕ → Reply → List ℕ
 reply_text terminal reply = about (codes "OUT") terminal reply.number ++ 32 ∷ [] ++ segments_text reply.segments
 
+-- A page has a line for each row that isn't blank, with the row's number, counted from 1, in two digits.
+-- Blanks at the end of a row are dropped.
+abbrev pub row_text : ℕ → List ℕ → List ℕ
+row_text number [] = []
+row_text number (b ∷ bytes) = codes "+ " ++ digit (number / 10) ∷ digit number ∷ 32 ∷ b ∷ bytes ++ line_end
+
+abbrev pub rows_text : ℕ → List (List ℕ) → List ℕ
+rows_text number [] = []
+rows_text number (row ∷ rows) = row_text number (without_blanks row) ++ rows_text (suc number) rows
+
+abbrev pub page_text : List ℕ → ℕ → List (List ℕ) → List ℕ
+page_text terminal number rows = about (codes "OUT") terminal number ++ codes " PAGE" ++ line_end ++ rows_text 1 rows
+
+-- a terminal with a format shows the page of a reply, and another one its segments
+abbrev pub shown_text : List ℕ → Option FormatLines → Reply → List ℕ
+shown_text terminal (Some format) reply = page_text terminal reply.number (shown format reply.segments)
+shown_text terminal None reply = reply_text terminal reply
+
 -- a terminal without a reply, and a name that is no terminal's
 abbrev pub none_text : List ℕ → List ℕ
 none_text terminal = spaced (codes "NONE") ++ terminal ++ line_end
@@ -79,10 +102,10 @@ abbrev pub first_reply : Moment → List ℕ → Option Reply
 first_reply moment terminal = option_and_then (λ found. slice_get found.replies 0) (output_at moment.lasting.outputs terminal)
 
 -- the entry keeps the number of the reply that was shown; the text is that of the reply
-abbrev pub show_text : Moment → List ℕ → ShowAnswer → List ℕ
-show_text moment terminal (Showed number) = option_map_or (reply_text terminal) (first_reply moment terminal) []
-show_text moment terminal Empty = none_text terminal
-show_text moment terminal ShowUnknown = unknown_text terminal
+abbrev pub show_text : System → Moment → List ℕ → ShowAnswer → List ℕ
+show_text system moment terminal (Showed number) = option_map_or (shown_text terminal (format_of system terminal)) (first_reply moment terminal) []
+show_text system moment terminal Empty = none_text terminal
+show_text system moment terminal ShowUnknown = unknown_text terminal
 
 abbrev pub ack_text : List ℕ → ℕ → Result Acked AckRefused → List ℕ
 ack_text terminal number (Ok Removed) = about (codes "ACKED") terminal number ++ line_end
@@ -119,23 +142,22 @@ turn_text region (Ok turned) = turned_text region turned
 turn_text region (Err fault) = []
 
 -- What is printed for an entry at the moment before it. A fault has no text yet, since no call meets one.
-abbrev pub entry_text : Moment → Entry → List ℕ
-entry_text moment (Accept terminal number segments answer) = input_text terminal number (shown_word (code_word segments)) answer
-entry_text moment (Show terminal answer) = show_text moment terminal answer
-entry_text moment (AckedEntry terminal number answer) = ack_text terminal number answer
-entry_text moment (Turn region answer) = turn_text region answer
+abbrev pub entry_text : System → Moment → Entry → List ℕ
+entry_text system moment (Accept terminal number segments answer) = input_text terminal number (shown_word (code_word segments)) answer
+entry_text system moment (Show terminal answer) = show_text system moment terminal answer
+entry_text system moment (AckedEntry terminal number answer) = ack_text terminal number answer
+entry_text system moment (Turn region answer) = turn_text region answer
 
 -- what is printed for a block that breaks a rule
 abbrev pub bad_line_text : ℕ → List ℕ
 bad_line_text rule = codes "BAD LINE " ++ decimal rule ++ line_end
 
--- What is printed for an input with a segment of so many bytes, which are too many; a name that is no
--- terminal's is refused as such.
-abbrev pub is_terminal : System → List ℕ → Bool
-is_terminal system name = list_any (λ terminal. bytes_eq terminal name) system.terminals
+-- what is printed for an input that is refused before the control region is asked for it
+abbrev pub reason_text : InputStopped → List ℕ
+reason_text StoppedTerminal = codes " TERMINAL"
+reason_text StoppedFormat = codes " FORMAT"
+reason_text (StoppedField name) = codes " FIELD " ++ name
+reason_text (TooLong long) = codes " LENGTH " ++ decimal long ++ codes " 1996"
 
-abbrev pub too_long_text : System → List ℕ → ℕ → ℕ → List ℕ
-too_long_text system terminal number long =
-    if is_terminal system terminal
-    then about (codes "REFUSED") terminal number ++ codes " LENGTH " ++ decimal long ++ codes " 1996" ++ line_end
-    else about (codes "REFUSED") terminal number ++ codes " TERMINAL" ++ line_end
+abbrev pub stopped_text : List ℕ → ℕ → InputStopped → List ℕ
+stopped_text terminal number reason = about (codes "REFUSED") terminal number ++ reason_text reason ++ line_end

@@ -4,3 +4,4 @@ pub mod System
 pub mod Codes
 pub mod CodeStates
 pub mod Jobs
+pub mod Formats

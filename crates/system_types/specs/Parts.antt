@@ -3,4 +3,4 @@ use Rattle.model_system.specs.System.{System}
 use Rattle.system_types.specs.declared.system.SystemParts.{SystemParts}
 
 abbrev pub parts_of : SystemParts → System
-parts_of parts = record { qbytes = parts.qbytes; logs = parts.logs; databases = parts.databases.items; programs = parts.programs.items; codes = parts.codes.items; terminals = parts.terminals.items; regions = parts.regions.items }
+parts_of parts = record { qbytes = parts.qbytes; logs = parts.logs; databases = parts.databases.items; programs = parts.programs.items; codes = parts.codes.items; terminals = parts.terminals.items; screens = parts.screens.items; formats = parts.formats.items; regions = parts.regions.items }

@@ -6,6 +6,7 @@ use Rattle.model_script.specs.declared.program.ScriptLine.{ScriptLine}
 use Rattle.model_script.specs.declared.script_ssa.ScriptSsa.{ScriptSsa}
 use Rattle.model_script.specs.declared.statement.Statement.TheVariants.{Call}
 use Rattle.model_script.specs.Script.{ScriptState, call_ssa}
+use Rattle.model_format.specs.Breaks.{KeepsRule}
 use Rattle.model_system.specs.declared.code.Code.{Code}
 use Rattle.model_system.specs.declared.pcb.Pcb.{Pcb}
 use Rattle.model_system.specs.declared.pcb.Pcb.TheVariants.{Database, Destination, Modifiable}
@@ -63,7 +64,7 @@ pub record IsServable (databases : List Dbd) (pcbs : List Pcb) (lines : List Scr
 
 -- The counts, the bytes of the queues and the sectors of a log area lie within their limits, databases
 -- and programs are as above, each code has a program, and a code is found by its name at its place.
--- Where there is a database there is one region at most.
+-- Each format keeps the rule among its lines. Where there is a database there is one region at most.
 pub record IsSystem (system : System) : Type 0 where
   pub least_bytes : 131072 ≤ system.qbytes
   pub most_bytes : system.qbytes ≤ 8388608
@@ -78,6 +79,8 @@ pub record IsSystem (system : System) : Type 0 where
   pub apart : (place : ℕ) (code : Code) → slice_get system.codes place ≡ Some code → code_place system.codes code.transaction.code ≡ Some place
   pub some_terminal : 1 ≤ length system.terminals
   pub few_terminals : length system.terminals ≤ 64
+  pub few_formats : length system.formats ≤ 32
+  pub formats : All (λ format. KeepsRule format.format) system.formats
   pub some_region : 1 ≤ length system.regions
   pub few_regions : length system.regions ≤ 8
   pub one_region : (system.databases ≡ []) ⊎ (length system.regions ≤ 1)

@@ -1,6 +1,7 @@
 //! A system definition: its macros, with their operands.
 ghost use Rattle.std.specs.Prelude.{◌≡◌};
 
+use model_format::Format;
 use model_script::Program;
 use model_system::{Classes, Transaction};
 use std::marker::Model;
@@ -44,13 +45,19 @@ pub enum Macro {
     ModifiablePcb,
     /// TRANSACT.
     Transaction(Transaction),
-    /// NAME.
+    /// NAME: the terminal, and the name of its format, if it has one.
     Terminal {
         name: Name,
+        format: Option<Name>,
     },
     /// REGION.
     Region {
         classes: Classes,
+    },
+    /// FMT, with the lines up to its FMTEND.
+    Format {
+        name: Name,
+        format: Format,
     },
     /// PROGRAM, with the lines up to its ENDPROG.
     Program {

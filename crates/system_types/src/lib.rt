@@ -1,7 +1,7 @@
 //! A system as its definition gives it, and the states of its codes.
 //!
 //! `System` keeps the facts that the rules on a definition give, so that no layer above tests them
-//! again: they stand in `specs/Valid.antt`. It finds a code, a terminal and what serves a code by name.
+//! again: they stand in `specs/Valid.antt`. It finds a code, a terminal, its format, and what serves a code by name.
 #![tactic(auto)]
 
 pub use codes::Codes;
@@ -9,12 +9,14 @@ pub use definition::{Definition, Macro, MacroLine};
 pub use indexes::add_name;
 pub use job::Job;
 pub use model_system::{
-    Classes, Code, CodeState, Pcb, Pcbs, SegmentKind, SystemProgram, Transaction,
+    Classes, Code, CodeState, Pcb, Pcbs, Screen, SegmentKind, SystemFormat, SystemProgram,
+    Transaction,
 };
 pub use system::{System, SystemParts};
 
 mod codes;
 mod definition;
+mod formats;
 mod indexes;
 mod job;
 mod system;

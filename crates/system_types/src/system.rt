@@ -3,15 +3,19 @@ ghost use Rattle.std.specs.Prelude.{◌≡◌, ◌<◌, ℕ, List, IfOk, IfSome,
 ghost use Rattle.std.specs.Option.{option_copied, option_map};
 ghost use Rattle.std.specs.Str.{bytes_eq};
 ghost use Rattle.model_system.specs.Codes.{code_at, code_place};
+ghost use Rattle.model_format.specs.Breaks.{KeepsRule};
+ghost use Rattle.model_system.specs.Formats.{format_of};
 ghost use Rattle.model_system.specs.Jobs.{job_of};
 ghost use Rattle.system_types.specs.Parts.{parts_of};
 ghost use Rattle.system_types.specs.Jobs.{lent_job};
 ghost use Rattle.system_types.specs.Valid.{IsServable, IsSystem};
 
 use crate::Job;
+use crate::formats::{format_name, format_named};
 use crate::indexes::{code_at, codes_by_name, program_at, program_places, terminals_by_name};
 use crate::job::job_of;
-use model_system::{Classes, Code, SystemProgram};
+use model_format::Format;
+use model_system::{Classes, Code, Screen, SystemFormat, SystemProgram};
 use std::alloc::{AllocError, Global};
 use std::collections::BTreeMap;
 use std::marker::Model;
@@ -28,6 +32,9 @@ pub struct SystemParts {
     pub programs: Vec<SystemProgram>,
     pub codes: Vec<Code>,
     pub terminals: Vec<Name>,
+    /// The terminals that have a format.
+    pub screens: Vec<Screen>,
+    pub formats: Vec<SystemFormat>,
     pub regions: Vec<Classes>,
 }
 
@@ -159,6 +166,16 @@ impl System {
         ensures valid { IsSystem self.now }
     {
         self.terminals_by_name.get(name).copied()
+    }
+
+    /// The format of the terminal of this name: None where it has none, or is no terminal.
+    pub fn format_of(&self, terminal: &Name) -> Option<&Format>
+        ensures value { option_copied result ≡ format_of self.now terminal.now }
+        ensures kept { IfSome result (λ format. KeepsRule format.now) }
+        ensures valid { IsSystem self.now }
+    {
+        let name = format_name(&self.parts.screens, terminal)?;
+        format_named(&self.parts.formats, &name)
     }
 
     /// The classes of each region; the first region has number 1.

@@ -1,0 +1,146 @@
+//! The enqueue table.
+ghost use Rattle.std.specs.Prelude.{◌≡◌, ◌<◌, ◌^◌, IfOk, OnOk, OnErr};
+ghost use Rattle.std.specs.List.{AllByRecursion};
+ghost use Rattle.std.specs.Option.{option_map};
+ghost use Rattle.model_enqueue.specs.Table.{empty_table, is_served, blocked_by, lowest_holder, wait_of, waits_by, waits_for};
+ghost use Rattle.model_enqueue.specs.Ask.{answer_to, after_ask, after_asks, first_blocked, released, waits_for_nothing};
+ghost use Rattle.model_enqueue.specs.Cycle.{IsRegion};
+ghost use Rattle.pi_enqueue.specs.Kept.{IsKept, WaitsForNothingElse};
+
+use crate::lists::Lists;
+use model_enqueue::{Asked, Request};
+use std::alloc::Global;
+use std::marker::Model;
+use tm_types::{Memory, Mode, Resource};
+
+#[derive(Debug, Drop)]
+enum Never {}
+
+/// Which regions hold which resources, and which wait for one.
+///
+/// Regions are numbered from 1. A region waits for one resource at most. Holders of one resource go
+/// together: whoever holds it alone has no other beside it.
+#[derive(Debug, Drop)]
+pub struct Table {
+    lists: Lists,
+    never: Never,
+}
+
+impl Model for Table {
+    ghost use Rattle.model_enqueue.specs.Table.{EnqueueTable};
+    ghost use Rattle.pi_enqueue.specs.Lists.{seen, AreKept};
+
+    ghost Value = { EnqueueTable };
+
+    ghost view = { λ t. seen t.lists };
+
+    ghost invariant = { λ t. AreKept t.lists };
+}
+
+impl Table {
+    /// A table of so many regions, in which nobody holds anything or waits.
+    pub fn new(alloc: Global, regions: u32) -> Result<Table, Memory>
+        ensures { IfOk result (λ table. table ≡ empty_table regions) }
+    {
+        Err(Memory)
+    }
+
+    /// How many regions there are.
+    pub fn regions(&self) -> u32
+        ensures value { result ≡ self.now.regions }
+        ensures small { self.now.regions < 2 ^ 32 }
+        ensures kept { IsKept self.now }
+    {
+        match self.never {}
+    }
+
+    /// The region asks for a resource in a mode.
+    ///
+    /// What it holds in the same or a stronger mode is granted. Any other request waits where another
+    /// region holds the resource in a mode that doesn't go together with it, or an earlier waiter for it
+    /// stands; else it is granted, and the region waits no longer. A new waiter stands behind all
+    /// others, but one that holds the resource in a weaker mode stands before all that don't hold it.
+    /// A waiter that is still blocked keeps its place. `Waits` tells the lowest such holder, or else the
+    /// earliest such waiter. At `Memory` nothing has changed.
+    pub fn ask(&mut self, region: u32, resource: Resource, mode: Mode) -> Result<Asked, Memory>
+        requires region { IsRegion self.old region }
+        requires waits { WaitsForNothingElse (record { region = region; resource = resource; mode = mode }) self.old }
+        ensures answer { IfOk result (λ asked. asked ≡ answer_to (blocked_by (record { region = region; resource = resource; mode = mode }) self.old)) }
+        ensures ok { OnOk result (self.new ≡ after_ask (record { region = region; resource = resource; mode = mode }) self.old) }
+        ensures err { OnErr result (self.new ≡ self.old) }
+    {
+        Err(Memory)
+    }
+
+    /// The region asks for all that a call needs, in this order, up to the first request that is
+    /// blocked, and answers that request with the region that blocks it.
+    ///
+    /// What is asked before it is granted and kept. For the blocked one alone the region then waits,
+    /// and where none is blocked, for nothing. At `Memory` nothing has changed.
+    pub fn ask_all(
+        &mut self,
+        region: u32,
+        requests: &[Request],
+    ) -> Result<Option<(Request, u32)>, Memory>
+        requires region { IsRegion self.old region }
+        requires own { AllByRecursion (λ request. request.region ≡ region) requests.now }
+        ensures answer { IfOk result (λ blocked. blocked ≡ first_blocked requests.now self.old) }
+        ensures ok { OnOk result (self.new ≡ after_asks region requests.now self.old) }
+        ensures err { OnErr result (self.new ≡ self.old) }
+    {
+        Err(Memory)
+    }
+
+    /// The region waits for nothing any longer. This takes no memory.
+    pub fn stop_waiting(&mut self, region: u32)
+        ensures { self.new ≡ waits_for_nothing region self.old }
+    {
+        match self.never {}
+    }
+
+    /// The region holds nothing any longer and waits for nothing. This takes no memory.
+    pub fn release_all(&mut self, region: u32)
+        requires { IsRegion self.old region }
+        ensures { self.new ≡ released region self.old }
+    {
+        match self.never {}
+    }
+
+    /// Whether the region holds the resource in this or a stronger mode.
+    pub fn holds(&self, region: u32, resource: &Resource, mode: Mode) -> bool
+        ensures { result ≡ is_served (record { region = region; resource = resource.now; mode = mode }) self.now.holds }
+    {
+        match self.never {}
+    }
+
+    /// The lowest region that holds the resource; None where none does.
+    pub fn holder(&self, resource: &Resource) -> Option<u32>
+        ensures { result ≡ lowest_holder resource.now self.now }
+    {
+        match self.never {}
+    }
+
+    /// The resource for which the region waits; None where it waits for none.
+    pub fn waits(&self, region: u32) -> Option<Resource>
+        ensures { result ≡ option_map (λ request. request.resource) (wait_of region self.now) }
+    {
+        match self.never {}
+    }
+
+    /// The region that blocks what this one waits for: the lowest holder that it can't go together
+    /// with, or else the earliest waiter before it. None exactly where it waits for nothing, or nothing
+    /// blocks it.
+    pub fn by(&self, region: u32) -> Option<u32>
+        ensures { result ≡ waits_by region self.now }
+    {
+        match self.never {}
+    }
+
+    /// Whether the first region waits for the second: whether that is one of the holders that its
+    /// request can't go together with, or of the waiters before it.
+    pub fn waits_for(&self, a: u32, b: u32) -> bool
+        ensures { result ≡ waits_for a b self.now }
+    {
+        match self.never {}
+    }
+}
