@@ -1,9 +1,3 @@
-pub mod Finding
-pub mod Rising
-pub mod Fitting
-pub mod Within
-pub mod Places
-pub mod Walking
 pub mod Edits
 pub mod Asking
 pub mod NewRows

@@ -1,4 +1,3 @@
-pub mod Walk
 pub mod Performs
 pub mod Plans
 pub mod Edited

@@ -13,13 +13,12 @@ ghost use Rattle.model_dli.specs.Dli.{insert, replace, delete};
 ghost use Rattle.dli_calls.specs.Plans.{IsThere, Plans};
 ghost use Rattle.dli_calls.specs.Edited.{IsEdit};
 
-use crate::asked::{data_length, fitted_bytes, fitted_key};
 use crate::edit;
 use crate::inserting::{insert_fault, insert_row};
 use crate::planned::{Planned, answer_at, set_record};
-use crate::search::{is_there, record_rows};
 use model_dli::{DbCall, Position};
 use model_rows::{Path, Row};
+use row_search::{data_length, fitted_bytes, fitted_key, is_there, record_rows};
 use seg_rows::{RecordImage, Rows};
 use std::alloc::Global;
 use tm_types::{Dbd, Key, Memory, SegTypes, Status};

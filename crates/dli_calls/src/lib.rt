@@ -8,13 +8,11 @@ pub use calls::{perform, plan, would_change};
 pub use model_dli::{DbCall, Performed, Position};
 pub use planned::{Edit, Planned};
 
-mod asked;
 mod calls;
 mod change;
 mod edit;
 mod get;
 mod inserting;
 mod planned;
-mod search;
 #[cfg(test)]
 mod tests;

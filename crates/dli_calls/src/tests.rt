@@ -6,8 +6,8 @@ ghost use Rattle.tm_types.specs.SegTypes.{type_at};
 ghost use Rattle.model_dli.specs.Search.{number_named};
 ghost use Rattle.model_dli.specs.Conditions.{AreInsertSsas, NamesChild, IsDbCall, IsPosition};
 
-use crate::asked::number_named;
 use crate::{DbCall, Position, perform, would_change};
+use row_search::number_named;
 use seg_rows::{PlainRows, Rows, StoreRefused};
 use std::alloc::Global;
 use std::test::Fail;

@@ -42,6 +42,15 @@ all_unblocked blocked [] h = refl
 all_unblocked blocked (need ∷ needs) h =
     ap (λ b. need ∷ cond b [] (up_to_blocked blocked needs)) h.0 ∙ ap (λ ns. need ∷ ns) (all_unblocked blocked needs h.1)
 
+-- a list of rows agrees with itself
+pub agree_itself : (rows : List Row) (needs : List Need) → AgreeOn needs rows rows
+agree_itself rows [] = tt
+agree_itself rows (need ∷ needs) = (at need.root, agree_itself rows needs)
+  where
+    at : (root : Option (List ℕ)) → AgreeAt root rows rows
+    at None = refl
+    at (Some root) = refl
+
 module _ (dbd : Dbd) (all : IsHierarchy dbd.types) (a b : List Row) (valid_a : AreRows dbd a) (valid_b : AreRows dbd b) (blocked : Need → Bool) where
   -- the sequence, and a search along some of the roots
   sequence_front : (test : Row → Bool) (mode : Mode) (some : List (List ℕ) → List (List ℕ)) → IsStrictlySortedBy key_cmp (some (roots a))
