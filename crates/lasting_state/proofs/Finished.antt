@@ -17,8 +17,10 @@ use Rattle.model_machine.specs.declared.lasting.CodeSetting.{CodeSetting}
 use Rattle.model_machine.specs.Lasting.{finished as finished_state, finished_by, all_sent, switched, replied, without_message, abend_outputs}
 use Rattle.model_machine.specs.Lasting.LastingStep.{Completes, Discards}
 use Rattle.tm_types.specs.declared.abend.AbendCode.{AbendCode}
-use Rattle.program_rows.specs.State.{DatabasesState, rows_of}
-use Rattle.lasting_state.specs.Tables.{TablesState, lasting_of, finished, with_databases, committed_databases, backed_databases, Applies, IsFinished, IsClosed}
+use Rattle.model_rows.specs.declared.row.Row.{Row}
+use Rattle.program_rows.specs.State.{DatabasesState, region_at, rows_of}
+use Rattle.program_rows.specs.Answering.{IsCommitted, IsGivenUp}
+use Rattle.lasting_state.specs.Tables.{TablesState, lasting_of, finished, with_databases, Applies, IsFinished, IsClosed}
 use Rattle.lasting_state.specs.Sending.{switches, switched_message, switched_messages, with_messages, with_replies, IsSent}
 use Rattle.lasting_state.proofs.Sent.{with_terminal_none, switches_still, switches_code, switches_terminal}
 
@@ -154,23 +156,29 @@ closed_by databases sends old new id h settings =
     by (Some message) e g = ap (lasting_of settings) g.1 ∙ closed_lasting settings old message (sends message) databases
     by None e g = absurd g
 
-pub completes_is : (old new : TablesState) (id : ℕ) (outputs : List EndedMessage) → IsClosed (committed_databases old.databases) (λ _. outputs) old new id
-    → Applies (Completes id (rows_of old.databases.stores) outputs) old new
-completes_is old new id outputs h = closed_by (committed_databases old.databases) (λ _. outputs) old new id h
+pub completes_is : (region : ℕ) (old new : TablesState) (id : ℕ) (outputs : List EndedMessage) → IsCommitted region old.databases new.databases
+    → IsClosed new.databases (λ _. outputs) old new id → Applies (Completes id (region_at region old.databases).rows outputs) old new
+completes_is region old new id outputs stays h settings =
+    closed_by new.databases (λ _. outputs) old new id h settings
+    ∙ ap {A = List (List Row)} (λ rows. record (finished_by (find (λ m. m.id == id) (messages_of old.queues.queued)) (λ _. outputs) (record (lasting_of settings old) { rows = rows })) { steps = old.steps + 1 })
+    stays.rows
 
-pub discards_is : (old new : TablesState) (id : ℕ) (abend : AbendCode) → IsClosed (backed_databases old.databases) (λ message. abend_outputs message abend) old new id
-    → Applies (Discards id abend) old new
-discards_is old new id abend h = closed_by (backed_databases old.databases) (λ message. abend_outputs message abend) old new id h
+pub discards_is : (region : ℕ) (old new : TablesState) (id : ℕ) (abend : AbendCode) → IsGivenUp region old.databases new.databases
+    → IsClosed new.databases (λ message. abend_outputs message abend) old new id → Applies (Discards id abend) old new
+discards_is region old new id abend back h settings =
+    closed_by new.databases (λ message. abend_outputs message abend) old new id h settings
+    ∙ ap {A = List (List Row)} (λ rows. record (finished_by (find (λ m. m.id == id) (messages_of old.queues.queued)) (λ message. abend_outputs message abend) (record (lasting_of settings old) { rows = rows })) { steps = old.steps + 1 })
+    (ap rows_of back.committed)
 
 -- what was finished, with the databases then
-pub closes : (change : DatabasesState → DatabasesState) (sends : Message → List EndedMessage) (outputs : List EndedMessage) (old middle new : TablesState) (id : ℕ)
+pub closes : (databases : DatabasesState) (sends : Message → List EndedMessage) (outputs : List EndedMessage) (old middle new : TablesState) (id : ℕ)
     → IsSomeAnd (message_at id old.queues.queued) (λ message. outputs ≡ sends message) → IsFinished old middle id outputs
-    → new ≡ with_databases middle (change middle.databases) → IsClosed (change old.databases) sends old new id
-closes change sends outputs old middle new id sent done is = by (message_at id old.queues.queued) sent done
+    → new ≡ with_databases middle databases → IsClosed databases sends old new id
+closes databases sends outputs old middle new id sent done is = by (message_at id old.queues.queued) sent done
   where
     by : (found : Option Message) → IsSomeAnd found (λ message. outputs ≡ sends message) → IsSomeAnd found (λ message. (message.id ≡ id) × (middle ≡ finished old message outputs))
-        → IsSomeAnd found (λ message. (message.id ≡ id) × (new ≡ with_databases (finished old message (sends message)) (change old.databases)))
-    by (Some message) s d = (d.0, is ∙ ap (λ t. with_databases t (change t.databases)) d.1 ∙ ap (λ os. with_databases (finished old message os) (change old.databases)) s)
+        → IsSomeAnd found (λ message. (message.id ≡ id) × (new ≡ with_databases (finished old message (sends message)) databases))
+    by (Some message) s d = (d.0, is ∙ ap (λ t. with_databases t databases) d.1 ∙ ap (λ os. with_databases (finished old message os) databases) s)
     by None s d = absurd d
 
 -- what holds of the message that is lent holds of the one that is there

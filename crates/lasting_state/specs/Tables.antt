@@ -1,5 +1,5 @@
 -- What lasts of a control region, as its tables keep it.
-use Rattle.std.specs.Prelude.{◌≡◌, ℕ, ◌+◌, ◌<◌, ◌≤◌, false, List, Some, IsSomeAnd, [], length, Result, Ok, Err}
+use Rattle.std.specs.Prelude.{◌≡◌, ℕ, ◌+◌, ◌<◌, ◌≤◌, false, List, Some, None, IsSomeAnd, length, Result, Ok, Err}
 use Rattle.tm_types.specs.declared.message.Message.{Message}
 use Rattle.tm_types.specs.Segment.{counted_bytes}
 use Rattle.model_queues.specs.declared.replies.TerminalReplies.{TerminalReplies}
@@ -23,8 +23,8 @@ use Rattle.lasting_state.specs.declared.tables.Enqueued.{Enqueued}
 use Rattle.lasting_state.specs.declared.tables.Enqueued.TheVariants.{New, Full}
 use Rattle.lasting_state.specs.Sending.{switches, switched_messages, with_messages, with_replies}
 
--- the databases as they were committed and as they are, the queues with the region that has each
--- message, and what else lasts but the settings of the codes
+-- the databases with what each region has changed, holds and waits for; the queues with the region that has
+-- each message; and what else lasts but the settings of the codes
 pub record TablesState : Type 0 where
   pub databases : DatabasesState
   pub queues : QueuesState
@@ -57,14 +57,6 @@ content_of t = messages_bytes (messages_of t.queues.queued) + outputs_bytes t.ou
 abbrev pub with_databases : TablesState → DatabasesState → TablesState
 with_databases t new = record t { databases = new }
 
--- the changes since the last commit stay
-abbrev pub committed_databases : DatabasesState → DatabasesState
-committed_databases d = record { committed = d.stores; stores = d.stores; changed = [] }
-
--- they are taken back
-abbrev pub backed_databases : DatabasesState → DatabasesState
-backed_databases d = record { committed = d.committed; stores = d.committed; changed = [] }
-
 -- what an input of these segments needs, with so many busy regions
 abbrev pub needs : TablesState → List (List ℕ) → ℕ → ℕ
 needs t segments busy = input_needs (content_of t) (counted_bytes segments) busy
@@ -89,6 +81,10 @@ IsEnqueued old new terminal number segments busy (Full needed limit) =
 -- a region has a message
 abbrev pub held : TablesState → ℕ → ℕ → TablesState
 held t id region = record t { queues = record t.queues { queued = with_holder id (Some region) t.queues.queued } }
+
+-- no region has a message any more, which keeps its place
+abbrev pub given_back : TablesState → ℕ → TablesState
+given_back t id = record t { queues = record t.queues { queued = with_holder id None t.queues.queued } }
 
 -- A message is gone, and what it sends was sent: to codes, as messages behind all others, and to
 -- terminals, as replies. One step more was done; the databases stay.

@@ -1,12 +1,14 @@
 //! What lasts of a control region: databases, messages, replies and numbers.
-ghost use Rattle.std.specs.Prelude.{◌≡◌, ◌<◌, ◌^◌, [], IfOk, OnOk, OnErr, IsSome, IsSomeAnd, None, Some, length, map, slice_get};
+ghost use Rattle.std.specs.Prelude.{◌≡◌, ◌<◌, ◌^◌, [], IfOk, OnOk, OnErr, IsSome, IsSomeAnd, None, Some, length, map, replicate, slice_get};
 ghost use Rattle.std.specs.Borrow.{sem};
 ghost use Rattle.model_queues.specs.Queue.{IsNewId, queued_at};
 ghost use Rattle.model_machine.specs.Machine.{output_at, empty_state, first_setting, terminal_place};
 ghost use Rattle.model_machine.specs.Lasting.{code_word, abend_outputs};
 ghost use Rattle.model_machine.specs.Lasting.LastingStep.{Completes, Discards};
-ghost use Rattle.program_rows.specs.State.{dbds_of, rows_of, IsClean};
-ghost use Rattle.lasting_state.specs.Tables.{lasting_of, content_of, committed_databases, backed_databases, held, Applies, IsEnqueued, IsFinished, IsClosed, IsAcknowledged};
+ghost use Rattle.model_enqueue.specs.Table.{empty_table};
+ghost use Rattle.program_rows.specs.State.{clean_region, committed_rows, dbds_of, region_at, IsRegionOf};
+ghost use Rattle.program_rows.specs.Answering.{IsCommitted, IsGivenUp};
+ghost use Rattle.lasting_state.specs.Tables.{lasting_of, content_of, with_databases, held, given_back, Applies, IsEnqueued, IsFinished, IsClosed, IsAcknowledged};
 ghost use Rattle.lasting_state.specs.Showing.{IsShown};
 
 use crate::Shown;
@@ -39,7 +41,7 @@ pub enum Enqueued {
 /// The databases, the messages, the replies, and the numbers of inputs and lasting steps.
 #[derive(Debug, Drop)]
 pub struct Tables {
-    /// The databases, with the changes of the work on one message.
+    /// The databases, with what each region has changed, holds and waits for.
     databases: Databases,
     /// The messages, each with the region that works on it.
     queues: Queues,
@@ -71,10 +73,12 @@ impl Tables {
         ensures lasting { IfOk result (λ tables. lasting_of (map first_setting system.now.codes) tables ≡ empty_state system.now) }
         ensures queues { IfOk result (λ tables. tables.queues ≡ record { limit = system.now.qbytes; queued = [] }) }
         ensures databases { IfOk result (λ tables. dbds_of tables.databases ≡ system.now.databases) }
-        ensures clean { IfOk result (λ tables. IsClean tables.databases) }
+        ensures regions { IfOk result (λ tables. tables.databases.regions ≡ replicate (length system.now.regions) (clean_region (committed_rows tables.databases))) }
+        ensures table { IfOk result (λ tables. tables.databases.table ≡ empty_table (length system.now.regions)) }
     {
+        let regions = system.regions().len() as u32;
         Ok(Tables {
-            databases: Databases::empty(alloc, system.databases())?,
+            databases: Databases::empty(alloc, system.databases(), regions)?,
             queues: Queues::new(alloc, system.qbytes()),
             next_id: 1,
             terminals: fresh_states(alloc, system.terminals())?,
@@ -105,6 +109,13 @@ impl Tables {
         ensures* writes_back { sem 𝓛 (LendsDatabases self.entry result) }
     {
         &mut self.databases
+    }
+
+    /// The databases.
+    pub fn databases(&self) -> &Databases
+        ensures { result.now ≡ self.now.databases }
+    {
+        &self.databases
     }
 
     /// The messages, each with the region that works on it.
@@ -175,28 +186,58 @@ impl Tables {
         self.queues.hold(id, region);
     }
 
-    /// Completes the message of this id: it goes, its outputs are sent in their order, and the changes
-    /// of the databases stay. Want of memory changes nothing; it is answered too where a count would
-    /// pass its limit.
-    pub fn complete(&mut self, id: u64, outputs: VecDeque<EndedMessage>) -> Result<(), Memory>
-        requires { IsSome (queued_at id self.old.queues.queued) }
-        ensures step { OnOk result (Applies (Completes id (rows_of self.old.databases.stores) outputs.items) self.old self.new) }
-        ensures closed { OnOk result (IsClosed (committed_databases self.old.databases) (λ _. outputs.items) self.old self.new id) }
+    /// Takes a message back from a region that gives way: it keeps its place, what the region has changed
+    /// in the databases is taken back, and it holds and waits for nothing any more. This takes no memory.
+    pub fn give_up(&mut self, region: u32, id: u64)
+        requires region { IsRegionOf self.old.databases region }
+        requires held { IsSomeAnd (queued_at id self.old.queues.queued) (λ q. IsSome q.holder) }
+        ensures tables { self.new ≡ with_databases (given_back self.old id) self.new.databases }
+        ensures databases { IsGivenUp region self.old.databases self.new.databases }
+        ensures dbds { dbds_of self.new.databases ≡ dbds_of self.old.databases }
+    {
+        self.databases.give_up(region);
+        self.queues.give_back(id);
+    }
+
+    /// Completes the message of this id in a region: it goes, its outputs are sent in their order, what the
+    /// region has changed in the databases stays, and it holds nothing any more. Want of memory changes
+    /// nothing; it is answered too where a count would pass its limit.
+    pub fn complete(
+        &mut self,
+        region: u32,
+        id: u64,
+        outputs: VecDeque<EndedMessage>,
+    ) -> Result<(), Memory>
+        requires region { IsRegionOf self.old.databases region }
+        requires found { IsSome (queued_at id self.old.queues.queued) }
+        ensures step { OnOk result (Applies (Completes id (region_at region self.old.databases).rows outputs.items) self.old self.new) }
+        ensures closed { OnOk result (IsClosed self.new.databases (λ _. outputs.items) self.old self.new id) }
+        ensures databases { OnOk result (IsCommitted region self.old.databases self.new.databases) }
+        ensures dbds { dbds_of self.new.databases ≡ dbds_of self.old.databases }
         ensures err { OnErr result (self.new ≡ self.old) }
         ensures above { IsNewId self.old.next_id self.old.queues.queued }
     {
         self.finish(id, outputs)?;
-        self.databases.commit();
+        self.databases.commit(region);
         Ok(())
     }
 
-    /// Discards the message of this id, the work on which ended abnormally: it goes, its origin is told
-    /// so, and the changes of the databases are taken back. Want of memory changes nothing; it is
-    /// answered too where a count would pass its limit.
-    pub fn discard(&mut self, alloc: Global, id: u64, abend: AbendCode) -> Result<(), Memory>
-        requires { IsSome (queued_at id self.old.queues.queued) }
+    /// Discards the message of this id, the work on which ended abnormally in a region: it goes, its origin
+    /// is told so, what the region has changed in the databases is taken back, and it holds nothing any
+    /// more. Want of memory changes nothing; it is answered too where a count would pass its limit.
+    pub fn discard(
+        &mut self,
+        alloc: Global,
+        region: u32,
+        id: u64,
+        abend: AbendCode,
+    ) -> Result<(), Memory>
+        requires region { IsRegionOf self.old.databases region }
+        requires found { IsSome (queued_at id self.old.queues.queued) }
         ensures step { OnOk result (Applies (Discards id abend) self.old self.new) }
-        ensures closed { OnOk result (IsClosed (backed_databases self.old.databases) (λ message. abend_outputs message abend) self.old self.new id) }
+        ensures closed { OnOk result (IsClosed self.new.databases (λ message. abend_outputs message abend) self.old self.new id) }
+        ensures databases { OnOk result (IsGivenUp region self.old.databases self.new.databases) }
+        ensures dbds { dbds_of self.new.databases ≡ dbds_of self.old.databases }
         ensures err { OnErr result (self.new ≡ self.old) }
         ensures above { IsNewId self.old.next_id self.old.queues.queued }
     {
@@ -205,7 +246,7 @@ impl Tables {
         };
         let outputs = abend_outputs(alloc, message, abend)?;
         self.finish(id, outputs)?;
-        self.databases.back_out();
+        self.databases.give_up(region);
         Ok(())
     }
 
@@ -213,6 +254,7 @@ impl Tables {
     fn finish(&mut self, id: u64, outputs: VecDeque<EndedMessage>) -> Result<(), Memory>
         requires { IsSome (queued_at id self.old.queues.queued) }
         ensures ok { OnOk result (IsFinished self.old self.new id outputs.items) }
+        ensures databases { self.new.databases ≡ self.old.databases }
         ensures err { OnErr result (self.new ≡ self.old) }
         ensures above { IsNewId self.old.next_id self.old.queues.queued }
     {

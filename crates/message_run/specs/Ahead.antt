@@ -1,11 +1,10 @@
 -- A region's work is what as many calls of its script, made from the start on the rows that are committed, lead
 -- to, whatever other regions have changed meanwhile.
-use Rattle.std.specs.Prelude.{◌≡◌, ℕ, ◌+◌, ◌-◌, ⊤, All, IsTrue, None, Some, [], length, slice_set}
+use Rattle.std.specs.Prelude.{◌≡◌, ℕ, ◌+◌, ◌-◌, ⊤, All, IsTrue, None, Some, slice_set}
 use Rattle.tm_types.specs.declared.message.Message.{Message}
 use Rattle.tm_types.specs.declared.resource.Resource.{Resource}
 use Rattle.model_script.specs.Script.{script_start, script_after, settled}
 use Rattle.model_system.specs.Jobs.{Job}
-use Rattle.model_system.specs.System.{System}
 use Rattle.model_machine.specs.Trial.{Trial, WorkEnd, CalledWith, trial_of, advance}
 use Rattle.model_machine.specs.Trial.Advance.{Goes, Stops}
 use Rattle.model_machine.specs.Trial.WorkEnd.{Ends, Syncs, Abends}

@@ -3,8 +3,7 @@ use Rattle.std.proofs.Common.{◌≡◌, ℕ, List, [], ◌∷◌, ◌++◌, sym
 use Rattle.model_machine.specs.declared.entry.Entry.{Entry}
 use Rattle.model_system.specs.System.{System}
 use Rattle.model_machine.specs.Machine.{Moment}
-use Rattle.model_machine.specs.Steps.{After}
-use Rattle.model_machine.specs.History.{call_of, moment_after}
+use Rattle.model_machine.specs.History.{after_entry, moment_after}
 use Rattle.model_session.specs.declared.asked.Asked.{Asked}
 use Rattle.model_session.specs.declared.asked.Asked.TheVariants.{Bad, Stopped, Call, Quiet}
 use Rattle.model_session.specs.Blocks.{Block}
@@ -18,7 +17,7 @@ use Rattle.model_session.specs.Session.Standing.{Up}
 pub moment_behind : (system : System) (moment : Moment) (entries more : List Entry)
     → moment_after system moment (entries ++ more) ≡ moment_after system (moment_after system moment entries) more
 moment_behind system moment [] more = refl
-moment_behind system moment (entry ∷ entries) more = moment_behind system (After system moment (call_of entry)) entries more
+moment_behind system moment (entry ∷ entries) more = moment_behind system (after_entry system moment entry) entries more
 
 module _ (system : System) (end : Moment) (more : List Entry) (tail : List ℕ) where
   -- one block of a longer session: what comes behind it goes on
@@ -37,7 +36,7 @@ module _ (system : System) (end : Moment) (more : List Entry) (tail : List ℕ) 
     ap (λ e. e ++ more) made,
     asked,
     ap (λ t. t ++ tail) same ∙ append_assoc (entry_text system moment entry) later tail,
-    goes (After system moment call) others later (ap (λ c. moment_after system (After system moment c) others) (sym asked) ∙ sym (ap (moment_after system moment) made) ∙ ends) h,
+    goes (after_entry system moment entry) others later (sym (ap (moment_after system moment) made) ∙ ends) h,
   )
   by-append (Quiet most) moment entries text Rest Longer goes ends (turns, others, later, made, quieted, same, h) = (
     turns,

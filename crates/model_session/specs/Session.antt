@@ -3,8 +3,7 @@ use Rattle.std.specs.Prelude.{◌≡◌, ◌⊎◌, ℕ, None, List, [], ◌∷�
 use Rattle.model_machine.specs.declared.entry.Entry.{Entry}
 use Rattle.model_system.specs.System.{System}
 use Rattle.model_machine.specs.Machine.{LastingState, Moment, empty_state, start_of}
-use Rattle.model_machine.specs.Steps.{After}
-use Rattle.model_machine.specs.History.{call_of, moment_after, IsLegal}
+use Rattle.model_machine.specs.History.{call_of, after_entry, moment_after, IsLegal}
 use Rattle.model_session.specs.declared.asked.Asked.{Asked}
 use Rattle.model_session.specs.declared.asked.Asked.TheVariants.{Bad, Stopped, Call, Quiet}
 use Rattle.model_session.specs.Blocks.{Block}
@@ -52,7 +51,7 @@ IsServedBy (Stopped terminal number reason) system (Up moment entries) lives tex
 IsServedBy (Call call) system (Up moment entries) lives text Rest =
     (entry : Entry) × (others : List Entry) × (later : List ℕ)
     × (entries ≡ entry ∷ others) × (call_of entry ≡ call) × (text ≡ entry_text system moment entry ++ later)
-    × Rest (Up (After system moment call) others) lives later
+    × Rest (Up (after_entry system moment entry) others) lives later
 IsServedBy (Quiet most) system (Up moment entries) lives text Rest =
     (turns : List Entry) × (others : List Entry) × (later : List ℕ)
     × (entries ≡ turns ++ others) × IsQuieted most system moment turns × (text ≡ quieted_text system moment turns ++ later)

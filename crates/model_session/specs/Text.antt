@@ -1,13 +1,16 @@
 -- What is printed for an entry.
-use Rattle.std.specs.Prelude.{ℕ, suc, Option, Some, None, Result, Ok, Err, List, [], ◌∷◌, ◌++◌, ◌/◌, take, slice_get, codes, decimal}
+use Rattle.std.specs.Prelude.{ℕ, suc, Option, Some, None, Result, Ok, Err, List, [], ◌∷◌, ◌++◌, ◌-◌, ◌/◌, Bool, nat_le, take, drop, slice_get, codes, decimal}
 use Rattle.std.specs.Option.{option_map_or, option_and_then}
-use Rattle.std.specs.List.{flat_map}
+use Rattle.std.specs.List.{flat_map, list_all, position_or_len}
 use Rattle.tm_types.specs.Function.{function_name}
 use Rattle.tm_types.specs.Digits.{four_digits, digit}
 use Rattle.tm_types.specs.declared.status.Status.{Status}
 use Rattle.tm_types.specs.declared.status.Status.TheVariants.{Blank}
 use Rattle.tm_types.specs.Status.{status_text}
 use Rattle.tm_types.specs.declared.message.Reply.{Reply}
+use Rattle.tm_types.specs.declared.dbd.Dbd.{Dbd}
+use Rattle.tm_types.specs.declared.resource.Resource.{Resource}
+use Rattle.model_enqueue.specs.declared.victim.Victim.{Victim}
 use Rattle.model_format.specs.Formats.{FormatLines}
 use Rattle.model_format.specs.Showing.{shown}
 use Rattle.model_system.specs.Formats.{format_of}
@@ -27,7 +30,7 @@ use Rattle.model_machine.specs.declared.entry.Acked.TheVariants.{Removed, Alread
 use Rattle.model_machine.specs.declared.entry.AckRefused.{AckRefused}
 use Rattle.model_machine.specs.declared.entry.AckRefused.TheVariants.{Unknown as AckUnknown, Ahead, Fault as AckFault}
 use Rattle.model_machine.specs.declared.entry.Turned.{Turned}
-use Rattle.model_machine.specs.declared.entry.Turned.TheVariants.{Scheduled, Called, Next, QC, Done, Abended, Idle, Held}
+use Rattle.model_machine.specs.declared.entry.Turned.TheVariants.{Scheduled, Called, Next, QC, Done, Abended, Idle, Held, Waits, Backed}
 use Rattle.model_machine.specs.Machine.{Moment, output_at}
 use Rattle.model_session.specs.declared.asked.InputStopped.{InputStopped}
 use Rattle.model_session.specs.declared.asked.InputStopped.TheVariants.{Terminal as StoppedTerminal, Format as StoppedFormat, Field as StoppedField, TooLong}
@@ -123,30 +126,62 @@ abbrev pub printed_status : Status → List ℕ
 printed_status Blank = codes "OK"
 printed_status status = status_text status
 
--- what a region did
-abbrev pub did_text : Turned → List ℕ
-did_text (Scheduled code id) = about (codes "SCHEDULED") code id
-did_text (Called function pcb status) = spaced (function_name function) ++ spaced (decimal pcb) ++ printed_status status
-did_text (Next code id next) = about (codes "NEXT") code id ++ 32 ∷ [] ++ decimal next
-did_text (QC code id) = about (codes "QC") code id
-did_text (Done code id) = about (codes "DONE") code id
-did_text (Abended code id abend) = about (codes "ABENDED") code id ++ codes " U" ++ four_digits abend.number
-did_text Idle = codes "IDLE"
-did_text (Held need limit) = codes "HELD " ++ decimal need ++ 32 ∷ [] ++ decimal limit
+-- a resource is printed as the name of its database and its root key, or as the name alone
+abbrev pub database_text : List Dbd → ℕ → List ℕ
+database_text databases number = option_map_or (λ dbd. dbd.name) (slice_get databases (number - 1)) []
 
-abbrev pub turned_text : ℕ → Turned → List ℕ
-turned_text region turned = region_text region ++ did_text turned ++ line_end
+abbrev pub root_text : Option (List ℕ) → List ℕ
+root_text (Some root) = 47 ∷ root
+root_text None = []
 
-abbrev pub turn_text : ℕ → Result Turned ControlFault → List ℕ
-turn_text region (Ok turned) = turned_text region turned
-turn_text region (Err fault) = []
+abbrev pub resource_text : List Dbd → Resource → List ℕ
+resource_text databases resource = database_text databases resource.db ++ root_text resource.root
+
+-- a ring of regions, turned so that it begins with its lowest one, and these parted by commas
+abbrev pub is_lowest : List ℕ → ℕ → Bool
+is_lowest regions region = list_all (λ other. nat_le region other) regions
+
+abbrev pub from_lowest : List ℕ → List ℕ
+from_lowest regions = drop (position_or_len (is_lowest regions) regions) regions ++ take (position_or_len (is_lowest regions) regions) regions
+
+abbrev pub parted : List ℕ → List ℕ
+parted [] = []
+parted (region ∷ regions) = decimal region ++ flat_map (λ next. 44 ∷ decimal next) regions
+
+-- a region that gave way, and the ring that it broke
+abbrev pub victim_text : Victim → List ℕ
+victim_text victim = codes "U0777 " ++ decimal victim.region ++ codes " CYCLE " ++ parted (from_lowest victim.cycle)
+
+-- what a region did; where regions gave way, each of them has a line of its own
+abbrev pub did_text : List Dbd → Turned → List ℕ
+did_text databases (Scheduled code id) = about (codes "SCHEDULED") code id
+did_text databases (Called function pcb status) = spaced (function_name function) ++ spaced (decimal pcb) ++ printed_status status
+did_text databases (Next code id next) = about (codes "NEXT") code id ++ 32 ∷ [] ++ decimal next
+did_text databases (QC code id) = about (codes "QC") code id
+did_text databases (Done code id) = about (codes "DONE") code id
+did_text databases (Abended code id abend) = about (codes "ABENDED") code id ++ codes " U" ++ four_digits abend.number
+did_text databases Idle = codes "IDLE"
+did_text databases (Held need limit) = codes "HELD " ++ decimal need ++ 32 ∷ [] ++ decimal limit
+did_text databases (Waits resource by) = codes "WAITS " ++ resource_text databases resource ++ codes " BY " ++ decimal by
+did_text databases (Backed victims) = []
+
+abbrev pub region_line : ℕ → List ℕ → List ℕ
+region_line region did = region_text region ++ did ++ line_end
+
+abbrev pub turned_text : List Dbd → ℕ → Turned → List ℕ
+turned_text databases region (Backed victims) = flat_map (λ victim. region_line region (victim_text victim)) victims
+turned_text databases region turned = region_line region (did_text databases turned)
+
+abbrev pub turn_text : List Dbd → ℕ → Result Turned ControlFault → List ℕ
+turn_text databases region (Ok turned) = turned_text databases region turned
+turn_text databases region (Err fault) = []
 
 -- What is printed for an entry at the moment before it. A fault has no text yet, since no call meets one.
 abbrev pub entry_text : System → Moment → Entry → List ℕ
 entry_text system moment (Accept terminal number segments answer) = input_text terminal number (shown_word (code_word segments)) answer
 entry_text system moment (Show terminal answer) = show_text system moment terminal answer
 entry_text system moment (AckedEntry terminal number answer) = ack_text terminal number answer
-entry_text system moment (Turn region answer) = turn_text region answer
+entry_text system moment (Turn region answer) = turn_text system.databases region answer
 
 -- what is printed for a block that breaks a rule
 abbrev pub bad_line_text : ℕ → List ℕ

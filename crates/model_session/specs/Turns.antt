@@ -4,8 +4,8 @@ use Rattle.model_machine.specs.declared.entry.Entry.{Entry}
 use Rattle.model_machine.specs.declared.entry.ControlCall.TheVariants.{Turn}
 use Rattle.model_system.specs.System.{System}
 use Rattle.model_machine.specs.Machine.{Moment}
-use Rattle.model_machine.specs.Steps.{After, is_quiet}
-use Rattle.model_machine.specs.History.{call_of, moment_after}
+use Rattle.model_machine.specs.Steps.{is_quiet}
+use Rattle.model_machine.specs.History.{call_of, after_entry, moment_after}
 use Rattle.model_session.specs.Text.{spaced, line_end}
 
 -- The regions turn in the order of their numbers, 1, 2, .. and round again: the one that turns after
@@ -19,7 +19,7 @@ abbrev pub AreTurns : System → ℕ → Moment → List Entry → Type 0
 AreTurns system before moment [] = Unit {0}
 AreTurns system before moment (entry ∷ entries) =
     (is_quiet system moment ≡ false) × (call_of entry ≡ Turn (region_after system before))
-    × AreTurns system (suc before) (After system moment (call_of entry)) entries
+    × AreTurns system (suc before) (after_entry system moment entry) entries
 
 -- So many turns at most were done from this moment on. They ended where nothing was left to do, or
 -- with the last of them.

@@ -6,12 +6,13 @@
 #![tactic(auto)]
 
 pub use lines::{
-    ANSWER_ROOM, WORD_ROOM, ack_line, bad_line, input_line, none_line, quiet_line, shown_word,
-    too_long_line, turned_line, unknown_line,
+    ANSWER_ROOM, TURN_ROOM, WORD_ROOM, ack_line, bad_line, input_line, none_line, quiet_line,
+    shown_word, too_long_line, turned_line, unknown_line,
 };
 pub use printed::{NUMBER_ROOM, Printed};
 pub use reply::reply_lines;
 
+mod isolation;
 mod lines;
 mod printed;
 mod reply;

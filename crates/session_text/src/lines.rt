@@ -11,11 +11,15 @@ ghost use Rattle.model_session.specs.Text.{spaced, line_end, about};
 ghost use Rattle.model_session.specs.Turns.{turns_text};
 
 use crate::Printed;
+use crate::isolation::{add_victims, add_waits};
 use model_machine::{AckRefused, Acked, InputRefused, Taken, Turned};
-use tm_types::{AbendCode, Function, Name, Segments, Status, first_word, four_digits};
+use tm_types::{AbendCode, Dbd, Function, Name, Segments, Status, first_word, four_digits};
 
 /// The room that the line of an answer needs at most.
 pub const ANSWER_ROOM: usize = 128;
+
+/// The room that the lines of a turn need at most.
+pub const TURN_ROOM: usize = 2048;
 
 /// The most bytes of a word that are shown.
 pub const WORD_ROOM: usize = 8;
@@ -87,21 +91,28 @@ pub fn unknown_line(out: &mut Printed, terminal: &Name)
     out.push(b" TERMINAL\n");
 }
 
-/// Adds the line of a region's turn.
-pub fn turned_line(out: &mut Printed, region: u32, turned: &Turned)
-    requires { ANSWER_ROOM ≤ out.old.room }
-    ensures { out.new.text ≡ out.old.text ++ text.turned_text region turned.now }
+/// Adds the line of a region's turn, or a line for each region that gave way in it.
+#[tactic(auto, using(crate::proofs::Turned::one_line))]
+pub fn turned_line(out: &mut Printed, databases: &[Dbd], region: u32, turned: &Turned)
+    requires { TURN_ROOM ≤ out.old.room }
+    ensures { out.new.text ≡ out.old.text ++ text.turned_text databases.now region turned.now }
 {
-    add_region(out, region);
-    add_did(out, turned);
-    out.push(b"\n");
+    match turned {
+        Turned::Backed(victims) => add_victims(out, region, victims.as_slice()),
+        _ => {
+            add_region(out, region);
+            add_did(out, databases, turned);
+            out.push(b"\n");
+        }
+    }
 }
 
-/// Adds what a region did, in 64 bytes at most.
-fn add_did(out: &mut Printed, turned: &Turned)
-    requires { 64 ≤ out.old.room }
-    ensures text { out.new.text ≡ out.old.text ++ text.did_text turned.now }
-    ensures room { out.old.room ≤ out.new.room + 64 }
+/// Adds what a region did, in 80 bytes at most; nothing where regions gave way, since each of these has a
+/// line of its own.
+fn add_did(out: &mut Printed, databases: &[Dbd], turned: &Turned)
+    requires { 80 ≤ out.old.room }
+    ensures text { out.new.text ≡ out.old.text ++ text.did_text databases.now turned.now }
+    ensures room { out.old.room ≤ out.new.room + 80 }
 {
     match turned {
         Turned::Scheduled(code, id) => add_about(out, b"SCHEDULED", code, *id),
@@ -116,6 +127,8 @@ fn add_did(out: &mut Printed, turned: &Turned)
         Turned::Abended(code, id, abend) => add_abended(out, code, *id, *abend),
         Turned::Idle => out.push(b"IDLE"),
         Turned::Held(need, limit) => add_held(out, *need, *limit),
+        Turned::Waits(resource, by) => add_waits(out, databases, resource, *by),
+        Turned::Backed(_) => {}
     }
 }
 
@@ -311,7 +324,7 @@ fn code_word(segments: &Segments) -> &[u8]
 }
 
 /// Adds what a region's lines begin with.
-fn add_region(out: &mut Printed, region: u32)
+pub(crate) fn add_region(out: &mut Printed, region: u32)
     requires { 22 ≤ out.old.room }
     ensures text { out.new.text ≡ out.old.text ++ text.region_text region }
     ensures room { out.old.room ≤ out.new.room + 22 }

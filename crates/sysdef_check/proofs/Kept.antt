@@ -8,11 +8,11 @@ use Rattle.std.proofs.lemmas.List.Elements.{All-drop, All-take}
 use Rattle.system_types.specs.declared.definition.MacroLine.{MacroLine}
 use Rattle.sysdef_rules.proofs.Cuts.{cut_at, more_at}
 use Rattle.sysdef_rules.specs.declared.cross.CrossRule.{CrossRule}
-use Rattle.sysdef_rules.specs.declared.cross.CrossRule.TheVariants.{OfSegments, WrongCount, SecondRegion}
+use Rattle.sysdef_rules.specs.declared.cross.CrossRule.TheVariants.{OfSegments, WrongCount}
 use Rattle.sysdef_rules.specs.declared.segments.SegmentRule.{SegmentRule}
 use Rattle.sysdef_rules.specs.Segments.{own_line, breaks_segment, broken_by_segment, first_segment}
 use Rattle.sysdef_rules.specs.Counts.{breaks_count, past_limit}
-use Rattle.sysdef_rules.specs.Cross.{before_others, breaks_region, broken_line, cross_rules, first_line, keeps, keeps_all, rules, unless_broken}
+use Rattle.sysdef_rules.specs.Cross.{before_others, broken_line, cross_rules, first_line, keeps, keeps_all, rules, unless_broken}
 
 -- neither of two is there
 pub neither : (a b : Option ℕ) → option_or a b ≡ None → (a ≡ None) × (b ≡ None)
@@ -92,10 +92,6 @@ unfolding broken_line
 kept_count all before line behind h =
     let both = neither (own_line line (breaks_count all before line.content)) (past_limit line.content behind) h in
     (not_broken line (breaks_count all before line.content) both.0, both.1)
-
-pub kept_region : (all before : List MacroLine) (line : MacroLine) (behind : List MacroLine) → broken_line SecondRegion all before line behind ≡ None → breaks_region all before line.content ≡ false
-unfolding broken_line
-kept_region all before line behind h = not_broken line (breaks_region all before line.content) h
 
 -- the lines behind an index, as a slice of them
 pub behind_index : (lines : List MacroLine) (index : ℕ) → take (length lines - index) (drop index lines) ≡ drop index lines

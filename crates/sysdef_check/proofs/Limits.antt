@@ -1,5 +1,5 @@
 -- How much there is of a kind where the rules on counts are kept.
-use Rattle.std.proofs.Common.{ℕ, ◌≡◌, ◌+◌, ◌<◌, ◌≤◌, ◌⊎◌, ◌&&◌, ◌||◌, ◌==◌, cond, nat_le, Bool, true, false, List, [], ◌∷◌, ◌++◌, length, map, IsTrue, Option, Some, None, refl, sym, ap, inl, inr, arith}
+use Rattle.std.proofs.Common.{ℕ, ◌≡◌, ◌+◌, ◌<◌, ◌≤◌, ◌==◌, cond, Bool, true, false, List, [], ◌∷◌, ◌++◌, length, map, IsTrue, Option, Some, None, refl, ap, arith}
 use Rattle.std.proofs.lemmas.Bool.{false≢true, leb-false}
 use Rattle.std.proofs.lemmas.Bool.Decides.{nat_tests}
 use Rattle.std.proofs.lemmas.List.Sums.{sum_by-append, sum_by-cons}
@@ -12,15 +12,15 @@ use Rattle.model_system.specs.declared.system_program.SystemProgram.{SystemProgr
 use Rattle.system_types.specs.declared.definition.MacroLine.{MacroLine}
 use Rattle.system_types.specs.Definitions.{ends_well, is_end}
 use Rattle.sysdef_rules.specs.declared.cross.CrossRule.{CrossRule}
-use Rattle.sysdef_rules.specs.declared.cross.CrossRule.TheVariants.{WrongCount, SecondRegion}
+use Rattle.sysdef_rules.specs.declared.cross.CrossRule.TheVariants.{WrongCount}
 use Rattle.sysdef_rules.specs.declared.lookups.MacroKind.{MacroKind}
 use Rattle.sysdef_rules.specs.declared.lookups.MacroKind.TheVariants.{Databases, Codes, Terminals, Regions, Programs}
 use Rattle.sysdef_rules.specs.Counts.{breaks_count}
-use Rattle.sysdef_rules.specs.Cross.{breaks_region, broken_line, first_line}
-use Rattle.sysdef_rules.specs.Lookups.{count, has, is_of}
+use Rattle.sysdef_rules.specs.Cross.{broken_line, first_line}
+use Rattle.sysdef_rules.specs.Lookups.{count, is_of}
 use Rattle.sysdef_check.specs.Systems.{and_then, code_in, codes_in, psb_after, database_in, databases_in, region_in, regions_in, terminal_in, terminals_in, pcbs_for, program_in, programs_in, programs_with}
 use Rattle.sysdef_check.proofs.Made.{either_false}
-use Rattle.sysdef_check.proofs.Kept.{kept_count, kept_region, neither}
+use Rattle.sysdef_check.proofs.Kept.{kept_count, neither}
 
 abbrev as_count : Bool → ℕ
 as_count b = cond b 1 0
@@ -78,32 +78,6 @@ region_counted _ rest = omega arith
 regions_counted : (lines : List MacroLine) → length (regions_in lines) ≡ count Regions lines
 regions_counted [] = refl
 regions_counted (line ∷ lines) = omega (arith, region_counted line.content (regions_in lines), regions_counted lines, count_more Regions line lines)
-
-one_before : (all before : List MacroLine) (content : Macro) → has (is_of Databases) all ≡ true → is_of Regions content ≡ true → breaks_region all before content ≡ false → count Regions before < 1
-unfolding breaks_region
-one_before all before (Region classes) there e h = leb-false 1 (count Regions before) (and_second (has (is_of Databases) all) (nat_le 1 (count Regions before)) there h)
-  where
-    and_second : (a b : Bool) → a ≡ true → (a && b) ≡ false → b ≡ false
-    and_second true b e h = h
-    and_second false b e h = absurd (false≢true e)
-one_before all before _ there e h = absurd (false≢true e)
-
-none_by : (content : Macro) (behind : List MacroLine) (more : Bool) (rest : List Dbd) → (is_of Databases content || more) ≡ false → (more ≡ false → rest ≡ []) → and_then (database_in content behind) rest ≡ []
-none_by (Database name roots) behind more rest h none = absurd (false≢true (sym h))
-none_by _ behind more rest h none = none h
-
-no_databases : (lines : List MacroLine) → has (is_of Databases) lines ≡ false → databases_in lines ≡ []
-no_databases [] h = refl
-no_databases (line ∷ lines) h = none_by line.content lines (has (is_of Databases) lines) (databases_in lines) h (no_databases lines)
-
-pub one_region : (all : List MacroLine) → first_line SecondRegion all [] all ≡ None → (databases_in all ≡ []) ⊎ (length (regions_in all) ≤ 1)
-one_region all h = by (has (is_of Databases) all) refl
-  where
-    by : (b : Bool) → has (is_of Databases) all ≡ b → (databases_in all ≡ []) ⊎ (length (regions_in all) ≤ 1)
-    by false e = inl (no_databases all e)
-    by true e =
-        let most = within_limit SecondRegion Regions 1 all (λ before line behind r kept. one_before all before line.content e r (kept_region all before line behind kept)) all [] h (omega arith) in
-        inr (omega (arith, regions_counted all, most))
 
 -- the programs where the PCBs for each line stand in a list
 pub programs_listed : (databases : List Dbd) (all lines : List MacroLine) → programs_with lines (map (λ line. pcbs_for databases all line.content) lines) ≡ programs_in databases all lines

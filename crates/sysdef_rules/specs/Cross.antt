@@ -1,15 +1,14 @@
 -- The rules that macros keep among each other.
-use Rattle.std.specs.Prelude.{ℕ, Bool, false, ◌&&◌, ◌||◌, not, List, [], ◌∷◌, ◌++◌, nat_le, Option, Some, None, Result, Ok, Err}
+use Rattle.std.specs.Prelude.{ℕ, Bool, false, ◌||◌, not, List, [], ◌∷◌, ◌++◌, Option, Some, None, Result, Ok, Err}
 use Rattle.std.specs.Option.{option_or}
 use Rattle.system_types.specs.declared.definition.Macro.{Macro}
-use Rattle.system_types.specs.declared.definition.Macro.TheVariants.{Database, Application, DatabasePcb, DestinationPcb, Transaction, Terminal, Region, Program}
+use Rattle.system_types.specs.declared.definition.Macro.TheVariants.{Database, Application, DatabasePcb, DestinationPcb, Transaction, Terminal, Program}
 use Rattle.system_types.specs.declared.definition.MacroLine.{MacroLine}
-use Rattle.sysdef_rules.specs.declared.lookups.MacroKind.TheVariants.{Databases, Regions}
 use Rattle.sysdef_rules.specs.declared.segments.SegmentRule.TheVariants.{Twice, ParentAstray, KeyTooLong, LevelTooHigh}
 use Rattle.sysdef_rules.specs.declared.calls.CallRule.TheVariants.{PcbMissing, SsaAstray, NoInsertPath}
 use Rattle.sysdef_rules.specs.declared.cross.CrossRule.{CrossRule}
-use Rattle.sysdef_rules.specs.declared.cross.CrossRule.TheVariants.{DatabaseTwice, OfSegments, PsbTwice, DatabaseUnknown, DestinationUnknown, CodeTwice, TerminalTwice, ProgramMissing, ProgramAstray, OfCalls, WrongCount, SecondRegion}
-use Rattle.sysdef_rules.specs.Lookups.{has, count, is_of, is_database, is_application, is_code, is_terminal, is_program}
+use Rattle.sysdef_rules.specs.declared.cross.CrossRule.TheVariants.{DatabaseTwice, OfSegments, PsbTwice, DatabaseUnknown, DestinationUnknown, CodeTwice, TerminalTwice, ProgramMissing, ProgramAstray, OfCalls, WrongCount}
+use Rattle.sysdef_rules.specs.Lookups.{has, is_database, is_application, is_code, is_terminal, is_program}
 use Rattle.sysdef_rules.specs.Segments.{own_line, broken_by_segment}
 use Rattle.sysdef_rules.specs.Calls.{broken_by_call}
 use Rattle.sysdef_rules.specs.Counts.{broken_by_count}
@@ -57,11 +56,6 @@ unfoldable pub breaks_program : List MacroLine → List MacroLine → Macro → 
 breaks_program all before (Program name lines) = not (has (is_application name) all) || has (is_program name) before
 breaks_program all before _ = false
 
--- where there is a database there is one region, until several regions can work on databases
-unfoldable pub breaks_region : List MacroLine → List MacroLine → Macro → Bool
-breaks_region all before (Region classes) = has (is_of Databases) all && nat_le 1 (count Regions before)
-breaks_region all before _ = false
-
 -- the lowest line of a macro, and of those that belong to it, that breaks the rule
 unfoldable pub broken_line : CrossRule → List MacroLine → List MacroLine → MacroLine → List MacroLine → Option ℕ
 broken_line DatabaseTwice all before line behind = own_line line (breaks_database before line.content)
@@ -75,7 +69,6 @@ broken_line ProgramMissing all before line behind = own_line line (breaks_applic
 broken_line ProgramAstray all before line behind = own_line line (breaks_program all before line.content)
 broken_line (OfCalls rule) all before line behind = broken_by_call rule all line.content
 broken_line WrongCount all before line behind = broken_by_count all before line behind
-broken_line SecondRegion all before line behind = own_line line (breaks_region all before line.content)
 
 -- the number of a rule
 abbrev pub number_of : CrossRule → ℕ
@@ -95,7 +88,6 @@ number_of (OfCalls PcbMissing) = 13
 number_of (OfCalls SsaAstray) = 14
 number_of (OfCalls NoInsertPath) = 15
 number_of WrongCount = 17
-number_of SecondRegion = 19
 
 -- The lowest line that breaks a rule. What belongs to a macro stands behind it and before the next
 -- macro that has such lines, so the first macro that breaks the rule has the lowest line.
@@ -124,7 +116,7 @@ abbrev pub rules : List CrossRule
 rules =
     DatabaseTwice ∷ OfSegments Twice ∷ OfSegments ParentAstray ∷ OfSegments KeyTooLong ∷ OfSegments LevelTooHigh ∷ PsbTwice ∷ DatabaseUnknown
     ∷ DestinationUnknown ∷ CodeTwice ∷ TerminalTwice ∷ ProgramMissing ∷ ProgramAstray ∷ OfCalls PcbMissing ∷ OfCalls SsaAstray ∷ OfCalls NoInsertPath
-    ∷ WrongCount ∷ SecondRegion ∷ []
+    ∷ WrongCount ∷ []
 
 unfoldable pub cross_rules : List MacroLine → Result (Unit {0}) (ℕ × ℕ)
 cross_rules all = keeps_all rules all

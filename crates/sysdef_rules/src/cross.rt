@@ -7,7 +7,6 @@ ghost use Rattle.sysdef_rules.specs.Refused.{Answers};
 use crate::CrossRefused;
 use crate::calls::{CallRule, broken_by_call};
 use crate::counts::broken_by_count;
-use crate::lookups::{MacroKind, count, has_databases};
 use crate::named::NamedMacros;
 use crate::segments::{SegmentRule, broken_by_segment};
 use std::alloc::{AllocError, Global};
@@ -38,8 +37,6 @@ pub enum CrossRule {
     OfCalls(CallRule),
     /// There are too many macros of a kind, or no terminal or no region.
     WrongCount,
-    /// There is a database and a second region.
-    SecondRegion,
 }
 
 #[tactic(auto, unfolding(crate::specs::Cross::breaks_database))]
@@ -126,17 +123,6 @@ fn breaks_program(all: &NamedMacros<'_>, before: &NamedMacros<'_>, content: &Mac
     }
 }
 
-#[tactic(auto, unfolding(crate::specs::Cross::breaks_region))]
-fn breaks_region(all: &NamedMacros<'_>, before: &NamedMacros<'_>, content: &Macro) -> bool
-    ensures { result ≡ spec.breaks_region all.now before.now content.now }
-{
-    match content {
-        Macro::Region { .. } => has_databases(all.lines())
-            && 1 <= count(MacroKind::Regions, before.lines()),
-        _ => false,
-    }
-}
-
 fn own_line(line: &MacroLine, broken: bool) -> Option<u32>
     ensures { result ≡ own_line line.now broken }
 {
@@ -166,7 +152,6 @@ fn broken_line(
         CrossRule::ProgramAstray => own_line(line, breaks_program(all, before, &line.content)),
         CrossRule::OfCalls(rule) => broken_by_call(rule, all.lines(), &line.content),
         CrossRule::WrongCount => broken_by_count(all.lines(), before.lines(), line, behind),
-        CrossRule::SecondRegion => own_line(line, breaks_region(all, before, &line.content)),
     }
 }
 
@@ -190,7 +175,6 @@ fn number_of(rule: CrossRule) -> u8
         CrossRule::OfCalls(CallRule::SsaAstray) => 14,
         CrossRule::OfCalls(CallRule::NoInsertPath) => 15,
         CrossRule::WrongCount => 17,
-        CrossRule::SecondRegion => 19,
     }
 }
 
@@ -258,7 +242,6 @@ pub fn cross_rules(alloc: Global, lines: &[MacroLine]) -> Result<(), CrossRefuse
         CrossRule::OfCalls(CallRule::SsaAstray),
         CrossRule::OfCalls(CallRule::NoInsertPath),
         CrossRule::WrongCount,
-        CrossRule::SecondRegion,
     ];
     match NamedMacros::of(alloc, lines) {
         Ok(all) => keep_all(alloc, &rules, &all),

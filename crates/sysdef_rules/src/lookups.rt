@@ -2,7 +2,6 @@
 ghost use Rattle.std.specs.Prelude.{◌≡◌, ◌<◌, ◌≤◌, length, find, position, IsTrue, IfSome};
 ghost use Rattle.std.specs.List.{list_all};
 ghost use Rattle.std.specs.Option.{option_copied};
-ghost use Rattle.sysdef_rules.specs.declared.lookups.MacroKind.TheVariants.{Databases};
 ghost use Rattle.sysdef_rules.specs.Lookups as spec;
 
 use system_types::{Macro, MacroLine};
@@ -207,13 +206,4 @@ fn is_application(name: &Name, content: &Macro) -> bool
         Macro::Application { psb } => psb == name,
         _ => false,
     }
-}
-
-/// Whether there is a database.
-pub(crate) fn has_databases(lines: &[MacroLine]) -> bool
-    ensures { result ≡ spec.has (spec.is_of Databases) lines.now }
-{
-    lines
-        .iter()
-        .any(|line| is_of(MacroKind::Databases, &line.content))
 }

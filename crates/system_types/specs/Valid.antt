@@ -1,5 +1,5 @@
 -- What holds of each system that a definition defines: what the rules on its macros give.
-use Rattle.std.specs.Prelude.{◌≡◌, ℕ, ◌-◌, ◌≤◌, ◌⊎◌, List, [], Option, Some, None, All, IsSome, IsSomeAnd, IsTrue, length, map, slice_get}
+use Rattle.std.specs.Prelude.{◌≡◌, ℕ, ◌-◌, ◌≤◌, List, [], Option, Some, None, All, IsSome, IsSomeAnd, IsTrue, length, map, slice_get}
 use Rattle.tm_types.specs.declared.dbd.Dbd.{Dbd}
 use Rattle.tm_types.specs.declared.function.Function.{Function}
 use Rattle.model_script.specs.declared.program.ScriptLine.{ScriptLine}
@@ -64,7 +64,7 @@ pub record IsServable (databases : List Dbd) (pcbs : List Pcb) (lines : List Scr
 
 -- The counts, the bytes of the queues and the sectors of a log area lie within their limits, databases
 -- and programs are as above, each code has a program, and a code is found by its name at its place.
--- Each format keeps the rule among its lines. Where there is a database there is one region at most.
+-- Each format keeps the rule among its lines.
 pub record IsSystem (system : System) : Type 0 where
   pub least_bytes : 131072 ≤ system.qbytes
   pub most_bytes : system.qbytes ≤ 8388608
@@ -83,4 +83,3 @@ pub record IsSystem (system : System) : Type 0 where
   pub formats : All (λ format. KeepsRule format.format) system.formats
   pub some_region : 1 ≤ length system.regions
   pub few_regions : length system.regions ≤ 8
-  pub one_region : (system.databases ≡ []) ⊎ (length system.regions ≤ 1)

@@ -3,8 +3,7 @@ use Rattle.std.proofs.Common.{◌≡◌, ℕ, Bool, true, false, List, [], ◌�
 use Rattle.model_machine.specs.declared.entry.Entry.{Entry}
 use Rattle.model_system.specs.System.{System}
 use Rattle.model_machine.specs.Machine.{LastingState, start_of, empty_state}
-use Rattle.model_machine.specs.Steps.{After}
-use Rattle.model_machine.specs.History.{call_of, is_fault, moment_after, May, AreSteps, Adds, AddsUnless}
+use Rattle.model_machine.specs.History.{after_entry, is_fault, moment_after, May, AreSteps, Adds, AddsUnless}
 use Rattle.model_machine.proofs.Histories.{moment_after-append, AreSteps-append}
 use Rattle.tm_machine.specs.Answers.{IsAnswered, AnsweredUnless, Answers}
 use Rattle.tm_control.specs.Noting.{noted}
@@ -19,7 +18,7 @@ pub IsControl-next : (old new : PartsState) (opening : LastingState) (before aft
 IsControl-next old new opening before after entry h longer answered = record {
   moment =
       ap (λ s. moment_after s (start_of s opening) after) answered.system ∙ ap (moment_after old.system (start_of old.system opening)) longer
-      ∙ moment_after-append old.system (start_of old.system opening) before entry ∙ ap (λ m. After old.system m (call_of entry)) h.moment ∙ sym answered.after;
+      ∙ moment_after-append old.system (start_of old.system opening) before entry ∙ ap (λ m. after_entry old.system m entry) h.moment ∙ sym answered.after;
   legal =
       let here : AreSteps old.system (start_of old.system opening) (before ++ entry ∷ []) =
       AreSteps-append old.system (start_of old.system opening) before entry h.legal (subst (λ m. May old.system m entry) (sym h.moment) answered.may) in

@@ -13,7 +13,7 @@ use model_machine::ControlCall;
 use model_session::Asked;
 use session_lines::{Block, read_block};
 use session_text::{
-    ANSWER_ROOM, Printed, WORD_ROOM, ack_line, bad_line, input_line, none_line, reply_lines,
+    ANSWER_ROOM, Printed, TURN_ROOM, WORD_ROOM, ack_line, bad_line, input_line, none_line, reply_lines,
     shown_word, too_long_line, turned_line, unknown_line,
 };
 use std::alloc::Global;
@@ -193,10 +193,10 @@ fn answer_turn(control: &mut Control, printed: &mut Printed, region: u32) -> Res
     ensures done { OnOk result (IsAnswered (ControlCall.Turn region) control.old control.new printed.new.text) }
     ensures err { OnErr result (AddsNothing control.old control.new) }
 {
-    printed.make_room(ANSWER_ROOM)?;
+    printed.make_room(TURN_ROOM)?;
     match control.turn(region) {
         Ok(turned) => {
-            turned_line(printed, region, &turned);
+            turned_line(printed, control.system().databases(), region, &turned);
             Ok(())
         }
         Err(ControlFault::Memory) => Err(Memory),
