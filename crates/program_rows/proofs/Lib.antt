@@ -4,3 +4,8 @@ pub mod Aside
 pub mod Together
 pub mod Restored
 pub mod RootsStay
+pub mod Backed
+pub mod Apart
+pub mod Holders
+pub mod Asking
+pub mod Blocking
