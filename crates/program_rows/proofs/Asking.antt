@@ -78,7 +78,7 @@ asked_after region (first ∷ requests) table q none asked mode = by (blocked_by
         → (first_blocked requests (granted first table) ≡ None → IsAsked q requests → q.mode ≡ Exclusive → HoldsAlone (after_asks region requests (granted first table)) q.region q.resource)
         → HoldsAlone (after_asks region (first ∷ requests) table) q.region q.resource
     by (Some n) e rec =
-        let clash : Some (first, n) ≡ None = sym (ap (λ o. option_map_or (λ k. Some (first, k)) o (first_blocked requests (granted first table))) e) ∙ none in absurd (cc)
+        let clash : Some (first, n) ≡ (let none : Option (Request × ℕ) = None in none) = sym (ap (λ o. option_map_or (λ k. Some (first, k)) o (first_blocked requests (granted first table))) e) ∙ none in absurd (cc)
     by None e rec =
         let rest : first_blocked requests (granted first table) ≡ None = sym (ap (λ o. option_map_or (λ k. Some (first, k)) o (first_blocked requests (granted first table))) e) ∙ none in
         subst (λ o. HoldsAlone (option_map_or (λ n. waiting first (waits_only_for first table)) o (after_asks region requests (granted first table))) q.region q.resource) (sym e)

@@ -9,3 +9,9 @@ pub mod Apart
 pub mod Holders
 pub mod Asking
 pub mod Blocking
+pub mod Seen
+pub mod Stepping
+pub mod Limits
+pub mod OneSlot
+pub mod SlotRows
+pub mod SetUnits

@@ -1,5 +1,5 @@
 -- The open units of the regions: the records that each has changed, and what backing them out leaves.
-use Rattle.std.specs.Prelude.{◌≡◌, ◌≢◌, ℕ, ◌-◌, ◌<◌, ◌⊎◌, true, List, [], ◌∷◌, None, Some, length, suc, map, slice_get, slice_index_or, slice_set}
+use Rattle.std.specs.Prelude.{◌≡◌, ◌≢◌, ℕ, ◌-◌, ◌<◌, ◌≤◌, ◌⊎◌, true, List, [], ◌∷◌, None, Some, length, suc, map, slice_get, slice_index_or, slice_set}
 use Rattle.std.specs.List.{AllByRecursion}
 use Rattle.std.specs.Option.{option_map_or}
 use Rattle.tm_types.specs.declared.resource.Resource.{Resource}
@@ -73,4 +73,5 @@ pub record AreUnits (units : List (List Change)) (stores : List Stored) (table :
   pub valid : AllByRecursion (λ s. AreSlots s.dbd s.slots) stores
   pub compatible : IsKept table
   pub count : length units ≡ table.regions
+  pub numbered : AllByRecursion (λ hold. 1 ≤ hold.0.resource.db) table.holds
   pub each : (place : ℕ) → place < length units → IsUnit table stores (suc place) (slice_index_or units place [])
