@@ -15,3 +15,5 @@ pub mod Limits
 pub mod OneSlot
 pub mod SlotRows
 pub mod SetUnits
+pub mod BackUnits
+pub mod Overlay
