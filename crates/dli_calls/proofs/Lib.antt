@@ -4,3 +4,4 @@ pub mod NewRows
 pub mod Setting
 pub mod Standing
 pub mod Removing
+pub mod Naming

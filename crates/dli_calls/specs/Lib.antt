@@ -1,3 +1,4 @@
 pub mod Performs
 pub mod Plans
 pub mod Edited
+pub mod Along

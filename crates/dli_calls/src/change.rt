@@ -150,7 +150,7 @@ pub fn replace_fault<R: Rows>(
     delete_fault(held, rows)
 }
 
-fn keeps_key(types: &SegTypes, held: &Path, area: &[u8]) -> bool
+pub fn keeps_key(types: &SegTypes, held: &Path, area: &[u8]) -> bool
     requires { IsPath types.now held.now }
     ensures { result ≡ is_eq (key_cmp (end_key held.now) (fitted (key_length types.now (end_type held.now)) area.now)) }
 {

@@ -118,12 +118,15 @@ module _ (system : System) (region : ℕ) (before : DatabasesState) (run : RunSt
   pub leads : (abend : AbendCode) → abend_is ≡ Some abend → comes.abend ≡ Some abend
   leads abend e = ap (λ (o : Outcome). o.abend) outcome_is ∙ e
 
+  pub are_free : None ≡ told_blocked (first_blocked (requests_of_call region number dbd made at before) before.table) → first_blocked asks before.table ≡ None
+  are_free free = ap (λ rs. first_blocked rs before.table) asks_are ∙ told_none (first_blocked (requests_of_call region number dbd made at before) before.table) (sym free)
+
   -- what was asked for is granted where none of it is blocked
   pub are_granted : (after : DatabasesState) → None ≡ told_blocked (first_blocked (requests_of_call region number dbd made at before) before.table)
       → after.table ≡ after_asks region (requests_of_call region number dbd made at before) before.table
       → AreGranted region asks before after
   are_granted after free asked = record {
-    free = ap (λ rs. first_blocked rs before.table) asks_are ∙ told_none (first_blocked (requests_of_call region number dbd made at before) before.table) (sym free);
+    free = are_free free;
     asked = asked ∙ ap (λ rs. after_asks region rs before.table) (sym asks_are);
   }
 

@@ -21,7 +21,7 @@ use Rattle.model_dli.specs.declared.call.Position.{Position}
 use Rattle.model_dli.specs.Data.{Data, data_start, nowhere}
 use Rattle.model_enqueue.specs.declared.request.Request.{Request}
 use Rattle.model_enqueue.specs.Table.{EnqueueTable}
-use Rattle.model_enqueue.specs.Ask.{after_asks, first_blocked, waits_for_nothing}
+use Rattle.model_enqueue.specs.Ask.{after_asks, first_blocked}
 use Rattle.model_message.specs.Work.{MessageWork, message_start}
 use Rattle.seg_store.specs.Slots.{Stored}
 use Rattle.program_rows.specs.State.{DatabasesState, RegionRows, IsClean, committed_rows, rows_of, dbds_of, data_of, no_rows}
@@ -73,10 +73,15 @@ module _ (job : Job) (message : Message) (region : ℕ) (databases : DatabasesSt
       ap (requests_by region job ahead.trial) (ap (λ s. need_of (step job.lines job.transaction.statement_limit s)) ahead.script ∙ needs)
       ∙ ap (λ d. requests_at region (target_of job call) d call) ahead.seen
 
+  free_of : (call : CallText) → need_at job.lines job.transaction.statement_limit run.machine.script ≡ Call call
+      → first_blocked (requests_by_run (target_of job call) region databases run call) databases.table ≡ None
+      → first_blocked (requests_of region job ahead.trial) databases.table ≡ None
+  free_of call needs free = ap (λ rs. first_blocked rs databases.table) (asks_are call needs) ∙ free
+
   free_so : (call : CallText) (after : DatabasesState) → need_at job.lines job.transaction.statement_limit run.machine.script ≡ Call call
       → AreGranted region (requests_by_run (target_of job call) region databases run call) databases after → IsFree job region databases after ahead.trial
   free_so call after needs granted = record {
-    free = ap (λ rs. first_blocked rs databases.table) (asks_are call needs) ∙ granted.free;
+    free = free_of call needs granted.free;
     asked = granted.asked ∙ ap (λ rs. after_asks region rs databases.table) (sym (asks_are call needs));
   }
 
@@ -254,6 +259,20 @@ module _ (job : Job) (message : Message) (region : ℕ) (databases : DatabasesSt
   still_ahead after requests committed regions dbds asked settles =
       same_ahead job message region databases run ahead after requests machine committed regions dbds asked limited (rw (sym ahead.limit) settles)
 
+  same_run : settled job.lines run.machine.limit machine.script ≡ settled job.lines run.machine.limit run.machine.script
+      → IsAhead job message region databases (record run { machine = machine })
+  same_run settles = record {
+    trial = ahead.trial;
+    made = ahead.made;
+    limit = limited ∙ ahead.limit;
+    script = ahead.script ∙ sym (rw (sym ahead.limit) settles);
+    work = ahead.work;
+    seen = ahead.seen;
+    held = ahead.held;
+    dbds = ahead.dbds;
+    standing = ahead.standing;
+  }
+
   pub settled_again : machine.script ≡ settled job.lines run.machine.limit run.machine.script
       → settled job.lines run.machine.limit machine.script ≡ settled job.lines run.machine.limit run.machine.script
   settled_again script = ap (settled job.lines run.machine.limit) script ∙ settled_twice job.lines run.machine.limit run.machine.script
@@ -266,57 +285,39 @@ module _ (job : Job) (message : Message) (region : ℕ) (databases : DatabasesSt
     trial_needs : trial_need job ahead.trial ≡ need
     trial_needs = ap (λ s. need_of (step job.lines job.transaction.statement_limit s)) ahead.script ∙ needed
 
-    -- The work ends where the script needs no call of the databases.
-    ends_so : (after : DatabasesState) (end : WorkEnd) → requests_by region job ahead.trial need ≡ []
-        → after ≡ record databases { table = waits_for_nothing region databases.table }
+    -- the trial stops where the script needs no call
+    pub stops_so : (end : WorkEnd) → requests_by region job ahead.trial need ≡ []
         → advance_by job (committed_rows databases) ahead.trial need ≡ Stops end
-        → StopsSo job message region databases after ahead.trial run (record run { machine = machine }) end
-    ends_so after end nothing stops ends =
-        let asks : requests_of region job ahead.trial ≡ [] = ap (requests_by region job ahead.trial) trial_needs ∙ nothing in
-        let asked : after.table ≡ after_asks region [] databases.table = ap (λ (d : DatabasesState). d.table) stops in
-        record {
-          calls = refl;
-          free = record {
-            free = ap (λ rs. first_blocked rs databases.table) asks;
-            asked = asked ∙ ap (λ rs. after_asks region rs databases.table) (sym asks);
-          };
-          ahead = still_ahead after [] (ap (λ (d : DatabasesState). d.committed) stops) (ap (λ (d : DatabasesState). d.regions) stops) (ap dbds_of stops) asked (settled_again script);
-          stops = advance_is job message region databases run ahead need needed ∙ ends;
-        }
-
-    pub stops_so : (after : DatabasesState) (end : WorkEnd) → requests_by region job ahead.trial need ≡ []
-        → after ≡ record databases { table = waits_for_nothing region databases.table }
-        → advance_by job (committed_rows databases) ahead.trial need ≡ Stops end
-        → StopsSo job message region databases after ahead.trial run (record run { machine = machine }) end
-    stops_so = ends_so
+        → StopsSo job message region databases databases ahead.trial run (record run { machine = machine }) end
+    stops_so end nothing ends = record {
+      calls = refl;
+      free = ap (λ rs. first_blocked rs databases.table) (ap (requests_by region job ahead.trial) trial_needs ∙ nothing);
+      ahead = same_run (settled_again script);
+      stops = advance_is job message region databases run ahead need needed ∙ ends;
+    }
 
     -- and at a further GU
-    pub syncs : (after : DatabasesState) (call : CallText) → need ≡ Call call → is_sync run.work call ≡ true
-        → after ≡ record databases { table = waits_for_nothing region databases.table }
-        → StopsSo job message region databases after ahead.trial run (record run { machine = machine }) Syncs
-    syncs after call e further stops =
-        ends_so after Syncs
+    pub syncs : (call : CallText) → need ≡ Call call → is_sync run.work call ≡ true
+        → StopsSo job message region databases databases ahead.trial run (record run { machine = machine }) Syncs
+    syncs call e further =
+        stops_so Syncs
         (ap (requests_by region job ahead.trial) e ∙ sync_asks region job.system.databases job.pcbs run.work ahead.trial.databases call further)
-        stops
         (ap (advance_by job (committed_rows databases) ahead.trial) e
         ∙ stops_at (is_sync ahead.trial.work call) (called ahead.trial call (call_outcome job (committed_rows databases) ahead.trial call)) (ap (λ w. is_sync w call) ahead.work ∙ further))
 
-    module _ (after : DatabasesState) (call : CallText) (e : need ≡ Call call) where
-      -- and at a call that leads to an abend
-      pub abends : (abend : AbendCode) → is_sync run.work call ≡ false
-          → AreGranted region (requests_by_run (target_of job call) region databases run call) databases after
-          → after.committed ≡ databases.committed → after.regions ≡ databases.regions → dbds_of after ≡ dbds_of databases
-          → (outcome_of job.system (target_of job call) region databases run call).abend ≡ Some abend
-          → StopsSo job message region databases after ahead.trial run (record run { machine = machine }) (Abends abend)
-      abends abend further granted committed regions dbds found =
-          let free = free_so job message region databases run ahead call after (needed ∙ e) granted in
-          record {
-            calls = refl;
-            free = free;
-            ahead = still_ahead after (requests_of region job ahead.trial) committed regions dbds free.asked (settled_again script);
-            stops = abended job message region databases run ahead call (needed ∙ e) further abend found;
-          }
+    -- and at a call that leads to an abend
+    pub abends : (call : CallText) (abend : AbendCode) → need ≡ Call call → is_sync run.work call ≡ false
+        → first_blocked (requests_by_run (target_of job call) region databases run call) databases.table ≡ None
+        → (outcome_of job.system (target_of job call) region databases run call).abend ≡ Some abend
+        → StopsSo job message region databases databases ahead.trial run (record run { machine = machine }) (Abends abend)
+    abends call abend e further free found = record {
+      calls = refl;
+      free = free_of job message region databases run ahead call (needed ∙ e) free;
+      ahead = same_run (settled_again script);
+      stops = abended job message region databases run ahead call (needed ∙ e) further abend found;
+    }
 
+    module _ (after : DatabasesState) (call : CallText) (e : need ≡ Call call) where
       -- and it waits where what the call asks for is blocked
       pub waits_for : (resource : Resource) (by : ℕ)
           → AreBlocked region (requests_by_run (target_of job call) region databases run call) databases after resource by
@@ -360,14 +361,5 @@ pub same_run_ahead : (job : Job) (message : Message) (region : ℕ) (databases :
     → new ≡ record run { machine = machine }
     → IsAhead job message region databases new
 same_run_ahead job message region databases run new machine ahead limited script same =
-    subst (IsAhead job message region databases) (sym same) (record {
-      trial = ahead.trial;
-      made = ahead.made;
-      limit = limited ∙ ahead.limit;
-      script = ahead.script ∙ sym (rw (sym ahead.limit) (settled_again job message region databases run machine ahead limited script));
-      work = ahead.work;
-      seen = ahead.seen;
-      held = ahead.held;
-      dbds = ahead.dbds;
-      standing = ahead.standing;
-    })
+    subst (IsAhead job message region databases) (sym same)
+    (same_run job message region databases run machine ahead limited (settled_again job message region databases run machine ahead limited script))

@@ -63,10 +63,11 @@ pub record GoesBy (job : Job) (message : Message) (region : ℕ) (before after :
   pub ahead : IsAhead job message region after new
   pub goes : advance job (committed_rows before) trial ≡ Goes ahead.trial call
 
--- The work has ended: the trial stops so.
+-- The work has ended: the trial stops so. The databases are as they were, and of what a call needs that led to
+-- an abend nothing is blocked.
 pub record StopsSo (job : Job) (message : Message) (region : ℕ) (before after : DatabasesState) (trial : Trial) (old new : RunState) (end : WorkEnd) : Type 0 where
   pub calls : new.calls ≡ old.calls
-  pub free : IsFree job region before after trial
+  pub free : first_blocked (requests_of region job trial) before.table ≡ None
   pub ahead : IsAhead job message region after new
   pub stops : advance job (committed_rows before) trial ≡ Stops end
 
@@ -94,10 +95,10 @@ GoesOn job region before after old new advanced =
 abbrev pub StaysAhead : Job → ℕ → DatabasesState → RunState → RunState → Type 0
 StaysAhead job region databases old new = (message : Message) → IsAhead job message region databases old → IsAhead job message region databases new
 
--- Only a call that was answered changes what its region sees.
+-- The end of the work leaves the databases as they are, and a call that waits leaves what its region sees.
 abbrev pub StaysUnlessCalled : DatabasesState → DatabasesState → Advanced → Type 0
 StaysUnlessCalled before after (Called function pcb status) = ⊤
-StaysUnlessCalled before after (Ended ending) = after.regions ≡ before.regions
+StaysUnlessCalled before after (Ended ending) = after ≡ before
 StaysUnlessCalled before after (Waits resource by) = after.regions ≡ before.regions
 
 -- A region's step leaves what is committed, and what other regions see.

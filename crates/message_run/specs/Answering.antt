@@ -53,20 +53,20 @@ pub record Answers (region : ℕ) (outcome : Outcome) (after : DatabasesState) (
   pub told : status ≡ outcome.answer.status
   pub goes_on : outcome.abend ≡ None
 
--- A call was answered, or it leads to an abend, which changes nothing, or what it asks for is blocked, and it
--- wasn't made. The databases before and after it come first.
+-- A call was answered; or it leads to an abend, where nothing of what it needs is blocked and nothing changes;
+-- or what it asks for is blocked, and it wasn't made. The databases before and after it come first.
 abbrev pub ComesTo : ℕ → List Request → Outcome → DatabasesState → DatabasesState → RunState → RunState → CallEnd → Type 0
 ComesTo region requests outcome before after old new (Answered status) =
     AreGranted region requests before after × Answers region outcome after old new status
 ComesTo region requests outcome before after old new (Abended abend) =
-    AreGranted region requests before after × (new ≡ old) × (outcome.abend ≡ Some abend)
+    (first_blocked requests before.table ≡ None) × (new ≡ old) × (after ≡ before) × (outcome.abend ≡ Some abend)
 ComesTo region requests outcome before after old new (Waits resource by) =
     AreBlocked region requests before after resource by × (new ≡ old)
 
--- Only a call that was answered changes what its region sees.
+-- A call that leads to an abend leaves the databases as they are, and one that waits leaves what its region sees.
 abbrev pub StaysUnlessAnswered : DatabasesState → DatabasesState → CallEnd → Type 0
 StaysUnlessAnswered before after (Answered status) = ⊤
-StaysUnlessAnswered before after (Abended abend) = after.regions ≡ before.regions
+StaysUnlessAnswered before after (Abended abend) = after ≡ before
 StaysUnlessAnswered before after (Waits resource by) = after.regions ≡ before.regions
 
 -- The script was answered with this, and told its status, and the message's work is this one.

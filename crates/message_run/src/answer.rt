@@ -104,12 +104,9 @@ impl Run {
             Function::PURG => Ok(answered(self.purge(pcb)?, region, databases)),
             Function::CHNG => Ok(answered(self.change(system, pcb, area)?, region, databases)),
             Function::ROLB => Ok(rolled_back(self.roll_back()?, region, databases)),
-            Function::ROLL => {
-                databases.stop_waiting(region);
-                Ok(CallEnd::Abended(AbendCode {
-                    number: ROLLED_BACK,
-                }))
-            }
+            Function::ROLL => Ok(CallEnd::Abended(AbendCode {
+                number: ROLLED_BACK,
+            })),
             _ => Ok(answered(self.tell(Status::AM)?, region, databases)),
         }
     }

@@ -119,17 +119,10 @@ impl Run {
             Err(error) => return Err(error),
         };
         match need {
-            Need::Ended => {
-                databases.stop_waiting(region);
-                Ok(Advanced::Ended(Ending::End))
-            }
-            Need::Abend(abend) => {
-                databases.stop_waiting(region);
-                Ok(Advanced::Ended(Ending::Abend(abend)))
-            }
+            Need::Ended => Ok(Advanced::Ended(Ending::End)),
+            Need::Abend(abend) => Ok(Advanced::Ended(Ending::Abend(abend))),
             Need::Call(call) => {
                 if self.is_sync(&call) {
-                    databases.stop_waiting(region);
                     return Ok(Advanced::Ended(Ending::Sync));
                 }
                 let (function, pcb) = (call.function, call.pcb);

@@ -10,24 +10,24 @@ returns-in-Ended-clause-advances c =
     rw (sym c.self.view_is) (λ message ahead.
     stops_so (lent_job c.args.system.now c.args.job.now) message c.args.region c.args.databases.now
     (record { calls = c.self.inside.calls; machine = c.self.inside.machine; work = c.self.inside.work; positions = c.self.inside.positions.items })
-    c.next.new.self ahead c.in-Ok.ensures.limit c.in-Ok.need c.in-Ok.ensures.script c.in-Ok.ensures.need c.stop_waiting.new.self Ends
-    (rw c.in-Ended.is refl) c.stop_waiting.ensures (rw c.in-Ended.is refl))
+    c.next.new.self ahead c.in-Ok.ensures.limit c.in-Ok.need c.in-Ok.ensures.script c.in-Ok.ensures.need Ends
+    (rw c.in-Ended.is refl) (rw c.in-Ended.is refl))
 
 pub returns-in-Abend-clause-advances : goal.returns-in-Abend-clause-advances
 returns-in-Abend-clause-advances c =
     rw (sym c.self.view_is) (λ message ahead.
     stops_so (lent_job c.args.system.now c.args.job.now) message c.args.region c.args.databases.now
     (record { calls = c.self.inside.calls; machine = c.self.inside.machine; work = c.self.inside.work; positions = c.self.inside.positions.items })
-    c.next.new.self ahead c.in-Ok.ensures.limit c.in-Ok.need c.in-Ok.ensures.script c.in-Ok.ensures.need c.stop_waiting-in-Abend.new.self (Abends c.in-Abend.abend)
-    (rw c.in-Abend.is refl) c.stop_waiting-in-Abend.ensures (rw c.in-Abend.is refl))
+    c.next.new.self ahead c.in-Ok.ensures.limit c.in-Ok.need c.in-Ok.ensures.script c.in-Ok.ensures.need (Abends c.in-Abend.abend)
+    (rw c.in-Abend.is refl) (rw c.in-Abend.is refl))
 
 pub returns-then-is_sync-clause-advances : goal.returns-then-is_sync-clause-advances
 returns-then-is_sync-clause-advances c =
     rw (sym c.self.view_is) (λ message ahead.
     syncs (lent_job c.args.system.now c.args.job.now) message c.args.region c.args.databases.now
     (record { calls = c.self.inside.calls; machine = c.self.inside.machine; work = c.self.inside.work; positions = c.self.inside.positions.items })
-    c.next.new.self ahead c.in-Ok.ensures.limit c.in-Ok.need c.in-Ok.ensures.script c.in-Ok.ensures.need c.stop_waiting-then-is_sync.new.self c.in-Call.call c.in-Call.is
-    (sym c.is_sync.ensures ∙ c.if-is_sync.true) c.stop_waiting-then-is_sync.ensures)
+    c.next.new.self ahead c.in-Ok.ensures.limit c.in-Ok.need c.in-Ok.ensures.script c.in-Ok.ensures.need c.in-Call.call c.in-Call.is
+    (sym c.is_sync.ensures ∙ c.if-is_sync.true))
 
 pub answer-requires-clause-call : goal.answer-requires-clause-call
 answer-requires-clause-call c =
@@ -66,13 +66,12 @@ returns-in-Ok-Waits-clause-advances c =
 pub returns-in-Ok-Abended-clause-advances : goal.returns-in-Ok-Abended-clause-advances
 returns-in-Ok-Abended-clause-advances c =
     let comes = rw c.in-Ok-Abended.field-0-is at c.in-Ok-Abended.ensures.ok in
-    rw (comes.1, sym c.self.view_is) (λ message ahead.
+    rw (comes.1, comes.2, sym c.self.view_is) (λ message ahead.
     abends (lent_job c.args.system.now c.args.job.now) message c.args.region c.args.databases.now
     (record { calls = c.self.inside.calls; machine = c.self.inside.machine; work = c.self.inside.work; positions = c.self.inside.positions.items })
     c.next.new.self ahead c.in-Ok.ensures.limit c.in-Ok.need c.in-Ok.ensures.script c.in-Ok.ensures.need
-    c.answer.new.databases c.in-Call.call c.in-Call.is c.in-Ok-Abended.abend
-    (sym c.is_sync.ensures ∙ c.if-is_sync.false) comes.0
-    c.in-Ok-Abended.ensures.others.committed (rw c.in-Ok-Abended.field-0-is at c.in-Ok-Abended.ensures.stays) c.in-Ok-Abended.ensures.others.dbds comes.2)
+    c.in-Call.call c.in-Ok-Abended.abend c.in-Call.is
+    (sym c.is_sync.ensures ∙ c.if-is_sync.false) comes.0 comes.3)
 
 pub returns-in-Err-answer-clause-ahead : goal.returns-in-Err-answer-clause-ahead
 returns-in-Err-answer-clause-ahead c = λ message ahead.
