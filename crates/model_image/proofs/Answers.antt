@@ -28,7 +28,7 @@ unfolding number2
 some = omega arith
 
 -- nothing is cut off: it is the front of any record
-nothing_cut_off : IsCutOff []
+pub nothing_cut_off : IsCutOff []
 nothing_cut_off = record {
   whole = Command [];
   is_record = record { fields = omega arith; short = short };
