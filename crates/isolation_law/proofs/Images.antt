@@ -1,12 +1,11 @@
 -- Records in place of others: put twice, put in either order, and what they leave of all others.
-use Rattle.std.proofs.Common.{◌≡◌, ◌≢◌, ℕ, ◌++◌, ◌∷◌, [], List, refl, sym, ◌∙◌, ap, Bool, true, false, cond, eqb}
+use Rattle.std.proofs.Common.{◌≡◌, ◌≢◌, ℕ, ◌++◌, ◌∷◌, [], List, refl, sym, ◌∙◌, ap, Bool, true, false, cond, eqb, arith}
 use Rattle.std.specs.Prelude.{filter, map, length}
 use Rattle.std.specs.List.{AllByRecursion}
-use Rattle.std.specs.Ordering.{is_lt, is_eq, is_gt, ordering_reverse}
+use Rattle.std.specs.Ordering.{is_lt, is_gt, ordering_reverse}
 use Rattle.std.specs.declared.cmp.Ordering.{Ordering}
 use Rattle.std.specs.declared.cmp.Ordering.TheVariants.{Less, Equal, Greater}
-use Rattle.std.proofs.lemmas.Bool.{false≢true}
-use Rattle.std.proofs.lemmas.List.{append-nil}
+use Rattle.std.proofs.lemmas.List.{append-nil, append_assoc}
 use Rattle.std.proofs.lemmas.List.Elements.{filter-append}
 use Rattle.std.proofs.lemmas.Cmp.{tied_itself}
 use Rattle.std.proofs.lemmas.Map.Lookups.{exact_bytes}
@@ -152,7 +151,7 @@ module _ (low high : List ℕ) (a b : List Row) (less : key_cmp low high ≡ Les
           ++ filter_within (after high) (after low) (after_lower low high less) rows i)
 
   regroup : (x y z u v : List Row) → x ++ y ++ (z ++ u ++ v) ≡ (x ++ y ++ z) ++ u ++ v
-  regroup x y z u v = grind arith
+  regroup x y z u v = grind (arith, append_assoc)
 
   lower_first : with_record low a (with_record high b rows) ≡ with_record high b (with_record low a rows)
   lower_first = low_last ∙ (regroup (rows_before low rows) a middle b (rows_after high rows) ∙ sym high_last)
@@ -178,10 +177,7 @@ put_over root key image from rows h = by (key_cmp root key) refl
         ≡ with_record key (record_of key (with_record root image from)) (with_record root image rows)
     other_way other =
         put_both root key image (record_of key from) rows h (record_rooted key from) other
-        ∙ ap (λ r. with_record key r (with_record root image rows)) (sym (with_record_other root key image from h (λ e. other (turned e))))
-      where
-        turned : key_cmp key root ≡ Equal → key_cmp root key ≡ Equal
-        turned e = key_total.antisymm root key ∙ ap ordering_reverse e
+        ∙ ap (λ r. with_record key r (with_record root image rows)) (sym (with_record_other root key image from h other))
 
     by : (o : Ordering) → key_cmp root key ≡ o → with_record root image (with_record key (record_of key from) rows)
         ≡ with_record key (record_of key (with_record root image from)) (with_record root image rows)

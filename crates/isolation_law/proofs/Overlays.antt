@@ -2,13 +2,12 @@
 use Rattle.std.proofs.Common.{◌≡◌, ◌≢◌, ℕ, ◌-◌, ◌<◌, ◌≤◌, arith, subst, ltb, suc, zero, ◌++◌, ◌∷◌, [], List, length, get_or, refl, sym, ◌∙◌, ap, Bool, true, false, eqb, cond}
 use Rattle.std.specs.Prelude.{Option, Some, None, ◌==◌, ◌&&◌, ◌||◌, slice_set}
 use Rattle.std.specs.Str.{bytes_eq}
-use Rattle.std.proofs.lemmas.Bool.{false≢true, eq-eqb, eqb-true, ltb-true, ltb-false_le}
+use Rattle.std.proofs.lemmas.Bool.{false≢true, eq-eqb, eqb-true, ltb-true, ltb-false}
 use Rattle.std.proofs.lemmas.List.{get_or-set_same, get_or-set_other, set-set, length-set}
 use Rattle.std.proofs.lemmas.Map.Text.{is_eq-slice_cmp}
 use Rattle.std.proofs.lemmas.Map.Lookups.{exact_bytes}
 use Rattle.model_rows.specs.declared.row.Row.{Row}
-use Rattle.model_rows.specs.Path.{key_cmp}
-use Rattle.model_rows.specs.Rows.{record_of, with_record, roots}
+use Rattle.model_rows.specs.Rows.{record_of, with_record}
 use Rattle.model_rows.proofs.Records.{HaveRoot, is_eq-true, record_rooted, with_record_itself}
 use Rattle.model_dli.specs.Data.{is_changed, with_changed}
 use Rattle.model_dli.specs.Footprint.{AgreeAt}
@@ -192,7 +191,7 @@ one_alike number root m key from a b size agree = by (eqb (number - 1) (m - 1)) 
         (ap (λ j. get_or (with_record_from m key from b) j []) same ∙ get_or-set_same b (m - 1) (with_record key (record_of key (rows_in m from)) (rows_in m b)) [] within_b)
         put_m
     by true e false f =
-        let past : length a ≤ m - 1 = ltb-false_le (m - 1) (length a) f in
+        let past : length a ≤ m - 1 = ltb-false (m - 1) (length a) f in
         let past_b : length b ≤ m - 1 = subst (λ n. n ≤ m - 1) size past in
         alike_by number root (with_record_from m key from a) (with_record_from m key from b) (rows_in number a) (rows_in number b)
         (ap (λ rs. get_or rs (number - 1) []) (set_past a (m - 1) (with_record key (record_of key (rows_in m from)) (rows_in m a)) past))

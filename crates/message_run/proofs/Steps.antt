@@ -2,7 +2,7 @@
 use Rattle.std.proofs.Common.{◌≡◌, ℕ, ◌+◌, ◌-◌, Bool, true, false, List, [], ◌∷◌, ◌++◌, length, sym, ◌∙◌, ap, refl, subst, add-one}
 use Rattle.std.specs.Prelude.{Option, Some, None, if◌then◌else◌, ◌&&◌, ◌==◌, All, replicate, slice_index_or}
 use Rattle.std.specs.Option.{option_and_then}
-use Rattle.std.proofs.lemmas.List.Elements.{All-nil, All-append, All-weaker}
+use Rattle.std.proofs.lemmas.List.Elements.{All-nil, All-append, All-push, All-weaker}
 use Rattle.tm_types.specs.declared.abend.AbendCode.{AbendCode}
 use Rattle.tm_types.specs.declared.dbd.Dbd.{Dbd}
 use Rattle.tm_types.specs.declared.message.Message.{Message}
@@ -16,7 +16,7 @@ use Rattle.model_script.proofs.Settled.{settled_twice, answered_alike, script_af
 use Rattle.model_system.specs.declared.pcb.Pcb.{Pcb}
 use Rattle.model_system.specs.Jobs.{Job}
 use Rattle.model_system.specs.Pcbs.{pcb_at}
-use Rattle.script_run.specs.Running.{Running}
+use Rattle.script_run.specs.Running.{Running, HasTexts}
 use Rattle.model_dli.specs.declared.call.Position.{Position}
 use Rattle.model_dli.specs.Data.{Data, data_start, nowhere}
 use Rattle.model_enqueue.specs.declared.request.Request.{Request}
@@ -33,7 +33,7 @@ use Rattle.model_machine.specs.Trial.WorkEnd.{Syncs, Abends}
 use Rattle.model_machine.specs.Requests.{asked_before, asked_behind, requests_at, requests_by, requests_of}
 use Rattle.message_run.specs.RunState.{RunState, AreStanding}
 use Rattle.message_run.specs.Answering.{Answers, AreGranted, AreBlocked, outcome_of, requests_by_run}
-use Rattle.message_run.specs.Ahead.{IsAhead, IsFree, IsHeld, IsStart, GoesBy, StopsSo, WaitsFor}
+use Rattle.message_run.specs.Ahead.{IsAhead, IsFree, IsHeld, IsStart, GoesBy, StopsSo, WaitsFor, needs_before, needs_behind}
 use Rattle.message_run.proofs.Holding.{asks_keep, asks_hold}
 use Rattle.message_run.proofs.Standing.{all_nowhere}
 use Rattle.model_rows.specs.declared.row.Row.{Row}
@@ -62,6 +62,11 @@ asked_next : (region : ℕ) (job : Job) (rows : List (List Row)) (message : Mess
 asked_next region job rows message calls trial made =
     ap (asked_before region job rows message) (add-one calls) ∙ ap (λ t. asked_before region job rows message calls ++ asked_behind region job t) made
 
+needs_next : (job : Job) (rows : List (List Row)) (message : Message) (calls : ℕ) (trial : Trial) → trial_of job rows message calls ≡ Some trial
+    → needs_before job rows message (calls + 1) ≡ needs_before job rows message calls ++ trial_need job trial ∷ []
+needs_next job rows message calls trial made =
+    ap (needs_before job rows message) (add-one calls) ∙ ap (λ t. needs_before job rows message calls ++ needs_behind job t) made
+
 module _ (job : Job) (message : Message) (region : ℕ) (databases : DatabasesState) (run : RunState) (ahead : IsAhead job message region databases run) where
   abbrev rows : List (List Row)
   rows = committed_rows databases
@@ -72,6 +77,18 @@ module _ (job : Job) (message : Message) (region : ℕ) (databases : DatabasesSt
   asks_are call needs =
       ap (requests_by region job ahead.trial) (ap (λ s. need_of (step job.lines job.transaction.statement_limit s)) ahead.script ∙ needs)
       ∙ ap (λ d. requests_at region (target_of job call) d call) ahead.seen
+
+  -- the texts of one call more
+  texts_next : (after : DatabasesState) (need : Need) (calls : ℕ) → after.committed ≡ databases.committed → trial_need job ahead.trial ≡ need → HasTexts need
+      → calls ≡ run.calls + 1 → All HasTexts (needs_before job (committed_rows after) message calls)
+  texts_next after need calls committed needs texts count =
+      subst (λ (ss : List Stored). All HasTexts (needs_before job (rows_of ss) message calls)) (sym committed)
+      (subst (All HasTexts) (sym (ap (needs_before job (committed_rows databases) message) count ∙ needs_next job (committed_rows databases) message run.calls ahead.trial ahead.made))
+      (All-push HasTexts (needs_before job (committed_rows databases) message run.calls) (trial_need job ahead.trial) ahead.texts (subst HasTexts (sym needs) texts)))
+
+  -- the trial needs what the script needs
+  need_is : (need : Need) → need_at job.lines job.transaction.statement_limit run.machine.script ≡ need → trial_need job ahead.trial ≡ need
+  need_is need needs = ap (λ s. need_of (step job.lines job.transaction.statement_limit s)) ahead.script ∙ needs
 
   free_of : (call : CallText) → need_at job.lines job.transaction.statement_limit run.machine.script ≡ Call call
       → first_blocked (requests_by_run (target_of job call) region databases run call) databases.table ≡ None
@@ -133,6 +150,7 @@ module _ (job : Job) (message : Message) (region : ℕ) (databases : DatabasesSt
         ahead.seen
         ∙ ap (λ (rs : List RegionRows). record { rows = (slice_index_or rs (region - 1) no_rows).rows; positions = run.positions; changed = (slice_index_or rs (region - 1) no_rows).changed }) (sym regions);
     held = held_on after requests committed asked;
+    texts = subst (λ (ss : List Stored). All HasTexts (needs_before job (rows_of ss) message run.calls)) (sym committed) ahead.texts;
     dbds = dbds ∙ ahead.dbds;
     standing = ahead.standing;
   }
@@ -170,7 +188,7 @@ module _ (job : Job) (message : Message) (region : ℕ) (databases : DatabasesSt
         ap (trial_of job rows message) count
         ∙ rw (add-one run.calls) (ap (option_and_then (λ t. gone (advance job rows t))) ahead.made ∙ ap gone (sym goes))
 
-    pub called_next : (after : DatabasesState) (new : RunState) (status : Status)
+    pub called_next : (after : DatabasesState) (new : RunState) (status : Status) → HasTexts (Call call)
         → new.calls ≡ run.calls + 1
         → new.machine.limit ≡ run.machine.limit
         → settled job.lines job.transaction.statement_limit new.machine.script
@@ -183,7 +201,7 @@ module _ (job : Job) (message : Message) (region : ℕ) (databases : DatabasesSt
         → after.committed ≡ databases.committed → dbds_of after ≡ dbds_of databases
         → AreStanding job.system.databases job.pcbs new.positions
         → GoesBy job message region databases after ahead.trial run new (record { function = call.function; pcb = call.pcb; status = status })
-    called_next after new status calls limited script work seen told goes_on granted committed dbds standing =
+    called_next after new status texts calls limited script work seen told goes_on granted committed dbds standing =
         let same = outcome_is call in
         let goes : advance job rows ahead.trial ≡ Goes next (record { function = call.function; pcb = call.pcb; status = (call_outcome job rows ahead.trial call).answer.status }) =
         makes ∙ abends_not (call_outcome job rows ahead.trial call).abend (gone_on ahead.trial call (call_outcome job rows ahead.trial call)) (ap (λ (o : Outcome). o.abend) same ∙ goes_on) in
@@ -201,6 +219,7 @@ module _ (job : Job) (message : Message) (region : ℕ) (databases : DatabasesSt
             work = ap (λ (o : Outcome). o.work) same ∙ sym work;
             seen = ap (λ (o : Outcome). o.databases) same ∙ sym seen;
             held = held_next after new.calls committed (free_so call after needs granted) calls;
+            texts = texts_next after (Call call) new.calls committed (need_is (Call call) needs) texts calls;
             dbds = dbds ∙ ahead.dbds;
             standing = standing;
           };
@@ -229,6 +248,7 @@ start_is job message run calls limit script work standing = record {
     seen = data_started (length job.pcbs) region databases run.positions clean standing;
     held =
         subst (λ n. All (IsHeld databases.table) (asked_before region job (committed_rows databases) message n)) (sym calls) (All-nil (IsHeld databases.table));
+    texts = subst (λ n. All HasTexts (needs_before job (committed_rows databases) message n)) (sym calls) (All-nil HasTexts);
     dbds = dbds;
     standing = all_nowhere job.system.databases job.pcbs run.positions standing;
   };
@@ -269,6 +289,7 @@ module _ (job : Job) (message : Message) (region : ℕ) (databases : DatabasesSt
     work = ahead.work;
     seen = ahead.seen;
     held = ahead.held;
+    texts = ahead.texts;
     dbds = ahead.dbds;
     standing = ahead.standing;
   }
@@ -334,7 +355,7 @@ module _ (job : Job) (message : Message) (region : ℕ) (databases : DatabasesSt
           }
 
       -- and it goes on by any other call
-      pub goes_by : (new : RunState) (calls : ℕ) (status : Status)
+      pub goes_by : (new : RunState) (calls : ℕ) (status : Status) → HasTexts (Call call)
           → machine.waiting ≡ waiting_at job.lines run.machine.limit run.machine.script
           → is_sync run.work call ≡ false
           → calls ≡ run.calls + 1
@@ -343,8 +364,8 @@ module _ (job : Job) (message : Message) (region : ℕ) (databases : DatabasesSt
           → after.committed ≡ databases.committed → dbds_of after ≡ dbds_of databases
           → AreStanding job.system.databases job.pcbs new.positions
           → GoesBy job message region databases after ahead.trial run (record new { calls = calls }) (record { function = call.function; pcb = call.pcb; status = status })
-      goes_by new calls status waiting further count granted answers committed dbds standing =
-          called_next job message region databases run ahead call (needed ∙ e) further after (record new { calls = calls }) status
+      goes_by new calls status texts waiting further count granted answers committed dbds standing =
+          called_next job message region databases run ahead call (needed ∙ e) further after (record new { calls = calls }) status texts
           count
           (ap (λ m. m.limit) answers.machine ∙ limited)
           (ap (settled job.lines job.transaction.statement_limit)

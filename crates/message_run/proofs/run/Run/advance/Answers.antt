@@ -43,7 +43,7 @@ returns-in-Ok-Answered-clause-advances c =
     c.next.new.self ahead c.in-Ok.ensures.limit c.in-Ok.need c.in-Ok.ensures.script c.in-Ok.ensures.need
     c.answer.new.databases c.in-Call.call c.in-Call.is
     (record { calls = c.self-in-Call.inside.calls; machine = c.self-in-Call.inside.machine; work = c.self-in-Call.inside.work; positions = c.self-in-Call.inside.positions.items })
-    (c.self-in-Call.inside.calls + 1) c.in-Ok-Answered.status
+    (c.self-in-Call.inside.calls + 1) c.in-Ok-Answered.status (rw c.in-Call.is at c.in-Ok.ensures.texts)
     c.in-Ok.ensures.waiting
     (sym c.is_sync.ensures ∙ c.if-is_sync.false)
     (ap (λ n. n + 1) comes.1.calls)
