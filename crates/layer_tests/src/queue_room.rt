@@ -1,8 +1,8 @@
-//! The room that inputs need, and calls that want memory.
+//! `msg_queues`: the room that inputs need, and calls that want memory.
 ghost use Rattle.std.specs.Prelude.{◌≡◌, ◌<◌, IfOk};
 ghost use Rattle.model_queues.specs.Room.{message_bytes};
 
-use super::*;
+use msg_queues::{QueueRefused, Queues};
 use std::alloc::Global;
 use std::test::Fail;
 use tm_types::{Message, Name, Segment, Segments};

@@ -1,6 +1,6 @@
-//! What is forced is read.
-use crate::LogWriter;
+//! `log_writer`: what is forced is read.
 use log_sectors::read_chain;
+use log_writer::LogWriter;
 use std::alloc::Global;
 use std::test::Fail;
 use tm_disk::{Disk, MemDisk};

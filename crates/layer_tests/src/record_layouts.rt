@@ -1,5 +1,5 @@
-//! Records as they are laid out, and faults by their rules and places.
-use super::*;
+//! `log_records`: records as they are laid out, and faults by their rules and places.
+use log_records::{DecodeFault, Record, decode, encode};
 use std::alloc::Global;
 use std::process::Abort;
 use std::test::Fail;

@@ -1,7 +1,7 @@
-//! Worked records, and rows at their limits.
+//! `seg_rows`: worked records, and rows at their limits.
 ghost use Rattle.std.specs.Prelude.{◌≡◌};
 
-use crate::{
+use seg_rows::{
     DecodeFault, EncodeRefused, PlainRows, RecordImage, Rows, StoreRefused, decode_record,
     encode_record,
 };

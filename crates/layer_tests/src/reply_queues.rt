@@ -1,8 +1,8 @@
-//! Replies that are kept and acknowledged.
+//! `out_queues`: replies that are kept and acknowledged.
 ghost use Rattle.std.specs.Prelude.{◌<◌, IfOk};
 ghost use Rattle.tm_types.specs.Segment.{counted_bytes};
 
-use super::*;
+use out_queues::Outputs;
 use std::alloc::Global;
 use std::test::Fail;
 use tm_types::{Name, Segment, Segments};

@@ -1,5 +1,5 @@
-//! What the calls answer, in worked rows.
-use super::*;
+//! `io_pcb`: what the calls answer, in worked rows.
+use io_pcb::Work;
 use model_message::EndedMessage;
 use model_system::{Pcb, Pcbs, SegmentKind, Transaction};
 use std::alloc::Global;

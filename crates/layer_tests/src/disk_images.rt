@@ -1,8 +1,8 @@
-//! What a pick leaves of a disk in memory, and what a file keeps.
-use crate::{Disk, FileDisk, MemDisk, SECTOR_BYTES, Sector};
+//! `tm_disk`: what a pick leaves of a disk in memory, and what a file keeps.
 use std::alloc::Global;
 use std::fs;
 use std::test::Fail;
+use tm_disk::{Disk, FileDisk, MemDisk, SECTOR_BYTES, Sector};
 
 fn put<D: Disk>(disk: &mut D, at: u32, byte: u8) -> bool {
     at < disk.sectors()
@@ -70,7 +70,7 @@ fn each_pick_leaves_its_image(rt: HostRuntime) -> Result<(), Fail> {
 
 #[test]
 fn a_file_keeps_its_sectors(rt: HostRuntime) -> Result<(), Fail> {
-    let path = "tm_disk_tests.sectors";
+    let path = "disk_images.sectors";
     let _ = fs::remove_file(&rt, path);
     let mut disk = FileDisk::open(&rt, path, 2);
     assert_eq!(rt; disk.sectors(), 2);

@@ -1,5 +1,5 @@
-//! A chain that is read, and a sector as it is laid out.
-use crate::{read_chain, seal, unseal};
+//! `log_sectors`: a chain that is read, and a sector as it is laid out.
+use log_sectors::{read_chain, seal, unseal};
 use std::alloc::Global;
 use std::test::Fail;
 use tm_disk::{Disk, MemDisk, Sector};

@@ -1,8 +1,8 @@
-use Rattle.std.proofs.Common.{◌≡◌, ap, ◌∙◌}
+use Rattle.std.proofs.Common.{ap, ◌∙◌}
 use Rattle.tm_disk.specs.MemDisk.{state_of}
 use Rattle.log_writer.specs.Writer.{Writer}
 use Rattle.log_writer.proofs.Starting.{ready-zeros}
-use Rattle.log_writer.proofs.tests.what_is_forced_is_read.Goals as goal
+use Rattle.layer_tests.proofs.forced_logs.what_is_forced_is_read.Goals as goal
 
 pub force-requires-clause-ready : goal.force-requires-clause-ready
 force-requires-clause-ready g c =

@@ -1,10 +1,12 @@
-//! Lines through the sources of the crate, and what the standard library's readers and writers pass on.
-use super::*;
+//! `tm_edge`: lines through its sources, and what the standard library's readers and writers pass on.
 use std::alloc::Global;
 use std::io;
 use std::io::Read;
 use std::process::Abort;
 use std::test::Fail;
+use tm_edge::{
+    Failed, Line, LineFault, Lines, MemSink, MemSource, Sink, Source, StdSink, StdSource,
+};
 
 // The lines of these bytes, from a source whose listed calls fail; the faults are passed over.
 fn lines_of(

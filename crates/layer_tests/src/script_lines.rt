@@ -1,5 +1,5 @@
-//! What no clause says: worked lines.
-use crate::read_program;
+//! `script_text`: worked lines of scripts, and where a program ends.
+use script_text::read_program;
 use std::alloc::{AllocError, Global};
 use std::test::Fail;
 use text_rows::LineRefused;

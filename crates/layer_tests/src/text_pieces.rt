@@ -1,6 +1,6 @@
-//! What no clause says: how worked texts are cut, and the text of a refusal.
-use crate::{LineRefused, Pieces, Place};
+//! `text_rows`: how worked texts are cut, and the text of a refusal.
 use std::test::Fail;
+use text_rows::{LineRefused, Pieces, Place};
 
 /// A text is cut at the bytes that part, outside brackets, quotes and literals.
 #[test]
