@@ -3,6 +3,7 @@ ghost use Rattle.std.specs.Prelude.{◌≡◌, ℕ, IfOk};
 ghost use Rattle.model_session.specs.Lines as spec;
 ghost use Rattle.session_lines.specs.Asking.{IsWithin};
 
+use crate::block::is_screen;
 use crate::numbers::{name_operand, number_operand};
 use crate::rules::{NO_LINE, UNKNOWN_WORD, WRONG_OPERANDS};
 use crate::words::operand_count;
@@ -35,6 +36,23 @@ fn input_form(line: &[u8]) -> Result<Form, u8>
     let number = message_number(first_word(operands(behind)));
     match both(name_operand(first_word(behind)), number) {
         Ok((terminal, number)) => Ok(Form::Input(terminal, number)),
+        Err(rule) => Err(rule),
+    }
+}
+
+/// `SCREEN t n`
+#[tactic(auto, unfolding(model_session::specs::Lines::screen_form))]
+fn screen_form(line: &[u8]) -> Result<Form, u8>
+    ensures value { result ≡ spec.screen_form line.now }
+    ensures within { IfOk result (λ form. (regions : ℕ) → IsWithin regions form) }
+{
+    if operand_count(line) != 2 {
+        return Err(WRONG_OPERANDS);
+    }
+    let behind = operands(line);
+    let number = message_number(operands(behind));
+    match both(name_operand(first_word(behind)), number) {
+        Ok((terminal, number)) => Ok(Form::Screen(terminal, number)),
         Err(rule) => Err(rule),
     }
 }
@@ -124,6 +142,8 @@ pub(crate) fn form_of(regions: u32, line: &[u8]) -> Result<Form, u8>
     let word = first_word(line);
     if word == b"IN".as_slice() {
         input_form(line)
+    } else if is_screen(line) {
+        screen_form(line)
     } else if word == b"TURN".as_slice() {
         turn_form(regions, line)
     } else if word == b"RECV".as_slice() {
