@@ -1,1 +1,2 @@
 mod SegmentLines
+mod Trimmed
