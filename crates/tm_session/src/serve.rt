@@ -1,10 +1,11 @@
 //! One block of a session, served.
-ghost use Rattle.std.specs.Prelude.{◌≡◌, ℕ, List, ◌<◌, ◌++◌, [], length, OnOk, OnErr};
+ghost use Rattle.std.specs.Prelude.{◌≡◌, ℕ, List, ◌<◌, ◌≤◌, ◌++◌, [], length, OnOk, OnErr};
 ghost use Rattle.model_machine.specs.Machine.{IsRegion};
+ghost use Rattle.model_machine.specs.Steps.{show_answer};
 ghost use Rattle.model_machine.specs.declared.entry.Entry.TheVariants.{Accept, Acked as AckedEntry};
-ghost use Rattle.model_machine.specs.History.{AddsNothing, is_fault};
+ghost use Rattle.model_machine.specs.History.{AddsNothing, is_fault, now_of};
 ghost use Rattle.model_system.specs.Formats.{format_of};
-ghost use Rattle.model_session.specs.Text.{bad_line_text, shown_text, stopped_text};
+ghost use Rattle.model_session.specs.Text.{bad_line_text, show_text, shown_text, stopped_text};
 ghost use Rattle.model_session.specs.Lines.{CanAsk, asked_of};
 ghost use Rattle.tm_session.specs.Serving.{IsDone, IsAnswered, BreaksOff};
 
@@ -147,13 +148,32 @@ fn answer_receive(
 {
     printed.make_room(ANSWER_ROOM)?;
     control.reserve(1)?;
-    match control.showing(terminal) {
-        Shown::Reply(reply) => print_reply(alloc, printed, control.system(), terminal, reply)?,
-        Shown::Empty => none_line(printed, terminal),
-        Shown::Unknown => unknown_line(printed, terminal),
-    }
+    print_showing(alloc, control, printed, terminal)?;
     let _ = control.receive(terminal);
     Ok(())
+}
+
+/// Prints what the terminal is to be shown.
+fn print_showing(
+    alloc: Global,
+    control: &Control,
+    printed: &mut Printed,
+    terminal: &Name,
+) -> Result<(), Memory>
+    requires { ANSWER_ROOM ≤ printed.old.room }
+    ensures { OnOk result (printed.new.text ≡ printed.old.text ++ show_text control.now.system (now_of control.now) terminal.now (show_answer (now_of control.now) terminal.now)) }
+{
+    match control.showing(terminal) {
+        Shown::Reply(reply) => print_reply(alloc, printed, control.system(), terminal, reply),
+        Shown::Empty => {
+            none_line(printed, terminal);
+            Ok(())
+        }
+        Shown::Unknown => {
+            unknown_line(printed, terminal);
+            Ok(())
+        }
+    }
 }
 
 /// Prints a reply: as the page that it makes where the terminal has a format, else as its segments.
