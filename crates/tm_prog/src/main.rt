@@ -8,6 +8,8 @@ ghost use Rattle.tm_prog.specs.Status.{status_number};
 mod database_tests;
 mod run;
 #[cfg(test)]
+mod screen_tests;
+#[cfg(test)]
 mod tests;
 
 use run::{print_last, run};
