@@ -5,8 +5,8 @@ use std::test::Fail;
 
 /// Accounts with their movements, and codes that open one, move money, tell a balance, abend behind a
 /// replacement, take one back, add a movement, and go through all of them; and one that switches a
-/// message to another code. T8 has a screen for transfers.
-const BANK: &[u8] = b"IMSCTRL QBYTES=1048576,LOGS=256
+/// message to another code. T8 has a screen for transfers. First the macros up to the first region's.
+pub const BANK: &[u8] = b"IMSCTRL QBYTES=1048576,LOGS=256
 DBD NAME=ACC,ROOTS=100
 SEGM NAME=ACCT,PARENT=0,KEY=4,BYTES=12
 SEGM NAME=MOVE,PARENT=ACCT,KEY=4,BYTES=12
@@ -22,7 +22,10 @@ NAME LTERM=T2
 NAME LTERM=T8,FORMAT=F1
 NAME LTERM=T9
 REGION CLASS=(1,2)
-FMT NAME=F1
+";
+
+/// The other macros, and the programs.
+pub const BANK_PROGRAMS: &[u8] = b"FMT NAME=F1
 DFLD NAME=FROM,POS=(3,10),LTH=4
 DFLD NAME=TO,POS=(4,10),LTH=4
 DFLD NAME=AMT,POS=(5,10),LTH=4
@@ -336,7 +339,7 @@ fn accounts(rt: HostRuntime) -> Result<(), Fail> {
         ),
     ];
     for (lines, printed) in &table {
-        let source = joined(alloc, &[BANK, OPENED, lines])?;
+        let source = joined(alloc, &[BANK, BANK_PROGRAMS, OPENED, lines])?;
         let printed = joined(alloc, &[OPENED_PRINTED, printed])?;
         expect_source(&rt, alloc, &source, &printed)?;
     }
