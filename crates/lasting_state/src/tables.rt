@@ -1,7 +1,7 @@
 //! What lasts of a control region: databases, messages, replies and numbers.
 ghost use Rattle.std.specs.Prelude.{◌≡◌, ◌<◌, ◌^◌, [], IfOk, OnOk, OnErr, IsSome, IsSomeAnd, None, Some, length, map, replicate, slice_get};
 ghost use Rattle.std.specs.Borrow.{sem};
-ghost use Rattle.model_queues.specs.Queue.{IsNewId, queued_at};
+ghost use Rattle.model_queues.specs.Queue.{AreInOrder, IsNewId, queued_at};
 ghost use Rattle.model_machine.specs.Machine.{output_at, empty_state, first_setting, terminal_place};
 ghost use Rattle.model_machine.specs.Lasting.{code_word, abend_outputs};
 ghost use Rattle.model_machine.specs.Lasting.LastingStep.{Completes, Discards};
@@ -194,6 +194,7 @@ impl Tables {
         ensures tables { self.new ≡ with_databases (given_back self.old id) self.new.databases }
         ensures databases { IsGivenUp region self.old.databases self.new.databases }
         ensures dbds { dbds_of self.new.databases ≡ dbds_of self.old.databases }
+        ensures ordered { AreInOrder self.old.queues.queued }
     {
         self.databases.give_up(region);
         self.queues.give_back(id);

@@ -1,5 +1,6 @@
 mod Linked
-mod Alone
+mod Tabled
+mod Others
 mod Named
 mod Raising
 pub mod Counting
