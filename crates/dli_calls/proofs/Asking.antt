@@ -17,8 +17,8 @@ use Rattle.model_dli.specs.Search.{number_named, pair_eq, is_there}
 use Rattle.model_dli.specs.Change.{asked_pair, insert_path}
 use Rattle.model_dli.specs.Conditions.{AreInsertSsas}
 use Rattle.dli_calls.specs.Edited.{AreNamed}
-use Rattle.dli_calls.proofs.Within.{pair_same, pair_itself}
-use Rattle.dli_calls.proofs.Places.{there_in_record}
+use Rattle.row_search.proofs.Within.{pair_same, pair_itself}
+use Rattle.row_search.proofs.Places.{there_in_record}
 
 pair_ties : (p q : ℕ × List ℕ) → pair_eq p q ≡ eq_by_cmp pair_cmp p q
 pair_ties p q = by (pair_eq p q) refl (is_eq (pair_cmp p q)) refl

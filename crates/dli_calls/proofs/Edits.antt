@@ -25,8 +25,8 @@ use Rattle.model_rows.proofs.Under.{row_among, has_front, has_back}
 use Rattle.model_rows.proofs.Whole.{has_filter, root_less}
 use Rattle.model_dli.specs.Search.{is_within}
 use Rattle.model_dli.specs.Change.{with_row, row_with, with_data, without}
-use Rattle.dli_calls.proofs.Rising.{rows_rising, split_at_root, record_under}
-use Rattle.dli_calls.proofs.Within.{within_parts, within_append, within_root}
+use Rattle.row_search.proofs.Rising.{rows_rising, split_at_root, record_under}
+use Rattle.row_search.proofs.Within.{within_parts, within_append, within_root}
 
 regroup : (b g l a : List Row) (new : Row) → ((b ++ g) ++ []) ++ (new ∷ (([] ++ l) ++ a)) ≡ (b ++ (g ++ (new ∷ l))) ++ a
 regroup b g l a new = simp (append-nil, append_assoc)

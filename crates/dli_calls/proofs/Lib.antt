@@ -1,12 +1,7 @@
-pub mod Finding
-pub mod Rising
-pub mod Fitting
-pub mod Within
-pub mod Places
-pub mod Walking
 pub mod Edits
 pub mod Asking
 pub mod NewRows
 pub mod Setting
 pub mod Standing
 pub mod Removing
+pub mod Naming

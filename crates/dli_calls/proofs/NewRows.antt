@@ -22,8 +22,8 @@ use Rattle.std.proofs.lemmas.Map.Lookups.{exact_bytes}
 use Rattle.model_dli.specs.Search.{fitted, number_named, key_length, data_length, asked_number, is_there}
 use Rattle.model_dli.specs.Change.{key_bytes, asked_pair, insert_path, insert_row, insert_fault, replace_fault, delete_fault}
 use Rattle.model_dli.specs.Conditions.{NamesChild, AreInsertSsas}
-use Rattle.dli_calls.proofs.Fitting.{take_blanks}
-use Rattle.dli_calls.proofs.Within.{both_true}
+use Rattle.row_search.proofs.Fitting.{take_blanks}
+use Rattle.row_search.proofs.Within.{both_true}
 
 -- the front of fitted bytes is fitted
 blanks_alike : (bytes : List ℕ) (k n m : ℕ) → k ≤ n → k ≤ m → take {A = ℕ} k (bytes ++ replicate n 32) ≡ take {A = ℕ} k (bytes ++ replicate m 32)

@@ -13,7 +13,7 @@ use Rattle.model_dli.specs.Change.{delete_fault, replace_fault, with_row}
 use Rattle.dli_calls.specs.declared.planned.Edit.{Edit}
 use Rattle.dli_calls.specs.declared.planned.Planned.{Planned}
 use Rattle.dli_calls.specs.Plans.{IsThere}
-use Rattle.dli_calls.proofs.Places.{there_in_record}
+use Rattle.row_search.proofs.Places.{there_in_record}
 
 some_in : {A : Type 0} (front : List A) (x : A) (back : List A) → front ++ x ∷ back ≢ []
 some_in [] x back = λ e. absurd (cc)

@@ -23,7 +23,7 @@ use Rattle.model_dli.specs.declared.call.Reach.TheVariants.{Start, Next, Parent}
 use Rattle.model_dli.specs.Search.{is_after, is_below, fits, is_there, first_below}
 use Rattle.model_dli.specs.Get.{reached, position_at, position_failed, position_missed}
 use Rattle.model_dli.specs.Conditions.{IsPosition}
-use Rattle.dli_calls.proofs.Finding.{find_has}
+use Rattle.row_search.proofs.Finding.{find_has}
 
 -- a row that a get reaches is one of the rows
 pub reached_row : (dbd : Dbd) (reach : Reach) (ssas : List Ssa) (at : Position) (rows : List Row) (row : Row) → AreRows dbd rows

@@ -1,4 +1,4 @@
-pub mod Walk
 pub mod Performs
 pub mod Plans
 pub mod Edited
+pub mod Along

@@ -239,7 +239,7 @@ fn deny(function: Function, at: &mut Position)
 }
 
 /// Whether the options of a PCB allow a call.
-fn is_allowed(function: Function, options: u8) -> bool
+pub fn is_allowed(function: Function, options: u8) -> bool
     ensures { result ≡ is_allowed function options }
 {
     match function {

@@ -13,13 +13,12 @@ ghost use Rattle.model_dli.specs.Dli.{insert, replace, delete};
 ghost use Rattle.dli_calls.specs.Plans.{IsThere, Plans};
 ghost use Rattle.dli_calls.specs.Edited.{IsEdit};
 
-use crate::asked::{data_length, fitted_bytes, fitted_key};
 use crate::edit;
 use crate::inserting::{insert_fault, insert_row};
 use crate::planned::{Planned, answer_at, set_record};
-use crate::search::{is_there, record_rows};
 use model_dli::{DbCall, Position};
 use model_rows::{Path, Row};
+use row_search::{data_length, fitted_bytes, fitted_key, is_there, record_rows};
 use seg_rows::{RecordImage, Rows};
 use std::alloc::Global;
 use tm_types::{Dbd, Key, Memory, SegTypes, Status};
@@ -151,7 +150,7 @@ pub fn replace_fault<R: Rows>(
     delete_fault(held, rows)
 }
 
-fn keeps_key(types: &SegTypes, held: &Path, area: &[u8]) -> bool
+pub fn keeps_key(types: &SegTypes, held: &Path, area: &[u8]) -> bool
     requires { IsPath types.now held.now }
     ensures { result ≡ is_eq (key_cmp (end_key held.now) (fitted (key_length types.now (end_type held.now)) area.now)) }
 {

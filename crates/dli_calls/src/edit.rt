@@ -4,8 +4,8 @@ ghost use Rattle.std.specs.Ordering.{is_lt, is_gt};
 ghost use Rattle.model_rows.specs.Path.{path_cmp};
 ghost use Rattle.model_dli.specs.Change.{row_with, with_row, with_data, without};
 
-use crate::search::is_within;
 use model_rows::{Path, Row};
+use row_search::is_within;
 use seg_rows::RecordImage;
 use std::alloc::Global;
 use tm_types::{Bytes, Memory};

@@ -11,10 +11,9 @@ ghost use Rattle.tm_types.specs.Segment.{IsSegmentText};
 ghost use Rattle.model_rows.specs.Rows.{AreRows};
 ghost use Rattle.dli_calls.specs.Performs.{Performs};
 
-use crate::asked::asked_root;
-use crate::search::{first_row, first_row_below, is_there};
 use model_dli::{DbCall, Performed, Position, Reach};
 use model_rows::{Path, Row};
+use row_search::{asked_root, first_row, first_row_below, is_there};
 use seg_rows::Rows;
 use tm_types::{Dbd, Memory, Ssa, Status};
 

@@ -10,9 +10,8 @@ ghost use Rattle.model_dli.specs.Change.{key_bytes, asked_pair, insert_path, ins
 ghost use Rattle.model_dli.specs.Conditions.{AreInsertSsas};
 ghost use Rattle.dli_calls.specs.Edited.{AreNamed};
 
-use crate::asked::{asked_number, data_length, fitted_bytes, fitted_key, number_named};
-use crate::search::record_rows;
 use model_rows::{Path, Row};
+use row_search::{asked_number, data_length, fitted_bytes, fitted_key, number_named, record_rows};
 use seg_rows::Rows;
 use std::alloc::Global;
 use tm_types::{Key, KeyTest, Memory, SegTypes, Ssa, Status};

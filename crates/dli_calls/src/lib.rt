@@ -2,19 +2,23 @@
 //!
 //! A call comes to what `model_dli` defines: its status, its data, where its PCB then stands, and the
 //! record that it sets. Planning a call changes nothing; what it changes is one image of one record.
+//! What a call needs before it is made is its footprint: what it answers and changes depends on nothing
+//! else of the rows.
 #![tactic(auto)]
 
 pub use calls::{perform, plan, would_change};
-pub use model_dli::{DbCall, Performed, Position};
+pub use footprint::needs;
+pub use model_dli::{DbCall, Need, Performed, Position};
+pub use need_list::Needs;
 pub use planned::{Edit, Planned};
 
-mod asked;
 mod calls;
 mod change;
 mod edit;
+mod footprint;
 mod get;
 mod inserting;
+mod need_list;
 mod planned;
-mod search;
 #[cfg(test)]
 mod tests;

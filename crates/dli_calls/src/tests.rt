@@ -6,14 +6,15 @@ ghost use Rattle.tm_types.specs.SegTypes.{type_at};
 ghost use Rattle.model_dli.specs.Search.{number_named};
 ghost use Rattle.model_dli.specs.Conditions.{AreInsertSsas, NamesChild, IsDbCall, IsPosition};
 
-use crate::asked::number_named;
-use crate::{DbCall, Position, perform, would_change};
+use crate::{DbCall, Position, needs, perform, would_change};
+use row_search::number_named;
 use seg_rows::{PlainRows, Rows, StoreRefused};
 use std::alloc::Global;
 use std::test::Fail;
 use tm_types::processing::{DELETE, GET, INSERT, REPLACE};
 use tm_types::{
-    Bytes, Dbd, Function, Key, KeyTest, Name, SegType, SegTypes, Ssa, Ssas, Status, is_printable,
+    Bytes, Dbd, Function, Key, KeyTest, Mode, Name, SegType, SegTypes, Ssa, Ssas, Status,
+    is_printable,
 };
 
 const ALL: u8 = GET + INSERT + REPLACE + DELETE;
@@ -276,9 +277,44 @@ fn outcome_text(outcome: Outcome) -> &'static [u8] {
     }
 }
 
+// Whether a call needs just this: `s` shared or `x` alone, before a root, or before `-` for the
+// sequence; `none` where it needs nothing.
+fn asks<R: Rows>(
+    alloc: Global,
+    dbd: &Dbd,
+    call: &DbCall,
+    position: &Position,
+    rows: &R,
+    text: &[u8],
+) -> Result<bool, Fail>
+    requires rows { R.database rows.now ≡ dbd.now }
+    requires position { IsPosition dbd.now.types position.now }
+{
+    if dbd.types.len() > 255 || !is_call(&dbd.types, call) {
+        return Ok(false);
+    }
+    let needs = needs(alloc, dbd, call, position, rows)?;
+    let mut told = Bytes::new(alloc);
+    for need in needs.as_slice() {
+        told.push(if need.mode == Mode::Shared {
+            b's'
+        } else {
+            b'x'
+        })?;
+        match &need.root {
+            Some(root) => told.append(root.as_bytes())?,
+            None => told.push(b'-')?,
+        }
+    }
+    if told.is_empty() {
+        told.append(b"none")?;
+    }
+    Ok(told.as_slice() == text)
+}
+
 // Makes the calls of the lines one after the other. A line has the function, its data, its
-// arguments, the status or the limit that refuses it, the data that it gives, and its options.
-// Answers how many calls ended as their lines say.
+// arguments, the status or the limit that refuses it, the data that it gives, its options, and what
+// it needs, where that is asked. Answers how many calls ended as their lines say.
 fn run_steps<R: Rows>(
     alloc: Global,
     dbd: &Dbd,
@@ -295,6 +331,10 @@ fn run_steps<R: Rows>(
         let function = function_named(piece(line, 0))?;
         let options = options_of(piece(line, 5));
         let call = call(alloc, function, options, piece(line, 1), piece(line, 2))?;
+        let needed = piece(line, 6);
+        if !needed.is_empty() && !asks(alloc, dbd, &call, position, rows, needed)? {
+            return Ok(place);
+        }
         let outcome = make_call(alloc, dbd, &call, position, rows, piece(line, 4));
         if outcome_text(outcome) != piece(line, 3) {
             return Ok(place);
@@ -475,6 +515,29 @@ fn options_are_looked_at_first(rt: HostRuntime) -> Result<(), Fail> {
         b"GHNP|||AM||G",
         b"ISRT|A001|ACCT|AM||GRD",
         b"ISRT|A001|ACCT|II||I",
+    ];
+    assert_eq!(rt; run_loaded(rt.alloc(), &lines)?, 15);
+    Ok(())
+}
+
+#[test]
+fn needed_before_each_call(rt: HostRuntime) -> Result<(), Fail> {
+    let lines: [&[u8]; 15] = [
+        b"GU||ACCT=A009|GE|||sA009",
+        b"GHU||MOVE=02|  |02mv ||s-xA001",
+        b"REPL|02new||  |||xA001",
+        b"GN|||GK|9nn||sA001",
+        b"GN|||GA|A002zzzz||sA001s-sA002",
+        b"GNP||NOTE|GE|||sA002",
+        b"GN||MOVE=09|GB|||sA002s-sA003",
+        b"GNP|||GP|||none",
+        b"GHN||ACCT>=A003|  |A003    ||s-xA001xA002xA003",
+        b"DLET|||  |||xA003x-",
+        b"DLET|||DJ|||none",
+        b"ISRT|A005|ACCT|  |||x-xA005",
+        b"ISRT|1|ACCT=A005,NOTE|  |||xA005",
+        b"REPL|1||DJ|||none",
+        b"ISRT|A007|ACCT|AM||G|none",
     ];
     assert_eq!(rt; run_loaded(rt.alloc(), &lines)?, 15);
     Ok(())

@@ -1,32 +1,37 @@
 -- What a call on a database comes to.
-use Rattle.std.proofs.Common.{◌≡◌, ℕ, ◌-◌, ◌≤◌, List, length, get_or, sym, ◌∙◌, ap, refl, subst, arith}
-use Rattle.std.specs.Prelude.{Option, Some, None, Result, Ok, Err, All, IfOk, OnErr, IsSome, IsSomeAnd, slice_get, slice_set}
+use Rattle.std.proofs.Common.{◌≡◌, ℕ, ◌-◌, ◌≤◌, List, [], length, get_or, sym, ◌∙◌, ap, refl, subst, arith}
+use Rattle.std.specs.Prelude.{Option, Some, None, All, IsSome, IsSomeAnd, slice_get, slice_set}
 use Rattle.std.specs.Option.{option_map_or}
 use Rattle.std.proofs.lemmas.Option.{get_or_from_slice_get, slice_get_within}
 use Rattle.std.proofs.lemmas.List.Elements.{All-weaker}
 use Rattle.tm_types.specs.declared.abend.AbendCode.{AbendCode}
 use Rattle.tm_types.specs.declared.dbd.Dbd.{Dbd}
 use Rattle.tm_types.specs.declared.dbd.SegType.{SegType}
+use Rattle.tm_types.specs.declared.resource.Resource.{Resource}
 use Rattle.tm_types.specs.Segment.{IsSegmentText}
 use Rattle.model_script.specs.declared.need.CallText.{CallText}
 use Rattle.model_script.specs.Script.{Answer}
 use Rattle.model_system.specs.declared.pcb.Pcb.{Pcb}
 use Rattle.model_system.specs.declared.pcb.Pcb.TheVariants.{Database}
 use Rattle.model_system.specs.System.{System}
+use Rattle.model_dli.specs.declared.call.DbCall.{DbCall}
 use Rattle.model_dli.specs.declared.call.Position.{Position}
 use Rattle.model_dli.specs.Conditions.{AreSsasOf, IsDbCall, IsPosition}
-use Rattle.model_dli.specs.Data.{abend_by, nowhere, position_at}
+use Rattle.model_dli.specs.Data.{data_abend, nowhere, position_at}
 use Rattle.model_dli.specs.Dli.{DliResult, dli}
-use Rattle.model_machine.specs.Trial.{DbPcb, Outcome, Rows, Nothing, db_outcome, outcome_at, reached_by}
-use Rattle.program_rows.specs.State.{DatabasesState, data_of, rows_of, rows_numbered}
-use Rattle.program_rows.specs.Answering.{IsAnswer, IsLeft}
+use Rattle.model_enqueue.specs.declared.request.Request.{Request}
+use Rattle.model_enqueue.specs.Ask.{after_asks, first_blocked}
+use Rattle.model_machine.specs.Trial.{DbPcb, Outcome, Reached, Rows, Nothing, db_outcome, reached_by}
+use Rattle.program_rows.specs.State.{DatabasesState, IsRegionOf, data_of, region_at, rows_numbered}
+use Rattle.program_rows.specs.Isolation.{requests_of_call}
+use Rattle.program_rows.specs.Answering.{IsAnswer, region_after, told_blocked}
 use Rattle.program_rows.specs.declared.answer.Answered.{Answered as DataAnswered}
 use Rattle.system_types.specs.Valid.{IsDatabase}
 use Rattle.message_run.proofs.Calls.{all_at}
+use Rattle.message_run.proofs.Regions.{set_region}
 use Rattle.message_run.proofs.Standing.{one_stands}
 use Rattle.message_run.specs.RunState.{RunState, AreStanding, IsCallBy}
-use Rattle.message_run.specs.Answering.{Answers, ComesTo, Tells, answered_machine, outcome_of}
-use Rattle.message_run.specs.declared.answer.CallEnd.{CallEnd}
+use Rattle.message_run.specs.Answering.{Answers, AreGranted, AreBlocked, answered_machine, outcome_of, requests_by_run, told_run}
 
 -- the arguments of a call on a database that is there are in order
 pub is_db_call : (databases : List Dbd) (call : CallText) (number options : ℕ) (dbd : Dbd) → IsCallBy databases call (Some (Database number options))
@@ -67,56 +72,94 @@ pub has_position : (databases : List Dbd) (pcbs : List Pcb) (positions : List Po
     → slice_get pcbs (pcb - 1) ≡ Some kind → pcb ≤ length positions
 has_position databases pcbs positions pcb kind standing some e = omega (arith, slice_get_within pcbs (pcb - 1) kind e, standing.count)
 
-module _ (system : System) (before : DatabasesState) (run : RunState) (call : CallText) (number options : ℕ) (dbd : Dbd) (at : Position)
+told_none : (found : Option (Request × ℕ)) → told_blocked found ≡ None → found ≡ None
+told_none None e = refl
+told_none (Some found) e = absurd (cc)
+
+module _ (system : System) (region : ℕ) (before : DatabasesState) (run : RunState) (call : CallText) (number options : ℕ) (dbd : Dbd) (at : Position)
     (database : slice_get system.databases (number - 1) ≡ Some dbd) (stands : slice_get run.positions (call.pcb - 1) ≡ Some at) where
+  abbrev made : DbCall
+  made = record { function = call.function; options = options; area = call.area; ssas = call.ssas }
+
   abbrev result : DliResult
-  result = dli dbd (record { function = call.function; options = options; area = call.area; ssas = call.ssas }) at (rows_numbered number before)
+  result = dli dbd made at (rows_numbered region number before)
+
+  abbrev reaches : Reached
+  reaches = reached_by system.databases (Some (Database number options))
 
   abbrev comes : Outcome
-  comes = outcome_of system (reached_by system.databases (Some (Database number options))) before run call
+  comes = outcome_of system reaches region before run call
+
+  abbrev asks : List Request
+  asks = requests_by_run reaches region before run call
 
   abbrev target : DbPcb
   target = record { number = number; dbd = dbd; options = options }
 
-  at_is : position_at (data_of before run.positions) call.pcb ≡ at
+  at_is : position_at (data_of region before run.positions) call.pcb ≡ at
   at_is = get_or_from_slice_get run.positions (call.pcb - 1) at nowhere stands
 
-  outcome_is : comes ≡ db_outcome target run.work (data_of before run.positions) call result
+  reaches_is : reaches ≡ Rows target
+  reaches_is = ap (λ (found : Option Dbd). option_map_or (λ d. Rows (record { number = number; dbd = d; options = options })) found Nothing) database
+
+  outcome_is : comes ≡ db_outcome target run.work (data_of region before run.positions) call result
   outcome_is =
-      ap (λ (found : Option Dbd). outcome_at system (rows_of before.committed) (option_map_or (λ d. Rows (record { number = number; dbd = d; options = options })) found Nothing) run.work (data_of before run.positions) call) database
-      ∙ ap (λ (p : Position). db_outcome target run.work (data_of before run.positions) call (dli dbd (record { function = call.function; options = options; area = call.area; ssas = call.ssas }) p (rows_numbered number before))) at_is
+      ap (λ (r : Reached). outcome_of system r region before run call) reaches_is
+      ∙ ap (λ (p : Position). db_outcome target run.work (data_of region before run.positions) call (dli dbd made p (rows_numbered region number before))) at_is
 
-  pub leads : (abend : AbendCode) → Some abend ≡ abend_by number before.changed result.changed result.refusal → comes.abend ≡ Some abend
-  leads abend e = ap (λ (o : Outcome). o.abend) outcome_is ∙ sym e
+  pub asks_are : asks ≡ requests_of_call region number dbd made at before
+  asks_are =
+      ap (λ (r : Reached). requests_by_run r region before run call) reaches_is
+      ∙ ap (λ (p : Position). requests_of_call region number dbd made p before) at_is
 
-  answers : (after : DatabasesState) (given : DataAnswered) (new : RunState) (told : CallEnd) → None ≡ abend_by number before.changed result.changed result.refusal
-      → IsAnswer result given → IsLeft number result before after given → Tells call.pcb given run new told → Answers comes after run new given.status
-  answers after given new told goes answer left tells = record {
-    calls = ap (λ (r : RunState). r.calls) tells.state;
-    machine =
-        ap (λ (r : RunState). r.machine) tells.state
-        ∙ ap (λ (a : Answer). answered_machine run.machine a) ((λ i. record { status = answer.status i; area = answer.area i }) ∙ sym (ap (λ (o : Outcome). o.answer) outcome_is));
-    work = ap (λ (r : RunState). r.work) tells.state ∙ sym (ap (λ (o : Outcome). o.work) outcome_is);
-    seen =
-        (λ i. record { rows = left.rows i; positions = (ap (λ (r : RunState). r.positions) tells.state ∙ ap (slice_set run.positions (call.pcb - 1)) answer.position) i; changed = left.changed i })
-        ∙ sym (ap (λ (o : Outcome). o.databases) outcome_is);
-    told = answer.status ∙ sym (ap (λ (o : Outcome). o.answer.status) outcome_is);
-    goes_on = ap (λ (o : Outcome). o.abend) outcome_is ∙ sym goes;
+  abbrev abend_is : Option AbendCode
+  abend_is = data_abend number (data_of region before []) result
+
+  pub leads : (abend : AbendCode) → abend_is ≡ Some abend → comes.abend ≡ Some abend
+  leads abend e = ap (λ (o : Outcome). o.abend) outcome_is ∙ e
+
+  pub are_free : None ≡ told_blocked (first_blocked (requests_of_call region number dbd made at before) before.table) → first_blocked asks before.table ≡ None
+  are_free free = ap (λ rs. first_blocked rs before.table) asks_are ∙ told_none (first_blocked (requests_of_call region number dbd made at before) before.table) (sym free)
+
+  -- what was asked for is granted where none of it is blocked
+  pub are_granted : (after : DatabasesState) → None ≡ told_blocked (first_blocked (requests_of_call region number dbd made at before) before.table)
+      → after.table ≡ after_asks region (requests_of_call region number dbd made at before) before.table
+      → AreGranted region asks before after
+  are_granted after free asked = record {
+    free = are_free free;
+    asked = asked ∙ ap (λ rs. after_asks region rs before.table) (sym asks_are);
   }
 
-  pub all_answers : {E : Type 0} (told : Result CallEnd E) (after : DatabasesState) (given : DataAnswered) (new : RunState)
-      → None ≡ abend_by number before.changed result.changed result.refusal
-      → IsAnswer result given → IsLeft number result before after given → IfOk told (Tells call.pcb given run new) → IfOk told (ComesTo comes before after run new)
-  all_answers (Ok told) after given new goes answer left tells =
-      subst (ComesTo comes before after run new) (sym tells.answer) (answers after given new told goes answer left tells)
-  all_answers (Err error) after given new goes answer left tells = tt
+  pub are_blocked : (after : DatabasesState) (resource : Resource) (by : ℕ)
+      → Some (resource, by) ≡ told_blocked (first_blocked (requests_of_call region number dbd made at before) before.table)
+      → after.table ≡ after_asks region (requests_of_call region number dbd made at before) before.table
+      → AreBlocked region asks before after resource by
+  are_blocked after resource by blocked asked = record {
+    blocked = ap (λ rs. told_blocked (first_blocked rs before.table)) asks_are ∙ sym blocked;
+    asked = asked ∙ ap (λ rs. after_asks region rs before.table) (sym asks_are);
+  }
+
+  pub answers : (after : DatabasesState) (given : DataAnswered) → IsRegionOf before region → abend_is ≡ None
+      → IsAnswer result given → after.regions ≡ slice_set before.regions (region - 1) (region_after number result (region_at region before))
+      → Answers region comes after run (told_run call.pcb given run) given.status
+  answers after given there goes answer left =
+      let seen = set_region before region there (region_after number result (region_at region before)) after left in
+      record {
+        calls = refl;
+        machine =
+            ap (λ (a : Answer). answered_machine run.machine a) ((λ i. record { status = answer.status i; area = answer.area i }) ∙ sym (ap (λ (o : Outcome). o.answer) outcome_is));
+        work = sym (ap (λ (o : Outcome). o.work) outcome_is);
+        seen =
+            (λ i. record { rows = (seen i).rows; positions = slice_set run.positions (call.pcb - 1) (answer.position i); changed = (seen i).changed })
+            ∙ sym (ap (λ (o : Outcome). o.databases) outcome_is);
+        told = answer.status ∙ sym (ap (λ (o : Outcome). o.answer.status) outcome_is);
+        goes_on = ap (λ (o : Outcome). o.abend) outcome_is ∙ goes;
+      }
 
 -- the PCB of an answered call stands at a position of its database, and the others as before
-pub all_stand : {E : Type 0} (databases : List Dbd) (pcbs : List Pcb) (old new : RunState) (pcb number options : ℕ) (dbd : Dbd) (given : DataAnswered)
+pub told_stand : (databases : List Dbd) (pcbs : List Pcb) (old : RunState) (pcb number options : ℕ) (dbd : Dbd) (given : DataAnswered)
     → AreStanding databases pcbs old.positions → slice_get pcbs (pcb - 1) ≡ Some (Database number options) → slice_get databases (number - 1) ≡ Some dbd
     → IsPosition dbd.types given.position
-    → (told : Result CallEnd E) → IfOk told (Tells pcb given old new) → OnErr told (new ≡ old) → AreStanding databases pcbs new.positions
-all_stand databases pcbs old new pcb number options dbd given standing kind database valid (Ok told) tells kept =
-    one_stands databases pcbs old.positions new.positions (pcb - 1) number options dbd given.position standing kind database valid (ap (λ (r : RunState). r.positions) tells.state)
-all_stand databases pcbs old new pcb number options dbd given standing kind database valid (Err error) tells kept =
-    subst (AreStanding databases pcbs) (sym (ap (λ (r : RunState). r.positions) kept)) standing
+    → AreStanding databases pcbs (told_run pcb given old).positions
+told_stand databases pcbs old pcb number options dbd given standing kind database valid =
+    one_stands databases pcbs old.positions (slice_set old.positions (pcb - 1) given.position) (pcb - 1) number options dbd given.position standing kind database valid refl

@@ -1,28 +1,40 @@
 -- A region's work goes on as the trial does.
-use Rattle.std.proofs.Common.{◌≡◌, ℕ, ◌+◌, Bool, true, false, List, [], ◌∷◌, ◌++◌, length, sym, ◌∙◌, ap, refl, add-one}
-use Rattle.std.specs.Prelude.{Option, Some, None, if◌then◌else◌, replicate}
+use Rattle.std.proofs.Common.{◌≡◌, ℕ, ◌+◌, ◌-◌, Bool, true, false, List, [], ◌∷◌, ◌++◌, length, sym, ◌∙◌, ap, refl, subst, add-one}
+use Rattle.std.specs.Prelude.{Option, Some, None, if◌then◌else◌, ◌&&◌, ◌==◌, All, replicate, slice_index_or}
 use Rattle.std.specs.Option.{option_and_then}
+use Rattle.std.proofs.lemmas.List.Elements.{All-nil, All-append, All-push, All-weaker}
 use Rattle.tm_types.specs.declared.abend.AbendCode.{AbendCode}
+use Rattle.tm_types.specs.declared.dbd.Dbd.{Dbd}
 use Rattle.tm_types.specs.declared.message.Message.{Message}
+use Rattle.tm_types.specs.declared.resource.Resource.{Resource}
 use Rattle.tm_types.specs.declared.status.Status.{Status}
 use Rattle.model_script.specs.declared.need.CallText.{CallText}
 use Rattle.model_script.specs.declared.need.Need.{Need}
 use Rattle.model_script.specs.declared.need.Need.TheVariants.{Call}
 use Rattle.model_script.specs.Script.{Answer, script_start, script_after, settled, step, need_of, need_at, answered, moved_on, waiting_at}
 use Rattle.model_script.proofs.Settled.{settled_twice, answered_alike, script_after_append}
+use Rattle.model_system.specs.declared.pcb.Pcb.{Pcb}
 use Rattle.model_system.specs.Jobs.{Job}
-use Rattle.script_run.specs.Running.{Running}
+use Rattle.model_system.specs.Pcbs.{pcb_at}
+use Rattle.script_run.specs.Running.{Running, HasTexts}
 use Rattle.model_dli.specs.declared.call.Position.{Position}
-use Rattle.model_dli.specs.Data.{data_start, nowhere}
-use Rattle.model_message.specs.Work.{message_start}
+use Rattle.model_dli.specs.Data.{Data, data_start, nowhere}
+use Rattle.model_enqueue.specs.declared.request.Request.{Request}
+use Rattle.model_enqueue.specs.Table.{EnqueueTable}
+use Rattle.model_enqueue.specs.Ask.{after_asks, first_blocked}
+use Rattle.model_message.specs.Work.{MessageWork, message_start}
 use Rattle.seg_store.specs.Slots.{Stored}
-use Rattle.program_rows.specs.State.{DatabasesState, IsClean, rows_of, dbds_of, data_of}
-use Rattle.model_machine.specs.Trial.{Trial, WorkEnd, Outcome, Advance, trial_start, trial_of, advance, advance_by, called, gone, gone_on, is_sync, unless_abend, call_outcome, outcome_at, Reached, reached}
+use Rattle.program_rows.specs.State.{DatabasesState, RegionRows, IsClean, committed_rows, rows_of, dbds_of, data_of, no_rows}
+use Rattle.program_rows.specs.Answering.{told_blocked}
+use Rattle.model_machine.specs.Trial.{Trial, WorkEnd, Outcome, Advance, trial_start, trial_of, trial_need, advance, advance_by, called, gone, gone_on, is_get_unique, is_sync, unless_abend, call_outcome, outcome_at, Reached, reached, reached_by}
 use Rattle.model_machine.specs.Trial.Advance.{Goes, Stops}
+use Rattle.model_machine.specs.Trial.Reached.{Messages}
 use Rattle.model_machine.specs.Trial.WorkEnd.{Syncs, Abends}
+use Rattle.model_machine.specs.Requests.{asked_before, asked_behind, requests_at, requests_by, requests_of}
 use Rattle.message_run.specs.RunState.{RunState, AreStanding}
-use Rattle.message_run.specs.Answering.{Answers, outcome_of}
-use Rattle.message_run.specs.Ahead.{IsAhead, IsStart, GoesBy, StopsSo}
+use Rattle.message_run.specs.Answering.{Answers, AreGranted, AreBlocked, outcome_of, requests_by_run}
+use Rattle.message_run.specs.Ahead.{IsAhead, IsFree, IsHeld, IsStart, GoesBy, StopsSo, WaitsFor, needs_before, needs_behind}
+use Rattle.message_run.proofs.Holding.{asks_keep, asks_hold}
 use Rattle.message_run.proofs.Standing.{all_nowhere}
 use Rattle.model_rows.specs.declared.row.Row.{Row}
 
@@ -44,9 +56,73 @@ abends_not found rest e = ap (λ o. unless_abend o rest) e
 abbrev target_of : Job → CallText → Reached
 target_of job call = reached job.system.databases job.pcbs call.pcb
 
-module _ (job : Job) (message : Message) (databases : DatabasesState) (run : RunState) (ahead : IsAhead job message databases run) where
+-- behind a call more, what it asked for is asked for
+asked_next : (region : ℕ) (job : Job) (rows : List (List Row)) (message : Message) (calls : ℕ) (trial : Trial) → trial_of job rows message calls ≡ Some trial
+    → asked_before region job rows message (calls + 1) ≡ asked_before region job rows message calls ++ requests_of region job trial
+asked_next region job rows message calls trial made =
+    ap (asked_before region job rows message) (add-one calls) ∙ ap (λ t. asked_before region job rows message calls ++ asked_behind region job t) made
+
+needs_next : (job : Job) (rows : List (List Row)) (message : Message) (calls : ℕ) (trial : Trial) → trial_of job rows message calls ≡ Some trial
+    → needs_before job rows message (calls + 1) ≡ needs_before job rows message calls ++ trial_need job trial ∷ []
+needs_next job rows message calls trial made =
+    ap (needs_before job rows message) (add-one calls) ∙ ap (λ t. needs_before job rows message calls ++ needs_behind job t) made
+
+module _ (job : Job) (message : Message) (region : ℕ) (databases : DatabasesState) (run : RunState) (ahead : IsAhead job message region databases run) where
   abbrev rows : List (List Row)
-  rows = rows_of databases.committed
+  rows = committed_rows databases
+
+  -- the trial asks for what the script's call asks for
+  asks_are : (call : CallText) → need_at job.lines job.transaction.statement_limit run.machine.script ≡ Call call
+      → requests_of region job ahead.trial ≡ requests_by_run (target_of job call) region databases run call
+  asks_are call needs =
+      ap (requests_by region job ahead.trial) (ap (λ s. need_of (step job.lines job.transaction.statement_limit s)) ahead.script ∙ needs)
+      ∙ ap (λ d. requests_at region (target_of job call) d call) ahead.seen
+
+  -- the texts of one call more
+  texts_next : (after : DatabasesState) (need : Need) (calls : ℕ) → after.committed ≡ databases.committed → trial_need job ahead.trial ≡ need → HasTexts need
+      → calls ≡ run.calls + 1 → All HasTexts (needs_before job (committed_rows after) message calls)
+  texts_next after need calls committed needs texts count =
+      subst (λ (ss : List Stored). All HasTexts (needs_before job (rows_of ss) message calls)) (sym committed)
+      (subst (All HasTexts) (sym (ap (needs_before job (committed_rows databases) message) count ∙ needs_next job (committed_rows databases) message run.calls ahead.trial ahead.made))
+      (All-push HasTexts (needs_before job (committed_rows databases) message run.calls) (trial_need job ahead.trial) ahead.texts (subst HasTexts (sym needs) texts)))
+
+  -- the trial needs what the script needs
+  need_is : (need : Need) → need_at job.lines job.transaction.statement_limit run.machine.script ≡ need → trial_need job ahead.trial ≡ need
+  need_is need needs = ap (λ s. need_of (step job.lines job.transaction.statement_limit s)) ahead.script ∙ needs
+
+  free_of : (call : CallText) → need_at job.lines job.transaction.statement_limit run.machine.script ≡ Call call
+      → first_blocked (requests_by_run (target_of job call) region databases run call) databases.table ≡ None
+      → first_blocked (requests_of region job ahead.trial) databases.table ≡ None
+  free_of call needs free = ap (λ rs. first_blocked rs databases.table) (asks_are call needs) ∙ free
+
+  free_so : (call : CallText) (after : DatabasesState) → need_at job.lines job.transaction.statement_limit run.machine.script ≡ Call call
+      → AreGranted region (requests_by_run (target_of job call) region databases run call) databases after → IsFree job region databases after ahead.trial
+  free_so call after needs granted = record {
+    free = free_of call needs granted.free;
+    asked = granted.asked ∙ ap (λ rs. after_asks region rs databases.table) (sym (asks_are call needs));
+  }
+
+  -- what was asked for before is held on
+  held_on : (after : DatabasesState) (requests : List Request) → after.committed ≡ databases.committed → after.table ≡ after_asks region requests databases.table
+      → All (IsHeld after.table) (asked_before region job (committed_rows after) message run.calls)
+  held_on after requests committed asked =
+      subst (λ (t : EnqueueTable). All (IsHeld t) (asked_before region job (committed_rows after) message run.calls)) (sym asked)
+      (subst (λ (ss : List Stored). All (IsHeld (after_asks region requests databases.table)) (asked_before region job (rows_of ss) message run.calls)) (sym committed)
+      (All-weaker (IsHeld databases.table) (IsHeld (after_asks region requests databases.table)) (asks_keep region requests databases.table)
+      (asked_before region job (committed_rows databases) message run.calls) ahead.held))
+
+  -- and so is what the call asked for
+  held_next : (after : DatabasesState) (calls : ℕ) → after.committed ≡ databases.committed → IsFree job region databases after ahead.trial → calls ≡ run.calls + 1
+      → All (IsHeld after.table) (asked_before region job (committed_rows after) message calls)
+  held_next after calls committed granted count =
+      let asked = requests_of region job ahead.trial in
+      let table = after_asks region asked databases.table in
+      subst (λ (t : EnqueueTable). All (IsHeld t) (asked_before region job (committed_rows after) message calls)) (sym granted.asked)
+      (subst (λ (ss : List Stored). All (IsHeld table) (asked_before region job (rows_of ss) message calls)) (sym committed)
+      (subst (All (IsHeld table)) (sym (ap (asked_before region job (committed_rows databases) message) count ∙ asked_next region job (committed_rows databases) message run.calls ahead.trial ahead.made))
+      (All-append (IsHeld table) (asked_before region job (committed_rows databases) message run.calls) asked
+      (All-weaker (IsHeld databases.table) (IsHeld table) (asks_keep region asked databases.table) (asked_before region job (committed_rows databases) message run.calls) ahead.held)
+      (asks_hold region asked databases.table granted.free))))
 
   -- the trial needs what the script needs
   advance_is : (need : Need) → need_at job.lines job.transaction.statement_limit run.machine.script ≡ need → advance job rows ahead.trial ≡ advance_by job rows ahead.trial need
@@ -54,22 +130,28 @@ module _ (job : Job) (message : Message) (databases : DatabasesState) (run : Run
       ap (advance_by job rows ahead.trial) (ap (λ s. need_of (step job.lines job.transaction.statement_limit s)) ahead.script ∙ needs)
 
   -- and its call comes to what the script's call comes to
-  outcome_is : (call : CallText) → call_outcome job rows ahead.trial call ≡ outcome_of job.system (target_of job call) databases run call
+  outcome_is : (call : CallText) → call_outcome job rows ahead.trial call ≡ outcome_of job.system (target_of job call) region databases run call
   outcome_is call =
       ap (λ w. outcome_at job.system rows (target_of job call) w ahead.trial.databases call) ahead.work
       ∙ ap (λ d. outcome_at job.system rows (target_of job call) run.work d call) ahead.seen
 
-  same_ahead : (machine : Running) → machine.limit ≡ run.machine.limit
+  same_ahead : (after : DatabasesState) (requests : List Request) (machine : Running) → after.committed ≡ databases.committed → after.regions ≡ databases.regions
+      → dbds_of after ≡ dbds_of databases → after.table ≡ after_asks region requests databases.table
+      → machine.limit ≡ run.machine.limit
       → settled job.lines job.transaction.statement_limit machine.script ≡ settled job.lines job.transaction.statement_limit run.machine.script
-      → IsAhead job message databases (record run { machine = machine })
-  same_ahead machine limited script = record {
+      → IsAhead job message region after (record run { machine = machine })
+  same_ahead after requests machine committed regions dbds asked limited script = record {
     trial = ahead.trial;
-    made = ahead.made;
+    made = ap (λ (ss : List Stored). trial_of job (rows_of ss) message run.calls) committed ∙ ahead.made;
     limit = limited ∙ ahead.limit;
     script = ahead.script ∙ sym script;
     work = ahead.work;
-    seen = ahead.seen;
-    dbds = ahead.dbds;
+    seen =
+        ahead.seen
+        ∙ ap (λ (rs : List RegionRows). record { rows = (slice_index_or rs (region - 1) no_rows).rows; positions = run.positions; changed = (slice_index_or rs (region - 1) no_rows).changed }) (sym regions);
+    held = held_on after requests committed asked;
+    texts = subst (λ (ss : List Stored). All HasTexts (needs_before job (rows_of ss) message run.calls)) (sym committed) ahead.texts;
+    dbds = dbds ∙ ahead.dbds;
     standing = ahead.standing;
   }
 
@@ -80,7 +162,7 @@ module _ (job : Job) (message : Message) (databases : DatabasesState) (run : Run
         advance_is (Call call) needs
         ∙ goes_past (is_sync ahead.trial.work call) (called ahead.trial call (call_outcome job rows ahead.trial call)) (ap (λ w. is_sync w call) ahead.work ∙ further)
 
-    abended : (abend : AbendCode) → (outcome_of job.system (target_of job call) databases run call).abend ≡ Some abend → advance job rows ahead.trial ≡ Stops (Abends abend)
+    abended : (abend : AbendCode) → (outcome_of job.system (target_of job call) region databases run call).abend ≡ Some abend → advance job rows ahead.trial ≡ Stops (Abends abend)
     abended abend found =
         makes
         ∙ abends_so (call_outcome job rows ahead.trial call).abend abend (gone_on ahead.trial call (call_outcome job rows ahead.trial call)) (ap (λ o. o.abend) (outcome_is call) ∙ found)
@@ -106,34 +188,38 @@ module _ (job : Job) (message : Message) (databases : DatabasesState) (run : Run
         ap (trial_of job rows message) count
         ∙ rw (add-one run.calls) (ap (option_and_then (λ t. gone (advance job rows t))) ahead.made ∙ ap gone (sym goes))
 
-    pub called_next : (after : DatabasesState) (new : RunState) (status : Status)
+    pub called_next : (after : DatabasesState) (new : RunState) (status : Status) → HasTexts (Call call)
         → new.calls ≡ run.calls + 1
         → new.machine.limit ≡ run.machine.limit
         → settled job.lines job.transaction.statement_limit new.machine.script
-        ≡ settled job.lines job.transaction.statement_limit (answered job.lines job.transaction.statement_limit run.machine.script (outcome_of job.system (target_of job call) databases run call).answer)
-        → new.work ≡ (outcome_of job.system (target_of job call) databases run call).work
-        → data_of after new.positions ≡ (outcome_of job.system (target_of job call) databases run call).databases
-        → status ≡ (outcome_of job.system (target_of job call) databases run call).answer.status
-        → (outcome_of job.system (target_of job call) databases run call).abend ≡ None
+        ≡ settled job.lines job.transaction.statement_limit (answered job.lines job.transaction.statement_limit run.machine.script (outcome_of job.system (target_of job call) region databases run call).answer)
+        → new.work ≡ (outcome_of job.system (target_of job call) region databases run call).work
+        → data_of region after new.positions ≡ (outcome_of job.system (target_of job call) region databases run call).databases
+        → status ≡ (outcome_of job.system (target_of job call) region databases run call).answer.status
+        → (outcome_of job.system (target_of job call) region databases run call).abend ≡ None
+        → AreGranted region (requests_by_run (target_of job call) region databases run call) databases after
         → after.committed ≡ databases.committed → dbds_of after ≡ dbds_of databases
         → AreStanding job.system.databases job.pcbs new.positions
-        → GoesBy job message databases after ahead.trial run new (record { function = call.function; pcb = call.pcb; status = status })
-    called_next after new status calls limited script work seen told goes_on committed dbds standing =
+        → GoesBy job message region databases after ahead.trial run new (record { function = call.function; pcb = call.pcb; status = status })
+    called_next after new status texts calls limited script work seen told goes_on granted committed dbds standing =
         let same = outcome_is call in
         let goes : advance job rows ahead.trial ≡ Goes next (record { function = call.function; pcb = call.pcb; status = (call_outcome job rows ahead.trial call).answer.status }) =
         makes ∙ abends_not (call_outcome job rows ahead.trial call).abend (gone_on ahead.trial call (call_outcome job rows ahead.trial call)) (ap (λ (o : Outcome). o.abend) same ∙ goes_on) in
         record {
           calls = calls;
+          free = free_so call after needs granted;
           ahead = record {
             trial = next;
             made = ap (λ stores. trial_of job (rows_of stores) message new.calls) committed ∙ made_next new.calls (sym goes) calls;
             limit = limited ∙ ahead.limit;
             script =
-                settles_next ahead.trial.answers (call_outcome job rows ahead.trial call).answer (outcome_of job.system (target_of job call) databases run call).answer ahead.script
+                settles_next ahead.trial.answers (call_outcome job rows ahead.trial call).answer (outcome_of job.system (target_of job call) region databases run call).answer ahead.script
                 (ap (λ (o : Outcome). o.answer) same)
                 ∙ sym script;
             work = ap (λ (o : Outcome). o.work) same ∙ sym work;
             seen = ap (λ (o : Outcome). o.databases) same ∙ sym seen;
+            held = held_next after new.calls committed (free_so call after needs granted) calls;
+            texts = texts_next after (Call call) new.calls committed (need_is (Call call) needs) texts calls;
             dbds = dbds ∙ ahead.dbds;
             standing = standing;
           };
@@ -141,12 +227,10 @@ module _ (job : Job) (message : Message) (databases : DatabasesState) (run : Run
         }
 
 -- the databases at the start
-data_started : (count : ℕ) (databases : DatabasesState) (positions : List Position) → IsClean databases → positions ≡ replicate count nowhere
-    → data_start count (rows_of databases.committed) ≡ data_of databases positions
-data_started count databases positions clean standing =
-    ap (λ ps. record { rows = rows_of databases.committed; positions = ps; changed = [] }) (sym standing)
-    ∙ ap (λ cs. record { rows = rows_of databases.committed; positions = positions; changed = cs }) (sym clean.changed)
-    ∙ ap (λ (ss : List Stored). record { rows = rows_of ss; positions = positions; changed = databases.changed }) (sym clean.stores)
+data_started : (count region : ℕ) (databases : DatabasesState) (positions : List Position) → IsClean region databases → positions ≡ replicate count nowhere
+    → data_start count (committed_rows databases) ≡ data_of region databases positions
+data_started count region databases positions clean standing =
+    λ i. record { rows = (sym clean.sees) i; positions = (sym standing) i; changed = (sym clean.changed) i }
 
 -- the work begins at the trial without a call
 pub start_is : (job : Job) (message : Message) (run : RunState)
@@ -155,24 +239,60 @@ pub start_is : (job : Job) (message : Message) (run : RunState)
     → IsStart job message run
 start_is job message run calls limit script work standing = record {
   calls = calls;
-  ahead = λ databases clean dbds. record {
-    trial = trial_start job (rows_of databases.committed) message;
-    made = ap (trial_of job (rows_of databases.committed) message) calls;
+  ahead = λ region databases clean dbds. record {
+    trial = trial_start job (committed_rows databases) message;
+    made = ap (trial_of job (committed_rows databases) message) calls;
     limit = limit;
     script = ap (settled job.lines job.transaction.statement_limit) (sym script);
     work = sym work;
-    seen = data_started (length job.pcbs) databases run.positions clean standing;
+    seen = data_started (length job.pcbs) region databases run.positions clean standing;
+    held =
+        subst (λ n. All (IsHeld databases.table) (asked_before region job (committed_rows databases) message n)) (sym calls) (All-nil (IsHeld databases.table));
+    texts = subst (λ n. All HasTexts (needs_before job (committed_rows databases) message n)) (sym calls) (All-nil HasTexts);
     dbds = dbds;
     standing = all_nowhere job.system.databases job.pcbs run.positions standing;
   };
 }
 
-module _ (job : Job) (message : Message) (databases : DatabasesState) (run : RunState) (machine : Running) (ahead : IsAhead job message databases run)
+-- a further GU asks for nothing
+by_pcb : (region : ℕ) (databases : List Dbd) (pcbs : List Pcb) (d : Data) (call : CallText) (first : Bool) → first ≡ true
+    → requests_at region (if first then Messages else reached_by databases (pcb_at pcbs call.pcb)) d call ≡ []
+by_pcb region databases pcbs d call true e = refl
+by_pcb region databases pcbs d call false e = absurd (cc)
+
+sync_asks : (region : ℕ) (databases : List Dbd) (pcbs : List Pcb) (work : MessageWork) (d : Data) (call : CallText) → is_sync work call ≡ true
+    → requests_at region (reached databases pcbs call.pcb) d call ≡ []
+sync_asks region databases pcbs work d call e = by_pcb region databases pcbs d call (call.pcb == 0) (middle work.begun (call.pcb == 0) (is_get_unique call.function) e)
+  where
+    middle : (a b c : Bool) → a && b && c ≡ true → b ≡ true
+    middle true true c h = refl
+    middle true false c h = h
+    middle false b c h = absurd (cc)
+
+module _ (job : Job) (message : Message) (region : ℕ) (databases : DatabasesState) (run : RunState) (machine : Running) (ahead : IsAhead job message region databases run)
     (limited : machine.limit ≡ run.machine.limit) where
-  -- a script that settles where it settled before
-  pub still_ahead : settled job.lines run.machine.limit machine.script ≡ settled job.lines run.machine.limit run.machine.script
-      → IsAhead job message databases (record run { machine = machine })
-  still_ahead settles = same_ahead job message databases run ahead machine limited (rw (sym ahead.limit) settles)
+  -- a script that settles where it settled before, once its region has asked for something
+  pub still_ahead : (after : DatabasesState) (requests : List Request) → after.committed ≡ databases.committed → after.regions ≡ databases.regions
+      → dbds_of after ≡ dbds_of databases → after.table ≡ after_asks region requests databases.table
+      → settled job.lines run.machine.limit machine.script ≡ settled job.lines run.machine.limit run.machine.script
+      → IsAhead job message region after (record run { machine = machine })
+  still_ahead after requests committed regions dbds asked settles =
+      same_ahead job message region databases run ahead after requests machine committed regions dbds asked limited (rw (sym ahead.limit) settles)
+
+  same_run : settled job.lines run.machine.limit machine.script ≡ settled job.lines run.machine.limit run.machine.script
+      → IsAhead job message region databases (record run { machine = machine })
+  same_run settles = record {
+    trial = ahead.trial;
+    made = ahead.made;
+    limit = limited ∙ ahead.limit;
+    script = ahead.script ∙ sym (rw (sym ahead.limit) settles);
+    work = ahead.work;
+    seen = ahead.seen;
+    held = ahead.held;
+    texts = ahead.texts;
+    dbds = ahead.dbds;
+    standing = ahead.standing;
+  }
 
   pub settled_again : machine.script ≡ settled job.lines run.machine.limit run.machine.script
       → settled job.lines run.machine.limit machine.script ≡ settled job.lines run.machine.limit run.machine.script
@@ -183,59 +303,84 @@ module _ (job : Job) (message : Message) (databases : DatabasesState) (run : Run
     needed : need_at job.lines job.transaction.statement_limit run.machine.script ≡ need
     needed = ap (λ n. need_at job.lines n run.machine.script) (sym ahead.limit) ∙ sym needs
 
+    trial_needs : trial_need job ahead.trial ≡ need
+    trial_needs = ap (λ s. need_of (step job.lines job.transaction.statement_limit s)) ahead.script ∙ needed
+
     -- the trial stops where the script needs no call
-    pub stops_so : (end : WorkEnd) → advance_by job (rows_of databases.committed) ahead.trial need ≡ Stops end
-        → StopsSo job message databases databases ahead.trial run (record run { machine = machine }) end
-    stops_so end ends = record {
+    pub stops_so : (end : WorkEnd) → requests_by region job ahead.trial need ≡ []
+        → advance_by job (committed_rows databases) ahead.trial need ≡ Stops end
+        → StopsSo job message region databases databases ahead.trial run (record run { machine = machine }) end
+    stops_so end nothing ends = record {
       calls = refl;
-      ahead = still_ahead (settled_again script);
-      stops = advance_is job message databases run ahead need needed ∙ ends;
+      free = ap (λ rs. first_blocked rs databases.table) (ap (requests_by region job ahead.trial) trial_needs ∙ nothing);
+      ahead = same_run (settled_again script);
+      stops = advance_is job message region databases run ahead need needed ∙ ends;
     }
 
     -- and at a further GU
     pub syncs : (call : CallText) → need ≡ Call call → is_sync run.work call ≡ true
-        → StopsSo job message databases databases ahead.trial run (record run { machine = machine }) Syncs
+        → StopsSo job message region databases databases ahead.trial run (record run { machine = machine }) Syncs
     syncs call e further =
         stops_so Syncs
-        (ap (advance_by job (rows_of databases.committed) ahead.trial) e
-        ∙ stops_at (is_sync ahead.trial.work call) (called ahead.trial call (call_outcome job (rows_of databases.committed) ahead.trial call)) (ap (λ w. is_sync w call) ahead.work ∙ further))
+        (ap (requests_by region job ahead.trial) e ∙ sync_asks region job.system.databases job.pcbs run.work ahead.trial.databases call further)
+        (ap (advance_by job (committed_rows databases) ahead.trial) e
+        ∙ stops_at (is_sync ahead.trial.work call) (called ahead.trial call (call_outcome job (committed_rows databases) ahead.trial call)) (ap (λ w. is_sync w call) ahead.work ∙ further))
 
     -- and at a call that leads to an abend
     pub abends : (call : CallText) (abend : AbendCode) → need ≡ Call call → is_sync run.work call ≡ false
-        → (outcome_of job.system (target_of job call) databases run call).abend ≡ Some abend
-        → StopsSo job message databases databases ahead.trial run (record run { machine = machine }) (Abends abend)
-    abends call abend e further found = record {
+        → first_blocked (requests_by_run (target_of job call) region databases run call) databases.table ≡ None
+        → (outcome_of job.system (target_of job call) region databases run call).abend ≡ Some abend
+        → StopsSo job message region databases databases ahead.trial run (record run { machine = machine }) (Abends abend)
+    abends call abend e further free found = record {
       calls = refl;
-      ahead = still_ahead (settled_again script);
-      stops = abended job message databases run ahead call (needed ∙ e) further abend found;
+      free = free_of job message region databases run ahead call (needed ∙ e) free;
+      ahead = same_run (settled_again script);
+      stops = abended job message region databases run ahead call (needed ∙ e) further abend found;
     }
 
-    -- and it goes on by any other call
-    pub goes_by : (after : DatabasesState) (new : RunState) (calls : ℕ) (call : CallText) (status : Status)
-        → machine.waiting ≡ waiting_at job.lines run.machine.limit run.machine.script
-        → need ≡ Call call
-        → is_sync run.work call ≡ false
-        → calls ≡ run.calls + 1
-        → Answers (outcome_of job.system (target_of job call) databases run call) after (record run { machine = machine }) new status
-        → after.committed ≡ databases.committed → dbds_of after ≡ dbds_of databases
-        → AreStanding job.system.databases job.pcbs new.positions
-        → GoesBy job message databases after ahead.trial run (record new { calls = calls }) (record { function = call.function; pcb = call.pcb; status = status })
-    goes_by after new calls call status waiting e further count answers committed dbds standing =
-        called_next job message databases run ahead call (needed ∙ e) further after (record new { calls = calls }) status
-        count
-        (ap (λ m. m.limit) answers.machine ∙ limited)
-        (ap (settled job.lines job.transaction.statement_limit)
-        (ap (λ m. m.script) answers.machine
-        ∙ ap (λ s. moved_on s machine.waiting (outcome_of job.system (target_of job call) databases run call).answer) script
-        ∙ ap (λ w. moved_on (settled job.lines run.machine.limit run.machine.script) w (outcome_of job.system (target_of job call) databases run call).answer) waiting
-        ∙ ap (λ n. answered job.lines n run.machine.script (outcome_of job.system (target_of job call) databases run call).answer) ahead.limit))
-        answers.work answers.seen answers.told answers.goes_on committed dbds standing
+    module _ (after : DatabasesState) (call : CallText) (e : need ≡ Call call) where
+      -- and it waits where what the call asks for is blocked
+      pub waits_for : (resource : Resource) (by : ℕ)
+          → AreBlocked region (requests_by_run (target_of job call) region databases run call) databases after resource by
+          → after.committed ≡ databases.committed → after.regions ≡ databases.regions → dbds_of after ≡ dbds_of databases
+          → WaitsFor job message region databases after ahead.trial run (record run { machine = machine }) resource by
+      waits_for resource by blocked committed regions dbds =
+          let asks = asks_are job message region databases run ahead call (needed ∙ e) in
+          let asked : after.table ≡ after_asks region (requests_of region job ahead.trial) databases.table = blocked.asked ∙ ap (λ rs. after_asks region rs databases.table) (sym asks) in
+          record {
+            calls = refl;
+            blocked = ap (λ rs. told_blocked (first_blocked rs databases.table)) asks ∙ blocked.blocked;
+            asked = asked;
+            ahead = still_ahead after (requests_of region job ahead.trial) committed regions dbds asked (settled_again script);
+          }
+
+      -- and it goes on by any other call
+      pub goes_by : (new : RunState) (calls : ℕ) (status : Status) → HasTexts (Call call)
+          → machine.waiting ≡ waiting_at job.lines run.machine.limit run.machine.script
+          → is_sync run.work call ≡ false
+          → calls ≡ run.calls + 1
+          → AreGranted region (requests_by_run (target_of job call) region databases run call) databases after
+          → Answers region (outcome_of job.system (target_of job call) region databases run call) after (record run { machine = machine }) new status
+          → after.committed ≡ databases.committed → dbds_of after ≡ dbds_of databases
+          → AreStanding job.system.databases job.pcbs new.positions
+          → GoesBy job message region databases after ahead.trial run (record new { calls = calls }) (record { function = call.function; pcb = call.pcb; status = status })
+      goes_by new calls status texts waiting further count granted answers committed dbds standing =
+          called_next job message region databases run ahead call (needed ∙ e) further after (record new { calls = calls }) status texts
+          count
+          (ap (λ m. m.limit) answers.machine ∙ limited)
+          (ap (settled job.lines job.transaction.statement_limit)
+          (ap (λ m. m.script) answers.machine
+          ∙ ap (λ s. moved_on s machine.waiting (outcome_of job.system (target_of job call) region databases run call).answer) script
+          ∙ ap (λ w. moved_on (settled job.lines run.machine.limit run.machine.script) w (outcome_of job.system (target_of job call) region databases run call).answer) waiting
+          ∙ ap (λ n. answered job.lines n run.machine.script (outcome_of job.system (target_of job call) region databases run call).answer) ahead.limit))
+          answers.work answers.seen answers.told answers.goes_on granted committed dbds standing
 
 -- the work with the same script, and all else as it was
-pub same_run_ahead : (job : Job) (message : Message) (databases : DatabasesState) (run new : RunState) (machine : Running) → IsAhead job message databases run
+pub same_run_ahead : (job : Job) (message : Message) (region : ℕ) (databases : DatabasesState) (run new : RunState) (machine : Running) → IsAhead job message region databases run
     → machine.limit ≡ run.machine.limit
     → machine.script ≡ settled job.lines run.machine.limit run.machine.script
     → new ≡ record run { machine = machine }
-    → IsAhead job message databases new
-same_run_ahead job message databases run new machine ahead limited script same =
-    rw same (still_ahead job message databases run machine ahead limited (settled_again job message databases run machine ahead limited script))
+    → IsAhead job message region databases new
+same_run_ahead job message region databases run new machine ahead limited script same =
+    subst (IsAhead job message region databases) (sym same)
+    (same_run job message region databases run machine ahead limited (settled_again job message region databases run machine ahead limited script))

@@ -1,12 +1,14 @@
 -- A region's work is what as many calls of its script, made from the start on the rows that are committed, lead
 -- to, whatever other regions have changed meanwhile.
-use Rattle.std.specs.Prelude.{◌≡◌, ℕ, ◌+◌, ◌-◌, ⊤, All, IsTrue, None, Some, [], length, slice_set}
+use Rattle.std.specs.Prelude.{◌≡◌, ℕ, zero, suc, ◌+◌, ◌-◌, ⊤, List, [], ◌∷◌, ◌++◌, All, IsTrue, Option, None, Some, slice_set}
 use Rattle.tm_types.specs.declared.message.Message.{Message}
 use Rattle.tm_types.specs.declared.resource.Resource.{Resource}
+use Rattle.model_rows.specs.declared.row.Row.{Row}
+use Rattle.model_script.specs.declared.need.Need.{Need}
+use Rattle.script_run.specs.Running.{HasTexts}
 use Rattle.model_script.specs.Script.{script_start, script_after, settled}
 use Rattle.model_system.specs.Jobs.{Job}
-use Rattle.model_system.specs.System.{System}
-use Rattle.model_machine.specs.Trial.{Trial, WorkEnd, CalledWith, trial_of, advance}
+use Rattle.model_machine.specs.Trial.{Trial, WorkEnd, CalledWith, trial_of, trial_need, advance}
 use Rattle.model_machine.specs.Trial.Advance.{Goes, Stops}
 use Rattle.model_machine.specs.Trial.WorkEnd.{Ends, Syncs, Abends}
 use Rattle.model_enqueue.specs.Table.{EnqueueTable, is_served}
@@ -25,9 +27,18 @@ use Rattle.message_run.specs.declared.run.Ending.TheVariants.{End, Sync, Abend}
 abbrev pub IsHeld : EnqueueTable → Request → Type 0
 IsHeld table request = IsTrue (is_served request table.holds)
 
+-- what the script needs behind so many calls, and all that it needed for them
+abbrev pub needs_behind : Job → Option Trial → List Need
+needs_behind job (Some trial) = trial_need job trial ∷ []
+needs_behind job None = []
+
+abbrev pub needs_before : Job → List (List Row) → Message → ℕ → List Need
+needs_before job rows message zero = []
+needs_before job rows message (suc calls) = needs_before job rows message calls ++ needs_behind job (trial_of job rows message calls)
+
 -- The script stands where the answers to these calls lead it, but for lines that it executes alone. The
 -- message's work is as these calls leave it, and the region sees the databases as they have changed the rows
--- that are committed. What they asked for the region holds.
+-- that are committed. What they asked for the region holds, and their areas and keys are texts of segments.
 pub record IsAhead (job : Job) (message : Message) (region : ℕ) (databases : DatabasesState) (run : RunState) : Type 0 where
   pub trial : Trial
   pub made : trial_of job (committed_rows databases) message run.calls ≡ Some trial
@@ -37,6 +48,7 @@ pub record IsAhead (job : Job) (message : Message) (region : ℕ) (databases : D
   pub work : trial.work ≡ run.work
   pub seen : trial.databases ≡ data_of region databases run.positions
   pub held : All (IsHeld databases.table) (asked_before region job (committed_rows databases) message run.calls)
+  pub texts : All HasTexts (needs_before job (committed_rows databases) message run.calls)
   pub dbds : dbds_of databases ≡ job.system.databases
   pub standing : AreStanding job.system.databases job.pcbs run.positions
 
@@ -64,10 +76,11 @@ pub record GoesBy (job : Job) (message : Message) (region : ℕ) (before after :
   pub ahead : IsAhead job message region after new
   pub goes : advance job (committed_rows before) trial ≡ Goes ahead.trial call
 
--- The work has ended: the trial stops so.
+-- The work has ended: the trial stops so. The databases are as they were, and of what a call needs that led to
+-- an abend nothing is blocked.
 pub record StopsSo (job : Job) (message : Message) (region : ℕ) (before after : DatabasesState) (trial : Trial) (old new : RunState) (end : WorkEnd) : Type 0 where
   pub calls : new.calls ≡ old.calls
-  pub free : IsFree job region before after trial
+  pub free : first_blocked (requests_of region job trial) before.table ≡ None
   pub ahead : IsAhead job message region after new
   pub stops : advance job (committed_rows before) trial ≡ Stops end
 
@@ -95,10 +108,10 @@ GoesOn job region before after old new advanced =
 abbrev pub StaysAhead : Job → ℕ → DatabasesState → RunState → RunState → Type 0
 StaysAhead job region databases old new = (message : Message) → IsAhead job message region databases old → IsAhead job message region databases new
 
--- Only a call that was answered changes what its region sees.
+-- The end of the work leaves the databases as they are, and a call that waits leaves what its region sees.
 abbrev pub StaysUnlessCalled : DatabasesState → DatabasesState → Advanced → Type 0
 StaysUnlessCalled before after (Called function pcb status) = ⊤
-StaysUnlessCalled before after (Ended ending) = after.regions ≡ before.regions
+StaysUnlessCalled before after (Ended ending) = after ≡ before
 StaysUnlessCalled before after (Waits resource by) = after.regions ≡ before.regions
 
 -- A region's step leaves what is committed, and what other regions see.

@@ -1,44 +1,73 @@
 -- How a call of a script is answered, and what that leaves of the work.
-use Rattle.std.specs.Prelude.{◌≡◌, ℕ, ◌-◌, Some, None, length, replicate, slice_set}
+use Rattle.std.specs.Prelude.{◌≡◌, ℕ, ◌-◌, ⊤, List, Some, None, length, replicate, slice_set}
 use Rattle.model_script.specs.Script.{Answer, moved_on}
 use Rattle.model_script.specs.declared.need.CallText.{CallText}
 use Rattle.model_system.specs.System.{System}
 use Rattle.model_message.specs.Work.{MessageWork}
 use Rattle.model_message.specs.Calls.{unique_answer, reset_work}
 use Rattle.model_dli.specs.Data.{nowhere}
+use Rattle.model_enqueue.specs.declared.request.Request.{Request}
+use Rattle.model_enqueue.specs.Ask.{after_asks, first_blocked}
 use Rattle.model_machine.specs.Trial.{Reached, Outcome, outcome_at}
+use Rattle.model_machine.specs.Requests.{requests_at}
 use Rattle.script_run.specs.Running.{Running}
+use Rattle.tm_types.specs.declared.resource.Resource.{Resource}
 use Rattle.tm_types.specs.declared.status.Status.{Status}
+use Rattle.program_rows.specs.Answering.{told_blocked}
 use Rattle.program_rows.specs.State.{DatabasesState, committed_rows, data_of}
 use Rattle.program_rows.specs.declared.answer.Answered.{Answered as DataAnswered}
 use Rattle.message_run.specs.RunState.{RunState}
 use Rattle.message_run.specs.declared.answer.CallEnd.{CallEnd}
-use Rattle.message_run.specs.declared.answer.CallEnd.TheVariants.{Answered, Abended}
+use Rattle.message_run.specs.declared.answer.CallEnd.TheVariants.{Answered, Abended, Waits}
 
 -- a script that waits, once its call was answered
 abbrev pub answered_machine : Running → Answer → Running
 answered_machine machine answer = record machine { script = moved_on machine.script machine.waiting answer; waiting = None }
 
--- what a call comes to by what it reaches, where the work has come so far
+-- what a call comes to by what it reaches, where the work in a region has come so far
 abbrev pub outcome_of : System → Reached → ℕ → DatabasesState → RunState → CallText → Outcome
 outcome_of system target region databases run call =
     outcome_at system (committed_rows databases) target run.work (data_of region databases run.positions) call
 
+-- what it asks for before it is made
+abbrev pub requests_by_run : Reached → ℕ → DatabasesState → RunState → CallText → List Request
+requests_by_run target region databases run call = requests_at region target (data_of region databases run.positions) call
+
+-- A region asked for all this, and nothing of it is blocked.
+pub record AreGranted (region : ℕ) (requests : List Request) (before after : DatabasesState) : Type 0 where
+  pub free : first_blocked requests before.table ≡ None
+  pub asked : after.table ≡ after_asks region requests before.table
+
+-- A region asked for all this, and this of it is blocked.
+pub record AreBlocked (region : ℕ) (requests : List Request) (before after : DatabasesState) (resource : Resource) (by : ℕ) : Type 0 where
+  pub blocked : told_blocked (first_blocked requests before.table) ≡ Some (resource, by)
+  pub asked : after.table ≡ after_asks region requests before.table
+
 -- A call was answered: the script has the answer, and the work, the databases and the PCBs are as the
 -- call leaves them.
-pub record Answers (outcome : Outcome) (after : DatabasesState) (old new : RunState) (status : Status) : Type 0 where
+pub record Answers (region : ℕ) (outcome : Outcome) (after : DatabasesState) (old new : RunState) (status : Status) : Type 0 where
   pub calls : new.calls ≡ old.calls
   pub machine : new.machine ≡ answered_machine old.machine outcome.answer
   pub work : new.work ≡ outcome.work
-  pub seen : data_of after new.positions ≡ outcome.databases
+  pub seen : data_of region after new.positions ≡ outcome.databases
   pub told : status ≡ outcome.answer.status
   pub goes_on : outcome.abend ≡ None
 
--- A call was answered, or it leads to an abend, which changes nothing. The databases before and after
--- it come first.
-abbrev pub ComesTo : Outcome → DatabasesState → DatabasesState → RunState → RunState → CallEnd → Type 0
-ComesTo outcome before after old new (Answered status) = Answers outcome after old new status
-ComesTo outcome before after old new (Abended abend) = (new ≡ old) × (after ≡ before) × (outcome.abend ≡ Some abend)
+-- A call was answered; or it leads to an abend, where nothing of what it needs is blocked and nothing changes;
+-- or what it asks for is blocked, and it wasn't made. The databases before and after it come first.
+abbrev pub ComesTo : ℕ → List Request → Outcome → DatabasesState → DatabasesState → RunState → RunState → CallEnd → Type 0
+ComesTo region requests outcome before after old new (Answered status) =
+    AreGranted region requests before after × Answers region outcome after old new status
+ComesTo region requests outcome before after old new (Abended abend) =
+    (first_blocked requests before.table ≡ None) × (new ≡ old) × (after ≡ before) × (outcome.abend ≡ Some abend)
+ComesTo region requests outcome before after old new (Waits resource by) =
+    AreBlocked region requests before after resource by × (new ≡ old)
+
+-- A call that leads to an abend leaves the databases as they are, and one that waits leaves what its region sees.
+abbrev pub StaysUnlessAnswered : DatabasesState → DatabasesState → CallEnd → Type 0
+StaysUnlessAnswered before after (Answered status) = ⊤
+StaysUnlessAnswered before after (Abended abend) = after ≡ before
+StaysUnlessAnswered before after (Waits resource by) = after.regions ≡ before.regions
 
 -- The script was answered with this, and told its status, and the message's work is this one.
 pub record Serves (answer : Answer) (work : MessageWork) (old new : RunState) (status : Status) : Type 0 where
@@ -56,9 +85,8 @@ pub record RollsBack (old new : RunState) (status : Status) : Type 0 where
   }
 
 -- the script was answered with what a call on a database gave, and the PCB stands where it then does
-pub record Tells (pcb : ℕ) (given : DataAnswered) (old new : RunState) (told : CallEnd) : Type 0 where
-  pub answer : told ≡ Answered given.status
-  pub state : new ≡ record old {
-    machine = answered_machine old.machine (record { status = given.status; area = given.area });
-    positions = slice_set old.positions (pcb - 1) given.position;
-  }
+abbrev pub told_run : ℕ → DataAnswered → RunState → RunState
+told_run pcb given run = record run {
+  machine = answered_machine run.machine (record { status = given.status; area = given.area });
+  positions = slice_set run.positions (pcb - 1) given.position;
+}

@@ -8,9 +8,12 @@ ghost use Rattle.model_dli.specs.Data.{nowhere};
 ghost use Rattle.system_types.specs.Valid.{IsDatabase};
 ghost use Rattle.model_machine.specs.Trial.{reached, reached_by};
 ghost use Rattle.model_machine.specs.Trial.Reached.{Messages};
-ghost use Rattle.program_rows.specs.State.{dbds_of};
-ghost use Rattle.message_run.specs.Ahead.{StayWithout};
-ghost use Rattle.message_run.specs.Answering.{ComesTo, Serves, RollsBack, Tells, answered_machine, outcome_of};
+ghost use Rattle.model_enqueue.specs.Ask.{waits_for_nothing};
+ghost use Rattle.program_rows.specs.Answering.{regions_backed};
+ghost use Rattle.program_rows.specs.State.{dbds_of, IsRegionOf};
+ghost use Rattle.message_run.specs.Ahead.{StayOthers};
+ghost use Rattle.message_run.specs.Answering.{ComesTo, Serves, RollsBack, StaysUnlessAnswered, answered_machine, told_run, outcome_of, requests_by_run};
+ghost use Rattle.message_run.specs.declared.answer.CallEnd.TheVariants.{Answered as AnsweredWith};
 ghost use Rattle.message_run.specs.RunState.{AreStanding, IsCallBy, IsCallOf};
 
 use crate::run::Run;
@@ -21,7 +24,7 @@ use model_system::{Pcb, Pcbs};
 use program_rows::{Answered, DataAnswer, Databases, Position};
 use script_run::Machine;
 use system_types::System;
-use tm_types::{AbendCode, Bytes, Dbd, Function, Memory, Segment, Status};
+use tm_types::{AbendCode, Dbd, Function, Memory, Resource, Segment, Status};
 
 /// What comes of a call.
 #[derive(Clone, Copy, Debug)]
@@ -30,39 +33,45 @@ pub enum CallEnd {
     Answered(Status),
     /// It leads to this abend.
     Abended(AbendCode),
+    /// It wasn't made: a resource that it needs is blocked by this region.
+    Waits(Resource, u32),
 }
 
 impl Run {
-    /// Does a call of the script, and answers it. Want of memory changes nothing.
+    /// Does a call of the script in this region, and answers it, unless what it needs is blocked. Want of
+    /// memory changes nothing.
     pub(crate) fn answer(
         &mut self,
         system: &System,
         pcbs: &Pcbs,
+        region: u32,
         databases: &mut Databases,
         call: CallText,
     ) -> Result<CallEnd, Memory>
         requires waits { IsSome self.old.machine.waiting }
         requires text { IsSegmentText call.area }
+        requires region { IsRegionOf databases.old region }
         requires call { IsCallOf system.now.databases pcbs.now call }
         requires databases { dbds_of databases.old ≡ system.now.databases }
         requires standing { AreStanding system.now.databases pcbs.now self.old.positions }
-        ensures ok { IfOk result (ComesTo (outcome_of system.now (reached system.now.databases pcbs.now call.pcb) databases.old self.old call) databases.old databases.new self.old self.new) }
+        ensures ok { IfOk result (ComesTo region (requests_by_run (reached system.now.databases pcbs.now call.pcb) region databases.old self.old call) (outcome_of system.now (reached system.now.databases pcbs.now call.pcb) region databases.old self.old call) databases.old databases.new self.old self.new) }
         ensures standing { AreStanding system.now.databases pcbs.now self.new.positions }
-        ensures none { StayWithout system.now databases.old databases.new }
-        ensures committed { databases.new.committed ≡ databases.old.committed }
-        ensures dbds { dbds_of databases.new ≡ dbds_of databases.old }
+        ensures stays { IfOk result (StaysUnlessAnswered databases.old databases.new) }
+        ensures others { StayOthers region databases.old databases.new }
         ensures err { OnErr result (self.new ≡ self.old) }
         ensures kept { OnErr result (databases.new ≡ databases.old) }
     {
         if call.pcb == 0 {
-            return self.answer_message(system, pcbs, databases, &call);
+            return self.answer_message(system, pcbs, region, databases, &call);
         }
         match pcbs.numbered(call.pcb) {
             Some(Pcb::Database(number, options)) => {
-                self.answer_database(system, pcbs, databases, *number, *options, call)
+                self.answer_database(system, pcbs, region, databases, *number, *options, call)
             }
-            Some(Pcb::Destination(_)) => self.answer_message(system, pcbs, databases, &call),
-            Some(Pcb::Modifiable) => self.answer_message(system, pcbs, databases, &call),
+            Some(Pcb::Destination(_)) => self.answer_message(
+                system, pcbs, region, databases, &call,
+            ),
+            Some(Pcb::Modifiable) => self.answer_message(system, pcbs, region, databases, &call),
             None => unreachable!(),
         }
     }
@@ -72,36 +81,33 @@ impl Run {
         &mut self,
         system: &System,
         _pcbs: &Pcbs,
+        region: u32,
         databases: &mut Databases,
         call: &CallText,
     ) -> Result<CallEnd, Memory>
         requires waits { IsSome self.old.machine.waiting }
         requires text { IsSegmentText call.now.area }
+        requires region { IsRegionOf databases.old region }
         requires standing { AreStanding system.now.databases _pcbs.now self.old.positions }
-        ensures ok { IfOk result (ComesTo (outcome_of system.now Messages databases.old self.old call.now) databases.old databases.new self.old self.new) }
+        ensures ok { IfOk result (ComesTo region (requests_by_run Messages region databases.old self.old call.now) (outcome_of system.now Messages region databases.old self.old call.now) databases.old databases.new self.old self.new) }
         ensures standing { AreStanding system.now.databases _pcbs.now self.new.positions }
-        ensures none { StayWithout system.now databases.old databases.new }
-        ensures committed { databases.new.committed ≡ databases.old.committed }
-        ensures dbds { dbds_of databases.new ≡ dbds_of databases.old }
+        ensures stays { IfOk result (StaysUnlessAnswered databases.old databases.new) }
+        ensures others { StayOthers region databases.old databases.new }
         ensures err { OnErr result (self.new ≡ self.old) }
         ensures kept { OnErr result (databases.new ≡ databases.old) }
     {
         let (pcb, area) = (call.pcb, call.area.as_slice());
         match call.function {
-            Function::GU => Ok(CallEnd::Answered(self.get_unique()?)),
-            Function::GN => Ok(CallEnd::Answered(self.get_next()?)),
-            Function::ISRT => Ok(CallEnd::Answered(self.insert(pcb, area)?)),
-            Function::PURG => Ok(CallEnd::Answered(self.purge(pcb)?)),
-            Function::CHNG => Ok(CallEnd::Answered(self.change(system, pcb, area)?)),
-            Function::ROLB => {
-                let status = self.roll_back()?;
-                databases.back_out();
-                Ok(CallEnd::Answered(status))
-            }
+            Function::GU => Ok(answered(self.get_unique()?, region, databases)),
+            Function::GN => Ok(answered(self.get_next()?, region, databases)),
+            Function::ISRT => Ok(answered(self.insert(pcb, area)?, region, databases)),
+            Function::PURG => Ok(answered(self.purge(pcb)?, region, databases)),
+            Function::CHNG => Ok(answered(self.change(system, pcb, area)?, region, databases)),
+            Function::ROLB => Ok(rolled_back(self.roll_back()?, region, databases)),
             Function::ROLL => Ok(CallEnd::Abended(AbendCode {
                 number: ROLLED_BACK,
             })),
-            _ => Ok(CallEnd::Answered(self.tell(Status::AM)?)),
+            _ => Ok(answered(self.tell(Status::AM)?, region, databases)),
         }
     }
 
@@ -179,6 +185,7 @@ impl Run {
         &mut self,
         system: &System,
         _pcbs: &Pcbs,
+        region: u32,
         databases: &mut Databases,
         number: u8,
         options: u8,
@@ -186,16 +193,16 @@ impl Run {
     ) -> Result<CallEnd, Memory>
         requires waits { IsSome self.old.machine.waiting }
         requires text { IsSegmentText call.area }
+        requires region { IsRegionOf databases.old region }
         requires some { 1 ≤ call.pcb }
         requires pcb { slice_get _pcbs.now (call.pcb - 1) ≡ Some (Database number options) }
         requires call { IsCallBy system.now.databases call (Some (Database number options)) }
         requires databases { dbds_of databases.old ≡ system.now.databases }
         requires standing { AreStanding system.now.databases _pcbs.now self.old.positions }
-        ensures ok { IfOk result (ComesTo (outcome_of system.now (reached_by system.now.databases (Some (Database number options))) databases.old self.old call) databases.old databases.new self.old self.new) }
+        ensures ok { IfOk result (ComesTo region (requests_by_run (reached_by system.now.databases (Some (Database number options))) region databases.old self.old call) (outcome_of system.now (reached_by system.now.databases (Some (Database number options))) region databases.old self.old call) databases.old databases.new self.old self.new) }
         ensures standing { AreStanding system.now.databases _pcbs.now self.new.positions }
-        ensures none { StayWithout system.now databases.old databases.new }
-        ensures committed { databases.new.committed ≡ databases.old.committed }
-        ensures dbds { dbds_of databases.new ≡ dbds_of databases.old }
+        ensures stays { IfOk result (StaysUnlessAnswered databases.old databases.new) }
+        ensures others { StayOthers region databases.old databases.new }
         ensures err { OnErr result (self.new ≡ self.old) }
         ensures kept { OnErr result (databases.new ≡ databases.old) }
     {
@@ -213,37 +220,57 @@ impl Run {
             ssas,
         };
         let at = position_of(&self.positions, pcb);
-        match databases.call(dbd, number, at, &call) {
+        match databases.call(region, dbd, number, at, &call) {
             Ok(DataAnswer::Abend(abend)) => Ok(CallEnd::Abended(abend)),
-            Ok(DataAnswer::Answered(answered)) => self.tell_answer(pcb, answered),
+            Ok(DataAnswer::Blocked(blocked)) => Ok(CallEnd::Waits(blocked.resource, blocked.by)),
+            Ok(DataAnswer::Answered(answered)) => Ok(self.tell_answer(pcb, answered)),
             Err(error) => Err(error),
         }
     }
 
     /// Answers the script's call with what a call on a database gave, and puts the PCB of this number
-    /// where it then stands.
-    fn tell_answer(&mut self, pcb: u8, answered: Answered) -> Result<CallEnd, Memory>
+    /// where it then stands. This takes no memory.
+    fn tell_answer(&mut self, pcb: u8, answered: Answered) -> CallEnd
         requires waits { IsSome self.old.machine.waiting }
         requires text { IfSome answered.area IsSegmentText }
         requires some { 1 ≤ pcb }
         requires pcbs { pcb ≤ length self.old.positions }
-        ensures ok { IfOk result (Tells pcb answered self.old self.new) }
-        ensures err { OnErr result (self.new ≡ self.old) }
-        ensures brings { OnErr result (IsSome answered.area) }
+        ensures told { result ≡ AnsweredWith answered.status }
+        ensures state { self.new ≡ told_run pcb answered self.old }
     {
         let Answered {
             status,
             area,
             position,
         } = answered;
-        match bring(&mut self.machine, status, &area) {
-            Ok(()) => {
-                self.positions[usize::from(pcb) - 1] = position;
-                Ok(CallEnd::Answered(status))
-            }
-            Err(error) => Err(error),
-        }
+        self.machine.answer_taking(status, area);
+        self.positions[usize::from(pcb) - 1] = position;
+        CallEnd::Answered(status)
     }
+}
+
+/// A call that needs nothing of the databases was answered with this status, and its region waits for
+/// nothing any more.
+fn answered(status: Status, region: u32, databases: &mut Databases) -> CallEnd
+    requires { IsRegionOf databases.old region }
+    ensures told { result ≡ AnsweredWith status }
+    ensures databases { databases.new ≡ record databases.old { table = waits_for_nothing region databases.old.table } }
+{
+    databases.stop_waiting(region);
+    CallEnd::Answered(status)
+}
+
+/// The same of a ROLB, at which the region takes back what it changed in the databases.
+fn rolled_back(status: Status, region: u32, databases: &mut Databases) -> CallEnd
+    requires { IsRegionOf databases.old region }
+    ensures told { result ≡ AnsweredWith status }
+    ensures regions { databases.new.regions ≡ regions_backed region databases.old }
+    ensures committed { databases.new.committed ≡ databases.old.committed }
+    ensures dbds { dbds_of databases.new ≡ dbds_of databases.old }
+    ensures table { databases.new.table ≡ waits_for_nothing region databases.old.table }
+{
+    databases.back_out(region);
+    answered(status, region, databases)
 }
 
 /// The database of this number, counted from 1.
@@ -289,27 +316,6 @@ fn give(machine: &mut Machine, segment: Option<&Segment>) -> Result<Status, Memo
             Ok(Status::Blank)
         }
         None => tell(machine, Status::QD),
-    }
-}
-
-/// Answers the script's call with a status, and with a text where there is one. Without a text this
-/// takes no memory.
-fn bring(machine: &mut Machine, status: Status, area: &Option<Bytes>) -> Result<(), Memory>
-    requires waits { IsSome machine.old.waiting }
-    requires text { IfSome area.now IsSegmentText }
-    ensures ok { OnOk result (machine.new ≡ answered_machine machine.old (record { status = status; area = area.now })) }
-    ensures err { OnErr result (machine.new ≡ machine.old) }
-    ensures brings { OnErr result (IsSome area.now) }
-{
-    match area {
-        Some(text) => {
-            machine.answer(status, Some(text.as_slice()))?;
-            Ok(())
-        }
-        None => {
-            tell(machine, status)?;
-            Ok(())
-        }
     }
 }
 

@@ -3,12 +3,12 @@ ghost use Rattle.std.specs.Prelude.{◌≡◌, IfOk, OnErr, length, replicate};
 ghost use Rattle.model_dli.specs.Data.{nowhere};
 ghost use Rattle.model_machine.specs.Trial.{is_sync};
 ghost use Rattle.model_message.specs.Calls.{finish_work};
-ghost use Rattle.program_rows.specs.State.{dbds_of};
+ghost use Rattle.program_rows.specs.State.{dbds_of, IsRegionOf};
 ghost use Rattle.model_system.specs.System as model;
 ghost use Rattle.system_types.specs.Jobs.{lent_job};
 ghost use Rattle.system_types.specs.Valid.{IsServable};
 ghost use Rattle.message_run.specs.RunState.{AreStanding};
-ghost use Rattle.message_run.specs.Ahead.{IsStart, GoesOn, StaysAhead, StayAtEnd, StayWithout};
+ghost use Rattle.message_run.specs.Ahead.{IsStart, GoesOn, StaysAhead, StaysUnlessCalled, StayOthers};
 
 use crate::answer::CallEnd;
 use io_pcb::Work;
@@ -90,25 +90,26 @@ impl Run {
         self.calls
     }
 
-    /// Lets the script go on to its next call, and answers that; or tells that the work has ended.
+    /// Lets the script go on to its next call, and answers that; or tells that the work has ended, or that
+    /// what the call needs is blocked. Then the call isn't made, and the next turn comes to it again.
     /// After want of memory the work is as far as before.
     pub fn advance(
         &mut self,
         system: &System,
         job: &Job<'_>,
+        region: u32,
         databases: &mut Databases,
     ) -> Result<Advanced, Memory>
+        requires region { IsRegionOf databases.old region }
         requires servable { IsServable system.now.databases job.now.pcbs.now job.now.program.now }
         requires databases { dbds_of databases.old ≡ system.now.databases }
         requires standing { AreStanding system.now.databases job.now.pcbs.now self.old.positions }
-        ensures advances { IfOk result (GoesOn (lent_job system.now job.now) databases.old databases.new self.old self.new) }
-        ensures ends { IfOk result (StayAtEnd databases.old databases.new) }
-        ensures none { StayWithout system.now databases.old databases.new }
-        ensures committed { databases.new.committed ≡ databases.old.committed }
-        ensures dbds { dbds_of databases.new ≡ dbds_of databases.old }
+        ensures advances { IfOk result (GoesOn (lent_job system.now job.now) region databases.old databases.new self.old self.new) }
+        ensures stays { IfOk result (StaysUnlessCalled databases.old databases.new) }
+        ensures others { StayOthers region databases.old databases.new }
         ensures calls { OnErr result (self.new.calls ≡ self.old.calls) }
         ensures kept { OnErr result (databases.new ≡ databases.old) }
-        ensures ahead { OnErr result (StaysAhead (lent_job system.now job.now) databases.old self.old self.new) }
+        ensures ahead { OnErr result (StaysAhead (lent_job system.now job.now) region databases.old self.old self.new) }
     {
         if self.calls == u64::MAX {
             return Err(Memory);
@@ -125,11 +126,12 @@ impl Run {
                     return Ok(Advanced::Ended(Ending::Sync));
                 }
                 let (function, pcb) = (call.function, call.pcb);
-                match self.answer(system, job.pcbs, databases, call) {
+                match self.answer(system, job.pcbs, region, databases, call) {
                     Ok(CallEnd::Answered(status)) => {
                         self.calls += 1;
                         Ok(Advanced::Called(function, pcb, status))
                     }
+                    Ok(CallEnd::Waits(resource, by)) => Ok(Advanced::Waits(resource, by)),
                     Ok(CallEnd::Abended(abend)) => Ok(Advanced::Ended(Ending::Abend(abend))),
                     Err(error) => Err(error),
                 }

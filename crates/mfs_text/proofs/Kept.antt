@@ -10,7 +10,7 @@ other_line : (line other : ℕ) (segments : List SegmentLine) (rest : Option ℕ
 other_line line other [] rest h = cc
 other_line line other (segment ∷ segments) rest h = h
 
-kept_from : (line : ℕ) (format : FormatLines) → broken_line line format ≡ None → KeepsRule format
+pub kept_from : (line : ℕ) (format : FormatLines) → broken_line line format ≡ None → KeepsRule format
 unfolding broken_line
 kept_from line format h other = other_line line other format.input _ h
 

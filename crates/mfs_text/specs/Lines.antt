@@ -1,9 +1,10 @@
 -- What a line of a format is, and where it may stand.
-use Rattle.std.specs.Prelude.{ℕ, Bool, true, false, not, List, Result, Ok, Err, if◌then◌else◌}
+use Rattle.std.specs.Prelude.{ℕ, min, Bool, true, false, not, List, Option, Some, None, Result, Ok, Err, if◌then◌else◌}
 use Rattle.text_rows.specs.Lines.{is_passed_over, printable_line}
 use Rattle.text_rows.specs.Lowest.{also}
 use Rattle.text_rows.specs.Operands.{macro_name, macro_operands}
 use Rattle.mfs_text.specs.declared.kinds.Kind.{Kind}
+use Rattle.mfs_text.specs.declared.kinds.Kind.TheVariants.{End as KindEnd}
 use Rattle.mfs_text.specs.declared.lines.Direction.{Direction}
 use Rattle.mfs_text.specs.declared.lines.Direction.TheVariants.{Input, Output}
 use Rattle.mfs_text.specs.declared.lines.Section.{Section}
@@ -59,3 +60,19 @@ macro_line (Err rule) before number line = Err rule
 -- the line of this number, or the lowest rule that it breaks
 unfoldable pub format_line : Section → ℕ → List ℕ → Result FormatLine ℕ
 format_line before number line = if is_passed_over line then Ok Nothing else macro_line (kind_of (macro_name line)) before number line
+
+-- the lower of a rule and what else is broken
+abbrev pub or_lower : {A : Type 0} → Result A ℕ → ℕ → ℕ
+or_lower (Ok value) rule = rule
+or_lower (Err other) rule = min other rule
+
+-- A macro of a format is out of its place where it stands in none: rule 10, unless its operands break a
+-- lower one. FMTEND is then no macro at all.
+abbrev pub stray_by : Result Kind ℕ → List (List ℕ) → Option ℕ
+stray_by (Ok KindEnd) ops = None
+stray_by (Ok kind) ops = Some (or_lower (known kind ops) (or_lower (row kind 0 ops) 10))
+stray_by (Err rule) ops = None
+
+-- the rule that the line of such a macro breaks
+unfoldable pub stray_rule : List ℕ → Option ℕ
+stray_rule line = stray_by (kind_of (macro_name line)) (macro_operands line)

@@ -8,7 +8,7 @@
 pub use breaks::broken_line;
 pub use built::Built;
 pub use kinds::Kind;
-pub use lines::{Direction, FormatLine, Section};
+pub use lines::{Direction, FormatLine, Section, or_lower, stray_rule};
 pub use model_format::Format;
 pub use reader::read_format;
 

@@ -3,6 +3,7 @@ ghost use Rattle.std.specs.Prelude.{◌≡◌, IfOk, OnOk, IsTrue};
 ghost use Rattle.mfs_text.specs.Lines as spec;
 ghost use Rattle.mfs_text.specs.Good.{is_good};
 
+use crate::Kind;
 use crate::kinds::{kind_of, known};
 use crate::rows::row;
 use crate::rules::OUT_OF_PLACE;
@@ -138,4 +139,32 @@ pub(crate) fn format_line(
     let content = row(alloc, kind, number, &operands)?;
     let stands = placed(section, content);
     Ok(also(also(stands, known(kind, &operands)), printable_line(line)))
+}
+
+/// The lower of a rule and what else is broken.
+pub fn or_lower<A: Drop>(read: Result<A, u8>, rule: u8) -> u8
+    ensures { result ≡ spec.or_lower read rule }
+{
+    match read {
+        Ok(_) => rule,
+        Err(other) => other.min(rule),
+    }
+}
+
+/// The rule that the line of a format's macro breaks where it stands in no format: 10, or a lower one
+/// that its operands break. None where the line has no such macro, or FMTEND.
+#[tactic(auto, unfolding(crate::specs::Lines::stray_rule))]
+pub fn stray_rule(alloc: Global, line: &[u8]) -> Result<Option<u8>, Memory>
+    ensures { IfOk result (λ rule. rule ≡ spec.stray_rule line.now) }
+{
+    let (name, operands) = split_macro(line);
+    match kind_of(name) {
+        Ok(Kind::End) => Ok(None),
+        Ok(kind) => {
+            let content = row(alloc, kind, 0, &operands)?;
+            let rule = or_lower(content, OUT_OF_PLACE);
+            Ok(Some(or_lower(known(kind, &operands), rule)))
+        }
+        Err(_) => Ok(None),
+    }
 }

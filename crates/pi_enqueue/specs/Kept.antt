@@ -38,7 +38,7 @@ pub record IsKept (table : EnqueueTable) : Type 0 where
   pub ascending : IsStrictlySortedBy holder_cmp (keys_of table.holds)
   pub alone : (resource : Resource) (a b : ℕ) (mode : Mode)
       → held a resource table.holds ≡ Some Exclusive → held b resource table.holds ≡ Some mode → a ≡ b
-  pub holders : AllByRecursion (λ hold. IsRegion table hold.0.region) table.holds
+  pub holders : AllByRecursion (λ holder. IsRegion table holder.region) (keys_of table.holds)
   pub upgrading : AllByRecursion (Upgrades table) table.upgrades
   pub waiting : AllByRecursion (Waits table) table.waits
   pub once : IsDistinct nat_eq (waiting_regions table)

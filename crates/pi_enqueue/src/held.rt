@@ -1,7 +1,6 @@
-//! The list of what a region holds.
-ghost use Rattle.std.specs.Prelude.{◌≡◌, ◌+◌, ◌∷◌, [], ◌++◌, OnOk, OnErr, IfSome, IfNone};
+//! The lists of what each region holds.
+ghost use Rattle.std.specs.Prelude.{◌≡◌, ◌∷◌, [], ◌++◌, OnOk, OnErr, IfSome, IfNone};
 
-use model_enqueue::Holder;
 use std::alloc::Global;
 use std::marker::Model;
 use tm_types::{Memory, Resource};
@@ -9,16 +8,16 @@ use tm_types::{Memory, Resource};
 /// What one region holds, in the order in which it came to hold it.
 #[derive(Debug, Drop)]
 pub struct Held {
-    holders: Vec<Holder>,
+    resources: Vec<Resource>,
 }
 
 impl Model for Held {
     ghost use Rattle.std.specs.Prelude.{List};
-    ghost use Rattle.model_enqueue.specs.declared.request.Holder.{Holder};
+    ghost use Rattle.tm_types.specs.declared.resource.Resource.{Resource};
 
-    ghost Value = { List Holder };
+    ghost Value = { List Resource };
 
-    ghost view = { λ h. h.holders.items };
+    ghost view = { λ h. h.resources.items };
 }
 
 impl Held {
@@ -27,31 +26,27 @@ impl Held {
         ensures { result ≡ [] }
     {
         Held {
-            holders: Vec::new(alloc),
+            resources: Vec::new(alloc),
         }
     }
 
-    /// Adds a holder at the end.
-    pub fn push(&mut self, holder: Holder) -> Result<(), Memory>
-        ensures ok { OnOk result (self.new ≡ self.old ++ holder ∷ []) }
+    /// Adds a resource at the end.
+    pub fn push(&mut self, resource: Resource) -> Result<(), Memory>
+        ensures ok { OnOk result (self.new ≡ self.old ++ resource ∷ []) }
         ensures err { OnErr result (self.new ≡ self.old) }
     {
-        let Holder { resource, region } = holder;
         let Resource { db, root } = resource;
-        self.holders.reserve(1)?;
-        self.holders.push_reserved(Holder {
-            resource: Resource { db, root },
-            region,
-        });
+        self.resources.reserve(1)?;
+        self.resources.push_reserved(Resource { db, root });
         Ok(())
     }
 
-    /// Takes the last one out.
-    pub fn pop(&mut self) -> Option<Holder>
-        ensures last { IfSome result (λ holder. self.old ≡ self.new ++ holder ∷ []) }
+    /// Takes the last resource out.
+    pub fn pop(&mut self) -> Option<Resource>
+        ensures last { IfSome result (λ resource. self.old ≡ self.new ++ resource ∷ []) }
         ensures none { IfNone result (self.old ≡ []) }
         ensures empty { IfNone result (self.new ≡ []) }
     {
-        self.holders.pop()
+        self.resources.pop()
     }
 }

@@ -7,7 +7,7 @@
 #![tactic(auto)]
 
 pub use model_enqueue::{Asked, Holder, Request};
-pub use table::Table;
+pub use table::{Blocked, Table};
 
 mod held;
 mod holds;

@@ -6,6 +6,7 @@ ghost use Rattle.model_enqueue.specs.Table.{empty_table, is_served, blocked_by, 
 ghost use Rattle.model_enqueue.specs.Ask.{answer_to, after_ask, after_asks, first_blocked, released, waits_for_nothing};
 ghost use Rattle.model_enqueue.specs.Cycle.{IsRegion};
 ghost use Rattle.pi_enqueue.specs.Kept.{IsKept, WaitsForNothingElse};
+ghost use Rattle.pi_enqueue.specs.Grant.{told};
 
 use crate::lists::Lists;
 use model_enqueue::{Asked, Request};
@@ -15,6 +16,15 @@ use tm_types::{Memory, Mode, Resource};
 
 #[derive(Debug, Drop)]
 enum Never {}
+
+/// A request that is blocked.
+#[derive(Clone, Copy, Debug)]
+pub struct Blocked {
+    pub resource: Resource,
+    /// The lowest region that holds the resource in a mode that doesn't go together with the request, or
+    /// else the earliest waiter before it.
+    pub by: u32,
+}
 
 /// Which regions hold which resources, and which wait for one.
 ///
@@ -77,18 +87,23 @@ impl Table {
     ///
     /// What is asked before it is granted and kept. For the blocked one alone the region then waits,
     /// and where none is blocked, for nothing. At `Memory` nothing has changed.
-    pub fn ask_all(
-        &mut self,
-        region: u32,
-        requests: &[Request],
-    ) -> Result<Option<(Request, u32)>, Memory>
+    pub fn ask_all(&mut self, region: u32, requests: &[Request]) -> Result<Option<Blocked>, Memory>
         requires region { IsRegion self.old region }
         requires own { AllByRecursion (λ request. request.region ≡ region) requests.now }
-        ensures answer { IfOk result (λ blocked. blocked ≡ first_blocked requests.now self.old) }
+        ensures answer { IfOk result (λ blocked. blocked ≡ option_map told (first_blocked requests.now self.old)) }
         ensures ok { OnOk result (self.new ≡ after_asks region requests.now self.old) }
         ensures err { OnErr result (self.new ≡ self.old) }
     {
         Err(Memory)
+    }
+
+    /// The first of these requests of the region that is blocked, where each before it is granted. Nothing
+    /// changes.
+    pub fn first_blocked(&self, region: u32, requests: &[Request]) -> Option<Blocked>
+        requires { AllByRecursion (λ request. request.region ≡ region) requests.now }
+        ensures { result ≡ option_map told (first_blocked requests.now self.now) }
+    {
+        match self.never {}
     }
 
     /// The region waits for nothing any longer. This takes no memory.

@@ -14,4 +14,6 @@ mod pass;
 mod passes;
 mod pool;
 mod steps;
+#[cfg(test)]
+mod tests;
 mod views;

@@ -8,7 +8,8 @@ use Rattle.model_dli.specs.Data.{with_changed}
 use Rattle.model_dli.specs.Dli.{DliResult}
 use Rattle.tm_types.specs.declared.resource.Resource.{Resource}
 use Rattle.model_enqueue.specs.declared.request.Request.{Request}
-use Rattle.model_enqueue.specs.Ask.{released}
+use Rattle.model_enqueue.specs.Table.{EnqueueTable}
+use Rattle.model_enqueue.specs.Ask.{after_asks, released}
 use Rattle.program_rows.specs.Isolation.{AgreeOnHeld}
 use Rattle.program_rows.specs.State.{DatabasesState, RegionRows, region_at, committed_rows, clean_region, with_records_from}
 use Rattle.program_rows.specs.declared.answer.Answered as answer
@@ -68,6 +69,19 @@ abbrev pub regions_after : ℕ → ℕ → DliResult → DatabasesState → Data
 regions_after region number d old (Answered a) = slice_set old.regions (region - 1) (region_after number d (region_at region old))
 regions_after region number d old (Abend code) = old.regions
 regions_after region number d old (Blocked blocked) = old.regions
+
+-- What a call leaves of what the regions hold and wait for: it has asked for what it needs. One that leads to an
+-- abend asks for nothing.
+abbrev pub table_left : ℕ → List Request → EnqueueTable → DataAnswer → EnqueueTable
+table_left region requests table (Answered a) = after_asks region requests table
+table_left region requests table (Abend code) = table
+table_left region requests table (Blocked blocked) = after_asks region requests table
+
+-- a call that leads to an abend changes nothing at all
+abbrev pub StaysAtAbend : DatabasesState → DatabasesState → DataAnswer → Type 0
+StaysAtAbend old new (Answered a) = Unit {0}
+StaysAtAbend old new (Abend code) = new ≡ old
+StaysAtAbend old new (Blocked blocked) = Unit {0}
 
 -- the region has taken back all its changes
 abbrev pub regions_backed : ℕ → DatabasesState → List RegionRows

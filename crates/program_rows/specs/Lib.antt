@@ -1,3 +1,4 @@
 pub mod State
 pub mod Isolation
 pub mod Answering
+pub mod Open

@@ -1,8 +1,9 @@
 -- The databases, with the changes of the work on a message in each region.
-use Rattle.std.specs.Prelude.{◌≡◌, ℕ, ◌-◌, ◌≤◌, List, [], ◌∷◌, length, map, slice_index_or, slice_set}
+use Rattle.std.specs.Prelude.{◌≡◌, ℕ, ◌-◌, ◌≤◌, List, [], ◌∷◌, Some, length, map, slice_get, slice_index_or, slice_set}
 use Rattle.tm_types.specs.declared.dbd.Dbd.{Dbd}
+use Rattle.tm_types.specs.SegTypes.{IsHierarchy}
 use Rattle.model_rows.specs.declared.row.Row.{Row}
-use Rattle.model_rows.specs.Rows.{record_of, with_record}
+use Rattle.model_rows.specs.Rows.{AreRows, record_of, with_record}
 use Rattle.model_dli.specs.declared.call.Position.{Position}
 use Rattle.model_dli.specs.Data.{Data}
 use Rattle.model_enqueue.specs.Table.{EnqueueTable}
@@ -43,6 +44,12 @@ committed_rows databases = rows_of databases.committed
 -- the rows of the database of this number, counted from 1
 abbrev pub rows_in : ℕ → List (List Row) → List Row
 rows_in number rows = slice_index_or rows (number - 1) []
+
+-- the rows of each database are rows of it
+pub record AreRowsOf (dbds : List Dbd) (rows : List (List Row)) : Type 0 where
+  pub count : length rows ≡ length dbds
+  pub types : (number : ℕ) (dbd : Dbd) → slice_get dbds (number - 1) ≡ Some dbd → IsHierarchy dbd.types
+  pub each : (number : ℕ) (dbd : Dbd) → slice_get dbds (number - 1) ≡ Some dbd → AreRows dbd (rows_in number rows)
 
 -- one record of the database of this number is as in the first rows, all else as in the second
 abbrev pub with_record_from : ℕ → List ℕ → List (List Row) → List (List Row) → List (List Row)

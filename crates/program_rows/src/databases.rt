@@ -1,14 +1,14 @@
 //! The databases, and the calls on them.
-ghost use Rattle.std.specs.Prelude.{◌≡◌, ◌≤◌, ◌-◌, [], Some, All, IfOk, OnOk, OnErr, length, map, replicate, slice_get, slice_set};
+ghost use Rattle.std.specs.Prelude.{◌≡◌, ◌≤◌, ◌-◌, [], Some, All, IfOk, OnErr, length, map, replicate, slice_get, slice_set};
 ghost use Rattle.model_dli.specs.Conditions.{IsDbCall, IsPosition};
 ghost use Rattle.model_dli.specs.Data.{data_abend};
 ghost use Rattle.model_dli.specs.Dli.{dli};
 ghost use Rattle.model_enqueue.specs.Table.{empty_table};
-ghost use Rattle.model_enqueue.specs.Ask.{after_asks, first_blocked, waits_for_nothing};
+ghost use Rattle.model_enqueue.specs.Ask.{first_blocked, waits_for_nothing};
 ghost use Rattle.seg_store.specs.Stores.{empty_stores};
-ghost use Rattle.program_rows.specs.State.{clean_region, data_of, dbds_of, region_at, rows_numbered, rows_of, IsClean, IsRegionOf};
+ghost use Rattle.program_rows.specs.State.{clean_region, committed_rows, data_of, dbds_of, region_at, rows_numbered, rows_of, AreRowsOf, IsClean, IsRegionOf};
 ghost use Rattle.program_rows.specs.Isolation.{requests_of_call};
-ghost use Rattle.program_rows.specs.Answering.{blocked_of, told_blocked, regions_after, regions_backed, Gives, IsCommitted, IsGivenUp, LeadsToAbend, Stands};
+ghost use Rattle.program_rows.specs.Answering.{blocked_of, told_blocked, regions_after, regions_backed, Gives, IsCommitted, IsGivenUp, LeadsToAbend, Stands, StaysAtAbend, table_left};
 
 use crate::DataAnswer;
 use model_dli::{DbCall, Position};
@@ -49,6 +49,7 @@ impl Databases {
         ensures committed { IfOk result (λ d. d.committed ≡ empty_stores dbds.now) }
         ensures regions { IfOk result (λ d. d.regions ≡ replicate regions (clean_region (rows_of (empty_stores dbds.now)))) }
         ensures table { IfOk result (λ d. d.table ≡ empty_table regions) }
+        ensures rows { IfOk result (λ d. AreRowsOf (dbds_of d) (committed_rows d)) }
     {
         Err(Memory)
     }
@@ -95,7 +96,8 @@ impl Databases {
         ensures gives { IfOk result (Gives (dli dbd.now call.now at.now (rows_numbered region number self.old))) }
         ensures stands { IfOk result (Stands dbd.now.types) }
         ensures leaves { IfOk result (λ a. self.new.regions ≡ regions_after region number (dli dbd.now call.now at.now (rows_numbered region number self.old)) self.old a) }
-        ensures asks { OnOk result (self.new.table ≡ after_asks region (requests_of_call region number dbd.now call.now at.now self.old) self.old.table) }
+        ensures asks { IfOk result (λ a. self.new.table ≡ table_left region (requests_of_call region number dbd.now call.now at.now self.old) self.old.table a) }
+        ensures stays { IfOk result (StaysAtAbend self.old self.new) }
         ensures committed { self.new.committed ≡ self.old.committed }
         ensures databases { dbds_of self.new ≡ dbds_of self.old }
         ensures kept { OnErr result (self.new ≡ self.old) }
@@ -128,6 +130,7 @@ impl Databases {
     pub fn commit(&mut self, region: u32)
         requires { IsRegionOf self.old region }
         ensures value { IsCommitted region self.old self.new }
+        ensures rows { AreRowsOf (dbds_of self.new) (committed_rows self.new) }
         ensures databases { dbds_of self.new ≡ dbds_of self.old }
     {
         match self.never {}

@@ -11,7 +11,7 @@ use crate::steps::go_on;
 use model_script::{Need, Program, Statement};
 use std::alloc::Global;
 use std::marker::Model;
-use tm_types::{Function, Memory, Status};
+use tm_types::{Bytes, Function, Memory, Status};
 
 /// A script that runs. Contracts see where it stands, how many statements it may execute, and, while
 /// a call waits for its answer, the variable that the call may set.
@@ -84,6 +84,19 @@ impl Machine {
         self.script.answer(self.alloc, set, status, area)?;
         self.waiting = None;
         Ok(())
+    }
+
+    /// The same with an area that is taken over. This takes no memory.
+    pub fn answer_taking(&mut self, status: Status, area: Option<Bytes>)
+        requires waits { IsSome self.old.waiting }
+        requires text { IfSome area IsSegmentText }
+        ensures { self.new ≡ record { script = spec.moved_on self.old.script self.old.waiting (record { status = status; area = area }); limit = self.old.limit; waiting = None } }
+    {
+        let Some(set) = self.waiting else {
+            unreachable!()
+        };
+        self.script.answer_taking(set, status, area);
+        self.waiting = None;
     }
 }
 

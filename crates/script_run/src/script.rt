@@ -149,10 +149,33 @@ impl Script {
         {
             self.variables[variable as usize] = Bytes::copied(alloc, text)?;
         }
+        self.pass_call(status);
+        Ok(())
+    }
+
+    /// The same with a text that is taken over. This takes no memory.
+    pub fn answer_taking(&mut self, set: Option<u8>, status: Status, area: Option<Bytes>)
+        requires room { HasRoom self.old }
+        requires variable { IfSome set (λ x. x < 26) }
+        requires text { IfSome area IsSegmentText }
+        ensures { self.new ≡ spec.moved_on self.old (Some set) (record { status = status; area = area }) }
+    {
+        if let (Some(variable), Some(text)) = (set, area)
+            && sets_variable(status)
+        {
+            self.variables[variable as usize] = text;
+        }
+        self.pass_call(status);
+    }
+
+    /// Goes on behind a call that was answered with this status, whatever its variable became.
+    fn pass_call(&mut self, status: Status)
+        requires { HasRoom self.old }
+        ensures { self.new ≡ record self.old { place = self.old.place + 1; status = status; executed = self.old.executed + 1 } }
+    {
         self.place += 1;
         self.status = status;
         self.executed += 1;
-        Ok(())
     }
 
     /// Moves on to this place, without a statement.

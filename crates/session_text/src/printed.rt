@@ -1,6 +1,7 @@
 //! A text that is to be printed.
 ghost use Rattle.std.specs.Prelude.{◌≡◌, ◌≤◌, ◌+◌, ◌∷◌, ◌↔◌, [], ◌++◌, length, take, IsTrue, OnOk, OnErr, decimal};
 
+use itoa::Buffer;
 use std::alloc::Global;
 use std::marker::Model;
 use tm_types::Memory;
@@ -101,26 +102,12 @@ impl Printed {
     }
 
     /// Adds the number's decimal digits at the end, without zeros before them.
-    #[tactic(auto, using(crate::proofs::Digits::length_decimal))]
     pub fn push_number(&mut self, number: u64)
         requires { NUMBER_ROOM ≤ self.old.room }
         ensures text { self.new.text ≡ self.old.text ++ decimal number }
         ensures room { self.old.room ≤ self.new.room + NUMBER_ROOM }
     {
-        self.push_digits(number);
-    }
-
-    #[tactic(auto, using(crate::proofs::Digits::decimal_steps))]
-    fn push_digits(&mut self, number: u64)
-        requires { length (decimal number) ≤ self.old.room }
-        ensures text { self.new.text ≡ self.old.text ++ decimal number }
-        ensures room { self.new.room + length (decimal number) ≡ self.old.room }
-    {
-        if number < 10 {
-            self.push(&[b'0' + number as u8]);
-        } else {
-            self.push_digits(number / 10);
-            self.push(&[b'0' + (number % 10) as u8]);
-        }
+        let mut digits = Buffer::new();
+        self.push(digits.format(number).as_bytes());
     }
 }

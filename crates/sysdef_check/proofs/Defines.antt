@@ -7,14 +7,23 @@ use Rattle.system_types.specs.declared.definition.Macro.{Macro}
 use Rattle.system_types.specs.declared.definition.Macro.TheVariants.{Control}
 use Rattle.system_types.specs.Definitions.{IsDefinition, IsInRange, begins_well, is_control}
 use Rattle.system_types.specs.Valid.{IsSystem}
+<<<<<<< HEAD
 use Rattle.sysdef_rules.specs.declared.cross.CrossRule.TheVariants.{CodeTwice, DatabaseUnknown, OfCalls, OfSegments, ProgramMissing, WrongCount}
+=======
+use Rattle.sysdef_rules.specs.declared.cross.CrossRule.TheVariants.{CodeTwice, DatabaseUnknown, OfCalls, OfFormats, OfSegments, ProgramMissing, WrongCount, SecondRegion}
+>>>>>>> origin/main
 use Rattle.sysdef_rules.specs.declared.calls.CallRule.TheVariants.{PcbMissing, SsaAstray, NoInsertPath}
 use Rattle.sysdef_rules.specs.declared.segments.SegmentRule.TheVariants.{ParentAstray}
 use Rattle.sysdef_rules.specs.Cross.{cross_rules}
 use Rattle.sysdef_check.specs.Systems.{system_of, control_in, control_of, databases_in}
 use Rattle.sysdef_check.proofs.Dbds.{databases_valid}
 use Rattle.sysdef_check.proofs.Kept.{rule_kept}
+<<<<<<< HEAD
 use Rattle.sysdef_check.proofs.Limits.{few_codes, few_databases, few_programs, few_regions, few_terminals, some_of_each}
+=======
+use Rattle.sysdef_check.proofs.Formats.{formats_kept}
+use Rattle.sysdef_check.proofs.Limits.{few_codes, few_databases, few_formats, few_programs, few_regions, few_terminals, one_region, some_of_each}
+>>>>>>> origin/main
 use Rattle.sysdef_check.proofs.Servable.{programs_serve}
 use Rattle.sysdef_check.proofs.Served.{codes_apart, codes_served}
 
@@ -31,7 +40,7 @@ control_valid (line ∷ lines) first h = control_by line.content first (All-head
 
 pub defines_system : (lines : List MacroLine) → IsDefinition lines → cross_rules lines ≡ Ok tt → IsSystem (system_of lines)
 defines_system lines definition kept =
-    let counts = rule_kept lines 15 WrongCount kept refl in
+    let counts = rule_kept lines 16 WrongCount kept refl in
     let parents = rule_kept lines 2 (OfSegments ParentAstray) kept refl in
     let control = control_valid lines definition.first definition.in_range in
     let some = some_of_each lines counts definition.last in
@@ -50,6 +59,12 @@ defines_system lines definition kept =
       apart = codes_apart lines (rule_kept lines 8 CodeTwice kept refl);
       some_terminal = some.0;
       few_terminals = few_terminals lines counts;
+      few_formats = few_formats lines counts;
+      formats = formats_kept lines (rule_kept lines 15 OfFormats kept refl);
       some_region = some.1;
       few_regions = few_regions lines counts;
+<<<<<<< HEAD
+=======
+      one_region = one_region lines (rule_kept lines 17 SecondRegion kept refl);
+>>>>>>> origin/main
     }

@@ -1,9 +1,9 @@
 -- A rule that no macro breaks is kept by each.
-use Rattle.std.proofs.Common.{ℕ, zero, suc, ◌≡◌, ◌+◌, ◌-◌, ◌<◌, Bool, true, false, List, [], ◌∷◌, ◌++◌, length, take, drop, get_or, slice_get, All, Option, Some, None, Result, Ok, Err, IsTrue, refl, sym, subst, ap, ◌∙◌, arith, drop-cons, add-one, length-drop, ◌&&◌}
+use Rattle.std.proofs.Common.{ℕ, zero, suc, ◌≡◌, ◌+◌, ◌-◌, ◌<◌, Bool, true, false, List, [], ◌∷◌, ◌++◌, length, take, drop, get_or, slice_get, All, Option, Some, None, Result, Ok, Err, IsTrue, refl, sym, subst, arith, length-drop, ◌&&◌}
 use Rattle.std.specs.List.{list_all}
 use Rattle.std.specs.Option.{option_or}
 use Rattle.std.proofs.lemmas.Bool.{false≢true}
-use Rattle.std.proofs.lemmas.List.{take_all, take_more}
+use Rattle.std.proofs.lemmas.List.{take_all}
 use Rattle.std.proofs.lemmas.List.Elements.{All-drop, All-take}
 use Rattle.system_types.specs.declared.definition.MacroLine.{MacroLine}
 use Rattle.sysdef_rules.proofs.Cuts.{cut_at, more_at}

@@ -6,4 +6,5 @@ pub mod Servable
 pub mod Types
 pub mod Kept
 pub mod Limits
+pub mod Formats
 pub mod Defines

@@ -5,20 +5,27 @@ use Rattle.std.proofs.lemmas.Bool.Decides.{nat_tests}
 use Rattle.std.proofs.lemmas.List.Sums.{sum_by-append, sum_by-cons}
 use Rattle.tm_types.specs.declared.dbd.Dbd.{Dbd}
 use Rattle.system_types.specs.declared.definition.Macro.{Macro}
-use Rattle.system_types.specs.declared.definition.Macro.TheVariants.{Database, Transaction, Terminal, Region, Program, End}
+use Rattle.system_types.specs.declared.definition.Macro.TheVariants.{Database, Transaction, Terminal, Region, Format, Program, End}
 use Rattle.model_system.specs.declared.code.Code.{Code}
 use Rattle.model_system.specs.declared.pcb.Pcb.{Pcb}
+use Rattle.model_system.specs.declared.screen.SystemFormat.{SystemFormat}
 use Rattle.model_system.specs.declared.system_program.SystemProgram.{SystemProgram}
 use Rattle.system_types.specs.declared.definition.MacroLine.{MacroLine}
 use Rattle.system_types.specs.Definitions.{ends_well, is_end}
 use Rattle.sysdef_rules.specs.declared.cross.CrossRule.{CrossRule}
 use Rattle.sysdef_rules.specs.declared.cross.CrossRule.TheVariants.{WrongCount}
 use Rattle.sysdef_rules.specs.declared.lookups.MacroKind.{MacroKind}
-use Rattle.sysdef_rules.specs.declared.lookups.MacroKind.TheVariants.{Databases, Codes, Terminals, Regions, Programs}
+use Rattle.sysdef_rules.specs.declared.lookups.MacroKind.TheVariants.{Databases, Codes, Terminals, Regions, Formats, Programs}
 use Rattle.sysdef_rules.specs.Counts.{breaks_count}
+<<<<<<< HEAD
 use Rattle.sysdef_rules.specs.Cross.{broken_line, first_line}
 use Rattle.sysdef_rules.specs.Lookups.{count, is_of}
 use Rattle.sysdef_check.specs.Systems.{and_then, code_in, codes_in, psb_after, database_in, databases_in, region_in, regions_in, terminal_in, terminals_in, pcbs_for, program_in, programs_in, programs_with}
+=======
+use Rattle.sysdef_rules.specs.Cross.{breaks_region, broken_line, first_line}
+use Rattle.sysdef_rules.specs.Lookups.{count, has, is_of}
+use Rattle.sysdef_check.specs.Systems.{and_then, code_in, codes_in, psb_after, database_in, databases_in, region_in, regions_in, format_in, formats_in, terminal_in, terminals_in, pcbs_for, program_in, programs_in, programs_with}
+>>>>>>> origin/main
 use Rattle.sysdef_check.proofs.Made.{either_false}
 use Rattle.sysdef_check.proofs.Kept.{kept_count, neither}
 
@@ -92,13 +99,18 @@ code_before all before _ e h = absurd (false≢true e)
 
 terminal_before : (all before : List MacroLine) (content : Macro) → is_of Terminals content ≡ true → breaks_count all before content ≡ false → count Terminals before < 64
 unfolding breaks_count
-terminal_before all before (Terminal name) e h = leb-false 64 (count Terminals before) h
+terminal_before all before (Terminal name format) e h = leb-false 64 (count Terminals before) h
 terminal_before all before _ e h = absurd (false≢true e)
 
 region_before : (all before : List MacroLine) (content : Macro) → is_of Regions content ≡ true → breaks_count all before content ≡ false → count Regions before < 8
 unfolding breaks_count
 region_before all before (Region classes) e h = leb-false 8 (count Regions before) h
 region_before all before _ e h = absurd (false≢true e)
+
+format_before : (all before : List MacroLine) (content : Macro) → is_of Formats content ≡ true → breaks_count all before content ≡ false → count Formats before < 32
+unfolding breaks_count
+format_before all before (Format name format) e h = leb-false 32 (count Formats before) h
+format_before all before _ e h = absurd (false≢true e)
 
 program_before : (all before : List MacroLine) (content : Macro) → is_of Programs content ≡ true → breaks_count all before content ≡ false → count Programs before < 64
 unfolding breaks_count
@@ -116,12 +128,20 @@ codes_counted (line ∷ lines) psb =
     omega (arith, code_counted psb line.content (codes_in (psb_after psb line.content) lines), codes_counted lines (psb_after psb line.content), count_more Codes line lines)
 
 terminal_counted : (content : Macro) (rest : List (List ℕ)) → length (and_then (terminal_in content) rest) ≡ as_count (is_of Terminals content) + length rest
-terminal_counted (Terminal name) rest = omega arith
+terminal_counted (Terminal name format) rest = omega arith
 terminal_counted _ rest = omega arith
 
 terminals_counted : (lines : List MacroLine) → length (terminals_in lines) ≡ count Terminals lines
 terminals_counted [] = refl
 terminals_counted (line ∷ lines) = omega (arith, terminal_counted line.content (terminals_in lines), terminals_counted lines, count_more Terminals line lines)
+
+format_counted : (content : Macro) (rest : List SystemFormat) → length (and_then (format_in content) rest) ≡ as_count (is_of Formats content) + length rest
+format_counted (Format name format) rest = omega arith
+format_counted _ rest = omega arith
+
+formats_counted : (lines : List MacroLine) → length (formats_in lines) ≡ count Formats lines
+formats_counted [] = refl
+formats_counted (line ∷ lines) = omega (arith, format_counted line.content (formats_in lines), formats_counted lines, count_more Formats line lines)
 
 program_counted : (pcbs : List Pcb) (content : Macro) (rest : List SystemProgram) → length (and_then (program_in pcbs content) rest) ≡ as_count (is_of Programs content) + length rest
 program_counted pcbs (Program name lines) rest = omega arith
@@ -146,6 +166,11 @@ pub few_regions : (all : List MacroLine) → first_line WrongCount all [] all �
 few_regions all h =
     let most = within_limit WrongCount Regions 8 all (λ before line behind e kept. region_before all before line.content e (kept_count all before line behind kept).0) all [] h (omega arith) in
     omega (arith, regions_counted all, most)
+
+pub few_formats : (all : List MacroLine) → first_line WrongCount all [] all ≡ None → length (formats_in all) ≤ 32
+few_formats all h =
+    let most = within_limit WrongCount Formats 32 all (λ before line behind e kept. format_before all before line.content e (kept_count all before line behind kept).0) all [] h (omega arith) in
+    omega (arith, formats_counted all, most)
 
 pub few_programs : (databases : List Dbd) (all : List MacroLine) → first_line WrongCount all [] all ≡ None → length (programs_in databases all all) ≤ 64
 few_programs databases all h =

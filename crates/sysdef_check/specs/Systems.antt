@@ -1,16 +1,18 @@
 -- The system that macros define.
-use Rattle.std.specs.Prelude.{ℕ, ◌≡◌, ◌+◌, List, [], ◌∷◌, ◌++◌, position, Option, Some, None, Result, Ok, Err}
+use Rattle.std.specs.Prelude.{ℕ, ◌+◌, List, [], ◌∷◌, ◌++◌, position, Option, Some, None, Result, Ok, Err}
 use Rattle.std.specs.Option.{option_map_or}
 use Rattle.std.specs.Str.{bytes_eq}
 use Rattle.tm_types.specs.declared.dbd.Dbd.{Dbd}
 use Rattle.tm_types.specs.declared.dbd.SegType.{SegType}
 use Rattle.system_types.specs.declared.definition.Macro.{Macro}
-use Rattle.system_types.specs.declared.definition.Macro.TheVariants.{Control, Database, Segment, Application, DatabasePcb, DestinationPcb, ModifiablePcb, Transaction, Terminal, Region, Program}
+use Rattle.system_types.specs.declared.definition.Macro.TheVariants.{Control, Database, Segment, Application, DatabasePcb, DestinationPcb, ModifiablePcb, Transaction, Terminal, Region, Format, Program}
 use Rattle.system_types.specs.declared.definition.MacroLine.{MacroLine}
 use Rattle.sysdef_rules.specs.declared.lookups.MacroKind.TheVariants.{Segments}
 use Rattle.model_system.specs.declared.code.Code.{Code}
 use Rattle.model_system.specs.declared.pcb.Pcb.{Pcb}
 use Rattle.model_system.specs.declared.pcb.Pcb.TheVariants as pcb
+use Rattle.model_system.specs.declared.screen.Screen.{Screen}
+use Rattle.model_system.specs.declared.screen.SystemFormat.{SystemFormat}
 use Rattle.model_system.specs.declared.system_program.SystemProgram.{SystemProgram}
 use Rattle.model_system.specs.System.{System}
 use Rattle.sysdef_rules.specs.Lookups.{front, is_segment, number_of, pcbs_of}
@@ -78,8 +80,26 @@ programs_with [] lists = []
 programs_with (line ∷ lines) [] = []
 programs_with (line ∷ lines) (pcbs ∷ lists) = and_then (program_in pcbs line.content) (programs_with lines lists)
 
+-- the formats, under their names
+abbrev pub format_in : Macro → Option SystemFormat
+format_in (Format name format) = Some (record { name = name; format = format })
+format_in _ = None
+
+abbrev pub formats_in : List MacroLine → List SystemFormat
+formats_in [] = []
+formats_in (line ∷ lines) = and_then (format_in line.content) (formats_in lines)
+
+-- the terminals that have a format
+abbrev pub screen_in : Macro → Option Screen
+screen_in (Terminal name (Some format)) = Some (record { terminal = name; format = format })
+screen_in _ = None
+
+abbrev pub screens_in : List MacroLine → List Screen
+screens_in [] = []
+screens_in (line ∷ lines) = and_then (screen_in line.content) (screens_in lines)
+
 abbrev pub terminal_in : Macro → Option (List ℕ)
-terminal_in (Terminal name) = Some name
+terminal_in (Terminal name format) = Some name
 terminal_in _ = None
 
 abbrev pub terminals_in : List MacroLine → List (List ℕ)
@@ -124,6 +144,8 @@ system_of lines = record {
   programs = programs_in (databases_in lines) lines lines;
   codes = codes_in None lines;
   terminals = terminals_in lines;
+  screens = screens_in lines;
+  formats = formats_in lines;
   regions = regions_in lines;
 }
 

@@ -1,12 +1,12 @@
 //! The system that macros define.
-ghost use Rattle.std.specs.Prelude.{◌≡◌, ◌<◌, Ok, None, IfOk, length, map};
+ghost use Rattle.std.specs.Prelude.{◌≡◌, ◌<◌, ◌++◌, [], Ok, None, IfOk, OnOk, length, map};
 ghost use Rattle.system_types.specs.Definitions.{IsDefinition};
 ghost use Rattle.system_types.specs.Parts.{parts_of};
 ghost use Rattle.sysdef_rules.specs.Cross.{cross_rules};
 ghost use Rattle.sysdef_check.specs.Systems as spec;
 
 use crate::databases::{databases_in, pcbs_in};
-use model_system::{Classes, Code, Pcbs, SystemProgram};
+use model_system::{Classes, Code, Pcbs, Screen, SystemFormat, SystemProgram};
 use std::alloc::{AllocError, Global};
 use sysdef_rules::pcbs_of;
 use system_types::{Macro, MacroLine, System, SystemParts};
@@ -30,9 +30,10 @@ fn parts_in(alloc: Global, lines: Vec<MacroLine>) -> Result<SystemParts, AllocEr
     let databases = databases_in(alloc, &lines)?;
     let codes = codes_in(alloc, &lines)?;
     let terminals = terminals_in(alloc, &lines)?;
+    let screens = screens_in(alloc, &lines)?;
     let regions = regions_in(alloc, &lines)?;
     let pcbs = pcb_lists(alloc, &databases, &lines)?;
-    let programs = programs_in(alloc, lines, pcbs)?;
+    let (programs, formats) = blocks_in(alloc, lines, pcbs)?;
     Ok(SystemParts {
         qbytes,
         logs,
@@ -40,6 +41,8 @@ fn parts_in(alloc: Global, lines: Vec<MacroLine>) -> Result<SystemParts, AllocEr
         programs,
         codes,
         terminals,
+        screens,
+        formats,
         regions,
     })
 }
@@ -102,11 +105,38 @@ fn terminals_in(alloc: Global, lines: &[MacroLine]) -> Result<Vec<Name>, AllocEr
 {
     let mut terminals = Vec::new(alloc);
     for line in lines {
-        if let Macro::Terminal { name } = &line.content {
+        if let Macro::Terminal { name, .. } = &line.content {
             terminals.push(*name)?;
         }
     }
     Ok(terminals)
+}
+
+fn screens_in(alloc: Global, lines: &[MacroLine]) -> Result<Vec<Screen>, AllocError>
+    ensures { IfOk result (λ screens. screens.items ≡ spec.screens_in lines.now) }
+{
+    let mut screens = Vec::new(alloc);
+    for line in lines {
+        if let Some(screen) = screen_in(&line.content) {
+            screens.push(screen)?;
+        }
+    }
+    Ok(screens)
+}
+
+fn screen_in(content: &Macro) -> Option<Screen>
+    ensures { result ≡ spec.screen_in content.now }
+{
+    match content {
+        Macro::Terminal {
+            name,
+            format: Some(format),
+        } => Some(Screen {
+            terminal: *name,
+            format: *format,
+        }),
+        _ => None,
+    }
 }
 
 fn regions_in(alloc: Global, lines: &[MacroLine]) -> Result<Vec<Classes>, AllocError>
@@ -148,36 +178,51 @@ fn pcbs_for(
     }
 }
 
-/// The programs, with the PCBs that stand in the list for their lines.
-fn programs_in(
+/// The programs, with the PCBs that stand in the list for their lines, and the formats.
+fn blocks_in(
     alloc: Global,
     lines: Vec<MacroLine>,
     lists: Vec<Pcbs>,
-) -> Result<Vec<SystemProgram>, AllocError>
-    ensures { IfOk result (λ programs. programs.items ≡ spec.programs_with lines.items lists.items) }
+) -> Result<(Vec<SystemProgram>, Vec<SystemFormat>), AllocError>
+    requires { length lists.items ≡ length lines.items }
+    ensures programs { IfOk result (λ blocks. blocks.0.items ≡ spec.programs_with lines.items lists.items) }
+    ensures formats { IfOk result (λ blocks. blocks.1.items ≡ spec.formats_in lines.items) }
 {
     let mut programs = Vec::new(alloc);
+    let mut formats = Vec::new(alloc);
     let mut lists = lists.into_iter();
     for line in lines {
         let Some(pcbs) = lists.next() else {
-            return Ok(programs);
+            unreachable!();
         };
-        if let Some(program) = program_in(pcbs, line.content) {
-            programs.push(program)?;
-        }
+        add_block(&mut programs, &mut formats, pcbs, line.content)?;
     }
-    Ok(programs)
+    Ok((programs, formats))
 }
 
-fn program_in(pcbs: Pcbs, content: Macro) -> Option<SystemProgram>
-    ensures { result ≡ spec.program_in pcbs content }
+/// Adds the program or the format that a macro is.
+fn add_block(
+    programs: &mut Vec<SystemProgram>,
+    formats: &mut Vec<SystemFormat>,
+    pcbs: Pcbs,
+    content: Macro,
+) -> Result<(), AllocError>
+    ensures programs { OnOk result (programs.new.items ≡ programs.old.items ++ spec.and_then (spec.program_in pcbs content) []) }
+    ensures formats { OnOk result (formats.new.items ≡ formats.old.items ++ spec.and_then (spec.format_in content) []) }
 {
     match content {
-        Macro::Program { name, program } => Some(SystemProgram {
-            psb: name,
-            pcbs,
-            program,
-        }),
-        _ => None,
+        Macro::Program { name, program } => {
+            programs.push(SystemProgram {
+                psb: name,
+                pcbs,
+                program,
+            })?;
+            Ok(())
+        }
+        Macro::Format { name, format } => {
+            formats.push(SystemFormat { name, format })?;
+            Ok(())
+        }
+        _ => Ok(()),
     }
 }

@@ -2,19 +2,20 @@
 use Rattle.std.specs.Prelude.{ℕ, Bool, false, ◌||◌, ◌==◌, List, nat_le, slice_get, Option, None}
 use Rattle.std.specs.Option.{option_map, option_or}
 use Rattle.system_types.specs.declared.definition.Macro.{Macro}
-use Rattle.system_types.specs.declared.definition.Macro.TheVariants.{Database, Application, Transaction, Terminal, Region, Program, End}
+use Rattle.system_types.specs.declared.definition.Macro.TheVariants.{Database, Application, Transaction, Terminal, Region, Format, Program, End}
 use Rattle.system_types.specs.declared.definition.MacroLine.{MacroLine}
-use Rattle.sysdef_rules.specs.declared.lookups.MacroKind.TheVariants.{Databases, Segments, Pcbs, Codes, Terminals, Regions, Programs}
+use Rattle.sysdef_rules.specs.declared.lookups.MacroKind.TheVariants.{Databases, Segments, Pcbs, Codes, Terminals, Regions, Formats, Programs}
 use Rattle.sysdef_rules.specs.Lookups.{count, front}
 use Rattle.sysdef_rules.specs.Segments.{own_line}
 
--- There are at most 8 databases, 256 codes, 64 terminals, 8 regions and 64 programs. The line of END
+-- There are at most 8 databases, 256 codes, 64 terminals, 8 regions, 32 formats and 64 programs. The line of END
 -- breaks the rule where there is no terminal or no region.
 unfoldable pub breaks_count : List MacroLine → List MacroLine → Macro → Bool
 breaks_count all before (Database name roots) = nat_le 8 (count Databases before)
 breaks_count all before (Transaction transaction) = nat_le 256 (count Codes before)
-breaks_count all before (Terminal name) = nat_le 64 (count Terminals before)
+breaks_count all before (Terminal name format) = nat_le 64 (count Terminals before)
 breaks_count all before (Region classes) = nat_le 8 (count Regions before)
+breaks_count all before (Format name format) = nat_le 32 (count Formats before)
 breaks_count all before (Program name lines) = nat_le 64 (count Programs before)
 breaks_count all before End = (count Terminals all == 0) || (count Regions all == 0)
 breaks_count all before _ = false

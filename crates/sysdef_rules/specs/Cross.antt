@@ -1,20 +1,31 @@
 -- The rules that macros keep among each other.
 use Rattle.std.specs.Prelude.{ℕ, Bool, false, ◌||◌, not, List, [], ◌∷◌, ◌++◌, Option, Some, None, Result, Ok, Err}
 use Rattle.std.specs.Option.{option_or}
+use Rattle.model_format.specs.Breaks as format_rule
 use Rattle.system_types.specs.declared.definition.Macro.{Macro}
+<<<<<<< HEAD
 use Rattle.system_types.specs.declared.definition.Macro.TheVariants.{Database, Application, DatabasePcb, DestinationPcb, Transaction, Terminal, Program}
+=======
+use Rattle.system_types.specs.declared.definition.Macro.TheVariants.{Database, Application, DatabasePcb, DestinationPcb, Transaction, Terminal, Region, Format, Program}
+>>>>>>> origin/main
 use Rattle.system_types.specs.declared.definition.MacroLine.{MacroLine}
 use Rattle.sysdef_rules.specs.declared.segments.SegmentRule.TheVariants.{Twice, ParentAstray, KeyTooLong, LevelTooHigh}
 use Rattle.sysdef_rules.specs.declared.calls.CallRule.TheVariants.{PcbMissing, SsaAstray, NoInsertPath}
 use Rattle.sysdef_rules.specs.declared.cross.CrossRule.{CrossRule}
+<<<<<<< HEAD
 use Rattle.sysdef_rules.specs.declared.cross.CrossRule.TheVariants.{DatabaseTwice, OfSegments, PsbTwice, DatabaseUnknown, DestinationUnknown, CodeTwice, TerminalTwice, ProgramMissing, ProgramAstray, OfCalls, WrongCount}
 use Rattle.sysdef_rules.specs.Lookups.{has, is_database, is_application, is_code, is_terminal, is_program}
+=======
+use Rattle.sysdef_rules.specs.declared.cross.CrossRule.TheVariants.{DatabaseTwice, OfSegments, PsbTwice, DatabaseUnknown, DestinationUnknown, CodeTwice, TerminalTwice, ProgramMissing, ProgramAstray, OfCalls, OfFormats, WrongCount, SecondRegion}
+use Rattle.sysdef_rules.specs.Lookups.{has, count, is_of, is_database, is_application, is_code, is_terminal, is_format, is_program}
+>>>>>>> origin/main
 use Rattle.sysdef_rules.specs.Segments.{own_line, broken_by_segment}
 use Rattle.sysdef_rules.specs.Calls.{broken_by_call}
 use Rattle.sysdef_rules.specs.Counts.{broken_by_count}
 
 -- Each rule says whether a macro breaks it, among all macros and behind those before it. The rules on
--- segments, on calls and on counts name the line of a segment, of a call or of a PCB too.
+-- segments, on calls, on formats and on counts name the line of a segment, of a call, of a format or of a PCB
+-- too.
 
 -- a database stands once
 unfoldable pub breaks_database : List MacroLine → Macro → Bool
@@ -43,7 +54,7 @@ breaks_code all before _ = false
 
 -- a terminal stands once
 unfoldable pub breaks_terminal : List MacroLine → Macro → Bool
-breaks_terminal before (Terminal name) = has (is_terminal name) before
+breaks_terminal before (Terminal name format) = has (is_terminal name) before
 breaks_terminal before _ = false
 
 -- an APPLCTN has its PROGRAM
@@ -56,6 +67,25 @@ unfoldable pub breaks_program : List MacroLine → List MacroLine → Macro → 
 breaks_program all before (Program name lines) = not (has (is_application name) all) || has (is_program name) before
 breaks_program all before _ = false
 
+<<<<<<< HEAD
+=======
+-- the format of a terminal stands somewhere, and a format stands once
+unfoldable pub breaks_format : List MacroLine → List MacroLine → Macro → Bool
+breaks_format all before (Terminal name (Some format)) = not (has (is_format format) all)
+breaks_format all before (Format name format) = has (is_format name) before
+breaks_format all before _ = false
+
+-- the lowest line of a format that breaks the rule among its lines
+abbrev pub broken_within : MacroLine → Macro → Option ℕ
+broken_within line (Format name format) = format_rule.broken_line line.number format
+broken_within line _ = None
+
+-- where there is a database there is one region, until several regions can work on databases
+unfoldable pub breaks_region : List MacroLine → List MacroLine → Macro → Bool
+breaks_region all before (Region classes) = has (is_of Databases) all && nat_le 1 (count Regions before)
+breaks_region all before _ = false
+
+>>>>>>> origin/main
 -- the lowest line of a macro, and of those that belong to it, that breaks the rule
 unfoldable pub broken_line : CrossRule → List MacroLine → List MacroLine → MacroLine → List MacroLine → Option ℕ
 broken_line DatabaseTwice all before line behind = own_line line (breaks_database before line.content)
@@ -68,6 +98,7 @@ broken_line TerminalTwice all before line behind = own_line line (breaks_termina
 broken_line ProgramMissing all before line behind = own_line line (breaks_application all line.content)
 broken_line ProgramAstray all before line behind = own_line line (breaks_program all before line.content)
 broken_line (OfCalls rule) all before line behind = broken_by_call rule all line.content
+broken_line OfFormats all before line behind = option_or (own_line line (breaks_format all before line.content)) (broken_within line line.content)
 broken_line WrongCount all before line behind = broken_by_count all before line behind
 
 -- the number of a rule
@@ -87,6 +118,7 @@ number_of ProgramAstray = 12
 number_of (OfCalls PcbMissing) = 13
 number_of (OfCalls SsaAstray) = 14
 number_of (OfCalls NoInsertPath) = 15
+number_of OfFormats = 16
 number_of WrongCount = 17
 
 -- The lowest line that breaks a rule. What belongs to a macro stands behind it and before the next
@@ -116,7 +148,11 @@ abbrev pub rules : List CrossRule
 rules =
     DatabaseTwice ∷ OfSegments Twice ∷ OfSegments ParentAstray ∷ OfSegments KeyTooLong ∷ OfSegments LevelTooHigh ∷ PsbTwice ∷ DatabaseUnknown
     ∷ DestinationUnknown ∷ CodeTwice ∷ TerminalTwice ∷ ProgramMissing ∷ ProgramAstray ∷ OfCalls PcbMissing ∷ OfCalls SsaAstray ∷ OfCalls NoInsertPath
+<<<<<<< HEAD
     ∷ WrongCount ∷ []
+=======
+    ∷ OfFormats ∷ WrongCount ∷ SecondRegion ∷ []
+>>>>>>> origin/main
 
 unfoldable pub cross_rules : List MacroLine → Result (Unit {0}) (ℕ × ℕ)
 cross_rules all = keeps_all rules all

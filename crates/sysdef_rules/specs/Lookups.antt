@@ -4,10 +4,10 @@ use Rattle.std.specs.List.{list_any}
 use Rattle.std.specs.Option.{option_map_or}
 use Rattle.std.specs.Str.{bytes_eq}
 use Rattle.system_types.specs.declared.definition.Macro.{Macro}
-use Rattle.system_types.specs.declared.definition.Macro.TheVariants.{Database, Segment, Application, DatabasePcb, DestinationPcb, ModifiablePcb, Transaction, Terminal, Region, Program}
+use Rattle.system_types.specs.declared.definition.Macro.TheVariants.{Database, Segment, Application, DatabasePcb, DestinationPcb, ModifiablePcb, Transaction, Terminal, Region, Format, Program}
 use Rattle.system_types.specs.declared.definition.MacroLine.{MacroLine}
 use Rattle.sysdef_rules.specs.declared.lookups.MacroKind.{MacroKind}
-use Rattle.sysdef_rules.specs.declared.lookups.MacroKind.TheVariants.{Databases, Segments, Pcbs, Codes, Terminals, Regions, Programs}
+use Rattle.sysdef_rules.specs.declared.lookups.MacroKind.TheVariants.{Databases, Segments, Pcbs, Codes, Terminals, Regions, Formats, Programs}
 
 -- the macros of one kind with a name
 abbrev pub is_database : List ℕ → Macro → Bool
@@ -27,8 +27,12 @@ is_code name (Transaction transaction) = bytes_eq transaction.code name
 is_code name _ = false
 
 abbrev pub is_terminal : List ℕ → Macro → Bool
-is_terminal name (Terminal terminal) = bytes_eq terminal name
+is_terminal name (Terminal terminal format) = bytes_eq terminal name
 is_terminal name _ = false
+
+abbrev pub is_format : List ℕ → Macro → Bool
+is_format name (Format format lines) = bytes_eq format name
+is_format name _ = false
 
 abbrev pub is_program : List ℕ → Macro → Bool
 is_program name (Program program lines) = bytes_eq program name
@@ -47,7 +51,8 @@ is_of Databases (Database name roots) = true
 is_of Segments (Segment name parent key bytes) = true
 is_of Pcbs content = is_pcb content
 is_of Codes (Transaction transaction) = true
-is_of Terminals (Terminal name) = true
+is_of Terminals (Terminal name format) = true
+is_of Formats (Format name format) = true
 is_of Regions (Region classes) = true
 is_of Programs (Program name lines) = true
 is_of _ _ = false

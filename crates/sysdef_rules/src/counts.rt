@@ -15,6 +15,7 @@ fn breaks_count(all: &[MacroLine], before: &[MacroLine], content: &Macro) -> boo
         Macro::Transaction(_) => 256 <= count(MacroKind::Codes, before),
         Macro::Terminal { .. } => 64 <= count(MacroKind::Terminals, before),
         Macro::Region { .. } => 8 <= count(MacroKind::Regions, before),
+        Macro::Format { .. } => 32 <= count(MacroKind::Formats, before),
         Macro::Program { .. } => 64 <= count(MacroKind::Programs, before),
         Macro::End => count(MacroKind::Terminals, all) == 0 || count(MacroKind::Regions, all) == 0,
         _ => false,

@@ -1,5 +1,6 @@
 //! The rules that macros keep among each other, in their order.
 ghost use Rattle.std.specs.Prelude.{◌≡◌, [], IfOk};
+ghost use Rattle.std.specs.Option.{option_or};
 ghost use Rattle.sysdef_rules.specs.Segments.{own_line};
 ghost use Rattle.sysdef_rules.specs.Cross as spec;
 ghost use Rattle.sysdef_rules.specs.Refused.{Answers};
@@ -35,6 +36,8 @@ pub enum CrossRule {
     ProgramAstray,
     /// The calls of a PROGRAM break their rule.
     OfCalls(CallRule),
+    /// A format stands twice, or breaks the rule among its lines, or a terminal's format isn't there.
+    OfFormats,
     /// There are too many macros of a kind, or no terminal or no region.
     WrongCount,
 }
@@ -98,7 +101,7 @@ fn breaks_terminal(before: &NamedMacros<'_>, content: &Macro) -> bool
     ensures { result ≡ spec.breaks_terminal before.now content.now }
 {
     match content {
-        Macro::Terminal { name } => before.has_terminal(name),
+        Macro::Terminal { name, .. } => before.has_terminal(name),
         _ => false,
     }
 }
@@ -123,6 +126,56 @@ fn breaks_program(all: &NamedMacros<'_>, before: &NamedMacros<'_>, content: &Mac
     }
 }
 
+<<<<<<< HEAD
+=======
+#[tactic(auto, unfolding(crate::specs::Cross::breaks_format))]
+fn breaks_format(all: &NamedMacros<'_>, before: &NamedMacros<'_>, content: &Macro) -> bool
+    ensures { result ≡ spec.breaks_format all.now before.now content.now }
+{
+    match content {
+        Macro::Terminal {
+            format: Some(format),
+            ..
+        } => !all.has_format(format),
+        Macro::Format { name, .. } => before.has_format(name),
+        _ => false,
+    }
+}
+
+fn broken_within(line: &MacroLine) -> Option<u32>
+    ensures { result ≡ spec.broken_within line.now line.now.content }
+{
+    match &line.content {
+        Macro::Format { format, .. } => mfs_text::broken_line(format, line.number),
+        _ => None,
+    }
+}
+
+fn broken_by_format(
+    all: &NamedMacros<'_>,
+    before: &NamedMacros<'_>,
+    line: &MacroLine,
+) -> Option<u32>
+    ensures { result ≡ option_or (own_line line.now (spec.breaks_format all.now before.now line.now.content)) (spec.broken_within line.now line.now.content) }
+{
+    if breaks_format(all, before, &line.content) {
+        return Some(line.number);
+    }
+    broken_within(line)
+}
+
+#[tactic(auto, unfolding(crate::specs::Cross::breaks_region))]
+fn breaks_region(all: &NamedMacros<'_>, before: &NamedMacros<'_>, content: &Macro) -> bool
+    ensures { result ≡ spec.breaks_region all.now before.now content.now }
+{
+    match content {
+        Macro::Region { .. } => has_databases(all.lines())
+            && 1 <= count(MacroKind::Regions, before.lines()),
+        _ => false,
+    }
+}
+
+>>>>>>> origin/main
 fn own_line(line: &MacroLine, broken: bool) -> Option<u32>
     ensures { result ≡ own_line line.now broken }
 {
@@ -151,6 +204,7 @@ fn broken_line(
         CrossRule::ProgramMissing => own_line(line, breaks_application(all, &line.content)),
         CrossRule::ProgramAstray => own_line(line, breaks_program(all, before, &line.content)),
         CrossRule::OfCalls(rule) => broken_by_call(rule, all.lines(), &line.content),
+        CrossRule::OfFormats => broken_by_format(all, before, line),
         CrossRule::WrongCount => broken_by_count(all.lines(), before.lines(), line, behind),
     }
 }
@@ -174,6 +228,7 @@ fn number_of(rule: CrossRule) -> u8
         CrossRule::OfCalls(CallRule::PcbMissing) => 13,
         CrossRule::OfCalls(CallRule::SsaAstray) => 14,
         CrossRule::OfCalls(CallRule::NoInsertPath) => 15,
+        CrossRule::OfFormats => 16,
         CrossRule::WrongCount => 17,
     }
 }
@@ -241,6 +296,7 @@ pub fn cross_rules(alloc: Global, lines: &[MacroLine]) -> Result<(), CrossRefuse
         CrossRule::OfCalls(CallRule::PcbMissing),
         CrossRule::OfCalls(CallRule::SsaAstray),
         CrossRule::OfCalls(CallRule::NoInsertPath),
+        CrossRule::OfFormats,
         CrossRule::WrongCount,
     ];
     match NamedMacros::of(alloc, lines) {

@@ -16,6 +16,7 @@ pub enum MacroKind {
     Codes,
     Terminals,
     Regions,
+    Formats,
     Programs,
 }
 
@@ -29,6 +30,7 @@ pub(crate) fn is_of(kind: MacroKind, content: &Macro) -> bool
         MacroKind::Codes => matches!(content, Macro::Transaction(_)),
         MacroKind::Terminals => matches!(content, Macro::Terminal { .. }),
         MacroKind::Regions => matches!(content, Macro::Region { .. }),
+        MacroKind::Formats => matches!(content, Macro::Format { .. }),
         MacroKind::Programs => matches!(content, Macro::Program { .. }),
     }
 }

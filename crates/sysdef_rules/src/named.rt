@@ -18,6 +18,7 @@ pub(crate) struct NamedMacros<'a> {
     applications: BTreeMap<Name, usize>,
     codes: BTreeMap<Name, usize>,
     terminals: BTreeMap<Name, usize>,
+    formats: BTreeMap<Name, usize>,
     programs: BTreeMap<Name, usize>,
 }
 
@@ -30,7 +31,7 @@ impl<'a> Model for NamedMacros<'a> {
 
     ghost view = { λ n. n.lines.now };
 
-    ghost invariant = { λ n. AreIndexes n.lines.now n.databases n.applications n.codes n.terminals n.programs };
+    ghost invariant = { λ n. AreIndexes n.lines.now n.databases n.applications n.codes n.terminals n.formats n.programs };
 }
 
 impl<'a> NamedMacros<'a> {
@@ -44,6 +45,7 @@ impl<'a> NamedMacros<'a> {
             applications: BTreeMap::new(alloc),
             codes: BTreeMap::new(alloc),
             terminals: BTreeMap::new(alloc),
+            formats: BTreeMap::new(alloc),
             programs: BTreeMap::new(alloc),
         }
     }
@@ -63,6 +65,7 @@ impl<'a> NamedMacros<'a> {
             mut applications,
             mut codes,
             mut terminals,
+            mut formats,
             mut programs,
         } = self;
         let place = before.len();
@@ -70,6 +73,7 @@ impl<'a> NamedMacros<'a> {
         note_application(&mut applications, &line.content, place)?;
         note_code(&mut codes, &line.content, place)?;
         note_terminal(&mut terminals, &line.content, place)?;
+        note_format(&mut formats, &line.content, place)?;
         note_program(&mut programs, &line.content, place)?;
         Ok(NamedMacros {
             lines,
@@ -77,6 +81,7 @@ impl<'a> NamedMacros<'a> {
             applications,
             codes,
             terminals,
+            formats,
             programs,
         })
     }
@@ -121,6 +126,12 @@ impl<'a> NamedMacros<'a> {
         ensures { result ≡ spec.has (spec.is_terminal name.now) self.now }
     {
         has_name(&self.terminals, name)
+    }
+
+    pub(crate) fn has_format(&self, name: &Name) -> bool
+        ensures { result ≡ spec.has (spec.is_format name.now) self.now }
+    {
+        has_name(&self.formats, name)
     }
 
     pub(crate) fn has_program(&self, name: &Name) -> bool
@@ -187,7 +198,21 @@ fn note_terminal(
     ensures { OnOk result ((name : List ℕ) → place_in index.new name ≡ option_or (place_in index.old name) (cond (spec.is_terminal name content.now) (Some place) None)) }
 {
     match content {
-        Macro::Terminal { name } => add_name(index, name, place),
+        Macro::Terminal { name, .. } => add_name(index, name, place),
+        _ => Ok(()),
+    }
+}
+
+#[tactic(auto, using(system_types::proofs::Indexed::first_none))]
+fn note_format(
+    index: &mut BTreeMap<Name, usize>,
+    content: &Macro,
+    place: usize,
+) -> Result<(), AllocError>
+    ensures { OnOk result ((name : List ℕ) → place_in index.new name ≡ option_or (place_in index.old name) (cond (spec.is_format name content.now) (Some place) None)) }
+{
+    match content {
+        Macro::Format { name, .. } => add_name(index, name, place),
         _ => Ok(()),
     }
 }

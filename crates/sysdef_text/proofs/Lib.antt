@@ -1,4 +1,3 @@
 pub mod Ranges
-pub mod ClassSteps
 pub mod LineCounts
 pub mod FirstLine

@@ -1,9 +1,6 @@
-pub mod Values
-pub mod Pcbs
-pub mod Kinds
-pub mod Rows
 pub mod Places
 pub mod Programs
+pub mod Formats
 pub mod Steps
 pub mod Definitions
 pub mod Ends

@@ -5,12 +5,12 @@ use Rattle.text_rows.specs.Lines.{printable_line}
 use Rattle.text_rows.specs.Lowest.{also}
 use Rattle.text_rows.specs.Operands.{macro_name, macro_operands}
 use Rattle.system_types.specs.declared.definition.Macro.{Macro}
-use Rattle.sysdef_text.specs.declared.kinds.Kind.{Kind}
-use Rattle.sysdef_text.specs.declared.kinds.Kind.TheVariants.{Control, Database, Segment, Application, Pcb, Transaction}
+use Rattle.sysdef_rows.specs.declared.kinds.Kind.{Kind}
+use Rattle.sysdef_rows.specs.declared.kinds.Kind.TheVariants.{Control, Database, Segment, Application, Pcb, Transaction}
 use Rattle.sysdef_text.specs.declared.modes.Mode.{Mode}
 use Rattle.sysdef_text.specs.declared.modes.Mode.TheVariants.{Start, BehindDatabase, BehindApplication, BehindTransaction, Elsewhere}
-use Rattle.sysdef_text.specs.Kinds.{known}
-use Rattle.sysdef_text.specs.Rows.{row, program_name}
+use Rattle.sysdef_rows.specs.Kinds.{known}
+use Rattle.sysdef_rows.specs.Rows.{row, format_name, program_name}
 
 -- what has come behind a macro
 abbrev pub mode_after : Kind → Mode
@@ -40,6 +40,7 @@ control_place Start _ = Err 14
 control_place _ Control = Err 14
 control_place _ _ = Ok tt
 
+-- PROGRAM and FMT stand anywhere behind it.
 abbrev pub program_place : Mode → Result (Unit {0}) ℕ
 program_place Start = Err 14
 program_place _ = Ok tt
@@ -63,3 +64,11 @@ program_line mode over line behind =
 
 abbrev pub is_program : List ℕ → Bool
 is_program line = bytes_eq (macro_name line) (codes "PROGRAM")
+
+-- the name of an FMT, or the lowest rule that its line breaks
+unfoldable pub format_line : Mode → Bool → List ℕ → List (List ℕ) → Result (List ℕ) ℕ
+format_line mode over line behind =
+    also (also (format_name (macro_operands line)) (printable_line line)) (also (program_place mode) (within over behind))
+
+abbrev pub is_format : List ℕ → Bool
+is_format line = bytes_eq (macro_name line) (codes "FMT")

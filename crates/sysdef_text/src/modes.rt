@@ -16,6 +16,8 @@ pub enum Mode {
     Elsewhere,
     /// A PROGRAM whose ENDPROG is still to come.
     InProgram,
+    /// An FMT whose FMTEND is still to come.
+    InFormat,
 }
 
 /// What a line does.

@@ -2,10 +2,9 @@
 ghost use Rattle.std.specs.Prelude.{◌≡◌};
 ghost use Rattle.sysdef_text.specs.Places as spec;
 
-use crate::kinds::known;
-use crate::rows::{program_name, row};
+use crate::Mode;
 use crate::rules::{CONTROL_NOT_FIRST, OUT_OF_PLACE, TEXT_TOO_LONG};
-use crate::{Kind, Mode};
+use sysdef_rows::{Kind, format_name, known, program_name, row};
 use system_types::Macro;
 use text_rows::{also, is_word, printable_line, split_macro};
 use tm_edge::Line;
@@ -102,4 +101,23 @@ pub(crate) fn is_program(line: &[u8]) -> bool
 {
     let (name, _) = split_macro(line);
     is_word(name, b"PROGRAM")
+}
+
+/// The name of an FMT, or the lowest rule that its line breaks.
+#[tactic(auto, unfolding(crate::specs::Places::format_line))]
+pub(crate) fn format_line(mode: Mode, over: bool, line: &[u8], behind: &[Line]) -> Result<Name, u8>
+    ensures { result ≡ spec.format_line mode over line.now behind.now }
+{
+    let (_, operands) = split_macro(line);
+    also(
+        also(format_name(&operands), printable_line(line)),
+        also(program_place(mode), within(over, behind)),
+    )
+}
+
+pub(crate) fn is_format(line: &[u8]) -> bool
+    ensures { result ≡ spec.is_format line.now }
+{
+    let (name, _) = split_macro(line);
+    is_word(name, b"FMT")
 }

@@ -50,7 +50,7 @@ fn lifted_rule(rule: u8) -> u8
     }
 }
 
-fn lower(fault: (u32, u8), other: (u32, u8)) -> (u32, u8)
+pub(crate) fn lower(fault: (u32, u8), other: (u32, u8)) -> (u32, u8)
     ensures { result ≡ spec.lower fault other }
 {
     if fault.0 < other.0 {

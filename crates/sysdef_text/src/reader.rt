@@ -3,18 +3,22 @@ ghost use Rattle.std.specs.Prelude.{◌≡◌, ◌+◌, ◌<◌, ◌^◌, length
 ghost use Rattle.text_rows.specs.Refusals.{Answers};
 ghost use Rattle.sysdef_text.specs.declared.modes.Mode.TheVariants.{Start};
 ghost use Rattle.text_rows.specs.Operands as operands;
-ghost use Rattle.sysdef_text.specs.Kinds as kinds;
+ghost use Rattle.sysdef_rows.specs.Kinds as kinds;
 ghost use Rattle.sysdef_text.specs.Steps as steps;
 ghost use Rattle.sysdef_text.specs.Definitions as spec;
 
-use crate::kinds::kind_of;
-use crate::places::{is_program, macro_line, mode_after, program_line, within};
+use crate::formats::{format_block, is_format_end};
+use crate::places::{
+    format_line, is_format, is_program, macro_line, mode_after, program_line, within,
+};
 use crate::programs::program_block;
 use crate::rules::END_MISSING;
 use crate::source::{TEXT_LIMIT, kept, lines_of};
-use crate::{Kind, Mode, Step};
+use crate::{Mode, Step};
+use mfs_text::stray_rule;
 use script_text::is_last;
 use std::alloc::Global;
+use sysdef_rows::{Kind, kind_of};
 use system_types::{Definition, Macro, MacroLine};
 use text_rows::{LineRefused, is_passed_over, split_macro};
 use tm_edge::Line;
@@ -98,6 +102,8 @@ fn step(
     match mode {
         Mode::InProgram if is_last(line) => Ok(Step::Pass(Mode::Elsewhere)),
         Mode::InProgram => Ok(Step::Pass(mode)),
+        Mode::InFormat if is_format_end(line) => Ok(Step::Pass(Mode::Elsewhere)),
+        Mode::InFormat => Ok(Step::Pass(mode)),
         _ => outside_step(alloc, mode, over, number, line, behind),
     }
 }
@@ -122,7 +128,10 @@ fn outside_step(
     if is_program(line) {
         return program_step(alloc, mode, over, number, line, behind);
     }
-    macro_step(mode, over, number, line, behind)
+    if is_format(line) {
+        return format_step(alloc, mode, over, number, line, behind);
+    }
+    macro_step(alloc, mode, over, number, line, behind)
 }
 
 fn program_step(
@@ -145,7 +154,28 @@ fn program_step(
     }
 }
 
+fn format_step(
+    alloc: Global,
+    mode: Mode,
+    over: bool,
+    number: u32,
+    line: &[u8],
+    behind: &[Line],
+) -> Result<Step, LineRefused>
+    requires { number + 1 + length behind.now < 2 ^ 32 }
+    ensures { Answers result (steps.format_step mode over number line.now behind.now) }
+{
+    match format_line(mode, over, line, behind) {
+        Ok(name) => {
+            let format = format_block(alloc, over, number + 1, behind)?;
+            Ok(Step::Item(Macro::Format { name, format }, Mode::InFormat))
+        }
+        Err(rule) => Err(LineRefused::BadLine(number, rule)),
+    }
+}
+
 fn macro_step(
+    alloc: Global,
     mode: Mode,
     over: bool,
     number: u32,
@@ -157,7 +187,10 @@ fn macro_step(
     let (name, _) = split_macro(line);
     let kind = match kind_of(name) {
         Ok(kind) => kind,
-        Err(rule) => return Err(LineRefused::BadLine(number, rule)),
+        Err(rule) => {
+            let rule = stray_rule(alloc, line)?.unwrap_or(rule);
+            return Err(LineRefused::BadLine(number, rule));
+        }
     };
     match macro_line(kind, mode, over, line, behind) {
         Ok(content) => Ok(placed(kind, content)),

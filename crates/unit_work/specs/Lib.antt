@@ -2,3 +2,4 @@ pub mod Changes
 pub mod Shown
 pub mod TouchRefused
 pub mod BackOut
+pub mod Touching

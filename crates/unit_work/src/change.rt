@@ -32,6 +32,13 @@ pub struct UnitSlot<'a> {
     pub before: &'a RecordImage,
 }
 
+/// What a touch keeps of its record and of its slot: the image, or no rows where there is one already.
+#[derive(Debug, Drop)]
+pub struct Touch {
+    pub record: Change,
+    pub slot: Change,
+}
+
 /// Keeps a change among those of records and of slots; at an Err both stay.
 pub fn keep(
     alloc: Global,
@@ -47,29 +54,46 @@ pub fn keep(
     ensures records_stay { OnErr result (records.new.items ≡ records.old.items) }
     ensures slots_stay { OnErr result (slots.new.items ≡ slots.old.items) }
 {
+    let touch = ready(alloc, records, slots, db, slot, root, before)?;
+    add_change(records, touch.record);
+    add_slot(slots, touch.slot);
+    Ok(())
+}
+
+/// Makes room for one change more of each kind, and what is kept of it. All changes stay.
+pub fn ready(
+    alloc: Global,
+    records: &mut Vec<Change>,
+    slots: &mut Vec<Change>,
+    db: u8,
+    slot: u16,
+    root: Key,
+    before: &RecordImage,
+) -> Result<Touch, Memory>
+    ensures records_stay { records.new.items ≡ records.old.items }
+    ensures slots_stay { slots.new.items ≡ slots.old.items }
+    ensures record_room { OnOk result (vec_len records.new < vec_capacity records.new) }
+    ensures slot_room { OnOk result (vec_len slots.new < vec_capacity slots.new) }
+    ensures record { IfOk result (λ t. with_change t.record records.old.items ≡ with_change (record { db = db; slot = slot; root = root; before = before.now }) records.old.items) }
+    ensures slot { IfOk result (λ t. with_slot t.slot slots.old.items ≡ with_slot (record { db = db; slot = slot; root = root; before = before.now }) slots.old.items) }
+{
     let first = image_unless(alloc, is_changed(records, db, &root), before)?;
     let touched = image_unless(alloc, is_seen(slots, db, slot), before)?;
     records.reserve(1)?;
     slots.reserve(1)?;
-    add_change(
-        records,
-        Change {
-            db,
-            slot,
-            root,
-            before: first,
-        },
-    );
-    add_slot(
-        slots,
-        Change {
-            db,
-            slot,
-            root,
-            before: touched,
-        },
-    );
-    Ok(())
+    let record = Change {
+        db,
+        slot,
+        root,
+        before: first,
+    };
+    let slot = Change {
+        db,
+        slot,
+        root,
+        before: touched,
+    };
+    Ok(Touch { record, slot })
 }
 
 /// Whether the record of this root is among the changes.
@@ -134,7 +158,8 @@ fn change_at(slots: &[Change], place: usize) -> Option<&Change>
     slots.get(place)
 }
 
-fn add_change(records: &mut Vec<Change>, change: Change)
+/// Adds a change of a record, where it isn't changed already.
+pub fn add_change(records: &mut Vec<Change>, change: Change)
     requires { vec_len records.old < vec_capacity records.old }
     ensures { records.new.items ≡ with_change change records.old.items }
 {
@@ -143,7 +168,8 @@ fn add_change(records: &mut Vec<Change>, change: Change)
     }
 }
 
-fn add_slot(slots: &mut Vec<Change>, change: Change)
+/// Adds a touched slot in its place, or sets its root.
+pub fn add_slot(slots: &mut Vec<Change>, change: Change)
     requires { vec_len slots.old < vec_capacity slots.old }
     ensures { slots.new.items ≡ with_slot change slots.old.items }
 {

@@ -5,7 +5,7 @@
 #![tactic(auto)]
 
 pub use change::{Change, UnitSlot};
-pub use unit::{TouchRefused, Unit};
+pub use unit::{Prepared, TouchRefused, Unit};
 
 mod change;
 #[cfg(test)]

@@ -72,6 +72,24 @@ fn touched_slots(rt: HostRuntime) -> Result<(), Fail> {
     Ok(())
 }
 
+// A touch that was made ready is left or kept.
+#[test]
+fn ready_touches(rt: HostRuntime) -> Result<(), Fail> {
+    let alloc = rt.alloc();
+    let none = RecordImage::new(alloc);
+    let Ok(prepared) = Unit::new(alloc).prepare(1, key(b"0001")?, 4, &none) else {
+        return Err("no memory".into());
+    };
+    let unit = prepared.leave();
+    assert_eq!(rt; unit.changes(), 0);
+    let Ok(prepared) = unit.prepare(1, key(b"0001")?, 4, &none) else {
+        return Err("no memory".into());
+    };
+    let unit = prepared.keep();
+    assert_eq!(rt; summary(&unit, 0), Some((1, 4, key(b"0001")?, 0)));
+    Ok(())
+}
+
 // The 33rd record is refused; a record that is changed already isn't.
 #[test]
 fn at_most_32_records(rt: HostRuntime) -> Result<(), Fail> {

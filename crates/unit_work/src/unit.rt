@@ -1,12 +1,12 @@
 //! The changes of a unit of work.
-ghost use Rattle.std.specs.Prelude.{◌≡◌, false, [], length, slice_get, IfErr, OnOk, OnErr};
+ghost use Rattle.std.specs.Prelude.{◌≡◌, false, [], length, slice_get, IfOk, IfErr, OnOk, OnErr};
 ghost use Rattle.std.specs.Option.{option_map};
 ghost use Rattle.std.specs.List.{AllByRecursion};
 ghost use Rattle.unit_work.specs.Changes.{is_full, AreOnce, Pairs};
 ghost use Rattle.unit_work.specs.BackOut.{IsStored, CanGoBack, AreApart, CanBackOut, cleared, backed_from, backed_out, with_record_back};
 ghost use Rattle.unit_work.specs.TouchRefused.{RefusesTouch};
 
-use crate::change::{Change, UnitSlot, is_changed, keep};
+use crate::change::{Change, Touch, UnitSlot, add_change, add_slot, is_changed, keep, ready};
 use seg_rows::RecordImage;
 use seg_store::Stores;
 use std::alloc::Global;
@@ -42,6 +42,59 @@ impl Model for Unit {
     ghost view = { λ u. record { records = u.records.items; slots = u.slots.items } };
 
     ghost invariant = { λ u. AreKept u.records.items };
+}
+
+/// A unit that has all the memory which its next touch takes. The touch is then kept or left.
+#[derive(Debug, Drop)]
+pub struct Prepared {
+    alloc: Global,
+    records: Vec<Change>,
+    slots: Vec<Change>,
+    touch: Touch,
+}
+
+impl Model for Prepared {
+    ghost use Rattle.std.specs.Vec.{vec_len, vec_capacity};
+    ghost use Rattle.unit_work.specs.Changes.{with_change, with_slot};
+    ghost use Rattle.unit_work.specs.Touching.{Touching, HasRoom};
+
+    ghost Value = { Touching };
+
+    ghost view = { λ p. record { unit = record { records = p.records.items; slots = p.slots.items }; touched = record { records = with_change p.touch.record p.records.items; slots = with_slot p.touch.slot p.slots.items } } };
+
+    ghost invariant = { λ p. HasRoom (record { unit = record { records = p.records.items; slots = p.slots.items }; touched = record { records = with_change p.touch.record p.records.items; slots = with_slot p.touch.slot p.slots.items } }) (vec_len p.records) (vec_capacity p.records) (vec_len p.slots) (vec_capacity p.slots) };
+}
+
+impl Prepared {
+    /// Keeps the touch. This takes no memory.
+    pub fn keep(self) -> Unit
+        ensures { result ≡ self.touched }
+    {
+        let Prepared {
+            alloc,
+            mut records,
+            mut slots,
+            touch,
+        } = self;
+        add_change(&mut records, touch.record);
+        add_slot(&mut slots, touch.slot);
+        Unit {
+            alloc,
+            records,
+            slots,
+        }
+    }
+
+    /// The unit without the touch.
+    pub fn leave(self) -> Unit
+        ensures { result ≡ self.unit }
+    {
+        Unit {
+            alloc: self.alloc,
+            records: self.records,
+            slots: self.slots,
+        }
+    }
 }
 
 impl Unit {
@@ -90,6 +143,40 @@ impl Unit {
         ) {
             Ok(()) => Ok(()),
             Err(_) => Err(TouchRefused::Memory),
+        }
+    }
+
+    /// Takes the memory that a touch of this record takes (`touch`), so that it can be kept without any.
+    /// Where there isn't enough, the unit comes back as it was.
+    pub fn prepare(
+        self,
+        db: u8,
+        root: Key,
+        slot: u16,
+        before: &RecordImage,
+    ) -> Result<Prepared, Unit>
+        requires { is_full db root self.records ≡ false }
+        ensures unit { IfOk result (λ p. p.unit ≡ self) }
+        ensures touched { IfOk result (λ p. p.touched ≡ with_touch (record { db = db; slot = slot; root = root; before = before.now }) self) }
+        ensures kept { IfErr result (λ unit. unit ≡ self) }
+    {
+        let Unit {
+            alloc,
+            mut records,
+            mut slots,
+        } = self;
+        match ready(alloc, &mut records, &mut slots, db, slot, root, before) {
+            Ok(touch) => Ok(Prepared {
+                alloc,
+                records,
+                slots,
+                touch,
+            }),
+            Err(_) => Err(Unit {
+                alloc,
+                records,
+                slots,
+            }),
         }
     }
 

@@ -14,7 +14,7 @@ pub databases_in-requires-clause-keys : goal.databases_in-requires-clause-keys
 databases_in-requires-clause-keys c = rw c.deref-2.ensures.value (rule_kept c.args.lines.items 3 (OfSegments KeyTooLong) c.requires.kept refl)
 
 pub databases_in-requires-clause-counts : goal.databases_in-requires-clause-counts
-databases_in-requires-clause-counts c = rw c.deref-2.ensures.value (rule_kept c.args.lines.items 15 WrongCount c.requires.kept refl)
+databases_in-requires-clause-counts c = rw c.deref-2.ensures.value (rule_kept c.args.lines.items 16 WrongCount c.requires.kept refl)
 
 pub databases_in-requires-clause-range : goal.databases_in-requires-clause-range
 databases_in-requires-clause-range c = rw c.deref-2.ensures.value c.requires.definition.in_range
@@ -22,13 +22,13 @@ databases_in-requires-clause-range c = rw c.deref-2.ensures.value c.requires.def
 pub pcb_lists-requires : goal.pcb_lists-requires
 pcb_lists-requires c =
     let made = rw c.deref-2.ensures.value at c.in_ok-databases.ensures in
-    let few = few_databases c.args.lines.items (rule_kept c.args.lines.items 15 WrongCount c.requires.kept refl) in
-    rw (c.deref-6.ensures.value, made) (omega (arith, few))
+    let few = few_databases c.args.lines.items (rule_kept c.args.lines.items 16 WrongCount c.requires.kept refl) in
+    rw (c.deref-7.ensures.value, made) (omega (arith, few))
 
 pub returns : goal.returns
 returns c =
     let made = rw c.deref-2.ensures.value at c.in_ok-databases.ensures in
-    let pcbs = rw (c.deref-6.ensures.value, c.deref-7.ensures.value, made) at c.in_ok-pcbs.ensures in
+    let pcbs = rw (c.deref-7.ensures.value, c.deref-8.ensures.value, made) at c.in_ok-pcbs.ensures in
     let programs : c.in_ok-programs.programs.items ≡ programs_in (databases_in c.args.lines.items) c.args.lines.items c.args.lines.items =
-    (rw pcbs at c.in_ok-programs.ensures) ∙ programs_listed (databases_in c.args.lines.items) c.args.lines.items c.args.lines.items in
+    (rw pcbs at c.in_ok-programs.ensures.programs) ∙ programs_listed (databases_in c.args.lines.items) c.args.lines.items c.args.lines.items in
     rw (made, programs) (grind (arith, common_steps))

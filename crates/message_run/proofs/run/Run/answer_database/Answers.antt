@@ -3,7 +3,7 @@ use Rattle.std.specs.Prelude.{slice_get}
 use Rattle.model_system.specs.declared.pcb.Pcb.TheVariants.{Database}
 use Rattle.model_dli.specs.declared.call.Position.{Position}
 use Rattle.message_run.specs.RunState.{RunState}
-use Rattle.message_run.proofs.Database.{is_db_call, is_numbered, few_types, short_types, has_position, leads, all_answers, all_stand}
+use Rattle.message_run.proofs.Database.{is_db_call, is_numbered, few_types, short_types, has_position, leads, are_free, are_granted, are_blocked, answers, told_stand}
 use Rattle.message_run.proofs.run.Run.answer_database.Goals as goal
 
 pub database_numbered-dbd-requires-clause-most : goal.database_numbered-dbd-requires-clause-most
@@ -28,28 +28,41 @@ pub returns-in-Ok-Abend-clause-ok : goal.returns-in-Ok-Abend-clause-ok
 returns-in-Ok-Abend-clause-ok c =
     let stands : slice_get c.args.self.now.positions (c.args.call.pcb - 1) ≡ Some c.position_of-at.result.now =
     ap (λ (ps : List Position). slice_get ps (c.args.call.pcb - 1)) (sym (ap (λ (r : RunState). r.positions) c.self.view_is) ∙ sym c.deref.ensures.value) ∙ c.position_of-at.ensures in (
+      are_free c.args.system.now c.args.region c.args.databases.now c.args.self.now c.args.call c.args.number c.args.options c.database_numbered-dbd.result.now c.position_of-at.result.now c.database_numbered-dbd.ensures.value stands
+          (rw c.in-Ok-Abend.field-0-is at c.in-Ok-Abend.ensures.blocked),
       refl,
-      rw c.in-Ok-Abend.field-0-is at c.in-Ok-Abend.ensures.leaves,
-      leads c.args.system.now c.args.databases.now c.args.self.now c.args.call c.args.number c.args.options c.database_numbered-dbd.result.now c.position_of-at.result.now c.database_numbered-dbd.ensures.value stands
+      rw c.in-Ok-Abend.field-0-is at c.in-Ok-Abend.ensures.stays,
+      leads c.args.system.now c.args.region c.args.databases.now c.args.self.now c.args.call c.args.number c.args.options c.database_numbered-dbd.result.now c.position_of-at.result.now c.database_numbered-dbd.ensures.value stands
           c.in-Ok-Abend.abend (rw c.in-Ok-Abend.field-0-is at c.in-Ok-Abend.ensures.abend),
+    )
+
+pub returns-in-Ok-Blocked-clause-ok : goal.returns-in-Ok-Blocked-clause-ok
+returns-in-Ok-Blocked-clause-ok c =
+    let stands : slice_get c.args.self.now.positions (c.args.call.pcb - 1) ≡ Some c.position_of-at.result.now =
+    ap (λ (ps : List Position). slice_get ps (c.args.call.pcb - 1)) (sym (ap (λ (r : RunState). r.positions) c.self.view_is) ∙ sym c.deref.ensures.value) ∙ c.position_of-at.ensures in (
+      are_blocked c.args.system.now c.args.region c.args.databases.now c.args.self.now c.args.call c.args.number c.args.options c.database_numbered-dbd.result.now c.position_of-at.result.now c.database_numbered-dbd.ensures.value stands
+          c.call.new.self c.in-Ok-Blocked.blocked.resource c.in-Ok-Blocked.blocked.by (rw c.in-Ok-Blocked.field-0-is at c.in-Ok-Blocked.ensures.blocked) (rw c.in-Ok-Blocked.field-0-is at c.in-Ok-Blocked.ensures.asks),
+      refl,
     )
 
 pub returns-in-Ok-Answered-clause-ok : goal.returns-in-Ok-Answered-clause-ok
 returns-in-Ok-Answered-clause-ok c =
     let stands : slice_get c.args.self.now.positions (c.args.call.pcb - 1) ≡ Some c.position_of-at.result.now =
     ap (λ (ps : List Position). slice_get ps (c.args.call.pcb - 1)) (sym (ap (λ (r : RunState). r.positions) c.self.view_is) ∙ sym c.deref.ensures.value) ∙ c.position_of-at.ensures in
-    all_answers c.args.system.now c.args.databases.now c.args.self.now c.args.call c.args.number c.args.options c.database_numbered-dbd.result.now c.position_of-at.result.now c.database_numbered-dbd.ensures.value stands
-    c.tell_answer.result c.call.new.self c.in-Ok-Answered.answered c.tell_answer.new.self
-    (rw c.in-Ok-Answered.field-0-is at c.in-Ok-Answered.ensures.abend)
-    (rw c.in-Ok-Answered.field-0-is at c.in-Ok-Answered.ensures.gives)
-    (rw c.in-Ok-Answered.field-0-is at c.in-Ok-Answered.ensures.leaves)
-    c.tell_answer.ensures.ok
+    rw (c.tell_answer.ensures.told, c.tell_answer.ensures.state) (
+      are_granted c.args.system.now c.args.region c.args.databases.now c.args.self.now c.args.call c.args.number c.args.options c.database_numbered-dbd.result.now c.position_of-at.result.now c.database_numbered-dbd.ensures.value stands
+          c.call.new.self (rw c.in-Ok-Answered.field-0-is at c.in-Ok-Answered.ensures.blocked) (rw c.in-Ok-Answered.field-0-is at c.in-Ok-Answered.ensures.asks),
+      answers c.args.system.now c.args.region c.args.databases.now c.args.self.now c.args.call c.args.number c.args.options c.database_numbered-dbd.result.now c.position_of-at.result.now c.database_numbered-dbd.ensures.value stands
+          c.call.new.self c.in-Ok-Answered.answered c.requires.region
+          (rw c.in-Ok-Answered.field-0-is at c.in-Ok-Answered.ensures.abend)
+          (rw c.in-Ok-Answered.field-0-is at c.in-Ok-Answered.ensures.gives)
+          (rw c.in-Ok-Answered.field-0-is at c.in-Ok-Answered.ensures.leaves),
+    )
 
 pub returns-in-Ok-Answered-clause-standing : goal.returns-in-Ok-Answered-clause-standing
 returns-in-Ok-Answered-clause-standing c =
-    all_stand c.args.system.now.databases c.args._pcbs.now c.args.self.now c.tell_answer.new.self c.args.call.pcb c.args.number c.args.options c.database_numbered-dbd.result.now c.in-Ok-Answered.answered
-    c.requires.standing c.requires.pcb c.database_numbered-dbd.ensures.value (rw c.in-Ok-Answered.field-0-is at c.in-Ok-Answered.ensures.stands)
-    c.tell_answer.result c.tell_answer.ensures.ok c.tell_answer.ensures.err
+    rw c.tell_answer.ensures.state (told_stand c.args.system.now.databases c.args._pcbs.now c.args.self.now c.args.call.pcb c.args.number c.args.options c.database_numbered-dbd.result.now c.in-Ok-Answered.answered
+    c.requires.standing c.requires.pcb c.database_numbered-dbd.ensures.value (rw c.in-Ok-Answered.field-0-is at c.in-Ok-Answered.ensures.stands))
 
 pub tell_answer-requires-clause-pcbs : goal.tell_answer-requires-clause-pcbs
 tell_answer-requires-clause-pcbs c =

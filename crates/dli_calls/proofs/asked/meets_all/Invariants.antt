@@ -1,8 +1,0 @@
-use Rattle.std.proofs.Common.{◌≡◌, drop}
-use Rattle.model_dli.specs.Search.{meets_ssa}
-use Rattle.std.specs.List.{list_all}
-use Rattle.dli_calls.proofs.asked.meets_all.Given as goal
-
-abbrev pub invariant-loop-ssa : goal.invariant-loop-ssa
-invariant-loop-ssa l =
-    list_all (λ s. meets_ssa l.types s l.path) (drop l.ssa-index l.ssas) ≡ list_all (λ s. meets_ssa l.types s l.path) l.ssas

@@ -1,0 +1,71 @@
+use Rattle.std.proofs.Common.{◌<◌, ◌++◌, ◌∷◌, [], Some, sym, subst, ap, ◌∙◌, append_assoc}
+use Rattle.std.specs.Option.{option_copied}
+use Rattle.std.proofs.lemmas.List.{append-nil}
+use Rattle.tm_types.specs.declared.resource.Mode.TheVariants.{Shared}
+use Rattle.model_rows.specs.Rows.{roots, AreRows}
+use Rattle.model_dli.specs.Footprint.{record_need, sequence_need}
+use Rattle.row_search.specs.Walk.{roots_left}
+use Rattle.row_search.proofs.Needing.{walk, next_fits}
+use Rattle.row_search.proofs.Walking.{fewer_left}
+use Rattle.dli_calls.specs.Along.{keys_behind, keys_from}
+use Rattle.dli_calls.proofs.Naming.{next_keys, walk_ends, walk_goes, closes, goes}
+use Rattle.dli_calls.proofs.footprint.along.Goals as goal
+
+pub loop-next-init : goal.loop-next-init
+loop-next-init g c =
+    let rows = g.R.Rows.rows c.args.rows.now in
+    let valid : AreRows c.args.dbd.now rows = subst (λ d. AreRows d rows) c.requires.rows c.next_root-next.ensures.valid in
+    record {
+      valid = valid;
+      named = ap (λ keys. c.push.new.self ++ walk (next_fits c.args.dbd.now c.args.ssas.now (option_copied c.args.place)) c.args.mode rows keys)
+          (ap (λ o. keys_from o (roots rows)) c.next_root-next.ensures.value
+          ∙ next_keys c.args.dbd.now c.as_slice-hierarchy.ensures.valid rows valid (option_copied c.args.after));
+    }
+
+pub returns-then-has_next-clause-named : goal.returns-then-has_next-clause-named
+returns-then-has_next-clause-named g c =
+    let rows = g.R.Rows.rows c.args.rows.now in
+    let test = next_fits c.args.dbd.now c.args.ssas.now (option_copied c.args.place) in
+    closes c.loop-next.needs c.push-in-Some.new.self (walk test c.args.mode rows (keys_from c.loop-next.next (roots rows))) _ (record_need c.args.mode c.in-Some.root)
+    (c.in_ok-push-2.ensures.ok ∙ ap (λ need. c.loop-next.needs ++ need ∷ []) c.record_need.ensures)
+    (c.loop-next.invariant.named
+    ∙ (ap (λ needs. needs ++ walk test c.args.mode rows (keys_behind (option_copied c.args.after) (roots rows))) (c.in_ok-push.ensures.ok ∙ ap (λ need. c.args.needs.now ++ need ∷ []) c.sequence_need.ensures)
+    ∙ append_assoc c.args.needs.now (sequence_need Shared ∷ []) (walk test c.args.mode rows (keys_behind (option_copied c.args.after) (roots rows)))))
+    (ap (λ o. walk test c.args.mode rows (keys_from o (roots rows))) c.in-Some.is
+    ∙ walk_ends c.args.dbd.now c.as_slice-hierarchy.ensures.valid rows c.loop-next.invariant.valid c.args.ssas.now (option_copied c.args.place) c.args.mode c.in-Some.root
+    (sym c.has_next.ensures.value ∙ c.if-has_next.true))
+
+pub loop-next-smaller : goal.loop-next-smaller
+loop-next-smaller g c =
+    let rows = g.R.Rows.rows c.args.rows.now in
+    let less = fewer_left c.args.dbd.now c.as_slice-hierarchy.ensures.valid rows c.loop-next.invariant.valid c.in-Some.root in
+    let here : roots_left c.next_root-next-in-Some.result rows < roots_left (Some c.in-Some.root) rows =
+    subst (λ o. roots_left o rows < roots_left (Some c.in-Some.root) rows) (sym c.next_root-next-in-Some.ensures.value) less in
+    subst (λ o. roots_left c.next_root-next-in-Some.result rows < roots_left o rows) (sym c.in-Some.is) here
+
+pub loop-next-preserved : goal.loop-next-preserved
+loop-next-preserved g c =
+    let rows = g.R.Rows.rows c.args.rows.now in
+    let test = next_fits c.args.dbd.now c.args.ssas.now (option_copied c.args.place) in
+    record {
+      valid = c.loop-next.invariant.valid;
+      named =
+          goes c.loop-next.needs c.push-in-Some.new.self (walk test c.args.mode rows (keys_from c.loop-next.next (roots rows)))
+          (walk test c.args.mode rows (keys_from c.next_root-next-in-Some.result (roots rows))) _ (record_need c.args.mode c.in-Some.root)
+          (c.in_ok-push-2.ensures.ok ∙ ap (λ need. c.loop-next.needs ++ need ∷ []) c.record_need.ensures)
+          c.loop-next.invariant.named
+          (ap (λ o. walk test c.args.mode rows (keys_from o (roots rows))) c.in-Some.is
+          ∙ (walk_goes c.args.dbd.now c.as_slice-hierarchy.ensures.valid rows c.loop-next.invariant.valid c.args.ssas.now (option_copied c.args.place) c.args.mode c.in-Some.root
+          (sym c.has_next.ensures.value ∙ c.if-has_next.false)
+          ∙ ap (λ o. record_need c.args.mode c.in-Some.root ∷ walk test c.args.mode rows (keys_from o (roots rows))) (sym c.next_root-next-in-Some.ensures.value)));
+    }
+
+pub returns-clause-named : goal.returns-clause-named
+returns-clause-named g c =
+    let rows = g.R.Rows.rows c.args.rows.now in
+    let test = next_fits c.args.dbd.now c.args.ssas.now (option_copied c.args.place) in
+    sym (append-nil c.loop-next.needs)
+    ∙ (sym (ap (λ o. c.loop-next.needs ++ walk test c.args.mode rows (keys_from o (roots rows))) c.in_default.is)
+    ∙ (c.loop-next.invariant.named
+    ∙ (ap (λ needs. needs ++ walk test c.args.mode rows (keys_behind (option_copied c.args.after) (roots rows))) (c.in_ok-push.ensures.ok ∙ ap (λ need. c.args.needs.now ++ need ∷ []) c.sequence_need.ensures)
+    ∙ append_assoc c.args.needs.now (sequence_need Shared ∷ []) (walk test c.args.mode rows (keys_behind (option_copied c.args.after) (roots rows))))))

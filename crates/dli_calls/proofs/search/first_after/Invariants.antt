@@ -1,8 +1,0 @@
-use Rattle.std.proofs.Common.{◌≡◌, drop}
-use Rattle.model_dli.specs.Search.{first_after}
-use Rattle.std.specs.Option.{option_copied}
-use Rattle.dli_calls.proofs.search.first_after.Given as goal
-
-abbrev pub invariant-loop-row : goal.invariant-loop-row
-invariant-loop-row l =
-    first_after l.types l.ssas (option_copied l.place) (drop l.row-index l.rows) ≡ first_after l.types l.ssas (option_copied l.place) l.rows

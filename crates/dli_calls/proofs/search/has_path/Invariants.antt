@@ -1,7 +1,0 @@
-use Rattle.std.proofs.Common.{◌≡◌, drop}
-use Rattle.model_dli.specs.Search.{is_there}
-use Rattle.dli_calls.proofs.search.has_path.Given as goal
-
-abbrev pub invariant-loop-row : goal.invariant-loop-row
-invariant-loop-row l =
-    is_there l.path (drop l.row-index l.rows) ≡ is_there l.path l.rows

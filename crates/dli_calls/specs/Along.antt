@@ -1,0 +1,19 @@
+-- How the records that a search needs are named, key by key.
+use Rattle.std.specs.Prelude.{ℕ, List, [], ◌∷◌, Option, None, Some, flat_map}
+use Rattle.model_rows.specs.declared.row.Row.{Row}
+use Rattle.model_rows.specs.Rows.{record_of}
+use Rattle.model_dli.specs.Footprint.{behind}
+
+-- these roots behind one, or all of them
+abbrev pub keys_behind : Option (List ℕ) → List (List ℕ) → List (List ℕ)
+keys_behind None keys = keys
+keys_behind (Some root) keys = behind root keys
+
+-- a root and those of these that stand behind it
+abbrev pub keys_from : Option (List ℕ) → List (List ℕ) → List (List ℕ)
+keys_from None keys = []
+keys_from (Some root) keys = root ∷ behind root keys
+
+-- the rows of the records of these roots
+abbrev pub records_of : List (List ℕ) → List Row → List Row
+records_of keys rows = flat_map (λ key. record_of key rows) keys

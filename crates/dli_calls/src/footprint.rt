@@ -1,0 +1,223 @@
+//! What a call needs before it is made.
+ghost use Rattle.std.specs.Prelude.{◌≡◌, ◌≤◌, [], ◌++◌, length, IfOk, IfSome, OnOk, is_some};
+ghost use Rattle.std.specs.Option.{option_copied, option_map_or};
+ghost use Rattle.model_rows.specs.Path.{IsPath};
+ghost use Rattle.model_rows.specs.Rows.{record_of, roots, AreRows};
+ghost use Rattle.model_dli.specs.Search.{first_after};
+ghost use Rattle.model_dli.specs.Change.{insert_path};
+ghost use Rattle.model_dli.specs.Conditions.{AreInsertSsas, IsDbCall, IsPosition};
+ghost use Rattle.model_dli.specs.Footprint.{along, onward, search_needs, parent_needs, insert_needs, replace_needs, delete_needs, footprint};
+ghost use Rattle.dli_calls.specs.Along.{keys_behind, records_of};
+
+use crate::calls::is_allowed;
+use crate::change::keeps_key;
+use crate::inserting::insert_root;
+use crate::need_list::{Needs, record_need, sequence_need};
+use model_dli::{DbCall, Position};
+use model_rows::Path;
+use row_search::{asked_root, first_in_record};
+use seg_rows::Rows;
+use std::alloc::Global;
+use tm_types::{Dbd, Function, Key, Memory, Mode, SegTypes, Ssa};
+
+/// What a call needs before it is made on the rows of a database, by a PCB that stands at `position`, in
+/// the order in which it asks: the records that it looks at or changes, and where it looks for a root, or
+/// adds or removes one, the sequence of the roots. `Memory` is the only refusal.
+///
+/// Gets share what they need, but with hold have their records alone; ISRT, REPL and DLET have all alone.
+/// A call that the PCB's options don't allow needs nothing.
+pub fn needs<R: Rows>(
+    alloc: Global,
+    dbd: &Dbd,
+    call: &DbCall,
+    position: &Position,
+    rows: &R,
+) -> Result<Needs, Memory>
+    requires types { length dbd.now.types ≤ 255 }
+    requires rows { R.database rows.now ≡ dbd.now }
+    requires call { IsDbCall dbd.now.types call.now }
+    requires position { IsPosition dbd.now.types position.now }
+    ensures { IfOk result (λ needs. needs ≡ footprint dbd.now call.now position.now (R.rows rows.now)) }
+{
+    if !is_allowed(call.function, call.options) {
+        return Ok(Needs::new(alloc));
+    }
+    let at = position.position.as_ref();
+    match call.function {
+        Function::GU => search_needs(alloc, Mode::Shared, dbd, call, None, rows),
+        Function::GN => search_needs(alloc, Mode::Shared, dbd, call, at, rows),
+        Function::GNP => parent_needs(alloc, Mode::Shared, dbd, position),
+        Function::GHU => search_needs(alloc, Mode::Exclusive, dbd, call, None, rows),
+        Function::GHN => search_needs(alloc, Mode::Exclusive, dbd, call, at, rows),
+        Function::GHNP => parent_needs(alloc, Mode::Exclusive, dbd, position),
+        Function::ISRT => insert_needs(alloc, dbd, call),
+        Function::REPL => replace_needs(alloc, dbd, call, position),
+        Function::DLET => delete_needs(alloc, dbd, position),
+        Function::PURG => unreachable!(),
+        Function::CHNG => unreachable!(),
+        Function::ROLB => unreachable!(),
+        Function::ROLL => unreachable!(),
+    }
+}
+
+/// GU and GN: the one record for whose root the first argument asks, or what a search needs.
+fn search_needs<R: Rows>(
+    alloc: Global,
+    mode: Mode,
+    dbd: &Dbd,
+    call: &DbCall,
+    place: Option<&Path>,
+    rows: &R,
+) -> Result<Needs, Memory>
+    requires types { length dbd.now.types ≤ 255 }
+    requires rows { R.database rows.now ≡ dbd.now }
+    requires place { IfSome (option_copied place) (IsPath dbd.now.types) }
+    ensures { IfOk result (λ needs. needs ≡ search_needs mode dbd.now call.now (option_copied place.entry) (R.rows rows.now)) }
+{
+    let ssas = call.ssas.as_slice();
+    match asked_root(&dbd.types, ssas) {
+        Some(root) => Needs::of(alloc, &[record_need(mode, root)]),
+        None => onward(alloc, mode, dbd, ssas, place, rows),
+    }
+}
+
+/// A search: the record of the place, and where that doesn't have the row, those behind it.
+fn onward<R: Rows>(
+    alloc: Global,
+    mode: Mode,
+    dbd: &Dbd,
+    ssas: &[Ssa],
+    place: Option<&Path>,
+    rows: &R,
+) -> Result<Needs, Memory>
+    requires types { length dbd.now.types ≤ 255 }
+    requires rows { R.database rows.now ≡ dbd.now }
+    requires place { IfSome (option_copied place) (IsPath dbd.now.types) }
+    ensures { IfOk result (λ needs. needs ≡ onward mode (option_copied place.entry) (first_after dbd.now.types ssas.now (option_copied place.entry) (R.rows rows.now)) (roots (R.rows rows.now))) }
+{
+    let _hierarchy = dbd.types.as_slice();
+    let mut needs = Needs::new(alloc);
+    let Some(path) = place else {
+        along(mode, dbd, ssas, place, None, rows, &mut needs)?;
+        return Ok(needs);
+    };
+    let Some(root) = path.root() else {
+        unreachable!()
+    };
+    needs.push(record_need(mode, root))?;
+    if has_next(&dbd.types, ssas, place, rows, &root) {
+        return Ok(needs);
+    }
+    along(mode, dbd, ssas, place, Some(&root), rows, &mut needs)?;
+    Ok(needs)
+}
+
+/// Whether the record of this root has a row after the place that fits.
+fn has_next<R: Rows>(
+    types: &SegTypes,
+    ssas: &[Ssa],
+    place: Option<&Path>,
+    rows: &R,
+    root: &Key,
+) -> bool
+    requires { length types.now ≤ 255 }
+    ensures value { result ≡ is_some (first_after types.now ssas.now (option_copied place.entry) (record_of root.now (R.rows rows.now))) }
+    ensures valid { AreRows (R.database rows.now) (R.rows rows.now) }
+{
+    first_in_record(types, ssas, place, rows, root).is_some()
+}
+
+/// Adds the sequence, and the records behind a root, or from the first, up to the one that has the row.
+fn along<R: Rows>(
+    mode: Mode,
+    dbd: &Dbd,
+    ssas: &[Ssa],
+    place: Option<&Path>,
+    after: Option<&Key>,
+    rows: &R,
+    needs: &mut Needs,
+) -> Result<(), Memory>
+    requires types { length dbd.now.types ≤ 255 }
+    requires rows { R.database rows.now ≡ dbd.now }
+    ensures named { OnOk result (needs.new ≡ needs.old ++ along mode (first_after dbd.now.types ssas.now (option_copied place.entry) (records_of (keys_behind (option_copied after.entry) (roots (R.rows rows.now))) (R.rows rows.now))) (keys_behind (option_copied after.entry) (roots (R.rows rows.now)))) }
+    ensures valid { OnOk result (AreRows dbd.now (R.rows rows.now)) }
+{
+    let _hierarchy = dbd.types.as_slice();
+    needs.push(sequence_need(Mode::Shared))?;
+    let mut next = rows.next_root(after);
+    while let Some(root) = next {
+        needs.push(record_need(mode, root))?;
+        if has_next(&dbd.types, ssas, place, rows, &root) {
+            return Ok(());
+        }
+        next = rows.next_root(Some(&root));
+    }
+    Ok(())
+}
+
+/// GNP: the record of the parentage.
+fn parent_needs(alloc: Global, mode: Mode, dbd: &Dbd, at: &Position) -> Result<Needs, Memory>
+    requires { IsPosition dbd.now.types at.now }
+    ensures { IfOk result (λ needs. needs ≡ parent_needs mode at.now) }
+{
+    let Some(parent) = &at.parentage else {
+        return Ok(Needs::new(alloc));
+    };
+    let Some(root) = parent.root() else {
+        unreachable!()
+    };
+    Needs::of(alloc, &[record_need(mode, root)])
+}
+
+/// ISRT: the record of the new segment; before it, where that is a root, the sequence.
+fn insert_needs(alloc: Global, dbd: &Dbd, call: &DbCall) -> Result<Needs, Memory>
+    requires types { length dbd.now.types ≤ 255 }
+    requires ssas { AreInsertSsas dbd.now.types 0 call.now.ssas }
+    ensures { IfOk result (λ needs. needs ≡ insert_needs (insert_path dbd.now.types call.now.ssas call.now.area)) }
+{
+    let ssas = call.ssas.as_slice();
+    let root = insert_root(&dbd.types, call.area.as_slice(), ssas);
+    let record = record_need(Mode::Exclusive, root);
+    if ssas.len() == 1 {
+        Needs::of(alloc, &[sequence_need(Mode::Exclusive), record])
+    } else {
+        Needs::of(alloc, &[record])
+    }
+}
+
+/// REPL: the record of the segment that was got with hold, unless the data has another key.
+fn replace_needs(alloc: Global, dbd: &Dbd, call: &DbCall, at: &Position) -> Result<Needs, Memory>
+    requires { IsPosition dbd.now.types at.now }
+    ensures { IfOk result (λ needs. needs ≡ option_map_or (replace_needs dbd.now.types call.now.area) at.now.hold []) }
+{
+    let Some(held) = &at.hold else {
+        return Ok(Needs::new(alloc));
+    };
+    if !keeps_key(&dbd.types, held, call.area.as_slice()) {
+        return Ok(Needs::new(alloc));
+    }
+    let Some(root) = held.root() else {
+        unreachable!()
+    };
+    Needs::of(alloc, &[record_need(Mode::Exclusive, root)])
+}
+
+/// DLET: the record of the segment that was got with hold; behind it, where that is a root, the
+/// sequence.
+fn delete_needs(alloc: Global, dbd: &Dbd, at: &Position) -> Result<Needs, Memory>
+    requires { IsPosition dbd.now.types at.now }
+    ensures { IfOk result (λ needs. needs ≡ option_map_or delete_needs at.now.hold []) }
+{
+    let Some(held) = &at.hold else {
+        return Ok(Needs::new(alloc));
+    };
+    let Some(root) = held.root() else {
+        unreachable!()
+    };
+    let record = record_need(Mode::Exclusive, root);
+    if held.len() == 1 {
+        Needs::of(alloc, &[record, sequence_need(Mode::Exclusive)])
+    } else {
+        Needs::of(alloc, &[record])
+    }
+}

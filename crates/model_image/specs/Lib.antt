@@ -1,0 +1,10 @@
+pub mod Areas
+pub mod Cut
+pub mod Faults
+pub mod States
+pub mod Snapshot
+pub mod Replay
+pub mod Steps
+pub mod Slots
+pub mod Recovered
+pub mod Counters

@@ -1,0 +1,184 @@
+-- The slots of the databases: which record speaks for each, and what else its sector spells.
+use Rattle.std.specs.Prelude.{ℕ, zero, suc, ◌+◌, ◌-◌, Bool, true, false, not, ◌&&◌, ◌||◌, nat_lt, nat_le, ◌==◌, List, [], ◌∷◌, ◌++◌, length, take, drop, map, reverse, filter, find, slice_get, Option, Some, None, Result, if◌then◌else◌}
+use Rattle.std.specs.Option.{is_some, option_map, option_or, unwrap_or}
+use Rattle.std.specs.List.{list_any}
+use Rattle.tm_types.specs.declared.dbd.Dbd.{Dbd}
+use Rattle.tm_types.specs.declared.dbd.SegType.{SegType}
+use Rattle.model_disk.specs.Disk.{Image, sector_at}
+use Rattle.model_system.specs.System.{System}
+use Rattle.model_rows.specs.declared.row.Row.{Row}
+use Rattle.model_rows.specs.Reading.{next_row}
+use Rattle.model_rows.specs.Record.{record_limit}
+use Rattle.log_records.specs.declared.record.Record.{Record}
+use Rattle.log_records.specs.declared.record.Record.TheVariants.{SyncPoint, Change}
+use Rattle.restart_data.specs.Fields.{number2_at, are_zeros}
+use Rattle.seg_store.specs.Slots.{is_free, image_root, has_root, rows_of_slots}
+use Rattle.model_image.specs.Areas.{data_first}
+use Rattle.model_image.specs.Faults.{Fault, unless_fault}
+
+-- ---- bytes and rows
+
+-- a row that bytes begin with behind the byte of its type, and then the others
+abbrev pub from_row : (List (ℕ × List ℕ) → List ℕ → Option (List Row)) → List ℕ → Option Row → Option (List Row)
+from_row others bytes None = None
+from_row others bytes (Some row) = option_map (λ rows. row ∷ rows) (others row.path (drop (length row.bytes) bytes))
+
+-- the rows that bytes spell one after another, behind a row of this path: at most so many
+abbrev pub rows_by : ℕ → List SegType → List (ℕ × List ℕ) → List ℕ → Option (List Row)
+rows_by n types last [] = Some []
+rows_by zero types last (byte ∷ bytes) = None
+rows_by (suc n) types last (byte ∷ bytes) = from_row (rows_by n types) bytes (next_row types last (byte ∷ bytes))
+
+-- the rows that a slot's bytes spell, of a record or of none
+unfoldable pub rows_of_bytes : Dbd → List ℕ → Option (List Row)
+rows_of_bytes dbd bytes = if nat_le (length bytes) (record_limit dbd) then rows_by (length bytes) dbd.types [] bytes else None
+
+abbrev pub is_image : Dbd → List ℕ → Bool
+is_image dbd bytes = is_some (rows_of_bytes dbd bytes)
+
+-- a change is of a slot that is there, and both of its images spell a record or none
+abbrev pub are_images : ℕ → List ℕ → List ℕ → Option Dbd → Bool
+are_images slot before after None = false
+are_images slot before after (Some dbd) = nat_lt slot dbd.roots && is_image dbd before && is_image dbd after
+
+-- databases are numbered from 1
+abbrev pub dbd_at : System → ℕ → Option Dbd
+dbd_at system database = if database == 0 then None else slice_get system.databases (database - 1)
+
+abbrev pub is_image_of : System → Record → Bool
+is_image_of system (Change unit database slot before after) = are_images slot before after (dbd_at system database)
+is_image_of system _ = true
+
+-- ---- which record speaks for a slot
+
+-- a change of a slot
+abbrev pub is_change_of : ℕ → ℕ → Record → Bool
+is_change_of database slot (Change unit d s before after) = (d == database) && (s == slot)
+is_change_of database slot _ = false
+
+-- the records have the sync point of this unit
+abbrev pub is_sync_point_of : ℕ → Record → Bool
+is_sync_point_of unit (SyncPoint u pad) = u == unit
+is_sync_point_of unit _ = false
+
+-- a change whose unit reached its sync point in this log
+abbrev pub is_synced : List Record → Record → Bool
+is_synced log (Change unit database slot before after) = list_any (is_sync_point_of unit) log
+is_synced log _ = false
+
+abbrev pub before_image : Record → List ℕ
+before_image (Change unit database slot before after) = before
+before_image _ = []
+
+abbrev pub after_image : Record → List ℕ
+after_image (Change unit database slot before after) = after
+after_image _ = []
+
+-- What the records of a snapshot and of the log behind it say of a slot: what the last change left whose unit
+-- reached its sync point; else what stood there before the first; and nothing where there is no change of it.
+unfoldable pub named_by : List Record → List Record → ℕ → ℕ → Option (List ℕ)
+named_by snapshot log database slot =
+    let changes = filter (is_change_of database slot) (snapshot ++ log) in
+    option_or
+    (option_map after_image (find (is_synced log) (reverse changes)))
+    (option_map before_image (slice_get changes 0))
+
+-- ---- what a data sector spells
+
+-- how many bytes it says it holds, those bytes, and zeros behind them
+abbrev pub used_in : List ℕ → ℕ
+used_in sector = number2_at 0 sector
+
+abbrev pub bytes_in : List ℕ → List ℕ
+bytes_in sector = take (used_in sector) (drop 2 sector)
+
+-- ---- slots
+
+-- what a slot's bytes are taken from: the records that name it, or its sector
+pub data Source : Type 0 where
+  Named : List ℕ → Source
+  Spelled : List ℕ → Source
+
+abbrev pub source_of : Option (List ℕ) → List ℕ → Source
+source_of (Some bytes) sector = Named bytes
+source_of None sector = Spelled sector
+
+-- a slot of a database as an image has it, with the place of its sector
+pub record Slot : Type 0 where
+  pub dbd : Dbd
+  pub place : ℕ
+  pub source : Source
+
+-- 20: its length or the bytes behind it; 21: no record. A sector whose slot a record names isn't looked at.
+abbrev pub is_wrong_length : Source → Bool
+is_wrong_length (Named bytes) = false
+is_wrong_length (Spelled sector) = nat_lt 4000 (used_in sector) || not (are_zeros (drop (2 + used_in sector) sector))
+
+abbrev pub is_no_record : Dbd → Source → Bool
+is_no_record dbd (Named bytes) = false
+is_no_record dbd (Spelled sector) = not (is_image dbd (bytes_in sector))
+
+abbrev pub has_wrong_length : Slot → Bool
+has_wrong_length slot = is_wrong_length slot.source
+
+abbrev pub has_no_record : Slot → Bool
+has_no_record slot = is_no_record slot.dbd slot.source
+
+-- the rows of a slot
+abbrev pub bytes_from : Source → List ℕ
+bytes_from (Named bytes) = bytes
+bytes_from (Spelled sector) = bytes_in sector
+
+abbrev pub rows_in : Slot → List Row
+rows_in slot = unwrap_or (rows_of_bytes slot.dbd (bytes_from slot.source)) []
+
+-- 22: a later slot has the same root
+abbrev pub have_one_root : Slot → Slot → Bool
+have_one_root slot other = not (is_free (rows_in slot)) && has_root (image_root (rows_in slot)) (rows_in other)
+
+abbrev pub first_shared : List Slot → Option Slot
+first_shared [] = None
+first_shared (slot ∷ slots) = if list_any (have_one_root slot) slots then Some slot else first_shared slots
+
+-- the slots of a database from one on, so many
+abbrev pub slots_by : (ℕ → Slot) → ℕ → ℕ → List Slot
+slots_by slot zero number = []
+slots_by slot (suc n) number = slot number ∷ slots_by slot n (number + 1)
+
+abbrev pub slot_in : Image → List Record → List Record → Dbd → ℕ → ℕ → ℕ → Slot
+slot_in image snapshot log dbd first database number = record {
+  dbd = dbd;
+  place = first + number;
+  source = source_of (named_by snapshot log database number) (sector_at image (first + number));
+}
+
+-- the slots of the databases from one on, which has this place
+unfoldable pub all_slots : System → Image → List Record → List Record → ℕ → List Dbd → List (List Slot)
+all_slots system image snapshot log place [] = []
+all_slots system image snapshot log place (dbd ∷ dbds) =
+    slots_by (slot_in image snapshot log dbd (data_first system place) (place + 1)) dbd.roots 0 ∷ all_slots system image snapshot log (place + 1) dbds
+
+-- the first slot that breaks a rule
+abbrev pub fault_of : ℕ → Option Slot → Option Fault
+fault_of rule slot = option_map (λ s. (rule, s.place)) slot
+
+abbrev pub first_in : (List Slot → Option Slot) → List (List Slot) → Option Slot
+first_in test [] = None
+first_in test (slots ∷ databases) = option_or (test slots) (first_in test databases)
+
+-- the lowest rule that a slot breaks, and the first slot that does
+abbrev pub slot_fault : List (List Slot) → Option Fault
+slot_fault databases =
+    option_or (fault_of 20 (first_in (find has_wrong_length) databases))
+    (option_or (fault_of 21 (first_in (find has_no_record) databases))
+    (fault_of 22 (first_in first_shared databases)))
+
+-- the rows of each database
+abbrev pub rows_of : List (List Slot) → List (List Row)
+rows_of databases = map (λ slots. rows_of_slots (map rows_in slots)) databases
+
+-- the rows of the databases of an image, unless a slot breaks a rule
+abbrev pub rows_from : System → Image → List Record → List Record → Result (List (List Row)) Fault
+rows_from system image snapshot log =
+    let databases = all_slots system image snapshot log 0 system.databases in
+    unless_fault (slot_fault databases) (rows_of databases)

@@ -1,0 +1,69 @@
+-- The rules that what lasts keeps, by their numbers in an image.
+use Rattle.std.specs.Prelude.{ℕ, ◌+◌, Bool, true, not, ◌&&◌, ◌||◌, nat_lt, nat_le, ◌==◌, List, [], ◌∷◌, length}
+use Rattle.std.specs.Option.{is_some}
+use Rattle.std.specs.List.{list_all, list_any}
+use Rattle.std.specs.Str.{bytes_eq}
+use Rattle.tm_types.specs.declared.message.Message.{Message}
+use Rattle.tm_types.specs.declared.message.Reply.{Reply}
+use Rattle.model_system.specs.System.{System}
+use Rattle.model_system.specs.Codes.{code_at}
+use Rattle.model_queues.specs.Room.{messages_bytes}
+use Rattle.model_queues.specs.Outputs.{outputs_bytes}
+use Rattle.model_machine.specs.declared.lasting.CodeSetting.{CodeSetting}
+use Rattle.model_machine.specs.Machine.{LastingState}
+
+-- a terminal of the system, and a code
+abbrev pub is_terminal : System → List ℕ → Bool
+is_terminal system name = list_any (λ terminal. bytes_eq terminal name) system.terminals
+
+abbrev pub is_code : System → List ℕ → Bool
+is_code system name = is_some (code_at system.codes name)
+
+-- a number that may be counted on
+abbrev pub is_small : ℕ → Bool
+is_small n = nat_lt n 2000000000000000000
+
+-- a number that is the next one: from 1
+abbrev pub is_next : ℕ → Bool
+is_next n = not (n == 0) && is_small n
+
+-- 12: each number is in its range
+abbrev pub is_setting : CodeSetting → Bool
+is_setting code = nat_le 1 code.class && nat_le code.class 255 && nat_le code.priority 14
+
+abbrev pub wrong_values : LastingState → Bool
+wrong_values lasting =
+    not (is_next lasting.next_id && is_small lasting.steps && list_all (λ terminal. is_small terminal.last) lasting.terminals && list_all (λ terminal. is_next terminal.next) lasting.outputs && list_all is_setting lasting.codes)
+
+-- 13: ids ascend, below the next one
+abbrev pub ascend_below : ℕ → List Message → Bool
+ascend_below next [] = true
+ascend_below next (message ∷ []) = nat_lt message.id next
+ascend_below next (message ∷ later ∷ messages) = nat_lt message.id later.id && ascend_below next (later ∷ messages)
+
+abbrev pub wrong_ids : LastingState → Bool
+wrong_ids lasting = not (ascend_below lasting.next_id lasting.messages)
+
+-- 14: each message comes from a terminal and goes to a code. None belongs to a conversation, as no code has one.
+abbrev pub is_known : System → Message → Bool
+is_known system message = is_terminal system message.origin && is_code system message.code && not message.conversation
+
+abbrev pub unknown_messages : System → LastingState → Bool
+unknown_messages system lasting = not (list_all (is_known system) lasting.messages)
+
+-- 15: a terminal's replies have numbers from 1 on that follow one another up to its next one
+abbrev pub run_up_to : ℕ → List Reply → Bool
+run_up_to next [] = true
+run_up_to next (reply ∷ replies) = not (reply.number == 0) && (reply.number + length (reply ∷ replies) == next) && run_up_to next replies
+
+abbrev pub wrong_replies : LastingState → Bool
+wrong_replies lasting = not (list_all (λ terminal. run_up_to terminal.next terminal.replies) lasting.outputs)
+
+-- 16: the messages and replies have room
+abbrev pub over_full : System → LastingState → Bool
+over_full system lasting = nat_lt system.qbytes (messages_bytes lasting.messages + outputs_bytes lasting.outputs)
+
+-- any of these
+abbrev pub breaks_a_rule : System → LastingState → Bool
+breaks_a_rule system lasting =
+    wrong_values lasting || wrong_ids lasting || unknown_messages system lasting || wrong_replies lasting || over_full system lasting

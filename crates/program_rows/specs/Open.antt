@@ -1,0 +1,77 @@
+-- The open units of the regions: the records that each has changed, and what backing them out leaves.
+use Rattle.std.specs.Prelude.{◌≡◌, ◌≢◌, ℕ, ◌-◌, ◌<◌, ◌≤◌, ◌⊎◌, true, List, [], ◌∷◌, None, Some, length, suc, map, slice_get, slice_index_or, slice_set}
+use Rattle.std.specs.List.{AllByRecursion}
+use Rattle.std.specs.Option.{option_map_or}
+use Rattle.tm_types.specs.declared.resource.Resource.{Resource}
+use Rattle.tm_types.specs.declared.resource.Mode.TheVariants.{Exclusive}
+use Rattle.model_rows.specs.declared.row.Row.{Row}
+use Rattle.model_enqueue.specs.Table.{EnqueueTable}
+use Rattle.pi_enqueue.specs.Kept.{IsKept, held}
+use Rattle.seg_store.specs.Slots.{Stored, AreSlots, has_root}
+use Rattle.unit_work.specs.declared.change.Change.{Change}
+use Rattle.unit_work.specs.Changes.{Changes, AreKept}
+use Rattle.unit_work.specs.BackOut.{backed_out, CanBackOut}
+use Rattle.program_rows.specs.State.{DatabasesState, RegionRows, roots_of, rows_of}
+
+-- the records that each unit has changed
+abbrev pub records_of : List Changes → List (List Change)
+records_of units = map (λ u. u.records) units
+
+-- the stores with all these units backed out
+abbrev pub backed_all : List (List Change) → List Stored → List Stored
+backed_all [] stores = stores
+backed_all (records ∷ units) stores = backed_out records (backed_all units stores)
+
+-- what the unit at this place sees: the stores with all others backed out
+abbrev pub seen_by : ℕ → List (List Change) → List Stored → List Stored
+seen_by place units stores = backed_all (slice_set units place []) stores
+
+-- so for each of these units, the first of them at this place
+abbrev pub regions_from : ℕ → List (List Change) → List (List Change) → List Stored → List RegionRows
+regions_from place [] all stores = []
+regions_from place (records ∷ units) all stores =
+    record { rows = rows_of (seen_by place all stores); changed = roots_of records } ∷ regions_from (suc place) units all stores
+
+-- the databases with these open units
+abbrev pub opened : List (List Change) → List Stored → EnqueueTable → DatabasesState
+opened units stores table = record {
+  committed = backed_all units stores;
+  stores = stores;
+  regions = regions_from 0 units units stores;
+  table = table;
+}
+
+-- the image in a slot of the database of this number
+abbrev pub slots_at : ℕ → List Stored → List (List Row)
+slots_at db stores = option_map_or (λ s. s.slots) (slice_get stores (db - 1)) []
+
+abbrev pub image_at : ℕ → ℕ → List Stored → List Row
+image_at db slot stores = slice_index_or (slots_at db stores) slot []
+
+-- the region has the resource alone
+abbrev pub HoldsAlone : EnqueueTable → ℕ → Resource → Type 0
+HoldsAlone table region resource = held region resource table.holds ≡ Some Exclusive
+
+-- a changed record that was there and still is, in the slot that it had
+pub record StaysInSlot (stores : List Stored) (c : Change) : Type 0 where
+  pub was : c.before ≢ []
+  pub is : has_root c.root (image_at c.db c.slot stores) ≡ true
+
+-- of any other changed record, which came, went or moved, the region has the sequence of the database alone
+abbrev pub Sits : EnqueueTable → List Stored → ℕ → Change → Type 0
+Sits table stores region c = StaysInSlot stores c ⊎ HoldsAlone table region (record { db = c.db; root = None })
+
+-- an open unit: it can be backed out, and its region has each record alone that it changed
+pub record IsUnit (table : EnqueueTable) (stores : List Stored) (region : ℕ) (records : List Change) : Type 0 where
+  pub can : CanBackOut records stores
+  pub kept : AreKept records
+  pub alone : AllByRecursion (λ c. HoldsAlone table region (record { db = c.db; root = Some c.root })) records
+  pub sits : AllByRecursion (Sits table stores region) records
+
+-- open units, the first of them in region 1
+pub record AreUnits (units : List (List Change)) (stores : List Stored) (table : EnqueueTable) : Type 0 where
+  pub valid : AllByRecursion (λ s. AreSlots s.dbd s.slots) stores
+  pub compatible : IsKept table
+  pub count : length units ≡ table.regions
+  pub numbered : AllByRecursion (λ hold. 1 ≤ hold.0.resource.db) table.holds
+  pub each : (place : ℕ) → place < length units → IsUnit table stores (suc place) (slice_index_or units place [])

@@ -1,0 +1,10 @@
+pub mod Zeros
+pub mod Numbers
+pub mod Sealing
+pub mod RestartBack
+pub mod SnapshotBack
+pub mod Answering
+pub mod Judging
+pub mod Gathering
+pub mod Laying
+pub mod ImageLaws

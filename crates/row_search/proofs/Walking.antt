@@ -1,0 +1,81 @@
+-- A search that goes from record to record finds the first row of the whole list.
+use Rattle.std.proofs.Common.{◌≡◌, ℕ, ◌<◌, ◌≤◌, ◌∷◌, [], List, length, refl, sym, ◌∙◌, ap, subst, Bool, true, false, cond, ◌&&◌, Option, None, Some, arith, suc}
+use Rattle.std.specs.List.{AllByRecursion, filter, find}
+use Rattle.std.specs.Option.{IfSome, option_map}
+use Rattle.std.specs.Ordering.{is_lt}
+use Rattle.std.proofs.lemmas.Cmp.{tied_itself}
+use Rattle.tm_types.specs.declared.dbd.Dbd.{Dbd}
+use Rattle.tm_types.specs.declared.ssa.Ssa.{Ssa}
+use Rattle.tm_types.specs.SegTypes.{IsHierarchy}
+use Rattle.model_rows.specs.declared.row.Row.{Row}
+use Rattle.model_rows.specs.Path.{key_cmp, root_of, IsPath}
+use Rattle.model_rows.specs.Row.{IsRow}
+use Rattle.model_rows.specs.Rows.{record_of, rows_after, next_root, AreRows}
+use Rattle.model_rows.proofs.Order.{key_total}
+use Rattle.model_rows.proofs.Lists.{all_then}
+use Rattle.model_rows.proofs.Filters.{filter_within}
+use Rattle.model_rows.proofs.Records.{is_lt-true}
+use Rattle.model_dli.specs.Search.{is_after, fits, first_after}
+use Rattle.model_dli.specs.Get.{asked_root}
+use Rattle.row_search.specs.Walk.{first_root, rows_from, roots_left}
+use Rattle.row_search.proofs.Finding.{find_front, find_back, find_head, find_passes}
+use Rattle.row_search.proofs.Rising.{rows_rising, from_root, after_root, all_from, next_is_first}
+use Rattle.row_search.proofs.Places.{after_in_later, asked_in_record}
+
+module _ (dbd : Dbd) (all : IsHierarchy dbd.types) (rows : List Row) (valid : AreRows dbd rows) where
+  pub row_paths : AllByRecursion (λ row. IsPath dbd.types row.path) rows
+  row_paths = all_then (IsRow dbd.types rows) (λ row. IsPath dbd.types row.path) rows (λ row h. h.path) valid.each
+
+  -- one root that is asked for is looked at alone
+  pub asked_alone : (ssas : List Ssa) (place : Option (List (ℕ × List ℕ))) (key : List ℕ) → asked_root dbd.types ssas ≡ Some key
+      → first_after dbd.types ssas place (record_of key rows) ≡ first_after dbd.types ssas place rows
+  asked_alone ssas place key e = asked_in_record dbd.types all ssas place key rows row_paths e
+
+  -- the search begins at the record of the place
+  pub search_starts : (ssas : List Ssa) (place : Option (List (ℕ × List ℕ))) → IfSome place (IsPath dbd.types)
+      → first_after dbd.types ssas place (rows_from (first_root place rows) rows) ≡ first_after dbd.types ssas place rows
+  search_starts ssas None h = ap (first_after dbd.types ssas None) (all_from dbd all rows valid)
+  search_starts ssas (Some path) h = after_in_later dbd.types all ssas path rows h row_paths
+
+  -- it ends in the record that has the row
+  pub search_ends : (ssas : List Ssa) (place : Option (List (ℕ × List ℕ))) (root : List ℕ) (row : Row) → first_after dbd.types ssas place (record_of root rows) ≡ Some row
+      → first_after dbd.types ssas place (rows_from (Some root) rows) ≡ Some row
+  search_ends ssas place root row e =
+      ap (first_after dbd.types ssas place) (from_root root rows (rows_rising dbd all rows valid))
+      ∙ find_front (λ r. is_after place r.path && fits dbd.types ssas r.path) (record_of root rows) (rows_after root rows) row e
+
+  -- else it goes on to the next root
+  pub search_goes : (ssas : List Ssa) (place : Option (List (ℕ × List ℕ))) (root : List ℕ) → first_after dbd.types ssas place (record_of root rows) ≡ None
+      → first_after dbd.types ssas place (rows_from (next_root rows (Some root)) rows) ≡ first_after dbd.types ssas place (rows_from (Some root) rows)
+  search_goes ssas place root e =
+      sym (ap (first_after dbd.types ssas place) (from_root root rows (rows_rising dbd all rows valid))
+      ∙ (find_back (λ r. is_after place r.path && fits dbd.types ssas r.path) (record_of root rows) (rows_after root rows) e
+      ∙ ap (first_after dbd.types ssas place) (after_root dbd all rows valid root)))
+
+  -- and less is left
+  pub fewer_left : (root : List ℕ) → roots_left (next_root rows (Some root)) rows < roots_left (Some root) rows
+  fewer_left root = by (find (λ r. is_lt (key_cmp root (root_of r.path))) rows) refl
+    where
+      by : (o : Option Row) → find (λ r. is_lt (key_cmp root (root_of r.path))) rows ≡ o → roots_left (next_root rows (Some root)) rows < roots_left (Some root) rows
+      by None e =
+          subst (λ o. roots_left o rows < roots_left (Some root) rows) (sym (next_is_first dbd all rows valid root ∙ ap (option_map (λ r. root_of r.path)) e)) (omega arith)
+      by (Some row) e =
+          let head = find_head (λ r. is_lt (key_cmp root (root_of r.path))) rows row e in
+          let up : is_lt (key_cmp root (root_of row.path)) ≡ true = find_passes (λ r. is_lt (key_cmp root (root_of r.path))) rows row e in
+          let same : rows_after (root_of row.path) rows ≡ rows_after (root_of row.path) head.0 =
+          sym (filter_within (λ r. is_lt (key_cmp (root_of row.path) (root_of r.path))) (λ r. is_lt (key_cmp root (root_of r.path)))
+          (λ r g. ap is_lt (key_total.trans root (root_of row.path) (root_of r.path) (is_lt-true _ up) (is_lt-true _ g))) rows)
+          ∙ (ap (rows_after (root_of row.path)) head.1
+          ∙ ap (λ b. cond b (row ∷ rows_after (root_of row.path) head.0) (rows_after (root_of row.path) head.0)) (ap is_lt (tied_itself key_total (root_of row.path)))) in
+          let count : length (rows_after root rows) ≡ suc (length head.0) = ap length head.1 in
+          let few : length (rows_after (root_of row.path) head.0) ≤ length head.0 = filter_fewer (λ r. is_lt (key_cmp (root_of row.path) (root_of r.path))) head.0 in
+          let counted : length (rows_after (root_of row.path) rows) ≡ length (rows_after (root_of row.path) head.0) = ap length same in
+          subst (λ o. roots_left o rows < roots_left (Some root) rows) (sym (next_is_first dbd all rows valid root ∙ ap (option_map (λ r. root_of r.path)) e)) (omega arith)
+        where
+          filter_fewer : (f : Row → Bool) (xs : List Row) → length (filter f xs) ≤ length xs
+          filter_fewer f [] = omega arith
+          filter_fewer f (x ∷ xs) =
+              elim (f x) as (λ b. length (cond b (x ∷ filter f xs) (filter f xs)) ≤ suc (length xs)) [
+                | true ↦ (let rest : length (filter f xs) ≤ length xs = filter_fewer f xs in omega arith)
+                | false ↦ (let rest : length (filter f xs) ≤ length xs = filter_fewer f xs in omega arith)
+              ]

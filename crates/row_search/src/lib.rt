@@ -1,0 +1,13 @@
+//! Looking for rows of a database, however they are kept.
+//!
+//! What the arguments of a call ask for, and the first row that fits, record by record: a search comes
+//! to what `model_dli` defines over the whole list of rows, and looks at no more records than it has to.
+#![tactic(auto)]
+
+pub use asked::{
+    asked_number, asked_root, data_length, fits, fitted_bytes, fitted_key, key_length, number_named,
+};
+pub use search::{first_in_record, first_row, first_row_below, is_there, is_within, record_rows};
+
+mod asked;
+mod search;

@@ -1,8 +1,0 @@
-use Rattle.std.proofs.Common.{◌≡◌, ◌++◌}
-use Rattle.std.specs.Vec.Iter.{into_iter_items}
-use Rattle.sysdef_check.specs.Systems as spec
-use Rattle.sysdef_check.proofs.build.programs_in.Given as goal
-
-abbrev pub invariant-loop-line : goal.invariant-loop-line
-invariant-loop-line l =
-    l.programs.items ++ spec.programs_with (into_iter_items l.line-iterator) (into_iter_items l.lists) ≡ spec.programs_with l.fn.lines.items l.fn.lists.items

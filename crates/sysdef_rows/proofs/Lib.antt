@@ -1,0 +1,2 @@
+pub mod ClassSteps
+pub mod RowRanges

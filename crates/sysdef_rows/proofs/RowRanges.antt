@@ -1,0 +1,184 @@
+-- The macro of a row is of the row's kind, and its numbers lie in their ranges.
+use Rattle.std.proofs.Common.{ℕ, ◌≡◌, ◌≤◌, ◌&&◌, cond, nat_le, Bool, true, false, List, Option, Some, None, Result, Ok, Err, IfOk, codes, refl, arith}
+use Rattle.std.proofs.lemmas.Bool.Decides.{nat_tests}
+use Rattle.model_system.specs.declared.code.SegmentKind.{SegmentKind}
+use Rattle.text_rows.specs.Lowest.{also, both}
+use Rattle.text_rows.specs.Numbers.{is_number, number_between, number_of}
+use Rattle.text_rows.specs.Operands.{needed, only, or_as, read_or, values}
+use Rattle.system_types.specs.declared.definition.Macro.{Macro}
+use Rattle.system_types.specs.Definitions.{IsInRange, is_control, is_end}
+use Rattle.sysdef_rows.specs.declared.kinds.Kind.{Kind}
+use Rattle.sysdef_rows.specs.declared.kinds.Kind.TheVariants.{Control, Database, Segment, Application, Pcb, Transaction, Terminal, Region, End}
+use Rattle.sysdef_rows.specs.declared.pcbs.PcbForm.{PcbForm}
+use Rattle.sysdef_rows.specs.declared.pcbs.PcbForm.TheVariants.{OnDatabase, ToDestination, Modifiable}
+use Rattle.sysdef_rows.specs.Pcbs.{database_pcb, destination_pcb, form_of, modifiable_pcb, pcb_of, pcb_row, standing_database, standing_output}
+use Rattle.sysdef_rows.specs.Rows.{application_made, application_row, control_made, control_row, database_made, database_row, length_part, region_made, region_row, row, segment_made, segment_row, terminal_made, terminal_row, transaction_made, transaction_row}
+
+-- what holds of a value that is read holds where something besides is judged
+pub also_left : {A B : Type 0} (P : A → Type 0) (a : Result A ℕ) (b : Result B ℕ) → IfOk a P → IfOk (also a b) P
+unfolding also
+also_left P (Ok value) (Ok other) h = h
+also_left P (Ok value) (Err rule) h = tt
+also_left P (Err rule) (Ok other) h = tt
+also_left P (Err rule) (Err other) h = tt
+
+pub also_right : {A B : Type 0} (Q : Type 0) (a : Result A ℕ) (b : Result B ℕ) → IfOk b (λ value. Q) → IfOk (also a b) (λ value. Q)
+unfolding also
+also_right Q (Ok value) (Ok other) h = h
+also_right Q (Ok value) (Err rule) h = tt
+also_right Q (Err rule) (Ok other) h = tt
+also_right Q (Err rule) (Err other) h = tt
+
+both_hold : {A B : Type 0} (P : A → Type 0) (Q : B → Type 0) (a : Result A ℕ) (b : Result B ℕ) → IfOk a P → IfOk b Q → IfOk (both a b) (λ p. P p.0 × Q p.1)
+unfolding both
+both_hold P Q (Ok x) (Ok y) h k = (h, k)
+both_hold P Q (Ok x) (Err rule) h k = tt
+both_hold P Q (Err rule) (Ok y) h k = tt
+both_hold P Q (Err rule) (Err other) h k = tt
+
+second_holds : {A B : Type 0} (Q : B → Type 0) (a : Result A ℕ) (b : Result B ℕ) → IfOk b Q → IfOk (both a b) (λ p. Q p.1)
+unfolding both
+second_holds Q (Ok x) (Ok y) h = h
+second_holds Q (Ok x) (Err rule) h = tt
+second_holds Q (Err rule) (Ok y) h = tt
+second_holds Q (Err rule) (Err other) h = tt
+
+pub if_both : {A : Type 0} (P Q : A → Type 0) (a : Result A ℕ) → IfOk a P → IfOk a Q → IfOk a (λ value. P value × Q value)
+if_both P Q (Ok value) h k = (h, k)
+if_both P Q (Err rule) h k = tt
+
+-- numbers, and operands that may be missing
+within_by : (low high n : ℕ) (number : Bool) (b c : Bool) (rule other : ℕ) → nat_le low n ≡ b → nat_le n high ≡ c
+    → IfOk (cond number (cond (b && c) (Ok n) (Err rule)) (Err other)) (λ m. (low ≤ m) × (m ≤ high))
+within_by low high n false b c rule other e f = tt
+within_by low high n true true true rule other e f = (grind (arith, nat_tests), grind (arith, nat_tests))
+within_by low high n true true false rule other e f = tt
+within_by low high n true false c rule other e f = tt
+
+number_holds : (low high : ℕ) (text : List ℕ) → IfOk (number_between low high text) (λ n. (low ≤ n) × (n ≤ high))
+unfolding number_between
+number_holds low high text = within_by low high (number_of text) (is_number text) (nat_le low (number_of text)) (nat_le (number_of text) high) _ _ refl refl
+
+read_by : {A : Type 0} (P : A → Type 0) (missing : Result A ℕ) (read : List ℕ → Result A ℕ) (found : Result (Option (List ℕ)) ℕ) → IfOk missing P → ((text : List ℕ) → IfOk (read text) P) → IfOk (read_or missing read found) P
+read_by P missing read (Ok None) h each = h
+read_by P missing read (Ok (Some text)) h each = each text
+read_by P missing read (Err rule) h each = tt
+
+needed_holds : {A : Type 0} (P : A → Type 0) (key : List ℕ) (read : List ℕ → Result A ℕ) (ops : List (List ℕ)) → ((text : List ℕ) → IfOk (read text) P) → IfOk (needed key read ops) P
+unfolding needed
+needed_holds P key read ops each = read_by P (Err _) read (only (values key ops)) tt each
+
+or_as_holds : {A : Type 0} (P : A → Type 0) (key : List ℕ) (read : List ℕ → Result A ℕ) (default : A) (ops : List (List ℕ)) → P default → ((text : List ℕ) → IfOk (read text) P) → IfOk (or_as key read default ops) P
+unfolding or_as
+or_as_holds P key read default ops h each = read_by P (Ok default) read (only (values key ops)) h each
+
+-- the macro of a row is of the row's kind, with numbers in their ranges
+abbrev pub IsOfKind : Kind → Macro → Type 0
+IsOfKind Control content = is_control content ≡ true
+IsOfKind End content = is_end content ≡ true
+IsOfKind _ content = Unit {0}
+
+abbrev pub Fits : Kind → Macro → Type 0
+Fits kind content = IsInRange content × IsOfKind kind content
+
+control_by : (numbers : Result (ℕ × ℕ) ℕ) → IfOk numbers (λ p. ((131072 ≤ p.0) × (p.0 ≤ 8388608)) × ((64 ≤ p.1) × (p.1 ≤ 2048))) → IfOk (control_made numbers) (Fits Control)
+control_by (Ok (qbytes, logs)) h = ((h.0.0, h.0.1, h.1.0, h.1.1), refl)
+control_by (Err rule) h = tt
+
+control_fits : (ops : List (List ℕ)) → IfOk (control_row ops) (Fits Control)
+unfolding control_row
+control_fits ops =
+    control_by _ (both_hold (λ n. (131072 ≤ n) × (n ≤ 8388608)) (λ n. (64 ≤ n) × (n ≤ 2048)) _ _
+    (or_as_holds (λ n. (131072 ≤ n) × (n ≤ 8388608)) (codes "QBYTES") (number_between 131072 8388608) 8388608 ops (omega arith, omega arith) (number_holds 131072 8388608))
+    (or_as_holds (λ n. (64 ≤ n) × (n ≤ 2048)) (codes "LOGS") (number_between 64 2048) 2048 ops (omega arith, omega arith) (number_holds 64 2048)))
+
+database_by : (parts : Result (List ℕ × ℕ) ℕ) → IfOk parts (λ p. (1 ≤ p.1) × (p.1 ≤ 4096)) → IfOk (database_made parts) (Fits Database)
+database_by (Ok (name, roots)) h = (h, tt)
+database_by (Err rule) h = tt
+
+database_fits : (ops : List (List ℕ)) → IfOk (database_row ops) (Fits Database)
+unfolding database_row
+database_fits ops =
+    database_by _ (second_holds (λ n. (1 ≤ n) × (n ≤ 4096)) _ _
+    (or_as_holds (λ n. (1 ≤ n) × (n ≤ 4096)) (codes "ROOTS") (number_between 1 4096) 4096 ops (omega arith, omega arith) (number_holds 1 4096)))
+
+segment_by : (parts : Result ((List ℕ × Option (List ℕ)) × (ℕ × ℕ)) ℕ) → IfOk parts (λ p. ((1 ≤ p.1.0) × (p.1.0 ≤ 32)) × ((1 ≤ p.1.1) × (p.1.1 ≤ 1900))) → IfOk (segment_made parts) (Fits Segment)
+segment_by (Ok ((name, parent), (key, bytes))) h = ((h.0.0, h.0.1, h.1.1), tt)
+segment_by (Err rule) h = tt
+
+lengths_fit : (ops : List (List ℕ)) → IfOk (length_part ops) (λ p. ((1 ≤ p.0) × (p.0 ≤ 32)) × ((1 ≤ p.1) × (p.1 ≤ 1900)))
+unfolding length_part
+lengths_fit ops =
+    both_hold (λ n. (1 ≤ n) × (n ≤ 32)) (λ n. (1 ≤ n) × (n ≤ 1900)) _ _
+    (needed_holds (λ n. (1 ≤ n) × (n ≤ 32)) (codes "KEY") (number_between 1 32) ops (number_holds 1 32))
+    (needed_holds (λ n. (1 ≤ n) × (n ≤ 1900)) (codes "BYTES") (number_between 1 1900) ops (number_holds 1 1900))
+
+segment_fits : (ops : List (List ℕ)) → IfOk (segment_row ops) (Fits Segment)
+unfolding segment_row
+segment_fits ops = segment_by _ (second_holds (λ p. ((1 ≤ p.0) × (p.0 ≤ 32)) × ((1 ≤ p.1) × (p.1 ≤ 1900))) _ _ (lengths_fit ops))
+
+application_by : (name : Result (List ℕ) ℕ) → IfOk (application_made name) (Fits Application)
+application_by (Ok name) = (tt, tt)
+application_by (Err rule) = tt
+
+application_fits : (ops : List (List ℕ)) → IfOk (application_row ops) (Fits Application)
+unfolding application_row
+application_fits ops = application_by _
+
+terminal_by : (parts : Result (List ℕ × Option (List ℕ)) ℕ) → IfOk (terminal_made parts) (Fits Terminal)
+terminal_by (Ok (name, format)) = (tt, tt)
+terminal_by (Err rule) = tt
+
+terminal_fits : (ops : List (List ℕ)) → IfOk (terminal_row ops) (Fits Terminal)
+unfolding terminal_row
+terminal_fits ops = terminal_by _
+
+region_by : (classes : Result (List ℕ) ℕ) → IfOk (region_made classes) (Fits Region)
+region_by (Ok classes) = (tt, tt)
+region_by (Err rule) = tt
+
+region_fits : (ops : List (List ℕ)) → IfOk (region_row ops) (Fits Region)
+unfolding region_row
+region_fits ops = region_by _
+
+transaction_by : (parts : Result ((List ℕ × (SegmentKind × ℕ)) × ((ℕ × (ℕ × ℕ)) × ((ℕ × ℕ) × ((ℕ × ℕ) × Bool)))) ℕ) → IfOk (transaction_made parts) (Fits Transaction)
+transaction_by (Ok ((code, (kind, class)), ((normal, (limit, count)), ((processing, statements), ((segments, size), serial))))) = (tt, tt)
+transaction_by (Err rule) = tt
+
+transaction_fits : (ops : List (List ℕ)) → IfOk (transaction_row ops) (Fits Transaction)
+unfolding transaction_row
+transaction_fits ops = transaction_by _
+
+database_pcb_by : (parts : Result (List ℕ × ℕ) ℕ) → IfOk (database_pcb parts) (Fits Pcb)
+database_pcb_by (Ok (database, options)) = (tt, tt)
+database_pcb_by (Err rule) = tt
+
+destination_by : (name : Result (List ℕ) ℕ) → IfOk (destination_pcb name) (Fits Pcb)
+destination_by (Ok name) = (tt, tt)
+destination_by (Err rule) = tt
+
+modifiable_by : (asked : Result (Unit {0}) ℕ) → IfOk (modifiable_pcb asked) (Fits Pcb)
+modifiable_by (Ok value) = (tt, tt)
+modifiable_by (Err rule) = tt
+
+pcb_by : (form : Result PcbForm ℕ) (ops : List (List ℕ)) → IfOk (pcb_of form ops) (Fits Pcb)
+pcb_by (Ok OnDatabase) ops = database_pcb_by _
+pcb_by (Ok ToDestination) ops = destination_by _
+pcb_by (Ok Modifiable) ops = modifiable_by _
+pcb_by (Err rule) ops = also_left (Fits Pcb) (also (Err rule) (standing_database ops)) (standing_output ops) (also_left (Fits Pcb) (Err rule) (standing_database ops) tt)
+
+pcb_fits : (ops : List (List ℕ)) → IfOk (pcb_row ops) (Fits Pcb)
+unfolding pcb_row
+pcb_fits ops = pcb_by (form_of ops) ops
+
+pub row_fits : (kind : Kind) (ops : List (List ℕ)) → IfOk (row kind ops) (Fits kind)
+unfolding row
+row_fits Control ops = control_fits ops
+row_fits Database ops = database_fits ops
+row_fits Segment ops = segment_fits ops
+row_fits Application ops = application_fits ops
+row_fits Pcb ops = pcb_fits ops
+row_fits Transaction ops = transaction_fits ops
+row_fits Terminal ops = terminal_fits ops
+row_fits Region ops = region_fits ops
+row_fits End ops = (tt, refl)

@@ -1,0 +1,10 @@
+use Rattle.std.proofs.Common.{◌≡◌}
+use Rattle.std.specs.List.{list_all}
+use Rattle.sysdef_rows.specs.Kinds as spec
+use Rattle.sysdef_rows.proofs.kinds.known_keys.Given as goal
+
+abbrev pub invariant-loop-operand : goal.invariant-loop-operand
+invariant-loop-operand l =
+    (goal.iterator-loop-operand).can_next l.operand-iterator ×
+    (goal.iterator-loop-operand).is_finite l.operand-iterator ×
+    (list_all (spec.has_key (spec.keys l.kind)) l.operand-iterator ≡ list_all (spec.has_key (spec.keys l.kind)) l.operands)

@@ -1,0 +1,59 @@
+-- The macros and their keys.
+use Rattle.std.specs.Prelude.{ℕ, Bool, false, List, [], ◌∷◌, codes, Option, Some, None, Result, Ok, Err, if◌then◌else◌}
+use Rattle.std.specs.List.{list_all, list_any}
+use Rattle.std.specs.Str.{bytes_eq}
+use Rattle.text_rows.specs.Lines.{split_at}
+use Rattle.sysdef_rows.specs.declared.kinds.Kind.{Kind}
+use Rattle.sysdef_rows.specs.declared.kinds.Kind.TheVariants.{Control, Database, Segment, Application, Pcb, Transaction, Terminal, Region, End}
+use Rattle.sysdef_rows.specs.Pcbs.{form_keys, form_of, pcb_keys}
+
+-- Rule 1: the name is one of these.
+unfoldable pub kind_of : List ℕ → Result Kind ℕ
+kind_of name =
+    if bytes_eq name (codes "IMSCTRL") then Ok Control
+    else (if bytes_eq name (codes "DBD") then Ok Database
+    else (if bytes_eq name (codes "SEGM") then Ok Segment
+    else (if bytes_eq name (codes "APPLCTN") then Ok Application
+    else (if bytes_eq name (codes "PCB") then Ok Pcb
+    else (if bytes_eq name (codes "TRANSACT") then Ok Transaction
+    else (if bytes_eq name (codes "NAME") then Ok Terminal
+    else (if bytes_eq name (codes "REGION") then Ok Region
+    else (if bytes_eq name (codes "END") then Ok End
+    else Err 1))))))))
+
+abbrev pub segment_keys : List (List ℕ)
+segment_keys = codes "NAME" ∷ codes "PARENT" ∷ codes "KEY" ∷ codes "BYTES" ∷ []
+
+abbrev pub transaction_keys : List (List ℕ)
+transaction_keys = codes "CODE" ∷ codes "MSGTYPE" ∷ codes "PRTY" ∷ codes "PROCLIM" ∷ codes "SEGNO" ∷ codes "SEGSIZE" ∷ codes "SERIAL" ∷ []
+
+-- the keys that a macro has
+abbrev pub keys : Kind → List (List ℕ)
+keys Control = codes "QBYTES" ∷ codes "LOGS" ∷ []
+keys Database = codes "NAME" ∷ codes "ROOTS" ∷ []
+keys Segment = segment_keys
+keys Application = codes "PSB" ∷ []
+keys Pcb = pcb_keys
+keys Transaction = transaction_keys
+keys Terminal = codes "LTERM" ∷ codes "FORMAT" ∷ []
+keys Region = codes "CLASS" ∷ []
+keys End = []
+
+abbrev pub format_keys : List (List ℕ)
+format_keys = codes "NAME" ∷ []
+
+abbrev pub is_among : List (List ℕ) → Option (List ℕ × List ℕ) → Bool
+is_among words None = false
+is_among words (Some (word, value)) = list_any (bytes_eq word) words
+
+-- an operand without = has no key
+unfoldable pub has_key : List (List ℕ) → List ℕ → Bool
+has_key words operand = is_among words (split_at 61 operand)
+
+abbrev pub known_among : List (List ℕ) → List (List ℕ) → Result (Unit {0}) ℕ
+known_among words operands = if list_all (has_key words) operands then Ok tt else Err 2
+
+-- Rule 2: each operand has one of the macro's keys, or of the keys of the PCB's form.
+unfoldable pub known : Kind → List (List ℕ) → Result (Unit {0}) ℕ
+known Pcb operands = known_among (form_keys (form_of operands)) operands
+known kind operands = known_among (keys kind) operands

@@ -1,0 +1,4 @@
+pub mod Values
+pub mod Pcbs
+pub mod Kinds
+pub mod Rows
