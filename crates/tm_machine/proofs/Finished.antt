@@ -35,7 +35,7 @@ use Rattle.model_machine.specs.Flags.{all_followed}
 use Rattle.model_machine.proofs.Flags.{states_again}
 use Rattle.tran_pick.specs.Picked.{IsFirstFree}
 use Rattle.tran_pick.proofs.Found.{first_codes}
-use Rattle.program_rows.specs.State.{DatabasesState, IsRegionOf, dbds_of, region_at}
+use Rattle.program_rows.specs.State.{DatabasesState, AreRowsOf, IsRegionOf, committed_rows, dbds_of, region_at}
 use Rattle.program_rows.specs.Answering.{IsCommitted, IsGivenUp}
 use Rattle.lasting_state.specs.Sending.{switches, switched_messages, with_messages}
 use Rattle.lasting_state.specs.Tables.{TablesState, lasting_of, finished, held, with_databases, Applies, IsClosed}
@@ -45,7 +45,7 @@ use Rattle.tm_machine.specs.Region.{IsUnit, calls_made, outputs_by}
 use Rattle.tm_machine.specs.Turns.{IsTurned}
 use Rattle.tm_machine.specs.Parts.{PartsState, slot_of, slots_of, settings_of, flags_of, IsTold, AreAtWork, AreDatabases, AreParts, IsIdle}
 use Rattle.tm_machine.proofs.Tabled.{AreOwn, released_asks}
-use Rattle.tm_machine.proofs.Others.{BesideLaw, IsKeptBeside, are_beside, beside_committed, beside_given_up, idle_committed, idle_ended, idle_given_up, own_requests, stay_at_work}
+use Rattle.tm_machine.proofs.Others.{IsKeptBeside, are_beside, beside_committed, beside_given_up, idle_committed, idle_ended, idle_given_up, own_requests, rows_stay, stay_at_work}
 use Rattle.tm_machine.proofs.Free.{count_held, count_sent, count_without, or_none}
 use Rattle.tm_machine.proofs.Leaving.{moment_is, nobody_breaks, requests_are, turn_leaves, turn_steps, turn_works}
 use Rattle.tm_machine.proofs.Linked.{first_free_is, busy_is, end_told, end_at_work, new_free, told_without, get_set, set_length, set_set, set_slots}
@@ -205,7 +205,7 @@ module _ (system : System) (tables : TablesState) (states : List CodeState) (reg
   module _ (tables' : TablesState) (outputs : List EndedMessage) (above : IsNewId tables.next_id tables.queues.queued)
       (is : tables' ≡ with_databases (finished tables message_now outputs) tables'.databases) (named : message_now.id ≡ busy.id)
       (beside : IsKeptBeside region tables.databases tables'.databases) (own : IsIdle region tables'.databases) (dbds : dbds_of tables'.databases ≡ dbds_of tables.databases)
-      (gone : tables'.databases.table ≡ released region tables.databases.table) where
+      (gone : tables'.databases.table ≡ released region tables.databases.table) (rows : AreRowsOf (dbds_of tables'.databases) (committed_rows tables'.databases)) where
     abbrev sent : List Message
     sent = switched_messages message_now.origin (switches tables.outputs outputs) tables.next_id
 
@@ -217,7 +217,7 @@ module _ (system : System) (tables : TablesState) (states : List CodeState) (reg
 
     others : AreAtWork system tables'.databases (without busy.id tables.queues.queued) left
     others = end_at_work system tables.databases tables'.databases tables.queues.queued regions (region - 1) busy e
-        (stay_at_work system tables.databases tables'.databases regions region beside count there.0) parts.at_work
+        (stay_at_work system parts.valid tables.databases tables'.databases regions region beside count there.0) parts.at_work
 
     new_left : IsNewId tables.next_id (without busy.id tables.queues.queued)
     new_left = new_id_without tables.next_id busy.id tables.queues.queued above
@@ -246,8 +246,8 @@ module _ (system : System) (tables : TablesState) (states : List CodeState) (reg
       settled = settled;
       told = told_left;
       at_work = rw queued_is (at_work_more system tables'.databases sent (without busy.id tables.queues.queued) left others);
-      databases = are_beside system region tables.databases tables'.databases parts.databases beside dbds;
-      idle = idle_ended system tables.databases tables'.databases regions region beside count there.0 own parts.idle;
+      databases = are_beside system region tables.databases tables'.databases parts.databases beside dbds rows;
+      idle = idle_ended system parts.valid tables.databases tables'.databases regions region beside count there.0 own parts.idle;
     }
 
     -- the slots of before tell what no region has, but for the message that is gone
@@ -294,12 +294,12 @@ module _ (system : System) (tables : TablesState) (states : List CodeState) (reg
       (closed : IsClosed tables'.databases (λ _. sends) tables tables' busy.id)
       (applies : Applies (Completes busy.id (region_at region tables.databases).rows sends) tables tables')
       (stays : IsCommitted region tables.databases tables'.databases) (dbds : dbds_of tables'.databases ≡ dbds_of tables.databases)
-      (law : BesideLaw region tables.databases tables'.databases) where
+      (rows : AreRowsOf (dbds_of tables'.databases) (committed_rows tables'.databases)) where
     done_is : (message_now.id ≡ busy.id) × (tables' ≡ with_databases (finished tables message_now sends) tables'.databases)
     done_is = closed_here tables'.databases (λ _. sends) tables' closed
 
     beside_here : IsKeptBeside region tables.databases tables'.databases
-    beside_here = beside_committed region tables.databases tables'.databases stays law
+    beside_here = beside_committed region tables.databases tables'.databases there.0 stays dbds parts.databases.rows rows
 
     own_idle : IsIdle region tables'.databases
     own_idle = idle_committed region tables.databases tables'.databases stays
@@ -310,12 +310,12 @@ module _ (system : System) (tables : TablesState) (states : List CodeState) (reg
     pub follows_completed : (states' : List CodeState) → states' ≡ all_followed system.codes (λ name. free_count name tables'.queues.queued) (busy.code ∷ destinations sends) states
         → IsFollowed system (λ name. free_count name tables'.queues.queued) states states'
     follows_completed states' follow =
-        follows_closed tables' sends above done_is.1 done_is.0 beside_here own_idle dbds stays.table (busy.code ∷ destinations sends) states'
+        follows_closed tables' sends above done_is.1 done_is.0 beside_here own_idle dbds stays.table rows (busy.code ∷ destinations sends) states'
         (λ name none. (or_none (bytes_eq name busy.code) (list_any (λ n. bytes_eq name n) (destinations sends)) none).1) follow
 
     pub parts_completed : (states' : List CodeState) → IsFollowed system (λ name. free_count name tables'.queues.queued) states states' → AreParts system tables' states' left
     parts_completed states' follows =
-        parts_closed tables' sends above done_is.1 done_is.0 beside_here own_idle dbds stays.table states' follows.size
+        parts_closed tables' sends above done_is.1 done_is.0 beside_here own_idle dbds stays.table rows states' follows.size
         (followed_settled system (λ name. free_count name tables'.queues.queued) states states' follows)
 
     pub done_turned : (states' : List CodeState) → IsFollowed system (λ name. free_count name tables'.queues.queued) states states'
@@ -324,7 +324,7 @@ module _ (system : System) (tables : TablesState) (states : List CodeState) (reg
     done_turned states' follows h = record {
       victims = nobody_breaks system moment_now region slot_now slot_here (free_here Ends h);
       answer = sym (answer_here Ends h);
-      after = turned_closed tables' sends above done_is.1 done_is.0 beside_here own_idle dbds stays.table states' (Done busy.code busy.id) completes Ends h follows
+      after = turned_closed tables' sends above done_is.1 done_is.0 beside_here own_idle dbds stays.table rows states' (Done busy.code busy.id) completes Ends h follows
           (answer_here Ends h) refl (step_here Ends h ∙ ap (λ s. Some s) completes_is) (λ table. refl) applies_here;
       system = refl;
     }
@@ -344,7 +344,7 @@ module _ (system : System) (tables : TablesState) (states : List CodeState) (reg
             then first_waiting (is_held (slots_of regions)) busy.code (lasting_of (settings_of states) tables').messages else None) (busy_is regions)
             ∙ ap (λ f. if may_go_on code.transaction state busy.taken && nat_le (content (lasting_of (settings_of states) tables') + slot_room * count_by is_some regions) system.qbytes
             then f else None) (first_free_is busy.code (slots_of regions) tables'.queues.queued
-            (told_before tables' sends above done_is.1 done_is.0 beside_here own_idle dbds stays.table))
+            (told_before tables' sends above done_is.1 done_is.0 beside_here own_idle dbds stays.table rows))
         by (Some code) None = refl
         by None state = refl
 
@@ -366,7 +366,7 @@ module _ (system : System) (tables : TablesState) (states : List CodeState) (reg
     none_turned states' follows says h = record {
       victims = nobody_breaks system moment_now region slot_now slot_here (free_here Syncs h);
       answer = sym says;
-      after = turned_closed tables' sends above done_is.1 done_is.0 beside_here own_idle dbds stays.table states' (QC busy.code busy.id) completes Syncs h follows
+      after = turned_closed tables' sends above done_is.1 done_is.0 beside_here own_idle dbds stays.table rows states' (QC busy.code busy.id) completes Syncs h follows
           says refl (step_here Syncs h ∙ ap (λ s. Some s) completes_is) (λ table. refl) applies_here;
       system = refl;
     }
@@ -399,7 +399,7 @@ module _ (system : System) (tables : TablesState) (states : List CodeState) (reg
           let both = or_none (bytes_eq name busy.code) (list_any (λ n. bytes_eq name n) (destinations sends)) none in
           ap (λ t. free_count name t.queues.queued) holds
           ∙ count_held name busy.code new.id (Some region) tables'.queues.queued both.0 (first_codes busy.code tables'.queues.queued new.id free.ordered free.first)
-          ∙ waits tables' sends above done_is.1 done_is.0 beside_here own_idle dbds stays.table name both.1) follow
+          ∙ waits tables' sends above done_is.1 done_is.0 beside_here own_idle dbds stays.table rows name both.1) follow
 
       pub next_turned : (middle states' : List CodeState) → IsFollowed system (λ name. free_count name tables'.queues.queued) states middle
           → IsFollowed system (λ name. free_count name tables''.queues.queued) states states' → new.taken ≡ busy.taken + 1
@@ -439,6 +439,9 @@ module _ (system : System) (tables : TablesState) (states : List CodeState) (reg
     beside_back : IsKeptBeside region tables.databases tables'.databases
     beside_back = beside_given_up region tables.databases tables'.databases there.0 back dbds
 
+    back_rows : AreRowsOf (dbds_of tables'.databases) (committed_rows tables'.databases)
+    back_rows = rows_stay tables.databases tables'.databases back.committed dbds parts.databases.rows
+
     back_idle : IsIdle region tables'.databases
     back_idle = idle_given_up region tables.databases tables'.databases works_there back
 
@@ -446,7 +449,7 @@ module _ (system : System) (tables : TablesState) (states : List CodeState) (reg
         → states' ≡ all_followed system.codes (λ name. free_count name tables'.queues.queued) (origin ∷ []) states
         → IsFollowed system (λ name. free_count name tables'.queues.queued) states states'
     follows_abended states' origin from follow =
-        follows_closed tables' (abend_outputs message_now abend) above gone_is.1 gone_is.0 beside_back back_idle dbds back.table (origin ∷ []) states'
+        follows_closed tables' (abend_outputs message_now abend) above gone_is.1 gone_is.0 beside_back back_idle dbds back.table back_rows (origin ∷ []) states'
         (λ name none. ap (λ o. bytes_eq name o || false) (sym (by (message_at busy.id tables.queues.queued) found_here from)) ∙ none) follow
       where
         by : (found : Option Message) → found ≡ Some message_now → IsSomeAnd found (λ message. origin ≡ message.origin) → origin ≡ message_now.origin
@@ -455,7 +458,7 @@ module _ (system : System) (tables : TablesState) (states : List CodeState) (reg
 
     pub parts_abended : (states' : List CodeState) → IsFollowed system (λ name. free_count name tables'.queues.queued) states states' → AreParts system tables' states' left
     parts_abended states' follows =
-        parts_closed tables' (abend_outputs message_now abend) above gone_is.1 gone_is.0 beside_back back_idle dbds back.table states' follows.size
+        parts_closed tables' (abend_outputs message_now abend) above gone_is.1 gone_is.0 beside_back back_idle dbds back.table back_rows states' follows.size
         (followed_settled system (λ name. free_count name tables'.queues.queued) states states' follows)
 
     pub abended_turned : (states' : List CodeState) → IsFollowed system (λ name. free_count name tables'.queues.queued) states states'
@@ -464,7 +467,7 @@ module _ (system : System) (tables : TablesState) (states : List CodeState) (reg
     abended_turned states' follows h = record {
       victims = nobody_breaks system moment_now region slot_now slot_here (free_here (Abends abend) h);
       answer = sym (answer_here (Abends abend) h);
-      after = turned_closed tables' (abend_outputs message_now abend) above gone_is.1 gone_is.0 beside_back back_idle dbds back.table states' (Abended busy.code busy.id abend) (Discards busy.id abend) (Abends abend) h follows
+      after = turned_closed tables' (abend_outputs message_now abend) above gone_is.1 gone_is.0 beside_back back_idle dbds back.table back_rows states' (Abended busy.code busy.id abend) (Discards busy.id abend) (Abends abend) h follows
           (answer_here (Abends abend) h) refl (step_here (Abends abend) h) (λ table. refl) applies;
       system = refl;
     }

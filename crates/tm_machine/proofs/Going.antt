@@ -121,11 +121,11 @@ module _ (system : System) (tables : TablesState) (states : List CodeState) (reg
       answer = sym answer;
       after =
           ap (λ ss. record (moment_of regions) { slots = ss; enqueues = left.table })
-              (set_slots regions (region - 1) (Some new)
-              ∙ ap (λ slot. slice_set (slots_of regions) (region - 1) (Some slot)) (slot_same old new (calls_made old.unit + 1) s.same (ap calls_made s.is ∙ a.calls ∙ ap (λ n. n + 1) s.calls)))
-              ∙ slots_stay left.table (record (slot_for old) { calls = calls_made old.unit + 1 }) old e refl
-              ∙ sym (turn_leaves system (moment_of regions) region [] (Some (slot_for old)) (TurnCalled function pcb status) None left.table here_slot answer
-              (turn_steps system (moment_of regions) region (slot_for old) work_here next free works a.goes) (table_is ∙ sym a.free.asked));
+          (set_slots regions (region - 1) (Some new)
+          ∙ ap (λ slot. slice_set (slots_of regions) (region - 1) (Some slot)) (slot_same old new (calls_made old.unit + 1) s.same (ap calls_made s.is ∙ a.calls ∙ ap (λ n. n + 1) s.calls)))
+          ∙ slots_stay left.table (record (slot_for old) { calls = calls_made old.unit + 1 }) old e refl
+          ∙ sym (turn_leaves system (moment_of regions) region [] (Some (slot_for old)) (TurnCalled function pcb status) None left.table here_slot answer
+          (turn_steps system (moment_of regions) region (slot_for old) work_here next free works a.goes) (table_is ∙ sym a.free.asked));
       system = refl;
     }
       where
@@ -143,7 +143,7 @@ module _ (system : System) (tables : TablesState) (states : List CodeState) (reg
         stops = some_and _ (slot_work system (moment_of regions).lasting (slot_for old)) work_here works a.stops;
       }),
       ap (λ ss. record { system = system; moment = record (moment_of regions) { slots = ss; enqueues = left.table } }) (stays_here s.is a.calls)
-      ∙ ap (λ (d : DatabasesState). record { system = system; moment = record (moment_of regions) { enqueues = d.table } }) stays,
+          ∙ ap (λ (d : DatabasesState). record { system = system; moment = record (moment_of regions) { enqueues = d.table } }) stays,
     )
     by (Waits resource blocker) stays a = record {
       slot = slot_for old;
@@ -162,7 +162,7 @@ module _ (system : System) (tables : TablesState) (states : List CodeState) (reg
   goes_by left None new None e stays h = (
     slot_is system tables states regions region parts None e,
     ap (λ rs. record { system = system; moment = record (moment_of rs) { enqueues = left.table } }) (ap (slice_set regions (region - 1)) h.0 ∙ set_same regions (region - 1) None e)
-    ∙ ap (λ (d : DatabasesState). record { system = system; moment = record (moment_of regions) { enqueues = d.table } }) h.1,
+        ∙ ap (λ (d : DatabasesState). record { system = system; moment = record (moment_of regions) { enqueues = d.table } }) h.1,
   )
   goes_by left None new (Some advanced) e stays h = absurd h
   goes_by left (Some old) None None e stays h = absurd h

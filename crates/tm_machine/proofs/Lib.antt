@@ -17,3 +17,5 @@ mod Started
 mod Asked
 mod Roomed
 mod Finished
+mod Giving
+mod Breaking

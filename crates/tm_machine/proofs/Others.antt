@@ -1,9 +1,11 @@
 -- What a region's step, or the end of its work, leaves of the work of other regions.
-use Rattle.std.proofs.Common.{◌≡◌, ℕ, zero, suc, ◌+◌, ◌-◌, ◌≤◌, ◌<◌, List, [], ◌∷◌, ◌++◌, Option, Some, None, length, get_or, refl, sym, ap, ◌∙◌, subst, arith, ◌⊎◌, inl, inr, ⊎_elim}
-use Rattle.std.specs.Prelude.{All, map, slice_get, slice_set}
+use Rattle.std.proofs.Common.{◌≡◌, ℕ, zero, suc, ◌+◌, ◌-◌, ◌≤◌, ◌<◌, List, [], ◌∷◌, ◌++◌, Bool, true, false, Option, Some, None, length, get_or, refl, sym, ap, ◌∙◌, subst, arith, ◌⊎◌, inl, inr, ⊎_elim}
+use Rattle.std.specs.Prelude.{All, find, if◌then◌else◌, map, slice_get, slice_set}
+use Rattle.std.specs.Option.{option_map, option_and_then}
+use Rattle.std.specs.Str.{bytes_eq}
 use Rattle.std.specs.List.{AllByRecursion}
 use Rattle.std.proofs.lemmas.List.{get_or-set_other, get_or-set_same}
-use Rattle.std.proofs.lemmas.List.Elements.{All-nil, All-append, All-from_recursion}
+use Rattle.std.proofs.lemmas.List.Elements.{All-head, All-tail}
 use Rattle.tm_types.specs.declared.message.Message.{Message}
 use Rattle.model_rows.specs.declared.row.Row.{Row}
 use Rattle.model_dli.specs.declared.need.Need.{Need as RootNeed}
@@ -14,15 +16,21 @@ use Rattle.model_enqueue.specs.Ask.{after_asks, released}
 use Rattle.model_script.specs.declared.need.CallText.{CallText}
 use Rattle.model_script.specs.declared.need.Need.{Need}
 use Rattle.model_script.specs.declared.need.Need.TheVariants.{Call, Ended, Abend}
-use Rattle.model_system.specs.Jobs.{Job}
+use Rattle.model_system.specs.Jobs.{Job, job_of, job_by, job_with, program_at}
 use Rattle.model_machine.specs.Trial.{Reached, Trial, reached, trial_need, trial_of}
 use Rattle.model_machine.specs.Trial.Reached.{Messages, Rows, Nothing}
 use Rattle.model_machine.specs.Requests.{request_for, requests_at, requests_by, requests_of, asked_behind, asked_before}
-use Rattle.program_rows.specs.State.{DatabasesState, RegionRows, IsClean, IsRegionOf, no_rows, region_at, committed_rows, dbds_of, rows_of, clean_region, with_records_from}
+use Rattle.program_rows.specs.State.{DatabasesState, RegionRows, AreRowsOf, IsClean, IsRegionOf, no_rows, region_at, committed_rows, dbds_of, rows_of, clean_region, with_records_from}
 use Rattle.program_rows.specs.Answering.{IsBeside, IsCommitted, IsGivenUp}
 use Rattle.message_run.specs.Ahead.{IsAhead, IsHeld, StayOthers}
 use Rattle.message_run.specs.RunState.{RunState}
 use Rattle.message_run.proofs.Holding.{asks_keep}
+use Rattle.isolation_law.proofs.Beside.{kept}
+use Rattle.isolation_law.proofs.Others.{beside_committed as committed_law}
+use Rattle.model_system.specs.declared.code.Code.{Code}
+use Rattle.model_system.specs.declared.system_program.SystemProgram.{SystemProgram}
+use Rattle.model_system.specs.Codes.{code_at}
+use Rattle.system_types.specs.Valid.{IsServable, IsSystem}
 use Rattle.model_system.specs.System.{System}
 use Rattle.tm_machine.specs.declared.region.Busy.{Busy}
 use Rattle.tm_machine.specs.Region.{IsUnit}
@@ -52,46 +60,19 @@ own_behind : (region : ℕ) (job : Job) (trial : Option Trial) → AreOwn region
 own_behind region job (Some trial) = own_requests region job trial
 own_behind region job None = tt
 
-abbrev Own : ℕ → Request → Type 0
-Own region request = request.region ≡ region
-
-own_before : (region : ℕ) (job : Job) (rows : List (List Row)) (message : Message) (calls : ℕ) → All (Own region) (asked_before region job rows message calls)
-own_before region job rows message zero = All-nil (Own region)
-own_before region job rows message (suc calls) =
-    All-append (Own region) (asked_before region job rows message calls) (asked_behind region job (trial_of job rows message calls))
-    (own_before region job rows message calls)
-    (All-from_recursion (Own region) (asked_behind region job (trial_of job rows message calls)) (own_behind region job (trial_of job rows message calls)))
-
 -- ---- the work of a region that sees what it saw, and holds what it held
-pub ahead_same : (job : Job) (message : Message) (other : ℕ) (old new : DatabasesState) (unit : RunState)
-    → committed_rows new ≡ committed_rows old → region_at other new ≡ region_at other old → dbds_of new ≡ dbds_of old
-    → ((q : Request) → q.region ≡ other → IsHeld old.table q → IsHeld new.table q)
-    → IsAhead job message other old unit → IsAhead job message other new unit
-ahead_same job message other old new unit rows sees dbds holds h = record {
-  trial = h.trial;
-  made = ap (λ rs. trial_of job rs message unit.calls) rows ∙ h.made;
-  limit = h.limit;
-  script = h.script;
-  work = h.work;
-  seen = h.seen ∙ ap (λ (r : RegionRows). record { rows = r.rows; positions = unit.positions; changed = r.changed }) (sym sees);
-  held = subst (λ rs. All (IsHeld new.table) (asked_before other job rs message unit.calls)) (sym rows)
-      (λ k d below. holds _ (own_before other job (committed_rows old) message unit.calls k d below) (h.held k d below));
-  dbds = dbds ∙ h.dbds;
-  standing = h.standing;
-}
-
-pub clean_same : (other : ℕ) (old new : DatabasesState) → committed_rows new ≡ committed_rows old → region_at other new ≡ region_at other old → IsClean other old → IsClean other new
-clean_same other old new rows sees h = record {
-  sees = ap (λ r. r.rows) sees ∙ h.sees ∙ sym rows;
+clean_same : (other : ℕ) (old new : DatabasesState) → new.committed ≡ old.committed → region_at other new ≡ region_at other old → IsClean other old → IsClean other new
+clean_same other old new committed sees h = record {
+  sees = ap (λ r. r.rows) sees ∙ h.sees ∙ sym (ap rows_of committed);
   changed = ap (λ r. r.changed) sees ∙ h.changed;
 }
 
-pub unit_same : (job : Job) (message : Message) (other : ℕ) (old new : DatabasesState) (unit : Option RunState)
-    → committed_rows new ≡ committed_rows old → region_at other new ≡ region_at other old → dbds_of new ≡ dbds_of old
+unit_same : (job : Job) (message : Message) (other : ℕ) (old new : DatabasesState) (unit : Option RunState)
+    → new.committed ≡ old.committed → region_at other new ≡ region_at other old → dbds_of new ≡ dbds_of old
     → ((q : Request) → q.region ≡ other → IsHeld old.table q → IsHeld new.table q)
     → IsUnit job message other old unit → IsUnit job message other new unit
-unit_same job message other old new None rows sees dbds holds h = clean_same other old new rows sees h
-unit_same job message other old new (Some unit) rows sees dbds holds h = ahead_same job message other old new unit rows sees dbds holds h
+unit_same job message other old new None committed sees dbds holds h = clean_same other old new committed sees h
+unit_same job message other old new (Some unit) committed sees dbds holds h = kept job message other old new unit dbds holds h committed sees
 
 -- ---- other regions
 -- A region's step, or the end of its work, leaves the work of the other regions as it was.
@@ -99,7 +80,7 @@ pub record IsKeptBeside (region : ℕ) (old new : DatabasesState) : Type 0 where
   pub count : length new.regions ≡ length old.regions
   pub regions : new.table.regions ≡ old.table.regions
   pub units : (other : ℕ) → (other ≡ region → ⊥) → IsRegionOf old other → (job : Job) (message : Message) (unit : Option RunState)
-      → IsUnit job message other old unit → IsUnit job message other new unit
+      → IsServable job.system.databases job.pcbs job.lines → IsUnit job message other old unit → IsUnit job message other new unit
   pub idle : (other : ℕ) → (other ≡ region → ⊥) → IsRegionOf old other → IsIdle other old → IsIdle other new
 
 places_apart : (other region : ℕ) → (other ≡ region → ⊥) → 1 ≤ other → 1 ≤ region → other - 1 ≡ region - 1 → ⊥
@@ -122,12 +103,12 @@ pub beside_step : (region : ℕ) (old new : DatabasesState) (requests : List Req
 beside_step region old new requests positive stays own asked = record {
   count = ap length stays.regions ∙ set_count old.regions (region - 1) (region_at region new);
   regions = ap (λ t. t.regions) asked ∙ regions_asks region requests old.table;
-  units = λ other apart there job message unit.
-      unit_same job message other old new unit (ap rows_of stays.committed)
+  units = λ other apart there job message unit servable.
+      unit_same job message other old new unit stays.committed
       (sees_other region other old new (region_at region new) apart there.least positive stays.regions) stays.dbds
       (λ q same held. subst (λ t. IsHeld t q) (sym asked) (asks_keep region requests old.table q held));
   idle = λ other apart there was. record {
-    clean = clean_same other old new (ap rows_of stays.committed) (sees_other region other old new (region_at region new) apart there.least positive stays.regions) was.clean;
+    clean = clean_same other old new stays.committed (sees_other region other old new (region_at region new) apart there.least positive stays.regions) was.clean;
     waits = ap (wait_of other) asked ∙ wait_asks other region requests old.table own apart ∙ was.waits;
   };
 }
@@ -137,7 +118,7 @@ pub beside_same : (region : ℕ) (old new : DatabasesState) → new ≡ old → 
 beside_same region old new same = record {
   count = ap (λ d. length d.regions) same;
   regions = ap (λ d. d.table.regions) same;
-  units = λ other apart there job message unit was. subst (λ d. IsUnit job message other d unit) (sym same) was;
+  units = λ other apart there job message unit servable was. subst (λ d. IsUnit job message other d unit) (sym same) was;
   idle = λ other apart there was. subst (IsIdle other) (sym same) was;
 }
 
@@ -146,21 +127,21 @@ pub beside_given_up : (region : ℕ) (old new : DatabasesState) → 1 ≤ region
 beside_given_up region old new positive back dbds = record {
   count = ap length back.regions ∙ set_count old.regions (region - 1) (clean_region (committed_rows old));
   regions = ap (λ t. t.regions) back.table;
-  units = λ other apart there job message unit.
-      unit_same job message other old new unit (ap rows_of back.committed)
+  units = λ other apart there job message unit servable.
+      unit_same job message other old new unit back.committed
       (sees_other region other old new (clean_region (committed_rows old)) apart there.least positive back.regions) dbds
       (λ q same held. subst (λ t. IsHeld t q) (sym back.table) (held_released region old.table q (λ s. apart (sym same ∙ s)) held));
   idle = λ other apart there was. record {
-    clean = clean_same other old new (ap rows_of back.committed) (sees_other region other old new (clean_region (committed_rows old)) apart there.least positive back.regions) was.clean;
+    clean = clean_same other old new back.committed (sees_other region other old new (clean_region (committed_rows old)) apart there.least positive back.regions) was.clean;
     waits = ap (wait_of other) back.table ∙ wait_released other region old.table apart ∙ was.waits;
   };
 }
 
 -- The work in another region stays as it was where a region's changes are committed: what it holds is as before.
-abbrev pub BesideLaw : ℕ → DatabasesState → DatabasesState → Type 0
+abbrev BesideLaw : ℕ → DatabasesState → DatabasesState → Type 0
 BesideLaw region old new =
     (other : ℕ) → (other ≡ region → ⊥) → IsRegionOf old other → (job : Job) (message : Message) (unit : RunState)
-    → IsAhead job message other old unit → IsAhead job message other new unit
+    → IsServable job.system.databases job.pcbs job.lines → IsAhead job message other old unit → IsAhead job message other new unit
 
 beside_clean : (other : ℕ) (old new : DatabasesState) → IsBeside other old new → IsClean other old → IsClean other new
 beside_clean other old new beside was = record {
@@ -174,8 +155,9 @@ beside_clean other old new beside was = record {
         ∙ ap (λ (cs : List (ℕ × List ℕ)). record { rows = with_records_from cs (region_at other old).rows (committed_rows new); changed = cs }) was.changed
 
 -- a region's changes are committed
-pub beside_committed : (region : ℕ) (old new : DatabasesState) → IsCommitted region old new → BesideLaw region old new → IsKeptBeside region old new
-beside_committed region old new stays law = record {
+pub beside_committed : (region : ℕ) (old new : DatabasesState) → 1 ≤ region → IsCommitted region old new → dbds_of new ≡ dbds_of old
+    → AreRowsOf (dbds_of old) (committed_rows old) → AreRowsOf (dbds_of new) (committed_rows new) → IsKeptBeside region old new
+beside_committed region old new positive stays dbds rows_old rows_new = record {
   count = stays.count;
   regions = ap (λ t. t.regions) stays.table;
   units = units;
@@ -185,17 +167,54 @@ beside_committed region old new stays law = record {
   };
 }
   where
-    units : (other : ℕ) → (other ≡ region → ⊥) → IsRegionOf old other → (job : Job) (message : Message) (unit : Option RunState)
-        → IsUnit job message other old unit → IsUnit job message other new unit
-    units other apart there job message None was = beside_clean other old new (stays.others other apart there.least there.most) was
-    units other apart there job message (Some unit) was = law other apart there job message unit was
+    law : BesideLaw region old new
+    law other apart there job message unit servable ahead =
+        committed_law job message other region old new unit there.least positive apart dbds ahead servable rows_old rows_new there.most stays
 
-pub are_beside : (system : System) (region : ℕ) (old new : DatabasesState) → AreDatabases system old → IsKeptBeside region old new → dbds_of new ≡ dbds_of old → AreDatabases system new
-are_beside system region old new are beside dbds = record {
+    units : (other : ℕ) → (other ≡ region → ⊥) → IsRegionOf old other → (job : Job) (message : Message) (unit : Option RunState)
+        → IsServable job.system.databases job.pcbs job.lines → IsUnit job message other old unit → IsUnit job message other new unit
+    units other apart there job message None servable was = beside_clean other old new (stays.others other apart there.least there.most) was
+    units other apart there job message (Some unit) servable was = law other apart there job message unit servable was
+
+pub are_beside : (system : System) (region : ℕ) (old new : DatabasesState) → AreDatabases system old → IsKeptBeside region old new → dbds_of new ≡ dbds_of old
+    → AreRowsOf (dbds_of new) (committed_rows new) → AreDatabases system new
+are_beside system region old new are beside dbds rows = record {
   stores = dbds ∙ are.stores;
+  rows = rows;
   regions = beside.count ∙ are.regions;
   table = beside.regions ∙ are.table;
 }
+
+-- what is committed stays
+pub rows_stay : (old new : DatabasesState) → new.committed ≡ old.committed → dbds_of new ≡ dbds_of old → AreRowsOf (dbds_of old) (committed_rows old) → AreRowsOf (dbds_of new) (committed_rows new)
+rows_stay old new committed dbds rows =
+    subst (λ ds. AreRowsOf ds (committed_rows new)) (sym dbds) (subst (λ c. AreRowsOf (dbds_of old) (rows_of c)) (sym committed) rows)
+
+-- ---- jobs
+program_holds : (P : SystemProgram → Type 0) (p : SystemProgram → Bool) (programs : List SystemProgram) → All P programs → (found : SystemProgram) → find p programs ≡ Some found → P found
+program_holds P p [] h found e = cc
+program_holds P p (program ∷ programs) h found e =
+    by (p program) e (All-head P program programs h) (λ f. program_holds P p programs (All-tail P program programs h) found f)
+  where
+    by : (b : Bool) → (if b then Some program else find p programs) ≡ Some found → P program → (find p programs ≡ Some found → P found) → P found
+    by true f here rest = let same : program ≡ found = cc in subst P same here
+    by false f here rest = rest f
+
+-- the job of a code can be served
+pub job_servable : (system : System) (code : List ℕ) (job : Job) → IsSystem system → job_of system code ≡ Some job → IsServable job.system.databases job.pcbs job.lines
+job_servable system code job valid e = by (code_at system.codes code) e
+  where
+    by_program : (c : Code) (program : Option SystemProgram) → program_at system.programs c.psb ≡ program → option_map (job_with system c) program ≡ Some job
+        → IsServable job.system.databases job.pcbs job.lines
+    by_program c None f g = cc
+    by_program c (Some program) f g =
+        let same : job_with system c program ≡ job = cc in
+        subst (λ (j : Job). IsServable j.system.databases j.pcbs j.lines) same
+        (program_holds (λ (p : SystemProgram). IsServable system.databases p.pcbs p.program) (λ (p : SystemProgram). bytes_eq p.psb c.psb) system.programs valid.programs program f)
+
+    by : (c : Option Code) → option_and_then (job_by system) c ≡ Some job → IsServable job.system.databases job.pcbs job.lines
+    by None f = cc
+    by (Some c) f = by_program c (program_at system.programs c.psb) refl f
 
 -- ---- the regions of a control region
 within : (regions : List (Option Busy)) (place : ℕ) (r : Option Busy) → slice_get regions place ≡ Some r → place < length regions
@@ -215,7 +234,7 @@ set_none (r ∷ regions) (suc place) (suc other) new e =
     pred-same : suc place ≡ suc other → place ≡ other
     pred-same s = omega (arith, s)
 
-module _ (system : System) (old new : DatabasesState) (regions : List (Option Busy)) (region : ℕ) (beside : IsKeptBeside region old new)
+module _ (system : System) (valid : IsSystem system) (old new : DatabasesState) (regions : List (Option Busy)) (region : ℕ) (beside : IsKeptBeside region old new)
     (count : length old.regions ≡ length regions) (positive : 1 ≤ region) where
   apart_from : (other : ℕ) → (region - 1 ≡ other → ⊥) → other + 1 ≡ region → ⊥
   apart_from other apart e = apart (omega (arith, positive, e))
@@ -227,7 +246,7 @@ module _ (system : System) (old new : DatabasesState) (regions : List (Option Bu
   stay_at_work other busy apart e message was = record {
     job = was.job;
     serves = was.serves;
-    unit = beside.units (other + 1) (apart_from other apart) (there_for other (Some busy) e) was.job message busy.unit was.unit;
+    unit = beside.units (other + 1) (apart_from other apart) (there_for other (Some busy) e) was.job message busy.unit (job_servable system busy.code was.job valid was.serves) was.unit;
   }
 
   idle_there : (other : ℕ) → (region - 1 ≡ other → ⊥) → slice_get regions other ≡ Some None → AreIdle old regions → IsIdle (other + 1) new

@@ -22,7 +22,7 @@ use Rattle.model_machine.specs.Lasting.LastingStep.{Accepts}
 use Rattle.model_machine.specs.Steps.{accepts, input_answer, After}
 use Rattle.model_machine.specs.Flags.{all_followed}
 use Rattle.model_enqueue.specs.Table.{empty_table, wait_of}
-use Rattle.program_rows.specs.State.{DatabasesState, RegionRows, IsClean, clean_region, committed_rows, dbds_of, no_rows, region_at}
+use Rattle.program_rows.specs.State.{DatabasesState, RegionRows, AreRowsOf, IsClean, clean_region, committed_rows, dbds_of, no_rows, region_at}
 use Rattle.lasting_state.specs.Tables.{TablesState, lasting_of, enqueued}
 use Rattle.tm_machine.specs.declared.region.Busy.{Busy}
 use Rattle.tm_machine.specs.Parts.{slots_of, settings_of, flags_of, IsTold, AreParts, AreDatabases}
@@ -93,9 +93,9 @@ pub parts_start : (system : System) (tables : TablesState) (states : List CodeSt
     → IsSystem system → tables.queues ≡ record { limit = system.qbytes; queued = [] } → lasting_of (map first_setting system.codes) tables ≡ empty_state system
     → regions ≡ replicate (length system.regions) None → states ≡ map codes.first_state system.codes
     → dbds_of tables.databases ≡ system.databases → tables.databases.regions ≡ replicate (length system.regions) (clean_region (committed_rows tables.databases))
-    → tables.databases.table ≡ empty_table (length system.regions)
+    → tables.databases.table ≡ empty_table (length system.regions) → AreRowsOf (dbds_of tables.databases) (committed_rows tables.databases)
     → AreParts system tables states regions
-parts_start system tables states regions valid queues lasting empty first dbds clean table = record {
+parts_start system tables states regions valid queues lasting empty first dbds clean table rows = record {
   valid = valid;
   limit = ap (λ q. q.limit) queues;
   names = ap (λ l. map (λ t. t.name) l.terminals) lasting ∙ fresh_names system.terminals;
@@ -104,7 +104,7 @@ parts_start system tables states regions valid queues lasting empty first dbds c
   settled = rw first (rw (ap (λ q. q.queued) queues) (rw (first_flags system.codes) (none_raised system.codes)));
   told = rw (ap (λ q. q.queued) queues) tt;
   at_work = λ place busy e. absurd (none_busy (length system.regions) place busy (sym (ap (λ rs. slice_get rs place) empty) ∙ e));
-  databases = record { stores = dbds; regions = ap length clean ∙ rows_length (length system.regions) (clean_region (committed_rows tables.databases)); table = ap (λ t. t.regions) table };
+  databases = record { stores = dbds; rows = rows; regions = ap length clean ∙ rows_length (length system.regions) (clean_region (committed_rows tables.databases)); table = ap (λ t. t.regions) table };
   idle = λ place e. record {
     clean = clean_first tables.databases (length system.regions) place clean (below_none (length system.regions) place (sym (ap (λ rs. slice_get rs place) empty) ∙ e));
     waits = ap (wait_of (place + 1)) table;

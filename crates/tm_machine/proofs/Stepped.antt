@@ -22,7 +22,7 @@ use Rattle.tm_machine.specs.declared.region.Busy.{Busy}
 use Rattle.tm_machine.specs.Region.{IsWork, IsQueuedWork, SameMessage, StepsOn, Steps, SameWork}
 use Rattle.tm_machine.specs.Parts.{slot_of, slots_of, settings_of, flags_of, AreParts}
 use Rattle.tm_machine.proofs.Linked.{step_told, step_at_work, set_length, get_slots}
-use Rattle.tm_machine.proofs.Others.{IsKeptBeside, are_beside, beside_same, beside_step, idle_at_work, own_requests, stay_at_work}
+use Rattle.tm_machine.proofs.Others.{IsKeptBeside, are_beside, beside_same, beside_step, idle_at_work, own_requests, rows_stay, stay_at_work}
 use Rattle.message_run.specs.RunState.{RunState}
 
 -- what holds of some message holds of each that is found
@@ -104,12 +104,12 @@ module _ (system : System) (tables : TablesState) (states : List CodeState) (reg
       rw (ap (option_map (λ q. q.message)) work.found) (subst (λ n. IsWork system tables.databases n work.message busy) here work.work)
 
   pub parts_step : 1 ≤ region → (old new : Option Busy) (tables' : TablesState) → slice_get regions (region - 1) ≡ Some old
-      → tables' ≡ record tables { databases = tables'.databases } → dbds_of tables'.databases ≡ dbds_of tables.databases → Keeps system region tables tables'.databases old new
+      → tables' ≡ record tables { databases = tables'.databases } → tables'.databases.committed ≡ tables.databases.committed → dbds_of tables'.databases ≡ dbds_of tables.databases → Keeps system region tables tables'.databases old new
       → AreParts system tables' states (slice_set regions (region - 1) new)
-  parts_step positive None new tables' e is dbds h =
+  parts_step positive None new tables' e is committed dbds h =
       rw h.0 (rw (set_same regions (region - 1) None e) (subst (λ t. AreParts system t states regions) (sym (is ∙ ap (λ d. record tables { databases = d }) h.1)) parts))
-  parts_step positive (Some old) None tables' e is dbds h = absurd h
-  parts_step positive (Some old) (Some new) tables' e is dbds h =
+  parts_step positive (Some old) None tables' e is committed dbds h = absurd h
+  parts_step positive (Some old) (Some new) tables' e is committed dbds h =
       subst (λ t. AreParts system t states (slice_set regions (region - 1) (Some new))) (sym is) (record {
         valid = parts.valid;
         limit = parts.limit;
@@ -120,10 +120,10 @@ module _ (system : System) (tables : TablesState) (states : List CodeState) (reg
         told = step_told tables.queues.queued regions (region - 1) old new e h.0.id parts.told;
         at_work = step_at_work system tables.databases tables'.databases tables.queues.queued regions (region - 1) old new e h.0.id
             (λ message found. subst (λ n. IsWork system tables'.databases n message new) (sym here) (h.1 message found))
-            (stay_at_work system tables.databases tables'.databases regions region h.2 count positive)
+            (stay_at_work system parts.valid tables.databases tables'.databases regions region h.2 count positive)
             parts.at_work;
-        databases = are_beside system region tables.databases tables'.databases parts.databases h.2 dbds;
-        idle = idle_at_work system tables.databases tables'.databases regions region h.2 count positive new parts.idle;
+        databases = are_beside system region tables.databases tables'.databases parts.databases h.2 dbds (rows_stay tables.databases tables'.databases committed dbds parts.databases.rows);
+        idle = idle_at_work system parts.valid tables.databases tables'.databases regions region h.2 count positive new parts.idle;
       })
     where
       here : region - 1 + 1 ≡ region

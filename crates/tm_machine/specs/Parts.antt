@@ -11,7 +11,7 @@ use Rattle.model_machine.specs.declared.lasting.CodeSetting.{CodeSetting}
 use Rattle.model_machine.specs.Machine.{Moment, Slot, is_held, setting_of, raised_now}
 use Rattle.system_types.specs.Valid.{IsSystem}
 use Rattle.model_enqueue.specs.Table.{wait_of}
-use Rattle.program_rows.specs.State.{DatabasesState, IsClean, dbds_of}
+use Rattle.program_rows.specs.State.{DatabasesState, AreRowsOf, IsClean, committed_rows, dbds_of}
 use Rattle.lasting_state.specs.Tables.{TablesState}
 use Rattle.tm_machine.specs.declared.region.Busy.{Busy}
 use Rattle.tm_machine.specs.Region.{IsWork, calls_made}
@@ -52,9 +52,10 @@ abbrev pub AreAtWork : System → DatabasesState → List Queued → List (Optio
 AreAtWork system databases queued regions =
     (place : ℕ) (busy : Busy) → slice_get regions place ≡ Some (Some busy) → IsAtWork system databases queued (place + 1) busy
 
--- these are the system's databases, and its regions work on them
+-- These are the system's databases, with rows of them, and its regions work on them.
 pub record AreDatabases (system : System) (databases : DatabasesState) : Type 0 where
   pub stores : dbds_of databases ≡ system.databases
+  pub rows : AreRowsOf (dbds_of databases) (committed_rows databases)
   pub regions : length databases.regions ≡ length system.regions
   pub table : databases.table.regions ≡ length system.regions
 

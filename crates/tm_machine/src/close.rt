@@ -3,7 +3,7 @@ ghost use Rattle.std.specs.Prelude.{◌≡◌, ◌≤◌, ◌-◌, ◌∷◌, No
 ghost use Rattle.model_queues.specs.Queue.{AreInOrder, IsNewId, message_at, queued_at};
 ghost use Rattle.model_machine.specs.Lasting.{abend_outputs};
 ghost use Rattle.model_machine.specs.Lasting.LastingStep.{Completes, Discards};
-ghost use Rattle.program_rows.specs.State.{dbds_of, region_at, IsRegionOf};
+ghost use Rattle.program_rows.specs.State.{committed_rows, dbds_of, region_at, AreRowsOf, IsRegionOf};
 ghost use Rattle.program_rows.specs.Answering.{IsCommitted, IsGivenUp};
 ghost use Rattle.lasting_state.specs.Tables.{given_back, with_databases, Applies, IsClosed};
 ghost use Rattle.tm_machine.specs.Ends.{destinations};
@@ -47,6 +47,7 @@ pub fn complete(
     ensures step { OnOk result (Applies (Completes id (region_at region tables.old.databases).rows outputs.items) tables.old tables.new) }
     ensures closed { OnOk result (IsClosed tables.new.databases (λ _. outputs.items) tables.old tables.new id) }
     ensures databases { OnOk result (IsCommitted region tables.old.databases tables.new.databases) }
+    ensures rows { OnOk result (AreRowsOf (dbds_of tables.new.databases) (committed_rows tables.new.databases)) }
     ensures dbds { dbds_of tables.new.databases ≡ dbds_of tables.old.databases }
     ensures same { OnErr result (regions.new ≡ regions.old) }
     ensures err { OnErr result (tables.new ≡ tables.old) }

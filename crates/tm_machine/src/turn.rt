@@ -1,5 +1,5 @@
 //! The turns of the regions.
-ghost use Rattle.std.specs.Prelude.{◌≡◌, length, IfOk, OnErr, None};
+ghost use Rattle.std.specs.Prelude.{◌≡◌, IfOk, OnErr, None};
 ghost use Rattle.model_machine.specs.declared.entry.Entry.TheVariants.{Turn as TurnEntry};
 ghost use Rattle.model_machine.specs.Machine.{IsRegion, slot_at};
 ghost use Rattle.model_machine.specs.Steps.{need_now};
@@ -10,7 +10,6 @@ use crate::flags::follow;
 use crate::next::SLOT_ROOM;
 use crate::parts::Parts;
 use crate::region::{Busy, advance, count_busy, take};
-use deadlock_pick::Path;
 use message_run::Advanced;
 use model_enqueue::Victims;
 use model_machine::{ControlFault, Turned};
@@ -36,9 +35,6 @@ impl Parts {
         ensures turned { IfOk result (IsTurned self.old self.new region) }
         ensures err { OnErr result (self.new ≡ self.old) }
     {
-        let Ok(mut path) = Path::new(self.alloc, self.region_count()) else {
-            return Err(Memory);
-        };
         match self.advance(region) {
             Ok(None) => self.schedule(region),
             Ok(Some(Advanced::Called(function, pcb, status))) => {
@@ -46,7 +42,7 @@ impl Parts {
             }
             Ok(Some(Advanced::Ended(ending))) => self.finish(region, ending),
             Ok(Some(Advanced::Waits(resource, by))) => {
-                let victims = self.break_rings(&mut path, region);
+                let victims = self.break_rings(region);
                 Ok(waited(resource, by, victims))
             }
             Err(error) => Err(error),
@@ -67,13 +63,6 @@ impl Parts {
             &mut self.tables,
             &mut self.regions[region as usize - 1],
         )
-    }
-
-    /// How many regions there are.
-    fn region_count(&self) -> u32
-        ensures { result ≡ length self.now.system.regions }
-    {
-        self.system.regions().len() as u32
     }
 
     /// What the queues need for one more region at work.

@@ -26,7 +26,7 @@ invariant_of-self c =
     let get : slice_get c.self.inside.regions.items (c.args.region - 1) ≡ Some c.index_mut.result.now =
     slice_get-get_or c.self.inside.regions.items (c.args.region - 1) _ within ∙ ap Some (sym c.index_mut.ensures.value) in
     parts_step c.self.inside.system c.self.inside.tables c.self.inside.codes c.self.inside.regions.items c.args.region c.self.invariant region.0
-    c.index_mut.result.now c.advance.new.work c.advance.new.tables get c.advance.ensures.tables c.advance.ensures.others.dbds
+    c.index_mut.result.now c.advance.new.work c.advance.new.tables get c.advance.ensures.tables c.advance.ensures.others.committed c.advance.ensures.others.dbds
     (keeps_by c.self.inside.system c.args.region c.self.inside.tables c.advance.new.tables c.index_mut.result.now c.advance.new.work c.advance.result
     region.0 c.advance.ensures.others c.advance.ensures.stays c.advance.ensures.steps c.advance.ensures.err c.advance.ensures.kept)
 
