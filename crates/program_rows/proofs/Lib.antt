@@ -17,3 +17,4 @@ pub mod SlotRows
 pub mod SetUnits
 pub mod BackUnits
 pub mod Overlay
+pub mod Committing
