@@ -2,3 +2,4 @@ pub mod State
 pub mod Isolation
 pub mod Answering
 pub mod Open
+pub mod Making
