@@ -18,3 +18,5 @@ pub mod SetUnits
 pub mod BackUnits
 pub mod Overlay
 pub mod Committing
+pub mod Setting
+pub mod Makings
