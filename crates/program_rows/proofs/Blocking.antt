@@ -45,7 +45,7 @@ turn_true false e = refl
 
 -- entries after one is put in
 module _ {X : Type 0} where
-  all_put : (P : Holder × X → Type 0) (k : Holder) (v : X) (es : List (Holder × X)) → ((x : Holder) → holder_cmp k x ≡ Equal → P (x, v)) → P (k, v) → AllByRecursion P es
+  pub all_put : (P : Holder × X → Type 0) (k : Holder) (v : X) (es : List (Holder × X)) → ((x : Holder) → holder_cmp k x ≡ Equal → P (x, v)) → P (k, v) → AllByRecursion P es
       → AllByRecursion P (insert_entry holder_cmp es k v)
   all_put P k v [] f p h = (p, tt)
   all_put P k v (e ∷ es) f p h = by (holder_cmp k e.0) refl (all_put P k v es f p h.1)

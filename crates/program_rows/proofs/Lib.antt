@@ -20,3 +20,6 @@ pub mod Overlay
 pub mod Committing
 pub mod Setting
 pub mod Makings
+pub mod Followed
+pub mod Rooting
+pub mod Calling

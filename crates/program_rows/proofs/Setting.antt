@@ -45,7 +45,7 @@ pub is_stored : (number : ℕ) (stores : List Stored) (dbd : Dbd) → 1 ≤ numb
 is_stored number stores dbd least e =
     omega (arith, slice_get_within (map (λ (x : Stored). x.dbd) stores) (number - 1) dbd e, length-map stores (λ (x : Stored). x.dbd), least)
 
-dbds_stay : (stores : List Stored) (i : ℕ) (s new : Stored) → slice_get stores i ≡ Some s → new.dbd ≡ s.dbd → map (λ (x : Stored). x.dbd) (set stores i new) ≡ map (λ (x : Stored). x.dbd) stores
+pub dbds_stay : (stores : List Stored) (i : ℕ) (s new : Stored) → slice_get stores i ≡ Some s → new.dbd ≡ s.dbd → map (λ (x : Stored). x.dbd) (set stores i new) ≡ map (λ (x : Stored). x.dbd) stores
 dbds_stay [] i s new e d = refl
 dbds_stay (x ∷ stores) zero s new e d =
     let same : Some x ≡ Some s = e in
@@ -62,7 +62,7 @@ roots_push : (records : List Change) (c : Change) → roots_of (records ++ c ∷
 roots_push [] c = refl
 roots_push (x ∷ records) c = ap (λ ys. (x.db, x.root) ∷ ys) (roots_push records c)
 
-changed_push : (c : Change) (records : List Change) → roots_of (with_change c records) ≡ with_changed c.db (Some c.root) (roots_of records)
+pub changed_push : (c : Change) (records : List Change) → roots_of (with_change c records) ≡ with_changed c.db (Some c.root) (roots_of records)
 changed_push c records = by (is_changed c.db c.root records) refl
   where
     by : (b : Bool) → is_changed c.db c.root records ≡ b → roots_of (with_change c records) ≡ with_changed c.db (Some c.root) (roots_of records)
