@@ -22,4 +22,5 @@ pub mod Setting
 pub mod Makings
 pub mod Followed
 pub mod Rooting
-pub mod Calling
+pub mod Called
+pub mod Doing

@@ -1,6 +1,7 @@
 -- A record that is set by a region's unit, and a unit that is put back.
-use Rattle.std.proofs.Common.{◌≡◌, ℕ, ◌-◌, List, refl, sym, ◌∙◌, ap, subst, false, Option, Some, None, Result, Ok, Err, set, map, get_or, []}
+use Rattle.std.proofs.Common.{◌≡◌, ℕ, ◌-◌, List, refl, sym, ◌∙◌, ap, subst, Bool, true, false, Option, Some, None, Result, Ok, Err, set, map, get_or, []}
 use Rattle.std.specs.List.{slice_get}
+use Rattle.std.specs.Option.{option_map, is_some}
 use Rattle.std.specs.Prelude.{IfSome, OnOk, OnErr}
 use Rattle.tm_types.specs.declared.dbd.Dbd.{Dbd}
 use Rattle.seg_store.specs.Slots.{Stored, rows_of_slots}
@@ -8,6 +9,9 @@ use Rattle.model_rows.specs.Rows.{record_of}
 use Rattle.unit_work.specs.Changes.{Changes, is_full, no_changes, with_change, with_touch}
 use Rattle.unit_work.specs.Touching.{Touching}
 use Rattle.dli_calls.specs.declared.planned.Edit.{Edit}
+use Rattle.model_enqueue.specs.declared.request.Request.{Request}
+use Rattle.pi_enqueue.specs.declared.table.Blocked.{Blocked}
+use Rattle.pi_enqueue.specs.Grant.{told}
 use Rattle.program_rows.specs.Open.{records_of}
 use Rattle.program_rows.specs.Making.{IsPut, IsSame, IsSet, HasAskedIn, TakesSlot, changed_in, kept_of}
 use Rattle.program_rows.specs.declared.asked.Asked.{Asked}
@@ -64,7 +68,12 @@ put_left region old new u v units at out same back stores table =
     }
 
 -- whether the unit of a region is full
-pub unit_full : (number : ℕ) (root : List ℕ) (region : ℕ) (o : Opened) (units : List Changes) (u : Changes) (b : Rattle.std.proofs.Common.Bool) → units ≡ o.units.items → slice_get units (region - 1) ≡ Some u
+pub unit_full : (number : ℕ) (root : List ℕ) (region : ℕ) (o : Opened) (units : List Changes) (u : Changes) (b : Bool) → units ≡ o.units.items → slice_get units (region - 1) ≡ Some u
     → b ≡ is_full number root u.records → is_full number root (changed_in region o) ≡ b
 unit_full number root region o units u b same at e =
     ap (is_full number root) (unit_records o.units.items (region - 1) u (ap (λ us. slice_get us (region - 1)) (sym same) ∙ at)) ∙ sym e
+
+-- where none is told to be blocked, none is
+pub none_told : (answered : Option Blocked) (some : Bool) (o : Option (Request × ℕ)) → answered ≡ option_map told o → some ≡ is_some answered → some ≡ false → o ≡ None
+none_told answered some None e is h = refl
+none_told answered some (Some x) e is h = let clash : true ≡ false = sym (is ∙ ap is_some e) ∙ h in absurd (cc)

@@ -3,3 +3,4 @@ pub mod Isolation
 pub mod Answering
 pub mod Open
 pub mod Making
+pub mod Calling

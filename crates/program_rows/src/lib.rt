@@ -13,6 +13,7 @@ pub use model_dli::{DbCall, Position};
 
 mod answer;
 mod asked;
+mod calling;
 mod databases;
 mod making;
 mod opened;

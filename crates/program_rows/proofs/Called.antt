@@ -42,8 +42,9 @@ use Rattle.footprint_law.proofs.Kept.{rows_kept}
 use Rattle.program_rows.specs.State.{DatabasesState, RegionRows, no_rows, roots_of, rows_of, rows_in, dbds_of, data_of, region_at, rows_numbered}
 use Rattle.program_rows.specs.Isolation.{request_of, requests_of_call}
 use Rattle.program_rows.specs.Answering.{blocked_of, told_blocked, IsAnswer, Gives, LeadsToAbend, region_after, regions_after, table_left, StaysAtAbend}
+use Rattle.program_rows.specs.Calling.{Called}
 use Rattle.program_rows.specs.Open.{records_of, opened, regions_from, seen_by, HoldsAlone, AreUnits}
-use Rattle.program_rows.specs.Making.{seen, IsOpen, changed_in, IsSame, WaitsAt, IsSet, IsPut, TakesSlot, HasAsked, HasAskedIn, kept_of, edit_abend, IsEdited, IsMade, LeadsTo, Makes}
+use Rattle.program_rows.specs.Making.{seen, IsOpen, changed_in, IsSame, WaitsAt, IsSet, IsPut, TakesSlot, kept_of}
 use Rattle.program_rows.specs.declared.answer.Answered as answer
 use Rattle.program_rows.specs.declared.answer.DataAnswer.{DataAnswer}
 use Rattle.program_rows.specs.declared.answer.DataAnswer.TheVariants.{Answered, Abend, Blocked}
@@ -61,17 +62,6 @@ use Rattle.program_rows.proofs.Setting.{rows_at_is, dbd_there, dbds_stay, change
 use Rattle.program_rows.proofs.SetUnits.{Follows, IsSetIn, set_units, set_committed, set_others, set_seen}
 use Rattle.program_rows.proofs.Stepping.{own_image}
 use Rattle.std.proofs.lemmas.Bool.{cases_eq}
-
--- what is so of a call that was made, or waits
-pub record Called (region number : ℕ) (dbd : Dbd) (call : DbCall) (at : Position) (old new : DatabasesState) (a : DataAnswer) : Type 0 where
-  pub blocked : blocked_of a ≡ told_blocked (first_blocked (requests_of_call region number dbd call at old) old.table)
-  pub abend : LeadsToAbend (data_abend number (data_of region old []) (dli dbd call at (rows_numbered region number old))) a
-  pub gives : Gives (dli dbd call at (rows_numbered region number old)) a
-  pub leaves : new.regions ≡ regions_after region number (dli dbd call at (rows_numbered region number old)) old a
-  pub asks : new.table ≡ table_left region (requests_of_call region number dbd call at old) old.table a
-  pub stays : StaysAtAbend old new a
-  pub committed : new.committed ≡ old.committed
-  pub dbds : dbds_of new ≡ dbds_of old
 
 set_there : {A : Type 0} (xs : List A) (i : ℕ) (x : A) → set xs i (get_or xs i x) ≡ xs
 set_there [] i x = refl
