@@ -78,7 +78,7 @@ need_asked region number need [] h = absurd h
 need_asked region number need (first ∷ needs) h = ⊎_elim (λ e. inl (ap (request_of region number) e)) (λ later. inr (need_asked region number need needs later)) h
 
 module _ (o : Opened) (h : AreUnits (records_of o.units.items) o.stores o.table) (region number : ℕ) (first : 1 ≤ region) (last : region ≤ length (records_of o.units.items)) (least : 1 ≤ number)
-  (dbd : Dbd) (call : DbCall) (at : Position) (position : IsPosition dbd.types at) (ok : IsDbCall dbd.types call) (s : Stored) (there : slice_get o.stores (number - 1) ≡ Some s) (same_dbd : s.dbd ≡ dbd) where
+    (dbd : Dbd) (call : DbCall) (at : Position) (position : IsPosition dbd.types at) (ok : IsDbCall dbd.types call) (s : Stored) (there : slice_get o.stores (number - 1) ≡ Some s) (same_dbd : s.dbd ≡ dbd) where
   abbrev pub place : ℕ
   place = region - 1
 
@@ -227,10 +227,10 @@ module _ (o : Opened) (h : AreUnits (records_of o.units.items) o.stores o.table)
 
     -- a call that sets a record
     module _ (p : Planned) (e : Edit) (new : Opened) (plans : PlansEdit dbd stored (dli dbd call at stored) p e) (exists : IsThere stored (Some e))
-      (limits : abend_by number (roots_of (get_or units place [])) (Some e.root) (limit_of (set_refusal dbd e.root e.image stored)) ≡ None) (slot : ℕ) (put : IsPut number e o.stores new.stores)
-      (takes : TakesSlot put.s e slot) (room : is_full number e.root (get_or units place []) ≡ false)
-      (u : records_of new.units.items ≡ set units place (with_change (kept_of number slot e put.s) (get_or units place [])))
-      (t : new.table ≡ after_asks region (map (request_of region number) (footprint dbd call at stored)) o.table) (kept : IsKept new.table) where
+        (limits : abend_by number (roots_of (get_or units place [])) (Some e.root) (limit_of (set_refusal dbd e.root e.image stored)) ≡ None) (slot : ℕ) (put : IsPut number e o.stores new.stores)
+        (takes : TakesSlot put.s e slot) (room : is_full number e.root (get_or units place []) ≡ false)
+        (u : records_of new.units.items ≡ set units place (with_change (kept_of number slot e put.s) (get_or units place [])))
+        (t : new.table ≡ after_asks region (map (request_of region number) (footprint dbd call at stored)) o.table) (kept : IsKept new.table) where
       abbrev pub change : Change
       change = kept_of number slot e put.s
 

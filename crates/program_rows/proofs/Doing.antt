@@ -34,8 +34,8 @@ use Rattle.program_rows.proofs.Followed.{follows, follow_units}
 use Rattle.program_rows.proofs.Setting.{rows_at_is}
 
 module _ (o : Opened) (h : AreUnits (records_of o.units.items) o.stores o.table) (region number : ℕ) (first : 1 ≤ region) (last : region ≤ length (records_of o.units.items)) (least : 1 ≤ number)
-  (dbd : Dbd) (call : DbCall) (at : Position) (position : IsPosition dbd.types at) (ok : IsDbCall dbd.types call) (s : Stored) (there : slice_get o.stores (number - 1) ≡ Some s) (same_dbd : s.dbd ≡ dbd)
-  (new : Opened) where
+    (dbd : Dbd) (call : DbCall) (at : Position) (position : IsPosition dbd.types at) (ok : IsDbCall dbd.types call) (s : Stored) (there : slice_get o.stores (number - 1) ≡ Some s) (same_dbd : s.dbd ≡ dbd)
+    (new : Opened) where
   stored : List Row
   stored = rows_in number (rows_of o.stores)
 

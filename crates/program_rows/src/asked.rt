@@ -22,12 +22,7 @@ pub struct Asked {
 }
 
 /// What a region asks for to have these needs.
-pub fn asked_for(
-    alloc: Global,
-    region: u32,
-    number: u8,
-    needs: &[Need],
-) -> Result<Asked, Memory>
+pub fn asked_for(alloc: Global, region: u32, number: u8, needs: &[Need]) -> Result<Asked, Memory>
     ensures region { IfOk result (λ asked. asked.region ≡ region) }
     ensures number { IfOk result (λ asked. asked.number ≡ number) }
     ensures requests { IfOk result (λ asked. asked.requests.items ≡ map (request_of region number) needs.now) }

@@ -179,12 +179,7 @@ fn prepare(
 }
 
 // Asks for what the call needs, keeps the touch and sets the record; or leaves the touch.
-fn keep(
-    asked: &Asked,
-    edit: Edit,
-    prepared: Prepared,
-    opened: &mut Opened,
-) -> Result<(), Memory>
+fn keep(asked: &Asked, edit: Edit, prepared: Prepared, opened: &mut Opened) -> Result<(), Memory>
     requires least { 1 ≤ asked.now.region }
     requires most { asked.now.region ≤ length opened.old.units.items }
     requires region { IsRegion opened.old.table asked.now.region }
