@@ -24,3 +24,4 @@ pub mod Followed
 pub mod Rooting
 pub mod Called
 pub mod Doing
+pub mod Ending
