@@ -1,7 +1,7 @@
 -- Where a call leaves a PCB are paths of the database.
-use Rattle.std.proofs.Common.{◌≡◌, ℕ, ◌-◌, ◌≤◌, List, length, Bool, true, false, cond, ◌&&◌, Option, None, Some, refl, sym, subst, ap}
+use Rattle.std.proofs.Common.{◌≡◌, ℕ, ◌-◌, ◌≤◌, List, length, Bool, true, false, cond, ◌&&◌, Option, None, Some, refl, sym, subst}
 use Rattle.std.specs.Option.{option_map_or}
-use Rattle.std.specs.Prelude.{◌==◌, All, IfOk, IfSome, IsSomeAnd, Result, Ok, Err, OnOk, OnErr, slice_get}
+use Rattle.std.specs.Prelude.{◌==◌, All, IfOk, IfSome, IsSomeAnd, Result, Ok, Err, slice_get}
 use Rattle.std.proofs.lemmas.Option.{none-some, get_or_from_slice_get, slice_get_within}
 use Rattle.std.proofs.lemmas.List.Elements.{All-get_or}
 use Rattle.tm_types.specs.declared.dbd.Dbd.{Dbd}
@@ -16,13 +16,13 @@ use Rattle.model_rows.specs.Rows.{AreRows}
 use Rattle.tm_types.specs.Segment.{IsSegmentText}
 use Rattle.tm_types.specs.SegTypes.{type_at}
 use Rattle.model_rows.specs.Path.{end_type}
-use Rattle.model_dli.specs.declared.call.Performed.{Performed}
 use Rattle.model_dli.specs.declared.call.Position.{Position}
 use Rattle.model_dli.specs.declared.call.Reach.{Reach}
 use Rattle.model_dli.specs.declared.call.Reach.TheVariants.{Start, Next, Parent}
 use Rattle.model_dli.specs.Search.{is_after, is_below, fits, is_there, first_below}
 use Rattle.model_dli.specs.Get.{reached, position_at, position_failed, position_missed}
 use Rattle.model_dli.specs.Conditions.{IsPosition}
+use Rattle.dli_calls.specs.declared.planned.Planned.{Planned}
 use Rattle.row_search.proofs.Finding.{find_has}
 
 -- a row that a get reaches is one of the rows
@@ -67,10 +67,10 @@ reached_text dbd reach ssas at rows row h e short =
     let r = reached_row dbd reach ssas at rows row h e in
     (short_type (type_at dbd.types (end_type row.path)) (length row.bytes) (short_at dbd.types (end_type row.path) short) r.whole, r.printable)
 
-pub gives_text : {E : Type 0} (result : Result Performed E) (status : Status) (bytes : List ℕ) → IfOk result (λ p. p ≡ record { status = status; area = Some bytes; changed = None })
-    → IsSegmentText bytes → IfOk result (λ p. IfSome p.area IsSegmentText)
-gives_text (Ok p) status bytes e text = subst (λ o. IfSome o IsSegmentText) (sym (ap (λ (q : Performed). q.area) e)) text
-gives_text (Err x) status bytes e text = tt
+-- what holds of a plan holds of what comes to just that plan
+pub as_planned : {E : Type 0} (P : Planned → Type 0) (result : Result Planned E) (plan : Planned) → IfOk result (λ p. p ≡ plan) → P plan → IfOk result P
+as_planned P (Ok p) plan e h = subst P (sym e) h
+as_planned P (Err x) plan e h = tt
 
 -- a PCB on a path of the database stands on paths of the database
 pub stands_at : (types : List SegType) (reach : Reach) (hold : Bool) (at : Position) (path : List (ℕ × List ℕ)) → IsPosition types at → IsPath types path
@@ -105,9 +105,3 @@ stands_missed types reach II at h = stands_failed types reach at h
 stands_missed types reach DJ at h = stands_failed types reach at h
 stands_missed types reach DA at h = stands_failed types reach at h
 stands_missed types reach AM at h = stands_failed types reach at h
-
--- what comes of a get that reached a row
-pub stands_after : {A B : Type 0} (types : List SegType) (reach : Reach) (hold : Bool) (at new : Position) (path : List (ℕ × List ℕ)) → IsPosition types at → IsPath types path
-    → (result : Result A B) → OnOk result (new ≡ position_at reach hold at path) → OnErr result (new ≡ at) → IsPosition types new
-stands_after types reach hold at new path h p (Ok x) ok err = subst (IsPosition types) (sym ok) (stands_at types reach hold at path h p)
-stands_after types reach hold at new path h p (Err x) ok err = subst (IsPosition types) (sym err) h

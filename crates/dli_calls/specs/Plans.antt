@@ -1,8 +1,9 @@
 -- What a plan of a call says, by the call's definition.
-use Rattle.std.specs.Prelude.{◌≡◌, ◌≢◌, List, [], Option, None, Some}
+use Rattle.std.specs.Prelude.{◌≡◌, ◌≢◌, ◌⊎◌, List, [], Option, None, Some, IsSome}
 use Rattle.tm_types.specs.declared.dbd.Dbd.{Dbd}
 use Rattle.model_rows.specs.declared.row.Row.{Row}
 use Rattle.model_rows.specs.Rows.{record_of, with_record, IsImage}
+use Rattle.model_dli.specs.declared.call.Position.{Position}
 use Rattle.model_dli.specs.declared.call.RowsLimit.{RowsLimit}
 use Rattle.model_dli.specs.declared.call.RowsLimit.TheVariants.{Roots, RecordLength}
 use Rattle.model_dli.specs.Dli.{DliResult}
@@ -53,3 +54,7 @@ Plans dbd before d p = PlansTo dbd before d p p.edit
 abbrev pub IsThere : List Row → Option Edit → Type 0
 IsThere before None = Unit {0}
 IsThere before (Some e) = e.image ≡ [] → record_of e.root before ≢ []
+
+-- a PCB that has a position or a parentage
+abbrev pub StandsSomewhere : Position → Type 0
+StandsSomewhere at = IsSome at.position ⊎ IsSome at.parentage

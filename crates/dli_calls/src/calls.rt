@@ -12,7 +12,7 @@ ghost use Rattle.dli_calls.specs.Plans.{IsThere, Plans};
 ghost use Rattle.dli_calls.specs.Edited.{rows_set, edit_limit};
 
 use crate::change::{self, delete_fault, replace_fault};
-use crate::get::{fail, get};
+use crate::get::{copied_path, failed, get};
 use crate::inserting::{insert_fault, insert_root};
 use crate::planned::{Edit, Planned, answer_at};
 use model_dli::{DbCall, Performed, Position, Reach};
@@ -43,50 +43,24 @@ pub fn plan<R: Rows>(
     ensures text { All (λ type. type.bytes ≤ 1996) dbd.now.types → IfOk result (λ p. IfSome p.area IsSegmentText) }
     ensures there { IfOk result (λ p. IsThere (R.rows rows.now) p.edit) }
 {
-    let position = copied(at)?;
     if !is_allowed(call.function, call.options) {
-        return Ok(denied(call.function, position));
+        return denied(call.function, at);
     }
     match call.function {
-        Function::GU => plan_get(Reach::Start, false, dbd, call, position, rows),
-        Function::GN => plan_get(Reach::Next, false, dbd, call, position, rows),
-        Function::GNP => plan_get(Reach::Parent, false, dbd, call, position, rows),
-        Function::GHU => plan_get(Reach::Start, true, dbd, call, position, rows),
-        Function::GHN => plan_get(Reach::Next, true, dbd, call, position, rows),
-        Function::GHNP => plan_get(Reach::Parent, true, dbd, call, position, rows),
-        Function::ISRT => change::insert(alloc, dbd, call, position, rows),
-        Function::REPL => change::replace(alloc, dbd, call, position, rows),
-        Function::DLET => change::delete(alloc, dbd, position, rows),
+        Function::GU => get(Reach::Start, false, dbd, call, at, rows),
+        Function::GN => get(Reach::Next, false, dbd, call, at, rows),
+        Function::GNP => get(Reach::Parent, false, dbd, call, at, rows),
+        Function::GHU => get(Reach::Start, true, dbd, call, at, rows),
+        Function::GHN => get(Reach::Next, true, dbd, call, at, rows),
+        Function::GHNP => get(Reach::Parent, true, dbd, call, at, rows),
+        Function::ISRT => change::insert(alloc, dbd, call, copied(at)?, rows),
+        Function::REPL => change::replace(alloc, dbd, call, copied(at)?, rows),
+        Function::DLET => change::delete(alloc, dbd, copied(at)?, rows),
         Function::PURG => unreachable!(),
         Function::CHNG => unreachable!(),
         Function::ROLB => unreachable!(),
         Function::ROLL => unreachable!(),
     }
-}
-
-fn plan_get<R: Rows>(
-    reach: Reach,
-    hold: bool,
-    dbd: &Dbd,
-    call: &DbCall,
-    mut at: Position,
-    rows: &R,
-) -> Result<Planned, Memory>
-    requires types { length dbd.now.types ≤ 255 }
-    requires rows { R.database rows.now ≡ dbd.now }
-    requires position { IsPosition dbd.now.types at }
-    ensures planned { IfOk result (Plans dbd.now (R.rows rows.now) (get reach hold dbd.now call.now at (R.rows rows.now))) }
-    ensures position { IfOk result (λ p. IsPosition dbd.now.types p.position) }
-    ensures text { All (λ type. type.bytes ≤ 1996) dbd.now.types → IfOk result (λ p. IfSome p.area IsSegmentText) }
-    ensures there { IfOk result (λ p. IsThere (R.rows rows.now) p.edit) }
-{
-    let performed = get(reach, hold, dbd, call, &mut at, rows)?;
-    Ok(Planned {
-        status: performed.status,
-        area: performed.area,
-        position: at,
-        edit: None,
-    })
 }
 
 /// Makes a call on the rows of a database, by a PCB that stands at `position`.
@@ -218,24 +192,17 @@ fn would_delete<R: Rows>(dbd: &Dbd, at: &Position, rows: &R) -> Option<Key>
 }
 
 /// A call that isn't allowed.
-fn denied(function: Function, mut at: Position) -> Planned
-    ensures { result ≡ record { status = AM; area = None; position = position_denied function at; edit = None } }
+fn denied(function: Function, at: &Position) -> Result<Planned, Memory>
+    ensures { IfOk result (λ p. p ≡ record { status = AM; area = None; position = position_denied function at.now; edit = None }) }
 {
-    deny(function, &mut at);
-    answer_at(Status::AM, at)
-}
-
-/// Takes from the PCB what a call takes that isn't allowed.
-fn deny(function: Function, at: &mut Position)
-    ensures { at.new ≡ position_denied function at.old }
-{
-    match function {
-        Function::GU => fail(Reach::Start, at),
-        Function::GHU => fail(Reach::Start, at),
-        Function::GN => fail(Reach::Next, at),
-        Function::GHN => fail(Reach::Next, at),
-        _ => at.hold = None,
-    }
+    let position = match function {
+        Function::GU => failed(Reach::Start, at),
+        Function::GHU => failed(Reach::Start, at),
+        Function::GN => failed(Reach::Next, at),
+        Function::GHN => failed(Reach::Next, at),
+        _ => failed(Reach::Parent, at),
+    }?;
+    Ok(answer_at(Status::AM, position))
 }
 
 /// Whether the options of a PCB allow a call.
@@ -279,13 +246,4 @@ fn copied(at: &Position) -> Result<Position, Memory>
         parentage: copied_path(at.parentage.as_ref())?,
         hold: copied_path(at.hold.as_ref())?,
     })
-}
-
-fn copied_path(path: Option<&Path>) -> Result<Option<Path>, Memory>
-    ensures { IfOk result (λ copy. copy ≡ option_copied path.entry) }
-{
-    match path {
-        Some(path) => Ok(Some(path.clone()?)),
-        None => Ok(None),
-    }
 }

@@ -1,7 +1,7 @@
 //! The gets: GU, GN and GNP, and the same with hold.
-ghost use Rattle.std.specs.Prelude.{◌≡◌, ◌≤◌, length, All, IfOk, IfSome, IsSome, OnOk, OnErr, OnSome, None, Some, if◌then◌else◌};
+ghost use Rattle.std.specs.Prelude.{◌≡◌, ◌≤◌, length, All, IfOk, IfSome, IsSome, OnErr, OnSome, None, Some, ◌⊎◌, if◌then◌else◌};
 ghost use Rattle.std.specs.Option.{option_copied};
-ghost use Rattle.model_dli.specs.Get.{reached, missed_status, level_status, moved_status, reached_status, position_at, position_failed, position_missed};
+ghost use Rattle.model_dli.specs.Get.{reached, missed_status, level_status, moved_status, reached_status, parentage_at, position_at, position_failed, position_missed};
 ghost use Rattle.model_dli.specs.Dli.{get};
 ghost use Rattle.model_dli.specs.Search.{is_there};
 ghost use Rattle.model_dli.specs.declared.call.Reach.TheVariants.{Parent};
@@ -9,52 +9,38 @@ ghost use Rattle.tm_types.specs.declared.status.Status.TheVariants.{GE, GP};
 ghost use Rattle.model_dli.specs.Conditions.{IsPosition};
 ghost use Rattle.tm_types.specs.Segment.{IsSegmentText};
 ghost use Rattle.model_rows.specs.Rows.{AreRows};
-ghost use Rattle.dli_calls.specs.Performs.{Performs};
+ghost use Rattle.dli_calls.specs.Plans.{Plans, StandsSomewhere};
 
-use model_dli::{DbCall, Performed, Position, Reach};
+use crate::planned::{Planned, answer_at};
+use model_dli::{DbCall, Position, Reach};
 use model_rows::{Path, Row};
 use row_search::{asked_root, first_row, first_row_below, is_there};
 use seg_rows::Rows;
 use tm_types::{Dbd, Memory, Ssa, Status};
 
-/// A get of the rows. It changes none. Want of memory leaves the PCB where it stood.
+/// What a get comes to. It changes no rows, and where the PCB then stands is made anew.
 pub fn get<R: Rows>(
     reach: Reach,
     hold: bool,
     dbd: &Dbd,
     call: &DbCall,
-    at: &mut Position,
+    at: &Position,
     rows: &R,
-) -> Result<Performed, Memory>
+) -> Result<Planned, Memory>
     requires types { length dbd.now.types ≤ 255 }
     requires rows { R.database rows.now ≡ dbd.now }
-    requires position { IsPosition dbd.now.types at.old }
-    ensures performed { IfOk result (λ p. Performs (get reach hold dbd.now call.now at.old (R.rows rows.now)) p (R.rows rows.now) at.new) }
-    ensures kept { OnErr result (at.new ≡ at.old) }
-    // A get that reaches no row takes no memory.
-    ensures memory { OnErr result (IsSome (reached reach dbd.now.types call.now.ssas at.old (R.rows rows.now))) }
-    ensures valid { IsPosition dbd.now.types at.new }
+    requires position { IsPosition dbd.now.types at.now }
+    ensures planned { IfOk result (Plans dbd.now (R.rows rows.now) (get reach hold dbd.now call.now at.now (R.rows rows.now))) }
+    ensures valid { IfOk result (λ p. IsPosition dbd.now.types p.position) }
     ensures text { All (λ type. type.bytes ≤ 1996) dbd.now.types → IfOk result (λ p. IfSome p.area IsSegmentText) }
+    ensures no_edit { IfOk result (λ p. p.edit ≡ None) }
+    // A get that reaches no row, by a PCB that stands nowhere, takes no memory.
+    ensures memory { OnErr result (IsSome (reached reach dbd.now.types call.now.ssas at.now (R.rows rows.now)) ⊎ StandsSomewhere at.now) }
 {
     let ssas = call.ssas.as_slice();
     match reached(reach, dbd, ssas, at, rows) {
         Some(row) => get_reached(reach, hold, ssas, at, row),
-        None => {
-            let status = missed_status(reach, dbd, ssas, at, rows);
-            lose(reach, status, at);
-            Ok(answer(status))
-        }
-    }
-}
-
-/// The answer of a call that gives no data and changes nothing.
-pub fn answer(status: Status) -> Performed
-    ensures { result ≡ record { status = status; area = None; changed = None } }
-{
-    Performed {
-        status,
-        area: None,
-        changed: None,
+        None => get_missed(reach, missed_status(reach, dbd, ssas, at, rows), at),
     }
 }
 
@@ -62,21 +48,28 @@ fn get_reached(
     reach: Reach,
     hold: bool,
     ssas: &[Ssa],
-    at: &mut Position,
+    at: &Position,
     row: &Row,
-) -> Result<Performed, Memory>
-    ensures answer { IfOk result (λ p. p ≡ record { status = reached_status reach ssas.now at.old row.now.path; area = Some row.now.bytes; changed = None }) }
-    ensures position { OnOk result (at.new ≡ position_at reach hold at.old row.now.path) }
-    ensures kept { OnErr result (at.new ≡ at.old) }
+) -> Result<Planned, Memory>
+    ensures { IfOk result (λ p. p ≡ record { status = reached_status reach ssas.now at.now row.now.path; area = Some row.now.bytes; position = position_at reach hold at.now row.now.path; edit = None }) }
 {
-    let status = reached_status(reach, ssas, at, &row.path);
-    let bytes = row.bytes.clone()?;
-    settle(reach, hold, at, &row.path)?;
-    Ok(Performed {
-        status,
-        area: Some(bytes),
-        changed: None,
+    Ok(Planned {
+        status: reached_status(reach, ssas, at, &row.path),
+        area: Some(row.bytes.clone()?),
+        position: reached_position(reach, hold, at, &row.path)?,
+        edit: None,
     })
+}
+
+fn get_missed(reach: Reach, status: Status, at: &Position) -> Result<Planned, Memory>
+    ensures planned { IfOk result (λ p. p ≡ record { status = status; area = None; position = position_missed reach status at.now; edit = None }) }
+    ensures memory { OnErr result (StandsSomewhere at.now) }
+{
+    let mut position = failed(reach, at)?;
+    if let Status::GB = status {
+        position.position = None;
+    }
+    Ok(answer_at(status, position))
 }
 
 /// The row that a get reaches.
@@ -182,21 +175,30 @@ fn level_status(from: &Path, path: &Path) -> Status
     }
 }
 
-/// Puts the PCB on the row of this path.
-fn settle(reach: Reach, hold: bool, at: &mut Position, path: &Path) -> Result<(), Memory>
-    ensures ok { OnOk result (at.new ≡ position_at reach hold at.old path.now) }
-    ensures err { OnErr result (at.new ≡ at.old) }
+/// Where the PCB stands after a get has reached a row of this path.
+fn reached_position(
+    reach: Reach,
+    hold: bool,
+    at: &Position,
+    path: &Path,
+) -> Result<Position, Memory>
+    ensures { IfOk result (λ p. p ≡ position_at reach hold at.now path.now) }
 {
-    let position = path.clone()?;
-    let held = held_path(hold, path)?;
+    Ok(Position {
+        position: Some(path.clone()?),
+        parentage: reached_parentage(reach, at, path)?,
+        hold: held_path(hold, path)?,
+    })
+}
+
+fn reached_parentage(reach: Reach, at: &Position, path: &Path) -> Result<Option<Path>, Memory>
+    ensures { IfOk result (λ parentage. parentage ≡ parentage_at reach at.now path.now) }
+{
     match reach {
-        Reach::Start => at.parentage = Some(path.clone()?),
-        Reach::Next => at.parentage = Some(path.clone()?),
-        Reach::Parent => {}
+        Reach::Start => Ok(Some(path.clone()?)),
+        Reach::Next => Ok(Some(path.clone()?)),
+        Reach::Parent => copied_path(at.parentage.as_ref()),
     }
-    at.position = Some(position);
-    at.hold = held;
-    Ok(())
 }
 
 fn held_path(hold: bool, path: &Path) -> Result<Option<Path>, Memory>
@@ -209,23 +211,38 @@ fn held_path(hold: bool, path: &Path) -> Result<Option<Path>, Memory>
     }
 }
 
-/// Takes from the PCB what a get that fails takes.
-pub fn fail(reach: Reach, at: &mut Position)
-    ensures { at.new ≡ position_failed reach at.old }
+/// Where the PCB stands after a get has failed.
+pub fn failed(reach: Reach, at: &Position) -> Result<Position, Memory>
+    ensures made { IfOk result (λ p. p ≡ position_failed reach at.now) }
+    ensures memory { OnErr result (StandsSomewhere at.now) }
 {
-    match reach {
-        Reach::Start => at.parentage = None,
-        Reach::Next => at.parentage = None,
-        Reach::Parent => {}
-    }
-    at.hold = None;
+    let position = copied_path(at.position.as_ref())?;
+    let parentage = failed_parentage(reach, at)?;
+    Ok(Position {
+        position,
+        parentage,
+        hold: None,
+    })
 }
 
-fn lose(reach: Reach, status: Status, at: &mut Position)
-    ensures { at.new ≡ position_missed reach status at.old }
+fn failed_parentage(reach: Reach, at: &Position) -> Result<Option<Path>, Memory>
+    ensures made { IfOk result (λ parentage. parentage ≡ (position_failed reach at.now).parentage) }
+    ensures memory { OnErr result (IsSome at.now.parentage) }
 {
-    fail(reach, at);
-    if let Status::GB = status {
-        at.position = None;
+    match reach {
+        Reach::Start => Ok(None),
+        Reach::Next => Ok(None),
+        Reach::Parent => copied_path(at.parentage.as_ref()),
+    }
+}
+
+/// A copy of a path, if there is one.
+pub fn copied_path(path: Option<&Path>) -> Result<Option<Path>, Memory>
+    ensures copy { IfOk result (λ copy. copy ≡ option_copied path.entry) }
+    ensures memory { OnErr result (IsSome (option_copied path.entry)) }
+{
+    match path {
+        Some(path) => Ok(Some(path.clone()?)),
+        None => Ok(None),
     }
 }

@@ -11,6 +11,4 @@ mod destinations;
 mod output;
 mod outputs;
 mod pcbs;
-#[cfg(test)]
-mod tests;
 mod work;

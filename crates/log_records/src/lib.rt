@@ -16,6 +16,4 @@ mod fault;
 mod fields;
 mod layouts;
 mod record;
-#[cfg(test)]
-mod tests;
 mod wrong_bytes;

@@ -10,6 +10,3 @@ mod log_sector;
 
 pub use chain::{Chain, ChainFault, read_chain};
 pub use log_sector::{PAYLOAD_BYTES, seal, unseal};
-
-#[cfg(test)]
-mod tests;

@@ -8,6 +8,3 @@ mod lay;
 mod log_writer;
 
 pub use log_writer::LogWriter;
-
-#[cfg(test)]
-mod tests;

@@ -5,3 +5,4 @@ pub mod Printable
 pub mod Clashes
 pub mod Setting
 pub mod Pieces
+pub mod Entered

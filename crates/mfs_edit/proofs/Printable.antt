@@ -129,7 +129,7 @@ texts_length values (line ∷ lines) =
 short : (n m : ℕ) → n ≡ m → nat_lt 1996 m ≡ false → nat_le n 1996 ≡ true
 short n m e h = grind (arith, nat_tests)
 
-all_texts : (values : List FieldValue) (fields : List DeviceField) (lines : List SegmentLine) → values_printable values ≡ true → list_all is_segment lines ≡ true → broken_input fields lines ≡ None
+pub all_texts : (values : List FieldValue) (fields : List DeviceField) (lines : List SegmentLine) → values_printable values ≡ true → list_all is_segment lines ≡ true → broken_input fields lines ≡ None
     → list_all (λ line. is_text (texts_of values line.fields)) lines ≡ true
 all_texts values fields [] e h kept = refl
 all_texts values fields (line ∷ lines) e h kept =

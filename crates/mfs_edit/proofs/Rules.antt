@@ -25,3 +25,6 @@ no_clash format h = (neither (clashing_field [] format.fields) _ (neither (no_in
 pub kept_input : (format : FormatLines) → KeepsRule format → broken_input format.fields format.input ≡ None
 kept_input format h =
     (neither (broken_input format.fields format.input) _ (neither (clashing_field [] format.fields) _ (neither (no_input 0 format.input) _ (kept_parts format h)).1).1).0
+
+pub some_input : (format : FormatLines) → KeepsRule format → no_input 0 format.input ≡ None
+some_input format h = (neither (no_input 0 format.input) _ (kept_parts format h)).0

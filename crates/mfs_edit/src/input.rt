@@ -6,6 +6,7 @@ ghost use Rattle.tm_types.specs.Segment.{IsSegmentText, are_printable};
 ghost use Rattle.model_format.specs.Breaks.{KeepsRule, has_field};
 ghost use Rattle.model_format.specs.Entering as spec;
 ghost use Rattle.model_format.specs.Fitting.{fitted};
+ghost use Rattle.model_format.specs.Valid.{IsFormat};
 ghost use Rattle.mfs_edit.specs.Answers.{AnswersInput};
 ghost use Rattle.mfs_edit.specs.Indexes.{IndexesFields, IndexesValues};
 ghost use Rattle.mfs_edit.specs.Texts.{is_text, values_printable};
@@ -24,11 +25,23 @@ use tm_types::{Memory, Name, Segment, SegmentRefused, Segments};
 ///
 /// A value is set into its MFLD's bytes by JUST and FILL; a field without a value is empty, and of
 /// several values for one field the last holds. `UnknownField` has the first name that is no field.
-#[tactic(auto, unfolding(model_format::specs::Entering::entered))]
+/// There is a segment, and none is longer than a segment may be.
 pub fn edit_in(alloc: Global, format: &Format, fields: &Fields) -> Result<Segments, EditRefused>
     requires rule { KeepsRule format.now }
     requires printable { IsTrue (values_printable fields.now) }
-    ensures { AnswersInput result (spec.entered format.now fields.now) }
+    ensures answers { AnswersInput result (spec.entered format.now fields.now) }
+    ensures some { IfOk result (λ segments. 1 ≤ length segments) }
+    ensures texts { IfOk result (λ segments. IsTrue (list_all is_text segments)) }
+{
+    entered(alloc, format, fields)
+}
+
+#[tactic(auto, unfolding(model_format::specs::Entering::entered))]
+fn entered(alloc: Global, format: &Format, fields: &Fields) -> Result<Segments, EditRefused>
+    requires rule { KeepsRule format.now }
+    requires printable { IsTrue (values_printable fields.now) }
+    ensures answers { AnswersInput result (spec.entered format.now fields.now) }
+    ensures valid { IsFormat format.now }
 {
     let values = fields.as_slice();
     let places = fields_by_name(alloc, format.fields())?;

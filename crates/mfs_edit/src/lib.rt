@@ -1,3 +1,4 @@
+//! The edits of message formats: the values of a screen become the segments of an input, and the
 //! segments of a reply become a page.
 //!
 //! They carry out the definitions of `model_format`. Each costs as much as the format and the texts

@@ -52,12 +52,14 @@ input_form line =
     then numbered (λ t n. InputForm t n) (both (name_operand (first_word (operands line))) (message_number (first_word (operands (operands line)))))
     else Err 2
 
+-- a terminal and a number, and no other operand
+abbrev pub terminal_and_number : List ℕ → Result (List ℕ × ℕ) ℕ
+terminal_and_number line =
+    if operand_count line == 2 then both (name_operand (first_word (operands line))) (message_number (operands (operands line))) else Err 2
+
 -- SCREEN t n
 unfoldable pub screen_form : List ℕ → Result Form ℕ
-screen_form line =
-    if operand_count line == 2
-    then numbered (λ t n. ScreenForm t n) (both (name_operand (first_word (operands line))) (message_number (operands (operands line))))
-    else Err 2
+screen_form line = numbered (λ t n. ScreenForm t n) (terminal_and_number line)
 
 -- RECV t
 unfoldable pub receive_form : List ℕ → Result Form ℕ
@@ -65,10 +67,7 @@ receive_form line = if operand_count line == 1 then named (name_operand (operand
 
 -- ACK t n
 unfoldable pub acknowledge_form : List ℕ → Result Form ℕ
-acknowledge_form line =
-    if operand_count line == 2
-    then numbered (λ t n. AcknowledgeForm t n) (both (name_operand (first_word (operands line))) (message_number (operands (operands line))))
-    else Err 2
+acknowledge_form line = numbered (λ t n. AcknowledgeForm t n) (terminal_and_number line)
 
 -- TURN r, of so many regions
 unfoldable pub turn_form : ℕ → List ℕ → Result Form ℕ

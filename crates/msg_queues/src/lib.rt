@@ -12,5 +12,3 @@ mod code_queue;
 mod entries;
 mod index;
 mod queues;
-#[cfg(test)]
-mod tests;

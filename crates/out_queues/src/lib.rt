@@ -11,5 +11,3 @@ pub use table::fresh_terminals;
 
 mod outputs;
 mod table;
-#[cfg(test)]
-mod tests;

@@ -1,5 +1,5 @@
 -- Several requests of one region.
-use Rattle.std.specs.Prelude.{◌≡◌, ℕ, List, [], ◌∷◌, Option, None}
+use Rattle.std.specs.Prelude.{◌≡◌, ℕ, List, [], ◌∷◌, None}
 use Rattle.std.specs.List.{AllByRecursion}
 use Rattle.tm_types.specs.declared.resource.Mode.{Mode}
 use Rattle.model_enqueue.specs.declared.request.Holder.{Holder}

@@ -1,6 +1,8 @@
 //! The lists of what each region holds.
-ghost use Rattle.std.specs.Prelude.{◌≡◌, ◌∷◌, [], ◌++◌, OnOk, OnErr, IfSome, IfNone};
+ghost use Rattle.std.specs.Prelude.{◌≡◌, ◌≤◌, ◌∷◌, [], ◌++◌, true, length, OnOk, OnErr, IfOk, IfSome, IfNone, replicate};
+ghost use Rattle.pi_enqueue.specs.Lists.{is_listed, StayListed};
 
+use model_enqueue::Holder;
 use std::alloc::Global;
 use std::marker::Model;
 use tm_types::{Memory, Resource};
@@ -49,4 +51,27 @@ impl Held {
     {
         self.resources.pop()
     }
+}
+
+/// A list for each region, with nothing on it.
+pub fn empty_lists(alloc: Global, regions: u32) -> Result<Vec<Held>, Memory>
+    ensures { IfOk result (λ lists. lists.items ≡ replicate regions []) }
+{
+    let mut lists = Vec::new(alloc);
+    for _ in 0..regions {
+        lists.push(Held::new(alloc))?;
+    }
+    Ok(lists)
+}
+
+/// Puts what a region holds on its list.
+pub fn list(lists: &mut Vec<Held>, holder: &Holder) -> Result<(), Memory>
+    requires first { 1 ≤ holder.now.region }
+    requires last { holder.now.region ≤ length lists.old.items }
+    ensures listed { OnOk result (is_listed lists.new.items holder.now ≡ true) }
+    ensures stay { StayListed lists.old.items lists.new.items }
+    ensures all { length lists.new.items ≡ length lists.old.items }
+{
+    let place = (holder.region - 1) as usize;
+    lists[place].push(holder.resource)
 }

@@ -1,10 +1,324 @@
 //! Holders with the modes in which they hold.
-use model_enqueue::Holder;
-use tm_types::Mode;
+ghost use Rattle.std.specs.Prelude.{◌≡◌, ◌==◌, ◌&&◌, ◌≤◌, ◌++◌, ◌∷◌, [], None, true, false, not, length, filter, map, slice_get, OnOk, OnErr};
+ghost use Rattle.std.specs.Option.{option_map_or};
+ghost use Rattle.std.specs.List.{AllByRecursion, list_any};
+ghost use Rattle.std.specs.List.Sorted.{IsStrictlySortedBy};
+ghost use Rattle.std.specs.BTreeMap.{insert_entry, is_at};
+ghost use Rattle.std.specs.Map.{keys_of, lookup, remove_entry, set_value};
+ghost use Rattle.model_enqueue.specs.Modes.{excludes, serves, holder_cmp};
+ghost use Rattle.model_enqueue.specs.Table.{mode_held, holders_against, holds_of};
+ghost use Rattle.model_enqueue.specs.Ask.{asker, with_hold};
+ghost use Rattle.pi_enqueue.specs.Grant.{with_holds};
+ghost use Rattle.pi_enqueue.specs.Lists.{IsUpTo, is_on, is_listed, AreListed, StayListed, with_mode, before_all};
 
-/// A change of what a holder has: the mode that it had before.
+use crate::held::{Held, list};
+use model_enqueue::{Holder, Request};
+use std::alloc::Global;
+use std::collections::BTreeMap;
+use std::ops::Bound;
+use tm_types::{Memory, Mode, Resource};
+
+/// A change of what a holder has: the mode that it had before, if any.
 #[derive(Clone, Copy, Debug)]
 pub struct Change {
     pub holder: Holder,
     pub mode: Option<Mode>,
+}
+
+/// Whether these modes can't go together.
+pub fn excludes(a: Mode, b: Mode) -> bool
+    ensures { result ≡ excludes a b }
+{
+    match (a, b) {
+        (Mode::Shared, Mode::Shared) => false,
+        (Mode::Shared, Mode::Exclusive) => true,
+        (Mode::Exclusive, Mode::Shared) => true,
+        (Mode::Exclusive, Mode::Exclusive) => true,
+    }
+}
+
+/// Whether who holds in the first mode needs not ask for the second.
+pub fn serves(held: Mode, mode: Mode) -> bool
+    ensures { result ≡ serves held mode }
+{
+    match (held, mode) {
+        (Mode::Shared, Mode::Shared) => true,
+        (Mode::Shared, Mode::Exclusive) => false,
+        (Mode::Exclusive, Mode::Shared) => true,
+        (Mode::Exclusive, Mode::Exclusive) => true,
+    }
+}
+
+/// The region of the request as holder of its resource.
+pub fn asker(request: &Request) -> Holder
+    ensures { result ≡ asker request.now }
+{
+    Holder {
+        resource: request.resource,
+        region: request.region,
+    }
+}
+
+/// The mode in which the region holds what it asks for.
+pub fn mode_held(holds: &BTreeMap<Holder, Mode>, request: &Request) -> Option<Mode>
+    ensures value { result ≡ mode_held request.now holds.now.entries }
+    ensures ordered { IsStrictlySortedBy holder_cmp (keys_of holds.now.entries) }
+{
+    let _count = holds.len();
+    match holds.get(&asker(request)) {
+        Some(mode) => Some(*mode),
+        None => None,
+    }
+}
+
+/// The lowest other region that holds the resource in a mode that can't go together with the request.
+/// Regions go up to the last one.
+pub fn first_against(holds: &BTreeMap<Holder, Mode>, last: u32, request: &Request) -> Option<u32>
+    requires { AllByRecursion (IsUpTo last) (keys_of holds.now.entries) }
+    ensures { result ≡ slice_get (holders_against request.now holds.now.entries) 0 }
+{
+    let first = Holder {
+        resource: request.resource,
+        region: 0,
+    };
+    let end = Holder {
+        resource: request.resource,
+        region: last,
+    };
+    for (holder, mode) in holds.range((Bound::Included(first), Bound::Included(end))) {
+        if is_other(holder, *mode, request) {
+            return Some(holder.region);
+        }
+    }
+    None
+}
+
+/// Whether this region holds the resource in a mode that can't go together with the request of another
+/// region.
+pub fn is_against(holds: &BTreeMap<Holder, Mode>, request: &Request, region: u32) -> bool
+    ensures { result ≡ list_any (λ blocker. blocker == region) (holders_against request.now holds.now.entries) }
+{
+    let holder = Holder {
+        resource: request.resource,
+        region,
+    };
+    let _count = holds.len();
+    match holds.get(&holder) {
+        Some(mode) => is_other(&holder, *mode, request),
+        None => false,
+    }
+}
+
+// Whether a holder of the resource is another region, and its mode can't go together with the request.
+fn is_other(holder: &Holder, mode: Mode, request: &Request) -> bool
+    ensures { result ≡ (not (holder.now.region == request.now.region) && excludes mode request.now.mode) }
+{
+    holder.region != request.region && excludes(mode, request.mode)
+}
+
+/// The lowest region that holds the resource. Regions go up to the last one.
+pub fn lowest(holds: &BTreeMap<Holder, Mode>, last: u32, resource: &Resource) -> Option<u32>
+    requires { AllByRecursion (IsUpTo last) (keys_of holds.now.entries) }
+    ensures { result ≡ slice_get (map (λ hold. hold.0.region) (filter (λ hold. holds_of resource.now hold.0) holds.now.entries)) 0 }
+{
+    let first = Holder {
+        resource: *resource,
+        region: 0,
+    };
+    let end = Holder {
+        resource: *resource,
+        region: last,
+    };
+    let mut holders = holds.range((Bound::Included(first), Bound::Included(end)));
+    match holders.next() {
+        Some((holder, _)) => Some(holder.region),
+        None => None,
+    }
+}
+
+/// The holder has this mode. Only a new holder may want memory.
+pub fn set_mode(
+    holds: &mut BTreeMap<Holder, Mode>,
+    holder: Holder,
+    mode: Mode,
+) -> Result<(), Memory>
+    ensures ok { OnOk result (holds.new.entries ≡ insert_entry holder_cmp holds.old.entries holder mode) }
+    ensures err { OnErr result (holds.new.entries ≡ holds.old.entries) }
+    ensures absent { OnErr result (lookup (is_at (holder_cmp holder)) holds.old.entries ≡ None) }
+    ensures ordered { IsStrictlySortedBy holder_cmp (keys_of holds.new.entries) }
+{
+    let Holder { resource, region } = holder;
+    let Resource { db, root } = resource;
+    let resource = Resource { db, root };
+    match holds.insert(Holder { resource, region }, mode) {
+        Ok(_) => Ok(()),
+        Err(_) => Err(Memory),
+    }
+}
+
+/// Whether this is the same mode as the one asked for, or a stronger one.
+pub fn is_served(held: Option<Mode>, mode: Mode) -> bool
+    ensures { result ≡ option_map_or (λ has. serves has mode) held false }
+{
+    match held {
+        Some(has) => serves(has, mode),
+        None => false,
+    }
+}
+
+/// The region holds all that it asks for too. Where no memory is left it holds what it held.
+pub fn hold_all(
+    alloc: Global,
+    holds: &mut BTreeMap<Holder, Mode>,
+    lists: &mut Vec<Held>,
+    region: u32,
+    requests: &[Request],
+) -> Result<(), Memory>
+    requires first { 1 ≤ region }
+    requires last { region ≤ length lists.old.items }
+    requires own { AllByRecursion (λ request. request.region ≡ region) requests.now }
+    requires listed { AreListed lists.old.items holds.old.entries }
+    ensures ok { OnOk result (holds.new.entries ≡ with_holds requests.now holds.old.entries) }
+    ensures err { OnErr result (holds.new.entries ≡ holds.old.entries) }
+    ensures listed { AreListed lists.new.items holds.new.entries }
+    ensures all { length lists.new.items ≡ length lists.old.items }
+{
+    let mut changes = Vec::new(alloc);
+    match hold_each(holds, lists, &mut changes, region, requests) {
+        Ok(()) => Ok(()),
+        Err(_) => {
+            take_back(holds, &mut changes);
+            Err(Memory)
+        }
+    }
+}
+
+// The region holds what it asks for too, up to where no memory is left. The changes come behind the
+// others.
+fn hold_each(
+    holds: &mut BTreeMap<Holder, Mode>,
+    lists: &mut Vec<Held>,
+    changes: &mut Vec<Change>,
+    region: u32,
+    requests: &[Request],
+) -> Result<(), Memory>
+    requires first { 1 ≤ region }
+    requires last { region ≤ length lists.old.items }
+    requires own { AllByRecursion (λ request. request.region ≡ region) requests.now }
+    requires listed { AreListed lists.old.items holds.old.entries }
+    ensures ok { OnOk result (holds.new.entries ≡ with_holds requests.now holds.old.entries) }
+    ensures back { before_all changes.new.items holds.new.entries ≡ before_all changes.old.items holds.old.entries }
+    ensures listed { OnOk result (AreListed lists.new.items holds.new.entries) }
+    ensures stay { StayListed lists.old.items lists.new.items }
+    ensures all { length lists.new.items ≡ length lists.old.items }
+{
+    for request in requests {
+        hold(holds, lists, changes, request)?;
+    }
+    Ok(())
+}
+
+// The region holds what it asks for too. The change, where it is one, comes behind the others.
+fn hold(
+    holds: &mut BTreeMap<Holder, Mode>,
+    lists: &mut Vec<Held>,
+    changes: &mut Vec<Change>,
+    request: &Request,
+) -> Result<(), Memory>
+    requires first { 1 ≤ request.now.region }
+    requires last { request.now.region ≤ length lists.old.items }
+    requires listed { AreListed lists.old.items holds.old.entries }
+    ensures ok { OnOk result (holds.new.entries ≡ with_hold request.now holds.old.entries) }
+    ensures back { before_all changes.new.items holds.new.entries ≡ before_all changes.old.items holds.old.entries }
+    ensures listed { OnOk result (AreListed lists.new.items holds.new.entries) }
+    ensures stay { StayListed lists.old.items lists.new.items }
+    ensures all { length lists.new.items ≡ length lists.old.items }
+{
+    let mode = mode_held(holds, request);
+    if is_served(mode, request.mode) {
+        return Ok(());
+    }
+    let holder = asker(request);
+    list_new(lists, &holder, mode)?;
+    note(changes, &holder, mode)?;
+    set_mode(holds, holder, request.mode)
+}
+
+// Puts a holder that had no mode before on the list of its region.
+fn list_new(lists: &mut Vec<Held>, holder: &Holder, mode: Option<Mode>) -> Result<(), Memory>
+    requires first { 1 ≤ holder.now.region }
+    requires last { holder.now.region ≤ length lists.old.items }
+    ensures listed { OnOk result (mode ≡ None → is_listed lists.new.items holder.now ≡ true) }
+    ensures stay { StayListed lists.old.items lists.new.items }
+    ensures all { length lists.new.items ≡ length lists.old.items }
+{
+    match mode {
+        Some(_) => Ok(()),
+        None => list(lists, holder),
+    }
+}
+
+// Adds a change behind the others.
+fn note(changes: &mut Vec<Change>, holder: &Holder, mode: Option<Mode>) -> Result<(), Memory>
+    ensures ok { OnOk result (changes.new.items ≡ changes.old.items ++ (record { holder = holder.now; mode = mode }) ∷ []) }
+    ensures err { OnErr result (changes.new.items ≡ changes.old.items) }
+{
+    let Holder { resource, region } = *holder;
+    let Resource { db, root } = resource;
+    let resource = Resource { db, root };
+    changes.reserve(1)?;
+    changes.push_reserved(Change {
+        holder: Holder { resource, region },
+        mode,
+    });
+    Ok(())
+}
+
+/// Takes these changes back, the last one first.
+pub fn take_back(holds: &mut BTreeMap<Holder, Mode>, changes: &mut Vec<Change>)
+    ensures { holds.new.entries ≡ before_all changes.old.items holds.old.entries }
+{
+    while let Some(change) = changes.pop() {
+        give_mode(holds, &change);
+    }
+}
+
+// The holder has the mode that it had before the change.
+fn give_mode(holds: &mut BTreeMap<Holder, Mode>, change: &Change)
+    ensures { holds.new.entries ≡ with_mode change.now.mode change.now.holder holds.old.entries }
+{
+    match change.mode {
+        Some(mode) => reset(holds, &change.holder, mode),
+        None => remove(holds, &change.holder),
+    }
+}
+
+// The holder, if it is there, has this mode.
+fn reset(holds: &mut BTreeMap<Holder, Mode>, holder: &Holder, mode: Mode)
+    ensures { holds.new.entries ≡ set_value (is_at (holder_cmp holder.now)) holds.old.entries mode }
+{
+    match holds.get_mut(holder) {
+        Some(held) => *held = mode,
+        None => {}
+    }
+}
+
+/// The region, whose list this is, holds nothing any longer.
+pub fn release(holds: &mut BTreeMap<Holder, Mode>, list: &mut Held, region: u32)
+    requires { AllByRecursion (λ holder. holder.region ≡ region → is_on list.old holder.resource ≡ true) (keys_of holds.old.entries) }
+    ensures holds { holds.new.entries ≡ filter (λ hold. not (hold.0.region == region)) holds.old.entries }
+    ensures list { list.new ≡ [] }
+{
+    while let Some(resource) = list.pop() {
+        remove(holds, &Holder { resource, region });
+    }
+}
+
+fn remove(holds: &mut BTreeMap<Holder, Mode>, holder: &Holder)
+    ensures value { holds.new.entries ≡ remove_entry (is_at (holder_cmp holder.now)) holds.old.entries }
+    ensures ordered { IsStrictlySortedBy holder_cmp (keys_of holds.new.entries) }
+    ensures was_ordered { IsStrictlySortedBy holder_cmp (keys_of holds.old.entries) }
+{
+    let _count = holds.len();
+    holds.remove(holder);
 }

@@ -1,9 +1,22 @@
 //! The lists of an enqueue table.
-use crate::held::Held;
+ghost use Rattle.std.specs.Prelude.{◌≡◌, ◌==◌, ◌≤◌, ◌++◌, [], true, false, None, Some, length, take, slice_get, is_some, IfOk, OnOk, OnErr, IfSome, IfNone, if◌then◌else◌};
+ghost use Rattle.std.specs.List.{AllByRecursion, list_any};
+ghost use Rattle.std.specs.Option.{option_and_then, option_copied, option_map};
+ghost use Rattle.std.specs.Map.{keys_of};
+ghost use Rattle.model_enqueue.specs.Table.{empty_table, ahead, blockers, blocked_by, wait_of};
+ghost use Rattle.model_enqueue.specs.Ask.{waiting, waits_only_for, waits_for_nothing, released, after_asks, first_blocked};
+ghost use Rattle.model_enqueue.specs.Cycle.{IsRegion};
+ghost use Rattle.pi_enqueue.specs.Lists.{seen, IsUpTo, AreKept, AreListed, HasRoom};
+ghost use Rattle.pi_enqueue.specs.Grant.{AreFree, granted_all, told};
+
+use crate::held::{Held, empty_lists};
+use crate::holds::{first_against, hold_all, is_against, is_served, mode_held, release};
+use crate::queue::{self, end_each, end_others, end_waits, first_ahead, is_ahead, place};
+use crate::table::Blocked;
 use model_enqueue::{Holder, Request};
 use std::alloc::Global;
 use std::collections::BTreeMap;
-use tm_types::Mode;
+use tm_types::{Memory, Mode};
 
 /// The lists of an enqueue table: its holders with their modes, its waiters, and the resources of each
 /// region.
@@ -15,4 +28,239 @@ pub struct Lists {
     pub upgrades: Vec<Request>,
     pub waits: Vec<Request>,
     pub held: Vec<Held>,
+}
+
+/// Where a row of requests stops: the place of the first one that is blocked, and the region that
+/// blocks it.
+#[derive(Clone, Copy, Debug)]
+pub struct Stop {
+    pub place: usize,
+    pub by: u32,
+}
+
+/// A blocked request as it is told.
+pub fn told(request: &Request, by: u32) -> Blocked
+    ensures { result ≡ told (request.now, by) }
+{
+    Blocked {
+        resource: request.resource,
+        by,
+    }
+}
+
+impl Lists {
+    /// Nobody holds anything or waits.
+    pub fn new(alloc: Global, regions: u32) -> Result<Lists, Memory>
+        ensures value { IfOk result (λ lists. seen lists ≡ empty_table regions) }
+        ensures all { IfOk result (λ lists. length lists.held.items ≡ regions) }
+    {
+        Ok(Lists {
+            alloc,
+            regions,
+            holds: BTreeMap::new(alloc),
+            upgrades: Vec::new(alloc),
+            waits: Vec::new(alloc),
+            held: empty_lists(alloc, regions)?,
+        })
+    }
+
+    /// The region that blocks a request.
+    pub fn blocked_by(&self, request: &Request) -> Option<u32>
+        requires { AllByRecursion (IsUpTo self.now.regions) (keys_of self.now.holds.entries) }
+        ensures { result ≡ blocked_by request.now (seen self.now) }
+    {
+        let held = mode_held(&self.holds, request);
+        if is_served(held, request.mode) {
+            return None;
+        }
+        match first_against(&self.holds, self.regions, request) {
+            Some(region) => Some(region),
+            None => self.first_waiter(request, held.is_some()),
+        }
+    }
+
+    // The first waiter before a request.
+    fn first_waiter(&self, request: &Request, is_upgrade: bool) -> Option<u32>
+        ensures { result ≡ slice_get (ahead request.now self.now.upgrades.items ++ (if is_upgrade then [] else ahead request.now self.now.waits.items)) 0 }
+    {
+        match first_ahead(&self.upgrades, request) {
+            Some(region) => Some(region),
+            None => {
+                if is_upgrade {
+                    None
+                } else {
+                    first_ahead(&self.waits, request)
+                }
+            }
+        }
+    }
+
+    /// What the region waits for.
+    pub fn wait_of(&self, region: u32) -> Option<&Request>
+        ensures { option_copied result ≡ wait_of region (seen self.now) }
+    {
+        match queue::wait_of(&self.upgrades, region) {
+            Some(request) => Some(request),
+            None => queue::wait_of(&self.waits, region),
+        }
+    }
+
+    /// Whether this region is among those that block a request.
+    pub fn is_blocker(&self, request: &Request, region: u32) -> bool
+        requires { AllByRecursion (IsUpTo self.now.regions) (keys_of self.now.holds.entries) }
+        ensures { result ≡ list_any (λ blocker. blocker == region) (blockers request.now (seen self.now)) }
+    {
+        let held = mode_held(&self.holds, request);
+        if is_served(held, request.mode) {
+            return false;
+        }
+        if is_against(&self.holds, request, region) || is_ahead(&self.upgrades, request, region) {
+            return true;
+        }
+        match held {
+            Some(_) => false,
+            None => is_ahead(&self.waits, request, region),
+        }
+    }
+
+    /// Where these requests stop.
+    pub fn stop_of(&self, requests: &[Request]) -> Option<Stop>
+        requires { AllByRecursion (IsUpTo self.now.regions) (keys_of self.now.holds.entries) }
+        ensures before { IfSome result (λ stop. AreFree (take stop.place requests.now) (seen self.now)) }
+        ensures here { IfSome result (λ stop. option_and_then (λ request. blocked_by request (seen self.now)) (slice_get requests.now stop.place) ≡ Some stop.by) }
+        ensures none { IfNone result (AreFree requests.now (seen self.now)) }
+    {
+        for (place, request) in requests.iter().enumerate() {
+            match self.blocked_by(request) {
+                Some(by) => return Some(Stop { place, by }),
+                None => {}
+            }
+        }
+        None
+    }
+
+    /// The region gets all that it asks for. Where no memory is left nothing changes that is seen.
+    fn grant_all(&mut self, region: u32, requests: &[Request]) -> Result<(), Memory>
+        requires first { 1 ≤ region }
+        requires last { region ≤ length self.old.held.items }
+        requires own { AllByRecursion (λ request. request.region ≡ region) requests.now }
+        requires listed { AreListed self.old.held.items self.old.holds.entries }
+        ensures ok { OnOk result (seen self.new ≡ granted_all requests.now (seen self.old)) }
+        ensures err { OnErr result (seen self.new ≡ seen self.old) }
+        ensures listed { AreListed self.new.held.items self.new.holds.entries }
+        ensures all { length self.new.held.items ≡ length self.old.held.items }
+        ensures room { HasRoom self.old → HasRoom self.new }
+    {
+        hold_all(
+            self.alloc,
+            &mut self.holds,
+            &mut self.held,
+            region,
+            requests,
+        )?;
+        end_each(&mut self.upgrades, requests);
+        end_each(&mut self.waits, requests);
+        Ok(())
+    }
+
+    /// Both queues get room for one more.
+    fn make_room(&mut self) -> Result<(), Memory>
+        ensures seen { seen self.new ≡ seen self.old }
+        ensures held { self.new.held.items ≡ self.old.held.items }
+        ensures room { OnOk result (HasRoom self.new) }
+    {
+        self.upgrades.reserve(1)?;
+        self.waits.reserve(1)?;
+        Ok(())
+    }
+
+    /// The region of the request waits for it, and for nothing else.
+    fn wait_only_for(&mut self, request: Request)
+        requires { HasRoom self.old }
+        ensures seen { seen self.new ≡ waiting request (waits_only_for request (seen self.old)) }
+        ensures holds { self.new.holds.entries ≡ self.old.holds.entries }
+        ensures held { self.new.held.items ≡ self.old.held.items }
+    {
+        end_others(&mut self.upgrades, &request);
+        end_others(&mut self.waits, &request);
+        if mode_held(&self.holds, &request).is_some() {
+            place(&mut self.upgrades, request);
+        } else {
+            place(&mut self.waits, request);
+        }
+    }
+
+    /// The region waits for nothing any longer.
+    pub fn stop_waiting(&mut self, region: u32)
+        ensures seen { seen self.new ≡ waits_for_nothing region (seen self.old) }
+        ensures holds { self.new.holds.entries ≡ self.old.holds.entries }
+        ensures held { self.new.held.items ≡ self.old.held.items }
+    {
+        end_waits(&mut self.upgrades, region);
+        end_waits(&mut self.waits, region);
+    }
+
+    /// The region holds nothing any longer and waits for nothing.
+    pub fn release_all(&mut self, region: u32)
+        requires first { 1 ≤ region }
+        requires last { region ≤ length self.old.held.items }
+        requires listed { AreListed self.old.held.items self.old.holds.entries }
+        requires small { AllByRecursion (IsUpTo self.old.regions) (keys_of self.old.holds.entries) }
+        ensures seen { seen self.new ≡ released region (seen self.old) }
+        ensures listed { AreListed self.new.held.items self.new.holds.entries }
+        ensures all { length self.new.held.items ≡ length self.old.held.items }
+    {
+        self.stop_waiting(region);
+        release(
+            &mut self.holds,
+            &mut self.held[(region - 1) as usize],
+            region,
+        );
+    }
+
+    /// The region asks for all this, up to the first that is blocked, which is told.
+    pub fn ask_all(&mut self, region: u32, requests: &[Request]) -> Result<Option<Blocked>, Memory>
+        requires kept { AreKept self.old }
+        requires region { IsRegion (seen self.old) region }
+        requires own { AllByRecursion (λ request. request.region ≡ region) requests.now }
+        ensures answer { IfOk result (λ blocked. blocked ≡ option_map told (first_blocked requests.now (seen self.old))) }
+        ensures ok { OnOk result (seen self.new ≡ after_asks region requests.now (seen self.old)) }
+        ensures err { OnErr result (seen self.new ≡ seen self.old) }
+        ensures listed { AreListed self.new.held.items self.new.holds.entries }
+        ensures all { length self.new.held.items ≡ length self.old.held.items }
+    {
+        match self.stop_of(requests) {
+            Some(stop) => self.ask_up_to(region, requests, stop),
+            None => {
+                self.grant_all(region, requests)?;
+                self.stop_waiting(region);
+                Ok(None)
+            }
+        }
+    }
+
+    // The region gets what it asks for before the request that is blocked, and waits for that one.
+    fn ask_up_to(
+        &mut self,
+        region: u32,
+        requests: &[Request],
+        stop: Stop,
+    ) -> Result<Option<Blocked>, Memory>
+        requires kept { AreKept self.old }
+        requires region { IsRegion (seen self.old) region }
+        requires own { AllByRecursion (λ request. request.region ≡ region) requests.now }
+        requires before { AreFree (take stop.place requests.now) (seen self.old) }
+        requires here { option_and_then (λ request. blocked_by request (seen self.old)) (slice_get requests.now stop.place) ≡ Some stop.by }
+        ensures answer { IfOk result (λ blocked. blocked ≡ option_map told (first_blocked requests.now (seen self.old))) }
+        ensures ok { OnOk result (seen self.new ≡ after_asks region requests.now (seen self.old)) }
+        ensures err { OnErr result (seen self.new ≡ seen self.old) }
+        ensures listed { AreListed self.new.held.items self.new.holds.entries }
+        ensures all { length self.new.held.items ≡ length self.old.held.items }
+    {
+        let request = requests[stop.place];
+        self.make_room()?;
+        self.grant_all(region, &requests[..stop.place])?;
+        self.wait_only_for(request);
+        Ok(Some(told(&request, stop.by)))
+    }
 }

@@ -8,14 +8,12 @@ ghost use Rattle.model_enqueue.specs.Cycle.{IsRegion};
 ghost use Rattle.pi_enqueue.specs.Kept.{IsKept, WaitsForNothingElse};
 ghost use Rattle.pi_enqueue.specs.Grant.{told};
 
-use crate::lists::Lists;
+use crate::holds::{is_served, lowest, mode_held};
+use crate::lists::{Lists, told};
 use model_enqueue::{Asked, Request};
 use std::alloc::Global;
 use std::marker::Model;
 use tm_types::{Memory, Mode, Resource};
-
-#[derive(Debug, Drop)]
-enum Never {}
 
 /// A request that is blocked.
 #[derive(Clone, Copy, Debug)]
@@ -33,7 +31,6 @@ pub struct Blocked {
 #[derive(Debug, Drop)]
 pub struct Table {
     lists: Lists,
-    never: Never,
 }
 
 impl Model for Table {
@@ -52,7 +49,9 @@ impl Table {
     pub fn new(alloc: Global, regions: u32) -> Result<Table, Memory>
         ensures { IfOk result (λ table. table ≡ empty_table regions) }
     {
-        Err(Memory)
+        Ok(Table {
+            lists: Lists::new(alloc, regions)?,
+        })
     }
 
     /// How many regions there are.
@@ -61,7 +60,7 @@ impl Table {
         ensures small { self.now.regions < 2 ^ 32 }
         ensures kept { IsKept self.now }
     {
-        match self.never {}
+        self.lists.regions
     }
 
     /// The region asks for a resource in a mode.
@@ -79,7 +78,16 @@ impl Table {
         ensures ok { OnOk result (self.new ≡ after_ask (record { region = region; resource = resource; mode = mode }) self.old) }
         ensures err { OnErr result (self.new ≡ self.old) }
     {
-        Err(Memory)
+        let _regions = self.regions();
+        let request = Request {
+            region,
+            resource,
+            mode,
+        };
+        match self.ask_all(region, &[request])? {
+            Some(blocked) => Ok(Asked::Waits(blocked.by)),
+            None => Ok(Asked::Granted),
+        }
     }
 
     /// The region asks for all that a call needs, in this order, up to the first request that is
@@ -94,23 +102,27 @@ impl Table {
         ensures ok { OnOk result (self.new ≡ after_asks region requests.now self.old) }
         ensures err { OnErr result (self.new ≡ self.old) }
     {
-        Err(Memory)
+        self.lists.ask_all(region, requests)
     }
 
     /// The first of these requests of the region that is blocked, where each before it is granted. Nothing
     /// changes.
     pub fn first_blocked(&self, region: u32, requests: &[Request]) -> Option<Blocked>
-        requires { AllByRecursion (λ request. request.region ≡ region) requests.now }
+        requires region { IsRegion self.now region }
+        requires own { AllByRecursion (λ request. request.region ≡ region) requests.now }
         ensures { result ≡ option_map told (first_blocked requests.now self.now) }
     {
-        match self.never {}
+        match self.lists.stop_of(requests) {
+            Some(stop) => Some(told(&requests[stop.place], stop.by)),
+            None => None,
+        }
     }
 
     /// The region waits for nothing any longer. This takes no memory.
     pub fn stop_waiting(&mut self, region: u32)
         ensures { self.new ≡ waits_for_nothing region self.old }
     {
-        match self.never {}
+        self.lists.stop_waiting(region);
     }
 
     /// The region holds nothing any longer and waits for nothing. This takes no memory.
@@ -118,28 +130,36 @@ impl Table {
         requires { IsRegion self.old region }
         ensures { self.new ≡ released region self.old }
     {
-        match self.never {}
+        self.lists.release_all(region);
     }
 
     /// Whether the region holds the resource in this or a stronger mode.
     pub fn holds(&self, region: u32, resource: &Resource, mode: Mode) -> bool
         ensures { result ≡ is_served (record { region = region; resource = resource.now; mode = mode }) self.now.holds }
     {
-        match self.never {}
+        let request = Request {
+            region,
+            resource: *resource,
+            mode,
+        };
+        is_served(mode_held(&self.lists.holds, &request), mode)
     }
 
     /// The lowest region that holds the resource; None where none does.
     pub fn holder(&self, resource: &Resource) -> Option<u32>
         ensures { result ≡ lowest_holder resource.now self.now }
     {
-        match self.never {}
+        lowest(&self.lists.holds, self.lists.regions, resource)
     }
 
     /// The resource for which the region waits; None where it waits for none.
     pub fn waits(&self, region: u32) -> Option<Resource>
         ensures { result ≡ option_map (λ request. request.resource) (wait_of region self.now) }
     {
-        match self.never {}
+        match self.lists.wait_of(region) {
+            Some(request) => Some(request.resource),
+            None => None,
+        }
     }
 
     /// The region that blocks what this one waits for: the lowest holder that it can't go together
@@ -148,7 +168,10 @@ impl Table {
     pub fn by(&self, region: u32) -> Option<u32>
         ensures { result ≡ waits_by region self.now }
     {
-        match self.never {}
+        match self.lists.wait_of(region) {
+            Some(request) => self.lists.blocked_by(request),
+            None => None,
+        }
     }
 
     /// Whether the first region waits for the second: whether that is one of the holders that its
@@ -156,6 +179,9 @@ impl Table {
     pub fn waits_for(&self, a: u32, b: u32) -> bool
         ensures { result ≡ waits_for a b self.now }
     {
-        match self.never {}
+        match self.lists.wait_of(a) {
+            Some(request) => self.lists.is_blocker(request, b),
+            None => false,
+        }
     }
 }

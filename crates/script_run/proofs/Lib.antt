@@ -5,4 +5,3 @@ pub mod VariableTexts
 pub mod SegmentTexts
 pub mod AllowedLines
 pub mod GoingOn
-pub mod AroundCall

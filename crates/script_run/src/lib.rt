@@ -13,6 +13,4 @@ mod machine;
 mod script;
 mod statements;
 mod steps;
-#[cfg(test)]
-mod tests;
 mod texts;

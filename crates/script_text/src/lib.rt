@@ -14,6 +14,4 @@ mod lines;
 mod reader;
 pub mod rules;
 mod statements;
-#[cfg(test)]
-mod tests;
 mod values;

@@ -16,5 +16,3 @@ mod encode;
 mod image;
 mod plain;
 mod rows;
-#[cfg(test)]
-mod tests;

@@ -1,3 +1,6 @@
 mod Digits
 mod Printable
 mod Places
+mod Judged
+mod Values
+mod Screens

@@ -4,12 +4,12 @@ use Rattle.std.specs.List.{list_all}
 use Rattle.tm_types.specs.Words.{operands}
 use Rattle.tm_types.specs.Segment.{is_printable, are_printable}
 
-both_of : (a b : Bool) → (a && b) ≡ true → (a ≡ true) × (b ≡ true)
+pub both_of : (a b : Bool) → (a && b) ≡ true → (a ≡ true) × (b ≡ true)
 both_of true true e = (refl, refl)
 both_of true false e = cc
 both_of false b e = cc
 
-all_drop : (p : ℕ → Bool) (n : ℕ) (xs : List ℕ) → list_all p xs ≡ true → list_all p (drop n xs) ≡ true
+pub all_drop : (p : ℕ → Bool) (n : ℕ) (xs : List ℕ) → list_all p xs ≡ true → list_all p (drop n xs) ≡ true
 all_drop p zero xs all = all
 all_drop p (suc n) [] all = all
 all_drop p (suc n) (x ∷ xs) all = all_drop p n xs (both_of _ _ all).1

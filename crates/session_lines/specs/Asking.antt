@@ -2,7 +2,7 @@
 use Rattle.std.specs.Prelude.{ℕ, ◌≡◌, ◌≤◌, ⊤, true, Option, Some}
 use Rattle.std.specs.List.{list_all}
 use Rattle.model_session.specs.declared.asked.Form.{Form}
-use Rattle.model_session.specs.declared.asked.Form.TheVariants.{Input, Receive, Acknowledge, Turn, Quiet}
+use Rattle.model_session.specs.declared.asked.Form.TheVariants.{Input, Screen, Receive, Acknowledge, Turn, Quiet}
 use Rattle.tm_types.specs.Segment.{are_printable}
 use Rattle.model_session.specs.Blocks.{Block}
 use Rattle.session_lines.specs.declared.asking.Stop.{Stop}
@@ -22,6 +22,7 @@ IsStop first Memory = Unit {0}
 abbrev pub IsWithin : ℕ → Form → Type 0
 IsWithin regions (Turn region) = (1 ≤ region) × (region ≤ regions)
 IsWithin regions (Input terminal number) = ⊤
+IsWithin regions (Screen terminal number) = ⊤
 IsWithin regions (Receive terminal) = ⊤
 IsWithin regions (Acknowledge terminal number) = ⊤
 IsWithin regions (Quiet most) = ⊤

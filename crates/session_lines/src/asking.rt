@@ -1,36 +1,44 @@
 //! What a block asks for.
-ghost use Rattle.std.specs.Prelude.{◌≡◌, ℕ, ◌<◌, ◌≤◌, ◌++◌, ◌∷◌, [], true, Some, None, IsTrue, IfOk, IfErr, OnOk, length, map};
-ghost use Rattle.std.specs.List.{list_all};
+ghost use Rattle.std.specs.Prelude.{◌≡◌, ℕ, ◌<◌, ◌≤◌, ◌++◌, ◌∷◌, [], true, Some, None, Err, List, Result, IsTrue, IfOk, IfErr, OnOk, length, map};
+ghost use Rattle.std.specs.List.{list_all, list_any};
+ghost use Rattle.std.specs.Str.{bytes_eq};
+ghost use Rattle.model_system.specs.Formats.{format_of};
 ghost use Rattle.tm_types.specs.Segment.{are_printable};
 ghost use Rattle.model_session.specs.Lines as spec;
+ghost use Rattle.mfs_edit.specs.Answers.{AnswersInput};
 ghost use Rattle.session_lines.specs.Asking.{IsPrintable, IsStop, IsWithin};
 
-use crate::block::Block;
+use crate::block::{Block, is_screen};
+use crate::fields::{field_forms, values_in};
 use crate::forms::form_of;
 use crate::rules::{NOT_PRINTABLE, WRONG_OPERANDS};
 use crate::words::operand_count;
+use mfs_edit::{EditRefused, edit_in};
 use model_machine::ControlCall;
-use model_session::{Asked, Form};
+use model_session::{Asked, Form, InputStopped};
 use std::alloc::Global;
+use system_types::System;
 use text_rows::also;
 use tm_edge::Line;
 use tm_types::{Memory, Name, Segment, SegmentRefused, Segments, are_printable, operands};
 
-/// What a block asks for, of a system with so many regions.
+/// What a block asks for of a system.
 ///
 /// The one error is want of memory. It comes only for an input that is well formed, since an
 /// input's texts are copied.
 #[tactic(auto, unfolding(model_session::specs::Lines::asked_of))]
-pub fn read_block(alloc: Global, regions: u32, block: &Block) -> Result<Asked, Memory>
-    ensures asked { IfOk result (λ asked. asked ≡ spec.asked_of regions block.now) }
-    ensures can { IfOk result (spec.CanAsk regions) }
+pub fn read_block(alloc: Global, system: &System, block: &Block) -> Result<Asked, Memory>
+    ensures asked { IfOk result (λ asked. asked ≡ spec.asked_of system.now block.now) }
+    ensures can { IfOk result (spec.CanAsk (length system.now.regions)) }
 {
+    let regions = system.regions().len() as u32;
     let form = match block_form(regions, block) {
         Ok(form) => form,
         Err(rule) => return Ok(Asked::Bad(rule)),
     };
     match form {
-        Form::Input(terminal, number) => input_asked(alloc, terminal, number, block),
+        Form::Input(terminal, number) => input_asked(alloc, system, terminal, number, block),
+        Form::Screen(terminal, number) => screen_asked(alloc, system, terminal, number, block),
         Form::Receive(terminal) => Ok(Asked::Call(ControlCall::Receive(terminal))),
         Form::Acknowledge(terminal, number) => {
             Ok(Asked::Call(ControlCall::Acknowledge(terminal, number)))
@@ -47,14 +55,25 @@ fn block_form(regions: u32, block: &Block) -> Result<Form, u8>
     ensures printable { OnOk result (IsPrintable block.now) }
     ensures within { IfOk result (IsWithin regions) }
 {
-    let lines = also(further_forms(block.further()), printable_block(block));
+    let lines = also(further_forms(block), printable_block(block));
     also(form_of(regions, block.line()), lines)
 }
 
-/// Rule 2 where a `+` line has no blank.
+/// The lowest rule that one of the `+` lines breaks: field lines behind SCREEN, else texts.
 #[tactic(auto, unfolding(model_session::specs::Lines::further_forms))]
-fn further_forms(lines: &[Line]) -> Result<(), u8>
-    ensures { result ≡ spec.further_forms lines.now }
+fn further_forms(block: &Block) -> Result<(), u8>
+    ensures { result ≡ spec.further_forms block.now }
+{
+    if is_screen(block.line()) {
+        field_forms(block.further())
+    } else {
+        text_forms(block.further())
+    }
+}
+
+/// Rule 2 where a `+` line has no blank.
+fn text_forms(lines: &[Line]) -> Result<(), u8>
+    ensures { result ≡ spec.text_forms lines.now }
 {
     if have_operands(lines) {
         Ok(())
@@ -100,6 +119,29 @@ fn is_text(line: &Line) -> bool
     are_printable(line.bytes())
 }
 
+/// An input that is refused for this, or for its terminal where that is none.
+fn stopped(system: &System, terminal: Name, number: u64, reason: InputStopped) -> Asked
+    ensures { result ≡ spec.stopped system.now terminal number reason }
+{
+    if is_terminal(system, &terminal) {
+        Asked::Stopped(terminal, number, reason)
+    } else {
+        Asked::Stopped(terminal, number, InputStopped::Terminal)
+    }
+}
+
+fn is_terminal(system: &System, name: &Name) -> bool
+    ensures { result ≡ spec.is_terminal system.now name.now }
+{
+    has_name(system.terminals(), name)
+}
+
+fn has_name(names: &[Name], name: &Name) -> bool
+    ensures { result ≡ list_any (λ other. bytes_eq other name.now) names.now }
+{
+    names.iter().any(|other| other == name)
+}
+
 /// Why no input was made.
 #[derive(Debug, Drop)]
 enum Stop {
@@ -109,15 +151,65 @@ enum Stop {
 }
 
 /// The input of a block that breaks no rule.
-fn input_asked(alloc: Global, terminal: Name, number: u64, block: &Block) -> Result<Asked, Memory>
+fn input_asked(
+    alloc: Global,
+    system: &System,
+    terminal: Name,
+    number: u64,
+    block: &Block,
+) -> Result<Asked, Memory>
     requires { IsPrintable block.now }
-    ensures asked { IfOk result (λ asked. asked ≡ spec.input_asked terminal number (spec.input_texts block.now) (spec.first_long (spec.input_texts block.now))) }
+    ensures asked { IfOk result (λ asked. asked ≡ spec.input_asked system.now terminal number (spec.input_texts block.now)) }
     ensures can { IfOk result (λ asked. (regions : ℕ) → spec.CanAsk regions asked) }
 {
     match segments_of(alloc, block) {
         Ok(segments) => Ok(Asked::Call(ControlCall::Input(terminal, number, segments))),
-        Err(Stop::TooLong(long)) => Ok(Asked::TooLong(terminal, number, long)),
+        Err(Stop::TooLong(long)) => {
+            let reason = InputStopped::TooLong(long);
+            Ok(stopped(system, terminal, number, reason))
+        }
         Err(Stop::Memory) => Err(Memory),
+    }
+}
+
+/// The input that the values of a screen make by the format of its terminal.
+fn screen_asked(
+    alloc: Global,
+    system: &System,
+    terminal: Name,
+    number: u64,
+    block: &Block,
+) -> Result<Asked, Memory>
+    requires { IsPrintable block.now }
+    ensures asked { IfOk result (λ asked. asked ≡ spec.screen_asked system.now terminal number (spec.values_in block.now.further) (format_of system.now terminal)) }
+    ensures can { IfOk result (λ asked. (regions : ℕ) → spec.CanAsk regions asked) }
+{
+    let Some(format) = system.format_of(&terminal) else {
+        return Ok(stopped(system, terminal, number, InputStopped::Format));
+    };
+    let values = values_in(alloc, block.further())?;
+    match edit_in(alloc, format, &values) {
+        Ok(segments) => Ok(Asked::Call(ControlCall::Input(terminal, number, segments))),
+        Err(refused) => refused_asked(system, terminal, number, &refused),
+    }
+}
+
+/// The input of a screen whose values are refused.
+fn refused_asked(
+    system: &System,
+    terminal: Name,
+    number: u64,
+    refused: &EditRefused,
+) -> Result<Asked, Memory>
+    ensures asked { (entered : Result (List (List ℕ)) (List ℕ)) → AnswersInput (Err refused.now) entered → IfOk result (λ asked. asked ≡ spec.entered_asked system.now terminal number entered) }
+    ensures can { IfOk result (λ asked. (regions : ℕ) → spec.CanAsk regions asked) }
+{
+    match refused {
+        EditRefused::UnknownField(name) => {
+            let reason = InputStopped::Field(*name);
+            Ok(stopped(system, terminal, number, reason))
+        }
+        EditRefused::Memory => Err(Memory),
     }
 }
 

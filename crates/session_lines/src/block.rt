@@ -68,5 +68,12 @@ pub fn is_further(line: &[u8]) -> bool
 pub fn takes_further(line: &[u8]) -> bool
     ensures { result ≡ spec.takes_further line.now }
 {
-    first_word(line) == b"IN".as_slice()
+    first_word(line) == b"IN".as_slice() || is_screen(line)
+}
+
+/// Whether the line is one of SCREEN, well formed or not.
+pub(crate) fn is_screen(line: &[u8]) -> bool
+    ensures { result ≡ spec.is_screen line.now }
+{
+    first_word(line) == b"SCREEN".as_slice()
 }

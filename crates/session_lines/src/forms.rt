@@ -3,12 +3,13 @@ ghost use Rattle.std.specs.Prelude.{◌≡◌, ℕ, IfOk};
 ghost use Rattle.model_session.specs.Lines as spec;
 ghost use Rattle.session_lines.specs.Asking.{IsWithin};
 
+use crate::block::is_screen;
 use crate::numbers::{name_operand, number_operand};
 use crate::rules::{NO_LINE, UNKNOWN_WORD, WRONG_OPERANDS};
 use crate::words::operand_count;
 use model_session::Form;
 use text_rows::both;
-use tm_types::{first_word, operands};
+use tm_types::{Name, first_word, operands};
 
 /// The greatest number of an input or a reply.
 const GREATEST_NUMBER: u64 = 999_999_999_999;
@@ -39,6 +40,32 @@ fn input_form(line: &[u8]) -> Result<Form, u8>
     }
 }
 
+/// The terminal and the number of a line that has no other operand.
+fn terminal_and_number(line: &[u8]) -> Result<(Name, u64), u8>
+    ensures { result ≡ spec.terminal_and_number line.now }
+{
+    if operand_count(line) != 2 {
+        return Err(WRONG_OPERANDS);
+    }
+    let behind = operands(line);
+    both(
+        name_operand(first_word(behind)),
+        message_number(operands(behind)),
+    )
+}
+
+/// `SCREEN t n`
+#[tactic(auto, unfolding(model_session::specs::Lines::screen_form))]
+fn screen_form(line: &[u8]) -> Result<Form, u8>
+    ensures value { result ≡ spec.screen_form line.now }
+    ensures within { IfOk result (λ form. (regions : ℕ) → IsWithin regions form) }
+{
+    match terminal_and_number(line) {
+        Ok((terminal, number)) => Ok(Form::Screen(terminal, number)),
+        Err(rule) => Err(rule),
+    }
+}
+
 /// `RECV t`
 #[tactic(auto, unfolding(model_session::specs::Lines::receive_form))]
 fn receive_form(line: &[u8]) -> Result<Form, u8>
@@ -60,12 +87,7 @@ fn acknowledge_form(line: &[u8]) -> Result<Form, u8>
     ensures value { result ≡ spec.acknowledge_form line.now }
     ensures within { IfOk result (λ form. (regions : ℕ) → IsWithin regions form) }
 {
-    if operand_count(line) != 2 {
-        return Err(WRONG_OPERANDS);
-    }
-    let behind = operands(line);
-    let number = message_number(operands(behind));
-    match both(name_operand(first_word(behind)), number) {
+    match terminal_and_number(line) {
         Ok((terminal, number)) => Ok(Form::Acknowledge(terminal, number)),
         Err(rule) => Err(rule),
     }
@@ -124,6 +146,8 @@ pub(crate) fn form_of(regions: u32, line: &[u8]) -> Result<Form, u8>
     let word = first_word(line);
     if word == b"IN".as_slice() {
         input_form(line)
+    } else if is_screen(line) {
+        screen_form(line)
     } else if word == b"TURN".as_slice() {
         turn_form(regions, line)
     } else if word == b"RECV".as_slice() {

@@ -10,6 +10,7 @@ pub use block::{Block, is_further, takes_further};
 
 mod asking;
 mod block;
+mod fields;
 mod forms;
 mod numbers;
 mod rules;

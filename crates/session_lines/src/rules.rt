@@ -12,3 +12,5 @@ pub(crate) const NO_NAME: u8 = 4;
 pub(crate) const NO_LINE: u8 = 5;
 /// A byte that isn't printable.
 pub(crate) const NOT_PRINTABLE: u8 = 6;
+/// A field line without `=`.
+pub(crate) const NO_EQUALS: u8 = 8;

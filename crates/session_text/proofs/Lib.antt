@@ -1,2 +1,3 @@
 mod SegmentLines
 mod Turned
+mod Trimmed

@@ -1,5 +1,5 @@
 //! What a session prints: a text with room that was taken beforehand, the line of each answer, and the
-//! lines of a reply.
+//! lines of a reply and of a page.
 //!
 //! Each function adds the text that the definitions of `model_session` (specs/Text.antt) name. Where the
 //! room is there, printing takes no memory; only the lines of a reply, which may be long, take their own.
@@ -7,12 +7,14 @@
 
 pub use lines::{
     ANSWER_ROOM, TURN_ROOM, WORD_ROOM, ack_line, bad_line, input_line, none_line, quiet_line,
-    shown_word, too_long_line, turned_line, unknown_line,
+    shown_word, stopped_line, turned_line, unknown_line,
 };
+pub use page::{PAGE_ROOM, page_lines};
 pub use printed::{NUMBER_ROOM, Printed};
 pub use reply::reply_lines;
 
 mod isolation;
 mod lines;
+mod page;
 mod printed;
 mod reply;

@@ -1,11 +1,9 @@
 //! The line of each answer.
 ghost use Rattle.std.specs.Prelude.{◌≡◌, ◌≤◌, ◌+◌, ◌++◌, ◌∷◌, [], length, codes, decimal};
-ghost use Rattle.std.specs.List.{list_any};
-ghost use Rattle.std.specs.Str.{bytes_eq};
 ghost use Rattle.tm_types.specs.Digits.{four_digits};
 ghost use Rattle.tm_types.specs.Function.{function_name};
-ghost use Rattle.model_system.specs.System.{System};
 ghost use Rattle.model_machine.specs.Lasting.{code_word};
+ghost use Rattle.model_session.specs.declared.asked.InputStopped.TheVariants.{TooLong};
 ghost use Rattle.model_session.specs.Text as text;
 ghost use Rattle.model_session.specs.Text.{spaced, line_end, about};
 ghost use Rattle.model_session.specs.Turns.{turns_text};
@@ -13,6 +11,7 @@ ghost use Rattle.model_session.specs.Turns.{turns_text};
 use crate::Printed;
 use crate::isolation::{add_victims, add_waits};
 use model_machine::{AckRefused, Acked, InputRefused, Taken, Turned};
+use model_session::InputStopped;
 use tm_types::{AbendCode, Dbd, Function, Name, Segments, Status, first_word, four_digits};
 
 /// The room that the line of an answer needs at most.
@@ -174,26 +173,30 @@ pub fn quiet_line(out: &mut Printed, is_quiet: bool, turns: u32)
     out.push(b"\n");
 }
 
-/// Adds the line that refuses an input with a segment of so many bytes, which are too many; one for
-/// a name that is no terminal's is refused for that.
-pub fn too_long_line(out: &mut Printed, terminals: &[Name], terminal: &Name, number: u64, long: u64)
+/// Adds the line that refuses an input before the control region is asked for it.
+pub fn stopped_line(out: &mut Printed, terminal: &Name, number: u64, reason: &InputStopped)
     requires { ANSWER_ROOM ≤ out.old.room }
-    ensures { (system : System) → system.terminals ≡ terminals.now → out.new.text ≡ out.old.text ++ text.too_long_text system terminal.now number long }
+    ensures { out.new.text ≡ out.old.text ++ text.stopped_text terminal.now number reason.now }
 {
-    if is_terminal(terminals, terminal) {
-        add_about(out, b"REFUSED", terminal, number);
-        out.push(b" LENGTH ");
-        out.push_number(long);
-        out.push(b" 1996\n");
-    } else {
-        add_refused(out, terminal, number, b" TERMINAL");
+    match reason {
+        InputStopped::Terminal => add_refused(out, terminal, number, b" TERMINAL"),
+        InputStopped::Format => add_refused(out, terminal, number, b" FORMAT"),
+        InputStopped::Field(name) => {
+            add_refused_with_word(out, terminal, number, b" FIELD ", name.as_bytes());
+        }
+        InputStopped::TooLong(long) => add_too_long(out, terminal, number, *long),
     }
 }
 
-fn is_terminal(terminals: &[Name], name: &Name) -> bool
-    ensures { result ≡ list_any (λ terminal. bytes_eq terminal name.now) terminals.now }
+/// Adds the line that refuses an input with a segment of so many bytes.
+fn add_too_long(out: &mut Printed, terminal: &Name, number: u64, long: u64)
+    requires { ANSWER_ROOM ≤ out.old.room }
+    ensures { out.new.text ≡ out.old.text ++ text.stopped_text terminal.now number (TooLong long) }
 {
-    terminals.iter().any(|terminal| terminal == name)
+    add_about(out, b"REFUSED", terminal, number);
+    out.push(b" LENGTH ");
+    out.push_number(long);
+    out.push(b" 1996\n");
 }
 
 /// Adds the line that answers lines which break this rule.

@@ -7,23 +7,15 @@ use Rattle.system_types.specs.declared.definition.Macro.{Macro}
 use Rattle.system_types.specs.declared.definition.Macro.TheVariants.{Control}
 use Rattle.system_types.specs.Definitions.{IsDefinition, IsInRange, begins_well, is_control}
 use Rattle.system_types.specs.Valid.{IsSystem}
-<<<<<<< HEAD
-use Rattle.sysdef_rules.specs.declared.cross.CrossRule.TheVariants.{CodeTwice, DatabaseUnknown, OfCalls, OfSegments, ProgramMissing, WrongCount}
-=======
-use Rattle.sysdef_rules.specs.declared.cross.CrossRule.TheVariants.{CodeTwice, DatabaseUnknown, OfCalls, OfFormats, OfSegments, ProgramMissing, WrongCount, SecondRegion}
->>>>>>> origin/main
+use Rattle.sysdef_rules.specs.declared.cross.CrossRule.TheVariants.{CodeTwice, DatabaseUnknown, OfCalls, OfFormats, OfSegments, ProgramMissing, WrongCount}
 use Rattle.sysdef_rules.specs.declared.calls.CallRule.TheVariants.{PcbMissing, SsaAstray, NoInsertPath}
 use Rattle.sysdef_rules.specs.declared.segments.SegmentRule.TheVariants.{ParentAstray}
 use Rattle.sysdef_rules.specs.Cross.{cross_rules}
 use Rattle.sysdef_check.specs.Systems.{system_of, control_in, control_of, databases_in}
 use Rattle.sysdef_check.proofs.Dbds.{databases_valid}
 use Rattle.sysdef_check.proofs.Kept.{rule_kept}
-<<<<<<< HEAD
-use Rattle.sysdef_check.proofs.Limits.{few_codes, few_databases, few_programs, few_regions, few_terminals, some_of_each}
-=======
 use Rattle.sysdef_check.proofs.Formats.{formats_kept}
-use Rattle.sysdef_check.proofs.Limits.{few_codes, few_databases, few_formats, few_programs, few_regions, few_terminals, one_region, some_of_each}
->>>>>>> origin/main
+use Rattle.sysdef_check.proofs.Limits.{few_codes, few_databases, few_formats, few_programs, few_regions, few_terminals, some_of_each}
 use Rattle.sysdef_check.proofs.Servable.{programs_serve}
 use Rattle.sysdef_check.proofs.Served.{codes_apart, codes_served}
 
@@ -63,8 +55,4 @@ defines_system lines definition kept =
       formats = formats_kept lines (rule_kept lines 15 OfFormats kept refl);
       some_region = some.1;
       few_regions = few_regions lines counts;
-<<<<<<< HEAD
-=======
-      one_region = one_region lines (rule_kept lines 17 SecondRegion kept refl);
->>>>>>> origin/main
     }

@@ -17,15 +17,9 @@ use Rattle.sysdef_rules.specs.declared.cross.CrossRule.TheVariants.{WrongCount}
 use Rattle.sysdef_rules.specs.declared.lookups.MacroKind.{MacroKind}
 use Rattle.sysdef_rules.specs.declared.lookups.MacroKind.TheVariants.{Databases, Codes, Terminals, Regions, Formats, Programs}
 use Rattle.sysdef_rules.specs.Counts.{breaks_count}
-<<<<<<< HEAD
 use Rattle.sysdef_rules.specs.Cross.{broken_line, first_line}
 use Rattle.sysdef_rules.specs.Lookups.{count, is_of}
-use Rattle.sysdef_check.specs.Systems.{and_then, code_in, codes_in, psb_after, database_in, databases_in, region_in, regions_in, terminal_in, terminals_in, pcbs_for, program_in, programs_in, programs_with}
-=======
-use Rattle.sysdef_rules.specs.Cross.{breaks_region, broken_line, first_line}
-use Rattle.sysdef_rules.specs.Lookups.{count, has, is_of}
 use Rattle.sysdef_check.specs.Systems.{and_then, code_in, codes_in, psb_after, database_in, databases_in, region_in, regions_in, format_in, formats_in, terminal_in, terminals_in, pcbs_for, program_in, programs_in, programs_with}
->>>>>>> origin/main
 use Rattle.sysdef_check.proofs.Made.{either_false}
 use Rattle.sysdef_check.proofs.Kept.{kept_count, neither}
 

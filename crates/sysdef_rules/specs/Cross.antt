@@ -3,22 +3,13 @@ use Rattle.std.specs.Prelude.{ℕ, Bool, false, ◌||◌, not, List, [], ◌∷�
 use Rattle.std.specs.Option.{option_or}
 use Rattle.model_format.specs.Breaks as format_rule
 use Rattle.system_types.specs.declared.definition.Macro.{Macro}
-<<<<<<< HEAD
-use Rattle.system_types.specs.declared.definition.Macro.TheVariants.{Database, Application, DatabasePcb, DestinationPcb, Transaction, Terminal, Program}
-=======
-use Rattle.system_types.specs.declared.definition.Macro.TheVariants.{Database, Application, DatabasePcb, DestinationPcb, Transaction, Terminal, Region, Format, Program}
->>>>>>> origin/main
+use Rattle.system_types.specs.declared.definition.Macro.TheVariants.{Database, Application, DatabasePcb, DestinationPcb, Transaction, Terminal, Format, Program}
 use Rattle.system_types.specs.declared.definition.MacroLine.{MacroLine}
 use Rattle.sysdef_rules.specs.declared.segments.SegmentRule.TheVariants.{Twice, ParentAstray, KeyTooLong, LevelTooHigh}
 use Rattle.sysdef_rules.specs.declared.calls.CallRule.TheVariants.{PcbMissing, SsaAstray, NoInsertPath}
 use Rattle.sysdef_rules.specs.declared.cross.CrossRule.{CrossRule}
-<<<<<<< HEAD
-use Rattle.sysdef_rules.specs.declared.cross.CrossRule.TheVariants.{DatabaseTwice, OfSegments, PsbTwice, DatabaseUnknown, DestinationUnknown, CodeTwice, TerminalTwice, ProgramMissing, ProgramAstray, OfCalls, WrongCount}
-use Rattle.sysdef_rules.specs.Lookups.{has, is_database, is_application, is_code, is_terminal, is_program}
-=======
-use Rattle.sysdef_rules.specs.declared.cross.CrossRule.TheVariants.{DatabaseTwice, OfSegments, PsbTwice, DatabaseUnknown, DestinationUnknown, CodeTwice, TerminalTwice, ProgramMissing, ProgramAstray, OfCalls, OfFormats, WrongCount, SecondRegion}
-use Rattle.sysdef_rules.specs.Lookups.{has, count, is_of, is_database, is_application, is_code, is_terminal, is_format, is_program}
->>>>>>> origin/main
+use Rattle.sysdef_rules.specs.declared.cross.CrossRule.TheVariants.{DatabaseTwice, OfSegments, PsbTwice, DatabaseUnknown, DestinationUnknown, CodeTwice, TerminalTwice, ProgramMissing, ProgramAstray, OfCalls, OfFormats, WrongCount}
+use Rattle.sysdef_rules.specs.Lookups.{has, is_database, is_application, is_code, is_terminal, is_format, is_program}
 use Rattle.sysdef_rules.specs.Segments.{own_line, broken_by_segment}
 use Rattle.sysdef_rules.specs.Calls.{broken_by_call}
 use Rattle.sysdef_rules.specs.Counts.{broken_by_count}
@@ -67,8 +58,6 @@ unfoldable pub breaks_program : List MacroLine → List MacroLine → Macro → 
 breaks_program all before (Program name lines) = not (has (is_application name) all) || has (is_program name) before
 breaks_program all before _ = false
 
-<<<<<<< HEAD
-=======
 -- the format of a terminal stands somewhere, and a format stands once
 unfoldable pub breaks_format : List MacroLine → List MacroLine → Macro → Bool
 breaks_format all before (Terminal name (Some format)) = not (has (is_format format) all)
@@ -80,12 +69,6 @@ abbrev pub broken_within : MacroLine → Macro → Option ℕ
 broken_within line (Format name format) = format_rule.broken_line line.number format
 broken_within line _ = None
 
--- where there is a database there is one region, until several regions can work on databases
-unfoldable pub breaks_region : List MacroLine → List MacroLine → Macro → Bool
-breaks_region all before (Region classes) = has (is_of Databases) all && nat_le 1 (count Regions before)
-breaks_region all before _ = false
-
->>>>>>> origin/main
 -- the lowest line of a macro, and of those that belong to it, that breaks the rule
 unfoldable pub broken_line : CrossRule → List MacroLine → List MacroLine → MacroLine → List MacroLine → Option ℕ
 broken_line DatabaseTwice all before line behind = own_line line (breaks_database before line.content)
@@ -148,11 +131,7 @@ abbrev pub rules : List CrossRule
 rules =
     DatabaseTwice ∷ OfSegments Twice ∷ OfSegments ParentAstray ∷ OfSegments KeyTooLong ∷ OfSegments LevelTooHigh ∷ PsbTwice ∷ DatabaseUnknown
     ∷ DestinationUnknown ∷ CodeTwice ∷ TerminalTwice ∷ ProgramMissing ∷ ProgramAstray ∷ OfCalls PcbMissing ∷ OfCalls SsaAstray ∷ OfCalls NoInsertPath
-<<<<<<< HEAD
-    ∷ WrongCount ∷ []
-=======
-    ∷ OfFormats ∷ WrongCount ∷ SecondRegion ∷ []
->>>>>>> origin/main
+    ∷ OfFormats ∷ WrongCount ∷ []
 
 unfoldable pub cross_rules : List MacroLine → Result (Unit {0}) (ℕ × ℕ)
 cross_rules all = keeps_all rules all

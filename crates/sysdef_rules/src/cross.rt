@@ -126,8 +126,6 @@ fn breaks_program(all: &NamedMacros<'_>, before: &NamedMacros<'_>, content: &Mac
     }
 }
 
-<<<<<<< HEAD
-=======
 #[tactic(auto, unfolding(crate::specs::Cross::breaks_format))]
 fn breaks_format(all: &NamedMacros<'_>, before: &NamedMacros<'_>, content: &Macro) -> bool
     ensures { result ≡ spec.breaks_format all.now before.now content.now }
@@ -164,18 +162,6 @@ fn broken_by_format(
     broken_within(line)
 }
 
-#[tactic(auto, unfolding(crate::specs::Cross::breaks_region))]
-fn breaks_region(all: &NamedMacros<'_>, before: &NamedMacros<'_>, content: &Macro) -> bool
-    ensures { result ≡ spec.breaks_region all.now before.now content.now }
-{
-    match content {
-        Macro::Region { .. } => has_databases(all.lines())
-            && 1 <= count(MacroKind::Regions, before.lines()),
-        _ => false,
-    }
-}
-
->>>>>>> origin/main
 fn own_line(line: &MacroLine, broken: bool) -> Option<u32>
     ensures { result ≡ own_line line.now broken }
 {

@@ -105,7 +105,22 @@ fn lines(rt: HostRuntime) -> Result<(), Fail> {
             10,
         ),
         (b"ENDPROG".as_slice(), 1),
-        (b"NAME LTERM=T1,FORMAT=F".as_slice(), 2),
+        (b"NAME LTERM=T1,FORMAT=F".as_slice(), 0),
+        (b"NAME LTERM=T1,FORM=F".as_slice(), 2),
+        (b"NAME LTERM=T1,FORMAT=F,FORMAT=F".as_slice(), 3),
+        (b"NAME FORMAT=F".as_slice(), 4),
+        (b"NAME LTERM=T1,FORMAT=".as_slice(), 7),
+        (b"FMT NAME=F,LTERM=T1".as_slice(), 2),
+        (b"FMT".as_slice(), 4),
+        (b"FMT NAME=f".as_slice(), 7),
+        (b"FMTEND".as_slice(), 1),
+        (b"DFLD NAME=A,POS=(1,1),LTH=1".as_slice(), 10),
+        (b"DFLD NAME=A,POS=(1,1)".as_slice(), 4),
+        (b"MSG TYPE=INPUT".as_slice(), 10),
+        (b"MSG TYPE=IN".as_slice(), 9),
+        (b"SEG".as_slice(), 10),
+        (b"SEG X".as_slice(), 2),
+        (b"MFLD LIT='x'".as_slice(), 10),
         (b"NAME LTERM".as_slice(), 2),
         (b"NAME LTERM=T1,".as_slice(), 2),
         (b"NAME LTERM=T1,LTERM=T2".as_slice(), 3),
@@ -347,6 +362,200 @@ fn databases(rt: HostRuntime) -> Result<(), Fail> {
         let found = fault_behind(rt.alloc(), DATABASE, text)?;
         assert_eq!(rt; found, want);
     }
+    Ok(())
+}
+
+/// What stands behind FMT, from line 3 on, and what it breaks first.
+#[test]
+fn formats(rt: HostRuntime) -> Result<(), Fail> {
+    let table = [
+        (
+            b"DFLD NAME=A,POS=(1,1),LTH=80\nDFLD NAME=B,POS=(24,80),LTH=1\n* any \x01\nMSG TYPE=INPUT\nSEG\nMFLD SRC=A,LTH=80,JUST=R,FILL=BLANK\nMFLD LIT=''\nMFLD LIT='a, b'\nMSG TYPE=OUTPUT\nSEG\nMFLD SRC=B,LTH=1,FILL='\nFMTEND".as_slice(),
+            Fault::Cross(15, 17),
+        ),
+        (b"FOO".as_slice(), Fault::Line(3, 1)),
+        (b"ENDPROG".as_slice(), Fault::Line(3, 1)),
+        (b"fmtend".as_slice(), Fault::Line(3, 1)),
+        (b"FMTEND X".as_slice(), Fault::Line(3, 2)),
+        (
+            b"DFLD NAME=A,POS=(1,1),LTH=1,JUST=L".as_slice(),
+            Fault::Line(3, 2),
+        ),
+        (
+            b"MSG TYPE=INPUT\nSEG\nMFLD SRC=A,LTH=1,LIT='x'".as_slice(),
+            Fault::Line(5, 2),
+        ),
+        (
+            b"DFLD NAME=A,NAME=A,POS=(1,1),LTH=1".as_slice(),
+            Fault::Line(3, 3),
+        ),
+        (b"DFLD NAME=A,LTH=1".as_slice(), Fault::Line(3, 4)),
+        (b"MSG".as_slice(), Fault::Line(3, 4)),
+        (
+            b"MSG TYPE=INPUT\nSEG\nMFLD JUST=L".as_slice(),
+            Fault::Line(5, 4),
+        ),
+        (b"DFLD NAME=A,POS=(X,1),LTH=1".as_slice(), Fault::Line(3, 5)),
+        (b"DFLD NAME=A,POS=(0,1),LTH=1".as_slice(), Fault::Line(3, 6)),
+        (
+            b"DFLD NAME=A,POS=(25,1),LTH=1".as_slice(),
+            Fault::Line(3, 6),
+        ),
+        (b"DFLD NAME=A,POS=(1,0),LTH=1".as_slice(), Fault::Line(3, 6)),
+        (
+            b"DFLD NAME=A,POS=(1,81),LTH=1".as_slice(),
+            Fault::Line(3, 6),
+        ),
+        (b"DFLD NAME=A,POS=(1,1),LTH=0".as_slice(), Fault::Line(3, 6)),
+        (
+            b"DFLD NAME=A,POS=(1,1),LTH=81".as_slice(),
+            Fault::Line(3, 6),
+        ),
+        (
+            b"DFLD NAME=A,POS=(1,80),LTH=2".as_slice(),
+            Fault::Line(3, 6),
+        ),
+        (
+            b"MSG TYPE=INPUT\nSEG\nMFLD SRC=A,LTH=81".as_slice(),
+            Fault::Line(5, 6),
+        ),
+        (b"DFLD NAME=a,POS=(1,1),LTH=1".as_slice(), Fault::Line(3, 7)),
+        (b"DFLD NAME=A,POS=(1),LTH=1".as_slice(), Fault::Line(3, 8)),
+        (b"DFLD NAME=A,POS=1,LTH=1".as_slice(), Fault::Line(3, 8)),
+        (b"MSG TYPE=BOTH".as_slice(), Fault::Line(3, 9)),
+        (
+            b"MSG TYPE=INPUT\nSEG\nMFLD SRC=A,LTH=1,JUST=C".as_slice(),
+            Fault::Line(5, 9),
+        ),
+        (
+            b"MSG TYPE=INPUT\nSEG\nMFLD SRC=A,LTH=1,FILL=AB".as_slice(),
+            Fault::Line(5, 9),
+        ),
+        (
+            b"MSG TYPE=INPUT\nSEG\nMFLD LIT=x".as_slice(),
+            Fault::Line(5, 9),
+        ),
+        (
+            b"MSG TYPE=INPUT\nSEG\nMFLD LIT='x'y".as_slice(),
+            Fault::Line(5, 9),
+        ),
+        (b"MSG TYPE=OUTPUT".as_slice(), Fault::Line(3, 10)),
+        (
+            b"MSG TYPE=INPUT\nMSG TYPE=INPUT".as_slice(),
+            Fault::Line(4, 10),
+        ),
+        (
+            b"MSG TYPE=INPUT\nDFLD NAME=A,POS=(1,1),LTH=1".as_slice(),
+            Fault::Line(4, 10),
+        ),
+        (
+            b"MSG TYPE=INPUT\nMFLD LIT='x'".as_slice(),
+            Fault::Line(4, 10),
+        ),
+        (b"SEG".as_slice(), Fault::Line(3, 10)),
+        (b"NAME LTERM=T1".as_slice(), Fault::Line(3, 10)),
+        (b"NAME LTERM=t".as_slice(), Fault::Line(3, 7)),
+        (b"NAME".as_slice(), Fault::Line(3, 4)),
+        (b"PROGRAM P\nENDPROG".as_slice(), Fault::Line(3, 10)),
+        (b"PROGRAM\nENDPROG".as_slice(), Fault::Line(3, 4)),
+        (b"FMT NAME=G".as_slice(), Fault::Line(3, 10)),
+        (b"FMT NAME=G,X".as_slice(), Fault::Line(3, 2)),
+        (b"END".as_slice(), Fault::Line(3, 10)),
+        (b"END X".as_slice(), Fault::Line(3, 2)),
+        (
+            b"MSG TYPE=INPUT\nSEG\nMFLD LIT='\x01'".as_slice(),
+            Fault::Line(5, 11),
+        ),
+    ];
+    for (text, want) in table {
+        let found = fault_behind(rt.alloc(), b"IMSCTRL\nFMT NAME=F\n", text)?;
+        assert_eq!(rt; found, want);
+    }
+    Ok(())
+}
+
+/// A terminal with a format, in lines 2 to 4.
+const SCREEN: &[u8] = b"IMSCTRL
+NAME LTERM=T,FORMAT=F
+REGION CLASS=(1)
+FMT NAME=F
+";
+
+/// What the format has, from line 5 on, and the rule among its lines that it breaks.
+#[test]
+fn format_rules(rt: HostRuntime) -> Result<(), Fail> {
+    let table = [
+        (b"MSG TYPE=INPUT\nSEG\nFMTEND".as_slice(), Fault::Nothing),
+        (
+            b"DFLD NAME=A,POS=(1,1),LTH=3\nDFLD NAME=B,POS=(1,4),LTH=3\nDFLD NAME=C,POS=(2,1),LTH=6\nMSG TYPE=INPUT\nSEG\nMSG TYPE=OUTPUT\nFMTEND".as_slice(),
+            Fault::Nothing,
+        ),
+        (b"FMTEND".as_slice(), Fault::Cross(4, 16)),
+        (b"MSG TYPE=INPUT\nFMTEND".as_slice(), Fault::Cross(4, 16)),
+        (
+            b"DFLD NAME=A,POS=(1,1),LTH=3\nDFLD NAME=A,POS=(2,1),LTH=3\nMSG TYPE=INPUT\nSEG\nFMTEND".as_slice(),
+            Fault::Cross(6, 16),
+        ),
+        (
+            b"DFLD NAME=A,POS=(1,4),LTH=3\nDFLD NAME=B,POS=(1,1),LTH=4\nMSG TYPE=INPUT\nSEG\nFMTEND".as_slice(),
+            Fault::Cross(6, 16),
+        ),
+        (
+            b"DFLD NAME=A,POS=(1,1),LTH=3\nMSG TYPE=INPUT\nSEG\nMFLD SRC=A,LTH=80\nMFLD SRC=B,LTH=1\nFMTEND".as_slice(),
+            Fault::Cross(9, 16),
+        ),
+        (
+            b"MSG TYPE=INPUT\nSEG\nMSG TYPE=OUTPUT\nSEG\nMFLD SRC=B,LTH=1\nFMTEND".as_slice(),
+            Fault::Cross(9, 16),
+        ),
+        (
+            b"MSG TYPE=INPUT\nSEG\nFMTEND\nFMT NAME=F\nMSG TYPE=INPUT\nSEG\nFMTEND".as_slice(),
+            Fault::Cross(8, 16),
+        ),
+        (
+            b"MSG TYPE=INPUT\nSEG\nFMTEND\nNAME LTERM=U,FORMAT=G".as_slice(),
+            Fault::Cross(8, 16),
+        ),
+    ];
+    for (text, want) in table {
+        let found = fault_behind(rt.alloc(), SCREEN, text)?;
+        assert_eq!(rt; found, want);
+    }
+    Ok(())
+}
+
+/// A format whose input segment has 24 parts of 80 bytes and one more of this width.
+fn add_widest(text: &mut Vec<u8>, name: &[u8], width: &[u8]) -> Result<(), AllocError> {
+    text.extend_from_slice(b"FMT NAME=")?;
+    text.extend_from_slice(name)?;
+    text.extend_from_slice(b"\nDFLD NAME=A,POS=(24,1),LTH=80\nMSG TYPE=INPUT\nSEG\n")?;
+    for _ in 0..24u8 {
+        text.extend_from_slice(b"MFLD SRC=A,LTH=80\n")?;
+    }
+    text.extend_from_slice(b"MFLD SRC=A,LTH=")?;
+    text.extend_from_slice(width)?;
+    text.extend_from_slice(b"\nFMTEND\n")
+}
+
+/// So many formats whose segments have as many bytes as they may, and one more with such a last part.
+fn fault_past(alloc: Global, formats: u8, width: &[u8]) -> Result<Fault, AllocError> {
+    let mut text = Vec::new(alloc);
+    text.extend_from_slice(b"IMSCTRL\nNAME LTERM=T\nREGION CLASS=(1)\n")?;
+    for number in 0..formats {
+        add_widest(&mut text, &[b'A' + number / 26, b'A' + number % 26], b"76")?;
+    }
+    add_widest(&mut text, b"LAST", width)?;
+    text.extend_from_slice(b"END\n")?;
+    fault_of(alloc, &text)
+}
+
+/// 32 formats with segments of 1,996 bytes, one byte more, and one format more. A format has 30 lines.
+#[test]
+fn limits_of_formats(rt: HostRuntime) -> Result<(), Fail> {
+    let alloc = rt.alloc();
+    assert_eq!(rt; fault_past(alloc, 31, b"76")?, Fault::Nothing);
+    assert_eq!(rt; fault_past(alloc, 0, b"77")?, Fault::Cross(7, 16));
+    assert_eq!(rt; fault_past(alloc, 32, b"76")?, Fault::Cross(964, 17));
     Ok(())
 }
 

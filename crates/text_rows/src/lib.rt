@@ -20,5 +20,3 @@ mod operands;
 mod pieces;
 mod refused;
 pub mod rules;
-#[cfg(test)]
-mod tests;

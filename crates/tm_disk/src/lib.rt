@@ -18,6 +18,3 @@ pub use disk::{Disk, DiskFault, Failed};
 pub use file_disk::FileDisk;
 pub use mem_disk::MemDisk;
 pub use sector::{SECTOR_BYTES, Sector};
-
-#[cfg(test)]
-mod tests;

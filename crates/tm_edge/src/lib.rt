@@ -20,5 +20,3 @@ mod sink;
 mod source;
 mod std_edge;
 mod steps;
-#[cfg(test)]
-mod tests;

@@ -5,8 +5,8 @@ use std::test::Fail;
 
 /// Accounts with their movements, and codes that open one, move money, tell a balance, abend behind a
 /// replacement, take one back, add a movement, and go through all of them; and one that switches a
-/// message to another code.
-const BANK: &[u8] = b"IMSCTRL QBYTES=1048576,LOGS=256
+/// message to another code. T8 has a screen for transfers. First the macros up to the first region's.
+pub const BANK: &[u8] = b"IMSCTRL QBYTES=1048576,LOGS=256
 DBD NAME=ACC,ROOTS=100
 SEGM NAME=ACCT,PARENT=0,KEY=4,BYTES=12
 SEGM NAME=MOVE,PARENT=ACCT,KEY=4,BYTES=12
@@ -19,8 +19,29 @@ PCB TYPE=TP,MODIFY=YES
 TRANSACT CODE=SWIT
 NAME LTERM=T1
 NAME LTERM=T2
+NAME LTERM=T8,FORMAT=F1
 NAME LTERM=T9
 REGION CLASS=(1,2)
+";
+
+/// The other macros, and the programs.
+pub const BANK_PROGRAMS: &[u8] = b"FMT NAME=F1
+DFLD NAME=FROM,POS=(3,10),LTH=4
+DFLD NAME=TO,POS=(4,10),LTH=4
+DFLD NAME=AMT,POS=(5,10),LTH=4
+DFLD NAME=MSG,POS=(24,1),LTH=20
+MSG TYPE=INPUT
+SEG
+MFLD LIT='XFER '
+MFLD SRC=FROM,LTH=4
+MFLD LIT=' '
+MFLD SRC=TO,LTH=4
+MFLD LIT=' '
+MFLD SRC=AMT,LTH=4,JUST=R,FILL=0
+MSG TYPE=OUTPUT
+SEG
+MFLD SRC=MSG,LTH=14
+FMTEND
 APPLCTN PSB=OPENP
 PCB TYPE=DB,DBDNAME=ACC,PROCOPT=A
 TRANSACT CODE=OPEN
@@ -280,7 +301,12 @@ END
 #[test]
 fn accounts(rt: HostRuntime) -> Result<(), Fail> {
     let alloc = rt.alloc();
-    let table: [(&[u8], &[u8]); 6] = [
+    let table: [(&[u8], &[u8]); 7] = [
+        // A screen moves money, and shows what came of it in its last row.
+        (
+            b"SCREEN T8 1\n+ FROM=0001\n+ TO=0002\n+ AMT=5\nQUIET 100\nRECV T8\nIN T1 1 BAL 0002\nQUIET 100\nRECV T1\n",
+            b"ACK T8 1\nQUIET 8\nOUT T8 1 PAGE\n+ 24 MOVED 00000005\nACK T1 1\nQUIET 5\nOUT T1 1 0002 00001005\n",
+        ),
         // What was replaced and inserted before ROLB is gone, and the first segment is given again.
         (
             b"IN T1 1 RB 0001\nTURN 1\nTURN 1\nTURN 1\nTURN 1\nTURN 1\nTURN 1\nTURN 1\nTURN 1\nTURN 1\nTURN 1\nRECV T1\nACK T1 1\nRECV T1\nIN T2 1 BAL 0001\nQUIET 100\nRECV T2\n",
@@ -313,7 +339,7 @@ fn accounts(rt: HostRuntime) -> Result<(), Fail> {
         ),
     ];
     for (lines, printed) in &table {
-        let source = joined(alloc, &[BANK, OPENED, lines])?;
+        let source = joined(alloc, &[BANK, BANK_PROGRAMS, OPENED, lines])?;
         let printed = joined(alloc, &[OPENED_PRINTED, printed])?;
         expect_source(&rt, alloc, &source, &printed)?;
     }

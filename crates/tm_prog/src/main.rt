@@ -6,7 +6,11 @@ ghost use Rattle.tm_prog.specs.Status.{status_number};
 
 #[cfg(test)]
 mod database_tests;
+#[cfg(test)]
+mod isolation_tests;
 mod run;
+#[cfg(test)]
+mod screen_tests;
 #[cfg(test)]
 mod tests;
 

@@ -16,6 +16,6 @@ entry_if false old new entry adds met = adds
 pub adds_no_entry : (old new : ControlState) (entry : Entry) → Adds old new entry → is_fault entry ≡ true → AddsNothing old new
 adds_no_entry old new entry adds met = nothing_if (is_fault entry) old new entry adds met
 
-pub answered : (old new : ControlState) (entry : Entry) (text : List ℕ) → Adds old new entry → is_fault entry ≡ false → text ≡ entry_text (now_of old) entry
+pub answered : (old new : ControlState) (entry : Entry) (text : List ℕ) → Adds old new entry → is_fault entry ≡ false → text ≡ entry_text old.system (now_of old) entry
     → IsAnswered (call_of entry) old new text
 answered old new entry text adds met printed = (entry, entry_if (is_fault entry) old new entry adds met, refl, printed)

@@ -9,11 +9,12 @@ use Rattle.model_machine.specs.declared.entry.Entry.{Entry}
 use Rattle.model_machine.specs.Machine.{Moment}
 use Rattle.model_machine.specs.History.{ControlState, now_of, moment_after}
 use Rattle.model_session.specs.declared.asked.Asked.{Asked}
-use Rattle.model_session.specs.declared.asked.Asked.TheVariants.{Bad, TooLong, Call, Quiet}
+use Rattle.model_session.specs.declared.asked.Asked.TheVariants.{Bad, Stopped, Call, Quiet}
 use Rattle.model_session.specs.Blocks.{Block}
-use Rattle.model_session.specs.Text.{entry_text, bad_line_text, too_long_text}
+use Rattle.model_session.specs.Text.{entry_text, bad_line_text, stopped_text}
 use Rattle.model_session.specs.Turns.{quieted_text}
-use Rattle.model_session.specs.Session.{none_left, IsServedBy, AreServed, IsBegunBy, IsBegun, asked_in}
+use Rattle.model_session.specs.Lines.{asked_of}
+use Rattle.model_session.specs.Session.{none_left, IsServedBy, AreServed, IsBegunBy, IsBegun}
 use Rattle.model_session.specs.Session.Standing.{Up}
 use Rattle.model_session.proofs.Sessions.{AreServed-append, moment_behind}
 use Rattle.tm_edge.specs.Fault.{AppendsFront}
@@ -35,10 +36,10 @@ pub record AddsBlock (asked : Asked) (text : List ℕ) (old new : ControlState) 
 by_done : (asked : Asked) (text : List ℕ) (old new : ControlState) → IsDone asked old new text → AddsBlock asked text old new
 by_done (Bad rule) text old new (nothing, printed) =
     record { entries = []; adds = adds_nothing old new nothing; served = ([], printed ∙ sym (append-nil (bad_line_text rule)), (refl, refl, refl)) }
-by_done (TooLong terminal number long) text old new (nothing, printed) =
-    record { entries = []; adds = adds_nothing old new nothing; served = ([], printed ∙ sym (append-nil (too_long_text old.system terminal number long)), (refl, refl, refl)) }
+by_done (Stopped terminal number reason) text old new (nothing, printed) =
+    record { entries = []; adds = adds_nothing old new nothing; served = ([], printed ∙ sym (append-nil (stopped_text terminal number reason)), (refl, refl, refl)) }
 by_done (Call call) text old new (entry, added, asked, printed) =
-    record { entries = entry ∷ []; adds = adds_one old new entry added; served = (entry, [], [], refl, asked, printed ∙ sym (append-nil (entry_text (now_of old) entry)), (refl, refl, refl)) }
+    record { entries = entry ∷ []; adds = adds_one old new entry added; served = (entry, [], [], refl, asked, printed ∙ sym (append-nil (entry_text old.system (now_of old) entry)), (refl, refl, refl)) }
 by_done (Quiet most) text old new turned =
     record {
       entries = turned.entries;
@@ -48,16 +49,16 @@ by_done (Quiet most) text old new turned =
 
 -- a block was done, and its text was written
 pub serves_one : (block : Block) (text : List ℕ) (written written' : Option (List ℕ)) (old new : ControlState)
-    → IsDone (asked_in old.system block) old new text → written' ≡ append_known written text → Serves (block ∷ []) written written' old new
+    → IsDone (asked_of old.system block) old new text → written' ≡ append_known written text → Serves (block ∷ []) written written' old new
 serves_one block text written written' old new done printed =
-    let added : AddsBlock (asked_in old.system block) text old new = by_done (asked_in old.system block) text old new done in
+    let added : AddsBlock (asked_of old.system block) text old new = by_done (asked_of old.system block) text old new done in
     record { entries = added.entries; text = text; adds = added.adds; served = added.served; printed = printed }
 
 -- or a front of it
 writes_front : (block : Block) (others : List Block) (text : List ℕ) (written written' : Option (List ℕ)) (old new : ControlState)
-    → IsDone (asked_in old.system block) old new text → AppendsFront written written' text → Stops Write (block ∷ []) others written written' old new
+    → IsDone (asked_of old.system block) old new text → AppendsFront written written' text → Stops Write (block ∷ []) others written written' old new
 writes_front block others text written written' old new done front =
-    let added : AddsBlock (asked_in old.system block) text old new = by_done (asked_in old.system block) text old new done in
+    let added : AddsBlock (asked_of old.system block) text old new = by_done (asked_of old.system block) text old new done in
     record {
       entries = added.entries;
       turns = [];
@@ -75,7 +76,7 @@ nothing_written None = refl
 
 -- or memory was wanting
 wants_memory : (block : Block) (others : List Block) (written written' : Option (List ℕ)) (old new : ControlState)
-    → BreaksOff (asked_in old.system block) old new → written' ≡ written → Stops Memory [] (block ∷ others) written written' old new
+    → BreaksOff (asked_of old.system block) old new → written' ≡ written → Stops Memory [] (block ∷ others) written written' old new
 wants_memory block others written written' old new broken same =
     record {
       entries = [];
@@ -88,11 +89,11 @@ wants_memory block others written written' old new broken same =
     }
 
 pub fails_writing : (block : Block) (text : List ℕ) (written written' : Option (List ℕ)) (old new : ControlState)
-    → IsDone (asked_in old.system block) old new text → AppendsFront written written' text → FailsAt Write block written written' old new
+    → IsDone (asked_of old.system block) old new text → AppendsFront written written' text → FailsAt Write block written written' old new
 fails_writing block text written written' old new done front = inl (refl, λ others. writes_front block others text written written' old new done front)
 
 pub fails_memory : (block : Block) (written written' : Option (List ℕ)) (old new : ControlState)
-    → BreaksOff (asked_in old.system block) old new → written' ≡ written → FailsAt Memory block written written' old new
+    → BreaksOff (asked_of old.system block) old new → written' ≡ written → FailsAt Memory block written written' old new
 fails_memory block written written' old new broken same = inr (refl, λ others. wants_memory block others written written' old new broken same)
 
 pub ruleset served_steps = (serves_one, fails_writing, fails_memory)
@@ -171,13 +172,13 @@ serves_stops ended xs ys others w w1 w2 a b c first second =
 -- a session that ends without a further block
 nothing_begun : (asked : Asked) (system : System) (moment : Moment) → IsBegunBy asked system moment []
 nothing_begun (Bad rule) system moment = refl
-nothing_begun (TooLong terminal number long) system moment = refl
+nothing_begun (Stopped terminal number reason) system moment = refl
 nothing_begun (Call call) system moment = refl
 nothing_begun (Quiet most) system moment = inl refl
 
 none_begun : (system : System) (moment : Moment) (others : List Block) → IsBegun system others moment []
 none_begun system moment [] = refl
-none_begun system moment (block ∷ others) = nothing_begun (asked_in system block) system moment
+none_begun system moment (block ∷ others) = nothing_begun (asked_of system block) system moment
 
 none_unprinted : (ended : Ended) (system : System) (moment : Moment) (others : List Block) → left_by ended system others moment []
 none_unprinted Memory system moment others = none_begun system moment others

@@ -1,7 +1,7 @@
 -- What one line does to the blocks ahead.
 use Rattle.std.proofs.Common.{◌≡◌, ℕ, Bool, true, false, List, [], ◌∷◌, ◌++◌, codes, sym, ◌∙◌, ap, subst, refl, append_assoc, inl, inr}
 use Rattle.std.proofs.lemmas.List.{append-nil}
-use Rattle.std.specs.Prelude.{Option, Some, None, MatchOption, if◌then◌else◌}
+use Rattle.std.specs.Prelude.{◌||◌, Option, Some, None, MatchOption, if◌then◌else◌}
 use Rattle.std.specs.Str.{bytes_eq}
 use Rattle.std.proofs.lemmas.Slice.Eq.{bytes_eq-Decides}
 use Rattle.text_rows.specs.Lines.{is_passed_over}
@@ -84,7 +84,7 @@ ends_alone ended line w w' a b seen plain (inr (same, fails)) =
 
 -- a `+` line takes none
 further_takes : (line : List ℕ) → is_further line ≡ true → takes_further line ≡ false
-further_takes line plus = ap (λ w. bytes_eq w (codes "IN")) ((bytes_eq-Decides (first_word line) (codes "+")).0 plus)
+further_takes line plus = ap (λ w. bytes_eq w (codes "IN") || bytes_eq w (codes "SCREEN")) ((bytes_eq-Decides (first_word line) (codes "+")).0 plus)
 
 longer : (block : Block) (line : List ℕ) (behind : List Block) → is_passed_over line ≡ false → is_further line ≡ true
     → ahead_with (Some block) line behind ≡ open_before (and_line block line) behind

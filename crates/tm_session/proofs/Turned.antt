@@ -9,7 +9,7 @@ use Rattle.model_machine.specs.Machine.{start_of}
 use Rattle.model_machine.specs.Steps.{is_quiet}
 use Rattle.model_machine.specs.History.{ControlState, AddsEntry, AddsNothing, now_of, moment_after}
 use Rattle.model_session.specs.declared.asked.Asked.{Asked}
-use Rattle.model_session.specs.declared.asked.Asked.TheVariants.{Bad, TooLong, Call, Quiet}
+use Rattle.model_session.specs.declared.asked.Asked.TheVariants.{Bad, Stopped, Call, Quiet}
 use Rattle.model_session.specs.Turns.{region_after}
 use Rattle.model_session.specs.Session.{IsBegunBy}
 use Rattle.model_session.proofs.Sessions.{moment_behind}
@@ -41,7 +41,7 @@ adds_one old new entry adds = record { system = adds.system; opening = adds.open
 -- nothing stands of what was asked
 nothing_begun : (asked : Asked) (old : ControlState) → IsBegunBy asked old.system (now_of old) []
 nothing_begun (Bad rule) old = refl
-nothing_begun (TooLong terminal number long) old = refl
+nothing_begun (Stopped terminal number reason) old = refl
 nothing_begun (Call call) old = refl
 nothing_begun (Quiet most) old = inl refl
 

@@ -5,8 +5,8 @@ use Rattle.model_machine.specs.declared.entry.ControlCall.{ControlCall}
 use Rattle.model_machine.specs.Steps.{is_quiet}
 use Rattle.model_machine.specs.History.{ControlState, AddsEntry, AddsNothing, call_of, now_of, moment_after}
 use Rattle.model_session.specs.declared.asked.Asked.{Asked}
-use Rattle.model_session.specs.declared.asked.Asked.TheVariants.{Bad, TooLong, Call, Quiet}
-use Rattle.model_session.specs.Text.{entry_text, bad_line_text, too_long_text}
+use Rattle.model_session.specs.declared.asked.Asked.TheVariants.{Bad, Stopped, Call, Quiet}
+use Rattle.model_session.specs.Text.{entry_text, bad_line_text, stopped_text}
 use Rattle.model_session.specs.Turns.{AreTurns, IsQuieted, quieted_text}
 use Rattle.model_session.specs.Session.{IsBegunBy}
 
@@ -18,7 +18,7 @@ pub record AddsEntries (old new : ControlState) (entries : List Entry) : Type 0 
 
 -- the call was answered by an entry that stands for it, and the entry's text is to be printed
 abbrev pub IsAnswered : ControlCall → ControlState → ControlState → List ℕ → Type 0
-IsAnswered call old new text = (entry : Entry) × AddsEntry old new entry × (call_of entry ≡ call) × (text ≡ entry_text (now_of old) entry)
+IsAnswered call old new text = (entry : Entry) × AddsEntry old new entry × (call_of entry ≡ call) × (text ≡ entry_text old.system (now_of old) entry)
 
 -- the regions turned, and the text for their turns is to be printed
 pub record IsTurned (most : ℕ) (old new : ControlState) (text : List ℕ) : Type 0 where
@@ -30,7 +30,7 @@ pub record IsTurned (most : ℕ) (old new : ControlState) (text : List ℕ) : Ty
 -- what was asked was done, and this is to be printed for it
 abbrev pub IsDone : Asked → ControlState → ControlState → List ℕ → Type 0
 IsDone (Bad rule) old new text = AddsNothing old new × (text ≡ bad_line_text rule)
-IsDone (TooLong terminal number long) old new text = AddsNothing old new × (text ≡ too_long_text old.system terminal number long)
+IsDone (Stopped terminal number reason) old new text = AddsNothing old new × (text ≡ stopped_text terminal number reason)
 IsDone (Call call) old new text = IsAnswered call old new text
 IsDone (Quiet most) old new text = IsTurned most old new text
 

@@ -1,24 +1,27 @@
 //! One block of a session, served.
-ghost use Rattle.std.specs.Prelude.{◌≡◌, ℕ, List, ◌<◌, [], length, OnOk, OnErr};
+ghost use Rattle.std.specs.Prelude.{◌≡◌, ℕ, List, ◌<◌, ◌≤◌, ◌++◌, [], length, OnOk, OnErr};
 ghost use Rattle.model_machine.specs.Machine.{IsRegion};
+ghost use Rattle.model_machine.specs.Steps.{show_answer};
 ghost use Rattle.model_machine.specs.declared.entry.Entry.TheVariants.{Accept, Acked as AckedEntry};
-ghost use Rattle.model_machine.specs.History.{AddsNothing, is_fault};
-ghost use Rattle.model_session.specs.Text.{bad_line_text, too_long_text};
-ghost use Rattle.model_session.specs.Lines.{CanAsk};
-ghost use Rattle.model_session.specs.Session.{asked_in};
+ghost use Rattle.model_machine.specs.History.{AddsNothing, is_fault, now_of};
+ghost use Rattle.model_system.specs.Formats.{format_of};
+ghost use Rattle.model_session.specs.Text.{bad_line_text, show_text, shown_text, stopped_text};
+ghost use Rattle.model_session.specs.Lines.{CanAsk, asked_of};
 ghost use Rattle.tm_session.specs.Serving.{IsDone, IsAnswered, BreaksOff};
 
 use crate::turns::answer_quiet;
+use mfs_edit::edit_out;
 use model_machine::ControlCall;
-use model_session::Asked;
+use model_session::{Asked, InputStopped};
 use session_lines::{Block, read_block};
 use session_text::{
-    ANSWER_ROOM, Printed, TURN_ROOM, WORD_ROOM, ack_line, bad_line, input_line, none_line, reply_lines,
-    shown_word, too_long_line, turned_line, unknown_line,
+    ANSWER_ROOM, PAGE_ROOM, Printed, TURN_ROOM, WORD_ROOM, ack_line, bad_line, input_line, none_line,
+    page_lines, reply_lines, shown_word, stopped_line, turned_line, unknown_line,
 };
 use std::alloc::Global;
+use system_types::System;
 use tm_control::{AckRefused, Acked, Control, ControlFault, InputRefused, Shown, Taken};
-use tm_types::{Memory, Name, Segments};
+use tm_types::{Memory, Name, Reply, Segments};
 
 /// Serves a block, and leaves what is to be printed for it as the printed text. After want of memory
 /// the control region is as before, but that the turns of a QUIET stand that were done by then.
@@ -29,18 +32,17 @@ pub fn serve_block(
     printed: &mut Printed,
     block: &Block,
 ) -> Result<(), Memory>
-    ensures done { OnOk result (IsDone (asked_in control.old.system block.now) control.old control.new printed.new.text) }
-    ensures err { OnErr result (BreaksOff (asked_in control.old.system block.now) control.old control.new) }
+    ensures done { OnOk result (IsDone (asked_of control.old.system block.now) control.old control.new printed.new.text) }
+    ensures err { OnErr result (BreaksOff (asked_of control.old.system block.now) control.old control.new) }
 {
     printed.clear();
-    let regions = control.system().regions().len() as u32;
-    let Ok(asked) = read_block(alloc, regions, block) else {
+    let Ok(asked) = read_block(alloc, control.system(), block) else {
         return Err(Memory);
     };
     match asked {
         Asked::Bad(rule) => answer_bad(printed, rule),
-        Asked::TooLong(terminal, number, long) => {
-            answer_too_long(control, printed, &terminal, number, long)
+        Asked::Stopped(terminal, number, reason) => {
+            answer_stopped(printed, &terminal, number, &reason)
         }
         Asked::Call(call) => answer(alloc, control, printed, call),
         Asked::Quiet(most) => answer_quiet(control, printed, most),
@@ -56,19 +58,17 @@ fn answer_bad(printed: &mut Printed, rule: u8) -> Result<(), Memory>
     Ok(())
 }
 
-fn answer_too_long(
-    control: &Control,
+fn answer_stopped(
     printed: &mut Printed,
     terminal: &Name,
     number: u64,
-    long: u64,
+    reason: &InputStopped,
 ) -> Result<(), Memory>
     requires { printed.old.text ≡ [] }
-    ensures { OnOk result (printed.new.text ≡ too_long_text control.now.system terminal.now number long) }
+    ensures { OnOk result (printed.new.text ≡ stopped_text terminal.now number reason.now) }
 {
     printed.make_room(ANSWER_ROOM)?;
-    let terminals = control.system().terminals();
-    too_long_line(printed, terminals, terminal, number, long);
+    stopped_line(printed, terminal, number, reason);
     Ok(())
 }
 
@@ -88,7 +88,7 @@ fn answer(
         ControlCall::Input(terminal, number, segments) => {
             answer_input(alloc, control, printed, &terminal, number, segments)
         }
-        ControlCall::Receive(terminal) => answer_receive(control, printed, &terminal),
+        ControlCall::Receive(terminal) => answer_receive(alloc, control, printed, &terminal),
         ControlCall::Acknowledge(terminal, number) => {
             answer_acknowledge(control, printed, &terminal, number)
         }
@@ -137,6 +137,7 @@ fn is_input_fault(answer: &Result<Taken, InputRefused>) -> bool
 }
 
 fn answer_receive(
+    alloc: Global,
     control: &mut Control,
     printed: &mut Printed,
     terminal: &Name,
@@ -147,13 +148,53 @@ fn answer_receive(
 {
     printed.make_room(ANSWER_ROOM)?;
     control.reserve(1)?;
-    match control.showing(terminal) {
-        Shown::Reply(reply) => reply_lines(printed, terminal, reply)?,
-        Shown::Empty => none_line(printed, terminal),
-        Shown::Unknown => unknown_line(printed, terminal),
-    }
+    print_showing(alloc, control, printed, terminal)?;
     let _ = control.receive(terminal);
     Ok(())
+}
+
+/// Prints what the terminal is to be shown.
+fn print_showing(
+    alloc: Global,
+    control: &Control,
+    printed: &mut Printed,
+    terminal: &Name,
+) -> Result<(), Memory>
+    requires { ANSWER_ROOM ≤ printed.old.room }
+    ensures { OnOk result (printed.new.text ≡ printed.old.text ++ show_text control.now.system (now_of control.now) terminal.now (show_answer (now_of control.now) terminal.now)) }
+{
+    match control.showing(terminal) {
+        Shown::Reply(reply) => print_reply(alloc, printed, control.system(), terminal, reply),
+        Shown::Empty => {
+            none_line(printed, terminal);
+            Ok(())
+        }
+        Shown::Unknown => {
+            unknown_line(printed, terminal);
+            Ok(())
+        }
+    }
+}
+
+/// Prints a reply: as the page that it makes where the terminal has a format, else as its segments.
+fn print_reply(
+    alloc: Global,
+    printed: &mut Printed,
+    system: &System,
+    terminal: &Name,
+    reply: &Reply,
+) -> Result<(), Memory>
+    ensures { OnOk result (printed.new.text ≡ printed.old.text ++ shown_text terminal.now (format_of system.now terminal.now) reply.now) }
+{
+    match system.format_of(terminal) {
+        Some(format) => {
+            let page = edit_out(alloc, format, &reply.segments)?;
+            printed.make_room(PAGE_ROOM)?;
+            page_lines(printed, terminal, reply.number, &page);
+            Ok(())
+        }
+        None => reply_lines(printed, terminal, reply),
+    }
 }
 
 fn answer_acknowledge(

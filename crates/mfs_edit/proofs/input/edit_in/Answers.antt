@@ -1,7 +1,8 @@
-use Rattle.mfs_edit.proofs.Printable.{good_texts}
+use Rattle.mfs_edit.proofs.Entered.{entered_some, entered_texts}
 use Rattle.mfs_edit.proofs.input.edit_in.Goals as goal
 
-pub segments_of-requires : goal.segments_of-requires
-segments_of-requires c =
-    good_texts c.args.format.now c.args.fields.now c.as_slice-values.result.now c.input.result.now c.requires.rule c.input.ensures.valid c.requires.printable
-    c.input.ensures.segments c.as_slice-values.ensures
+pub returns-clause-some : goal.returns-clause-some
+returns-clause-some c = entered_some c.args.format.now c.args.fields.now c.entered.result c.requires.rule c.entered.ensures.answers
+
+pub returns-clause-texts : goal.returns-clause-texts
+returns-clause-texts c = entered_texts c.args.format.now c.args.fields.now c.entered.result c.requires.rule c.entered.ensures.valid c.requires.printable c.entered.ensures.answers

@@ -1,0 +1,11 @@
+use Rattle.std.proofs.Common.{◌≡◌, drop}
+use Rattle.std.specs.Prelude.{fold}
+use Rattle.model_enqueue.specs.Cycle.{gives_way}
+use Rattle.deadlock_pick.specs.Weighed.{IsWeighed}
+use Rattle.deadlock_pick.proofs.choice.victim.Given as goal
+
+abbrev pub invariant-loop-region : goal.invariant-loop-region
+invariant-loop-region l = record {
+  ahead : fold (gives_way l.weights) l.victim (drop l.region-index l.region-items) ≡ fold (gives_way l.weights) l.initial.victim l.initial.region-items;
+  weighed : IsWeighed l.weights l.victim;
+}

@@ -1,0 +1,29 @@
+//! Tests of the low crates through their public calls: what no clause says, as worked rows and printed texts.
+//!
+//! They stand beside those crates, which so are proved once. A module has the tests of one crate.
+#![tactic(auto)]
+
+#[cfg(test)]
+mod disk_images;
+#[cfg(test)]
+mod edge_lines;
+#[cfg(test)]
+mod forced_logs;
+#[cfg(test)]
+mod message_calls;
+#[cfg(test)]
+mod queue_room;
+#[cfg(test)]
+mod record_bytes;
+#[cfg(test)]
+mod record_layouts;
+#[cfg(test)]
+mod reply_queues;
+#[cfg(test)]
+mod script_lines;
+#[cfg(test)]
+mod script_runs;
+#[cfg(test)]
+mod sector_chains;
+#[cfg(test)]
+mod text_pieces;
