@@ -73,7 +73,7 @@ free_where table stores region (c ∷ records) db slot h e free = by (was_in db 
         (λ seq. subst (λ n. HoldsAlone table region (record { db = n; root = None })) was.database seq) h.0
 
 module _ (table : EnqueueTable) (stores : List Stored) (compatible : IsKept table) (i k : ℕ) (a b : List Change)
-  (unit_a : IsUnit table stores i a) (unit_b : IsUnit table stores k b) (other : i ≢ k) where
+    (unit_a : IsUnit table stores i a) (unit_b : IsUnit table stores k b) (other : i ≢ k) where
   pub others_apart : AreOthers a b
   others_apart db root e = by (is_changed db root b) refl
     where

@@ -169,7 +169,7 @@ images_where stores a (b ∷ units) db slot least lt h all used =
     image_where (backed_all units stores) a b db slot least (omega (arith, lengths_all stores units db least, lt)) (beside_all stores a b units h.0 h.1 all.0 all.1) used
     ∙ images_where stores a units db slot least lt h.1 all.1 used
 
-good_all : (stores : List Stored) (a : List Change) (units : List (List Change)) → IsGood stores a → AllByRecursion (AreBeside stores a) units → AreAllBeside stores units → IsGood (backed_all units stores) a
+pub good_all : (stores : List Stored) (a : List Change) (units : List (List Change)) → IsGood stores a → AllByRecursion (AreBeside stores a) units → AreAllBeside stores units → IsGood (backed_all units stores) a
 good_all stores a units good h all = record { can = can_all stores a units good.can h all; once = good.once }
 
 pub valid_all : (stores : List Stored) (units : List (List Change)) → AreValid stores → AllByRecursion (IsGood stores) units → AreAllBeside stores units → AreValid (backed_all units stores)

@@ -23,6 +23,7 @@ use Rattle.model_enqueue.specs.Table.{EnqueueTable, holds_of, mode_held, is_serv
 use Rattle.model_enqueue.specs.Ask.{asker, granted_mode, with_hold, granted, waiting, waits_only_for, after_asks, first_blocked}
 use Rattle.pi_enqueue.specs.Kept.{held, IsKept}
 use Rattle.model_rows.proofs.Lists.{all_then}
+use Rattle.program_rows.specs.Isolation.{request_of}
 use Rattle.program_rows.proofs.Holders.{holder_total, asker_is, holder_exact, held_granted, held_own, held_other, resource_same, resource_exact}
 use Rattle.program_rows.proofs.Asking.{is_contested}
 
@@ -44,7 +45,7 @@ turn_true false e = refl
 
 -- entries after one is put in
 module _ {X : Type 0} where
-  all_put : (P : Holder × X → Type 0) (k : Holder) (v : X) (es : List (Holder × X)) → ((x : Holder) → holder_cmp k x ≡ Equal → P (x, v)) → P (k, v) → AllByRecursion P es
+  pub all_put : (P : Holder × X → Type 0) (k : Holder) (v : X) (es : List (Holder × X)) → ((x : Holder) → holder_cmp k x ≡ Equal → P (x, v)) → P (k, v) → AllByRecursion P es
       → AllByRecursion P (insert_entry holder_cmp es k v)
   all_put P k v [] f p h = (p, tt)
   all_put P k v (e ∷ es) f p h = by (holder_cmp k e.0) refl (all_put P k v es f p h.1)
@@ -214,10 +215,6 @@ module _ (q : Request) (table : EnqueueTable) (g : GoesTogether q.region table.h
       each [] old new = tt
       each (x ∷ entries) old new = (λ mode own other. one x old.0 new.0 mode own other (same_resource q.resource x.0.resource) refl, each entries old.1 new.1)
 
--- the request for a need
-abbrev pub request_of : ℕ → ℕ → Need → Request
-request_of region number need = record { region = region; resource = record { db = number; root = need.root }; mode = need.mode }
-
 module _ (region number : ℕ) (contested : Need → Bool) where
   -- what is asked and what is blocked is the same for needs with the same front
   pub front_asks : (table : EnqueueTable) → GoesTogether region table.holds table.holds → ((need : Need) → contested need ≡ is_contested (request_of region number need) table.holds)
@@ -285,3 +282,8 @@ module _ (region number : ℕ) (contested : Need → Bool) where
         is n ∙ not_contested (request_of region number n) table g q,
         rec q (sym (ap (λ o. option_map_or (λ x. Some (request_of region number n, x)) o (first_blocked (map (request_of region number) ns) (granted (request_of region number n) table))) q) ∙ e),
       )
+
+-- a region asks for itself
+pub own_requests : (region number : ℕ) (needs : List Need) → AllByRecursion (λ (q : Request). q.region ≡ region) (map (request_of region number) needs)
+own_requests region number [] = tt
+own_requests region number (need ∷ needs) = (refl, own_requests region number needs)

@@ -17,3 +17,11 @@ pub mod SlotRows
 pub mod SetUnits
 pub mod BackUnits
 pub mod Overlay
+pub mod Committing
+pub mod Setting
+pub mod Makings
+pub mod Followed
+pub mod Rooting
+pub mod Called
+pub mod Doing
+pub mod Ending

@@ -43,7 +43,7 @@ dbds_put (x ∷ stores) zero s new e d =
 dbds_put (x ∷ stores) (suc i) s new e d = ap (λ ys. x.dbd ∷ ys) (dbds_put stores i s new e d)
 
 module _ (number slot : ℕ) (was image : List Row) (stores : List Stored) (s new : Stored) (least : 1 ≤ number) (at : slice_get stores (number - 1) ≡ Some s)
-  (there : slice_get s.slots slot ≡ Some was) (dbd : new.dbd ≡ s.dbd) (slots : new.slots ≡ set s.slots slot image) where
+    (there : slice_get s.slots slot ≡ Some was) (dbd : new.dbd ≡ s.dbd) (slots : new.slots ≡ set s.slots slot image) where
   put_here : slots_at number (set stores (number - 1) new) ≡ set s.slots slot image
   put_here =
       ap (λ o. option_map_or (λ (x : Stored). x.slots) o []) (get_set_same stores (number - 1) new (slice_get_within stores (number - 1) s at)) ∙ slots
@@ -133,4 +133,3 @@ pub one_all : (number slot : ℕ) (was image : List Row) (old new : List Stored)
 one_all number slot was image old new [] one idle = one
 one_all number slot was image old new (a ∷ units) one idle =
     one_back number slot was image (backed_all units old) (backed_all units new) (one_all number slot was image old new units one idle.1) a idle.0.0 idle.0.1
-

@@ -94,7 +94,7 @@ one_place test (x ∷ xs) (suc i) zero none one p q =
 one_place test (x ∷ xs) (suc i) (suc k) none one p q = ap (λ n. suc n) (one_place test xs i k none one.1 p q)
 
 module _ (dbd : Dbd) (records : List Change) (db : ℕ) (slots : List (List Row)) (facts : Restores dbd records db slots) (valid : AreSlots dbd slots)
-  (stays : AllByRecursion (λ c. c.db ≡ db → Stays slots c) records) (rooted : AllByRecursion (λ c. c.db ≡ db → has_root c.root c.before ≡ true) records) where
+    (stays : AllByRecursion (λ c. c.db ≡ db → Stays slots c) records) (rooted : AllByRecursion (λ c. c.db ≡ db → has_root c.root c.before ≡ true) records) where
   -- what is put back into a slot has the root that is there
   put_root : (rs : List Change) (m : ℕ) (image : List Row) → AllByRecursion (λ c. c.db ≡ db → Stays slots c) rs → AllByRecursion (λ c. c.db ≡ db → has_root c.root c.before ≡ true) rs
       → was_there rs db m ≡ true → (root : List ℕ) × (has_root root (get_or slots m []) ≡ true) × (has_root root (backed_slot rs db m image) ≡ true)

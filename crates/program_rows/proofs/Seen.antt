@@ -14,13 +14,13 @@ use Rattle.seg_store.specs.Slots.{Stored}
 use Rattle.unit_work.specs.declared.change.Change.{Change}
 use Rattle.unit_work.specs.Changes.{is_changed}
 use Rattle.program_rows.specs.State.{RegionRows, no_rows, roots_of, rows_of, rows_in}
+use Rattle.program_rows.specs.Isolation.{request_of}
 use Rattle.program_rows.specs.Open.{HoldsAlone, StaysInSlot, Sits, AreUnits, backed_all, seen_by, regions_from}
 use Rattle.program_rows.proofs.Beside.{AreRooted, AreBeside}
 use Rattle.program_rows.proofs.Together.{AreAllBeside, beside_without, all_by, all_set, get_set, get_set_else}
 use Rattle.program_rows.proofs.Backed.{IsGood, AreValid, record_all, roots_all, valid_all}
 use Rattle.program_rows.proofs.Apart.{holds_changed, all_beside, all_good, all_rooted}
 use Rattle.program_rows.proofs.Asking.{is_contested, alone_contests}
-use Rattle.program_rows.proofs.Blocking.{request_of}
 
 pub good_none : (stores : List Stored) → IsGood stores []
 good_none stores = record { can = record { stored = tt; fits = tt; apart = tt }; once = tt }

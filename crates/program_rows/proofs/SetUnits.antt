@@ -57,7 +57,7 @@ some_or_none [] = inl refl
 some_or_none (row ∷ image) = inr (λ e. absurd (cc))
 
 module _ (units : List (List Change)) (stores : List Stored) (table after : EnqueueTable) (h : AreUnits units stores table) (f : Follows table after) (place : ℕ) (lt : place < length units)
-  (c : Change) (s new : Stored) (image : List Row) (i : IsSetIn after (suc place) c stores s new image) (room : is_full c.db c.root (get_or units place []) ≡ false) where
+    (c : Change) (s new : Stored) (image : List Row) (i : IsSetIn after (suc place) c stores s new image) (room : is_full c.db c.root (get_or units place []) ≡ false) where
   mine : List Change
   mine = get_or units place []
 

@@ -6,17 +6,21 @@ use Rattle.tm_types.specs.declared.resource.Resource.{Resource}
 use Rattle.model_rows.specs.declared.row.Row.{Row}
 use Rattle.model_dli.specs.declared.call.DbCall.{DbCall}
 use Rattle.model_dli.specs.declared.call.Position.{Position}
+use Rattle.model_dli.specs.declared.need.Need.{Need}
 use Rattle.model_dli.specs.Footprint.{footprint, AgreeAt}
 use Rattle.model_enqueue.specs.declared.request.Request.{Request}
 use Rattle.model_enqueue.specs.Modes.{same_resource}
 use Rattle.model_enqueue.specs.Table.{EnqueueTable}
 use Rattle.program_rows.specs.State.{DatabasesState, rows_in, rows_numbered}
 
+-- what a region asks for to have what is needed of the database of this number
+abbrev pub request_of : ℕ → ℕ → Need → Request
+request_of region number need = record { region = region; resource = record { db = number; root = need.root }; mode = need.mode }
+
 -- what a call of a region on the database of this number asks for, on the rows that the region sees
 abbrev pub requests_of_call : ℕ → ℕ → Dbd → DbCall → Position → DatabasesState → List Request
 requests_of_call region number dbd call at databases =
-    map (λ need. record { region = region; resource = record { db = number; root = need.root }; mode = need.mode })
-    (footprint dbd call at (rows_numbered region number databases))
+    map (request_of region number) (footprint dbd call at (rows_numbered region number databases))
 
 -- the region holds the resource, in whatever mode
 abbrev pub holds : EnqueueTable → ℕ → Resource → Bool

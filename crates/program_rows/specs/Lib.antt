@@ -2,3 +2,5 @@ pub mod State
 pub mod Isolation
 pub mod Answering
 pub mod Open
+pub mod Making
+pub mod Calling

@@ -5,21 +5,28 @@ ghost use Rattle.model_dli.specs.Data.{data_abend};
 ghost use Rattle.model_dli.specs.Dli.{dli};
 ghost use Rattle.model_enqueue.specs.Table.{empty_table};
 ghost use Rattle.model_enqueue.specs.Ask.{first_blocked, waits_for_nothing};
+ghost use Rattle.std.specs.List.{AllByRecursion};
+ghost use Rattle.tm_types.specs.SegTypes.{IsHierarchy};
+ghost use Rattle.model_enqueue.specs.Ask.{released};
+ghost use Rattle.model_enqueue.specs.Cycle.{IsRegion};
+ghost use Rattle.pi_enqueue.specs.Kept.{IsKept};
+ghost use Rattle.unit_work.specs.BackOut.{CanBackOut, backed_out};
+ghost use Rattle.program_rows.specs.Open.{records_of};
+ghost use Rattle.program_rows.specs.Making.{changed_in};
 ghost use Rattle.seg_store.specs.Stores.{empty_stores};
 ghost use Rattle.program_rows.specs.State.{clean_region, committed_rows, data_of, dbds_of, region_at, rows_numbered, rows_of, AreRowsOf, IsClean, IsRegionOf};
 ghost use Rattle.program_rows.specs.Isolation.{requests_of_call};
 ghost use Rattle.program_rows.specs.Answering.{blocked_of, told_blocked, regions_after, regions_backed, Gives, IsCommitted, IsGivenUp, LeadsToAbend, Stands, StaysAtAbend, table_left};
 
-use crate::DataAnswer;
+use crate::opened::{Opened, put_unit, take_unit, unit_of, units_of};
+use crate::{DataAnswer, calling};
 use model_dli::{DbCall, Position};
+use pi_enqueue::Table;
 use seg_store::Stores;
 use std::alloc::Global;
 use std::marker::Model;
 use tm_types::{Dbd, Memory};
-
-/// A value that can't be made.
-#[derive(Clone, Copy, Debug)]
-enum Never {}
+use unit_work::Unit;
 
 /// The databases of a system, with the changes of the work on a message in each region.
 ///
@@ -28,18 +35,19 @@ enum Never {}
 /// work ends, and a call that needs what another region holds is blocked.
 #[derive(Debug, Drop)]
 pub struct Databases {
-    never: Never,
     alloc: Global,
+    opened: Opened,
 }
 
 impl Model for Databases {
-    ghost use Rattle.std.specs.Prelude.{[]};
-    ghost use Rattle.model_enqueue.specs.Table.{empty_table};
     ghost use Rattle.program_rows.specs.State.{DatabasesState};
+    ghost use Rattle.program_rows.specs.Making.{seen, IsOpen};
 
     ghost Value = { DatabasesState };
 
-    ghost view = { λ d. record { committed = []; stores = []; regions = []; table = empty_table 0 } };
+    ghost view = { λ d. seen d.opened };
+
+    ghost invariant = { λ d. IsOpen d.opened };
 }
 
 impl Databases {
@@ -51,14 +59,32 @@ impl Databases {
         ensures table { IfOk result (λ d. d.table ≡ empty_table regions) }
         ensures rows { IfOk result (λ d. AreRowsOf (dbds_of d) (committed_rows d)) }
     {
-        Err(Memory)
+        types_of(dbds);
+        let units = units_of(alloc, regions)?;
+        let stores = Stores::empty(alloc, dbds)?;
+        let table = Table::new(alloc, regions)?;
+        Ok(Databases {
+            alloc,
+            opened: Opened {
+                units,
+                stores,
+                table,
+            },
+        })
     }
 
     /// The stores, as they are.
     pub fn stores(&self) -> &Stores
         ensures { result.now ≡ self.now.stores }
     {
-        match self.never {}
+        &self.opened.stores
+    }
+
+    /// What the regions hold and wait for.
+    pub fn table(&self) -> &Table
+        ensures { result.now ≡ self.now.table }
+    {
+        &self.opened.table
     }
 
     /// How many records a region has changed since its last commit.
@@ -67,7 +93,7 @@ impl Databases {
         ensures count { result ≡ length (region_at region self.now).changed }
         ensures clean { result ≡ 0 → IsClean region self.now }
     {
-        match self.never {}
+        unit_of(&self.opened.units, region).changes()
     }
 
     /// Makes a call of a region on the database of this number, counted from 1, by a PCB that stands at
@@ -102,7 +128,7 @@ impl Databases {
         ensures databases { dbds_of self.new ≡ dbds_of self.old }
         ensures kept { OnErr result (self.new ≡ self.old) }
     {
-        match self.never {}
+        calling::call(self.alloc, region, dbd, number, at, call, &mut self.opened)
     }
 
     /// The region waits for nothing any more. This takes no memory.
@@ -110,7 +136,8 @@ impl Databases {
         requires { IsRegionOf self.old region }
         ensures { self.new ≡ record self.old { table = waits_for_nothing region self.old.table } }
     {
-        match self.never {}
+        self.opened.table.stop_waiting(region);
+        let _regions = self.opened.table.regions();
     }
 
     /// Takes back all changes of a region since its last commit, each record to the slot that it had; what it
@@ -122,7 +149,7 @@ impl Databases {
         ensures table { self.new.table ≡ self.old.table }
         ensures databases { dbds_of self.new ≡ dbds_of self.old }
     {
-        match self.never {}
+        take_back(self.alloc, region, &mut self.opened);
     }
 
     /// Makes the changes of a region since its last commit stay, and gives up all that it holds. This takes no
@@ -133,7 +160,8 @@ impl Databases {
         ensures rows { AreRowsOf (dbds_of self.new) (committed_rows self.new) }
         ensures databases { dbds_of self.new ≡ dbds_of self.old }
     {
-        match self.never {}
+        put_unit(&mut self.opened.units, region, Unit::new(self.alloc));
+        release(region, &mut self.opened.table);
     }
 
     /// Takes back all changes of a region since its last commit, and gives up all that it holds and waits for.
@@ -143,6 +171,39 @@ impl Databases {
         ensures value { IsGivenUp region self.old self.new }
         ensures databases { dbds_of self.new ≡ dbds_of self.old }
     {
-        match self.never {}
+        take_back(self.alloc, region, &mut self.opened);
+        release(region, &mut self.opened.table);
     }
+}
+
+// The types of each of these databases are a hierarchy.
+fn types_of(dbds: &[Dbd])
+    ensures { AllByRecursion (λ dbd. IsHierarchy dbd.types) dbds.now }
+{
+    for dbd in dbds {
+        let _types = dbd.types.as_slice();
+    }
+}
+
+// Takes back the changes of a region's unit.
+fn take_back(alloc: Global, region: u32, opened: &mut Opened)
+    requires least { 1 ≤ region }
+    requires most { region ≤ length opened.old.units.items }
+    requires can { CanBackOut (changed_in region opened.old) opened.old.stores }
+    ensures units { records_of opened.new.units.items ≡ slice_set (records_of opened.old.units.items) (region - 1) [] }
+    ensures stores { opened.new.stores ≡ backed_out (changed_in region opened.old) opened.old.stores }
+    ensures table { opened.new.table ≡ opened.old.table }
+{
+    let mut unit = take_unit(alloc, &mut opened.units, region);
+    unit.back_out(&mut opened.stores);
+}
+
+// The region gives up all that it holds and waits for.
+fn release(region: u32, table: &mut Table)
+    requires { IsRegion table.old region }
+    ensures table { table.new ≡ released region table.old }
+    ensures kept { IsKept table.new }
+{
+    table.release_all(region);
+    let _regions = table.regions();
 }

@@ -1,0 +1,320 @@
+-- The databases at their beginning, and when a region's changes are taken back or stay.
+use Rattle.std.proofs.Common.{◌≡◌, ◌≢◌, ℕ, ◌+◌, ◌-◌, ◌≤◌, ◌<◌, List, [], ◌∷◌, length, map, refl, sym, ◌∙◌, ap, subst, Option, None, Some, set, get_or, zero, suc, arith, inl, inr, ⊎_elim}
+use Rattle.std.specs.List.{AllByRecursion, slice_get, IsDistinct}
+use Rattle.std.specs.List.Sorted.{IsStrictlySortedBy}
+use Rattle.std.specs.Prelude.{replicate}
+use Rattle.std.proofs.lemmas.Bool.{cases_eq}
+use Rattle.std.proofs.lemmas.List.{length-set, length-map}
+use Rattle.tm_types.specs.declared.dbd.Dbd.{Dbd}
+use Rattle.tm_types.specs.SegTypes.{IsHierarchy}
+use Rattle.model_enqueue.specs.Modes.{holder_cmp}
+use Rattle.model_enqueue.specs.Table.{EnqueueTable, empty_table}
+use Rattle.model_enqueue.specs.Ask.{released}
+use Rattle.model_enqueue.specs.Cycle.{IsRegion}
+use Rattle.pi_enqueue.specs.Kept.{IsKept}
+use Rattle.seg_store.specs.Slots.{Stored, AreSlots, rows_of_slots}
+use Rattle.seg_store.specs.Stores.{empty_store, empty_stores}
+use Rattle.seg_store.proofs.SlotRows.{free_slots_valid}
+use Rattle.unit_work.specs.declared.change.Change.{Change}
+use Rattle.unit_work.specs.Changes.{Changes, no_changes}
+use Rattle.unit_work.specs.BackOut.{backed_out, CanBackOut}
+use Rattle.program_rows.specs.State.{DatabasesState, RegionRows, no_rows, roots_of, rows_of, rows_in, dbds_of, committed_rows, region_at, clean_region, AreRowsOf, IsRegionOf, IsClean}
+use Rattle.program_rows.specs.Isolation.{AgreeOnHeld}
+use Rattle.program_rows.specs.Answering.{regions_backed, IsBeside, IsCommitted, IsGivenUp}
+use Rattle.program_rows.specs.Open.{records_of, backed_all, seen_by, regions_from, IsUnit, AreUnits}
+use Rattle.program_rows.specs.Making.{seen, IsOpen, changed_in}
+use Rattle.program_rows.specs.declared.opened.Opened.{Opened}
+use Rattle.program_rows.proofs.Together.{backed_none, get_set, get_set_else, set_twice}
+use Rattle.program_rows.proofs.Backed.{AreValid, valid_all, dbds_all, backed_dbds}
+use Rattle.program_rows.proofs.Apart.{all_beside, all_good}
+use Rattle.program_rows.proofs.BackUnits.{empty_unit, back_units, back_committed, back_others, back_own, keep_units, released_units}
+use Rattle.program_rows.proofs.Committing.{sees_then, held_then}
+use Rattle.program_rows.proofs.Overlay.{store_rows, store_types}
+use Rattle.program_rows.proofs.Seen.{region_is, regions_length, same_list, get_put, get_put_else}
+use Rattle.program_rows.proofs.Setting.{unit_records}
+
+-- a region of the databases has a unit, and is one of the table
+pub record HasUnit (o : Opened) (region : ℕ) : Type 0 where
+  pub least : 1 ≤ region
+  pub most : region ≤ length o.units.items
+  pub known : IsRegion o.table region
+  pub within : region - 1 < length (records_of o.units.items)
+  pub up : suc (region - 1) ≡ region
+
+pub has_unit : (o : Opened) (d : DatabasesState) (region : ℕ) → IsOpen o → seen o ≡ d → IsRegionOf d region → HasUnit o region
+has_unit o d region h view r = by (subst (λ e. IsRegionOf e region) (sym view) r)
+  where
+    by : IsRegionOf (seen o) region → HasUnit o region
+    by s =
+        let count : length (seen o).regions ≡ length (records_of o.units.items) = regions_length 0 (records_of o.units.items) (records_of o.units.items) o.stores in
+        let units : length (records_of o.units.items) ≡ length o.units.items = length-map o.units.items (λ (u : Changes). u.records) in
+        record {
+          least = s.least;
+          most = omega (arith, s.most, count, units);
+          known = (s.least, omega (arith, s.most, count, h.count));
+          within = omega (arith, s.least, s.most, count);
+          up = omega (arith, s.least);
+        }
+
+pub can_back_out : (o : Opened) (region : ℕ) → IsOpen o → HasUnit o region → CanBackOut (changed_in region o) o.stores
+can_back_out o region h u = (h.each (region - 1) u.within).can
+
+-- how many records a unit has changed, and what its region sees where there are none
+pub changes_are : (o : Opened) (d : DatabasesState) (region : ℕ) (us : List Changes) (u : Changes) (n : ℕ) → IsOpen o → seen o ≡ d → IsRegionOf d region → us ≡ o.units.items → slice_get us (region - 1) ≡ Some u
+    → n ≡ length u.records → n ≡ length (region_at region d).changed
+changes_are o d region us u n h view r same at e =
+    let has = has_unit o d region h view r in
+    let own : get_or (records_of o.units.items) (region - 1) [] ≡ u.records = unit_records o.units.items (region - 1) u (ap (λ xs. slice_get xs (region - 1)) (sym same) ∙ at) in
+    e
+    ∙ (ap length (sym own)
+    ∙ (sym (length-map {B = ℕ × List ℕ} (get_or (records_of o.units.items) (region - 1) []) (λ (c : Change). (c.db, c.root)))
+    ∙ (ap (λ (x : RegionRows). length x.changed) (sym (region_is (region - 1) (records_of o.units.items) o.stores has.within)) ∙ ap (λ (e : DatabasesState). length (region_at region e).changed) view)))
+
+pub clean_so : (o : Opened) (d : DatabasesState) (region n : ℕ) → IsOpen o → seen o ≡ d → IsRegionOf d region → n ≡ length (region_at region d).changed → n ≡ 0 → IsClean region d
+clean_so o d region n h view r count none = subst (IsClean region) view (by (get_or (records_of o.units.items) (region - 1) []) refl)
+  where
+    has : HasUnit o region
+    has = has_unit o d region h view r
+
+    sees : region_at region (seen o) ≡ record { rows = rows_of (seen_by (region - 1) (records_of o.units.items) o.stores); changed = roots_of (get_or (records_of o.units.items) (region - 1) []) }
+    sees = region_is (region - 1) (records_of o.units.items) o.stores has.within
+
+    set_same : (us : List (List Change)) (i : ℕ) → get_or us i [] ≡ [] → set us i [] ≡ us
+    set_same [] i e = refl
+    set_same (u ∷ us) zero e = ap (λ x. x ∷ us) (sym e)
+    set_same (u ∷ us) (suc i) e = ap (λ xs. u ∷ xs) (set_same us i e)
+
+    zero_now : length (region_at region (seen o)).changed ≡ 0
+    zero_now = ap (λ (e : DatabasesState). length (region_at region e).changed) view ∙ (sym count ∙ none)
+
+    by : (records : List Change) → get_or (records_of o.units.items) (region - 1) [] ≡ records → IsClean region (seen o)
+    by [] e =
+        record {
+          sees = ap (λ (x : RegionRows). x.rows) sees ∙ ap (λ us. rows_of (backed_all us o.stores)) (set_same (records_of o.units.items) (region - 1) e);
+          changed = ap (λ (x : RegionRows). x.changed) sees ∙ ap roots_of e;
+        }
+    by (c ∷ records) e =
+        let some : length (region_at region (seen o)).changed ≡ suc (length (roots_of records)) =
+        ap (λ (x : RegionRows). length x.changed) sees ∙ ap (λ rs. length (roots_of rs)) e in
+        absurd (omega (arith, zero_now, some))
+
+-- the rows of valid stores are rows of their databases
+get_mapped : (stores : List Stored) (i : ℕ) (dbd : Dbd) → slice_get (map (λ (s : Stored). s.dbd) stores) i ≡ Some dbd → (s : Stored) × (slice_get stores i ≡ Some s) × (s.dbd ≡ dbd)
+get_mapped [] i dbd e = let clash : (let none : Option Dbd = None in none) ≡ Some dbd = e in absurd (cc)
+get_mapped (s ∷ stores) zero dbd e = let same : Some s.dbd ≡ Some dbd = e in (s, refl, cc)
+get_mapped (s ∷ stores) (suc i) dbd e = get_mapped stores i dbd e
+
+pub valid_rows : (stores : List Stored) (dbds : List Dbd) → AreValid stores → map (λ (s : Stored). s.dbd) stores ≡ dbds → AreRowsOf dbds (rows_of stores)
+valid_rows stores dbds valid e =
+    subst (λ ds. AreRowsOf ds (rows_of stores)) e
+    (record {
+      count = length-map stores (λ (s : Stored). rows_of_slots s.slots) ∙ sym (length-map stores (λ (s : Stored). s.dbd));
+      types = λ number dbd at. let found = get_mapped stores (number - 1) dbd at in subst (λ d. IsHierarchy d.types) found.2 (store_types stores (number - 1) found.0 valid found.1);
+      each = λ number dbd at.
+          let found = get_mapped stores (number - 1) dbd at in
+          subst (λ d. Rattle.model_rows.specs.Rows.AreRows d (rows_in number (rows_of stores))) found.2 (store_rows stores number found.0 valid found.1);
+    })
+
+pub committed_are_rows : (o : Opened) → IsOpen o → AreRowsOf (dbds_of (seen o)) (committed_rows (seen o))
+committed_are_rows o h =
+    valid_rows (backed_all (records_of o.units.items) o.stores) (dbds_of (seen o))
+    (valid_all o.stores (records_of o.units.items) h.valid (all_good (records_of o.units.items) o.stores o.table h) (all_beside (records_of o.units.items) o.stores o.table h))
+    (dbds_all o.stores (records_of o.units.items))
+
+module _ (o new : Opened) (h : IsOpen o) (region : ℕ) (u : HasUnit o region) (units : records_of new.units.items ≡ set (records_of o.units.items) (region - 1) []) where
+  us : List (List Change)
+  us = records_of o.units.items
+
+  -- the changes are taken back
+  module _ (stores : new.stores ≡ backed_out (changed_in region o) o.stores) where
+    pub taken_back_units : (table : EnqueueTable) → table ≡ o.table → AreUnits (records_of new.units.items) new.stores table
+    taken_back_units table same =
+        subst (λ t. AreUnits (records_of new.units.items) new.stores t) (sym same)
+        (subst (λ xs. AreUnits xs new.stores o.table) (sym units)
+        (subst (λ ss. AreUnits (set (records_of o.units.items) (region - 1) []) ss o.table) (sym stores)
+        (back_units (records_of o.units.items) o.stores o.table h (region - 1) u.within)))
+
+    pub taken_back_committed : (seen new).committed ≡ (seen o).committed
+    taken_back_committed = (λ i. backed_all (units i) (stores i)) ∙ back_committed (records_of o.units.items) o.stores o.table h (region - 1) u.within
+
+    pub taken_back_dbds : dbds_of (seen new) ≡ dbds_of (seen o)
+    taken_back_dbds = ap (map (λ (s : Stored). s.dbd)) stores ∙ backed_dbds (changed_in region o) o.stores
+
+    pub taken_back_regions : (seen new).regions ≡ regions_backed region (seen o)
+    taken_back_regions =
+        (λ i. regions_from 0 (units i) (units i) (stores i))
+        ∙ same_list no_rows (regions_from 0 left left now) (regions_backed region (seen o))
+        (regions_length 0 left left now
+        ∙ (length-set (records_of o.units.items) (region - 1) []
+        ∙ sym (length-set (seen o).regions (region - 1) (clean_region (committed_rows (seen o))) ∙ regions_length 0 (records_of o.units.items) (records_of o.units.items) o.stores)))
+        (λ k lt.
+        let inside : k < length (records_of o.units.items) = omega (arith, lt, regions_length 0 left left now, length-set (records_of o.units.items) (region - 1) []) in
+        ⊎_elim (λ same. own k same) (λ other. others k other inside) (cases_eq k (region - 1)))
+      where
+        left : List (List Change)
+        left = set (records_of o.units.items) (region - 1) []
+
+        now : List Stored
+        now = backed_out (changed_in region o) o.stores
+
+        own : (k : ℕ) → k ≡ region - 1 → get_or (regions_from 0 left left now) k no_rows ≡ get_or (regions_backed region (seen o)) k no_rows
+        own k same =
+            ap (λ n. get_or (regions_from 0 left left now) n no_rows) same
+            ∙ (region_is (region - 1) left now (omega (arith, u.within, length-set (records_of o.units.items) (region - 1) []))
+            ∙ ((λ i. record {
+              rows = rows_of (back_own (records_of o.units.items) o.stores o.table h (region - 1) u.within i);
+              changed = roots_of (get_set (records_of o.units.items) (region - 1) [] u.within i);
+            })
+            ∙ sym (ap (λ n. get_or (regions_backed region (seen o)) n no_rows) same
+            ∙ get_put (seen o).regions (region - 1) (clean_region (committed_rows (seen o))) no_rows
+            (omega (arith, u.within, regions_length 0 (records_of o.units.items) (records_of o.units.items) o.stores)))))
+
+        others : (k : ℕ) → k ≢ region - 1 → k < length (records_of o.units.items) → get_or (regions_from 0 left left now) k no_rows ≡ get_or (regions_backed region (seen o)) k no_rows
+        others k other inside =
+            region_is k left now (omega (arith, inside, length-set (records_of o.units.items) (region - 1) []))
+            ∙ ((λ i. record {
+              rows = rows_of (back_others (records_of o.units.items) o.stores o.table h (region - 1) u.within k other i);
+              changed = roots_of (get_set_else (records_of o.units.items) (region - 1) k [] other i);
+            })
+            ∙ sym (get_put_else (seen o).regions (region - 1) k (clean_region (committed_rows (seen o))) no_rows other ∙ region_is k (records_of o.units.items) o.stores inside))
+
+  -- what the region holds is given up, once its unit has no changes
+  pub given_up_units : (stores : List Stored) (old table : EnqueueTable) → AreUnits (records_of new.units.items) stores old → table ≡ released region old → IsKept table → AreUnits (records_of new.units.items) stores table
+  given_up_units stores old table before same kept =
+      let is : table ≡ released (suc (region - 1)) old = same ∙ ap (λ r. released r old) (sym u.up) in
+      subst (λ t. AreUnits (records_of new.units.items) stores t) (sym is)
+      (released_units (records_of new.units.items) stores old (region - 1) before
+      (ap (λ xs. get_or xs (region - 1) []) units ∙ get_set (records_of o.units.items) (region - 1) [] u.within) (subst IsKept is kept))
+
+  -- the changes stay
+  module _ (stores : new.stores ≡ o.stores) where
+    pub kept_units : AreUnits (records_of new.units.items) new.stores o.table
+    kept_units =
+        subst (λ xs. AreUnits xs new.stores o.table) (sym units)
+        (subst (λ ss. AreUnits (set (records_of o.units.items) (region - 1) []) ss o.table) (sym stores)
+        (keep_units (records_of o.units.items) o.stores o.table h (region - 1) u.within))
+
+    pub is_committed : new.table ≡ released region o.table → IsCommitted region (seen o) (seen new)
+    is_committed table =
+        record {
+          rows = ap rows_of committed_is ∙ ap (λ (x : RegionRows). x.rows) (sym (region_is (region - 1) (records_of o.units.items) o.stores u.within));
+          own = new_region (region - 1) (omega (arith, u.within, length-set (records_of o.units.items) (region - 1) []))
+              ∙ ((λ i. record {
+                rows = rows_of (backed_all (set_twice (records_of o.units.items) (region - 1) [] [] i) o.stores);
+                changed = roots_of (get_set (records_of o.units.items) (region - 1) [] u.within i);
+              })
+              ∙ ap (λ ss. clean_region (rows_of ss)) (sym committed_is));
+          count = regions_length 0 (records_of new.units.items) (records_of new.units.items) new.stores
+              ∙ (ap length units ∙ (length-set (records_of o.units.items) (region - 1) [] ∙ sym (regions_length 0 (records_of o.units.items) (records_of o.units.items) o.stores)));
+          others = λ other apart least most. beside other apart least (omega (arith, least, most, regions_length 0 (records_of o.units.items) (records_of o.units.items) o.stores));
+          table = table;
+        }
+      where
+        left : List (List Change)
+        left = set (records_of o.units.items) (region - 1) []
+
+        committed_is : (seen new).committed ≡ backed_all (set (records_of o.units.items) (region - 1) []) o.stores
+        committed_is = λ i. backed_all (units i) (stores i)
+
+        new_region : (k : ℕ) → k < length (set (records_of o.units.items) (region - 1) [])
+            → get_or (seen new).regions k no_rows ≡ record { rows = rows_of (seen_by k (set (records_of o.units.items) (region - 1) []) o.stores); changed = roots_of (get_or (set (records_of o.units.items) (region - 1) []) k []) }
+        new_region k lt = (λ i. get_or (regions_from 0 (units i) (units i) (stores i)) k no_rows) ∙ region_is k (set (records_of o.units.items) (region - 1) []) o.stores lt
+
+        beside : (other : ℕ) → (other ≡ region → ⊥) → 1 ≤ other → other - 1 < length (records_of o.units.items) → IsBeside other (seen o) (seen new)
+        beside other apart least inside =
+            let k_apart : other - 1 ≢ region - 1 = λ e. apart (omega (arith, e, least, u.least)) in
+            let number : suc (other - 1) ≡ other = omega (arith, least) in
+            let was : region_at other (seen o)
+                ≡ record { rows = rows_of (seen_by (other - 1) (records_of o.units.items) o.stores); changed = roots_of (get_or (records_of o.units.items) (other - 1) []) } =
+            region_is (other - 1) (records_of o.units.items) o.stores inside in
+            record {
+              sees = new_region (other - 1) (omega (arith, inside, length-set (records_of o.units.items) (region - 1) []))
+                  ∙ ((λ i. record {
+                    rows = sees_then (records_of o.units.items) o.stores o.table h (region - 1) u.within (other - 1) inside k_apart i;
+                    changed = roots_of (get_set_else (records_of o.units.items) (region - 1) (other - 1) [] k_apart i);
+                  })
+                  ∙ (λ i. record {
+                    rows = Rattle.program_rows.specs.State.with_records_from (sym was i).changed (sym was i).rows (rows_of (sym committed_is i));
+                    changed = (sym was i).changed;
+                  }));
+              held = subst (λ r. AgreeOnHeld o.table r (rows_of (backed_all (records_of o.units.items) o.stores)) (committed_rows (seen new))) number
+                  (subst (λ ss. AgreeOnHeld o.table (suc (other - 1)) (rows_of (backed_all (records_of o.units.items) o.stores)) (rows_of ss)) (sym committed_is)
+                  (held_then (records_of o.units.items) o.stores o.table h (region - 1) u.within (other - 1) inside k_apart));
+            }
+
+-- at the beginning nothing is open
+module _ (dbds : List Dbd) (regions : ℕ) where
+  empty_units : List (List Change)
+  empty_units = replicate regions []
+
+  none_backed : (n : ℕ) (stores : List Stored) → backed_all (replicate n []) stores ≡ stores
+  none_backed zero stores = refl
+  none_backed (suc n) stores = backed_none (backed_all (replicate n []) stores) ∙ none_backed n stores
+
+  none_at : (n i : ℕ) → get_or (replicate n (let none : List Change = [] in none)) i [] ≡ []
+  none_at zero i = refl
+  none_at (suc n) zero = refl
+  none_at (suc n) (suc i) = none_at n i
+
+  none_set : (n i : ℕ) → set (replicate n (let none : List Change = [] in none)) i [] ≡ replicate n []
+  none_set zero i = refl
+  none_set (suc n) zero = refl
+  none_set (suc n) (suc i) = ap (λ us. [] ∷ us) (none_set n i)
+
+  records_none : (n : ℕ) → records_of (replicate n no_changes) ≡ replicate n []
+  records_none zero = refl
+  records_none (suc n) = ap (λ us. [] ∷ us) (records_none n)
+
+  count_none : (n : ℕ) → length (replicate n (let none : List Change = [] in none)) ≡ n
+  count_none zero = refl
+  count_none (suc n) = ap (λ m. suc m) (count_none n)
+
+  empty_kept : IsKept (empty_table regions)
+  unfolding IsStrictlySortedBy IsDistinct
+  empty_kept =
+      record {
+        ascending = tt;
+        alone = λ r a b mode e f. let clash : (let none : Option Rattle.tm_types.specs.declared.resource.Mode.Mode = None in none) ≡ Some mode = f in absurd (cc);
+        holders = tt;
+        upgrading = tt;
+        waiting = tt;
+        once = tt;
+      }
+
+  module _ (o : Opened) (types : AllByRecursion (λ dbd. IsHierarchy dbd.types) dbds) (units : o.units.items ≡ replicate regions no_changes) (stores : o.stores ≡ empty_stores dbds)
+    (table : o.table ≡ empty_table regions) where
+    us_are : records_of o.units.items ≡ replicate regions []
+    us_are = ap records_of units ∙ records_none regions
+
+    valid : AreValid (empty_stores dbds)
+    valid = each dbds types
+      where
+        each : (ds : List Dbd) → AllByRecursion (λ dbd. IsHierarchy dbd.types) ds → AreValid (map empty_store ds)
+        each [] h = tt
+        each (d ∷ ds) h = (free_slots_valid d h.0, each ds h.1)
+
+    pub begins : IsOpen o
+    begins =
+        subst (λ us. AreUnits us o.stores o.table) (sym us_are)
+        (subst (λ ss. AreUnits (replicate regions []) ss o.table) (sym stores)
+        (subst (λ (t : EnqueueTable). AreUnits (replicate regions []) (empty_stores dbds) t) (sym table)
+        (record {
+          valid = valid;
+          compatible = empty_kept;
+          count = count_none regions;
+          numbered = tt;
+          each = λ place lt.
+              subst (IsUnit (empty_table regions) (empty_stores dbds) (suc place)) (sym (none_at regions place)) (empty_unit (empty_table regions) (empty_stores dbds) (suc place));
+        })))
+
+    pub begins_committed : (seen o).committed ≡ empty_stores dbds
+    begins_committed = (λ i. backed_all (us_are i) (stores i)) ∙ none_backed regions (empty_stores dbds)
+
+    pub begins_regions : (seen o).regions ≡ replicate regions (clean_region (rows_of (empty_stores dbds)))
+    begins_regions =
+        (λ i. regions_from 0 (us_are i) (us_are i) (stores i)) ∙ all_clean 0 regions
+      where
+        all_clean : (n m : ℕ) → regions_from n (replicate m []) (replicate regions []) (empty_stores dbds) ≡ replicate m (clean_region (rows_of (empty_stores dbds)))
+        all_clean n zero = refl
+        all_clean n (suc m) =
+            λ i. record { rows = rows_of ((ap (λ us. backed_all us (empty_stores dbds)) (none_set regions n) ∙ none_backed regions (empty_stores dbds)) i); changed = [] } ∷ all_clean (suc n) m i

@@ -1,0 +1,48 @@
+use Rattle.std.proofs.Common.{◌≡◌, ap, ◌∙◌, subst, sym, arith}
+use Rattle.model_enqueue.specs.Table.{EnqueueTable}
+use Rattle.model_enqueue.specs.Ask.{released}
+use Rattle.program_rows.specs.State.{DatabasesState, dbds_of}
+use Rattle.program_rows.specs.Answering.{regions_backed, IsGivenUp}
+use Rattle.program_rows.specs.Making.{seen}
+use Rattle.program_rows.specs.declared.opened.Opened.{Opened}
+use Rattle.program_rows.proofs.Ending.{HasUnit, has_unit, can_back_out, taken_back_units, taken_back_committed, taken_back_dbds, taken_back_regions, given_up_units}
+use Rattle.program_rows.proofs.databases.Databases.give_up.Goals as goal
+
+pub take_back-requires-clause-most : goal.take_back-requires-clause-most
+take_back-requires-clause-most c = (has_unit c.self.inside.opened c.args.self.now c.args.region c.self.invariant c.self.view_is c.requires).most
+
+pub take_back-requires-clause-can : goal.take_back-requires-clause-can
+take_back-requires-clause-can c =
+    can_back_out c.self.inside.opened c.args.region c.self.invariant (has_unit c.self.inside.opened c.args.self.now c.args.region c.self.invariant c.self.view_is c.requires)
+
+pub release-requires : goal.release-requires
+release-requires c =
+    let u = has_unit c.self.inside.opened c.args.self.now c.args.region c.self.invariant c.self.view_is c.requires in
+    (u.known.0, omega (arith, u.known.1, ap (λ (t : EnqueueTable). t.regions) c.take_back.ensures.table))
+
+pub invariant_of-self : goal.invariant_of-self
+invariant_of-self c =
+    let u = has_unit c.self.inside.opened c.args.self.now c.args.region c.self.invariant c.self.view_is c.requires in
+    given_up_units c.self.inside.opened c.take_back.new.opened c.self.invariant c.args.region (has_unit c.self.inside.opened c.args.self.now c.args.region c.self.invariant c.self.view_is c.requires)
+    c.take_back.ensures.units c.take_back.new.opened.stores c.take_back.new.opened.table c.release.new.table
+    (taken_back_units c.self.inside.opened c.take_back.new.opened c.self.invariant c.args.region (has_unit c.self.inside.opened c.args.self.now c.args.region c.self.invariant c.self.view_is c.requires)
+    c.take_back.ensures.units c.take_back.ensures.stores c.take_back.new.opened.table c.take_back.ensures.table)
+    c.release.ensures.table c.release.ensures.kept
+
+pub returns-clause-value : goal.returns-clause-value
+returns-clause-value c =
+    record {
+      committed = taken_back_committed c.self.inside.opened c.take_back.new.opened c.self.invariant c.args.region
+          (has_unit c.self.inside.opened c.args.self.now c.args.region c.self.invariant c.self.view_is c.requires) c.take_back.ensures.units c.take_back.ensures.stores
+          ∙ ap (λ (d : DatabasesState). d.committed) c.self.view_is;
+      regions = taken_back_regions c.self.inside.opened c.take_back.new.opened c.self.invariant c.args.region
+          (has_unit c.self.inside.opened c.args.self.now c.args.region c.self.invariant c.self.view_is c.requires) c.take_back.ensures.units c.take_back.ensures.stores
+          ∙ ap (regions_backed c.args.region) c.self.view_is;
+      table = c.release.ensures.table ∙ (ap (released c.args.region) c.take_back.ensures.table ∙ ap (λ (d : DatabasesState). released c.args.region d.table) c.self.view_is);
+    }
+
+pub returns-clause-databases : goal.returns-clause-databases
+returns-clause-databases c =
+    taken_back_dbds c.self.inside.opened c.take_back.new.opened c.self.invariant c.args.region (has_unit c.self.inside.opened c.args.self.now c.args.region c.self.invariant c.self.view_is c.requires)
+    c.take_back.ensures.units c.take_back.ensures.stores
+    ∙ ap dbds_of c.self.view_is

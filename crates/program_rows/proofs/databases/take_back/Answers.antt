@@ -1,0 +1,14 @@
+use Rattle.std.proofs.Common.{◌≡◌, ◌-◌, get_or, [], sym, ap, ◌∙◌}
+use Rattle.unit_work.specs.Changes.{no_changes}
+use Rattle.unit_work.specs.BackOut.{backed_out}
+use Rattle.program_rows.specs.Open.{records_of}
+use Rattle.program_rows.proofs.Setting.{unit_records, records_put}
+use Rattle.program_rows.proofs.databases.take_back.Goals as goal
+
+pub returns-clause-units : goal.returns-clause-units
+returns-clause-units c = ap records_of c.take_unit-unit.ensures.left ∙ records_put c.args.opened.now.units.items (c.args.region - 1) no_changes
+
+pub returns-clause-stores : goal.returns-clause-stores
+returns-clause-stores c =
+    c.back_out.ensures.stores
+    ∙ ap (λ rs. backed_out rs c.args.opened.now.stores) (sym (unit_records c.args.opened.now.units.items (c.args.region - 1) c.take_unit-unit.result c.take_unit-unit.ensures.taken))

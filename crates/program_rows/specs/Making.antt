@@ -1,0 +1,122 @@
+-- What is made of the plan of a call that nothing blocks.
+use Rattle.std.specs.Prelude.{◌≡◌, ℕ, ◌-◌, false, List, Option, None, Some, [], map, slice_get, slice_index_or, slice_set}
+use Rattle.tm_types.specs.declared.abend.AbendCode.{AbendCode}
+use Rattle.tm_types.specs.declared.dbd.Dbd.{Dbd}
+use Rattle.model_rows.specs.Rows.{record_of, IsImage}
+use Rattle.model_dli.specs.Data.{abend_by}
+use Rattle.model_enqueue.specs.declared.request.Request.{Request}
+use Rattle.model_enqueue.specs.Table.{EnqueueTable}
+use Rattle.model_enqueue.specs.Ask.{after_asks, first_blocked}
+use Rattle.pi_enqueue.specs.Kept.{IsKept}
+use Rattle.seg_rows.specs.StoreRefused.{set_refusal}
+use Rattle.seg_store.specs.Slots.{Stored, AreSlots, rows_of_slots, slot_for, with_root}
+use Rattle.unit_work.specs.declared.change.Change.{Change}
+use Rattle.unit_work.specs.Changes.{is_full, with_change}
+use Rattle.dli_calls.specs.declared.planned.Edit.{Edit}
+use Rattle.dli_calls.specs.declared.planned.Planned.{Planned}
+use Rattle.dli_calls.specs.Plans.{limit_of}
+use Rattle.program_rows.specs.State.{DatabasesState, roots_of, rows_of, rows_in}
+use Rattle.program_rows.specs.Answering.{told_blocked}
+use Rattle.program_rows.specs.Open.{records_of, opened, AreUnits}
+use Rattle.program_rows.specs.declared.answer.Answered as answer
+use Rattle.program_rows.specs.declared.answer.DataAnswer.{DataAnswer}
+use Rattle.program_rows.specs.declared.answer.DataAnswer.TheVariants.{Answered, Abend, Blocked}
+use Rattle.program_rows.specs.declared.asked.Asked.{Asked}
+use Rattle.program_rows.specs.declared.opened.Opened.{Opened}
+
+-- the databases with what is open, as they are seen
+abbrev pub seen : Opened → DatabasesState
+seen o = opened (records_of o.units.items) o.stores o.table
+
+abbrev pub IsOpen : Opened → Type 0
+IsOpen o = AreUnits (records_of o.units.items) o.stores o.table
+
+-- the records that a region has changed
+abbrev pub changed_in : ℕ → Opened → List Change
+changed_in region o = slice_index_or (records_of o.units.items) (region - 1) []
+
+-- nothing has changed
+pub record IsSame (old new : Opened) : Type 0 where
+  pub units : records_of new.units.items ≡ records_of old.units.items
+  pub stores : new.stores ≡ old.stores
+  pub table : new.table ≡ old.table
+
+-- the region waits at the first of these requests that is blocked
+abbrev pub WaitsAt : List Request → EnqueueTable → DataAnswer → Type 0
+WaitsAt requests table (Answered a) = ⊥
+WaitsAt requests table (Abend code) = ⊥
+WaitsAt requests table (Blocked b) = told_blocked (first_blocked requests table) ≡ Some (b.resource, b.by)
+
+-- the record of an edit takes this slot, within the limits of the database
+pub record TakesSlot (s : Stored) (e : Edit) (slot : ℕ) : Type 0 where
+  pub valid : AreSlots s.dbd s.slots
+  pub place : slot_for e.root s.slots ≡ Some slot
+  pub image : IsImage s.dbd e.root e.image
+  pub accepted : set_refusal s.dbd e.root e.image (rows_of_slots s.slots) ≡ None
+
+-- the image in the record's slot is that of an edit
+pub record IsPut (number : ℕ) (e : Edit) (old new : List Stored) : Type 0 where
+  pub s : Stored
+  pub t : Stored
+  pub at : slice_get old (number - 1) ≡ Some s
+  pub dbd : t.dbd ≡ s.dbd
+  pub slots : t.slots ≡ with_root e.root e.image s.slots
+  pub valid : AreSlots t.dbd t.slots
+  pub stores : new ≡ slice_set old (number - 1) t
+
+-- what is kept of a record that takes a slot of this store
+abbrev pub kept_of : ℕ → ℕ → Edit → Stored → Change
+kept_of number slot e s = record { db = number; slot = slot; root = e.root; before = record_of e.root (rows_of_slots s.slots) }
+
+-- the region has asked for what a call needs
+pub record HasAskedIn (asked : Asked) (old new : EnqueueTable) : Type 0 where
+  pub table : new ≡ after_asks asked.region asked.requests.items old
+  pub kept : IsKept new
+
+-- a record is set, and its image before kept; the region has asked for what that needs
+pub record IsSet (asked : Asked) (e : Edit) (old new : Opened) : Type 0 where
+  pub slot : ℕ
+  pub put : IsPut asked.number e old.stores new.stores
+  pub takes : TakesSlot put.s e slot
+  pub room : is_full asked.number e.root (changed_in asked.region old) ≡ false
+  pub units : records_of new.units.items
+      ≡ slice_set (records_of old.units.items) (asked.region - 1) (with_change (kept_of asked.number slot e put.s) (changed_in asked.region old))
+  pub asks : HasAskedIn asked old.table new.table
+
+-- no record is set; the region has asked for what the call needs
+pub record HasAsked (asked : Asked) (old new : Opened) : Type 0 where
+  pub units : records_of new.units.items ≡ records_of old.units.items
+  pub stores : new.stores ≡ old.stores
+  pub asks : HasAskedIn asked old.table new.table
+
+-- the abend to which an edit leads, if it leads to one
+abbrev pub edit_abend : Asked → Dbd → Edit → Opened → Option AbendCode
+edit_abend asked dbd e o =
+    abend_by asked.number (roots_of (changed_in asked.region o)) (Some e.root) (limit_of (set_refusal dbd e.root e.image (rows_in asked.number (rows_of o.stores))))
+
+-- what an answered plan leaves
+abbrev pub IsEdited : Asked → Dbd → Opened → Opened → Option Edit → Type 0
+IsEdited asked dbd old new None = HasAsked asked old new
+IsEdited asked dbd old new (Some e) = (edit_abend asked dbd e old ≡ None) × IsSet asked e old new
+
+-- the plan is answered
+pub record IsMade (asked : Asked) (dbd : Dbd) (p : Planned) (old new : Opened) (a : answer.Answered) : Type 0 where
+  pub status : a.status ≡ p.status
+  pub area : a.area ≡ p.area
+  pub position : a.position ≡ p.position
+  pub edited : IsEdited asked dbd old new p.edit
+
+-- or its edit leads to this abend
+abbrev pub LeadsTo : Asked → Dbd → Opened → AbendCode → Option Edit → Type 0
+LeadsTo asked dbd old code None = ⊥
+LeadsTo asked dbd old code (Some e) = edit_abend asked dbd e old ≡ Some code
+
+abbrev pub Makes : Asked → Dbd → Planned → Opened → Opened → DataAnswer → Type 0
+Makes asked dbd p old new (Answered a) = IsMade asked dbd p old new a
+Makes asked dbd p old new (Abend code) = LeadsTo asked dbd old code p.edit × IsSame old new
+Makes asked dbd p old new (Blocked b) = ⊥
+
+-- the edit is made, or leads to an abend that changes nothing
+abbrev pub EditMade : Asked → Edit → Opened → Opened → Option AbendCode → Type 0
+EditMade asked e old new None = IsSet asked e old new
+EditMade asked e old new (Some code) = IsSame old new

@@ -1,0 +1,105 @@
+//! What a call of a region asks for.
+ghost use Rattle.std.specs.Prelude.{◌≡◌, ◌≢◌, ◌≤◌, None, IfOk, OnOk, OnErr, map};
+ghost use Rattle.std.specs.List.{AllByRecursion};
+ghost use Rattle.model_enqueue.specs.Ask.{after_asks, first_blocked};
+ghost use Rattle.model_enqueue.specs.Cycle.{IsRegion};
+ghost use Rattle.pi_enqueue.specs.Kept.{IsKept};
+ghost use Rattle.program_rows.specs.Isolation.{request_of};
+ghost use Rattle.program_rows.specs.Making.{WaitsAt};
+
+use crate::{Blocked, DataAnswer};
+use model_dli::Need;
+use pi_enqueue::{Request, Table};
+use std::alloc::Global;
+use tm_types::{Memory, Resource};
+
+/// The requests of a call of this region on the database of this number, in the order of its needs.
+#[derive(Debug, Drop)]
+pub struct Asked {
+    pub region: u32,
+    pub number: u8,
+    pub requests: Vec<Request>,
+}
+
+/// What a region asks for to have these needs.
+pub fn asked_for(alloc: Global, region: u32, number: u8, needs: &[Need]) -> Result<Asked, Memory>
+    ensures region { IfOk result (λ asked. asked.region ≡ region) }
+    ensures number { IfOk result (λ asked. asked.number ≡ number) }
+    ensures requests { IfOk result (λ asked. asked.requests.items ≡ map (request_of region number) needs.now) }
+    ensures own { IfOk result (λ asked. AllByRecursion (λ request. request.region ≡ region) asked.requests.items) }
+{
+    let requests = requests_for(alloc, region, number, needs)?;
+    Ok(Asked {
+        region,
+        number,
+        requests,
+    })
+}
+
+fn requests_for(
+    alloc: Global,
+    region: u32,
+    number: u8,
+    needs: &[Need],
+) -> Result<Vec<Request>, Memory>
+    ensures { IfOk result (λ requests. requests.items ≡ map (request_of region number) needs.now) }
+{
+    let mut requests = Vec::with_capacity(alloc, needs.len())?;
+    for need in needs {
+        requests.extend_from_slice(&[request_of(region, number, need)])?;
+    }
+    Ok(requests)
+}
+
+fn request_of(region: u32, number: u8, need: &Need) -> Request
+    ensures { result ≡ request_of region number need.now }
+{
+    Request {
+        region,
+        resource: Resource {
+            db: number,
+            root: need.root,
+        },
+        mode: need.mode,
+    }
+}
+
+/// The region waits at the first request that is blocked.
+pub fn wait(asked: &Asked, table: &mut Table) -> Result<DataAnswer, Memory>
+    requires region { IsRegion table.old asked.now.region }
+    requires own { AllByRecursion (λ request. request.region ≡ asked.now.region) asked.now.requests.items }
+    requires blocked { first_blocked asked.now.requests.items table.old ≢ None }
+    ensures waits { IfOk result (WaitsAt asked.now.requests.items table.old) }
+    ensures table { OnOk result (table.new ≡ after_asks asked.now.region asked.now.requests.items table.old) }
+    ensures held { IsKept table.new }
+    ensures kept { OnErr result (table.new ≡ table.old) }
+{
+    let asked = table.ask_all(asked.region, &asked.requests);
+    let _regions = table.regions();
+    match asked {
+        Ok(Some(blocked)) => Ok(DataAnswer::Blocked(Blocked {
+            resource: blocked.resource,
+            by: blocked.by,
+        })),
+        Ok(None) => unreachable!(),
+        Err(error) => Err(error),
+    }
+}
+
+/// The region gets all that it asks for, of which nothing is blocked.
+pub fn ask(asked: &Asked, table: &mut Table) -> Result<(), Memory>
+    requires region { IsRegion table.old asked.now.region }
+    requires own { AllByRecursion (λ request. request.region ≡ asked.now.region) asked.now.requests.items }
+    requires free { first_blocked asked.now.requests.items table.old ≡ None }
+    ensures table { OnOk result (table.new ≡ after_asks asked.now.region asked.now.requests.items table.old) }
+    ensures held { IsKept table.new }
+    ensures kept { OnErr result (table.new ≡ table.old) }
+{
+    let asked = table.ask_all(asked.region, &asked.requests);
+    let _regions = table.regions();
+    match asked {
+        Ok(None) => Ok(()),
+        Ok(Some(_)) => unreachable!(),
+        Err(error) => Err(error),
+    }
+}

@@ -1,0 +1,237 @@
+//! The record of a plan is set, and its image before kept.
+ghost use Rattle.std.specs.Prelude.{◌≡◌, ◌≤◌, ◌-◌, Some, None, IfOk, IfErr, OnOk, OnErr, IfSome, false, slice_get, slice_set, map, length};
+ghost use Rattle.std.specs.List.{AllByRecursion};
+ghost use Rattle.model_rows.specs.Record.{record_limit};
+ghost use Rattle.model_rows.specs.Rows.{IsImage, record_of};
+ghost use Rattle.model_dli.specs.Data.{limit_abend};
+ghost use Rattle.model_enqueue.specs.Ask.{first_blocked};
+ghost use Rattle.model_enqueue.specs.Cycle.{IsRegion};
+ghost use Rattle.seg_rows.specs.StoreRefused.{set_refusal};
+ghost use Rattle.seg_store.specs.Slots.{AreSlots, rows_of_slots, slot_for};
+ghost use Rattle.unit_work.specs.Changes.{is_full, no_changes, with_touch};
+ghost use Rattle.dli_calls.specs.Plans.{IsThere, limit_of};
+ghost use Rattle.program_rows.specs.State.{rows_in, rows_of};
+ghost use Rattle.program_rows.specs.Making.{IsPut, IsSame, IsSet, EditMade, HasAskedIn, Makes, TakesSlot, changed_in, edit_abend, kept_of};
+
+use crate::asked::{Asked, ask};
+use crate::opened::{Opened, put_unit, take_unit, unit_of};
+use crate::{Answered, DataAnswer};
+use dli_calls::{Edit, Planned};
+use model_dli::RowsLimit;
+use model_dli::abends::{RECORD_TOO_LONG, TOO_MANY_RECORDS, TOO_MANY_ROOTS};
+use seg_rows::{RecordImage, Rows};
+use seg_store::{Store, Stores};
+use std::alloc::Global;
+use tm_types::{AbendCode, Dbd, Key, Memory};
+use unit_work::{Prepared, Unit};
+
+/// Makes a planned call of a region that nothing blocks.
+pub fn make(
+    alloc: Global,
+    dbd: &Dbd,
+    asked: &Asked,
+    planned: Planned,
+    opened: &mut Opened,
+) -> Result<DataAnswer, Memory>
+    requires least { 1 ≤ asked.now.region }
+    requires most { asked.now.region ≤ length opened.old.units.items }
+    requires region { IsRegion opened.old.table asked.now.region }
+    requires own { AllByRecursion (λ request. request.region ≡ asked.now.region) asked.now.requests.items }
+    requires free { first_blocked asked.now.requests.items opened.old.table ≡ None }
+    requires number { 1 ≤ asked.now.number }
+    requires database { slice_get (map (λ s. s.dbd) opened.old.stores) (asked.now.number - 1) ≡ Some dbd.now }
+    requires image { IfSome planned.edit (λ e. IsImage dbd.now e.root e.image) }
+    requires there { IsThere (rows_in asked.now.number (rows_of opened.old.stores)) planned.edit }
+    ensures made { IfOk result (Makes asked.now dbd.now planned opened.old opened.new) }
+    ensures kept { OnErr result (IsSame opened.old opened.new) }
+{
+    let answered = Answered {
+        status: planned.status,
+        area: planned.area,
+        position: planned.position,
+    };
+    let Some(edit) = planned.edit else {
+        return match ask(asked, &mut opened.table) {
+            Ok(()) => Ok(DataAnswer::Answered(answered)),
+            Err(error) => Err(error),
+        };
+    };
+    match change(alloc, dbd, asked, edit, opened) {
+        Ok(None) => Ok(DataAnswer::Answered(answered)),
+        Ok(Some(code)) => Ok(DataAnswer::Abend(code)),
+        Err(error) => Err(error),
+    }
+}
+
+// Sets a record, or tells the abend to which that leads. One changed record too many goes before a
+// limit of the database.
+fn change(
+    alloc: Global,
+    dbd: &Dbd,
+    asked: &Asked,
+    edit: Edit,
+    opened: &mut Opened,
+) -> Result<Option<AbendCode>, Memory>
+    requires least { 1 ≤ asked.now.region }
+    requires most { asked.now.region ≤ length opened.old.units.items }
+    requires region { IsRegion opened.old.table asked.now.region }
+    requires own { AllByRecursion (λ request. request.region ≡ asked.now.region) asked.now.requests.items }
+    requires free { first_blocked asked.now.requests.items opened.old.table ≡ None }
+    requires number { 1 ≤ asked.now.number }
+    requires database { slice_get (map (λ s. s.dbd) opened.old.stores) (asked.now.number - 1) ≡ Some dbd.now }
+    requires image { IsImage dbd.now edit.root edit.image }
+    requires there { IsThere (rows_in asked.now.number (rows_of opened.old.stores)) (Some edit) }
+    ensures abend { IfOk result (λ o. o ≡ edit_abend asked.now dbd.now edit opened.old) }
+    ensures made { IfOk result (EditMade asked.now edit opened.old opened.new) }
+    ensures kept { OnErr result (IsSame opened.old opened.new) }
+{
+    if unit_of(&opened.units, asked.region).is_full(asked.number, &edit.root) {
+        return Ok(Some(AbendCode {
+            number: TOO_MANY_RECORDS,
+        }));
+    }
+    match slot_to_take(dbd, &edit, opened.stores.store(asked.number)) {
+        Ok(slot) => match set(alloc, asked, slot, edit, opened) {
+            Ok(()) => Ok(None),
+            Err(error) => Err(error),
+        },
+        Err(limit) => Ok(Some(limit_abend(limit))),
+    }
+}
+
+// The slot that a record takes, or the limit of the database that it would pass.
+fn slot_to_take(dbd: &Dbd, edit: &Edit, store: &Store) -> Result<u16, RowsLimit>
+    requires database { store.now.dbd ≡ dbd.now }
+    requires image { IsImage dbd.now edit.now.root edit.now.image }
+    requires there { IsThere (rows_of_slots store.now.slots) (Some edit.now) }
+    ensures valid { AreSlots store.now.dbd store.now.slots }
+    ensures slot { IfOk result (λ slot. slot_for edit.now.root store.now.slots ≡ Some slot) }
+    ensures accepted { OnOk result (set_refusal dbd.now edit.now.root edit.now.image (rows_of_slots store.now.slots) ≡ None) }
+    ensures refused { IfErr result (λ limit. limit_of (set_refusal dbd.now edit.now.root edit.now.image (rows_of_slots store.now.slots)) ≡ Some limit) }
+{
+    match store.slot_for(&edit.root) {
+        Some(slot) => {
+            if !edit.image.fits(record_limit(dbd)) {
+                return Err(RowsLimit::RecordLength);
+            }
+            Ok(slot)
+        }
+        None => Err(RowsLimit::Roots),
+    }
+}
+
+// The most bytes that a record of the database has: 4,000 for each of its sectors.
+fn record_limit(dbd: &Dbd) -> usize
+    ensures { result ≡ record_limit dbd.now }
+{
+    4000 * dbd.sectors as usize
+}
+
+// Keeps the record's image in the unit, asks for what the call needs, and then sets the record.
+fn set(
+    alloc: Global,
+    asked: &Asked,
+    slot: u16,
+    edit: Edit,
+    opened: &mut Opened,
+) -> Result<(), Memory>
+    requires least { 1 ≤ asked.now.region }
+    requires most { asked.now.region ≤ length opened.old.units.items }
+    requires region { IsRegion opened.old.table asked.now.region }
+    requires own { AllByRecursion (λ request. request.region ≡ asked.now.region) asked.now.requests.items }
+    requires free { first_blocked asked.now.requests.items opened.old.table ≡ None }
+    requires first { 1 ≤ asked.now.number }
+    requires last { asked.now.number ≤ length opened.old.stores }
+    requires takes { IfSome (slice_get opened.old.stores (asked.now.number - 1)) (λ s. TakesSlot s edit slot) }
+    requires room { is_full asked.now.number edit.root (changed_in asked.now.region opened.old) ≡ false }
+    ensures set { OnOk result (IsSet asked.now edit opened.old opened.new) }
+    ensures kept { OnErr result (IsSame opened.old opened.new) }
+{
+    let unit = take_unit(alloc, &mut opened.units, asked.region);
+    let store = opened.stores.store(asked.number);
+    match prepare(alloc, asked.number, slot, &edit.root, unit, store) {
+        Ok(prepared) => keep(asked, edit, prepared, opened),
+        Err(unit) => {
+            put_unit(&mut opened.units, asked.region, unit);
+            Err(Memory)
+        }
+    }
+}
+
+// Makes the touch of a record ready, with the image that it has in the store.
+fn prepare(
+    alloc: Global,
+    number: u8,
+    slot: u16,
+    root: &Key,
+    unit: Unit,
+    store: &Store,
+) -> Result<Prepared, Unit>
+    requires room { is_full number root.now unit.records ≡ false }
+    ensures unit { IfOk result (λ p. p.unit ≡ unit) }
+    ensures touched { IfOk result (λ p. p.touched ≡ with_touch (record { db = number; slot = slot; root = root.now; before = record_of root.now (rows_of_slots store.now.slots) }) unit) }
+    ensures kept { IfErr result (λ u. u ≡ unit) }
+{
+    match store.record(root) {
+        Some(image) => unit.prepare(number, *root, slot, image),
+        None => unit.prepare(number, *root, slot, &RecordImage::new(alloc)),
+    }
+}
+
+// Asks for what the call needs, keeps the touch and sets the record; or leaves the touch.
+fn keep(asked: &Asked, edit: Edit, prepared: Prepared, opened: &mut Opened) -> Result<(), Memory>
+    requires least { 1 ≤ asked.now.region }
+    requires most { asked.now.region ≤ length opened.old.units.items }
+    requires region { IsRegion opened.old.table asked.now.region }
+    requires own { AllByRecursion (λ request. request.region ≡ asked.now.region) asked.now.requests.items }
+    requires free { first_blocked asked.now.requests.items opened.old.table ≡ None }
+    requires first { 1 ≤ asked.now.number }
+    requires last { asked.now.number ≤ length opened.old.stores }
+    requires accepted { IfSome (slice_get opened.old.stores (asked.now.number - 1)) (λ s. set_refusal s.dbd edit.root edit.image (rows_of_slots s.slots) ≡ None) }
+    requires image { IfSome (slice_get opened.old.stores (asked.now.number - 1)) (λ s. IsImage s.dbd edit.root edit.image) }
+    ensures put { OnOk result (IsPut asked.now.number edit opened.old.stores opened.new.stores) }
+    ensures units { OnOk result (opened.new.units.items ≡ slice_set opened.old.units.items (asked.now.region - 1) prepared.touched) }
+    ensures asked { OnOk result (HasAskedIn asked.now opened.old.table opened.new.table) }
+    ensures left { OnErr result (opened.new.units.items ≡ slice_set opened.old.units.items (asked.now.region - 1) prepared.unit) }
+    ensures stores { OnErr result (opened.new.stores ≡ opened.old.stores) }
+    ensures table { OnErr result (opened.new.table ≡ opened.old.table) }
+{
+    match ask(asked, &mut opened.table) {
+        Ok(()) => {
+            put_unit(&mut opened.units, asked.region, prepared.keep());
+            put_record(asked.number, edit, &mut opened.stores);
+            Ok(())
+        }
+        Err(error) => {
+            put_unit(&mut opened.units, asked.region, prepared.leave());
+            Err(error)
+        }
+    }
+}
+
+fn put_record(number: u8, edit: Edit, stores: &mut Stores)
+    requires least { 1 ≤ number }
+    requires most { number ≤ length stores.old }
+    requires accepted { IfSome (slice_get stores.old (number - 1)) (λ s. set_refusal s.dbd edit.root edit.image (rows_of_slots s.slots) ≡ None) }
+    requires image { IfSome (slice_get stores.old (number - 1)) (λ s. IsImage s.dbd edit.root edit.image) }
+    ensures { IsPut number edit stores.old stores.new }
+{
+    let root = edit.root;
+    match stores.store_mut(number).set(&root, edit.image) {
+        Ok(()) => {}
+        Err(_) => unreachable!(),
+    }
+}
+
+fn limit_abend(limit: RowsLimit) -> AbendCode
+    ensures { result ≡ limit_abend limit }
+{
+    match limit {
+        RowsLimit::Roots => AbendCode {
+            number: TOO_MANY_ROOTS,
+        },
+        RowsLimit::RecordLength => AbendCode {
+            number: RECORD_TOO_LONG,
+        },
+    }
+}
