@@ -1,1 +1,3 @@
 pub mod Ways
+pub mod Fewer
+pub mod Breaking

@@ -1,2 +1,3 @@
 pub mod Weighed
 pub mod Way
+pub mod Broken

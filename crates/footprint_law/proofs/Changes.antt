@@ -155,7 +155,7 @@ some_between (x ∷ front) row back = λ e. absurd (cc)
 
 module _ (dbd : Dbd) (all : IsHierarchy dbd.types) (rows : List Row) (valid : AreRows dbd rows) where
   -- another image of a record that is there leaves the roots
-  roots_stay : (root : List ℕ) (image : List Row) → record_of root rows ≢ [] → image ≢ [] → IsUnder dbd.types root image → roots (with_record root image rows) ≡ roots rows
+  pub roots_stay : (root : List ℕ) (image : List Row) → record_of root rows ≢ [] → image ≢ [] → IsUnder dbd.types root image → roots (with_record root image rows) ≡ roots rows
   roots_stay root image there some under =
       joined image ∙ ((λ i. (roots (rows_before root rows) ++ same i) ++ roots (rows_after root rows))
       ∙ sym (ap roots (split_at_root root rows (rows_rising dbd all rows valid)) ∙ joined (record_of root rows)))

@@ -247,6 +247,13 @@ waiting_keeps q T = by (is_upgrade q T.holds)
     by true = refl
     by false = refl
 
+pub holds_of_waiting : (q : Request) (T : EnqueueTable) → (waiting q T).holds ≡ T.holds
+holds_of_waiting q T = by (is_upgrade q T.holds)
+  where
+    by : (b : Bool) → (cond b (record T { upgrades = placed q T.upgrades }) (record T { waits = placed q T.waits })).holds ≡ T.holds
+    by true = refl
+    by false = refl
+
 pub same_regions : (region : ℕ) (qs : List Request) (T : EnqueueTable) → (after_asks region qs T).regions ≡ T.regions
 same_regions region [] T = refl
 same_regions region (q ∷ qs) T = by (blocked_by q T) (same_regions region qs (granted q T))

@@ -84,7 +84,7 @@ pub kept_waits_for_nothing : (T : EnqueueTable) (region : ℕ) → IsKept T → 
 kept_waits_for_nothing T region kept = kept_fewer_waits T (λ w. not (eqb w.region region)) kept
 
 -- ---- a release
-held_released : (region a : ℕ) (resource : Resource) (es : List (Holder × Mode))
+pub held_released : (region a : ℕ) (resource : Resource) (es : List (Holder × Mode))
     → held a resource (filter (λ hold. not (eqb hold.0.region region)) es) ≡ cond (not (eqb a region)) (held a resource es) None
 held_released region a resource es =
     lookup-filter-keys (λ h. holds_of resource h && eqb h.region a) (λ h. not (eqb h.region region)) (not (eqb a region))

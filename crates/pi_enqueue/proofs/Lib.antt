@@ -5,3 +5,4 @@ pub mod Holding
 pub mod Granting
 pub mod Keeping
 pub mod Asking
+pub mod Laws
