@@ -1,20 +1,17 @@
 -- What regions hold alone keeps their units apart.
-use Rattle.std.proofs.Common.{◌≡◌, ◌≢◌, ℕ, ◌+◌, ◌-◌, ◌<◌, ◌≤◌, ◌∷◌, [], List, length, suc, refl, sym, ◌∙◌, ap, subst, Bool, true, false, cond, Option, None, Some, arith, get_or, eqb, ◌&&◌, ◌||◌, not, ◌⊎◌, inl, inr, ⊎_elim}
-use Rattle.std.specs.List.{AllByRecursion, list_any}
-use Rattle.std.specs.Ordering.{is_eq}
+use Rattle.std.proofs.Common.{◌≡◌, ◌≢◌, ℕ, ◌∷◌, [], List, suc, refl, sym, ◌∙◌, ap, subst, Bool, true, false, cond, None, Some, arith, get_or, eqb, ◌&&◌, ◌||◌, ◌⊎◌, inl, inr, ⊎_elim}
+use Rattle.std.specs.List.{AllByRecursion}
 use Rattle.std.proofs.lemmas.Bool.{false≢true, eqb-true}
 use Rattle.model_rows.specs.declared.row.Row.{Row}
-use Rattle.model_rows.specs.Path.{key_cmp}
-use Rattle.model_rows.proofs.Lists.{all_then}
 use Rattle.model_enqueue.specs.Table.{EnqueueTable}
 use Rattle.pi_enqueue.specs.Kept.{IsKept}
 use Rattle.seg_store.specs.Slots.{Stored, has_root}
-use Rattle.seg_store.proofs.SlotRows.{rooted, same_key}
+use Rattle.seg_store.proofs.SlotRows.{same_key}
 use Rattle.unit_work.specs.declared.change.Change.{Change}
 use Rattle.unit_work.specs.Changes.{is_of, is_changed}
 use Rattle.unit_work.specs.BackOut.{is_touched, was_in, cleared_slot}
-use Rattle.program_rows.specs.Open.{slots_at, image_at, HoldsAlone, StaysInSlot, Sits, IsUnit, AreUnits}
-use Rattle.program_rows.proofs.Beside.{was_there, IsIdle, AreRooted, AreOthers, AreApartIn, AreBeside, touched_is, none_touched}
+use Rattle.program_rows.specs.Open.{image_at, HoldsAlone, Sits, IsUnit, AreUnits}
+use Rattle.program_rows.proofs.Beside.{was_there, IsIdle, AreRooted, AreOthers, AreBeside, touched_is}
 use Rattle.program_rows.proofs.Aside.{was_in_is, can_rooted, cleared_where}
 use Rattle.program_rows.proofs.Together.{AreAllBeside, beside_by, all_by}
 use Rattle.program_rows.proofs.Backed.{IsGood}

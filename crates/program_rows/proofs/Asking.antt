@@ -1,20 +1,19 @@
 -- What a region's requests leave of the enqueue table, and which of them are blocked.
-use Rattle.std.proofs.Common.{◌≡◌, ◌≢◌, ℕ, ◌≤◌, ◌++◌, ◌∷◌, [], List, map, suc, refl, sym, ap, ◌∙◌, subst, Bool, true, false, cond, not, ◌&&◌, ◌||◌, Option, Some, None, eqb, ◌⊎◌, inl, inr, ⊎_elim}
-use Rattle.std.specs.Prelude.{filter, slice_get}
+use Rattle.std.proofs.Common.{◌≡◌, ◌≢◌, ℕ, ◌∷◌, [], List, refl, sym, ap, ◌∙◌, subst, Bool, true, false, cond, not, ◌&&◌, Option, Some, None, eqb, ◌⊎◌, ⊎_elim}
 use Rattle.std.specs.List.{AllByRecursion, list_any}
-use Rattle.std.specs.Option.{option_map_or, is_some}
-use Rattle.std.proofs.lemmas.Bool.{false≢true, eq-eqb, ne_eqb, eqb-true}
+use Rattle.std.specs.Option.{option_map_or}
+use Rattle.std.proofs.lemmas.Bool.{false≢true, ne_eqb, eqb-true}
 use Rattle.tm_types.specs.declared.resource.Resource.{Resource}
 use Rattle.tm_types.specs.declared.resource.Mode.{Mode}
 use Rattle.tm_types.specs.declared.resource.Mode.TheVariants.{Shared, Exclusive}
 use Rattle.model_enqueue.specs.declared.request.Holder.{Holder}
 use Rattle.model_enqueue.specs.declared.request.Request.{Request}
-use Rattle.model_enqueue.specs.Modes.{same_resource, excludes, serves, stronger}
-use Rattle.model_enqueue.specs.Table.{EnqueueTable, holds_of, is_asker, mode_held, is_served, is_upgrade, is_against, holders_against, waiters_ahead, blockers, blocked_by}
-use Rattle.model_enqueue.specs.Ask.{placed, granted_mode, with_hold, granted, waiting, waits_only_for, waits_for_nothing, released, after_asks, first_blocked}
-use Rattle.pi_enqueue.specs.Kept.{held, IsKept}
+use Rattle.model_enqueue.specs.Modes.{excludes}
+use Rattle.model_enqueue.specs.Table.{EnqueueTable, holds_of, is_upgrade, is_against, blocked_by}
+use Rattle.model_enqueue.specs.Ask.{placed, with_hold, granted, waiting, waits_only_for, after_asks, first_blocked}
+use Rattle.pi_enqueue.specs.Kept.{held}
 use Rattle.program_rows.specs.Open.{HoldsAlone}
-use Rattle.program_rows.proofs.Holders.{held_granted, held_own, held_other, alone_granted, alone_asked, held_released, found_any, resource_same, resource_exact}
+use Rattle.program_rows.proofs.Holders.{alone_granted, alone_asked, found_any}
 
 -- waiting changes no holder
 pub waiting_holds : (q : Request) (table : EnqueueTable) → (waiting q table).holds ≡ table.holds

@@ -15,7 +15,7 @@ use Rattle.program_rows.specs.Open.{slots_at, HoldsAlone, StaysInSlot, Sits, IsU
 use Rattle.program_rows.proofs.Beside.{was_there, AreBeside}
 use Rattle.program_rows.proofs.Aside.{goes, can_aside, aside_back, slots_there, was_there_own}
 use Rattle.program_rows.proofs.Together.{pull, get_set, get_set_else, set_twice, set_apart}
-use Rattle.program_rows.proofs.Backed.{AreValid, valid_back, image_where}
+use Rattle.program_rows.proofs.Backed.{valid_back, image_where}
 use Rattle.program_rows.proofs.Apart.{units_beside, all_beside}
 use Rattle.program_rows.proofs.Holders.{held_released}
 use Rattle.program_rows.proofs.Seen.{others_beside}

@@ -1,14 +1,11 @@
 -- What backing out units leaves in stores: slots of the databases, records that none of them has changed, and the roots where each of their records stays.
-use Rattle.std.proofs.Common.{◌≡◌, ◌≢◌, ℕ, ◌+◌, ◌-◌, ◌<◌, ◌≤◌, ◌∷◌, [], List, length, map, zero, suc, refl, sym, ◌∙◌, ap, subst, Bool, true, false, cond, Option, None, Some, arith, get_or, ◌⊎◌, inl, inr, ⊎_elim}
+use Rattle.std.proofs.Common.{◌≡◌, ◌≢◌, ℕ, ◌+◌, ◌-◌, ◌<◌, ◌≤◌, ◌∷◌, [], List, length, map, zero, suc, refl, sym, ◌∙◌, ap, subst, true, false, Option, None, Some, arith, get_or, ◌⊎◌, inl, inr, ⊎_elim}
 use Rattle.std.specs.List.{AllByRecursion, slice_get}
 use Rattle.std.specs.Option.{option_map_or}
 use Rattle.std.proofs.lemmas.Bool.{false≢true}
-use Rattle.std.proofs.lemmas.Option.{slice_get-get_or}
-use Rattle.tm_types.specs.declared.dbd.Dbd.{Dbd}
 use Rattle.model_rows.specs.declared.row.Row.{Row}
 use Rattle.model_rows.specs.Record.{IsRecord}
 use Rattle.model_rows.specs.Rows.{record_of, roots}
-use Rattle.model_rows.proofs.Lists.{all_then, all_both}
 use Rattle.seg_store.specs.Slots.{Stored, has_root, is_free, AreSlots, rows_of_slots}
 use Rattle.unit_work.specs.declared.change.Change.{Change}
 use Rattle.unit_work.specs.Changes.{is_changed, AreOnce}
@@ -16,8 +13,8 @@ use Rattle.unit_work.specs.BackOut.{cleared_slot, cleared, backed_out, IsStored,
 use Rattle.program_rows.specs.State.{rows_of, rows_in}
 use Rattle.program_rows.specs.Open.{slots_at, image_at, backed_all, StaysInSlot}
 use Rattle.program_rows.proofs.Slotwise.{each_slot, each_store, back, backed_is, each_there, slots_at_each, slots_at_length, image_at_each, dbds_each}
-use Rattle.program_rows.proofs.Beside.{was_there, AreRooted, AreBeside, idle_back, all_changed}
-use Rattle.program_rows.proofs.Aside.{Goes, goes, can_rooted, cleared_where, slots_there, was_there_own}
+use Rattle.program_rows.proofs.Beside.{was_there, AreRooted, AreBeside, idle_back}
+use Rattle.program_rows.proofs.Aside.{goes, can_rooted, cleared_where, slots_there, was_there_own}
 use Rattle.program_rows.proofs.Together.{AreAllBeside, beside_all, can_all}
 use Rattle.program_rows.proofs.Restored.{Restores, restored_slots, restored_record}
 use Rattle.program_rows.proofs.RootsStay.{Stays, restored_roots}

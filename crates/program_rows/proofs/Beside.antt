@@ -1,19 +1,18 @@
 -- Units whose records are others, and that touch no slot together, are backed out in any order.
-use Rattle.std.proofs.Common.{◌≡◌, ℕ, ◌-◌, ◌<◌, ◌≤◌, ◌∷◌, [], List, length, refl, sym, ◌∙◌, ap, subst, Bool, true, false, cond, Option, None, Some, eqb, ◌&&◌, ◌||◌, not, ◌⊎◌, inl, inr, ⊎_elim}
+use Rattle.std.proofs.Common.{◌≡◌, ℕ, ◌<◌, ◌≤◌, ◌∷◌, [], List, length, refl, sym, ◌∙◌, ap, subst, Bool, true, false, cond, eqb, ◌&&◌, ◌||◌, ◌⊎◌, ⊎_elim}
 use Rattle.std.specs.List.{AllByRecursion, list_any}
 use Rattle.std.specs.Ordering.{is_eq}
 use Rattle.std.proofs.lemmas.Bool.{false≢true, eq-eqb, eqb-true}
 use Rattle.std.proofs.lemmas.Cmp.{tied_itself}
 use Rattle.model_rows.specs.declared.row.Row.{Row}
-use Rattle.model_rows.specs.Path.{key_cmp, root_of}
 use Rattle.model_rows.proofs.Order.{key_total}
-use Rattle.seg_store.specs.Slots.{Stored, has_root, is_free}
-use Rattle.seg_store.proofs.SlotRows.{rooted, same_key}
+use Rattle.seg_store.specs.Slots.{Stored, has_root}
+use Rattle.seg_store.proofs.SlotRows.{rooted}
 use Rattle.unit_work.specs.declared.change.Change.{Change}
 use Rattle.unit_work.specs.Changes.{is_of, is_changed}
 use Rattle.unit_work.specs.BackOut.{is_touched, was_in, backed_slot, cleared_slot, backed_out}
 use Rattle.program_rows.specs.Open.{slots_at, image_at}
-use Rattle.program_rows.proofs.Slotwise.{SlotChange, back, each_store, backed_is, twice, alike}
+use Rattle.program_rows.proofs.Slotwise.{back, each_store, backed_is, twice, alike}
 
 -- the record of one of these changes was in the slot
 abbrev pub was_there : List Change → ℕ → ℕ → Bool

@@ -1,17 +1,16 @@
 -- Which of a region's requests are blocked depends on its needs up to the first that another region's holder is against.
-use Rattle.std.proofs.Common.{◌≡◌, ◌≢◌, ℕ, ◌++◌, ◌∷◌, [], List, map, refl, sym, ap, ◌∙◌, subst, Bool, true, false, cond, not, ◌&&◌, ◌||◌, Option, Some, None, eqb, ◌⊎◌, inl, inr, ⊎_elim}
+use Rattle.std.proofs.Common.{◌≡◌, ◌≢◌, ℕ, ◌++◌, ◌∷◌, [], List, map, refl, sym, ap, ◌∙◌, subst, Bool, true, false, cond, not, ◌&&◌, ◌||◌, Option, Some, None, eqb}
 use Rattle.std.specs.Prelude.{filter, slice_get}
 use Rattle.std.specs.List.{AllByRecursion, list_any}
 use Rattle.std.specs.List.Sorted.{IsStrictlySortedBy}
-use Rattle.std.specs.Map.{keys_of, lookup}
-use Rattle.std.specs.BTreeMap.{insert_entry, is_at}
+use Rattle.std.specs.Map.{keys_of}
+use Rattle.std.specs.BTreeMap.{insert_entry}
 use Rattle.std.specs.Option.{option_map_or}
 use Rattle.std.specs.Ordering.{is_eq, match_ordering, ordering_reverse}
 use Rattle.std.specs.declared.cmp.Ordering.{Ordering}
 use Rattle.std.specs.declared.cmp.Ordering.TheVariants.{Less, Equal, Greater}
-use Rattle.std.proofs.lemmas.Bool.{false≢true, eq-eqb, ne_eqb, eqb-true}
+use Rattle.std.proofs.lemmas.Bool.{false≢true, eq-eqb, ne_eqb}
 use Rattle.std.proofs.lemmas.Map.Keys.{sorted_head, sorted_tail}
-use Rattle.tm_types.specs.declared.resource.Resource.{Resource}
 use Rattle.tm_types.specs.declared.resource.Mode.{Mode}
 use Rattle.tm_types.specs.declared.resource.Mode.TheVariants.{Shared, Exclusive}
 use Rattle.model_dli.specs.declared.need.Need.{Need}
@@ -19,12 +18,13 @@ use Rattle.model_dli.specs.Footprint.{up_to_blocked}
 use Rattle.model_enqueue.specs.declared.request.Holder.{Holder}
 use Rattle.model_enqueue.specs.declared.request.Request.{Request}
 use Rattle.model_enqueue.specs.Modes.{same_resource, excludes, serves, stronger, holder_cmp}
-use Rattle.model_enqueue.specs.Table.{EnqueueTable, holds_of, mode_held, is_served, is_against, holders_against, waiters_ahead, blockers, blocked_by}
+use Rattle.model_enqueue.specs.Table.{EnqueueTable, holds_of, mode_held, is_served, is_against, holders_against, waiters_ahead, blocked_by}
 use Rattle.model_enqueue.specs.Ask.{asker, granted_mode, with_hold, granted, waiting, waits_only_for, after_asks, first_blocked}
 use Rattle.pi_enqueue.specs.Kept.{held, IsKept}
 use Rattle.model_rows.proofs.Lists.{all_then}
 use Rattle.program_rows.specs.Isolation.{request_of}
-use Rattle.program_rows.proofs.Holders.{holder_total, asker_is, holder_exact, held_granted, held_own, held_other, resource_same, resource_exact}
+use Rattle.pi_enqueue.proofs.Keys.{asker_is}
+use Rattle.program_rows.proofs.Holders.{holder_total, holder_exact, held_own, held_other, resource_same, resource_exact}
 use Rattle.program_rows.proofs.Asking.{is_contested}
 
 left_of : (a b : Bool) → (a && b) ≡ true → a ≡ true
@@ -100,7 +100,7 @@ entries_found (e ∷ holds) s = (
     later [] less h = tt
     later (f ∷ fs) less h =
         let other : (holds_of f.0.resource e.0 && eqb e.0.region f.0.region) ≡ false =
-        sym (asker_is f.0.region f.0.resource e.0) ∙ greater_eq (holder_cmp e.0 f.0) (holder_cmp f.0 e.0) less.0 (holder_total.antisymm f.0 e.0) in
+        sym (asker_is (record { region = f.0.region; resource = f.0.resource; mode = Exclusive }) e.0) ∙ greater_eq (holder_cmp e.0 f.0) (holder_cmp f.0 e.0) less.0 (holder_total.antisymm f.0 e.0) in
         (ap (λ b. cond b (Some e.1) (held f.0.region f.0.resource holds)) other ∙ h.0, later fs less.1 h.1)
 
 pub kept_together : (table : EnqueueTable) (region : ℕ) → IsKept table → GoesTogether region table.holds table.holds

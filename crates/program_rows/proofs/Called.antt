@@ -3,8 +3,7 @@ use Rattle.std.proofs.Common.{◌≡◌, ◌≢◌, ℕ, ◌-◌, ◌≤◌, ◌
 use Rattle.std.specs.List.{AllByRecursion, slice_get}
 use Rattle.std.specs.Option.{option_map}
 use Rattle.std.specs.Prelude.{IfSome}
-use Rattle.std.proofs.lemmas.Bool.{false≢true}
-use Rattle.std.proofs.lemmas.List.{length-set, length-map}
+use Rattle.std.proofs.lemmas.List.{length-set}
 use Rattle.tm_types.specs.declared.dbd.Dbd.{Dbd}
 use Rattle.tm_types.specs.declared.abend.AbendCode.{AbendCode}
 use Rattle.tm_types.specs.declared.resource.Mode.TheVariants.{Exclusive}
@@ -12,7 +11,7 @@ use Rattle.tm_types.specs.Segment.{IsSegmentText}
 use Rattle.tm_types.specs.SegTypes.{IsHierarchy}
 use Rattle.model_rows.specs.declared.row.Row.{Row}
 use Rattle.model_rows.specs.Record.{IsRecord}
-use Rattle.model_rows.specs.Rows.{record_of, with_record, roots, AreRows, IsImage}
+use Rattle.model_rows.specs.Rows.{record_of, with_record, roots, AreRows}
 use Rattle.model_rows.proofs.Records.{with_record_itself}
 use Rattle.model_dli.specs.Conditions.{IsDbCall, IsPosition}
 use Rattle.model_dli.specs.declared.call.DbCall.{DbCall}
@@ -22,43 +21,41 @@ use Rattle.model_dli.specs.declared.need.Need.{Need}
 use Rattle.model_dli.specs.Data.{with_changed, abend_by, data_abend, limit_abend}
 use Rattle.model_dli.specs.Dli.{DliResult, dli}
 use Rattle.model_dli.specs.Footprint.{footprint, record_need, sequence_need, AgreeAt, AgreeOn, IsNeeded, up_to_blocked}
-use Rattle.model_enqueue.specs.declared.request.Request.{Request}
 use Rattle.model_enqueue.specs.Table.{EnqueueTable}
 use Rattle.model_enqueue.specs.Ask.{after_asks, first_blocked}
 use Rattle.pi_enqueue.specs.Kept.{IsKept}
 use Rattle.seg_rows.specs.StoreRefused.{set_refusal}
 use Rattle.seg_store.specs.Slots.{Stored, AreSlots, has_root, slot_for, rows_of_slots, with_image}
-use Rattle.seg_store.proofs.SlotRows.{slots_are_rows, record_image_root}
+use Rattle.seg_store.proofs.SlotRows.{record_image_root}
 use Rattle.unit_work.specs.declared.change.Change.{Change}
 use Rattle.unit_work.specs.Changes.{with_change, is_full}
 use Rattle.dli_calls.specs.declared.planned.Edit.{Edit}
 use Rattle.dli_calls.specs.declared.planned.Planned.{Planned}
-use Rattle.dli_calls.specs.Plans.{limit_of, HasAnswer, Plans, PlansTo, PlansEdit, IsThere}
+use Rattle.dli_calls.specs.Plans.{limit_of, HasAnswer, PlansTo, PlansEdit, IsThere}
 use Rattle.footprint_law.specs.Alike.{AreAlike, rows_changed}
 use Rattle.footprint_law.proofs.Front.{agree_unblocked, agree_where_none, same_front}
 use Rattle.footprint_law.proofs.Same.{same_call}
 use Rattle.footprint_law.proofs.Changes.{changed_needed, roots_needed}
 use Rattle.footprint_law.proofs.Kept.{rows_kept}
-use Rattle.program_rows.specs.State.{DatabasesState, RegionRows, no_rows, roots_of, rows_of, rows_in, dbds_of, data_of, region_at, rows_numbered}
+use Rattle.program_rows.specs.State.{RegionRows, no_rows, roots_of, rows_of, rows_in, data_of, region_at, rows_numbered}
 use Rattle.program_rows.specs.Isolation.{request_of, requests_of_call}
-use Rattle.program_rows.specs.Answering.{blocked_of, told_blocked, IsAnswer, Gives, LeadsToAbend, region_after, regions_after, table_left, StaysAtAbend}
+use Rattle.program_rows.specs.Answering.{told_blocked, IsAnswer, region_after}
 use Rattle.program_rows.specs.Calling.{Called}
 use Rattle.program_rows.specs.Open.{records_of, opened, regions_from, seen_by, HoldsAlone, AreUnits}
-use Rattle.program_rows.specs.Making.{seen, IsOpen, changed_in, IsSame, WaitsAt, IsSet, IsPut, TakesSlot, kept_of}
+use Rattle.program_rows.specs.Making.{seen, IsSame, WaitsAt, IsPut, TakesSlot, kept_of}
 use Rattle.program_rows.specs.declared.answer.Answered as answer
 use Rattle.program_rows.specs.declared.answer.DataAnswer.{DataAnswer}
 use Rattle.program_rows.specs.declared.answer.DataAnswer.TheVariants.{Answered, Abend, Blocked}
-use Rattle.program_rows.specs.declared.asked.Asked.{Asked}
 use Rattle.program_rows.specs.declared.opened.Opened.{Opened}
 use Rattle.program_rows.proofs.Aside.{same_there}
 use Rattle.program_rows.proofs.Asking.{is_contested, IsAsked, asked_after}
 use Rattle.program_rows.proofs.Backed.{all_there, dbds_all}
 use Rattle.program_rows.proofs.Blocking.{kept_together, front_asks, none_contested}
-use Rattle.program_rows.proofs.Followed.{follows, follow_units}
+use Rattle.program_rows.proofs.Followed.{follows}
 use Rattle.program_rows.proofs.Overlay.{store_rows}
 use Rattle.program_rows.proofs.Rooting.{roots_tell}
 use Rattle.program_rows.proofs.Seen.{agree, region_is, regions_length, same_list, seen_valid, get_put, get_put_else}
-use Rattle.program_rows.proofs.Setting.{rows_at_is, dbd_there, dbds_stay, changed_push}
+use Rattle.program_rows.proofs.Setting.{rows_at_is, dbds_stay, changed_push}
 use Rattle.program_rows.proofs.SetUnits.{Follows, IsSetIn, set_units, set_committed, set_others, set_seen}
 use Rattle.program_rows.proofs.Stepping.{own_image}
 use Rattle.std.proofs.lemmas.Bool.{cases_eq}

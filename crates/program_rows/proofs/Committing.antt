@@ -1,12 +1,10 @@
 -- What the others see, and hold, once the changes of a unit stay.
-use Rattle.std.proofs.Common.{◌≡◌, ◌≢◌, ℕ, ◌+◌, ◌-◌, ◌<◌, ◌≤◌, ◌∷◌, [], List, length, map, zero, suc, refl, sym, ◌∙◌, ap, subst, Bool, true, false, Option, None, Some, arith, get_or, set, eqb, ◌&&◌, ◌||◌, ◌⊎◌, inl, inr, ⊎_elim}
-use Rattle.std.specs.Prelude.{IsTrue}
+use Rattle.std.proofs.Common.{◌≡◌, ◌≢◌, ℕ, ◌<◌, ◌≤◌, ◌∷◌, [], List, length, zero, suc, refl, sym, ◌∙◌, ap, subst, Bool, true, false, Option, None, Some, arith, get_or, set, eqb, ◌&&◌, ◌||◌, ⊎_elim}
 use Rattle.std.specs.List.{AllByRecursion, list_any}
-use Rattle.std.proofs.lemmas.Bool.{false≢true, cases_eq}
+use Rattle.std.proofs.lemmas.Bool.{false≢true}
 use Rattle.std.proofs.lemmas.List.{length-set}
 use Rattle.tm_types.specs.declared.resource.Resource.{Resource}
 use Rattle.tm_types.specs.declared.resource.Mode.{Mode}
-use Rattle.model_rows.specs.declared.row.Row.{Row}
 use Rattle.model_rows.specs.Rows.{record_of, roots}
 use Rattle.model_rows.proofs.Lists.{all_then}
 use Rattle.model_dli.specs.Footprint.{AgreeAt}
@@ -19,14 +17,14 @@ use Rattle.unit_work.specs.declared.change.Change.{Change}
 use Rattle.unit_work.specs.Changes.{is_changed}
 use Rattle.unit_work.specs.BackOut.{backed_out, IsStored}
 use Rattle.program_rows.specs.State.{roots_of, rows_of, rows_in, with_records_from}
-use Rattle.program_rows.specs.Isolation.{holds, AgreeOnHeld}
+use Rattle.program_rows.specs.Isolation.{AgreeOnHeld}
 use Rattle.program_rows.specs.Open.{HoldsAlone, StaysInSlot, Sits, AreUnits, backed_all, seen_by}
 use Rattle.program_rows.proofs.Beside.{AreOthers}
-use Rattle.program_rows.proofs.Together.{pull, push, beside_others, get_set_else, set_apart}
-use Rattle.program_rows.proofs.Backed.{IsGood, AreValid, valid_all, good_all, stay_all, record_back, roots_back, dbds_all}
+use Rattle.program_rows.proofs.Together.{push, beside_others, get_set_else, set_apart}
+use Rattle.program_rows.proofs.Backed.{IsGood, good_all, stay_all, record_back, roots_back, dbds_all}
 use Rattle.program_rows.proofs.Apart.{holds_changed, others_apart, all_beside, all_good, all_rooted}
 use Rattle.program_rows.proofs.Holders.{any_found, resource_exact}
-use Rattle.program_rows.proofs.Seen.{good_none, others_beside, others_good, seen_valid}
+use Rattle.program_rows.proofs.Seen.{others_beside, seen_valid}
 use Rattle.program_rows.proofs.BackUnits.{keep_units}
 use Rattle.program_rows.proofs.Overlay.{overlaid}
 

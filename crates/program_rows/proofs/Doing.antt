@@ -1,14 +1,14 @@
 -- What was made, or waits, is done.
-use Rattle.std.proofs.Common.{◌≡◌, ◌≢◌, ℕ, ◌-◌, ◌≤◌, List, [], refl, sym, ◌∙◌, ap, subst, map, length, Option, None, Some, Result, Ok, Err, get_or}
+use Rattle.std.proofs.Common.{◌≡◌, ℕ, ◌-◌, ◌≤◌, List, sym, ◌∙◌, ap, subst, map, length, Option, None, Some, Result, Ok, Err}
 use Rattle.std.specs.List.{slice_get}
-use Rattle.std.specs.Prelude.{IfSome, IfOk, OnOk, OnErr}
+use Rattle.std.specs.Prelude.{IfSome, IfOk, OnOk}
 use Rattle.tm_types.specs.declared.dbd.Dbd.{Dbd}
 use Rattle.tm_types.specs.Segment.{IsSegmentText}
 use Rattle.model_rows.specs.declared.row.Row.{Row}
 use Rattle.model_dli.specs.Conditions.{IsDbCall, IsPosition}
 use Rattle.model_dli.specs.declared.call.DbCall.{DbCall}
 use Rattle.model_dli.specs.declared.call.Position.{Position}
-use Rattle.model_dli.specs.Dli.{DliResult, dli}
+use Rattle.model_dli.specs.Dli.{dli}
 use Rattle.model_dli.specs.Footprint.{footprint}
 use Rattle.model_enqueue.specs.declared.request.Request.{Request}
 use Rattle.model_enqueue.specs.Table.{EnqueueTable}
@@ -20,10 +20,9 @@ use Rattle.dli_calls.specs.declared.planned.Planned.{Planned}
 use Rattle.dli_calls.specs.Plans.{Plans, PlansTo, IsThere}
 use Rattle.program_rows.specs.State.{rows_in, rows_of}
 use Rattle.program_rows.specs.Isolation.{request_of}
-use Rattle.program_rows.specs.Answering.{Stands}
-use Rattle.program_rows.specs.Calling.{Called, IsDone}
+use Rattle.program_rows.specs.Calling.{IsDone}
 use Rattle.program_rows.specs.Open.{records_of, AreUnits}
-use Rattle.program_rows.specs.Making.{seen, IsSame, WaitsAt, IsSet, HasAsked, edit_abend, IsEdited, IsMade, LeadsTo, Makes}
+use Rattle.program_rows.specs.Making.{IsSame, WaitsAt, IsEdited, LeadsTo, Makes}
 use Rattle.program_rows.specs.declared.answer.Answered as answer
 use Rattle.program_rows.specs.declared.answer.DataAnswer.{DataAnswer}
 use Rattle.program_rows.specs.declared.answer.DataAnswer.TheVariants.{Answered, Abend, Blocked}

@@ -1,5 +1,5 @@
 -- The databases at their beginning, and when a region's changes are taken back or stay.
-use Rattle.std.proofs.Common.{◌≡◌, ◌≢◌, ℕ, ◌+◌, ◌-◌, ◌≤◌, ◌<◌, List, [], ◌∷◌, length, map, refl, sym, ◌∙◌, ap, subst, Option, None, Some, set, get_or, zero, suc, arith, inl, inr, ⊎_elim}
+use Rattle.std.proofs.Common.{◌≡◌, ◌≢◌, ℕ, ◌-◌, ◌≤◌, ◌<◌, List, [], ◌∷◌, length, map, refl, sym, ◌∙◌, ap, subst, Option, None, Some, set, get_or, zero, suc, arith, ⊎_elim}
 use Rattle.std.specs.List.{AllByRecursion, slice_get, IsDistinct}
 use Rattle.std.specs.List.Sorted.{IsStrictlySortedBy}
 use Rattle.std.specs.Prelude.{replicate}
@@ -7,12 +7,11 @@ use Rattle.std.proofs.lemmas.Bool.{cases_eq}
 use Rattle.std.proofs.lemmas.List.{length-set, length-map}
 use Rattle.tm_types.specs.declared.dbd.Dbd.{Dbd}
 use Rattle.tm_types.specs.SegTypes.{IsHierarchy}
-use Rattle.model_enqueue.specs.Modes.{holder_cmp}
 use Rattle.model_enqueue.specs.Table.{EnqueueTable, empty_table}
 use Rattle.model_enqueue.specs.Ask.{released}
 use Rattle.model_enqueue.specs.Cycle.{IsRegion}
 use Rattle.pi_enqueue.specs.Kept.{IsKept}
-use Rattle.seg_store.specs.Slots.{Stored, AreSlots, rows_of_slots}
+use Rattle.seg_store.specs.Slots.{Stored, rows_of_slots}
 use Rattle.seg_store.specs.Stores.{empty_store, empty_stores}
 use Rattle.seg_store.proofs.SlotRows.{free_slots_valid}
 use Rattle.unit_work.specs.declared.change.Change.{Change}
@@ -20,7 +19,7 @@ use Rattle.unit_work.specs.Changes.{Changes, no_changes}
 use Rattle.unit_work.specs.BackOut.{backed_out, CanBackOut}
 use Rattle.program_rows.specs.State.{DatabasesState, RegionRows, no_rows, roots_of, rows_of, rows_in, dbds_of, committed_rows, region_at, clean_region, AreRowsOf, IsRegionOf, IsClean}
 use Rattle.program_rows.specs.Isolation.{AgreeOnHeld}
-use Rattle.program_rows.specs.Answering.{regions_backed, IsBeside, IsCommitted, IsGivenUp}
+use Rattle.program_rows.specs.Answering.{regions_backed, IsBeside, IsCommitted}
 use Rattle.program_rows.specs.Open.{records_of, backed_all, seen_by, regions_from, IsUnit, AreUnits}
 use Rattle.program_rows.specs.Making.{seen, IsOpen, changed_in}
 use Rattle.program_rows.specs.declared.opened.Opened.{Opened}
@@ -225,7 +224,7 @@ module _ (o new : Opened) (h : IsOpen o) (region : ℕ) (u : HasUnit o region) (
             let k_apart : other - 1 ≢ region - 1 = λ e. apart (omega (arith, e, least, u.least)) in
             let number : suc (other - 1) ≡ other = omega (arith, least) in
             let was : region_at other (seen o)
-                ≡ record { rows = rows_of (seen_by (other - 1) (records_of o.units.items) o.stores); changed = roots_of (get_or (records_of o.units.items) (other - 1) []) } =
+            ≡ record { rows = rows_of (seen_by (other - 1) (records_of o.units.items) o.stores); changed = roots_of (get_or (records_of o.units.items) (other - 1) []) } =
             region_is (other - 1) (records_of o.units.items) o.stores inside in
             record {
               sees = new_region (other - 1) (omega (arith, inside, length-set (records_of o.units.items) (region - 1) []))
@@ -282,7 +281,7 @@ module _ (dbds : List Dbd) (regions : ℕ) where
       }
 
   module _ (o : Opened) (types : AllByRecursion (λ dbd. IsHierarchy dbd.types) dbds) (units : o.units.items ≡ replicate regions no_changes) (stores : o.stores ≡ empty_stores dbds)
-    (table : o.table ≡ empty_table regions) where
+      (table : o.table ≡ empty_table regions) where
     us_are : records_of o.units.items ≡ replicate regions []
     us_are = ap records_of units ∙ records_none regions
 

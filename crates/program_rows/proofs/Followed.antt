@@ -1,22 +1,19 @@
 -- Open units after a region has asked.
-use Rattle.std.proofs.Common.{◌≡◌, ℕ, ◌<◌, ◌≤◌, ◌∷◌, [], List, length, map, suc, refl, sym, ◌∙◌, ap, subst, Some, None, get_or, inl, inr, ⊎_elim}
+use Rattle.std.proofs.Common.{◌≡◌, ℕ, ◌≤◌, ◌∷◌, [], List, map, suc, refl, sym, ◌∙◌, ap, subst, Some, None, get_or, inl, inr, ⊎_elim}
 use Rattle.std.specs.List.{AllByRecursion}
 use Rattle.std.specs.Ordering.{is_eq}
-use Rattle.std.specs.declared.cmp.Ordering.TheVariants.{Equal}
 use Rattle.model_rows.proofs.Lists.{all_then}
 use Rattle.tm_types.specs.declared.resource.Mode.{Mode}
-use Rattle.tm_types.specs.declared.resource.Resource.{Resource}
 use Rattle.model_dli.specs.declared.need.Need.{Need}
 use Rattle.model_enqueue.specs.declared.request.Holder.{Holder}
 use Rattle.model_enqueue.specs.declared.request.Request.{Request}
-use Rattle.model_enqueue.specs.Modes.{holder_cmp}
 use Rattle.model_enqueue.specs.Table.{EnqueueTable}
 use Rattle.model_enqueue.specs.Ask.{asker, granted_mode, with_hold, waits_for_nothing, after_asks}
 use Rattle.pi_enqueue.specs.Kept.{IsKept}
 use Rattle.seg_store.specs.Slots.{Stored}
 use Rattle.unit_work.specs.declared.change.Change.{Change}
 use Rattle.program_rows.specs.Isolation.{request_of}
-use Rattle.program_rows.specs.Open.{HoldsAlone, Sits, IsUnit, AreUnits}
+use Rattle.program_rows.specs.Open.{HoldsAlone, Sits, AreUnits}
 use Rattle.program_rows.proofs.Holders.{holder_exact}
 use Rattle.program_rows.proofs.Asking.{after_has, alone_after, regions_after_asks}
 use Rattle.program_rows.proofs.Blocking.{all_put}

@@ -1,11 +1,9 @@
 -- A record that is set by a region's unit, and a unit that is put back.
-use Rattle.std.proofs.Common.{◌≡◌, ℕ, ◌-◌, List, refl, sym, ◌∙◌, ap, subst, Bool, true, false, Option, Some, None, Result, Ok, Err, set, map, get_or, []}
+use Rattle.std.proofs.Common.{◌≡◌, ℕ, ◌-◌, List, refl, sym, ◌∙◌, ap, Bool, true, false, Option, Some, None, Result, Ok, Err, set}
 use Rattle.std.specs.List.{slice_get}
 use Rattle.std.specs.Option.{option_map, is_some}
 use Rattle.std.specs.Prelude.{IfSome, OnOk, OnErr}
-use Rattle.tm_types.specs.declared.dbd.Dbd.{Dbd}
-use Rattle.seg_store.specs.Slots.{Stored, rows_of_slots}
-use Rattle.model_rows.specs.Rows.{record_of}
+use Rattle.seg_store.specs.Slots.{Stored}
 use Rattle.unit_work.specs.Changes.{Changes, is_full, no_changes, with_change, with_touch}
 use Rattle.unit_work.specs.Touching.{Touching}
 use Rattle.dli_calls.specs.declared.planned.Edit.{Edit}

@@ -1,27 +1,21 @@
 -- Stores in which the image in one slot has changed.
-use Rattle.std.proofs.Common.{◌≡◌, ◌≢◌, ℕ, ◌+◌, ◌-◌, ◌<◌, ◌≤◌, ◌∷◌, [], List, length, map, zero, suc, refl, sym, ◌∙◌, ap, subst, Bool, true, false, Option, None, Some, arith, get_or, set, ◌⊎◌, inl, inr, ⊎_elim}
+use Rattle.std.proofs.Common.{◌≡◌, ◌≢◌, ℕ, ◌-◌, ◌<◌, ◌≤◌, ◌∷◌, [], List, length, map, zero, suc, refl, sym, ◌∙◌, ap, subst, Some, arith, get_or, set, ◌⊎◌, inl, inr, ⊎_elim}
 use Rattle.std.specs.List.{AllByRecursion, slice_get}
 use Rattle.std.specs.Option.{option_map_or}
-use Rattle.std.proofs.lemmas.Bool.{false≢true, cases_eq}
-use Rattle.std.proofs.lemmas.List.{length-set, length-map}
+use Rattle.std.proofs.lemmas.Bool.{cases_eq}
+use Rattle.std.proofs.lemmas.List.{length-set}
 use Rattle.std.proofs.lemmas.Option.{slice_get_within, slice_get-get_or}
-use Rattle.tm_types.specs.declared.dbd.Dbd.{Dbd}
 use Rattle.model_rows.specs.declared.row.Row.{Row}
-use Rattle.model_rows.specs.Record.{IsRecord}
-use Rattle.model_rows.specs.Rows.{with_record}
-use Rattle.seg_store.specs.Slots.{Stored, has_root, AtMostOne, AreSlots, slot_of, rows_of_slots}
-use Rattle.seg_store.proofs.Places as places
-use Rattle.seg_store.proofs.SlotRows.{gone_leaves, rows_gone, slots_gone, rows_filled, rows_replaced, record_has}
+use Rattle.seg_store.specs.Slots.{Stored}
 use Rattle.unit_work.specs.declared.change.Change.{Change}
 use Rattle.unit_work.specs.BackOut.{backed_out}
 use Rattle.unit_work.proofs.Backing.{get_set_same, get_set_other}
-use Rattle.program_rows.specs.State.{rows_of, rows_in}
 use Rattle.program_rows.specs.Open.{slots_at, image_at, backed_all}
 use Rattle.program_rows.proofs.Slotwise.{back, backed_is, image_at_each}
 use Rattle.program_rows.proofs.Beside.{IsIdle, idle_back}
-use Rattle.program_rows.proofs.Aside.{ChangesAside, slots_there, same_there}
-use Rattle.program_rows.proofs.Backed.{AreValid, all_there, rows_in_is, backed_dbds, backed_lengths}
-use Rattle.program_rows.proofs.Seen.{same_list, get_put, get_put_else}
+use Rattle.program_rows.proofs.Aside.{ChangesAside, slots_there}
+use Rattle.program_rows.proofs.Backed.{backed_dbds, backed_lengths}
+use Rattle.program_rows.proofs.Seen.{get_put, get_put_else}
 
 -- the same databases and as many slots; one slot of the database of this number has another image
 pub record OneSlot (number slot : ℕ) (was image : List Row) (old new : List Stored) : Type 0 where

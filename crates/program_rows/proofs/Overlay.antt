@@ -1,17 +1,16 @@
 -- Records of one list of rows in another.
 use Rattle.std.proofs.Common.{◌≡◌, ◌≢◌, ℕ, ◌+◌, ◌-◌, ◌<◌, ◌≤◌, ◌∷◌, [], List, length, map, suc, refl, sym, ◌∙◌, ap, subst, Bool, true, false, cond, Option, None, Some, arith, get_or, set, eqb, ◌&&◌, ◌||◌, ◌⊎◌, inl, inr, ⊎_elim}
-use Rattle.std.specs.List.{AllByRecursion, slice_get, flat_map, filter}
+use Rattle.std.specs.List.{AllByRecursion, slice_get}
 use Rattle.std.specs.List.Sorted.{IsStrictlySortedBy}
-use Rattle.std.specs.Option.{option_map_or}
 use Rattle.std.specs.Ordering.{is_eq}
 use Rattle.std.specs.declared.cmp.Ordering.TheVariants.{Equal}
-use Rattle.std.proofs.lemmas.Bool.{false≢true, cases_eq, eq-eqb, ne_eqb, eqb-true}
+use Rattle.std.proofs.lemmas.Bool.{false≢true, cases_eq, eq-eqb, eqb-true}
 use Rattle.std.proofs.lemmas.List.{length-set, length-map}
-use Rattle.std.proofs.lemmas.Option.{slice_get_within, slice_get-get_or}
+use Rattle.std.proofs.lemmas.Option.{slice_get_within}
 use Rattle.tm_types.specs.declared.dbd.Dbd.{Dbd}
 use Rattle.tm_types.specs.SegTypes.{IsHierarchy}
 use Rattle.model_rows.specs.declared.row.Row.{Row}
-use Rattle.model_rows.specs.Path.{key_cmp, root_of, IsPath}
+use Rattle.model_rows.specs.Path.{key_cmp, IsPath}
 use Rattle.model_rows.specs.Record.{IsUnder}
 use Rattle.model_rows.specs.Row.{IsRow, row_cmp}
 use Rattle.model_rows.specs.Rows.{record_of, with_record, roots, AreRows}
@@ -25,8 +24,7 @@ use Rattle.unit_work.specs.declared.change.Change.{Change}
 use Rattle.unit_work.specs.Changes.{is_of, is_changed}
 use Rattle.row_search.proofs.Keys.{by_records, flat_same, by_keys, roots_ascending}
 use Rattle.footprint_law.proofs.Keys.{rooted_here}
-use Rattle.program_rows.specs.State.{roots_of, rows_of, rows_in, with_record_from, with_records_from}
-use Rattle.program_rows.specs.Open.{slots_at}
+use Rattle.program_rows.specs.State.{roots_of, rows_of, rows_in, with_records_from}
 use Rattle.program_rows.proofs.Aside.{slots_there, same_there}
 use Rattle.program_rows.proofs.Backed.{AreValid, all_there, rows_in_is}
 use Rattle.program_rows.proofs.Seen.{same_list, get_put, get_put_else}

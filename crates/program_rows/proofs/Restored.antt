@@ -1,30 +1,26 @@
 -- The slots of a database after a unit was backed out: they are slots again, and the records that it hasn't changed are as they were.
-use Rattle.std.proofs.Common.{◌≡◌, ◌≢◌, ℕ, ◌+◌, ◌-◌, ◌<◌, ◌≤◌, ◌∷◌, [], List, length, zero, suc, refl, sym, ◌∙◌, ap, subst, Bool, true, false, cond, Option, None, Some, arith, get_or, eqb, ◌&&◌, ◌||◌, not, ◌⊎◌, inl, inr, ⊎_elim}
-use Rattle.std.specs.List.{AllByRecursion, list_any, find}
-use Rattle.std.specs.Map.{keys_of}
-use Rattle.std.specs.BTreeMap.{insert_entry}
+use Rattle.std.proofs.Common.{◌≡◌, ℕ, ◌+◌, ◌-◌, ◌<◌, ◌∷◌, [], List, length, zero, suc, refl, sym, ◌∙◌, ap, subst, Bool, true, false, cond, None, Some, arith, get_or, eqb, ◌&&◌, ◌||◌, ◌⊎◌, inl, inr, ⊎_elim}
+use Rattle.std.specs.List.{AllByRecursion, find}
 use Rattle.std.specs.Option.{option_map, unwrap_or}
-use Rattle.std.specs.Ordering.{is_eq, match_ordering}
-use Rattle.std.specs.declared.cmp.Ordering.{Ordering}
-use Rattle.std.specs.declared.cmp.Ordering.TheVariants.{Less, Equal, Greater}
+use Rattle.std.specs.Ordering.{is_eq}
 use Rattle.std.proofs.lemmas.Bool.{false≢true, eq-eqb, eqb-true}
 use Rattle.std.proofs.lemmas.Cmp.{tied_itself}
 use Rattle.tm_types.specs.declared.dbd.Dbd.{Dbd}
 use Rattle.model_rows.specs.declared.row.Row.{Row}
-use Rattle.model_rows.specs.Path.{key_cmp, root_of}
+use Rattle.model_rows.specs.Path.{key_cmp}
 use Rattle.model_rows.specs.Record.{IsRecord}
-use Rattle.model_rows.specs.Rows.{record_of, roots}
+use Rattle.model_rows.specs.Rows.{record_of}
 use Rattle.model_rows.proofs.Lists.{all_then}
 use Rattle.model_rows.proofs.Order.{key_total}
-use Rattle.seg_store.specs.Slots.{image_root, has_root, is_free, place_of, AtMostOne, IsSlot, AreSlots, rows_of_slots}
+use Rattle.seg_store.specs.Slots.{has_root, place_of, AtMostOne, IsSlot, AreSlots, rows_of_slots}
 use Rattle.seg_store.proofs.Places as places
-use Rattle.seg_store.proofs.SlotRows.{entries_of, put_entry, slots_record, slots_roots, rooted, same_key, record_has, record_image_root}
+use Rattle.seg_store.proofs.SlotRows.{slots_record, rooted, same_key, record_has, record_image_root}
 use Rattle.unit_work.specs.declared.change.Change.{Change}
 use Rattle.unit_work.specs.Changes.{is_of, is_changed, AreOther, AreOnce}
 use Rattle.unit_work.specs.BackOut.{is_touched, was_in, backed_slot, cleared_slot}
 use Rattle.program_rows.proofs.Slotwise.{each_slot, back, slots_length}
-use Rattle.program_rows.proofs.Beside.{was_there, AreRooted, back_has, cleared_has, touched_is, none_touched, or_left, or_right}
-use Rattle.program_rows.proofs.Aside.{WasIn, was_in_is}
+use Rattle.program_rows.proofs.Beside.{was_there, back_has, cleared_has, touched_is, or_left, or_right}
+use Rattle.program_rows.proofs.Aside.{was_in_is}
 
 -- what backing out needs of the slots of one database
 pub record Restores (dbd : Dbd) (records : List Change) (db : ℕ) (slots : List (List Row)) : Type 0 where

@@ -1,6 +1,6 @@
 -- Backing out a unit whose records all were there and still are, each in its slot, leaves the roots.
-use Rattle.std.proofs.Common.{◌≡◌, ◌≢◌, ℕ, ◌+◌, ◌<◌, ◌∷◌, [], List, length, map, zero, suc, refl, sym, ◌∙◌, ap, subst, Bool, true, false, cond, Option, None, arith, get_or, eqb, ◌&&◌, ◌||◌, not, ◌⊎◌, inl, inr, ⊎_elim}
-use Rattle.std.specs.List.{AllByRecursion, list_any}
+use Rattle.std.proofs.Common.{◌≡◌, ℕ, ◌+◌, ◌<◌, ◌∷◌, [], List, length, zero, suc, refl, sym, ◌∙◌, ap, subst, Bool, true, false, cond, arith, get_or, eqb, ◌&&◌, ◌||◌, not, ◌⊎◌, inl, inr, ⊎_elim}
+use Rattle.std.specs.List.{AllByRecursion}
 use Rattle.std.specs.Map.{keys_of}
 use Rattle.std.specs.BTreeMap.{insert_entry}
 use Rattle.std.specs.Ordering.{match_ordering}
@@ -14,12 +14,12 @@ use Rattle.model_rows.specs.Path.{key_cmp, root_of}
 use Rattle.model_rows.specs.Rows.{roots}
 use Rattle.seg_store.specs.Slots.{has_root, is_free, AtMostOne, AreSlots, rows_of_slots}
 use Rattle.seg_store.proofs.Places as places
-use Rattle.seg_store.proofs.SlotRows.{entries_of, put_entry, slots_roots, same_key, record_has}
+use Rattle.seg_store.proofs.SlotRows.{entries_of, put_entry, slots_roots, same_key}
 use Rattle.unit_work.specs.declared.change.Change.{Change}
 use Rattle.unit_work.specs.BackOut.{is_touched, was_in, backed_slot, cleared_slot}
 use Rattle.program_rows.proofs.Slotwise.{each_slot, back}
-use Rattle.program_rows.proofs.Beside.{was_there, or_left, or_right}
-use Rattle.program_rows.proofs.Aside.{WasIn, was_in_is}
+use Rattle.program_rows.proofs.Beside.{was_there}
+use Rattle.program_rows.proofs.Aside.{was_in_is}
 use Rattle.program_rows.proofs.Restored.{Restores, none_put, restored_slots}
 
 -- a record that was there and still is, in its slot of these

@@ -1,22 +1,18 @@
 -- What the work in a region sees agrees with the stores on all that no other region has alone.
-use Rattle.std.proofs.Common.{◌≡◌, ◌≢◌, ℕ, ◌+◌, ◌-◌, ◌<◌, ◌≤◌, ◌∷◌, [], List, length, map, zero, suc, refl, sym, ◌∙◌, ap, subst, Bool, true, false, Option, None, Some, arith, get_or, set, ⊎_elim}
+use Rattle.std.proofs.Common.{◌≡◌, ◌≢◌, ℕ, ◌+◌, ◌<◌, ◌≤◌, ◌∷◌, [], List, length, zero, suc, refl, sym, ◌∙◌, ap, subst, Bool, true, false, Option, None, Some, arith, get_or, set, ⊎_elim}
 use Rattle.std.specs.List.{AllByRecursion}
 use Rattle.std.proofs.lemmas.Bool.{false≢true, cases_eq}
 use Rattle.std.proofs.lemmas.List.{length-set}
-use Rattle.tm_types.specs.declared.dbd.Dbd.{Dbd}
-use Rattle.tm_types.specs.declared.resource.Mode.{Mode}
-use Rattle.model_rows.specs.declared.row.Row.{Row}
-use Rattle.model_rows.proofs.Lists.{all_then, all_both}
+use Rattle.model_rows.proofs.Lists.{all_then}
 use Rattle.model_dli.specs.declared.need.Need.{Need}
 use Rattle.model_dli.specs.Footprint.{AgreeAt}
 use Rattle.model_enqueue.specs.Table.{EnqueueTable}
 use Rattle.seg_store.specs.Slots.{Stored}
 use Rattle.unit_work.specs.declared.change.Change.{Change}
 use Rattle.unit_work.specs.Changes.{is_changed}
-use Rattle.program_rows.specs.State.{RegionRows, no_rows, roots_of, rows_of, rows_in}
+use Rattle.program_rows.specs.State.{no_rows, roots_of, rows_of, rows_in}
 use Rattle.program_rows.specs.Isolation.{request_of}
-use Rattle.program_rows.specs.Open.{HoldsAlone, StaysInSlot, Sits, AreUnits, backed_all, seen_by, regions_from}
-use Rattle.program_rows.proofs.Beside.{AreRooted, AreBeside}
+use Rattle.program_rows.specs.Open.{HoldsAlone, StaysInSlot, Sits, AreUnits, seen_by, regions_from}
 use Rattle.program_rows.proofs.Together.{AreAllBeside, beside_without, all_by, all_set, get_set, get_set_else}
 use Rattle.program_rows.proofs.Backed.{IsGood, AreValid, record_all, roots_all, valid_all}
 use Rattle.program_rows.proofs.Apart.{holds_changed, all_beside, all_good, all_rooted}

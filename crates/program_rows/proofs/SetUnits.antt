@@ -1,18 +1,18 @@
 -- The open units after one of them has set a record.
-use Rattle.std.proofs.Common.{◌≡◌, ◌≢◌, ℕ, ◌+◌, ◌-◌, ◌<◌, ◌≤◌, ◌++◌, ◌∷◌, [], List, length, map, zero, suc, refl, sym, ◌∙◌, ap, subst, Bool, true, false, cond, Option, None, Some, arith, get_or, set, ◌⊎◌, inl, inr, ⊎_elim}
+use Rattle.std.proofs.Common.{◌≡◌, ◌≢◌, ℕ, ◌+◌, ◌-◌, ◌<◌, ◌≤◌, ◌++◌, ◌∷◌, [], List, length, zero, suc, refl, sym, ◌∙◌, ap, subst, Bool, true, false, cond, Option, None, Some, arith, get_or, set, ◌⊎◌, inl, inr, ⊎_elim}
 use Rattle.std.specs.List.{AllByRecursion, slice_get}
 use Rattle.std.proofs.lemmas.Bool.{false≢true, cases_eq}
 use Rattle.std.proofs.lemmas.List.{length-set}
 use Rattle.model_rows.specs.declared.row.Row.{Row}
 use Rattle.model_rows.specs.Record.{IsRecord}
 use Rattle.model_rows.specs.Rows.{record_of, with_record}
-use Rattle.model_rows.proofs.Lists.{all_then, all_both, all_append}
+use Rattle.model_rows.proofs.Lists.{all_then, all_append}
 use Rattle.model_enqueue.specs.Table.{EnqueueTable}
 use Rattle.pi_enqueue.specs.Kept.{IsKept}
 use Rattle.seg_store.specs.Slots.{Stored, has_root, AreSlots, slot_of, slot_for, rows_of_slots}
-use Rattle.seg_store.proofs.SlotRows.{same_key, record_none, record_some}
+use Rattle.seg_store.proofs.SlotRows.{same_key, record_some}
 use Rattle.unit_work.specs.declared.change.Change.{Change}
-use Rattle.unit_work.specs.Changes.{is_changed, with_change, is_full, AreKept}
+use Rattle.unit_work.specs.Changes.{is_changed, with_change, is_full}
 use Rattle.unit_work.specs.BackOut.{is_touched, cleared_slot, backed_out, CanBackOut}
 use Rattle.unit_work.proofs.Keeping.{kept_touch}
 use Rattle.program_rows.specs.State.{rows_of, rows_in}
@@ -20,9 +20,9 @@ use Rattle.program_rows.specs.Open.{slots_at, image_at, HoldsAlone, StaysInSlot,
 use Rattle.program_rows.proofs.Stepping.{Own, HasSlot, Steps, steps, has_slot}
 use Rattle.program_rows.proofs.Beside.{was_there, IsIdle, touched_is, none_touched, all_changed}
 use Rattle.program_rows.proofs.Aside.{can_aside, cleared_where, slots_there}
-use Rattle.program_rows.proofs.Together.{AreAllBeside, pull, beside_without, all_by, get_set, get_set_else, set_twice, set_apart}
+use Rattle.program_rows.proofs.Together.{pull, all_by, get_set, get_set_else, set_twice, set_apart}
 use Rattle.program_rows.proofs.Backed.{AreValid, all_there, valid_all, record_all, rows_in_is}
-use Rattle.program_rows.proofs.Apart.{holds_changed, free_where, all_beside, all_good, all_rooted}
+use Rattle.program_rows.proofs.Apart.{holds_changed, free_where, all_beside}
 use Rattle.program_rows.proofs.OneSlot.{OneSlot, slot_put, one_aside, one_all}
 use Rattle.program_rows.proofs.SlotRows.{Replaces, one_rows}
 use Rattle.program_rows.proofs.Seen.{others_beside, others_good, seen_valid}

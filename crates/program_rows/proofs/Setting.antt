@@ -1,5 +1,5 @@
 -- What a record that is set leaves of the databases, and to which abend an edit leads.
-use Rattle.std.proofs.Common.{◌≡◌, ℕ, ◌+◌, ◌-◌, ◌≤◌, ◌++◌, ◌∷◌, [], List, length, map, zero, suc, refl, sym, ◌∙◌, ap, subst, Bool, true, false, cond, Option, None, Some, arith, get_or, set, leb, not, ◌&&◌, ◌||◌, eqb}
+use Rattle.std.proofs.Common.{◌≡◌, ℕ, ◌-◌, ◌≤◌, ◌++◌, ◌∷◌, [], List, length, map, zero, suc, refl, sym, ◌∙◌, ap, subst, Bool, true, false, cond, Option, None, Some, arith, get_or, set, leb, not, ◌&&◌, ◌||◌, eqb}
 use Rattle.std.specs.List.{slice_get}
 use Rattle.std.specs.Option.{option_map}
 use Rattle.std.specs.Prelude.{IfSome}
@@ -8,15 +8,13 @@ use Rattle.std.proofs.lemmas.Map.Text.{is_eq-slice_cmp}
 use Rattle.std.proofs.lemmas.Option.{slice_get_within}
 use Rattle.tm_types.specs.declared.dbd.Dbd.{Dbd}
 use Rattle.tm_types.specs.declared.abend.AbendCode.{AbendCode}
-use Rattle.model_rows.specs.Rows.{record_of, with_record}
 use Rattle.model_dli.specs.declared.call.RowsLimit.{RowsLimit}
 use Rattle.model_dli.specs.Data as dat
 use Rattle.model_dli.specs.Data.{with_changed, abend_by, limit_abend}
 use Rattle.seg_rows.specs.StoreRefused.{set_refusal}
-use Rattle.seg_store.specs.Slots.{Stored, rows_of_slots, with_root, with_image}
+use Rattle.seg_store.specs.Slots.{Stored, rows_of_slots}
 use Rattle.unit_work.specs.declared.change.Change.{Change}
 use Rattle.unit_work.specs.Changes.{Changes, is_changed, with_change, is_full}
-use Rattle.unit_work.specs.BackOut.{CanBackOut, backed_out}
 use Rattle.dli_calls.specs.declared.planned.Edit.{Edit}
 use Rattle.dli_calls.specs.Plans.{limit_of}
 use Rattle.program_rows.specs.State.{roots_of, rows_of, rows_in}

@@ -1,7 +1,7 @@
 -- The rows of stores in which the image in one slot has changed.
-use Rattle.std.proofs.Common.{◌≡◌, ◌≢◌, ℕ, ◌+◌, ◌-◌, ◌<◌, ◌≤◌, ◌∷◌, [], List, length, map, zero, suc, refl, sym, ◌∙◌, ap, subst, Bool, true, false, Option, None, Some, arith, get_or, set, ◌⊎◌, inl, inr, ⊎_elim}
-use Rattle.std.specs.List.{AllByRecursion, slice_get}
-use Rattle.std.specs.Option.{option_map, option_map_or}
+use Rattle.std.proofs.Common.{◌≡◌, ◌≢◌, ℕ, ◌-◌, ◌<◌, ◌≤◌, ◌∷◌, [], List, length, zero, suc, refl, sym, ◌∙◌, ap, subst, Bool, true, false, None, Some, arith, get_or, set, ◌⊎◌, ⊎_elim}
+use Rattle.std.specs.List.{slice_get}
+use Rattle.std.specs.Option.{option_map}
 use Rattle.std.proofs.lemmas.Bool.{false≢true, cases_eq}
 use Rattle.std.proofs.lemmas.List.{length-set, length-map}
 use Rattle.std.proofs.lemmas.Option.{slice_get-get_or}
@@ -13,9 +13,8 @@ use Rattle.seg_store.specs.Slots.{Stored, has_root, place_of, AtMostOne, AreSlot
 use Rattle.seg_store.proofs.Places as places
 use Rattle.seg_store.proofs.SlotRows as slot_rows
 use Rattle.program_rows.specs.State.{rows_of, rows_in}
-use Rattle.program_rows.specs.Open.{slots_at, image_at}
-use Rattle.program_rows.proofs.Aside.{slots_there}
-use Rattle.program_rows.proofs.Backed.{AreValid, all_there, rows_in_is}
+use Rattle.program_rows.specs.Open.{slots_at}
+use Rattle.program_rows.proofs.Backed.{rows_in_is}
 use Rattle.program_rows.proofs.OneSlot.{OneSlot}
 use Rattle.program_rows.proofs.Seen.{same_list, get_put, get_put_else}
 

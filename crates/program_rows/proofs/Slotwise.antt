@@ -1,6 +1,6 @@
 -- Stores changed slot by slot.
 use Rattle.std.proofs.Common.{◌≡◌, ℕ, ◌+◌, ◌-◌, ◌<◌, ◌≤◌, ◌∷◌, [], List, length, map, zero, suc, refl, sym, ◌∙◌, ap, subst, Option, None, Some, arith, get_or}
-use Rattle.std.specs.List.{AllByRecursion, slice_get}
+use Rattle.std.specs.List.{slice_get}
 use Rattle.std.specs.Option.{option_map_or}
 use Rattle.model_rows.specs.declared.row.Row.{Row}
 use Rattle.seg_store.specs.Slots.{Stored}

@@ -1,18 +1,16 @@
 -- Several units side by side: any of them may be backed out first or last.
-use Rattle.std.proofs.Common.{◌≡◌, ◌≢◌, ℕ, ◌<◌, ◌≤◌, ◌∷◌, [], List, length, zero, suc, refl, sym, ◌∙◌, ap, subst, Bool, true, false, arith, get_or, set, inl, inr, ⊎_elim}
+use Rattle.std.proofs.Common.{◌≡◌, ◌≢◌, ℕ, ◌<◌, ◌∷◌, [], List, length, zero, suc, refl, sym, ◌∙◌, ap, subst, arith, get_or, set, inl, inr, ⊎_elim}
 use Rattle.std.specs.List.{AllByRecursion}
 use Rattle.std.proofs.lemmas.Bool.{false≢true}
-use Rattle.std.proofs.lemmas.List.{length-set}
-use Rattle.model_rows.specs.declared.row.Row.{Row}
-use Rattle.model_rows.proofs.Lists.{all_then, all_both}
+use Rattle.model_rows.proofs.Lists.{all_then}
 use Rattle.seg_store.specs.Slots.{Stored}
 use Rattle.unit_work.specs.declared.change.Change.{Change}
 use Rattle.unit_work.specs.BackOut.{backed_from, backed_out, CanBackOut}
 use Rattle.unit_work.proofs.Backing.{none_cleared, none_backed}
 use Rattle.program_rows.specs.Open.{backed_all, slots_at, image_at}
 use Rattle.program_rows.proofs.Slotwise.{back, backed_is, image_at_each, slots_at_length}
-use Rattle.program_rows.proofs.Beside.{IsIdle, AreRooted, AreOthers, AreApartIn, AreBeside, idle_stays, swap}
-use Rattle.program_rows.proofs.Aside.{ChangesAside, can_aside, aside_back}
+use Rattle.program_rows.proofs.Beside.{IsIdle, AreRooted, AreBeside, idle_stays, swap}
+use Rattle.program_rows.proofs.Aside.{can_aside, aside_back}
 
 pub backed_none : (stores : List Stored) → backed_out [] stores ≡ stores
 backed_none stores = ap (backed_from [] 1) (none_cleared 1 stores) ∙ none_backed 1 stores

@@ -1,5 +1,5 @@
 -- What is made of the plan of a call that nothing blocks.
-use Rattle.std.specs.Prelude.{◌≡◌, ℕ, ◌-◌, false, List, Option, None, Some, [], map, slice_get, slice_index_or, slice_set}
+use Rattle.std.specs.Prelude.{◌≡◌, ℕ, ◌-◌, false, List, Option, None, Some, [], slice_get, slice_index_or, slice_set}
 use Rattle.tm_types.specs.declared.abend.AbendCode.{AbendCode}
 use Rattle.tm_types.specs.declared.dbd.Dbd.{Dbd}
 use Rattle.model_rows.specs.Rows.{record_of, IsImage}

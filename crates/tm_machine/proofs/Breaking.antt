@@ -1,14 +1,13 @@
 -- All rings through a region are broken, and the turn is answered.
-use Rattle.std.proofs.Common.{◌≡◌, ℕ, zero, suc, ◌+◌, ◌-◌, ◌≤◌, ◌<◌, Bool, true, false, not, ◌&&◌, ◌||◌, cond, List, [], ◌∷◌, ◌++◌, length, refl, sym, ap, ◌∙◌, subst, arith, append_assoc}
+use Rattle.std.proofs.Common.{◌≡◌, ℕ, zero, suc, ◌+◌, ◌-◌, ◌≤◌, Bool, true, false, not, ◌&&◌, ◌||◌, cond, List, [], ◌∷◌, ◌++◌, length, refl, sym, ap, ◌∙◌, subst, arith, append_assoc}
 use Rattle.std.specs.Prelude.{Option, Some, None, IsSome, Ok, ◌==◌, nat_le, filter, if◌then◌else◌, slice_get, slice_set}
-use Rattle.std.specs.Option.{option_map_or, option_and_then, is_some, unwrap_or}
-use Rattle.std.specs.List.{count_by, list_any}
+use Rattle.std.specs.Option.{option_map_or, is_some, unwrap_or}
 use Rattle.std.specs.Str.{bytes_eq}
 use Rattle.std.proofs.lemmas.Bool.{eqb-true, leb-true, le-leb}
 use Rattle.std.proofs.lemmas.List.Sums.{length-filter}
 use Rattle.tm_types.specs.declared.message.Message.{Message}
 use Rattle.tm_types.specs.declared.resource.Resource.{Resource}
-use Rattle.model_queues.specs.Waiting.{is_waiting, count_waiting}
+use Rattle.model_queues.specs.Waiting.{is_waiting}
 use Rattle.model_enqueue.specs.declared.request.Request.{Request}
 use Rattle.model_enqueue.specs.declared.victim.Victim.{Victim}
 use Rattle.model_enqueue.specs.Table.{EnqueueTable}
@@ -22,14 +21,14 @@ use Rattle.model_machine.specs.declared.entry.Entry.TheVariants.{Turn as TurnEnt
 use Rattle.model_machine.specs.declared.entry.Turned.{Turned}
 use Rattle.model_machine.specs.declared.entry.Turned.TheVariants.{Scheduled, Called, Next, QC, Done, Abended, Idle, Held, Waits, Backed}
 use Rattle.model_machine.specs.Machine.{LastingState, Moment, Slot, IsRegion, has_message, is_held, slot_at, raised_by, raised_now, waiting_now, moment_with, busy_slots}
-use Rattle.model_machine.specs.Requests.{BreaksAt, BreaksWhere, asked_table, blocked_now, changes_now, table_after, table_by, without_victims}
+use Rattle.model_machine.specs.Requests.{BreaksAt, asked_table, blocked_now, changes_now, table_after, table_by, without_victims}
 use Rattle.model_machine.specs.Steps.{After, blocked_answer, slot_after, slot_answer, turn_answer, turn_by, turn_step, unless_blocked}
-use Rattle.model_machine.specs.History.{victims_in, May}
+use Rattle.model_machine.specs.History.{victims_in}
 use Rattle.program_rows.specs.Answering.{told_blocked}
 use Rattle.tm_machine.specs.Answers.{IsAnswered}
 use Rattle.tm_machine.specs.Parts.{PartsState}
 use Rattle.tm_machine.specs.Turns.{IsTurned, WaitsSo, gave_way_in, waited}
-use Rattle.tm_machine.specs.Victims.{BreaksRings, GivesWay, IsSettled, all_gave_way, gave_way}
+use Rattle.tm_machine.specs.Victims.{BreaksRings, all_gave_way, gave_way}
 use Rattle.tm_machine.proofs.Leaving.{turn_leaves}
 
 -- ---- flags that follow on more messages that wait

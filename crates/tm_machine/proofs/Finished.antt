@@ -43,7 +43,7 @@ use Rattle.tm_machine.specs.declared.region.Busy.{Busy}
 use Rattle.tm_machine.specs.Ends.{EndsSo, SlotEnds, destinations, goes_on_with}
 use Rattle.tm_machine.specs.Region.{IsUnit, calls_made, outputs_by}
 use Rattle.tm_machine.specs.Turns.{IsTurned}
-use Rattle.tm_machine.specs.Parts.{PartsState, slot_of, slots_of, settings_of, flags_of, IsTold, AreAtWork, AreDatabases, AreParts, IsIdle}
+use Rattle.tm_machine.specs.Parts.{PartsState, slot_of, slots_of, settings_of, flags_of, IsTold, AreAtWork, AreParts, IsIdle}
 use Rattle.tm_machine.proofs.Tabled.{AreOwn, released_asks}
 use Rattle.tm_machine.proofs.Others.{IsKeptBeside, are_beside, beside_committed, beside_given_up, idle_committed, idle_ended, idle_given_up, own_requests, rows_stay, stay_at_work}
 use Rattle.tm_machine.proofs.Free.{count_held, count_sent, count_without, or_none}

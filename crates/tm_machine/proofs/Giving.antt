@@ -1,7 +1,7 @@
 -- A region gives way.
-use Rattle.std.proofs.Common.{◌≡◌, ℕ, zero, suc, ◌+◌, ◌-◌, ◌≤◌, ◌<◌, Bool, true, false, ◌||◌, List, [], ◌∷◌, length, get_or, map, refl, sym, ap, ◌∙◌, subst, arith}
+use Rattle.std.proofs.Common.{◌≡◌, ℕ, zero, suc, ◌+◌, ◌-◌, ◌≤◌, Bool, true, false, ◌||◌, List, [], ◌∷◌, length, get_or, map, refl, sym, ap, ◌∙◌, subst, arith}
 use Rattle.std.specs.Prelude.{Option, Some, None, IsSome, IsSomeAnd, IsTrue, ◌==◌, ◌&&◌, nat_lt, fold, if◌then◌else◌, slice_get, slice_set}
-use Rattle.std.specs.Option.{option_map, option_map_or, option_and_then, is_some, unwrap_or}
+use Rattle.std.specs.Option.{option_map, option_map_or, is_some}
 use Rattle.std.specs.List.{AllByRecursion, count_by, list_any}
 use Rattle.std.specs.Ordering.{nat_cmp}
 use Rattle.std.specs.declared.cmp.Ordering.TheVariants.{Less, Equal}
@@ -16,29 +16,29 @@ use Rattle.model_queues.specs.declared.queued.Queued.{Queued}
 use Rattle.model_queues.specs.Queue.{AreInOrder, has_id, ids_of, message_at, queued_at, with_holder, free_count}
 use Rattle.model_queues.proofs.Laws.{messages_held}
 use Rattle.msg_queues.proofs.Keys.{equal_from}
-use Rattle.model_enqueue.specs.Table.{EnqueueTable, blockers, wait_of, waits_for}
+use Rattle.model_enqueue.specs.Table.{blockers, wait_of, waits_for}
 use Rattle.model_enqueue.specs.Ask.{released}
 use Rattle.model_enqueue.specs.Cycle.{IsRegion as IsTableRegion, IsCycle, WaitsAlong, changes_of, gives_way, victim_of}
 use Rattle.model_enqueue.specs.declared.request.Request.{Request}
 use Rattle.model_system.specs.declared.code_state.CodeState.{CodeState}
 use Rattle.model_system.specs.System.{System}
 use Rattle.model_system.specs.Jobs.{Job}
-use Rattle.model_machine.specs.Machine.{LastingState, Moment, Slot, IsRegion, slot_at, raised_now}
+use Rattle.model_machine.specs.Machine.{Moment, Slot, IsRegion, slot_at}
 use Rattle.model_machine.specs.Requests.{changes_by, changes_now}
 use Rattle.model_machine.specs.Work.{slot_trial}
 use Rattle.model_machine.specs.Flags.{all_followed}
-use Rattle.program_rows.specs.State.{DatabasesState, RegionRows, IsRegionOf, dbds_of, no_rows, region_at, rows_of}
+use Rattle.program_rows.specs.State.{RegionRows, IsRegionOf, dbds_of, no_rows, region_at, rows_of}
 use Rattle.program_rows.specs.Answering.{IsGivenUp}
 use Rattle.lasting_state.specs.Tables.{TablesState, lasting_of, given_back, with_databases}
 use Rattle.deadlock_pick.specs.Weighed.{IsWeighed}
 use Rattle.tm_machine.specs.declared.region.Busy.{Busy}
-use Rattle.tm_machine.specs.Region.{IsUnit, calls_made}
+use Rattle.tm_machine.specs.Region.{calls_made}
 use Rattle.tm_machine.specs.Parts.{slot_of, slots_of, settings_of, flags_of, IsTold, AreParts}
 use Rattle.tm_machine.specs.Victims.{gave_way}
 use Rattle.tm_machine.proofs.Others.{IsKeptBeside, are_beside, beside_given_up, idle_ended, idle_given_up, rows_stay, stay_at_work}
 use Rattle.tm_machine.proofs.Free.{count_held, or_none}
 use Rattle.tm_machine.proofs.Leaving.{moment_is}
-use Rattle.tm_machine.proofs.Linked.{back_told, back_at_work, get_slots, set_length, set_slots}
+use Rattle.tm_machine.proofs.Linked.{back_told, back_at_work, set_length, set_slots}
 use Rattle.tm_machine.proofs.Raising.{IsFollowed, followed_all, followed_settled}
 use Rattle.tm_machine.proofs.Resting.{slots_length}
 use Rattle.tm_machine.proofs.Stepped.{slot_is, trial_is}

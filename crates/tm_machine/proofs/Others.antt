@@ -1,25 +1,23 @@
 -- What a region's step, or the end of its work, leaves of the work of other regions.
-use Rattle.std.proofs.Common.{◌≡◌, ℕ, zero, suc, ◌+◌, ◌-◌, ◌≤◌, ◌<◌, List, [], ◌∷◌, ◌++◌, Bool, true, false, Option, Some, None, length, get_or, refl, sym, ap, ◌∙◌, subst, arith, ◌⊎◌, inl, inr, ⊎_elim}
+use Rattle.std.proofs.Common.{◌≡◌, ℕ, zero, suc, ◌+◌, ◌-◌, ◌≤◌, ◌<◌, List, [], ◌∷◌, Bool, true, false, Option, Some, None, length, get_or, refl, sym, ap, ◌∙◌, subst, arith, ◌⊎◌, inl, inr, ⊎_elim}
 use Rattle.std.specs.Prelude.{All, find, if◌then◌else◌, map, slice_get, slice_set}
 use Rattle.std.specs.Option.{option_map, option_and_then}
 use Rattle.std.specs.Str.{bytes_eq}
-use Rattle.std.specs.List.{AllByRecursion}
 use Rattle.std.proofs.lemmas.List.{get_or-set_other, get_or-set_same}
 use Rattle.std.proofs.lemmas.List.Elements.{All-head, All-tail}
 use Rattle.tm_types.specs.declared.message.Message.{Message}
-use Rattle.model_rows.specs.declared.row.Row.{Row}
 use Rattle.model_dli.specs.declared.need.Need.{Need as RootNeed}
 use Rattle.model_dli.specs.Data.{Data}
 use Rattle.model_enqueue.specs.declared.request.Request.{Request}
-use Rattle.model_enqueue.specs.Table.{EnqueueTable, wait_of}
-use Rattle.model_enqueue.specs.Ask.{after_asks, released}
+use Rattle.model_enqueue.specs.Table.{wait_of}
+use Rattle.model_enqueue.specs.Ask.{after_asks}
 use Rattle.model_script.specs.declared.need.CallText.{CallText}
 use Rattle.model_script.specs.declared.need.Need.{Need}
 use Rattle.model_script.specs.declared.need.Need.TheVariants.{Call, Ended, Abend}
 use Rattle.model_system.specs.Jobs.{Job, job_of, job_by, job_with, program_at}
-use Rattle.model_machine.specs.Trial.{Reached, Trial, reached, trial_need, trial_of}
+use Rattle.model_machine.specs.Trial.{Reached, Trial, reached, trial_need}
 use Rattle.model_machine.specs.Trial.Reached.{Messages, Rows, Nothing}
-use Rattle.model_machine.specs.Requests.{request_for, requests_at, requests_by, requests_of, asked_behind, asked_before}
+use Rattle.model_machine.specs.Requests.{request_for, requests_at, requests_by, requests_of, asked_behind}
 use Rattle.program_rows.specs.State.{DatabasesState, RegionRows, AreRowsOf, IsClean, IsRegionOf, no_rows, region_at, committed_rows, dbds_of, rows_of, clean_region, with_records_from}
 use Rattle.program_rows.specs.Answering.{IsBeside, IsCommitted, IsGivenUp}
 use Rattle.message_run.specs.Ahead.{IsAhead, IsHeld, StayOthers}

@@ -25,7 +25,7 @@ use Rattle.model_enqueue.specs.Table.{empty_table, wait_of}
 use Rattle.program_rows.specs.State.{DatabasesState, RegionRows, AreRowsOf, IsClean, clean_region, committed_rows, dbds_of, no_rows, region_at}
 use Rattle.lasting_state.specs.Tables.{TablesState, lasting_of, enqueued}
 use Rattle.tm_machine.specs.declared.region.Busy.{Busy}
-use Rattle.tm_machine.specs.Parts.{slots_of, settings_of, flags_of, IsTold, AreParts, AreDatabases}
+use Rattle.tm_machine.specs.Parts.{slots_of, settings_of, flags_of, IsTold, AreParts}
 use Rattle.tm_machine.proofs.Free.{count_added, or_none}
 use Rattle.tm_machine.proofs.Leaving.{moment_is, moment_stays}
 use Rattle.tm_machine.proofs.Linked.{new_told, new_free, new_at_work}

@@ -1,6 +1,6 @@
 -- What the requests of a region, and their end, leave of what other regions hold and wait for.
-use Rattle.std.proofs.Common.{◌≡◌, ℕ, ◌+◌, List, [], ◌∷◌, ◌++◌, Bool, true, false, not, cond, Option, Some, None, length, refl, sym, ap, ◌∙◌, eqb, eqb-true}
-use Rattle.std.specs.Prelude.{IsTrue, ◌&&◌, ◌==◌, filter, find, if◌then◌else◌}
+use Rattle.std.proofs.Common.{◌≡◌, ℕ, List, [], ◌∷◌, ◌++◌, Bool, true, false, not, cond, Option, Some, None, refl, sym, ap, ◌∙◌, eqb-true}
+use Rattle.std.specs.Prelude.{◌&&◌, ◌==◌, filter, find, if◌then◌else◌}
 use Rattle.std.specs.BTreeMap.{insert_entry}
 use Rattle.std.specs.List.{AllByRecursion}
 use Rattle.std.specs.Map.{lookup}
@@ -13,8 +13,8 @@ use Rattle.tm_types.specs.declared.resource.Mode.{Mode}
 use Rattle.model_enqueue.specs.declared.request.Holder.{Holder}
 use Rattle.model_enqueue.specs.declared.request.Request.{Request}
 use Rattle.model_enqueue.specs.Modes.{same_resource, serves, holder_cmp}
-use Rattle.model_enqueue.specs.Table.{EnqueueTable, holds_of, is_asker, is_own, is_served, is_upgrade, mode_held, blocked_by, wait_of}
-use Rattle.model_enqueue.specs.Ask.{asker, granted, granted_mode, with_hold, without_wait, placed, waiting, waits_only_for, waits_for_nothing, after_asks, first_blocked, released}
+use Rattle.model_enqueue.specs.Table.{EnqueueTable, holds_of, is_asker, is_own, is_upgrade, blocked_by, wait_of}
+use Rattle.model_enqueue.specs.Ask.{asker, granted, granted_mode, without_wait, placed, waiting, waits_only_for, waits_for_nothing, after_asks, first_blocked, released}
 use Rattle.message_run.specs.Ahead.{IsHeld}
 use Rattle.message_run.proofs.Holders.{holder_exact}
 

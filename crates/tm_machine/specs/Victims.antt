@@ -1,5 +1,5 @@
 -- Regions that give way, one after another.
-use Rattle.std.specs.Prelude.{◌≡◌, ℕ, ◌-◌, None, Some, IsSome, List, [], ◌∷◌, slice_set}
+use Rattle.std.specs.Prelude.{◌≡◌, ℕ, ◌-◌, None, IsSome, List, [], ◌∷◌, slice_set}
 use Rattle.model_system.specs.System.{System}
 use Rattle.model_enqueue.specs.declared.victim.Victim.{Victim}
 use Rattle.model_enqueue.specs.Ask.{released}

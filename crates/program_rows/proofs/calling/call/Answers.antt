@@ -2,9 +2,7 @@ use Rattle.std.proofs.Common.{◌≡◌, ◌-◌, ◌≤◌, List, None, Some, r
 use Rattle.std.specs.Prelude.{IfSome}
 use Rattle.std.specs.List.{AllByRecursion, slice_get}
 use Rattle.std.proofs.lemmas.List.{length-map}
-use Rattle.tm_types.specs.Segment.{IsSegmentText}
 use Rattle.model_rows.specs.declared.row.Row.{Row}
-use Rattle.model_dli.specs.declared.need.Need.{Need}
 use Rattle.model_dli.specs.Footprint.{footprint}
 use Rattle.model_enqueue.specs.declared.request.Request.{Request}
 use Rattle.model_enqueue.specs.Ask.{first_blocked}

@@ -1,4 +1,4 @@
-use Rattle.std.proofs.Common.{◌≡◌, ◌-◌, get_or, [], sym, ap, ◌∙◌}
+use Rattle.std.proofs.Common.{◌-◌, sym, ap, ◌∙◌}
 use Rattle.unit_work.specs.Changes.{no_changes}
 use Rattle.unit_work.specs.BackOut.{backed_out}
 use Rattle.program_rows.specs.Open.{records_of}

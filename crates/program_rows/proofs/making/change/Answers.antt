@@ -1,10 +1,9 @@
-use Rattle.std.proofs.Common.{◌≡◌, List, Some, None, sym, subst, ap, ◌∙◌, false}
+use Rattle.std.proofs.Common.{◌≡◌, List, Some, None, sym, subst, ap, ◌∙◌}
 use Rattle.std.specs.Prelude.{IfSome}
 use Rattle.model_rows.specs.Rows.{IsImage}
 use Rattle.seg_rows.specs.StoreRefused.{set_refusal}
 use Rattle.seg_store.specs.Slots.{rows_of_slots}
 use Rattle.model_rows.specs.declared.row.Row.{Row}
-use Rattle.unit_work.specs.Changes.{Changes, is_full}
 use Rattle.dli_calls.specs.Plans.{IsThere, limit_of}
 use Rattle.program_rows.specs.Making.{TakesSlot, changed_in}
 use Rattle.program_rows.proofs.Setting.{is_stored, dbd_there, full_abend, limit_is, rows_at_is}

@@ -1,4 +1,4 @@
-use Rattle.std.proofs.Common.{◌≡◌, ap, ◌∙◌, subst}
+use Rattle.std.proofs.Common.{ap, ◌∙◌}
 use Rattle.program_rows.specs.State.{DatabasesState, dbds_of}
 use Rattle.program_rows.specs.Answering.{regions_backed}
 use Rattle.program_rows.proofs.Ending.{has_unit, can_back_out, taken_back_units, taken_back_committed, taken_back_dbds, taken_back_regions}

@@ -1,6 +1,4 @@
-use Rattle.std.proofs.Common.{◌≡◌, length, sym, ap, ◌∙◌, arith}
-use Rattle.unit_work.specs.Changes.{Changes}
-use Rattle.program_rows.specs.State.{region_at}
+use Rattle.std.proofs.Common.{length, ap, arith}
 use Rattle.program_rows.proofs.Ending.{has_unit, changes_are, clean_so}
 use Rattle.program_rows.proofs.databases.Databases.changes.Goals as goal
 

@@ -1,5 +1,5 @@
-use Rattle.std.proofs.Common.{◌≡◌, ◌-◌, [], ap, ◌∙◌, subst, refl, arith, set}
-use Rattle.unit_work.specs.Changes.{Changes, no_changes}
+use Rattle.std.proofs.Common.{◌≡◌, ◌-◌, [], ap, ◌∙◌, subst, refl, set}
+use Rattle.unit_work.specs.Changes.{Changes}
 use Rattle.program_rows.specs.State.{DatabasesState}
 use Rattle.program_rows.specs.Answering.{IsCommitted}
 use Rattle.program_rows.specs.Open.{records_of}

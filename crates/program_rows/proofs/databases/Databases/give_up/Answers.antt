@@ -1,11 +1,9 @@
-use Rattle.std.proofs.Common.{◌≡◌, ap, ◌∙◌, subst, sym, arith}
+use Rattle.std.proofs.Common.{ap, ◌∙◌, arith}
 use Rattle.model_enqueue.specs.Table.{EnqueueTable}
 use Rattle.model_enqueue.specs.Ask.{released}
 use Rattle.program_rows.specs.State.{DatabasesState, dbds_of}
-use Rattle.program_rows.specs.Answering.{regions_backed, IsGivenUp}
-use Rattle.program_rows.specs.Making.{seen}
-use Rattle.program_rows.specs.declared.opened.Opened.{Opened}
-use Rattle.program_rows.proofs.Ending.{HasUnit, has_unit, can_back_out, taken_back_units, taken_back_committed, taken_back_dbds, taken_back_regions, given_up_units}
+use Rattle.program_rows.specs.Answering.{regions_backed}
+use Rattle.program_rows.proofs.Ending.{has_unit, can_back_out, taken_back_units, taken_back_committed, taken_back_dbds, taken_back_regions, given_up_units}
 use Rattle.program_rows.proofs.databases.Databases.give_up.Goals as goal
 
 pub take_back-requires-clause-most : goal.take_back-requires-clause-most

@@ -1,5 +1,5 @@
 use Rattle.std.proofs.Common.{sym, subst}
-use Rattle.tm_machine.specs.Turns.{Goes, IsTurned}
+use Rattle.tm_machine.specs.Turns.{IsTurned}
 use Rattle.tm_machine.proofs.Breaking.{turned_waits}
 use Rattle.tm_machine.proofs.parts.Parts.step.Goals as goal
 

@@ -1,4 +1,4 @@
-use Rattle.tm_machine.proofs.Breaking.{turned_answered, turned_waits}
+use Rattle.tm_machine.proofs.Breaking.{turned_answered}
 use Rattle.tm_machine.proofs.parts.Parts.turn.Goals as goal
 
 pub returns-in-Ok : goal.returns-in-Ok
