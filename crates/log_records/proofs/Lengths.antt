@@ -14,7 +14,7 @@ flag_length : (b : Bool) → length (flag b) ≡ 1
 flag_length true = refl
 flag_length false = refl
 
-text_length : (t : List ℕ) → length (text t) ≡ 2 + length t
+pub text_length : (t : List ℕ) → length (text t) ≡ 2 + length t
 text_length t = length-append (number2 (length t)) t ∙ ap (λ (k : ℕ). k + length t) (number2_length (length t))
 
 texts_length : (ts : List (List ℕ)) → AllByRecursion IsSegmentText ts → length (flat_map text ts) ≤ 1998 * length ts
@@ -30,7 +30,7 @@ segs_length : (ts : List (List ℕ)) → AreSegments ts → length (segs ts) ≤
 segs_length ts h = let texts = texts_length ts h.2 in let most = h.1 in omega arith
 
 -- the length of eight bytes and then others
-eight : (n : ℕ) (t : List ℕ) → length (number8 n ++ t) ≡ 8 + length t
+pub eight : (n : ℕ) (t : List ℕ) → length (number8 n ++ t) ≡ 8 + length t
 eight n t = length-append (number8 n) t ∙ ap (λ (k : ℕ). k + length t) (number8_length n)
 
 two : (n : ℕ) (t : List ℕ) → length (number2 n ++ t) ≡ 2 + length t

@@ -6,3 +6,4 @@ pub mod Laws
 pub mod PutTexts
 pub mod Lengths
 pub mod Wrong
+pub mod WithLength

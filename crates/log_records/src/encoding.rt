@@ -1,13 +1,14 @@
 //! Records, spelled.
 ghost use Rattle.std.specs.Prelude.{◌≡◌, ◌<◌, ◌≤◌, ◌^◌, ◌++◌, ◌∷◌, [], length, OnOk, OnErr};
+ghost use Rattle.log_records.specs.declared.record.Record.TheVariants.{Input, Reply, Discarded, Completed, Acknowledged, SyncPoint, Change};
 ghost use Rattle.std.specs.List.{AllByRecursion, flat_map};
 ghost use Rattle.tm_types.specs.Name.{IsName};
 ghost use Rattle.tm_types.specs.Segment.{IsSegmentText};
-ghost use Rattle.log_records.specs.Spelling.{number2, number8, flag, name, text, segs, pad_change, conversation_field, content, spelling, IsText, IsCount, AreSegments, IsPadChange, IsShortPad, IsConversation, KeepsLimits, AreInRange, IsEncodable, IsRecord};
+ghost use Rattle.log_records.specs.Spelling.{number2, number8, flag, name, text, segs, pad_change, conversation_field, content, spelling, IsText, IsCount, AreSegments, IsAbend, IsPadChange, IsShortPad, IsConversation, KeepsLimits, AreInRange, IsEncodable, IsRecord};
 
 use crate::record::{Conversation, PadChange, Record};
 use std::alloc::Global;
-use tm_types::{Bytes, Memory, Name, Segments};
+use tm_types::{AbendCode, Memory, Name, Segments};
 
 #[tactic(auto, unfolding(crate::specs::Spelling::number2))]
 fn put_number2(out: &mut Vec<u8>, number: u16) -> Result<(), Memory>
@@ -123,6 +124,115 @@ fn put_conversation(out: &mut Vec<u8>, conversation: &Option<Conversation>) -> R
     }
 }
 
+pub(crate) fn put_input(
+    out: &mut Vec<u8>,
+    unit: u64,
+    id: u64,
+    origin: &Name,
+    code: &Name,
+    number: u64,
+    conversation: bool,
+    segments: &Segments,
+) -> Result<(), Memory>
+    requires { IsCount segments.now }
+    ensures ok { OnOk result (out.new.items ≡ out.old.items ++ content (Input unit id origin.now code.now number conversation segments.now)) }
+    ensures valid { OnOk result (AreInRange (Input unit id origin.now code.now number conversation segments.now)) }
+{
+    out.push(0x01)?;
+    put_ids(out, unit, id)?;
+    put_names(out, origin, code)?;
+    put_number8(out, number)?;
+    put_flag(out, conversation)?;
+    put_segments(out, segments)
+}
+
+pub(crate) fn put_reply(
+    out: &mut Vec<u8>,
+    unit: u64,
+    terminal: &Name,
+    number: u64,
+    segments: &Segments,
+) -> Result<(), Memory>
+    requires { IsCount segments.now }
+    ensures ok { OnOk result (out.new.items ≡ out.old.items ++ content (Reply unit terminal.now number segments.now)) }
+    ensures valid { OnOk result (AreInRange (Reply unit terminal.now number segments.now)) }
+{
+    out.push(0x03)?;
+    put_number8(out, unit)?;
+    put_name(out, terminal)?;
+    put_number8(out, number)?;
+    put_segments(out, segments)
+}
+
+pub(crate) fn put_discarded(
+    out: &mut Vec<u8>,
+    unit: u64,
+    id: u64,
+    abend: AbendCode,
+    number: u64,
+) -> Result<(), Memory>
+    requires { IsAbend abend.number }
+    ensures ok { OnOk result (out.new.items ≡ out.old.items ++ content (Discarded unit id abend number)) }
+    ensures valid { OnOk result (AreInRange (Discarded unit id abend number)) }
+{
+    out.push(0x07)?;
+    put_ids(out, unit, id)?;
+    put_number2(out, abend.number)?;
+    put_number8(out, number)
+}
+
+pub(crate) fn put_completed(out: &mut Vec<u8>, unit: u64, id: u64) -> Result<(), Memory>
+    ensures ok { OnOk result (out.new.items ≡ out.old.items ++ content (Completed unit id)) }
+    ensures valid { OnOk result (AreInRange (Completed unit id)) }
+{
+    out.extend_from_slice(&[0x36, 0])?;
+    put_ids(out, unit, id)
+}
+
+pub(crate) fn put_acknowledged(
+    out: &mut Vec<u8>,
+    terminal: &Name,
+    number: u64,
+) -> Result<(), Memory>
+    ensures ok { OnOk result (out.new.items ≡ out.old.items ++ content (Acknowledged terminal.now number)) }
+    ensures valid { OnOk result (AreInRange (Acknowledged terminal.now number)) }
+{
+    out.extend_from_slice(&[0x36, 1])?;
+    put_name(out, terminal)?;
+    put_number8(out, number)
+}
+
+pub(crate) fn put_sync_point(out: &mut Vec<u8>, unit: u64, pad: &PadChange) -> Result<(), Memory>
+    requires { IsPadChange pad.now }
+    ensures ok { OnOk result (out.new.items ≡ out.old.items ++ content (SyncPoint unit pad.now)) }
+    ensures valid { OnOk result (AreInRange (SyncPoint unit pad.now)) }
+{
+    out.push(0x37)?;
+    put_number8(out, unit)?;
+    put_pad_change(out, pad)
+}
+
+pub(crate) fn put_change(
+    out: &mut Vec<u8>,
+    unit: u64,
+    database: u8,
+    slot: u16,
+    before: &[u8],
+    after: &[u8],
+) -> Result<(), Memory>
+    requires before { length before.now ≤ 4000 }
+    requires after { length after.now ≤ 4000 }
+    ensures ok { OnOk result (out.new.items ≡ out.old.items ++ content (Change unit database slot before.now after.now)) }
+    ensures valid { OnOk result (AreInRange (Change unit database slot before.now after.now)) }
+{
+    out.push(0x50)?;
+    put_number8(out, unit)?;
+    out.push(database)?;
+    put_number2(out, slot)?;
+    put_text(out, before)?;
+    put_text(out, after)
+}
+
 fn put_content(out: &mut Vec<u8>, value: &Record) -> Result<(), Memory>
     requires { KeepsLimits value.now }
     ensures ok { OnOk result (out.new.items ≡ out.old.items ++ content value.now) }
@@ -137,14 +247,16 @@ fn put_content(out: &mut Vec<u8>, value: &Record) -> Result<(), Memory>
             number,
             conversation,
             segments,
-        } => {
-            out.push(0x01)?;
-            put_ids(out, *unit, *id)?;
-            put_names(out, origin, code)?;
-            put_number8(out, *number)?;
-            put_flag(out, *conversation)?;
-            put_segments(out, segments)
-        }
+        } => put_input(
+            out,
+            *unit,
+            *id,
+            origin,
+            code,
+            *number,
+            *conversation,
+            segments,
+        ),
         Record::Command { text } => {
             out.push(0x02)?;
             put_text(out, text.as_slice())
@@ -154,38 +266,16 @@ fn put_content(out: &mut Vec<u8>, value: &Record) -> Result<(), Memory>
             terminal,
             number,
             segments,
-        } => {
-            out.push(0x03)?;
-            put_number8(out, *unit)?;
-            put_name(out, terminal)?;
-            put_number8(out, *number)?;
-            put_segments(out, segments)
-        }
+        } => put_reply(out, *unit, terminal, *number, segments),
         Record::Discarded {
             unit,
             id,
             abend,
             number,
-        } => {
-            out.push(0x07)?;
-            put_ids(out, *unit, *id)?;
-            put_number2(out, abend.number)?;
-            put_number8(out, *number)
-        }
-        Record::Completed { unit, id } => {
-            out.extend_from_slice(&[0x36, 0])?;
-            put_ids(out, *unit, *id)
-        }
-        Record::Acknowledged { terminal, number } => {
-            out.extend_from_slice(&[0x36, 1])?;
-            put_name(out, terminal)?;
-            put_number8(out, *number)
-        }
-        Record::SyncPoint { unit, pad } => {
-            out.push(0x37)?;
-            put_number8(out, *unit)?;
-            put_pad_change(out, pad)
-        }
+        } => put_discarded(out, *unit, *id, *abend, *number),
+        Record::Completed { unit, id } => put_completed(out, *unit, *id),
+        Record::Acknowledged { terminal, number } => put_acknowledged(out, terminal, *number),
+        Record::SyncPoint { unit, pad } => put_sync_point(out, *unit, pad),
         Record::Checkpoint {
             checkpoint,
             next_id,
@@ -231,14 +321,14 @@ fn put_content(out: &mut Vec<u8>, value: &Record) -> Result<(), Memory>
             slot,
             before,
             after,
-        } => {
-            out.push(0x50)?;
-            put_number8(out, *unit)?;
-            out.push(*database)?;
-            put_number2(out, *slot)?;
-            put_text(out, before.as_slice())?;
-            put_text(out, after.as_slice())
-        }
+        } => put_change(
+            out,
+            *unit,
+            *database,
+            *slot,
+            before.as_slice(),
+            after.as_slice(),
+        ),
     }
 }
 

@@ -5,11 +5,16 @@
 //! with the first rule that they break, and where (specs/Reading).
 #![tactic(auto)]
 
+pub use appending::{
+    append_acknowledged, append_change, append_completed, append_discarded, append_input,
+    append_reply, append_sync_point,
+};
 pub use decoding::{decode, one_spelling};
 pub use encoding::encode;
 pub use fault::DecodeFault;
 pub use record::{Conversation, PadChange, Record};
 
+mod appending;
 mod decoding;
 mod encoding;
 mod fault;

@@ -1,0 +1,14 @@
+use Rattle.log_records.specs.declared.record.Record.{Record}
+use Rattle.log_records.specs.declared.record.Record.TheVariants.{Input}
+use Rattle.std.proofs.Common.{arith}
+use Rattle.log_records.proofs.Lengths.{is_record}
+use Rattle.log_records.proofs.WithLength.{is_short_from}
+use Rattle.log_records.proofs.appending.append_input.Goals as goal
+
+pub set_length-requires-clause-short : goal.set_length-requires-clause-short
+set_length-requires-clause-short c =
+    let r : Record = Input c.args.unit c.args.id c.args.origin.now c.args.code.now c.args.number c.args.conversation c.args.segments.now in
+    is_short_from c.args.out.now.items c.extend_from_slice.new.self.items c.put_input.new.out.items r c.len-start.result c.in_ok-extend_from_slice.ensures.items c.in_ok-put_input.ensures.ok (omega arith) (is_record r c.in_ok-put_input.ensures.valid tt)
+
+pub returns-clause-valid : goal.returns-clause-valid
+returns-clause-valid c = is_record (Input c.args.unit c.args.id c.args.origin.now c.args.code.now c.args.number c.args.conversation c.args.segments.now) c.in_ok-put_input.ensures.valid tt

@@ -1,0 +1,145 @@
+//! Records, spelled from borrowed parts.
+ghost use Rattle.std.specs.Prelude.{◌≡◌, ◌<◌, ◌≤◌, ◌^◌, ◌+◌, ◌-◌, ◌++◌, length, take, drop, OnOk};
+ghost use Rattle.log_records.specs.declared.record.Record.TheVariants.{Input, Reply, Discarded, Completed, Acknowledged, SyncPoint, Change};
+ghost use Rattle.log_records.specs.Spelling.{number2, spelling, IsCount, IsAbend, IsPadChange, IsShort, IsRecord};
+
+use crate::encoding::{
+    put_acknowledged, put_change, put_completed, put_discarded, put_input, put_reply,
+    put_sync_point,
+};
+use crate::record::PadChange;
+use tm_types::{AbendCode, Memory, Name, Segments};
+
+// The record that begins at `start` gets its length, for which it has two bytes.
+#[tactic(auto, unfolding(crate::specs::Spelling::number2))]
+fn set_length(out: &mut Vec<u8>, start: usize)
+    requires room { start + 2 ≤ length out.old.items }
+    requires short { length out.old.items - start < 2 ^ 16 }
+    ensures { out.new.items ≡ take start out.old.items ++ number2 (length out.old.items - start) ++ drop (start + 2) out.old.items }
+{
+    let length = (out.len() - start) as u16;
+    out[start..start + 2].copy_from_slice(&length.to_be_bytes());
+}
+
+/// Appends the spelling of an input as it is kept, with its number, where the unit is 0; else of a message that the unit
+/// switched, with the number 0. A message has 1 to 32 segments. After `Memory` a part of it may be appended.
+pub fn append_input(
+    out: &mut Vec<u8>,
+    unit: u64,
+    id: u64,
+    origin: &Name,
+    code: &Name,
+    number: u64,
+    conversation: bool,
+    segments: &Segments,
+) -> Result<(), Memory>
+    requires { IsCount segments.now }
+    ensures ok { OnOk result (out.new.items ≡ out.old.items ++ spelling (Input unit id origin.now code.now number conversation segments.now)) }
+    ensures valid { OnOk result (IsRecord (Input unit id origin.now code.now number conversation segments.now)) }
+{
+    let start = out.len();
+    out.extend_from_slice(&[0, 0])?;
+    put_input(out, unit, id, origin, code, number, conversation, segments)?;
+    set_length(out, start);
+    Ok(())
+}
+
+/// Appends the spelling of a reply, which has 1 to 32 segments. After `Memory` a part of it may be appended.
+pub fn append_reply(
+    out: &mut Vec<u8>,
+    unit: u64,
+    terminal: &Name,
+    number: u64,
+    segments: &Segments,
+) -> Result<(), Memory>
+    requires { IsCount segments.now }
+    ensures ok { OnOk result (out.new.items ≡ out.old.items ++ spelling (Reply unit terminal.now number segments.now)) }
+    ensures valid { OnOk result (IsRecord (Reply unit terminal.now number segments.now)) }
+{
+    let start = out.len();
+    out.extend_from_slice(&[0, 0])?;
+    put_reply(out, unit, terminal, number, segments)?;
+    set_length(out, start);
+    Ok(())
+}
+
+/// Appends the spelling of a message's discarding after an abend from 1 to 4095, with the number of the reply that tells its
+/// origin so. After `Memory` a part of it may be appended.
+pub fn append_discarded(
+    out: &mut Vec<u8>,
+    unit: u64,
+    id: u64,
+    abend: AbendCode,
+    number: u64,
+) -> Result<(), Memory>
+    requires { IsAbend abend.number }
+    ensures ok { OnOk result (out.new.items ≡ out.old.items ++ spelling (Discarded unit id abend number)) }
+    ensures valid { OnOk result (IsRecord (Discarded unit id abend number)) }
+{
+    let start = out.len();
+    out.extend_from_slice(&[0, 0])?;
+    put_discarded(out, unit, id, abend, number)?;
+    set_length(out, start);
+    Ok(())
+}
+
+/// Appends the spelling of a message's completion. After `Memory` a part of it may be appended.
+pub fn append_completed(out: &mut Vec<u8>, unit: u64, id: u64) -> Result<(), Memory>
+    ensures ok { OnOk result (out.new.items ≡ out.old.items ++ spelling (Completed unit id)) }
+    ensures valid { OnOk result (IsRecord (Completed unit id)) }
+{
+    let start = out.len();
+    out.extend_from_slice(&[0, 0])?;
+    put_completed(out, unit, id)?;
+    set_length(out, start);
+    Ok(())
+}
+
+/// Appends the spelling of a reply's acknowledgement. After `Memory` a part of it may be appended.
+pub fn append_acknowledged(out: &mut Vec<u8>, terminal: &Name, number: u64) -> Result<(), Memory>
+    ensures ok { OnOk result (out.new.items ≡ out.old.items ++ spelling (Acknowledged terminal.now number)) }
+    ensures valid { OnOk result (IsRecord (Acknowledged terminal.now number)) }
+{
+    let start = out.len();
+    out.extend_from_slice(&[0, 0])?;
+    put_acknowledged(out, terminal, number)?;
+    set_length(out, start);
+    Ok(())
+}
+
+/// Appends the spelling of a sync point. A pad is so short that the record has at most 65,535 bytes. After `Memory` a part
+/// of it may be appended.
+pub fn append_sync_point(out: &mut Vec<u8>, unit: u64, pad: &PadChange) -> Result<(), Memory>
+    requires pad { IsPadChange pad.now }
+    requires short { IsShort (SyncPoint unit pad.now) }
+    ensures ok { OnOk result (out.new.items ≡ out.old.items ++ spelling (SyncPoint unit pad.now)) }
+    ensures valid { OnOk result (IsRecord (SyncPoint unit pad.now)) }
+{
+    let start = out.len();
+    out.extend_from_slice(&[0, 0])?;
+    put_sync_point(out, unit, pad)?;
+    set_length(out, start);
+    Ok(())
+}
+
+/// Appends the spelling of a slot's change. Each image has at most 4,000 bytes; an empty one is no record. After `Memory` a
+/// part of it may be appended.
+pub fn append_change(
+    out: &mut Vec<u8>,
+    unit: u64,
+    database: u8,
+    slot: u16,
+    before: &[u8],
+    after: &[u8],
+) -> Result<(), Memory>
+    requires before { length before.now ≤ 4000 }
+    requires after { length after.now ≤ 4000 }
+    ensures ok { OnOk result (out.new.items ≡ out.old.items ++ spelling (Change unit database slot before.now after.now)) }
+    ensures valid { OnOk result (IsRecord (Change unit database slot before.now after.now)) }
+{
+    let start = out.len();
+    out.extend_from_slice(&[0, 0])?;
+    put_change(out, unit, database, slot, before, after)?;
+    set_length(out, start);
+    Ok(())
+}
