@@ -171,8 +171,9 @@ impl Databases {
         ensures value { IsGivenUp region self.old self.new }
         ensures databases { dbds_of self.new ≡ dbds_of self.old }
     {
-        take_back(self.alloc, region, &mut self.opened);
-        release(region, &mut self.opened.table);
+        let opened = &mut self.opened;
+        take_back(self.alloc, region, opened);
+        release(region, &mut opened.table);
     }
 }
 
