@@ -1,12 +1,12 @@
 //! What lasts of a control region: databases, messages, replies and numbers.
 ghost use Rattle.std.specs.Prelude.{◌≡◌, ◌<◌, ◌^◌, [], IfOk, OnOk, OnErr, IsSome, IsSomeAnd, None, Some, length, map, replicate, slice_get};
 ghost use Rattle.std.specs.Borrow.{sem};
-ghost use Rattle.model_queues.specs.Queue.{IsNewId, queued_at};
+ghost use Rattle.model_queues.specs.Queue.{AreInOrder, IsNewId, queued_at};
 ghost use Rattle.model_machine.specs.Machine.{output_at, empty_state, first_setting, terminal_place};
 ghost use Rattle.model_machine.specs.Lasting.{code_word, abend_outputs};
 ghost use Rattle.model_machine.specs.Lasting.LastingStep.{Completes, Discards};
 ghost use Rattle.model_enqueue.specs.Table.{empty_table};
-ghost use Rattle.program_rows.specs.State.{clean_region, committed_rows, dbds_of, region_at, IsRegionOf};
+ghost use Rattle.program_rows.specs.State.{clean_region, committed_rows, dbds_of, region_at, AreRowsOf, IsRegionOf};
 ghost use Rattle.program_rows.specs.Answering.{IsCommitted, IsGivenUp};
 ghost use Rattle.lasting_state.specs.Tables.{lasting_of, content_of, with_databases, held, given_back, Applies, IsEnqueued, IsFinished, IsClosed, IsAcknowledged};
 ghost use Rattle.lasting_state.specs.Showing.{IsShown};
@@ -75,6 +75,7 @@ impl Tables {
         ensures databases { IfOk result (λ tables. dbds_of tables.databases ≡ system.now.databases) }
         ensures regions { IfOk result (λ tables. tables.databases.regions ≡ replicate (length system.now.regions) (clean_region (committed_rows tables.databases))) }
         ensures table { IfOk result (λ tables. tables.databases.table ≡ empty_table (length system.now.regions)) }
+        ensures rows { IfOk result (λ tables. AreRowsOf (dbds_of tables.databases) (committed_rows tables.databases)) }
     {
         let regions = system.regions().len() as u32;
         Ok(Tables {
@@ -194,6 +195,7 @@ impl Tables {
         ensures tables { self.new ≡ with_databases (given_back self.old id) self.new.databases }
         ensures databases { IsGivenUp region self.old.databases self.new.databases }
         ensures dbds { dbds_of self.new.databases ≡ dbds_of self.old.databases }
+        ensures ordered { AreInOrder self.old.queues.queued }
     {
         self.databases.give_up(region);
         self.queues.give_back(id);
@@ -213,6 +215,7 @@ impl Tables {
         ensures step { OnOk result (Applies (Completes id (region_at region self.old.databases).rows outputs.items) self.old self.new) }
         ensures closed { OnOk result (IsClosed self.new.databases (λ _. outputs.items) self.old self.new id) }
         ensures databases { OnOk result (IsCommitted region self.old.databases self.new.databases) }
+        ensures rows { OnOk result (AreRowsOf (dbds_of self.new.databases) (committed_rows self.new.databases)) }
         ensures dbds { dbds_of self.new.databases ≡ dbds_of self.old.databases }
         ensures err { OnErr result (self.new ≡ self.old) }
         ensures above { IsNewId self.old.next_id self.old.queues.queued }

@@ -162,7 +162,8 @@ impl Queues {
     /// Takes a message back from its region; it keeps its place. This takes no memory.
     pub fn give_back(&mut self, id: u64)
         requires { IsSomeAnd (queued_at id self.old.queued) (λ q. IsSome q.holder) }
-        ensures { self.new ≡ record self.old { queued = with_holder id None self.old.queued } }
+        ensures value { self.new ≡ record self.old { queued = with_holder id None self.old.queued } }
+        ensures ordered { AreInOrder self.old.queued }
     {
         let Some(code) = entries::set_holder(&mut self.messages, id, None) else {
             unreachable!()

@@ -146,7 +146,7 @@ room_left t last number code found count room next most size same e there m s fi
 -- ---- whole calls
 module _ (system : System) (tables : TablesState) (states : List CodeState) (regions : List (Option Busy)) (parts : AreParts system tables states regions) where
   abbrev moment_now : Moment
-  moment_now = record { lasting = lasting_of (settings_of states) tables; slots = slots_of regions; raised = flags_of states }
+  moment_now = record { lasting = lasting_of (settings_of states) tables; slots = slots_of regions; enqueues = tables.databases.table; raised = flags_of states }
 
   abbrev state_now : PartsState
   state_now = record { system = system; moment = moment_now }
@@ -155,7 +155,7 @@ module _ (system : System) (tables : TablesState) (states : List CodeState) (reg
       → answer ≡ input_answer system moment_now terminal number segments → accepts terminal number segments answer ≡ None
       → IsAnswered state_now state_now (Accept terminal number segments answer)
   answered terminal number segments answer some says none = record {
-    may = record { call = some; answer = ap (Accept terminal number segments) says };
+    may = record { call = some; victims = refl; answer = ap (Accept terminal number segments) says };
     after = moment_refused system tables states regions terminal number segments answer parts none says;
     system = refl;
   }
@@ -174,14 +174,14 @@ module _ (system : System) (tables : TablesState) (states : List CodeState) (reg
 
   -- an acknowledgement
   abbrev state_with : TablesState → PartsState
-  state_with t = record { system = system; moment = record { lasting = lasting_of (settings_of states) t; slots = slots_of regions; raised = flags_of states } }
+  state_with t = record { system = system; moment = record { lasting = lasting_of (settings_of states) t; slots = slots_of regions; enqueues = t.databases.table; raised = flags_of states } }
 
   unchanged : (tables' : TablesState) (terminal : List ℕ) (number : ℕ) (answer : Result Acked AckRefused) → ack_by (output_at tables.outputs terminal) number ≡ answer
       → acknowledges terminal answer ≡ None → tables' ≡ tables → IsAnswered state_now (state_with tables') (AckedEntry terminal number answer)
   unchanged tables' terminal number answer says none same = record {
-    may = record { call = tt; answer = ap (AckedEntry terminal number) (sym says) };
+    may = record { call = tt; victims = refl; answer = ap (AckedEntry terminal number) (sym says) };
     after = ap (λ t. (state_with t).moment) same ∙ moment_stays system tables states regions parts
-        ∙ ap (λ o. moment_with system (option_map_or (λ s. applied s moment_now.lasting) o moment_now.lasting) (slots_of regions) (flags_of states))
+        ∙ ap (λ o. moment_with system (option_map_or (λ s. applied s moment_now.lasting) o moment_now.lasting) (slots_of regions) tables.databases.table (flags_of states))
         (sym none ∙ ap (acknowledges terminal) (sym says));
     system = refl;
   }
@@ -189,12 +189,12 @@ module _ (system : System) (tables : TablesState) (states : List CodeState) (reg
   pub acknowledged_is : (tables' : TablesState) (terminal : List ℕ) (number : ℕ) (answer : Result Acked AckRefused) → IsAcknowledged tables tables' terminal number answer
       → Answers state_now (state_with tables') (AckedEntry terminal number answer)
   acknowledged_is tables' terminal number (Ok Removed) h = record {
-    may = record { call = tt; answer = ap (AckedEntry terminal number) (sym h.0) };
+    may = record { call = tt; victims = refl; answer = ap (AckedEntry terminal number) (sym h.0) };
     after =
-        moment_is system (applied (Acknowledges terminal) moment_now.lasting) (slots_of regions) tables' states states regions
+        moment_is system (applied (Acknowledges terminal) moment_now.lasting) (slots_of regions) tables' states states regions tables.databases.table
         (followed_none system (λ name. free_count name tables.queues.queued) (λ name. free_count name tables'.queues.queued) states parts.settled (λ name. ap (λ t. free_count name t.queues.queued) h.1))
-        (rw h.1 parts.told) (ap (lasting_of (settings_of states)) h.1) refl
-        ∙ ap (λ a. moment_with system (option_map_or (λ s. applied s moment_now.lasting) (acknowledges terminal a) moment_now.lasting) (slots_of regions) (flags_of states)) (sym h.0);
+        (rw h.1 parts.told) (ap (lasting_of (settings_of states)) h.1) refl (ap (λ t. t.databases.table) h.1)
+        ∙ ap (λ a. moment_with system (option_map_or (λ s. applied s moment_now.lasting) (acknowledges terminal a) moment_now.lasting) (slots_of regions) tables.databases.table (flags_of states)) (sym h.0);
     system = refl;
   }
   acknowledged_is tables' terminal number (Ok AckAlready) h = unchanged tables' terminal number (Ok AckAlready) h.0 refl h.1
@@ -216,7 +216,7 @@ module _ (system : System) (tables : TablesState) (states : List CodeState) (reg
     told = parts.told;
     at_work = parts.at_work;
     databases = parts.databases;
-    alone = parts.alone;
+    idle = parts.idle;
   })
   parts_acknowledged tables' terminal number (Ok AckAlready) h = parts_same tables' h.1
   parts_acknowledged tables' terminal number (Err Unknown) h = parts_same tables' h.1

@@ -12,6 +12,8 @@ use Rattle.model_queues.specs.Queue.{IsNewId, message_at, queued_at, without, fr
 use Rattle.model_queues.specs.Room.{slot_room}
 use Rattle.model_queues.specs.Waiting.{first_waiting}
 use Rattle.model_queues.proofs.Laws.{found_behind, messages_held, new_id_without}
+use Rattle.model_enqueue.specs.Table.{EnqueueTable}
+use Rattle.model_enqueue.specs.Ask.{released}
 use Rattle.model_system.specs.Codes.{code_at, code_place}
 use Rattle.model_system.specs.Jobs.{Job, job_by}
 use Rattle.model_system.specs.declared.code.Code.{Code}
@@ -24,28 +26,32 @@ use Rattle.model_machine.specs.declared.entry.Turned.TheVariants.{Done, Abended,
 use Rattle.model_machine.specs.Trial.{WorkEnd, outputs_of}
 use Rattle.model_machine.specs.Trial.WorkEnd.{Ends, Syncs, Abends}
 use Rattle.model_machine.specs.Trial.Advance.{Stops}
-use Rattle.model_machine.specs.Machine.{Moment, Slot, has_message, is_held, content, slot_at, raised_now, moment_with}
+use Rattle.model_machine.specs.Machine.{Moment, Slot, IsRegion, has_message, is_held, content, slot_at, raised_now, moment_with}
 use Rattle.model_machine.specs.Lasting.{LastingStep, abend_outputs, applied}
 use Rattle.model_machine.specs.Lasting.LastingStep.{Completes, Discards}
-use Rattle.model_machine.specs.Steps.{AtWork, After, ending_step, may_go_on, next_among, next_message, slot_after, slot_work, sync_answer, turn_answer, turn_step, work_answer, work_by}
+use Rattle.model_machine.specs.Requests.{blocked_now, slot_requests, table_after, table_by}
+use Rattle.model_machine.specs.Steps.{AtWork, After, ending_step, may_go_on, next_among, next_message, slot_after, slot_work, step_in_turn, sync_answer, turn_answer, work_answer, work_by}
 use Rattle.model_machine.specs.Flags.{all_followed}
 use Rattle.model_machine.proofs.Flags.{states_again}
 use Rattle.tran_pick.specs.Picked.{IsFirstFree}
 use Rattle.tran_pick.proofs.Found.{first_codes}
-use Rattle.program_rows.specs.State.{DatabasesState, IsClean, rows_of}
+use Rattle.program_rows.specs.State.{DatabasesState, AreRowsOf, IsRegionOf, committed_rows, dbds_of, region_at}
+use Rattle.program_rows.specs.Answering.{IsCommitted, IsGivenUp}
 use Rattle.lasting_state.specs.Sending.{switches, switched_messages, with_messages}
-use Rattle.lasting_state.specs.Tables.{TablesState, lasting_of, finished, held, with_databases, committed_databases, backed_databases, Applies, IsClosed}
+use Rattle.lasting_state.specs.Tables.{TablesState, lasting_of, finished, held, with_databases, Applies, IsClosed}
 use Rattle.tm_machine.specs.declared.region.Busy.{Busy}
-use Rattle.tm_machine.specs.Ends.{EndsSo, destinations, goes_on_with}
-use Rattle.tm_machine.specs.Region.{calls_made, outputs_by}
-use Rattle.tm_machine.specs.Parts.{slot_of, slots_of, settings_of, flags_of, IsTold, AreAtWork, AreDatabases, AreParts}
-use Rattle.tm_machine.proofs.Alone.{others_stay, alone_ended}
+use Rattle.tm_machine.specs.Ends.{EndsSo, SlotEnds, destinations, goes_on_with}
+use Rattle.tm_machine.specs.Region.{IsUnit, calls_made, outputs_by}
+use Rattle.tm_machine.specs.Turns.{IsTurned}
+use Rattle.tm_machine.specs.Parts.{PartsState, slot_of, slots_of, settings_of, flags_of, IsTold, AreAtWork, AreParts, IsIdle}
+use Rattle.tm_machine.proofs.Tabled.{AreOwn, released_asks}
+use Rattle.tm_machine.proofs.Others.{IsKeptBeside, are_beside, beside_committed, beside_given_up, idle_committed, idle_ended, idle_given_up, own_requests, rows_stay, stay_at_work}
 use Rattle.tm_machine.proofs.Free.{count_held, count_sent, count_without, or_none}
-use Rattle.tm_machine.proofs.Leaving.{moment_is, turn_leaves, turn_steps, turn_works}
+use Rattle.tm_machine.proofs.Leaving.{moment_is, nobody_breaks, requests_are, turn_leaves, turn_steps, turn_works}
 use Rattle.tm_machine.proofs.Linked.{first_free_is, busy_is, end_told, end_at_work, new_free, told_without, get_set, set_length, set_set, set_slots}
 use Rattle.tm_machine.proofs.Raising.{IsFollowed, followed_all, followed_settled}
 use Rattle.tm_machine.proofs.Scheduled.{parts_taken, told_taken}
-use Rattle.tm_machine.proofs.Stepped.{slot_is, work_is}
+use Rattle.tm_machine.proofs.Stepped.{slot_is, trial_is, work_is}
 use Rattle.tm_machine.proofs.Tried.{IsTried, unit_trial}
 
 told_new : (messages : List Message) (slots : List (Option Slot)) → AllByRecursion (λ m. is_held slots m.id ≡ false) messages → IsTold slots (with_messages messages [])
@@ -94,9 +100,15 @@ held_at (r ∷ regions) zero busy e =
 held_at (r ∷ regions) (suc place) busy e = or_right (has_message busy.id (slot_of r)) (is_held (slots_of regions) busy.id) (held_at regions place busy e)
 
 module _ (system : System) (tables : TablesState) (states : List CodeState) (regions : List (Option Busy)) (region : ℕ)
-    (parts : AreParts system tables states regions) (busy : Busy) (e : slice_get regions (region - 1) ≡ Some (Some busy)) where
+    (parts : AreParts system tables states regions) (busy : Busy) (e : slice_get regions (region - 1) ≡ Some (Some busy)) (there : IsRegion system region) where
+  abbrev moment_of_tables : TablesState → List CodeState → List (Option Busy) → Moment
+  moment_of_tables t ss rs = record { lasting = lasting_of (settings_of ss) t; slots = slots_of rs; enqueues = t.databases.table; raised = flags_of ss }
+
   abbrev moment_now : Moment
-  moment_now = record { lasting = lasting_of (settings_of states) tables; slots = slots_of regions; raised = flags_of states }
+  moment_now = moment_of_tables tables states regions
+
+  abbrev state_with : Moment → PartsState
+  state_with m = record { system = system; moment = m }
 
   abbrev slot_now : Slot
   slot_now = record { code = busy.code; taken = busy.taken; id = busy.id; calls = calls_made busy.unit }
@@ -117,8 +129,15 @@ module _ (system : System) (tables : TablesState) (states : List CodeState) (reg
   pub id_there : IsSome (queued_at busy.id tables.queues.queued)
   id_there = rw (parts.at_work (region - 1) busy e).found cc
 
+  -- the databases have the region
+  pub works_there : IsRegionOf tables.databases region
+  works_there = record { least = there.0; most = omega (arith, there.1, parts.databases.regions) }
+
+  count : length tables.databases.regions ≡ length regions
+  count = parts.databases.regions ∙ sym parts.regions_are
+
   slot_here : slot_at moment_now region ≡ Some slot_now
-  slot_here = slot_is system tables states regions (region - 1) parts (Some busy) e
+  slot_here = slot_is system tables states regions region parts (Some busy) e
 
   -- the code of a work is one of the system's
   code_there : IsSome (code_at system.codes busy.code)
@@ -129,50 +148,64 @@ module _ (system : System) (tables : TablesState) (states : List CodeState) (reg
       by None h = cc
 
   -- what the work has come to
-  tried : IsTried job_now message_now tables.databases busy.unit
-  tried = unit_trial job_now message_now tables.databases busy.unit (parts.at_work (region - 1) busy e).work.unit
+  unit_here : IsUnit job_now message_now region tables.databases busy.unit
+  unit_here =
+      let back : region - 1 + 1 ≡ region = omega (arith, there.0) in
+      subst (λ n. IsUnit job_now message_now n tables.databases busy.unit) back (parts.at_work (region - 1) busy e).work.unit
+
+  tried : IsTried job_now message_now region tables.databases busy.unit
+  tried = unit_trial job_now message_now region tables.databases busy.unit unit_here
 
   abbrev work_now : AtWork
   work_now = work_by job_now moment_now.lasting tried.trial
 
   works : slot_work system moment_now.lasting slot_now ≡ Some work_now
-  works = work_is system tables states regions (region - 1) parts slot_now message_now job_now tried.trial found_here (parts.at_work (region - 1) busy e).work.serves tried.made
+  works = work_is system tables states regions region parts slot_now message_now job_now tried.trial found_here (parts.at_work (region - 1) busy e).work.serves tried.made
 
-  ends_here : (end : WorkEnd) → EndsSo (record { system = system; moment = moment_now }) region end → work_now.advance ≡ Stops end
-  ends_here end h = by (slot_at moment_now region) slot_here h
+  own_here : AreOwn region (slot_requests system moment_now.lasting region slot_now)
+  own_here = subst (AreOwn region)
+      (sym (requests_are system moment_now.lasting region slot_now job_now tried.trial (parts.at_work (region - 1) busy e).work.serves
+      (trial_is system tables states regions region parts slot_now message_now job_now tried.trial found_here (parts.at_work (region - 1) busy e).work.serves tried.made)))
+      (own_requests region job_now tried.trial)
+
+  ends_so : (end : WorkEnd) → EndsSo (state_with moment_now) region end → SlotEnds (state_with moment_now) region end slot_now
+  ends_so end h = by (slot_at moment_now region) slot_here h
+    where
+      by : (found : Option Slot) → found ≡ Some slot_now → IsSomeAnd found (SlotEnds (state_with moment_now) region end) → SlotEnds (state_with moment_now) region end slot_now
+      by (Some slot) f g = let same : slot ≡ slot_now = cc in subst (SlotEnds (state_with moment_now) region end) same g
+      by None f g = absurd g
+
+  free_here : (end : WorkEnd) → EndsSo (state_with moment_now) region end → blocked_now system moment_now region slot_now ≡ None
+  free_here end h = (ends_so end h).free
+
+  stops_here : (end : WorkEnd) → EndsSo (state_with moment_now) region end → work_now.advance ≡ Stops end
+  stops_here end h = at_work (slot_work system moment_now.lasting slot_now) works (ends_so end h).stops
     where
       at_work : (found : Option AtWork) → found ≡ Some work_now → IsSomeAnd found (λ work. work.advance ≡ Stops end) → work_now.advance ≡ Stops end
       at_work (Some work) f g = let same : work ≡ work_now = cc in subst (λ w. w.advance ≡ Stops end) same g
       at_work None f g = absurd g
 
-      by : (found : Option Slot) → found ≡ Some slot_now → IsSomeAnd found (λ slot. IsSomeAnd (slot_work system moment_now.lasting slot) (λ work. work.advance ≡ Stops end)) → work_now.advance ≡ Stops end
-      by (Some slot) f g =
-          let same : slot ≡ slot_now = cc in
-          at_work (slot_work system moment_now.lasting slot_now) works (subst (λ s. IsSomeAnd (slot_work system moment_now.lasting s) (λ work. work.advance ≡ Stops end)) same g)
-      by None f g = absurd g
+  answer_here : (end : WorkEnd) → EndsSo (state_with moment_now) region end → turn_answer system moment_now region [] ≡ work_answer system moment_now slot_now tried.trial (Stops end)
+  answer_here end h = turn_works system moment_now region slot_now work_now (Stops end) slot_here (free_here end h) works (stops_here end h)
 
-  answer_here : (end : WorkEnd) → EndsSo (record { system = system; moment = moment_now }) region end → turn_answer system moment_now region ≡ work_answer system moment_now slot_now tried.trial (Stops end)
-  answer_here end h = turn_works system moment_now region slot_now work_now (Stops end) slot_here works (ends_here end h)
+  step_here : (end : WorkEnd) → EndsSo (state_with moment_now) region end → step_in_turn system moment_now region slot_now ≡ Some (ending_step slot_now tried.trial end)
+  step_here end h = turn_steps system moment_now region slot_now work_now (Stops end) (free_here end h) works (stops_here end h)
 
-  step_here : (end : WorkEnd) → EndsSo (record { system = system; moment = moment_now }) region end → turn_step system moment_now.lasting slot_now ≡ Some (ending_step slot_now tried.trial end)
-  step_here end h = turn_steps system moment_now.lasting slot_now work_now (Stops end) works (ends_here end h)
-
-  pub done_answer : EndsSo (record { system = system; moment = moment_now }) region Ends → Done busy.code busy.id ≡ turn_answer system moment_now region
-  done_answer h = sym (answer_here Ends h)
-
-  pub abend_answer : (abend : AbendCode) → EndsSo (record { system = system; moment = moment_now }) region (Abends abend) → Abended busy.code busy.id abend ≡ turn_answer system moment_now region
-  abend_answer abend h = sym (answer_here (Abends abend) h)
+  -- what the region has asked for is given up with all else
+  gone_here : (end : WorkEnd) → EndsSo (state_with moment_now) region end → released region (table_by system moment_now region (Some slot_now)) ≡ released region tables.databases.table
+  gone_here end h = released_asks region (slot_requests system moment_now.lasting region slot_now) tables.databases.table own_here (free_here end h)
 
   abbrev completes : LastingStep
-  completes = Completes busy.id (rows_of tables.databases.stores) (outputs_by busy.unit)
+  completes = Completes busy.id (region_at region tables.databases).rows (outputs_by busy.unit)
 
   completes_is : Completes busy.id tried.trial.databases.rows (outputs_of tried.trial) ≡ completes
-  completes_is = ap (λ rows. Completes busy.id rows (outputs_of tried.trial)) tried.rows ∙ ap (Completes busy.id (rows_of tables.databases.stores)) tried.outputs
+  completes_is = ap (λ rows. Completes busy.id rows (outputs_of tried.trial)) tried.rows ∙ ap (Completes busy.id (region_at region tables.databases).rows) tried.outputs
 
-  -- The message is gone, and its outputs were sent; the databases are then as `change` leaves them.
-  module _ (tables' : TablesState) (outputs : List EndedMessage) (change : DatabasesState → DatabasesState) (above : IsNewId tables.next_id tables.queues.queued)
-      (is : tables' ≡ with_databases (finished tables message_now outputs) (change tables.databases)) (named : message_now.id ≡ busy.id)
-      (clean : IsClean (change tables.databases)) (same : IsClean tables.databases → tables.databases ≡ change tables.databases) (are : AreDatabases system (change tables.databases)) where
+  -- The message is gone, and its outputs were sent; the region is idle then, and the others work on.
+  module _ (tables' : TablesState) (outputs : List EndedMessage) (above : IsNewId tables.next_id tables.queues.queued)
+      (is : tables' ≡ with_databases (finished tables message_now outputs) tables'.databases) (named : message_now.id ≡ busy.id)
+      (beside : IsKeptBeside region tables.databases tables'.databases) (own : IsIdle region tables'.databases) (dbds : dbds_of tables'.databases ≡ dbds_of tables.databases)
+      (gone : tables'.databases.table ≡ released region tables.databases.table) (rows : AreRowsOf (dbds_of tables'.databases) (committed_rows tables'.databases)) where
     abbrev sent : List Message
     sent = switched_messages message_now.origin (switches tables.outputs outputs) tables.next_id
 
@@ -182,9 +215,9 @@ module _ (system : System) (tables : TablesState) (states : List CodeState) (reg
     above_sent : AllByRecursion (λ m. tables.next_id ≤ m.id) sent
     above_sent = all_above tables.next_id message_now.origin (switches tables.outputs outputs) tables.next_id (omega arith)
 
-    others : AreAtWork system (change tables.databases) (without busy.id tables.queues.queued) left
-    others = end_at_work system tables.databases (change tables.databases) tables.queues.queued regions (region - 1) busy e
-        (others_stay system tables.databases (change tables.databases) regions (region - 1) (Some busy) e parts.regions_are (λ none clean_now. same clean_now) parts.alone) parts.at_work
+    others : AreAtWork system tables'.databases (without busy.id tables.queues.queued) left
+    others = end_at_work system tables.databases tables'.databases tables.queues.queued regions (region - 1) busy e
+        (stay_at_work system parts.valid tables.databases tables'.databases regions region beside count there.0) parts.at_work
 
     new_left : IsNewId tables.next_id (without busy.id tables.queues.queued)
     new_left = new_id_without tables.next_id busy.id tables.queues.queued above
@@ -192,7 +225,7 @@ module _ (system : System) (tables : TablesState) (states : List CodeState) (reg
     told_left : IsTold (slots_of left) tables'.queues.queued
     told_left = rw queued_is
         (told_more sent (without busy.id tables.queues.queued) (slots_of left)
-        (all_free system (change tables.databases) tables.next_id (without busy.id tables.queues.queued) left sent new_left others above_sent)
+        (all_free system tables'.databases tables.next_id (without busy.id tables.queues.queued) left sent new_left others above_sent)
         (end_told tables.queues.queued regions (region - 1) busy e parts.told))
 
     -- as many messages wait of each code to which nothing was sent
@@ -212,9 +245,9 @@ module _ (system : System) (tables : TablesState) (states : List CodeState) (reg
       states_are = size ∙ parts.states_are;
       settled = settled;
       told = told_left;
-      at_work = rw (ap (λ t. t.databases) is) (rw queued_is (at_work_more system (change tables.databases) sent (without busy.id tables.queues.queued) left others));
-      databases = rw (ap (λ t. t.databases) is) are;
-      alone = rw (ap (λ t. t.databases) is) (alone_ended system tables.databases (change tables.databases) regions clean parts.alone left);
+      at_work = rw queued_is (at_work_more system tables'.databases sent (without busy.id tables.queues.queued) left others);
+      databases = are_beside system region tables.databases tables'.databases parts.databases beside dbds rows;
+      idle = idle_ended system parts.valid tables.databases tables'.databases regions region beside count there.0 own parts.idle;
     }
 
     -- the slots of before tell what no region has, but for the message that is gone
@@ -233,14 +266,18 @@ module _ (system : System) (tables : TablesState) (states : List CodeState) (reg
         followed_all system (λ name. free_count name tables.queues.queued) (λ name. free_count name tables'.queues.queued) names states states' parts.valid parts.states_are parts.settled
         (λ name none. waits name (among name none)) follow
 
-    moment_closed : (states' : List CodeState) (answer : Turned) (step : LastingStep) → IsFollowed system (λ name. free_count name tables'.queues.queued) states states'
-        → turn_answer system moment_now region ≡ answer → slot_after answer (Some slot_now) ≡ None → turn_step system moment_now.lasting slot_now ≡ Some step
+    turned_closed : (states' : List CodeState) (answer : Turned) (step : LastingStep) (end : WorkEnd) → EndsSo (state_with moment_now) region end
+        → IsFollowed system (λ name. free_count name tables'.queues.queued) states states'
+        → turn_answer system moment_now region [] ≡ answer → slot_after answer (Some slot_now) ≡ None → step_in_turn system moment_now region slot_now ≡ Some step
+        → ((table : EnqueueTable) → table_after answer region table ≡ released region table)
         → Applies step tables tables'
-        → record { lasting = lasting_of (settings_of states') tables'; slots = slots_of left; raised = flags_of states' } ≡ After system moment_now (Turn region)
-    moment_closed states' answer step follows says none does applies =
-        moment_is system (applied step moment_now.lasting) (slice_set (slots_of regions) (region - 1) None) tables' states states' left follows told_left (applies (settings_of states)) (set_slots regions (region - 1) None)
-        ∙ ap (λ s. moment_with system (applied step moment_now.lasting) (slice_set (slots_of regions) (region - 1) s) (flags_of states)) (sym none)
-        ∙ sym (turn_leaves system moment_now region (Some slot_now) answer (Some step) slot_here says does)
+        → moment_of_tables tables' states' left ≡ After system moment_now (Turn region) []
+    turned_closed states' answer step end h follows says none does frees applies =
+        moment_is system (applied step moment_now.lasting) (slice_set (slots_of regions) (region - 1) None) tables' states states' left (released region tables.databases.table) follows told_left (applies (settings_of states)) (set_slots regions (region - 1) None) gone
+        ∙ ap (λ s. moment_with system (applied step moment_now.lasting) (slice_set (slots_of regions) (region - 1) s) (released region tables.databases.table) (flags_of states)) (sym none)
+        ∙ ap (λ t. moment_with system (applied step moment_now.lasting) (slice_set (slots_of regions) (region - 1) (slot_after answer (Some slot_now))) t (flags_of states))
+        (sym (gone_here end h) ∙ sym (frees (table_by system moment_now region (Some slot_now))))
+        ∙ sym (turn_leaves system moment_now region [] (Some slot_now) answer (Some step) (table_by system moment_now region (Some slot_now)) slot_here says does refl)
 
   -- what is closed, by the message that is there
   closed_here : (databases : DatabasesState) (sends : Message → List EndedMessage) (tables' : TablesState) → IsClosed databases sends tables tables' busy.id
@@ -252,44 +289,45 @@ module _ (system : System) (tables : TablesState) (states : List CodeState) (reg
       by (Some m) f g = let here : m ≡ message_now = cc in subst (λ n. (n.id ≡ busy.id) × (tables' ≡ with_databases (finished tables n (sends n)) databases)) here g
       by None f g = absurd g
 
-  commit_clean : IsClean (committed_databases tables.databases)
-  commit_clean = record { stores = refl; changed = refl }
-
-  commit_same : IsClean tables.databases → tables.databases ≡ committed_databases tables.databases
-  commit_same h =
-      ap (λ c. record { committed = c; stores = tables.databases.stores; changed = tables.databases.changed }) (sym h.stores)
-      ∙ ap (λ c. record { committed = tables.databases.stores; stores = tables.databases.stores; changed = c }) h.changed
-
-  commit_are : AreDatabases system (committed_databases tables.databases)
-  commit_are = record { stores = parts.databases.stores; committed = parts.databases.stores }
-
   -- The message is completed.
   module _ (tables' : TablesState) (above : IsNewId tables.next_id tables.queues.queued) (sends : List EndedMessage) (sent_is : sends ≡ outputs_by busy.unit)
-      (closed : IsClosed (committed_databases tables.databases) (λ _. sends) tables tables' busy.id)
-      (applies : Applies (Completes busy.id (rows_of tables.databases.stores) sends) tables tables') where
-    done_is : (message_now.id ≡ busy.id) × (tables' ≡ with_databases (finished tables message_now sends) (committed_databases tables.databases))
-    done_is = closed_here (committed_databases tables.databases) (λ _. sends) tables' closed
+      (closed : IsClosed tables'.databases (λ _. sends) tables tables' busy.id)
+      (applies : Applies (Completes busy.id (region_at region tables.databases).rows sends) tables tables')
+      (stays : IsCommitted region tables.databases tables'.databases) (dbds : dbds_of tables'.databases ≡ dbds_of tables.databases)
+      (rows : AreRowsOf (dbds_of tables'.databases) (committed_rows tables'.databases)) where
+    done_is : (message_now.id ≡ busy.id) × (tables' ≡ with_databases (finished tables message_now sends) tables'.databases)
+    done_is = closed_here tables'.databases (λ _. sends) tables' closed
+
+    beside_here : IsKeptBeside region tables.databases tables'.databases
+    beside_here = beside_committed region tables.databases tables'.databases there.0 stays dbds parts.databases.rows rows
+
+    own_idle : IsIdle region tables'.databases
+    own_idle = idle_committed region tables.databases tables'.databases stays
 
     applies_here : Applies completes tables tables'
-    applies_here = subst (λ os. Applies (Completes busy.id (rows_of tables.databases.stores) os) tables tables') sent_is applies
+    applies_here = subst (λ os. Applies (Completes busy.id (region_at region tables.databases).rows os) tables tables') sent_is applies
 
     pub follows_completed : (states' : List CodeState) → states' ≡ all_followed system.codes (λ name. free_count name tables'.queues.queued) (busy.code ∷ destinations sends) states
         → IsFollowed system (λ name. free_count name tables'.queues.queued) states states'
     follows_completed states' follow =
-        follows_closed tables' sends committed_databases above done_is.1 done_is.0 commit_clean commit_same commit_are (busy.code ∷ destinations sends) states'
+        follows_closed tables' sends above done_is.1 done_is.0 beside_here own_idle dbds stays.table rows (busy.code ∷ destinations sends) states'
         (λ name none. (or_none (bytes_eq name busy.code) (list_any (λ n. bytes_eq name n) (destinations sends)) none).1) follow
 
     pub parts_completed : (states' : List CodeState) → IsFollowed system (λ name. free_count name tables'.queues.queued) states states' → AreParts system tables' states' left
     parts_completed states' follows =
-        parts_closed tables' sends committed_databases above done_is.1 done_is.0 commit_clean commit_same commit_are states' follows.size
+        parts_closed tables' sends above done_is.1 done_is.0 beside_here own_idle dbds stays.table rows states' follows.size
         (followed_settled system (λ name. free_count name tables'.queues.queued) states states' follows)
 
-    pub after_done : (states' : List CodeState) → IsFollowed system (λ name. free_count name tables'.queues.queued) states states'
-        → EndsSo (record { system = system; moment = moment_now }) region Ends
-        → record { lasting = lasting_of (settings_of states') tables'; slots = slots_of left; raised = flags_of states' } ≡ After system moment_now (Turn region)
-    after_done states' follows h =
-        moment_closed tables' sends committed_databases above done_is.1 done_is.0 commit_clean commit_same commit_are states' (Done busy.code busy.id) completes follows
-        (answer_here Ends h) refl (step_here Ends h ∙ ap (λ s. Some s) completes_is) applies_here
+    pub done_turned : (states' : List CodeState) → IsFollowed system (λ name. free_count name tables'.queues.queued) states states'
+        → EndsSo (state_with moment_now) region Ends
+        → IsTurned (state_with moment_now) (state_with (moment_of_tables tables' states' left)) region (Done busy.code busy.id)
+    done_turned states' follows h = record {
+      victims = nobody_breaks system moment_now region slot_now slot_here (free_here Ends h);
+      answer = sym (answer_here Ends h);
+      after = turned_closed tables' sends above done_is.1 done_is.0 beside_here own_idle dbds stays.table rows states' (Done busy.code busy.id) completes Ends h follows
+          (answer_here Ends h) refl (step_here Ends h ∙ ap (λ s. Some s) completes_is) (λ table. refl) applies_here;
+      system = refl;
+    }
 
     -- the message that the region goes on with
     next_is : next_message system moment_now (applied completes moment_now.lasting) slot_now
@@ -306,31 +344,35 @@ module _ (system : System) (tables : TablesState) (states : List CodeState) (reg
             then first_waiting (is_held (slots_of regions)) busy.code (lasting_of (settings_of states) tables').messages else None) (busy_is regions)
             ∙ ap (λ f. if may_go_on code.transaction state busy.taken && nat_le (content (lasting_of (settings_of states) tables') + slot_room * count_by is_some regions) system.qbytes
             then f else None) (first_free_is busy.code (slots_of regions) tables'.queues.queued
-            (told_before tables' sends committed_databases above done_is.1 done_is.0 commit_clean commit_same commit_are))
+            (told_before tables' sends above done_is.1 done_is.0 beside_here own_idle dbds stays.table rows))
         by (Some code) None = refl
         by None state = refl
 
     -- how the region goes on, by the message that was found
-    pub sync_is : (count : ℕ) (found : Option ℕ) → count ≡ count_by is_some regions
-        → found ≡ goes_on_with system.qbytes tables' busy.code busy.taken count (code_at system.codes busy.code) (option_and_then (slice_get states) (code_place system.codes busy.code))
-        → EndsSo (record { system = system; moment = moment_now }) region Syncs
-        → turn_answer system moment_now region ≡ sync_answer slot_now found
-    sync_is count found counted here h =
+    pub sync_is : (n : ℕ) (found : Option ℕ) → n ≡ count_by is_some regions
+        → found ≡ goes_on_with system.qbytes tables' busy.code busy.taken n (code_at system.codes busy.code) (option_and_then (slice_get states) (code_place system.codes busy.code))
+        → EndsSo (state_with moment_now) region Syncs
+        → turn_answer system moment_now region [] ≡ sync_answer slot_now found
+    sync_is n found counted here h =
         answer_here Syncs h
         ∙ ap (λ s. sync_answer slot_now (next_message system moment_now (applied s moment_now.lasting) slot_now)) completes_is
         ∙ ap (sync_answer slot_now) (next_is
-        ∙ ap (λ n. goes_on_with system.qbytes tables' busy.code busy.taken n (code_at system.codes busy.code) (option_and_then (slice_get states) (code_place system.codes busy.code))) (sym counted)
+        ∙ ap (λ m. goes_on_with system.qbytes tables' busy.code busy.taken m (code_at system.codes busy.code) (option_and_then (slice_get states) (code_place system.codes busy.code))) (sym counted)
         ∙ sym here)
 
-    pub after_none : (states' : List CodeState) → IsFollowed system (λ name. free_count name tables'.queues.queued) states states'
-        → turn_answer system moment_now region ≡ QC busy.code busy.id → EndsSo (record { system = system; moment = moment_now }) region Syncs
-        → record { lasting = lasting_of (settings_of states') tables'; slots = slots_of left; raised = flags_of states' } ≡ After system moment_now (Turn region)
-    after_none states' follows says h =
-        moment_closed tables' sends committed_databases above done_is.1 done_is.0 commit_clean commit_same commit_are states' (QC busy.code busy.id) completes follows
-        says refl (step_here Syncs h ∙ ap (λ s. Some s) completes_is) applies_here
+    pub none_turned : (states' : List CodeState) → IsFollowed system (λ name. free_count name tables'.queues.queued) states states'
+        → turn_answer system moment_now region [] ≡ QC busy.code busy.id → EndsSo (state_with moment_now) region Syncs
+        → IsTurned (state_with moment_now) (state_with (moment_of_tables tables' states' left)) region (QC busy.code busy.id)
+    none_turned states' follows says h = record {
+      victims = nobody_breaks system moment_now region slot_now slot_here (free_here Syncs h);
+      answer = sym says;
+      after = turned_closed tables' sends above done_is.1 done_is.0 beside_here own_idle dbds stays.table rows states' (QC busy.code busy.id) completes Syncs h follows
+          says refl (step_here Syncs h ∙ ap (λ s. Some s) completes_is) (λ table. refl) applies_here;
+      system = refl;
+    }
 
     -- the region goes on with a further message
-    module _ (tables'' : TablesState) (new : Busy) (holds : tables'' ≡ held tables' new.id region) (code : new.code ≡ busy.code) (fresh : new.unit ≡ None) (positive : 1 ≤ region)
+    module _ (tables'' : TablesState) (new : Busy) (holds : tables'' ≡ held tables' new.id region) (code : new.code ≡ busy.code) (fresh : new.unit ≡ None)
         (free : IsFirstFree tables'.queues.queued busy.code new.id) where
       empty : slice_get left (region - 1) ≡ Some None
       empty = get_set regions (region - 1) (Some busy) None e
@@ -341,13 +383,13 @@ module _ (system : System) (tables : TablesState) (states : List CodeState) (reg
         between = parts_completed middle follows
 
         pub told_next : IsTold (slots_of (slice_set left (region - 1) (Some new))) tables''.queues.queued
-        told_next = rw holds (told_taken system tables' middle left region between new empty positive)
+        told_next = rw holds (told_taken system tables' middle left region between new empty there.0)
 
         pub parts_next : (states' : List CodeState) → length states' ≡ length states
             → raised_now (λ name. free_count name tables''.queues.queued) system.codes (flags_of states') ≡ flags_of states'
             → AreParts system tables'' states' (slice_set left (region - 1) (Some new))
         parts_next states' size settled =
-            parts_taken system tables' middle left region between new empty positive tables'' states' holds free.free (rw code code_there) fresh (size ∙ sym follows.size) settled
+            parts_taken system tables' middle left region between new empty there.0 tables'' states' holds free.free (rw code code_there) fresh (size ∙ sym follows.size) settled
 
       pub follows_next : (states' : List CodeState) → states' ≡ all_followed system.codes (λ name. free_count name tables''.queues.queued) (busy.code ∷ destinations sends) states
           → IsFollowed system (λ name. free_count name tables''.queues.queued) states states'
@@ -357,48 +399,57 @@ module _ (system : System) (tables : TablesState) (states : List CodeState) (reg
           let both = or_none (bytes_eq name busy.code) (list_any (λ n. bytes_eq name n) (destinations sends)) none in
           ap (λ t. free_count name t.queues.queued) holds
           ∙ count_held name busy.code new.id (Some region) tables'.queues.queued both.0 (first_codes busy.code tables'.queues.queued new.id free.ordered free.first)
-          ∙ waits tables' sends committed_databases above done_is.1 done_is.0 commit_clean commit_same commit_are name both.1) follow
+          ∙ waits tables' sends above done_is.1 done_is.0 beside_here own_idle dbds stays.table rows name both.1) follow
 
-      pub after_next : (middle states' : List CodeState) → IsFollowed system (λ name. free_count name tables'.queues.queued) states middle
+      pub next_turned : (middle states' : List CodeState) → IsFollowed system (λ name. free_count name tables'.queues.queued) states middle
           → IsFollowed system (λ name. free_count name tables''.queues.queued) states states' → new.taken ≡ busy.taken + 1
-          → turn_answer system moment_now region ≡ Next busy.code busy.id new.id → EndsSo (record { system = system; moment = moment_now }) region Syncs
-          → record { lasting = lasting_of (settings_of states') tables''; slots = slots_of (slice_set left (region - 1) (Some new)); raised = flags_of states' } ≡ After system moment_now (Turn region)
-      after_next middle states' before follows taken says h =
-          let next : Slot = record { code = busy.code; taken = busy.taken + 1; id = new.id; calls = 0 } in
-          moment_is system (applied completes moment_now.lasting) (slice_set (slots_of regions) (region - 1) (Some next)) tables'' states states' (slice_set left (region - 1) (Some new)) follows
-          (told_next middle before)
-          (ap (lasting_of (settings_of states)) holds
-          ∙ ap {A = List Message} (λ ms. record (lasting_of (settings_of states) tables') { messages = ms }) (messages_held new.id (Some region) tables'.queues.queued)
-          ∙ applies_here (settings_of states))
-          (ap slots_of (set_set regions (region - 1) None (Some new)) ∙ set_slots regions (region - 1) (Some new)
-          ∙ ap (λ c. slice_set (slots_of regions) (region - 1) (Some (record { code = c; taken = new.taken; id = new.id; calls = calls_made new.unit }))) code
-          ∙ ap (λ n. slice_set (slots_of regions) (region - 1) (Some (record { code = busy.code; taken = n; id = new.id; calls = calls_made new.unit }))) taken
-          ∙ ap (λ u. slice_set (slots_of regions) (region - 1) (Some (record { code = busy.code; taken = busy.taken + 1; id = new.id; calls = calls_made u }))) fresh)
-          ∙ sym (turn_leaves system moment_now region (Some slot_now) (Next busy.code busy.id new.id) (Some completes) slot_here says (step_here Syncs h ∙ ap (λ s. Some s) completes_is))
+          → turn_answer system moment_now region [] ≡ Next busy.code busy.id new.id → EndsSo (state_with moment_now) region Syncs
+          → IsTurned (state_with moment_now) (state_with (moment_of_tables tables'' states' (slice_set left (region - 1) (Some new)))) region (Next busy.code busy.id new.id)
+      next_turned middle states' before follows taken says h = record {
+        victims = nobody_breaks system moment_now region slot_now slot_here (free_here Syncs h);
+        answer = sym says;
+        after =
+            moment_is system (applied completes moment_now.lasting) (slice_set (slots_of regions) (region - 1) (Some next)) tables'' states states' (slice_set left (region - 1) (Some new)) (released region tables.databases.table) follows
+            (told_next middle before)
+            (ap (lasting_of (settings_of states)) holds
+            ∙ ap {A = List Message} (λ ms. record (lasting_of (settings_of states) tables') { messages = ms }) (messages_held new.id (Some region) tables'.queues.queued)
+            ∙ applies_here (settings_of states))
+            (ap slots_of (set_set regions (region - 1) None (Some new)) ∙ set_slots regions (region - 1) (Some new)
+            ∙ ap (λ c. slice_set (slots_of regions) (region - 1) (Some (record { code = c; taken = new.taken; id = new.id; calls = calls_made new.unit }))) code
+            ∙ ap (λ n. slice_set (slots_of regions) (region - 1) (Some (record { code = busy.code; taken = n; id = new.id; calls = calls_made new.unit }))) taken
+            ∙ ap (λ u. slice_set (slots_of regions) (region - 1) (Some (record { code = busy.code; taken = busy.taken + 1; id = new.id; calls = calls_made u }))) fresh)
+            (ap (λ t. t.databases.table) holds ∙ stays.table)
+            ∙ ap (λ t. moment_with system (applied completes moment_now.lasting) (slice_set (slots_of regions) (region - 1) (Some next)) t (flags_of states)) (sym (gone_here Syncs h))
+            ∙ sym (turn_leaves system moment_now region [] (Some slot_now) (Next busy.code busy.id new.id) (Some completes) (table_by system moment_now region (Some slot_now)) slot_here says
+            (step_here Syncs h ∙ ap (λ s. Some s) completes_is) refl);
+        system = refl;
+      }
+        where
+          next : Slot
+          next = record { code = busy.code; taken = busy.taken + 1; id = new.id; calls = 0 }
 
   -- The work has ended abnormally.
-  back_clean : IsClean (backed_databases tables.databases)
-  back_clean = record { stores = refl; changed = refl }
-
-  back_same : IsClean tables.databases → tables.databases ≡ backed_databases tables.databases
-  back_same h =
-      ap (λ c. record { committed = tables.databases.committed; stores = c; changed = tables.databases.changed }) h.stores
-      ∙ ap (λ c. record { committed = tables.databases.committed; stores = tables.databases.committed; changed = c }) h.changed
-
-  back_are : AreDatabases system (backed_databases tables.databases)
-  back_are = record { stores = parts.databases.committed; committed = parts.databases.committed }
-
   module _ (tables' : TablesState) (above : IsNewId tables.next_id tables.queues.queued) (abend : AbendCode)
-      (closed : IsClosed (backed_databases tables.databases) (λ message. abend_outputs message abend) tables tables' busy.id)
-      (applies : Applies (Discards busy.id abend) tables tables') where
-    gone_is : (message_now.id ≡ busy.id) × (tables' ≡ with_databases (finished tables message_now (abend_outputs message_now abend)) (backed_databases tables.databases))
-    gone_is = closed_here (backed_databases tables.databases) (λ message. abend_outputs message abend) tables' closed
+      (closed : IsClosed tables'.databases (λ message. abend_outputs message abend) tables tables' busy.id)
+      (applies : Applies (Discards busy.id abend) tables tables')
+      (back : IsGivenUp region tables.databases tables'.databases) (dbds : dbds_of tables'.databases ≡ dbds_of tables.databases) where
+    gone_is : (message_now.id ≡ busy.id) × (tables' ≡ with_databases (finished tables message_now (abend_outputs message_now abend)) tables'.databases)
+    gone_is = closed_here tables'.databases (λ message. abend_outputs message abend) tables' closed
+
+    beside_back : IsKeptBeside region tables.databases tables'.databases
+    beside_back = beside_given_up region tables.databases tables'.databases there.0 back dbds
+
+    back_rows : AreRowsOf (dbds_of tables'.databases) (committed_rows tables'.databases)
+    back_rows = rows_stay tables.databases tables'.databases back.committed dbds parts.databases.rows
+
+    back_idle : IsIdle region tables'.databases
+    back_idle = idle_given_up region tables.databases tables'.databases works_there back
 
     pub follows_abended : (states' : List CodeState) (origin : List ℕ) → IsSomeAnd (message_at busy.id tables.queues.queued) (λ message. origin ≡ message.origin)
         → states' ≡ all_followed system.codes (λ name. free_count name tables'.queues.queued) (origin ∷ []) states
         → IsFollowed system (λ name. free_count name tables'.queues.queued) states states'
     follows_abended states' origin from follow =
-        follows_closed tables' (abend_outputs message_now abend) backed_databases above gone_is.1 gone_is.0 back_clean back_same back_are (origin ∷ []) states'
+        follows_closed tables' (abend_outputs message_now abend) above gone_is.1 gone_is.0 beside_back back_idle dbds back.table back_rows (origin ∷ []) states'
         (λ name none. ap (λ o. bytes_eq name o || false) (sym (by (message_at busy.id tables.queues.queued) found_here from)) ∙ none) follow
       where
         by : (found : Option Message) → found ≡ Some message_now → IsSomeAnd found (λ message. origin ≡ message.origin) → origin ≡ message_now.origin
@@ -407,12 +458,16 @@ module _ (system : System) (tables : TablesState) (states : List CodeState) (reg
 
     pub parts_abended : (states' : List CodeState) → IsFollowed system (λ name. free_count name tables'.queues.queued) states states' → AreParts system tables' states' left
     parts_abended states' follows =
-        parts_closed tables' (abend_outputs message_now abend) backed_databases above gone_is.1 gone_is.0 back_clean back_same back_are states' follows.size
+        parts_closed tables' (abend_outputs message_now abend) above gone_is.1 gone_is.0 beside_back back_idle dbds back.table back_rows states' follows.size
         (followed_settled system (λ name. free_count name tables'.queues.queued) states states' follows)
 
-    pub after_abended : (states' : List CodeState) → IsFollowed system (λ name. free_count name tables'.queues.queued) states states'
-        → EndsSo (record { system = system; moment = moment_now }) region (Abends abend)
-        → record { lasting = lasting_of (settings_of states') tables'; slots = slots_of left; raised = flags_of states' } ≡ After system moment_now (Turn region)
-    after_abended states' follows h =
-        moment_closed tables' (abend_outputs message_now abend) backed_databases above gone_is.1 gone_is.0 back_clean back_same back_are states' (Abended busy.code busy.id abend) (Discards busy.id abend) follows
-        (answer_here (Abends abend) h) refl (step_here (Abends abend) h) applies
+    pub abended_turned : (states' : List CodeState) → IsFollowed system (λ name. free_count name tables'.queues.queued) states states'
+        → EndsSo (state_with moment_now) region (Abends abend)
+        → IsTurned (state_with moment_now) (state_with (moment_of_tables tables' states' left)) region (Abended busy.code busy.id abend)
+    abended_turned states' follows h = record {
+      victims = nobody_breaks system moment_now region slot_now slot_here (free_here (Abends abend) h);
+      answer = sym (answer_here (Abends abend) h);
+      after = turned_closed tables' (abend_outputs message_now abend) above gone_is.1 gone_is.0 beside_back back_idle dbds back.table back_rows states' (Abended busy.code busy.id abend) (Discards busy.id abend) (Abends abend) h follows
+          (answer_here (Abends abend) h) refl (step_here (Abends abend) h) (λ table. refl) applies;
+      system = refl;
+    }

@@ -1,5 +1,6 @@
 mod Linked
-mod Alone
+mod Tabled
+mod Others
 mod Named
 mod Raising
 pub mod Counting
@@ -16,3 +17,5 @@ mod Started
 mod Asked
 mod Roomed
 mod Finished
+mod Giving
+mod Breaking

@@ -147,9 +147,15 @@ step_told (q ∷ qs) regions place old new e same told = (
   step_told qs regions place old new e same told.1,
 )
 
+-- the work of the other regions stays as it was
+abbrev pub StayAtWork : System → DatabasesState → DatabasesState → List (Option Busy) → ℕ → Type 0
+StayAtWork system databases databases' regions place =
+    (other : ℕ) (busy : Busy) → place ≢ other → slice_get regions other ≡ Some (Some busy) → (message : Message)
+    → IsWork system databases (other + 1) message busy → IsWork system databases' (other + 1) message busy
+
 pub step_at_work : (system : System) (databases databases' : DatabasesState) (queued : List Queued) (regions : List (Option Busy)) (place : ℕ) (old new : Busy) → slice_get regions place ≡ Some (Some old)
-    → new.id ≡ old.id → ((message : Message) → message_at old.id queued ≡ Some message → IsWork system databases' message new)
-    → ((other : ℕ) (busy : Busy) → place ≢ other → slice_get regions other ≡ Some (Some busy) → databases ≡ databases')
+    → new.id ≡ old.id → ((message : Message) → message_at old.id queued ≡ Some message → IsWork system databases' (place + 1) message new)
+    → StayAtWork system databases databases' regions place
     → AreAtWork system databases queued regions → AreAtWork system databases' queued (slice_set regions place (Some new))
 step_at_work system databases databases' queued regions place old new e same works stay at_work other busy f =
     ⊎_elim here there (set_get regions place other (Some new) busy f)
@@ -164,11 +170,13 @@ step_at_work system databases databases' queued regions place old new e same wor
         subst (λ b. IsAtWork system databases' queued (other + 1) b) is (record {
           message = was.message;
           found = ap (λ id. queued_at id queued) same ∙ was.found ∙ ap (λ n. Some (record { message = was.message; holder = Some (n + 1) })) h.0;
-          work = works was.message (ap (option_map (λ q. q.message)) was.found);
+          work = subst (λ n. IsWork system databases' (n + 1) was.message new) h.0 (works was.message (ap (option_map (λ q. q.message)) was.found));
         })
 
     there : (place ≢ other) × (slice_get regions other ≡ Some (Some busy)) → IsAtWork system databases' queued (other + 1) busy
-    there h = subst (λ d. IsAtWork system d queued (other + 1) busy) (stay other busy h.0 h.1) (at_work other busy h.1)
+    there h =
+        let was = at_work other busy h.1 in
+        record { message = was.message; found = was.found; work = stay other busy h.0 h.1 was.message was.work }
 
 -- an empty region takes a message that no region has
 pub take_told : (id holder : ℕ) (queued : List Queued) (regions : List (Option Busy)) (place : ℕ) (new : Busy) → slice_get regions place ≡ Some None → new.id ≡ id
@@ -187,7 +195,7 @@ take_told id holder (q ∷ qs) regions place new e same told =
 
 pub take_at_work : (system : System) (databases : DatabasesState) (id : ℕ) (queued : List Queued) (regions : List (Option Busy)) (place : ℕ) (new : Busy) (message : Message)
     → slice_get regions place ≡ Some None → new.id ≡ id
-    → queued_at id queued ≡ Some (record { message = message; holder = None }) → IsWork system databases message new
+    → queued_at id queued ≡ Some (record { message = message; holder = None }) → IsWork system databases (place + 1) message new
     → AreAtWork system databases queued regions → AreAtWork system databases (with_holder id (Some (place + 1)) queued) (slice_set regions place (Some new))
 take_at_work system databases id queued regions place new message e same free work at_work other busy f =
     ⊎_elim here there (set_get regions place other (Some new) busy f)
@@ -203,7 +211,7 @@ take_at_work system databases id queued regions place new message e same free wo
           found = ap (λ n. queued_at n (with_holder id (Some (place + 1)) queued)) same
               ∙ found_own id (Some (place + 1)) queued (record { message = message; holder = None }) free
               ∙ ap (λ n. Some (record { message = message; holder = Some (n + 1) })) h.0;
-          work = work;
+          work = subst (λ n. IsWork system databases (n + 1) message new) h.0 work;
         })
 
     holder-of : (p q : Queued) → Some p ≡ Some q → p.holder ≡ q.holder
@@ -236,8 +244,7 @@ end_told (q ∷ qs) regions place old e told = by (has_id old.id q) refl (end_to
     )
 
 pub end_at_work : (system : System) (databases databases' : DatabasesState) (queued : List Queued) (regions : List (Option Busy)) (place : ℕ) (old : Busy)
-    → slice_get regions place ≡ Some (Some old)
-    → ((other : ℕ) (busy : Busy) → place ≢ other → slice_get regions other ≡ Some (Some busy) → databases ≡ databases')
+    → slice_get regions place ≡ Some (Some old) → StayAtWork system databases databases' regions place
     → AreAtWork system databases queued regions → AreAtWork system databases' (without old.id queued) (slice_set regions place None)
 end_at_work system databases databases' queued regions place old e stay at_work other busy f =
     ⊎_elim (λ h. absurd (none-is busy h.1)) there (set_get regions place other None busy f)
@@ -252,7 +259,49 @@ end_at_work system databases databases' queued regions place old e stay at_work 
         record {
           message = was.message;
           found = found_without busy.id old.id queued apart ∙ was.found;
-          work = subst (λ d. IsWork system d was.message busy) (stay other busy h.0 h.1) was.work;
+          work = stay other busy h.0 h.1 was.message was.work;
+        }
+
+-- a region gives its message back, which keeps its place
+pub back_told : (system : System) (databases : DatabasesState) (whole queued : List Queued) (regions : List (Option Busy)) (place : ℕ) (old : Busy) → AreAtWork system databases whole regions
+    → slice_get regions place ≡ Some (Some old) → IsTold (slots_of regions) queued → IsTold (slots_of (slice_set regions place None)) (with_holder old.id None queued)
+back_told system databases whole [] regions place old at_work e told = tt
+back_told system databases whole (q ∷ qs) regions place old at_work e told =
+    (by (has_id old.id q) refl, back_told system databases whole qs regions place old at_work e told.1)
+  where
+    none-is : (b : Busy) → None ≡ Some b → ⊥
+    none-is b f = cc
+
+    apart : (other : ℕ) (busy : Busy) → slice_get (slice_set regions place None) other ≡ Some (Some busy) → busy.id ≢ old.id
+    apart other busy f =
+        ⊎_elim (λ h. absurd (none-is busy h.1))
+        (λ h. one_each system databases whole regions at_work other place busy old h.1 e (λ s. h.0 (sym s)))
+        (set_get regions place other None busy f)
+
+    by : (b : Bool) → has_id old.id q ≡ b
+        → is_held (slots_of (slice_set regions place None)) (if b then record q { holder = None } else q).message.id ≡ is_some (if b then record q { holder = None } else q).holder
+    by true h =
+        let same : q.message.id ≡ old.id = eqb-true q.message.id old.id h in
+        not_held q.message.id (slice_set regions place None) (λ other busy f s. apart other busy f (s ∙ same))
+    by false h = held_same q.message.id regions place (Some old) None e (sym (ne_eqb old.id q.message.id (λ s. no-both (sym (eq-eqb q.message.id old.id (sym s)) ∙ h)))) ∙ told.0
+
+pub back_at_work : (system : System) (databases databases' : DatabasesState) (queued : List Queued) (regions : List (Option Busy)) (place : ℕ) (old : Busy)
+    → slice_get regions place ≡ Some (Some old) → StayAtWork system databases databases' regions place
+    → AreAtWork system databases queued regions → AreAtWork system databases' (with_holder old.id None queued) (slice_set regions place None)
+back_at_work system databases databases' queued regions place old e stay at_work other busy f =
+    ⊎_elim (λ h. absurd (none-is busy h.1)) there (set_get regions place other None busy f)
+  where
+    none-is : (b : Busy) → None ≡ Some b → ⊥
+    none-is b e = cc
+
+    there : (place ≢ other) × (slice_get regions other ≡ Some (Some busy)) → IsAtWork system databases' (with_holder old.id None queued) (other + 1) busy
+    there h =
+        let was = at_work other busy h.1 in
+        let apart : busy.id ≢ old.id = one_each system databases queued regions at_work other place busy old h.1 e (λ s. h.0 (sym s)) in
+        record {
+          message = was.message;
+          found = found_held busy.id old.id None queued apart ∙ was.found;
+          work = stay other busy h.0 h.1 was.message was.work;
         }
 
 -- an input comes, which no region has

@@ -51,7 +51,7 @@ module _ (system : System) (tables : TablesState) (states : List CodeState) (reg
       ≡ (not (is_some work) && (not (is_some picked) || nat_lt system.qbytes (need_now (moment_now system tables states regions region parts))))
   rests_is =
       ap (λ b. not b && (not (is_some (pick_now system (moment_now system tables states regions region parts) region)) || nat_lt system.qbytes (need_now (moment_now system tables states regions region parts))))
-      (ap is_some (slot_is system tables states regions (region - 1) parts work get) ∙ slot_some work)
+      (ap is_some (slot_is system tables states regions region parts work get) ∙ slot_some work)
       ∙ ap (λ b. not (is_some work) && (not b || nat_lt system.qbytes (need_now (moment_now system tables states regions region parts))))
       (ap is_some (pick_is system tables states regions region parts) ∙ sym (map_some _) ∙ ap is_some (sym value))
 

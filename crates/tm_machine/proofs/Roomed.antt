@@ -27,7 +27,7 @@ use Rattle.tm_machine.proofs.Started.{moment_enqueued, moment_refused}
 module _ (system : System) (tables : TablesState) (states : List CodeState) (regions : List (Option Busy)) (parts : AreParts system tables states regions)
     (terminal : List ℕ) (number : ℕ) (segments : List (List ℕ)) (input : NewInput) (some : 0 < length segments) (busy : ℕ) (counted : busy ≡ count_by is_some regions) where
   abbrev state_with : TablesState → List CodeState → PartsState
-  state_with t ss = record { system = system; moment = record { lasting = lasting_of (settings_of ss) t; slots = slots_of regions; raised = flags_of ss } }
+  state_with t ss = record { system = system; moment = record { lasting = lasting_of (settings_of ss) t; slots = slots_of regions; enqueues = t.databases.table; raised = flags_of ss } }
 
   room_is : no_room system (state_with tables states).moment segments
       ≡ (if nat_lt system.qbytes (needs tables segments busy) then Some (Err (QueueFull (needs tables segments busy) system.qbytes)) else None)
@@ -40,7 +40,7 @@ module _ (system : System) (tables : TablesState) (states : List CodeState) (reg
       → IsFollowed system (λ n. free_count n tables'.queues.queued) states states'
       → IsAnswered (state_with tables states) (state_with tables' states') (Accept terminal number segments (Ok (New id)))
   new_answer new above tables' states' id same fits is applies follows = record {
-    may = record { call = some; answer = ap (Accept terminal number segments) says };
+    may = record { call = some; victims = refl; answer = ap (Accept terminal number segments) says };
     after = moment_enqueued system tables states regions terminal number segments parts above tables' is states' id follows (applies (settings_of states)) says;
     system = refl;
   }
@@ -54,7 +54,7 @@ module _ (system : System) (tables : TablesState) (states : List CodeState) (reg
   pub full_answer : IsNewInput (state_with tables states) terminal number segments input → (tables' : TablesState) (need limit : ℕ) → need ≡ needs tables segments busy → limit ≡ tables.queues.limit
       → limit < need → tables' ≡ tables → IsAnswered (state_with tables states) (state_with tables' states) (Accept terminal number segments (Err (QueueFull need limit)))
   full_answer new tables' need limit n l less stays = record {
-    may = record { call = some; answer = ap (Accept terminal number segments) says };
+    may = record { call = some; victims = refl; answer = ap (Accept terminal number segments) says };
     after = ap (λ t. (state_with t states).moment) stays ∙ moment_refused system tables states regions terminal number segments (Err (QueueFull need limit)) parts refl says;
     system = refl;
   }

@@ -21,6 +21,8 @@ use Rattle.model_machine.specs.declared.entry.Turned.{Turned}
 use Rattle.model_machine.specs.declared.entry.Turned.TheVariants.{Scheduled, Idle, Held}
 use Rattle.model_machine.specs.Machine.{Moment, Slot, is_held, slot_at, raised_now, moment_with}
 use Rattle.model_machine.specs.Pick.{Candidate, pick_of}
+use Rattle.model_machine.specs.Requests.{BreaksAt, table_after}
+use Rattle.tm_machine.specs.Turns.{IsTurned}
 use Rattle.model_machine.specs.Steps.{pick_now, need_now, schedule_answer, slot_after, turn_by, turn_answer, After}
 use Rattle.model_machine.specs.Flags.{all_followed}
 use Rattle.model_machine.proofs.Flags.{states_again}
@@ -37,7 +39,7 @@ use Rattle.tm_machine.proofs.Free.{count_held, or_none}
 use Rattle.tm_machine.proofs.Leaving.{moment_is, moment_stays, turn_leaves}
 use Rattle.tm_machine.proofs.Raising.{IsFollowed, followed_all}
 use Rattle.tm_machine.proofs.Stepped.{slot_is, set_same}
-use Rattle.tm_machine.proofs.Alone.{alone_taken, clean_here}
+use Rattle.tm_machine.proofs.Others.{idle_taken}
 
 abbrev pub pick_with : Candidate → Pick
 pick_with c = record { code = c.code; id = c.id }
@@ -81,7 +83,7 @@ empty_at regions place (Some busy) e empty =
 module _ (system : System) (tables : TablesState) (states : List CodeState) (regions : List (Option Busy)) (region : ℕ)
     (parts : AreParts system tables states regions) where
   abbrev pub moment_now : Moment
-  moment_now = record { lasting = lasting_of (settings_of states) tables; slots = slots_of regions; raised = flags_of states }
+  moment_now = record { lasting = lasting_of (settings_of states) tables; slots = slots_of regions; enqueues = tables.databases.table; raised = flags_of states }
 
   pub pick_is : pick_now system moment_now region ≡ pick_of system region states (λ name. first_free name tables.queues.queued)
   pick_is =
@@ -99,20 +101,20 @@ module _ (system : System) (tables : TablesState) (states : List CodeState) (reg
   -- an empty region's turn, by what is picked
   module _ (empty : slice_get regions (region - 1) ≡ Some None) where
     pub empty_slot : slot_at moment_now region ≡ None
-    empty_slot = slot_is system tables states regions (region - 1) parts None empty
+    empty_slot = slot_is system tables states regions region parts None empty
 
-    answers : (picked : Option Candidate) → pick_now system moment_now region ≡ picked → turn_answer system moment_now region ≡ schedule_answer picked (need_now moment_now) system.qbytes
-    answers picked e = ap (turn_by system moment_now region) empty_slot ∙ ap (λ p. schedule_answer p (need_now moment_now) system.qbytes) e
+    answers : (picked : Option Candidate) → pick_now system moment_now region ≡ picked → turn_answer system moment_now region [] ≡ schedule_answer picked (need_now moment_now) system.qbytes
+    answers picked e = ap (turn_by system moment_now region []) empty_slot ∙ ap (λ p. schedule_answer p (need_now moment_now) system.qbytes) e
 
-    pub idle_answer : pick_now system moment_now region ≡ None → Idle ≡ turn_answer system moment_now region
+    pub idle_answer : pick_now system moment_now region ≡ None → Idle ≡ turn_answer system moment_now region []
     idle_answer e = sym (answers None e)
 
     by_pick : (p : Pick) → IsSomeAnd (pick_now system moment_now region) (λ c. (c.code ≡ p.code) × (c.id ≡ p.id))
-        → turn_answer system moment_now region ≡ (if nat_lt system.qbytes (need_now moment_now) then Held (need_now moment_now) system.qbytes else Scheduled p.code p.id)
+        → turn_answer system moment_now region [] ≡ (if nat_lt system.qbytes (need_now moment_now) then Held (need_now moment_now) system.qbytes else Scheduled p.code p.id)
     by_pick p h = by (pick_now system moment_now region) refl h
       where
         by : (found : Option Candidate) → pick_now system moment_now region ≡ found → IsSomeAnd found (λ c. (c.code ≡ p.code) × (c.id ≡ p.id))
-            → turn_answer system moment_now region ≡ (if nat_lt system.qbytes (need_now moment_now) then Held (need_now moment_now) system.qbytes else Scheduled p.code p.id)
+            → turn_answer system moment_now region [] ≡ (if nat_lt system.qbytes (need_now moment_now) then Held (need_now moment_now) system.qbytes else Scheduled p.code p.id)
         by (Some c) e g =
             answers (Some c) e
             ∙ ap (λ n. if nat_lt system.qbytes (need_now moment_now) then Held (need_now moment_now) system.qbytes else Scheduled n c.id) g.0
@@ -120,13 +122,13 @@ module _ (system : System) (tables : TablesState) (states : List CodeState) (reg
         by None e g = absurd g
 
     pub held_answer : (p : Pick) (need limit : ℕ) → IsSomeAnd (pick_now system moment_now region) (λ c. (c.code ≡ p.code) × (c.id ≡ p.id))
-        → need ≡ need_now moment_now → limit ≡ system.qbytes → limit < need → Held need limit ≡ turn_answer system moment_now region
+        → need ≡ need_now moment_now → limit ≡ system.qbytes → limit < need → Held need limit ≡ turn_answer system moment_now region []
     held_answer p need limit h n l less =
         ap (λ k. Held k limit) n ∙ ap (Held (need_now moment_now)) l
         ∙ sym (by_pick p h ∙ ap (λ b. if b then Held (need_now moment_now) system.qbytes else Scheduled p.code p.id) (lt-ltb system.qbytes (need_now moment_now) (omega (arith, n, l, less))))
 
     pub scheduled_answer : (p : Pick) (need limit : ℕ) → IsSomeAnd (pick_now system moment_now region) (λ c. (c.code ≡ p.code) × (c.id ≡ p.id))
-        → need ≡ need_now moment_now → limit ≡ system.qbytes → need ≤ limit → Scheduled p.code p.id ≡ turn_answer system moment_now region
+        → need ≡ need_now moment_now → limit ≡ system.qbytes → need ≤ limit → Scheduled p.code p.id ≡ turn_answer system moment_now region []
     scheduled_answer p need limit h n l fits =
         sym (by_pick p h ∙ ap (λ b. if b then Held (need_now moment_now) system.qbytes else Scheduled p.code p.id) (le-ltb system.qbytes (need_now moment_now) (omega (arith, n, l, fits))))
 
@@ -134,12 +136,30 @@ module _ (system : System) (tables : TablesState) (states : List CodeState) (reg
     slots_same : slice_set (slots_of regions) (region - 1) None ≡ slots_of regions
     slots_same = sym (set_slots regions (region - 1) None) ∙ ap slots_of (set_same regions (region - 1) None empty)
 
-    pub stays_empty : (answer : Turned) → answer ≡ turn_answer system moment_now region → slot_after answer None ≡ None → moment_now ≡ After system moment_now (Turn region)
-    stays_empty answer says none =
+    pub stays_empty : (answer : Turned) → answer ≡ turn_answer system moment_now region [] → slot_after answer None ≡ None → table_after answer region tables.databases.table ≡ tables.databases.table → moment_now ≡ After system moment_now (Turn region) []
+    stays_empty answer says none same =
         moment_stays system tables states regions parts
-        ∙ ap (λ ss. moment_with system moment_now.lasting ss (flags_of states)) (sym slots_same)
-        ∙ ap (λ s. moment_with system moment_now.lasting (slice_set (slots_of regions) (region - 1) s) (flags_of states)) (sym none)
-        ∙ sym (turn_leaves system moment_now region None answer None empty_slot (sym says) refl)
+        ∙ ap (λ ss. moment_with system moment_now.lasting ss tables.databases.table (flags_of states)) (sym slots_same)
+        ∙ ap (λ s. moment_with system moment_now.lasting (slice_set (slots_of regions) (region - 1) s) tables.databases.table (flags_of states)) (sym none)
+        ∙ ap (λ t. moment_with system moment_now.lasting (slice_set (slots_of regions) (region - 1) (slot_after answer None)) t (flags_of states)) (sym same)
+        ∙ sym (turn_leaves system moment_now region [] None answer None tables.databases.table empty_slot (sym says) refl refl)
+
+    -- nobody gives way where a region is empty
+    nobody : BreaksAt system moment_now region [] (slot_at moment_now region)
+    nobody = rw empty_slot refl
+
+    pub idle_turned : pick_now system moment_now region ≡ None → IsTurned (record { system = system; moment = moment_now }) (record { system = system; moment = moment_now }) region Idle
+    idle_turned e = record { victims = nobody; answer = idle_answer e; after = stays_empty Idle (idle_answer e) refl refl; system = refl }
+
+    pub held_turned : (p : Pick) (need limit : ℕ) → IsSomeAnd (pick_now system moment_now region) (λ c. (c.code ≡ p.code) × (c.id ≡ p.id))
+        → need ≡ need_now moment_now → limit ≡ system.qbytes → limit < need
+        → IsTurned (record { system = system; moment = moment_now }) (record { system = system; moment = moment_now }) region (Held need limit)
+    held_turned p need limit h n l less = record {
+      victims = nobody;
+      answer = held_answer p need limit h n l less;
+      after = stays_empty (Held need limit) (held_answer p need limit h n l less) refl refl;
+      system = refl;
+    }
 
   module _ (busy : Busy) (empty : slice_get regions (region - 1) ≡ Some None) (positive : 1 ≤ region) where
     back : region - 1 + 1 ≡ region
@@ -164,7 +184,7 @@ module _ (system : System) (tables : TablesState) (states : List CodeState) (reg
       told = rw is told_taken;
       at_work = rw is (by (queued_at busy.id tables.queues.queued) (job_of system busy.code) refl refl free (is_served_by known));
       databases = rw is parts.databases;
-      alone = rw is (alone_taken system tables.databases regions (region - 1) busy empty parts.regions_are parts.alone);
+      idle = rw is (idle_taken tables.databases regions (region - 1) busy parts.idle);
     }
       where
         is_served_by : IsSome (code_at system.codes busy.code) → IsSome (job_of system busy.code)
@@ -176,8 +196,8 @@ module _ (system : System) (tables : TablesState) (states : List CodeState) (reg
             → AreAtWork system tables.databases (with_holder busy.id (Some region) tables.queues.queued) (slice_set regions (region - 1) (Some busy))
         by (Some q) (Some job) f g none k =
             let here : queued_at busy.id tables.queues.queued ≡ Some (record { message = q.message; holder = None }) = f ∙ ap (λ h. Some (record { message = q.message; holder = h })) none in
-            let work : IsWork system tables.databases q.message busy
-            = record { job = job; serves = g; unit = rw fresh (clean_here system tables.databases regions (region - 1) empty parts.alone) } in
+            let work : IsWork system tables.databases (region - 1 + 1) q.message busy
+            = record { job = job; serves = g; unit = rw fresh (parts.idle (region - 1) empty).clean } in
             subst (λ n. AreAtWork system tables.databases (with_holder busy.id (Some n) tables.queues.queued) (slice_set regions (region - 1) (Some busy))) back
             (take_at_work system tables.databases busy.id tables.queues.queued regions (region - 1) busy q.message empty refl here work parts.at_work)
         by (Some q) None f g none k = cc
@@ -199,14 +219,28 @@ module _ (system : System) (tables : TablesState) (states : List CodeState) (reg
 
     pub moment_taken : (tables' : TablesState) (states' : List CodeState) → tables' ≡ held tables busy.id region → busy.taken ≡ 1 → calls_made busy.unit ≡ 0
         → IsFollowed system (λ name. free_count name tables'.queues.queued) states states'
-        → Scheduled busy.code busy.id ≡ turn_answer system moment_now region
-        → record { lasting = lasting_of (settings_of states') tables'; slots = slots_of (slice_set regions (region - 1) (Some busy)); raised = flags_of states' }
-        ≡ After system moment_now (Turn region)
+        → Scheduled busy.code busy.id ≡ turn_answer system moment_now region []
+        → record { lasting = lasting_of (settings_of states') tables'; slots = slots_of (slice_set regions (region - 1) (Some busy)); enqueues = tables'.databases.table; raised = flags_of states' }
+        ≡ After system moment_now (Turn region) []
     moment_taken tables' states' is one none follows says =
-        moment_is system moment_now.lasting (slice_set (slots_of regions) (region - 1) (Some (record { code = busy.code; taken = 1; id = busy.id; calls = 0 }))) tables' states states' (slice_set regions (region - 1) (Some busy))
+        moment_is system moment_now.lasting (slice_set (slots_of regions) (region - 1) (Some (record { code = busy.code; taken = 1; id = busy.id; calls = 0 }))) tables' states states' (slice_set regions (region - 1) (Some busy)) tables.databases.table
         follows (rw is told_taken)
         (ap (lasting_of (settings_of states)) is ∙ ap {A = List Message} (λ ms. record (lasting_of (settings_of states) tables) { messages = ms }) (messages_held busy.id (Some region) tables.queues.queued))
         (set_slots regions (region - 1) (Some busy)
         ∙ ap (λ n. slice_set (slots_of regions) (region - 1) (Some (record { code = busy.code; taken = n; id = busy.id; calls = calls_made busy.unit }))) one
         ∙ ap (λ n. slice_set (slots_of regions) (region - 1) (Some (record { code = busy.code; taken = 1; id = busy.id; calls = n }))) none)
-        ∙ sym (turn_leaves system moment_now region None (Scheduled busy.code busy.id) None (empty_slot empty) (sym says) refl)
+        (ap (λ t. t.databases.table) is)
+        ∙ sym (turn_leaves system moment_now region [] None (Scheduled busy.code busy.id) None tables.databases.table (empty_slot empty) (sym says) refl refl)
+
+    pub scheduled_turned : (tables' : TablesState) (states' : List CodeState) → tables' ≡ held tables busy.id region → busy.taken ≡ 1 → calls_made busy.unit ≡ 0
+        → IsFollowed system (λ name. free_count name tables'.queues.queued) states states'
+        → Scheduled busy.code busy.id ≡ turn_answer system moment_now region []
+        → IsTurned (record { system = system; moment = moment_now })
+        (record { system = system; moment = record { lasting = lasting_of (settings_of states') tables'; slots = slots_of (slice_set regions (region - 1) (Some busy)); enqueues = tables'.databases.table; raised = flags_of states' } })
+        region (Scheduled busy.code busy.id)
+    scheduled_turned tables' states' is one none follows says = record {
+      victims = nobody empty;
+      answer = says;
+      after = moment_taken tables' states' is one none follows says;
+      system = refl;
+    }

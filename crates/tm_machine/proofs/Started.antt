@@ -1,5 +1,5 @@
 -- An empty control region, and an input that comes.
-use Rattle.std.proofs.Common.{◌≡◌, ℕ, zero, suc, inl, inr, ⊎_elim, false, List, [], ◌∷◌, map, length, replicate, refl, sym, ap, ◌∙◌}
+use Rattle.std.proofs.Common.{◌≡◌, ℕ, zero, suc, ◌+◌, ◌-◌, ◌<◌, false, List, [], ◌∷◌, map, length, replicate, get_or, refl, sym, ap, ◌∙◌, arith}
 use Rattle.std.specs.Prelude.{Option, Some, None, Result, Ok, slice_get, slice_set}
 use Rattle.std.specs.Option.{option_map_or}
 use Rattle.std.specs.Str.{bytes_eq}
@@ -21,10 +21,11 @@ use Rattle.model_machine.specs.Lasting.{code_word, with_last, applied}
 use Rattle.model_machine.specs.Lasting.LastingStep.{Accepts}
 use Rattle.model_machine.specs.Steps.{accepts, input_answer, After}
 use Rattle.model_machine.specs.Flags.{all_followed}
-use Rattle.program_rows.specs.State.{IsClean}
+use Rattle.model_enqueue.specs.Table.{empty_table, wait_of}
+use Rattle.program_rows.specs.State.{DatabasesState, RegionRows, AreRowsOf, IsClean, clean_region, committed_rows, dbds_of, no_rows, region_at}
 use Rattle.lasting_state.specs.Tables.{TablesState, lasting_of, enqueued}
 use Rattle.tm_machine.specs.declared.region.Busy.{Busy}
-use Rattle.tm_machine.specs.Parts.{slots_of, settings_of, flags_of, IsTold, AreParts, AreDatabases}
+use Rattle.tm_machine.specs.Parts.{slots_of, settings_of, flags_of, IsTold, AreParts}
 use Rattle.tm_machine.proofs.Free.{count_added, or_none}
 use Rattle.tm_machine.proofs.Leaving.{moment_is, moment_stays}
 use Rattle.tm_machine.proofs.Linked.{new_told, new_free, new_at_work}
@@ -42,6 +43,31 @@ none_slots (suc n) = ap (λ ss. None ∷ ss) (none_slots n)
 none_length : (n : ℕ) → length (replicate {A = Option Busy} n None) ≡ n
 none_length zero = refl
 none_length (suc n) = ap suc (none_length n)
+
+rows_length : (n : ℕ) (rows : RegionRows) → length (replicate n rows) ≡ n
+rows_length zero rows = refl
+rows_length (suc n) rows = ap suc (rows_length n rows)
+
+below_none : (n place : ℕ) → ◌≡◌ {A = Option (Option Busy)} (slice_get (replicate n None) place) (Some None) → place < n
+below_none zero place e = cc
+below_none (suc n) zero e = omega arith
+below_none (suc n) (suc place) e = let rest = below_none n place e in omega (arith, rest)
+
+get_rows : (n place : ℕ) (rows d : RegionRows) → place < n → get_or (replicate n rows) place d ≡ rows
+get_rows zero place rows d h = absurd (omega (arith, h))
+get_rows (suc n) zero rows d h = refl
+get_rows (suc n) (suc place) rows d h = get_rows n place rows d (omega (arith, h))
+
+-- a region of a fresh control region has changed nothing
+clean_first : (databases : DatabasesState) (n place : ℕ) → databases.regions ≡ replicate n (clean_region (committed_rows databases)) → place < n → IsClean (place + 1) databases
+clean_first databases n place e below = record { sees = ap (λ r. r.rows) here; changed = ap (λ r. r.changed) here }
+  where
+    same : place + 1 - 1 ≡ place
+    same = omega arith
+
+    here : region_at (place + 1) databases ≡ clean_region (committed_rows databases)
+    here = ap (λ (p : ℕ). get_or databases.regions p no_rows) same ∙ ap (λ (rs : List RegionRows). get_or rs place no_rows) e
+        ∙ get_rows n place (clean_region (committed_rows databases)) no_rows below
 
 states_length : (all : List Code) → length (map codes.first_state all) ≡ length all
 states_length [] = refl
@@ -66,9 +92,10 @@ fresh_names (name ∷ terminals) = ap (λ ns. name ∷ ns) (fresh_names terminal
 pub parts_start : (system : System) (tables : TablesState) (states : List CodeState) (regions : List (Option Busy))
     → IsSystem system → tables.queues ≡ record { limit = system.qbytes; queued = [] } → lasting_of (map first_setting system.codes) tables ≡ empty_state system
     → regions ≡ replicate (length system.regions) None → states ≡ map codes.first_state system.codes
-    → AreDatabases system tables.databases → IsClean tables.databases
+    → dbds_of tables.databases ≡ system.databases → tables.databases.regions ≡ replicate (length system.regions) (clean_region (committed_rows tables.databases))
+    → tables.databases.table ≡ empty_table (length system.regions) → AreRowsOf (dbds_of tables.databases) (committed_rows tables.databases)
     → AreParts system tables states regions
-parts_start system tables states regions valid queues lasting empty first databases clean = record {
+parts_start system tables states regions valid queues lasting empty first dbds clean table rows = record {
   valid = valid;
   limit = ap (λ q. q.limit) queues;
   names = ap (λ l. map (λ t. t.name) l.terminals) lasting ∙ fresh_names system.terminals;
@@ -77,18 +104,23 @@ parts_start system tables states regions valid queues lasting empty first databa
   settled = rw first (rw (ap (λ q. q.queued) queues) (rw (first_flags system.codes) (none_raised system.codes)));
   told = rw (ap (λ q. q.queued) queues) tt;
   at_work = λ place busy e. absurd (none_busy (length system.regions) place busy (sym (ap (λ rs. slice_get rs place) empty) ∙ e));
-  databases = databases;
-  alone = ⊎_elim (λ h. inl (h, clean)) (λ h. inr (h, λ place e. clean)) valid.one_region;
+  databases = record { stores = dbds; rows = rows; regions = ap length clean ∙ rows_length (length system.regions) (clean_region (committed_rows tables.databases)); table = ap (λ t. t.regions) table };
+  idle = λ place e. record {
+    clean = clean_first tables.databases (length system.regions) place clean (below_none (length system.regions) place (sym (ap (λ rs. slice_get rs place) empty) ∙ e));
+    waits = ap (wait_of (place + 1)) table;
+  };
 }
 
 pub moment_start : (system : System) (tables : TablesState) (states : List CodeState) (regions : List (Option Busy)) → AreParts system tables states regions
     → lasting_of (map first_setting system.codes) tables ≡ empty_state system → regions ≡ replicate (length system.regions) None → states ≡ map codes.first_state system.codes
-    → record { lasting = lasting_of (settings_of states) tables; slots = slots_of regions; raised = flags_of states } ≡ start_of system (empty_state system)
-moment_start system tables states regions parts lasting empty first =
+    → tables.databases.table ≡ empty_table (length system.regions)
+    → record { lasting = lasting_of (settings_of states) tables; slots = slots_of regions; enqueues = tables.databases.table; raised = flags_of states } ≡ start_of system (empty_state system)
+moment_start system tables states regions parts lasting empty first table =
     moment_stays system tables states regions parts
-    ∙ ap (λ l. moment_with system l (slots_of regions) (flags_of states)) (ap (λ ss. lasting_of ss tables) (ap settings_of first ∙ first_settings system.codes) ∙ lasting)
-    ∙ ap (λ ss. moment_with system (empty_state system) ss (flags_of states)) (ap slots_of empty ∙ none_slots (length system.regions))
-    ∙ ap (moment_with system (empty_state system) (replicate (length system.regions) None)) (ap flags_of first ∙ first_flags system.codes)
+    ∙ ap (λ l. moment_with system l (slots_of regions) tables.databases.table (flags_of states)) (ap (λ ss. lasting_of ss tables) (ap settings_of first ∙ first_settings system.codes) ∙ lasting)
+    ∙ ap (λ ss. moment_with system (empty_state system) ss tables.databases.table (flags_of states)) (ap slots_of empty ∙ none_slots (length system.regions))
+    ∙ ap (λ t. moment_with system (empty_state system) (replicate (length system.regions) None) t (flags_of states)) table
+    ∙ ap (moment_with system (empty_state system) (replicate (length system.regions) None) (empty_table (length system.regions))) (ap flags_of first ∙ first_flags system.codes)
 
 -- ---- an input comes
 names_kept : (terminals : List TerminalState) (place : Option ℕ) (number : ℕ) → map (λ t. t.name) (change_at terminals place (with_last number)) ≡ map (λ t. t.name) terminals
@@ -132,25 +164,25 @@ module _ (system : System) (tables : TablesState) (states : List CodeState) (reg
     told = told_after;
     at_work = rw is (new_at_work system tables.databases tables.queues.queued regions message_of parts.at_work);
     databases = rw is parts.databases;
-    alone = rw is parts.alone;
+    idle = rw is parts.idle;
   }
 
   pub moment_enqueued : (states' : List CodeState) (id : ℕ) → IsFollowed system (λ n. free_count n tables'.queues.queued) states states'
       → lasting_of (settings_of states) tables' ≡ applied (Accepts terminal number segments) (lasting_of (settings_of states) tables)
-      → Ok (New id) ≡ input_answer system (record { lasting = lasting_of (settings_of states) tables; slots = slots_of regions; raised = flags_of states }) terminal number segments
-      → record { lasting = lasting_of (settings_of states') tables'; slots = slots_of regions; raised = flags_of states' }
-      ≡ After system (record { lasting = lasting_of (settings_of states) tables; slots = slots_of regions; raised = flags_of states }) (Input terminal number segments)
+      → Ok (New id) ≡ input_answer system (record { lasting = lasting_of (settings_of states) tables; slots = slots_of regions; enqueues = tables.databases.table; raised = flags_of states }) terminal number segments
+      → record { lasting = lasting_of (settings_of states') tables'; slots = slots_of regions; enqueues = tables'.databases.table; raised = flags_of states' }
+      ≡ After system (record { lasting = lasting_of (settings_of states) tables; slots = slots_of regions; enqueues = tables.databases.table; raised = flags_of states }) (Input terminal number segments) []
   moment_enqueued states' id follows applies answer =
-      moment_is system (applied (Accepts terminal number segments) (lasting_of (settings_of states) tables)) (slots_of regions) tables' states states' regions follows told_after applies refl
-      ∙ ap (λ a. moment_with system (option_map_or (λ s. applied s (lasting_of (settings_of states) tables)) (accepts terminal number segments a) (lasting_of (settings_of states) tables)) (slots_of regions) (flags_of states)) answer
+      moment_is system (applied (Accepts terminal number segments) (lasting_of (settings_of states) tables)) (slots_of regions) tables' states states' regions tables.databases.table follows told_after applies refl (ap (λ t. t.databases.table) is)
+      ∙ ap (λ a. moment_with system (option_map_or (λ s. applied s (lasting_of (settings_of states) tables)) (accepts terminal number segments a) (lasting_of (settings_of states) tables)) (slots_of regions) tables.databases.table (flags_of states)) answer
 
 -- an input that isn't new leaves the moment
 pub moment_refused : (system : System) (tables : TablesState) (states : List CodeState) (regions : List (Option Busy)) (terminal : List ℕ) (number : ℕ) (segments : List (List ℕ))
     (answer : Result Taken InputRefused) → AreParts system tables states regions → accepts terminal number segments answer ≡ None
-    → answer ≡ input_answer system (record { lasting = lasting_of (settings_of states) tables; slots = slots_of regions; raised = flags_of states }) terminal number segments
-    → record { lasting = lasting_of (settings_of states) tables; slots = slots_of regions; raised = flags_of states }
-    ≡ After system (record { lasting = lasting_of (settings_of states) tables; slots = slots_of regions; raised = flags_of states }) (Input terminal number segments)
+    → answer ≡ input_answer system (record { lasting = lasting_of (settings_of states) tables; slots = slots_of regions; enqueues = tables.databases.table; raised = flags_of states }) terminal number segments
+    → record { lasting = lasting_of (settings_of states) tables; slots = slots_of regions; enqueues = tables.databases.table; raised = flags_of states }
+    ≡ After system (record { lasting = lasting_of (settings_of states) tables; slots = slots_of regions; enqueues = tables.databases.table; raised = flags_of states }) (Input terminal number segments) []
 moment_refused system tables states regions terminal number segments answer parts none says =
     moment_stays system tables states regions parts
-    ∙ ap (λ o. moment_with system (option_map_or (λ s. applied s (lasting_of (settings_of states) tables)) o (lasting_of (settings_of states) tables)) (slots_of regions) (flags_of states))
+    ∙ ap (λ o. moment_with system (option_map_or (λ s. applied s (lasting_of (settings_of states) tables)) o (lasting_of (settings_of states) tables)) (slots_of regions) tables.databases.table (flags_of states))
     (sym none ∙ ap (accepts terminal number segments) says)

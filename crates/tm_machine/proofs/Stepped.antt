@@ -1,5 +1,5 @@
 -- A region's script goes on.
-use Rattle.std.proofs.Common.{◌≡◌, ℕ, zero, suc, List, [], ◌∷◌, map, refl, sym, ap, ◌∙◌, subst}
+use Rattle.std.proofs.Common.{◌≡◌, ℕ, zero, suc, ◌+◌, ◌-◌, ◌≤◌, List, [], ◌∷◌, length, refl, sym, ap, ◌∙◌, subst, arith}
 use Rattle.std.specs.Prelude.{Option, Some, None, IsSomeAnd, IfSome, slice_get, slice_set, unwrap_or}
 use Rattle.std.specs.Option.{option_map, option_and_then}
 use Rattle.tm_types.specs.declared.message.Message.{Message}
@@ -10,17 +10,19 @@ use Rattle.model_system.specs.System.{System}
 use Rattle.model_system.specs.Jobs.{Job, job_of}
 use Rattle.model_machine.specs.Trial.{Trial, trial_of}
 use Rattle.model_machine.specs.Machine.{message_at as message_in, Moment, Slot}
-use Rattle.model_machine.specs.Steps.{slot_trial, slot_work, work_by}
+use Rattle.model_machine.specs.Requests.{requests_of}
+use Rattle.model_machine.specs.Work.{slot_trial}
+use Rattle.model_machine.specs.Steps.{slot_work, work_by}
 use Rattle.message_run.specs.declared.run.Advanced.{Advanced}
-use Rattle.message_run.specs.declared.run.Advanced.TheVariants.{Called, Ended}
-use Rattle.message_run.specs.Ahead.{IsAhead, Advances}
-use Rattle.program_rows.specs.State.{DatabasesState, rows_of}
+use Rattle.message_run.specs.declared.run.Advanced.TheVariants.{Called, Ended, Waits}
+use Rattle.message_run.specs.Ahead.{IsAhead, Advances, StayOthers, StaysUnlessCalled}
+use Rattle.program_rows.specs.State.{DatabasesState, dbds_of, rows_of}
 use Rattle.lasting_state.specs.Tables.{TablesState, lasting_of}
 use Rattle.tm_machine.specs.declared.region.Busy.{Busy}
-use Rattle.tm_machine.specs.Region.{IsWork, IsQueuedWork, SameMessage, StepsOn, Steps, SameWork, Stays}
+use Rattle.tm_machine.specs.Region.{IsWork, IsQueuedWork, SameMessage, StepsOn, Steps, SameWork}
 use Rattle.tm_machine.specs.Parts.{slot_of, slots_of, settings_of, flags_of, AreParts}
 use Rattle.tm_machine.proofs.Linked.{step_told, step_at_work, set_length, get_slots}
-use Rattle.tm_machine.proofs.Alone.{others_stay, alone_step}
+use Rattle.tm_machine.proofs.Others.{IsKeptBeside, are_beside, beside_same, beside_step, idle_at_work, own_requests, rows_stay, stay_at_work}
 use Rattle.message_run.specs.RunState.{RunState}
 
 -- what holds of some message holds of each that is found
@@ -29,94 +31,125 @@ found_all P (Some n) h m e = let here : n ≡ m = cc in subst P here h
 found_all P None h m e = cc
 
 -- a region that keeps its message, and whose work is right with these databases
-abbrev pub Keeps : System → TablesState → DatabasesState → Option Busy → Option Busy → Type 0
-Keeps system tables left None new = (new ≡ None) × (left ≡ tables.databases)
-Keeps system tables left (Some old) (Some new) =
-    SameMessage old new × ((message : Message) → message_at old.id tables.queues.queued ≡ Some message → IsWork system left message new)
-Keeps system tables left (Some old) None = ⊥
+abbrev pub Keeps : System → ℕ → TablesState → DatabasesState → Option Busy → Option Busy → Type 0
+Keeps system region tables left None new = (new ≡ None) × (left ≡ tables.databases)
+Keeps system region tables left (Some old) (Some new) =
+    SameMessage old new × ((message : Message) → message_at old.id tables.queues.queued ≡ Some message → IsWork system left region message new)
+    × IsKeptBeside region tables.databases left
+Keeps system region tables left (Some old) None = ⊥
 
-advanced_ahead : (job : Job) (message : Message) (databases left : DatabasesState) (trial : Trial) (old new : RunState) (advanced : Advanced)
-    → Advances job message databases left trial old new advanced → IsAhead job message left new
-advanced_ahead job message databases left trial old new (Called function pcb status) h = h.ahead
-advanced_ahead job message databases left trial old new (Ended ending) h = h.ahead
+advanced_ahead : (job : Job) (message : Message) (region : ℕ) (databases left : DatabasesState) (trial : Trial) (old new : RunState) (advanced : Advanced)
+    → Advances job message region databases left trial old new advanced → IsAhead job message region left new
+advanced_ahead job message region databases left trial old new (Called function pcb status) h = h.ahead
+advanced_ahead job message region databases left trial old new (Ended ending) h = h.ahead
+advanced_ahead job message region databases left trial old new (Waits resource by) h = h.ahead
 
-pub steps_keep : (system : System) (tables : TablesState) (left : DatabasesState) (old new : Option Busy) (advanced : Option Advanced) → Steps system tables left old new advanced → Keeps system tables left old new
-steps_keep system tables left None new None h = h
-steps_keep system tables left None new (Some advanced) h = absurd h
-steps_keep system tables left (Some old) None None h = absurd h
-steps_keep system tables left (Some old) None (Some advanced) h = absurd h
-steps_keep system tables left (Some old) (Some new) None h = absurd h
-steps_keep system tables left (Some old) (Some new) (Some advanced) h =
+advanced_beside : (job : Job) (message : Message) (region : ℕ) (databases left : DatabasesState) (trial : Trial) (old new : RunState) (advanced : Advanced) → 1 ≤ region
+    → StayOthers region databases left → StaysUnlessCalled databases left advanced
+    → Advances job message region databases left trial old new advanced → IsKeptBeside region databases left
+advanced_beside job message region databases left trial old new (Called function pcb status) positive others stays h =
+    beside_step region databases left (requests_of region job trial) positive others (own_requests region job trial) h.free.asked
+advanced_beside job message region databases left trial old new (Ended ending) positive others stays h = beside_same region databases left stays
+advanced_beside job message region databases left trial old new (Waits resource by) positive others stays h =
+    beside_step region databases left (requests_of region job trial) positive others (own_requests region job trial) h.asked
+
+pub steps_keep : (system : System) (region : ℕ) (tables : TablesState) (left : DatabasesState) (old new : Option Busy) (advanced : Option Advanced) → 1 ≤ region
+    → StayOthers region tables.databases left → IfSome advanced (StaysUnlessCalled tables.databases left)
+    → Steps system region tables left old new advanced → Keeps system region tables left old new
+steps_keep system region tables left None new None positive others stays h = h
+steps_keep system region tables left None new (Some advanced) positive others stays h = absurd h
+steps_keep system region tables left (Some old) None None positive others stays h = absurd h
+steps_keep system region tables left (Some old) None (Some advanced) positive others stays h = absurd h
+steps_keep system region tables left (Some old) (Some new) None positive others stays h = absurd h
+steps_keep system region tables left (Some old) (Some new) (Some advanced) positive others stays h =
     by (message_at old.id tables.queues.queued) h
   where
-    work : (message : Message) → StepsOn system tables.databases left message old new advanced → IsWork system left message new
+    work : (message : Message) → StepsOn system region tables.databases left message old new advanced → IsWork system left region message new
     work message s = record {
       job = s.steps.job;
       serves = ap (job_of system) s.same.code ∙ s.steps.serves;
-      unit = rw s.is (advanced_ahead s.steps.job message tables.databases left s.steps.ahead.trial s.before s.after advanced s.steps.advances);
+      unit = rw s.is (advanced_ahead s.steps.job message region tables.databases left s.steps.ahead.trial s.before s.after advanced s.steps.advances);
     }
 
-    by : (found : Option Message) → IsSomeAnd found (λ message. StepsOn system tables.databases left message old new advanced)
-        → SameMessage old new × ((message : Message) → found ≡ Some message → IsWork system left message new)
-    by (Some m) s = (s.same, λ message e. let here : m ≡ message = cc in subst (λ n. IsWork system left n new) here (work m s))
+    by : (found : Option Message) → IsSomeAnd found (λ message. StepsOn system region tables.databases left message old new advanced)
+        → SameMessage old new × ((message : Message) → found ≡ Some message → IsWork system left region message new) × IsKeptBeside region tables.databases left
+    by (Some m) s = (
+      s.same,
+      λ message e. let here : m ≡ message = cc in subst (λ n. IsWork system left region n new) here (work m s),
+      advanced_beside s.steps.job m region tables.databases left s.steps.ahead.trial s.before s.after advanced positive others stays s.steps.advances,
+    )
     by None s = absurd s
 
-pub same_keep : (system : System) (tables : TablesState) (left : DatabasesState) (old new : Option Busy) → left ≡ tables.databases → SameWork system tables old new → Keeps system tables left old new
-same_keep system tables left None new is h = absurd h
-same_keep system tables left (Some old) None is h = absurd h
-same_keep system tables left (Some old) (Some new) is h =
-    (h.0, λ message e. subst (λ d. IsWork system d message new) (sym is) (found_all (λ m. IsWork system tables.databases m new) (message_at new.id tables.queues.queued) h.2 message (ap (λ id. message_at id tables.queues.queued) h.0.id ∙ e)))
+pub same_keep : (system : System) (region : ℕ) (tables : TablesState) (left : DatabasesState) (old new : Option Busy) → left ≡ tables.databases → SameWork system region tables old new → Keeps system region tables left old new
+same_keep system region tables left None new is h = absurd h
+same_keep system region tables left (Some old) None is h = absurd h
+same_keep system region tables left (Some old) (Some new) is h = (
+  h.0,
+  λ message e. subst (λ d. IsWork system d region message new) (sym is) (found_all (λ m. IsWork system tables.databases region m new) (message_at new.id tables.queues.queued) h.2 message (ap (λ id. message_at id tables.queues.queued) h.0.id ∙ e)),
+  beside_same region tables.databases left is,
+)
 
 pub set_same : (regions : List (Option Busy)) (place : ℕ) (old : Option Busy) → slice_get regions place ≡ Some old → slice_set regions place old ≡ regions
 set_same [] place old e = refl
 set_same (r ∷ regions) zero old e = let here : r ≡ old = cc in ap (λ o. o ∷ regions) (sym here)
 set_same (r ∷ regions) (suc place) old e = ap (λ rs. r ∷ rs) (set_same regions place old e)
 
-module _ (system : System) (tables : TablesState) (states : List CodeState) (regions : List (Option Busy)) (place : ℕ)
+module _ (system : System) (tables : TablesState) (states : List CodeState) (regions : List (Option Busy)) (region : ℕ)
     (parts : AreParts system tables states regions) where
-  pub queued_work : (old : Option Busy) → slice_get regions place ≡ Some old → IfSome old (IsQueuedWork system tables)
-  queued_work None e = tt
-  queued_work (Some busy) e =
-      let work = parts.at_work place busy e in
-      rw (ap (option_map (λ q. q.message)) work.found) work.work
+  pub queued_work : 1 ≤ region → (old : Option Busy) → slice_get regions (region - 1) ≡ Some old → IfSome old (IsQueuedWork system tables region)
+  queued_work positive None e = tt
+  queued_work positive (Some busy) e =
+      let work = parts.at_work (region - 1) busy e in
+      let here : region - 1 + 1 ≡ region = omega (arith, positive) in
+      rw (ap (option_map (λ q. q.message)) work.found) (subst (λ n. IsWork system tables.databases n work.message busy) here work.work)
 
-  pub parts_step : (old new : Option Busy) (tables' : TablesState) → slice_get regions place ≡ Some old
-      → tables' ≡ record tables { databases = tables'.databases } → Stays tables.databases tables'.databases → Keeps system tables tables'.databases old new
-      → AreParts system tables' states (slice_set regions place new)
-  parts_step None new tables' e is stays h =
-      rw h.0 (rw (set_same regions place None e) (subst (λ t. AreParts system t states regions) (sym (is ∙ ap (λ d. record tables { databases = d }) h.1)) parts))
-  parts_step (Some old) None tables' e is stays h = absurd h
-  parts_step (Some old) (Some new) tables' e is stays h =
-      subst (λ t. AreParts system t states (slice_set regions place (Some new))) (sym is) (record {
+  pub parts_step : 1 ≤ region → (old new : Option Busy) (tables' : TablesState) → slice_get regions (region - 1) ≡ Some old
+      → tables' ≡ record tables { databases = tables'.databases } → tables'.databases.committed ≡ tables.databases.committed → dbds_of tables'.databases ≡ dbds_of tables.databases → Keeps system region tables tables'.databases old new
+      → AreParts system tables' states (slice_set regions (region - 1) new)
+  parts_step positive None new tables' e is committed dbds h =
+      rw h.0 (rw (set_same regions (region - 1) None e) (subst (λ t. AreParts system t states regions) (sym (is ∙ ap (λ d. record tables { databases = d }) h.1)) parts))
+  parts_step positive (Some old) None tables' e is committed dbds h = absurd h
+  parts_step positive (Some old) (Some new) tables' e is committed dbds h =
+      subst (λ t. AreParts system t states (slice_set regions (region - 1) (Some new))) (sym is) (record {
         valid = parts.valid;
         limit = parts.limit;
         names = parts.names;
-        regions_are = set_length regions place (Some new) ∙ parts.regions_are;
+        regions_are = set_length regions (region - 1) (Some new) ∙ parts.regions_are;
         states_are = parts.states_are;
         settled = parts.settled;
-        told = step_told tables.queues.queued regions place old new e h.0.id parts.told;
-        at_work = step_at_work system tables.databases tables'.databases tables.queues.queued regions place old new e h.0.id h.1
-            (others_stay system tables.databases tables'.databases regions place (Some old) e parts.regions_are
-            (λ none clean. sym (stays.none (parts.databases.stores ∙ none) clean)) parts.alone)
+        told = step_told tables.queues.queued regions (region - 1) old new e h.0.id parts.told;
+        at_work = step_at_work system tables.databases tables'.databases tables.queues.queued regions (region - 1) old new e h.0.id
+            (λ message found. subst (λ n. IsWork system tables'.databases n message new) (sym here) (h.1 message found))
+            (stay_at_work system parts.valid tables.databases tables'.databases regions region h.2 count positive)
             parts.at_work;
-        databases = record { stores = stays.dbds ∙ parts.databases.stores; committed = ap (map (λ s. s.dbd)) stays.committed ∙ parts.databases.committed };
-        alone = alone_step system tables.databases tables'.databases regions place old new e parts.regions_are
-            (λ none clean. sym (stays.none (parts.databases.stores ∙ none) clean)) parts.alone;
+        databases = are_beside system region tables.databases tables'.databases parts.databases h.2 dbds (rows_stay tables.databases tables'.databases committed dbds parts.databases.rows);
+        idle = idle_at_work system parts.valid tables.databases tables'.databases regions region h.2 count positive new parts.idle;
       })
+    where
+      here : region - 1 + 1 ≡ region
+      here = omega (arith, positive)
+
+      count : length tables.databases.regions ≡ length regions
+      count = parts.databases.regions ∙ sym parts.regions_are
 
   abbrev pub moment_at : List (Option Busy) → Moment
-  moment_at rs = record { lasting = lasting_of (settings_of states) tables; slots = slots_of rs; raised = flags_of states }
+  moment_at rs = record { lasting = lasting_of (settings_of states) tables; slots = slots_of rs; enqueues = tables.databases.table; raised = flags_of states }
 
-  pub slot_is : (old : Option Busy) → slice_get regions place ≡ Some old → unwrap_or (slice_get (slots_of regions) place) None ≡ slot_of old
-  slot_is old e = ap (λ s. unwrap_or s None) (get_slots regions place ∙ ap (option_map slot_of) e)
+  pub slot_is : (old : Option Busy) → slice_get regions (region - 1) ≡ Some old → unwrap_or (slice_get (slots_of regions) (region - 1)) None ≡ slot_of old
+  slot_is old e = ap (λ s. unwrap_or s None) (get_slots regions (region - 1) ∙ ap (option_map slot_of) e)
 
   -- what a region's calls give, by its message, and what comes behind them
+  pub trial_is : (slot : Slot) (message : Message) (job : Job) (trial : Trial) → message_at slot.id tables.queues.queued ≡ Some message → job_of system slot.code ≡ Some job
+      → trial_of job (rows_of tables.databases.committed) message slot.calls ≡ Some trial
+      → slot_trial system (lasting_of (settings_of states) tables) slot ≡ Some trial
+  trial_is slot message job trial found serves made =
+      ap (option_and_then (λ j. option_and_then (λ m. trial_of j (rows_of tables.databases.committed) m slot.calls) (message_in (messages_of tables.queues.queued) slot.id))) serves
+      ∙ ap (option_and_then (λ m. trial_of job (rows_of tables.databases.committed) m slot.calls)) (message_found slot.id tables.queues.queued ∙ found)
+      ∙ made
+
   pub work_is : (slot : Slot) (message : Message) (job : Job) (trial : Trial) → message_at slot.id tables.queues.queued ≡ Some message → job_of system slot.code ≡ Some job
       → trial_of job (rows_of tables.databases.committed) message slot.calls ≡ Some trial
       → slot_work system (lasting_of (settings_of states) tables) slot ≡ Some (work_by job (lasting_of (settings_of states) tables) trial)
   work_is slot message job trial found serves made =
       ap (option_and_then (λ j. option_and_then (λ t. Some (work_by j (lasting_of (settings_of states) tables) t)) (slot_trial system (lasting_of (settings_of states) tables) slot))) serves
-      ∙ ap (option_and_then (λ t. Some (work_by job (lasting_of (settings_of states) tables) t)))
-      (ap (option_and_then (λ j. option_and_then (λ m. trial_of j (rows_of tables.databases.committed) m slot.calls) (message_in (messages_of tables.queues.queued) slot.id))) serves
-      ∙ ap (option_and_then (λ m. trial_of job (rows_of tables.databases.committed) m slot.calls)) (message_found slot.id tables.queues.queued ∙ found)
-      ∙ made)
+      ∙ ap (option_and_then (λ t. Some (work_by job (lasting_of (settings_of states) tables) t))) (trial_is slot message job trial found serves made)

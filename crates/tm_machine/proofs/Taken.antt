@@ -25,38 +25,38 @@ some_same : (a b : Job) → Some a ≡ Some b → a ≡ b
 some_same a b e = cc
 
 -- what goes on by the job that is lent goes on by the code's
-pub goes_so : {E : Type 0} (system : System) (code : List ℕ) (lent : Lent) (before after : DatabasesState) (old new : RunState) (made : Result Advanced E)
-    → job_of system code ≡ Some (lent_job system lent) → IfOk made (GoesOn (lent_job system lent) before after old new) → IfOk made (GoesSo system code before after old new)
-goes_so system code lent before after old new (Ok advanced) e h = λ message job serves ahead. record {
+pub goes_so : {E : Type 0} (system : System) (region : ℕ) (code : List ℕ) (lent : Lent) (before after : DatabasesState) (old new : RunState) (made : Result Advanced E)
+    → job_of system code ≡ Some (lent_job system lent) → IfOk made (GoesOn (lent_job system lent) region before after old new) → IfOk made (GoesSo system region code before after old new)
+goes_so system region code lent before after old new (Ok advanced) e h = λ message job serves ahead. record {
   job = job;
   serves = serves;
   ahead = ahead;
-  advances = subst (λ j. GoesOn j before after old new advanced) (some_same (lent_job system lent) job (sym e ∙ serves)) h message ahead;
+  advances = subst (λ j. GoesOn j region before after old new advanced) (some_same (lent_job system lent) job (sym e ∙ serves)) h message ahead;
 }
-goes_so system code lent before after old new (Err error) e h = tt
+goes_so system region code lent before after old new (Err error) e h = tt
 
 -- a work that was taken out made a step
-pub steps_from : (system : System) (tables : TablesState) (left databases : DatabasesState) (old middle new : Busy) (before after : RunState) (advanced : Advanced) → IsTaken system tables old before
-    → middle ≡ record old { unit = None } → databases ≡ tables.databases → GoesSo system middle.code databases left before after advanced → new ≡ record middle { unit = Some after }
-    → Steps system tables left (Some old) (Some new) (Some advanced)
-steps_from system tables left databases old middle new before after advanced taken out same goes is =
+pub steps_from : (system : System) (region : ℕ) (tables : TablesState) (left databases : DatabasesState) (old middle new : Busy) (before after : RunState) (advanced : Advanced) → IsTaken system tables region old before
+    → middle ≡ record old { unit = None } → databases ≡ tables.databases → GoesSo system region middle.code databases left before after advanced → new ≡ record middle { unit = Some after }
+    → Steps system region tables left (Some old) (Some new) (Some advanced)
+steps_from system region tables left databases old middle new before after advanced taken out same goes is =
     by (message_at old.id tables.queues.queued) taken
   where
     new_is : new ≡ record old { unit = Some after }
     new_is = is ∙ ap (λ (b : Busy). record b { unit = Some after }) out
 
-    one : (message : Message) → IsTakenOn system tables.databases message old before → StepsOn system tables.databases left message old new advanced
+    one : (message : Message) → IsTakenOn system tables.databases region message old before → StepsOn system region tables.databases left message old new advanced
     one message t = record {
       same = record { code = ap (λ b. b.code) new_is; taken = ap (λ b. b.taken) new_is; id = ap (λ b. b.id) new_is };
       before = before;
       calls = t.calls;
       after = after;
       is = ap (λ b. b.unit) new_is;
-      steps = subst (λ d. GoesSo system old.code d left before after advanced) same (subst (λ c. GoesSo system c databases left before after advanced) (ap (λ b. b.code) out) goes)
+      steps = subst (λ d. GoesSo system region old.code d left before after advanced) same (subst (λ c. GoesSo system region c databases left before after advanced) (ap (λ b. b.code) out) goes)
           message t.job t.serves t.ahead;
     }
 
-    by : (found : Option Message) → IsSomeAnd found (λ message. IsTakenOn system tables.databases message old before)
-        → IsSomeAnd found (λ message. StepsOn system tables.databases left message old new advanced)
+    by : (found : Option Message) → IsSomeAnd found (λ message. IsTakenOn system tables.databases region message old before)
+        → IsSomeAnd found (λ message. StepsOn system region tables.databases left message old new advanced)
     by (Some message) t = one message t
     by None t = absurd t

@@ -7,7 +7,8 @@ use Rattle.model_system.specs.declared.code.Code.{Code}
 use Rattle.model_system.specs.declared.code_state.CodeState.{CodeState}
 use Rattle.model_machine.specs.Trial.{WorkEnd}
 use Rattle.model_machine.specs.Trial.Advance.{Stops}
-use Rattle.model_machine.specs.Machine.{slot_at}
+use Rattle.model_machine.specs.Machine.{Slot, slot_at}
+use Rattle.model_machine.specs.Requests.{blocked_now}
 use Rattle.model_machine.specs.Steps.{may_go_on, slot_work}
 use Rattle.lasting_state.specs.Tables.{TablesState, content_of}
 use Rattle.tm_machine.specs.Parts.{PartsState}
@@ -16,10 +17,13 @@ use Rattle.tm_machine.specs.Parts.{PartsState}
 abbrev pub destinations : List EndedMessage → List (List ℕ)
 destinations outputs = map (λ output. output.to) outputs
 
--- a region's work on its message ends so
+-- a region's work on its message ends so, and nothing that it asks for is blocked
+pub record SlotEnds (state : PartsState) (region : ℕ) (end : WorkEnd) (slot : Slot) : Type 0 where
+  pub free : blocked_now state.system state.moment region slot ≡ None
+  pub stops : IsSomeAnd (slot_work state.system state.moment.lasting slot) (λ work. work.advance ≡ Stops end)
+
 abbrev pub EndsSo : PartsState → ℕ → WorkEnd → Type 0
-EndsSo state region end =
-    IsSomeAnd (slot_at state.moment region) (λ slot. IsSomeAnd (slot_work state.system state.moment.lasting slot) (λ work. work.advance ≡ Stops end))
+EndsSo state region end = IsSomeAnd (slot_at state.moment region) (SlotEnds state region end)
 
 -- The message that a region goes on with behind a completion, by its code and the code's state; so
 -- many regions were busy with this one.

@@ -1,5 +1,5 @@
 -- The parts of a control region as its calls see them, and what holds among them.
-use Rattle.std.specs.Prelude.{◌≡◌, ◌⊎◌, ℕ, ◌+◌, ◌≤◌, Bool, Option, Some, None, List, [], length, map, slice_get}
+use Rattle.std.specs.Prelude.{◌≡◌, ℕ, ◌+◌, Bool, Option, Some, None, List, length, map, slice_get}
 use Rattle.std.specs.Option.{is_some}
 use Rattle.std.specs.List.{AllByRecursion}
 use Rattle.tm_types.specs.declared.message.Message.{Message}
@@ -10,7 +10,8 @@ use Rattle.model_system.specs.System.{System}
 use Rattle.model_machine.specs.declared.lasting.CodeSetting.{CodeSetting}
 use Rattle.model_machine.specs.Machine.{Moment, Slot, is_held, setting_of, raised_now}
 use Rattle.system_types.specs.Valid.{IsSystem}
-use Rattle.program_rows.specs.State.{DatabasesState, IsClean, dbds_of}
+use Rattle.model_enqueue.specs.Table.{wait_of}
+use Rattle.program_rows.specs.State.{DatabasesState, AreRowsOf, IsClean, committed_rows, dbds_of}
 use Rattle.lasting_state.specs.Tables.{TablesState}
 use Rattle.tm_machine.specs.declared.region.Busy.{Busy}
 use Rattle.tm_machine.specs.Region.{IsWork, calls_made}
@@ -36,11 +37,11 @@ abbrev pub flags_of : List CodeState → List Bool
 flags_of states = map (λ state. state.raised) states
 
 -- A region works on a message that the queues keep for it. Its work, made from the start on the rows
--- that are committed, leads to what it has, and to the rows that the stores have.
+-- that are committed, leads to what it has, and to the rows that it sees, whatever other regions do.
 pub record IsAtWork (system : System) (databases : DatabasesState) (queued : List Queued) (region : ℕ) (busy : Busy) : Type 0 where
   pub message : Message
   pub found : queued_at busy.id queued ≡ Some (record { message = message; holder = Some region })
-  pub work : IsWork system databases message busy
+  pub work : IsWork system databases region message busy
 
 -- a message has a holder exactly where a slot has it
 abbrev pub IsTold : List (Option Slot) → List Queued → Type 0
@@ -51,17 +52,20 @@ abbrev pub AreAtWork : System → DatabasesState → List Queued → List (Optio
 AreAtWork system databases queued regions =
     (place : ℕ) (busy : Busy) → slice_get regions place ≡ Some (Some busy) → IsAtWork system databases queued (place + 1) busy
 
--- these are the system's databases, by what is committed and by what the stores have
+-- These are the system's databases, with rows of them, and its regions work on them.
 pub record AreDatabases (system : System) (databases : DatabasesState) : Type 0 where
   pub stores : dbds_of databases ≡ system.databases
-  pub committed : map (λ s. s.dbd) databases.committed ≡ system.databases
+  pub rows : AreRowsOf (dbds_of databases) (committed_rows databases)
+  pub regions : length databases.regions ≡ length system.regions
+  pub table : databases.table.regions ≡ length system.regions
 
--- Where there are databases one region works, and while it is empty nothing is changed in them. Where
--- there are none, nothing ever is.
-abbrev pub IsAlone : System → DatabasesState → List (Option Busy) → Type 0
-IsAlone system databases regions =
-    ((system.databases ≡ []) × IsClean databases)
-    ⊎ ((length system.regions ≤ 1) × ((place : ℕ) → slice_get regions place ≡ Some None → IsClean databases))
+-- a region without a message has changed nothing, and waits for nothing
+pub record IsIdle (region : ℕ) (databases : DatabasesState) : Type 0 where
+  pub clean : IsClean region databases
+  pub waits : wait_of region databases.table ≡ None
+
+abbrev pub AreIdle : DatabasesState → List (Option Busy) → Type 0
+AreIdle databases regions = (place : ℕ) → slice_get regions place ≡ Some None → IsIdle (place + 1) databases
 
 -- The system is valid, and its lists and those of the parts go together. Each flag is as it would follow
 -- on itself now. What holds of the regions and their messages is above.
@@ -75,4 +79,4 @@ pub record AreParts (system : System) (tables : TablesState) (states : List Code
   pub told : IsTold (slots_of regions) tables.queues.queued
   pub at_work : AreAtWork system tables.databases tables.queues.queued regions
   pub databases : AreDatabases system tables.databases
-  pub alone : IsAlone system tables.databases regions
+  pub idle : AreIdle tables.databases regions

@@ -5,4 +5,9 @@ use Rattle.tm_machine.specs.declared.parts.Parts.TheInside.{Inside}
 use Rattle.tm_machine.specs.Parts.{slots_of, settings_of, flags_of}
 
 abbrev pub moment_of : Inside → Moment
-moment_of p = record { lasting = lasting_of (settings_of p.codes) p.tables; slots = slots_of p.regions.items; raised = flags_of p.codes }
+moment_of p = record {
+  lasting = lasting_of (settings_of p.codes) p.tables;
+  slots = slots_of p.regions.items;
+  enqueues = p.tables.databases.table;
+  raised = flags_of p.codes;
+}

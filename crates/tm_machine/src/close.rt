@@ -1,10 +1,11 @@
 //! The end of a region's work on a message.
 ghost use Rattle.std.specs.Prelude.{◌≡◌, ◌≤◌, ◌-◌, ◌∷◌, None, Some, length, slice_get, slice_set, IfOk, OnOk, OnErr, IsSome, IsSomeAnd};
-ghost use Rattle.model_queues.specs.Queue.{IsNewId, queued_at};
+ghost use Rattle.model_queues.specs.Queue.{AreInOrder, IsNewId, message_at, queued_at};
 ghost use Rattle.model_machine.specs.Lasting.{abend_outputs};
 ghost use Rattle.model_machine.specs.Lasting.LastingStep.{Completes, Discards};
-ghost use Rattle.program_rows.specs.State.{rows_of};
-ghost use Rattle.lasting_state.specs.Tables.{committed_databases, backed_databases, Applies, IsClosed};
+ghost use Rattle.program_rows.specs.State.{committed_rows, dbds_of, region_at, AreRowsOf, IsRegionOf};
+ghost use Rattle.program_rows.specs.Answering.{IsCommitted, IsGivenUp};
+ghost use Rattle.lasting_state.specs.Tables.{given_back, with_databases, Applies, IsClosed};
 ghost use Rattle.tm_machine.specs.Ends.{destinations};
 
 use crate::region::Busy;
@@ -40,15 +41,19 @@ pub fn complete(
 ) -> Result<(), Memory>
     requires positive { 1 ≤ region }
     requires defined { region ≤ length regions.old.items }
+    requires works { IsRegionOf tables.old.databases region }
     requires found { IsSome (queued_at id tables.old.queues.queued) }
     ensures regions { OnOk result (regions.new.items ≡ slice_set regions.old.items (region - 1) None) }
-    ensures step { OnOk result (Applies (Completes id (rows_of tables.old.databases.stores) outputs.items) tables.old tables.new) }
-    ensures closed { OnOk result (IsClosed (committed_databases tables.old.databases) (λ _. outputs.items) tables.old tables.new id) }
+    ensures step { OnOk result (Applies (Completes id (region_at region tables.old.databases).rows outputs.items) tables.old tables.new) }
+    ensures closed { OnOk result (IsClosed tables.new.databases (λ _. outputs.items) tables.old tables.new id) }
+    ensures databases { OnOk result (IsCommitted region tables.old.databases tables.new.databases) }
+    ensures rows { OnOk result (AreRowsOf (dbds_of tables.new.databases) (committed_rows tables.new.databases)) }
+    ensures dbds { dbds_of tables.new.databases ≡ dbds_of tables.old.databases }
     ensures same { OnErr result (regions.new ≡ regions.old) }
     ensures err { OnErr result (tables.new ≡ tables.old) }
     ensures above { IsNewId tables.old.next_id tables.old.queues.queued }
 {
-    match tables.complete(id, outputs) {
+    match tables.complete(region, id, outputs) {
         Ok(()) => {
             empty(&mut regions[region as usize - 1]);
             Ok(())
@@ -69,15 +74,18 @@ pub fn discard(
 ) -> Result<(), Memory>
     requires positive { 1 ≤ region }
     requires defined { region ≤ length regions.old.items }
+    requires works { IsRegionOf tables.old.databases region }
     requires found { IsSome (queued_at id tables.old.queues.queued) }
     ensures regions { OnOk result (regions.new.items ≡ slice_set regions.old.items (region - 1) None) }
     ensures step { OnOk result (Applies (Discards id abend) tables.old tables.new) }
-    ensures closed { OnOk result (IsClosed (backed_databases tables.old.databases) (λ message. abend_outputs message abend) tables.old tables.new id) }
+    ensures closed { OnOk result (IsClosed tables.new.databases (λ message. abend_outputs message abend) tables.old tables.new id) }
+    ensures databases { OnOk result (IsGivenUp region tables.old.databases tables.new.databases) }
+    ensures dbds { dbds_of tables.new.databases ≡ dbds_of tables.old.databases }
     ensures same { OnErr result (regions.new ≡ regions.old) }
     ensures err { OnErr result (tables.new ≡ tables.old) }
     ensures above { IsNewId tables.old.next_id tables.old.queues.queued }
 {
-    match tables.discard(alloc, id, abend) {
+    match tables.discard(alloc, region, id, abend) {
         Ok(()) => {
             empty(&mut regions[region as usize - 1]);
             Ok(())
@@ -86,10 +94,37 @@ pub fn discard(
     }
 }
 
+/// Takes the message of this id back from its region, which gives way. This takes no memory.
+pub fn give_up(regions: &mut Vec<Option<Busy>>, region: u32, tables: &mut Tables, id: u64)
+    requires positive { 1 ≤ region }
+    requires defined { region ≤ length regions.old.items }
+    requires works { IsRegionOf tables.old.databases region }
+    requires held { IsSomeAnd (queued_at id tables.old.queues.queued) (λ q. IsSome q.holder) }
+    ensures regions { regions.new.items ≡ slice_set regions.old.items (region - 1) None }
+    ensures tables { tables.new ≡ with_databases (given_back tables.old id) tables.new.databases }
+    ensures databases { IsGivenUp region tables.old.databases tables.new.databases }
+    ensures dbds { dbds_of tables.new.databases ≡ dbds_of tables.old.databases }
+    ensures ordered { AreInOrder tables.old.queues.queued }
+{
+    tables.give_up(region, id);
+    empty(&mut regions[region as usize - 1]);
+}
+
 fn empty(region: &mut Option<Busy>)
     ensures { region.new ≡ None }
 {
     *region = None;
+}
+
+/// The code of the message of this id.
+pub fn code_of(tables: &Tables, id: u64) -> Name
+    requires { IsSome (message_at id tables.now.queues.queued) }
+    ensures { IsSomeAnd (message_at id tables.now.queues.queued) (λ message. result ≡ message.code) }
+{
+    let Some(message) = tables.queues().find(id) else {
+        unreachable!()
+    };
+    message.code
 }
 
 /// The work of the region of this number.

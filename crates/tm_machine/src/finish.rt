@@ -1,12 +1,11 @@
 //! How a region's work on a message ends.
 ghost use Rattle.std.specs.Prelude.{◌≡◌, IfOk, OnOk, OnErr, IsSome, IsSomeAnd};
 ghost use Rattle.model_queues.specs.Queue.{message_at};
-ghost use Rattle.model_machine.specs.declared.entry.ControlCall.TheVariants.{Turn};
 ghost use Rattle.model_machine.specs.Machine.{IsRegion};
 ghost use Rattle.model_machine.specs.Trial.WorkEnd.{Ends, Syncs, Abends};
-ghost use Rattle.model_machine.specs.Steps.{turn_answer, After};
 ghost use Rattle.message_run.specs.Ahead.{end_of};
 ghost use Rattle.tm_machine.specs.Ends.{EndsSo};
+ghost use Rattle.tm_machine.specs.Turns.{IsTurned};
 
 use crate::close::{busy_at, complete, discard, names_moved};
 use crate::flags::{follow, follow_all};
@@ -24,9 +23,7 @@ impl Parts {
     pub fn finish(&mut self, region: u32, ending: Ending) -> Result<Turned, Memory>
         requires region { IsRegion self.old.system region }
         requires ends { EndsSo self.old region (end_of ending) }
-        ensures answer { IfOk result (λ turned. turned ≡ turn_answer self.old.system self.old.moment region) }
-        ensures after { OnOk result (self.new.moment ≡ After self.old.system self.old.moment (Turn region)) }
-        ensures system { self.new.system ≡ self.old.system }
+        ensures turned { IfOk result (IsTurned self.old self.new region) }
         ensures err { OnErr result (self.new ≡ self.old) }
     {
         match ending {
@@ -40,9 +37,7 @@ impl Parts {
     fn complete(&mut self, region: u32) -> Result<Turned, Memory>
         requires region { IsRegion self.old.system region }
         requires ends { EndsSo self.old region Ends }
-        ensures answer { IfOk result (λ turned. turned ≡ turn_answer self.old.system self.old.moment region) }
-        ensures after { OnOk result (self.new.moment ≡ After self.old.system self.old.moment (Turn region)) }
-        ensures system { self.new.system ≡ self.old.system }
+        ensures turned { IfOk result (IsTurned self.old self.new region) }
         ensures err { OnErr result (self.new ≡ self.old) }
     {
         let busy = busy_at(&self.regions, region);
@@ -66,9 +61,7 @@ impl Parts {
     fn go_on(&mut self, region: u32) -> Result<Turned, Memory>
         requires region { IsRegion self.old.system region }
         requires ends { EndsSo self.old region Syncs }
-        ensures answer { IfOk result (λ turned. turned ≡ turn_answer self.old.system self.old.moment region) }
-        ensures after { OnOk result (self.new.moment ≡ After self.old.system self.old.moment (Turn region)) }
-        ensures system { self.new.system ≡ self.old.system }
+        ensures turned { IfOk result (IsTurned self.old self.new region) }
         ensures err { OnErr result (self.new ≡ self.old) }
     {
         let busy = busy_at(&self.regions, region);
@@ -108,9 +101,7 @@ impl Parts {
     fn abend(&mut self, region: u32, abend: AbendCode) -> Result<Turned, Memory>
         requires region { IsRegion self.old.system region }
         requires ends { EndsSo self.old region (Abends abend) }
-        ensures answer { IfOk result (λ turned. turned ≡ turn_answer self.old.system self.old.moment region) }
-        ensures after { OnOk result (self.new.moment ≡ After self.old.system self.old.moment (Turn region)) }
-        ensures system { self.new.system ≡ self.old.system }
+        ensures turned { IfOk result (IsTurned self.old self.new region) }
         ensures err { OnErr result (self.new ≡ self.old) }
     {
         let busy = busy_at(&self.regions, region);

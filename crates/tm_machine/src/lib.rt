@@ -19,3 +19,4 @@ mod parts;
 mod quiet;
 mod region;
 mod turn;
+mod victims;

@@ -5,10 +5,10 @@ ghost use Rattle.model_system.specs.Jobs.{job_of};
 ghost use Rattle.system_types.specs.Jobs.{lent_job};
 ghost use Rattle.system_types.specs.Valid.{IsServable};
 ghost use Rattle.lasting_state.specs.Tables.{held};
-ghost use Rattle.program_rows.specs.State.{dbds_of};
+ghost use Rattle.program_rows.specs.State.{dbds_of, IsRegionOf};
 ghost use Rattle.message_run.specs.RunState.{AreStanding};
-ghost use Rattle.message_run.specs.Ahead.{IsStart, StaysAhead};
-ghost use Rattle.tm_machine.specs.Region.{IsQueuedWork, IsTaken, GoesSo, Steps, SameWork, Stays, outputs_by};
+ghost use Rattle.message_run.specs.Ahead.{IsStart, StaysAhead, StaysUnlessCalled, StayOthers};
+ghost use Rattle.tm_machine.specs.Region.{IsQueuedWork, IsTaken, GoesSo, Steps, SameWork, outputs_by};
 
 use lasting_state::Tables;
 use message_run::{Advanced, Run};
@@ -57,12 +57,13 @@ fn start_unit(alloc: Global, system: &System, code: &Name, message: &Message) ->
 fn take_unit(
     alloc: Global,
     system: &System,
+    _region: u32,
     tables: &Tables,
     busy: &mut Busy,
 ) -> Result<Run, Memory>
-    requires work { IsQueuedWork system.now tables.now busy.old }
+    requires work { IsQueuedWork system.now tables.now _region busy.old }
     requires databases { dbds_of tables.now.databases ≡ system.now.databases }
-    ensures ahead { IfOk result (IsTaken system.now tables.now busy.old) }
+    ensures ahead { IfOk result (IsTaken system.now tables.now _region busy.old) }
     ensures taken { OnOk result (busy.new ≡ record busy.old { unit = None }) }
     ensures err { OnErr result (busy.new ≡ busy.old) }
 {
@@ -81,42 +82,54 @@ fn take_unit(
 /// as far as before.
 fn advance_unit(
     system: &System,
+    region: u32,
     code: &Name,
     databases: &mut Databases,
     unit: &mut Run,
 ) -> Result<Advanced, Memory>
+    requires region { IsRegionOf databases.old region }
     requires databases { dbds_of databases.old ≡ system.now.databases }
     requires code { IsSomeAnd (job_of system.now code.now) (λ job. AreStanding system.now.databases job.pcbs unit.old.positions) }
-    ensures advances { IfOk result (GoesSo system.now code.now databases.old databases.new unit.old unit.new) }
+    ensures advances { IfOk result (GoesSo system.now region code.now databases.old databases.new unit.old unit.new) }
+    ensures stays { IfOk result (StaysUnlessCalled databases.old databases.new) }
     ensures calls { OnErr result (unit.new.calls ≡ unit.old.calls) }
-    ensures ahead { OnErr result (IsSomeAnd (job_of system.now code.now) (λ job. StaysAhead job databases.old unit.old unit.new)) }
+    ensures ahead { OnErr result (IsSomeAnd (job_of system.now code.now) (λ job. StaysAhead job region databases.old unit.old unit.new)) }
     ensures kept { OnErr result (databases.new ≡ databases.old) }
-    ensures stays { Stays databases.old databases.new }
+    ensures others { StayOthers region databases.old databases.new }
 {
     let job = job_of(system, code);
-    unit.advance(system, &job, databases)
+    unit.advance(system, &job, region, databases)
 }
 
 /// Lets the script of a region that has a message go on, as `advance`.
 fn advance_busy(
     alloc: Global,
     system: &System,
+    region: u32,
     tables: &mut Tables,
     busy: &mut Busy,
 ) -> Result<Advanced, Memory>
-    requires work { IsQueuedWork system.now tables.old busy.old }
+    requires region { IsRegionOf tables.old.databases region }
+    requires work { IsQueuedWork system.now tables.old region busy.old }
     requires databases { dbds_of tables.old.databases ≡ system.now.databases }
-    ensures steps { IfOk result (λ advanced. Steps system.now tables.old tables.new.databases (Some busy.old) (Some busy.new) (Some advanced)) }
+    ensures steps { IfOk result (λ advanced. Steps system.now region tables.old tables.new.databases (Some busy.old) (Some busy.new) (Some advanced)) }
     ensures tables { tables.new ≡ record tables.old { databases = tables.new.databases } }
-    ensures stays { Stays tables.old.databases tables.new.databases }
-    ensures err { OnErr result (SameWork system.now tables.old (Some busy.old) (Some busy.new)) }
+    ensures stays { IfOk result (StaysUnlessCalled tables.old.databases tables.new.databases) }
+    ensures others { StayOthers region tables.old.databases tables.new.databases }
+    ensures err { OnErr result (SameWork system.now region tables.old (Some busy.old) (Some busy.new)) }
     ensures kept { OnErr result (tables.new ≡ tables.old) }
 {
-    let mut unit = match take_unit(alloc, system, tables, busy) {
+    let mut unit = match take_unit(alloc, system, region, tables, busy) {
         Ok(unit) => unit,
         Err(error) => return Err(error),
     };
-    let advanced = advance_unit(system, &busy.code, tables.databases_mut(), &mut unit);
+    let advanced = advance_unit(
+        system,
+        region,
+        &busy.code,
+        tables.databases_mut(),
+        &mut unit,
+    );
     busy.unit = Some(unit);
     advanced
 }
@@ -126,21 +139,24 @@ fn advance_busy(
 pub fn advance(
     alloc: Global,
     system: &System,
+    region: u32,
     tables: &mut Tables,
-    region: &mut Option<Busy>,
+    work: &mut Option<Busy>,
 ) -> Result<Option<Advanced>, Memory>
-    requires work { IfSome region.old (IsQueuedWork system.now tables.old) }
+    requires region { IsRegionOf tables.old.databases region }
+    requires work { IfSome work.old (IsQueuedWork system.now tables.old region) }
     requires databases { dbds_of tables.old.databases ≡ system.now.databases }
-    ensures steps { IfOk result (Steps system.now tables.old tables.new.databases region.old region.new) }
+    ensures steps { IfOk result (Steps system.now region tables.old tables.new.databases work.old work.new) }
     ensures tables { tables.new ≡ record tables.old { databases = tables.new.databases } }
-    ensures stays { Stays tables.old.databases tables.new.databases }
-    ensures err { OnErr result (SameWork system.now tables.old region.old region.new) }
+    ensures stays { IfOk result (λ advanced. IfSome advanced (StaysUnlessCalled tables.old.databases tables.new.databases)) }
+    ensures others { StayOthers region tables.old.databases tables.new.databases }
+    ensures err { OnErr result (SameWork system.now region tables.old work.old work.new) }
     ensures kept { OnErr result (tables.new ≡ tables.old) }
 {
-    let Some(busy) = region else {
+    let Some(busy) = work else {
         return Ok(None);
     };
-    match advance_busy(alloc, system, tables, busy) {
+    match advance_busy(alloc, system, region, tables, busy) {
         Ok(advanced) => Ok(Some(advanced)),
         Err(error) => Err(error),
     }

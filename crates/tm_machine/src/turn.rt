@@ -1,19 +1,19 @@
 //! The turns of the regions.
-ghost use Rattle.std.specs.Prelude.{◌≡◌, IfOk, OnOk, OnErr, None};
+ghost use Rattle.std.specs.Prelude.{◌≡◌, IfOk, OnErr, None};
 ghost use Rattle.model_machine.specs.declared.entry.Entry.TheVariants.{Turn as TurnEntry};
-ghost use Rattle.model_machine.specs.declared.entry.ControlCall.TheVariants.{Turn};
 ghost use Rattle.model_machine.specs.Machine.{IsRegion, slot_at};
-ghost use Rattle.model_machine.specs.Steps.{turn_answer, need_now, After};
+ghost use Rattle.model_machine.specs.Steps.{need_now};
 ghost use Rattle.tm_machine.specs.Answers.{Answers};
-ghost use Rattle.tm_machine.specs.Turns.{Goes};
+ghost use Rattle.tm_machine.specs.Turns.{Goes, IsTurned, waited};
 
 use crate::flags::follow;
 use crate::next::SLOT_ROOM;
 use crate::parts::Parts;
 use crate::region::{Busy, advance, count_busy, take};
 use message_run::Advanced;
+use model_enqueue::Victims;
 use model_machine::{ControlFault, Turned};
-use tm_types::Memory;
+use tm_types::{Memory, Resource};
 use tran_pick::pick;
 
 impl Parts {
@@ -32,9 +32,7 @@ impl Parts {
     /// would pass its limit.
     fn step(&mut self, region: u32) -> Result<Turned, Memory>
         requires { IsRegion self.old.system region }
-        ensures answer { IfOk result (λ turned. turned ≡ turn_answer self.old.system self.old.moment region) }
-        ensures after { OnOk result (self.new.moment ≡ After self.old.system self.old.moment (Turn region)) }
-        ensures system { self.new.system ≡ self.old.system }
+        ensures turned { IfOk result (IsTurned self.old self.new region) }
         ensures err { OnErr result (self.new ≡ self.old) }
     {
         match self.advance(region) {
@@ -43,6 +41,10 @@ impl Parts {
                 Ok(Turned::Called(function, pcb, status))
             }
             Ok(Some(Advanced::Ended(ending))) => self.finish(region, ending),
+            Ok(Some(Advanced::Waits(resource, by))) => {
+                let victims = self.break_rings(region);
+                Ok(waited(resource, by, victims))
+            }
             Err(error) => Err(error),
         }
     }
@@ -57,6 +59,7 @@ impl Parts {
         advance(
             self.alloc,
             &self.system,
+            region,
             &mut self.tables,
             &mut self.regions[region as usize - 1],
         )
@@ -74,9 +77,7 @@ impl Parts {
     fn schedule(&mut self, region: u32) -> Result<Turned, Memory>
         requires region { IsRegion self.old.system region }
         requires empty { slot_at self.old.moment region ≡ None }
-        ensures answer { IfOk result (λ turned. turned ≡ turn_answer self.old.system self.old.moment region) }
-        ensures after { OnOk result (self.new.moment ≡ After self.old.system self.old.moment (Turn region)) }
-        ensures system { self.new.system ≡ self.old.system }
+        ensures turned { IfOk result (IsTurned self.old self.new region) }
         ensures err { OnErr result (self.new ≡ self.old) }
     {
         let Some(picked) = pick(&self.system, region, &self.codes, self.tables.queues()) else {
@@ -98,5 +99,16 @@ impl Parts {
         let waiting = self.tables.queues().waiting(&code);
         follow(&mut self.codes, &self.system, &code, waiting);
         Ok(Turned::Scheduled(code, id))
+    }
+}
+
+/// What a region that waits is answered, where these regions gave way.
+fn waited(resource: Resource, by: u32, victims: Victims) -> Turned
+    ensures { result ≡ waited resource by victims }
+{
+    if victims.as_slice().is_empty() {
+        Turned::Waits(resource, by)
+    } else {
+        Turned::Backed(victims)
     }
 }

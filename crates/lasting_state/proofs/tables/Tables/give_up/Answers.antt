@@ -6,5 +6,5 @@ use Rattle.lasting_state.proofs.tables.Tables.give_up.Goals as goal
 
 pub invariant_of-self : goal.invariant_of-self
 invariant_of-self c =
-    subst (λ qs. IsNewId c.self.inside.next_id qs) (sym (ap (λ q. q.queued) c.give_back.ensures))
+    subst (λ qs. IsNewId c.self.inside.next_id qs) (sym (ap (λ q. q.queued) c.give_back.ensures.value))
     (new_id_held c.self.inside.next_id c.args.id None c.self.inside.queues.queued c.self.invariant)

@@ -4,14 +4,19 @@ use Rattle.std.proofs.lemmas.Option.{slice_get-get_or}
 use Rattle.lasting_state.specs.Tables.{lasting_of}
 use Rattle.tm_machine.specs.Parts.{slots_of, settings_of, flags_of}
 use Rattle.tm_machine.proofs.Stepped.{queued_work, parts_step}
-use Rattle.tm_machine.proofs.Going.{goes_is, same_moment, ok_map, keeps_by, err_map_2}
+use Rattle.tm_machine.proofs.Going.{goes_is, same_moment, ok_both, keeps_by, err_map_2}
 use Rattle.tm_machine.proofs.parts.Parts.advance.Goals as goal
+
+pub advance-requires-clause-region : goal.advance-requires-clause-region
+advance-requires-clause-region c =
+    let region = (rw (← c.self.view_is) at c.requires) in
+    record { least = region.0; most = omega (arith, region.1, c.self.invariant.databases.regions) }
 
 pub advance-requires-clause-work : goal.advance-requires-clause-work
 advance-requires-clause-work c =
     let region = (rw (← c.self.view_is) at c.requires) in
     let within : c.args.region - 1 < length c.self.inside.regions.items = omega (arith, region.0, region.1, c.self.invariant.regions_are) in
-    queued_work c.self.inside.system c.self.inside.tables c.self.inside.codes c.self.inside.regions.items (c.args.region - 1) c.self.invariant
+    queued_work c.self.inside.system c.self.inside.tables c.self.inside.codes c.self.inside.regions.items c.args.region c.self.invariant region.0
     c.index_mut.result.now (slice_get-get_or c.self.inside.regions.items (c.args.region - 1) _ within ∙ ap Some (sym c.index_mut.ensures.value))
 
 pub invariant_of-self : goal.invariant_of-self
@@ -20,10 +25,10 @@ invariant_of-self c =
     let within : c.args.region - 1 < length c.self.inside.regions.items = omega (arith, region.0, region.1, c.self.invariant.regions_are) in
     let get : slice_get c.self.inside.regions.items (c.args.region - 1) ≡ Some c.index_mut.result.now =
     slice_get-get_or c.self.inside.regions.items (c.args.region - 1) _ within ∙ ap Some (sym c.index_mut.ensures.value) in
-    parts_step c.self.inside.system c.self.inside.tables c.self.inside.codes c.self.inside.regions.items (c.args.region - 1) c.self.invariant
-    c.index_mut.result.now c.advance.new.region c.advance.new.tables get c.advance.ensures.tables c.advance.ensures.stays
-    (keeps_by c.self.inside.system c.self.inside.tables c.advance.new.tables c.index_mut.result.now c.advance.new.region c.advance.result
-    c.advance.ensures.steps c.advance.ensures.err c.advance.ensures.kept)
+    parts_step c.self.inside.system c.self.inside.tables c.self.inside.codes c.self.inside.regions.items c.args.region c.self.invariant region.0
+    c.index_mut.result.now c.advance.new.work c.advance.new.tables get c.advance.ensures.tables c.advance.ensures.others.committed c.advance.ensures.others.dbds
+    (keeps_by c.self.inside.system c.args.region c.self.inside.tables c.advance.new.tables c.index_mut.result.now c.advance.new.work c.advance.result
+    region.0 c.advance.ensures.others c.advance.ensures.stays c.advance.ensures.steps c.advance.ensures.err c.advance.ensures.kept)
 
 pub returns-clause-ok : goal.returns-clause-ok
 returns-clause-ok c =
@@ -32,10 +37,10 @@ returns-clause-ok c =
     let get : slice_get c.self.inside.regions.items (c.args.region - 1) ≡ Some c.index_mut.result.now =
     slice_get-get_or c.self.inside.regions.items (c.args.region - 1) _ within ∙ ap Some (sym c.index_mut.ensures.value) in
     rw (sym c.self.view_is)
-    (ok_map _ _ c.advance.result
-    (λ advanced h. goes_is c.self.inside.system c.self.inside.tables c.self.inside.codes c.self.inside.regions.items c.args.region c.self.invariant region
-    c.advance.new.tables c.index_mut.result.now c.advance.new.region advanced get c.advance.ensures.tables c.advance.ensures.stays h)
-    c.advance.ensures.steps)
+    (ok_both _ _ _ c.advance.result
+    (λ advanced h k. goes_is c.self.inside.system c.self.inside.tables c.self.inside.codes c.self.inside.regions.items c.args.region c.self.invariant region
+    c.advance.new.tables c.index_mut.result.now c.advance.new.work advanced get c.advance.ensures.tables c.advance.ensures.others.committed k h)
+    c.advance.ensures.steps c.advance.ensures.stays)
 
 pub returns-clause-err : goal.returns-clause-err
 returns-clause-err c =
@@ -45,8 +50,8 @@ returns-clause-err c =
     slice_get-get_or c.self.inside.regions.items (c.args.region - 1) _ within ∙ ap Some (sym c.index_mut.ensures.value) in
     rw (sym c.self.view_is)
     (err_map_2 c.advance.result
-    (λ h k. ap (λ t. record { system = c.self.inside.system; moment = record { lasting = lasting_of (settings_of c.self.inside.codes) t; slots = slots_of (slice_set c.self.inside.regions.items (c.args.region - 1) c.advance.new.region); raised = flags_of c.self.inside.codes } }) k
-    ∙ ap (λ ss. record { system = c.self.inside.system; moment = record { lasting = lasting_of (settings_of c.self.inside.codes) c.self.inside.tables; slots = ss; raised = flags_of c.self.inside.codes } })
+    (λ h k. ap (λ t. record { system = c.self.inside.system; moment = record { lasting = lasting_of (settings_of c.self.inside.codes) t; slots = slots_of (slice_set c.self.inside.regions.items (c.args.region - 1) c.advance.new.work); enqueues = t.databases.table; raised = flags_of c.self.inside.codes } }) k
+    ∙ ap (λ ss. record { system = c.self.inside.system; moment = record { lasting = lasting_of (settings_of c.self.inside.codes) c.self.inside.tables; slots = ss; enqueues = c.self.inside.tables.databases.table; raised = flags_of c.self.inside.codes } })
     (same_moment c.self.inside.system c.self.inside.tables c.self.inside.codes c.self.inside.regions.items c.args.region c.self.invariant region
-    c.index_mut.result.now c.advance.new.region get h))
+    c.index_mut.result.now c.advance.new.work get h))
     c.advance.ensures.err c.advance.ensures.kept)

@@ -1,4 +1,4 @@
-use Rattle.std.proofs.Common.{replicate, map, sym, ap, ◌∙◌, length}
+use Rattle.std.proofs.Common.{replicate, ap, ◌∙◌, length}
 use Rattle.std.specs.Prelude.{None}
 use Rattle.tm_machine.specs.Parts.{AreParts}
 use Rattle.tm_machine.proofs.Started.{parts_start, moment_start}
@@ -10,8 +10,7 @@ invariant_of-result c =
     c.regions.ensures.valid c.in_ok-tables.ensures.queues c.in_ok-tables.ensures.lasting
     (c.in_ok-regions.ensures ∙ ap (λ rs. replicate (length rs) None) c.regions.ensures.value)
     c.in_ok-codes.ensures
-    (record { stores = c.in_ok-tables.ensures.databases; committed = ap (map (λ s. s.dbd)) (sym c.in_ok-tables.ensures.clean.stores) ∙ c.in_ok-tables.ensures.databases })
-    c.in_ok-tables.ensures.clean
+    c.in_ok-tables.ensures.databases c.in_ok-tables.ensures.regions c.in_ok-tables.ensures.table c.in_ok-tables.ensures.rows
 
 pub returns-clause-moment : goal.returns-clause-moment
 returns-clause-moment c =
@@ -19,7 +18,6 @@ returns-clause-moment c =
     let parts : AreParts c.args.system c.in_ok-tables.tables c.in_ok-codes.codes c.in_ok-regions.regions.items =
     parts_start c.args.system c.in_ok-tables.tables c.in_ok-codes.codes c.in_ok-regions.regions.items
     c.regions.ensures.valid c.in_ok-tables.ensures.queues c.in_ok-tables.ensures.lasting empty c.in_ok-codes.ensures
-    (record { stores = c.in_ok-tables.ensures.databases; committed = ap (map (λ s. s.dbd)) (sym c.in_ok-tables.ensures.clean.stores) ∙ c.in_ok-tables.ensures.databases })
-    c.in_ok-tables.ensures.clean in
+    c.in_ok-tables.ensures.databases c.in_ok-tables.ensures.regions c.in_ok-tables.ensures.table c.in_ok-tables.ensures.rows in
     moment_start c.args.system c.in_ok-tables.tables c.in_ok-codes.codes c.in_ok-regions.regions.items parts
-    c.in_ok-tables.ensures.lasting empty c.in_ok-codes.ensures
+    c.in_ok-tables.ensures.lasting empty c.in_ok-codes.ensures c.in_ok-tables.ensures.table
