@@ -1,10 +1,10 @@
 -- What a line of a format is, and where it may stand.
-use Rattle.std.specs.Prelude.{ℕ, min, Bool, true, false, not, List, Option, Some, None, Result, Ok, Err, if◌then◌else◌}
+use Rattle.std.specs.Prelude.{ℕ, min, Bool, true, false, ◌||◌, not, List, Option, Some, None, Result, Ok, Err, if◌then◌else◌}
 use Rattle.text_rows.specs.Lines.{is_passed_over, printable_line}
 use Rattle.text_rows.specs.Lowest.{also}
 use Rattle.text_rows.specs.Operands.{macro_name, macro_operands}
 use Rattle.mfs_text.specs.declared.kinds.Kind.{Kind}
-use Rattle.mfs_text.specs.declared.kinds.Kind.TheVariants.{End as KindEnd}
+use Rattle.mfs_text.specs.declared.kinds.Kind.TheVariants.{Field as KindField, Message as KindMessage, Segment as KindSegment, MessageField as KindMessageField, End as KindEnd}
 use Rattle.mfs_text.specs.declared.lines.Direction.{Direction}
 use Rattle.mfs_text.specs.declared.lines.Direction.TheVariants.{Input, Output}
 use Rattle.mfs_text.specs.declared.lines.Section.{Section}
@@ -40,10 +40,19 @@ is_allowed before (Segment number) = not (is_in_fields before)
 is_allowed before (MessageField line) = is_in_segment before
 is_allowed before End = true
 
--- Rule 10: the line may stand there.
-unfoldable pub placed : Section → Result FormatLine ℕ → Result FormatLine ℕ
-placed before (Ok line) = if is_allowed before line then Ok line else Err 10
-placed before (Err rule) = Err rule
+-- a macro of this kind may stand there, whatever its operands are
+abbrev pub may_stand : Section → Kind → Bool
+may_stand before KindField = is_in_fields before
+may_stand before KindMessage = may_begin before Input || may_begin before Output
+may_stand before KindSegment = not (is_in_fields before)
+may_stand before KindMessageField = is_in_segment before
+may_stand before KindEnd = true
+
+-- Rule 10: the line may stand there. Where its operands break a rule its kind alone tells, and the lower
+-- rule counts.
+unfoldable pub placed : Section → Kind → Result FormatLine ℕ → Result FormatLine ℕ
+placed before kind (Ok line) = if is_allowed before line then Ok line else Err 10
+placed before kind (Err rule) = Err (if may_stand before kind then rule else min rule 10)
 
 -- what has come behind a line
 abbrev pub section_after : Section → FormatLine → Section
@@ -54,7 +63,7 @@ section_after before _ = before
 -- a macro with its operands, or the lowest rule that its line breaks
 abbrev pub macro_line : Result Kind ℕ → Section → ℕ → List ℕ → Result FormatLine ℕ
 macro_line (Ok kind) before number line =
-    also (also (placed before (row kind number (macro_operands line))) (known kind (macro_operands line))) (printable_line line)
+    also (also (placed before kind (row kind number (macro_operands line))) (known kind (macro_operands line))) (printable_line line)
 macro_line (Err rule) before number line = Err rule
 
 -- the line of this number, or the lowest rule that it breaks

@@ -90,18 +90,34 @@ fn may_begin(section: Section, direction: Direction) -> bool
     }
 }
 
-/// Rule 10 where the line may not stand there.
+/// Whether a macro of this kind may stand there, whatever its operands are.
+fn may_stand(section: Section, kind: Kind) -> bool
+    ensures { result ≡ spec.may_stand section kind }
+{
+    match kind {
+        Kind::Field => is_in_fields(section),
+        Kind::Message => {
+            may_begin(section, Direction::Input) || may_begin(section, Direction::Output)
+        }
+        Kind::Segment => !is_in_fields(section),
+        Kind::MessageField => is_in_segment(section),
+        Kind::End => true,
+    }
+}
+
+/// Rule 10 where the line may not stand there, unless its operands break a lower one.
 #[tactic(auto, unfolding(crate::specs::Lines::placed))]
-fn placed(section: Section, read: Result<FormatLine, u8>) -> Result<FormatLine, u8>
+fn placed(section: Section, kind: Kind, read: Result<FormatLine, u8>) -> Result<FormatLine, u8>
     requires { IfOk read (λ line. IsTrue (is_good line)) }
-    ensures value { result ≡ spec.placed section read }
+    ensures value { result ≡ spec.placed section kind read }
     ensures valid { IfOk result (λ line. IsTrue (is_good line)) }
     ensures allowed { IfOk result (λ line. IsTrue (spec.is_allowed section line)) }
 {
     match read {
         Ok(line) if is_allowed(section, &line) => Ok(line),
         Ok(_) => Err(OUT_OF_PLACE),
-        Err(rule) => Err(rule),
+        Err(rule) if may_stand(section, kind) => Err(rule),
+        Err(rule) => Err(rule.min(OUT_OF_PLACE)),
     }
 }
 
@@ -137,7 +153,7 @@ pub(crate) fn format_line(
         Err(rule) => return Ok(Err(rule)),
     };
     let content = row(alloc, kind, number, &operands)?;
-    let stands = placed(section, content);
+    let stands = placed(section, kind, content);
     Ok(also(also(stands, known(kind, &operands)), printable_line(line)))
 }
 

@@ -466,6 +466,11 @@ fn formats(rt: HostRuntime) -> Result<(), Fail> {
             b"MSG TYPE=INPUT\nSEG\nMFLD LIT='\x01'".as_slice(),
             Fault::Line(5, 11),
         ),
+        (
+            b"MSG TYPE=INPUT\nMFLD LIT='\x01'".as_slice(),
+            Fault::Line(4, 10),
+        ),
+        (b"MFLD LIT='\x01'".as_slice(), Fault::Line(3, 10)),
     ];
     for (text, want) in table {
         let found = fault_behind(rt.alloc(), b"IMSCTRL\nFMT NAME=F\n", text)?;
