@@ -15,14 +15,7 @@ use Rattle.program_rows.proofs.Beside.{was_there, IsIdle, AreRooted, AreOthers, 
 use Rattle.program_rows.proofs.Aside.{was_in_is, can_rooted, cleared_where}
 use Rattle.program_rows.proofs.Together.{AreAllBeside, beside_by, all_by}
 use Rattle.program_rows.proofs.Backed.{IsGood}
-
-left_of : (a b : Bool) → (a && b) ≡ true → a ≡ true
-left_of true b e = refl
-left_of false b e = absurd (false≢true e)
-
-right_of : (a b : Bool) → (a && b) ≡ true → b ≡ true
-right_of true b e = e
-right_of false b e = absurd (false≢true e)
+use Rattle.program_rows.proofs.Bools.{left_of, right_of}
 
 -- the region has a record alone that its unit has changed
 pub holds_changed : (table : EnqueueTable) (region db : ℕ) (root : List ℕ) (records : List Change) → AllByRecursion (λ c. HoldsAlone table region (record { db = c.db; root = Some c.root })) records

@@ -16,6 +16,7 @@ use Rattle.unit_work.specs.BackOut.{is_touched, was_in, cleared_slot, cleared_sl
 use Rattle.program_rows.specs.Open.{slots_at, image_at}
 use Rattle.program_rows.proofs.Slotwise.{back, backed_is, image_at_each, slots_at_length, dbds_each}
 use Rattle.program_rows.proofs.Beside.{was_there, IsIdle, AreRooted, AreBeside, idle_back, idle_stays, touched_is, all_changed}
+use Rattle.program_rows.proofs.Bools.{left_of, right_of}
 
 -- the store of a number, among cleared stores
 at_cleared : (records : List Change) (n i m : ℕ) (stores : List Stored) (s : Stored) → m ≡ n + i → slice_get stores i ≡ Some s
@@ -101,14 +102,6 @@ can_rooted records stores can = are_rooted records records stores can.fits can.s
 -- the slots of a store that is there
 pub slots_there : (db : ℕ) (stores : List Stored) (s : Stored) → slice_get stores (db - 1) ≡ Some s → slots_at db stores ≡ s.slots
 slots_there db stores s e = ap (λ o. option_map_or (λ (x : Stored). x.slots) o []) e
-
-left_of : (a b : Bool) → (a && b) ≡ true → a ≡ true
-left_of true b e = refl
-left_of false b e = absurd (false≢true e)
-
-right_of : (a b : Bool) → (a && b) ≡ true → b ≡ true
-right_of true b e = e
-right_of false b e = absurd (false≢true e)
 
 -- what it takes to have been in a slot
 pub record WasIn (db slot : ℕ) (c : Change) : Type 0 where

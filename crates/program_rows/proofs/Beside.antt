@@ -13,6 +13,7 @@ use Rattle.unit_work.specs.Changes.{is_of, is_changed}
 use Rattle.unit_work.specs.BackOut.{is_touched, was_in, backed_slot, cleared_slot, backed_out}
 use Rattle.program_rows.specs.Open.{slots_at, image_at}
 use Rattle.program_rows.proofs.Slotwise.{back, each_store, backed_is, twice, alike}
+use Rattle.program_rows.proofs.Bools.{or_left, or_right}
 
 -- the record of one of these changes was in the slot
 abbrev pub was_there : List Change → ℕ → ℕ → Bool
@@ -35,14 +36,6 @@ AreOthers a b = (db : ℕ) (root : List ℕ) → is_changed db root a ≡ true �
 abbrev pub AreApartIn : List Stored → List Change → List Change → Type 0
 AreApartIn stores a b =
     (db slot : ℕ) → 1 ≤ db → slot < length (slots_at db stores) → IsIdle a db slot (image_at db slot stores) ⊎ IsIdle b db slot (image_at db slot stores)
-
-pub or_left : (a b : Bool) → (a || b) ≡ false → a ≡ false
-or_left true b e = e
-or_left false b e = refl
-
-pub or_right : (a b : Bool) → (a || b) ≡ false → b ≡ false
-or_right true b e = absurd (false≢true (sym e))
-or_right false b e = e
 
 -- an idle unit leaves the image
 pub idle_back : (records : List Change) (db slot : ℕ) (image : List Row) → IsIdle records db slot image → back records db slot image ≡ image

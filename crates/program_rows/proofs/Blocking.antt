@@ -26,18 +26,7 @@ use Rattle.program_rows.specs.Isolation.{request_of}
 use Rattle.pi_enqueue.proofs.Keys.{asker_is}
 use Rattle.program_rows.proofs.Holders.{holder_total, holder_exact, held_own, held_other, resource_same, resource_exact}
 use Rattle.program_rows.proofs.Asking.{is_contested}
-
-left_of : (a b : Bool) → (a && b) ≡ true → a ≡ true
-left_of true b e = refl
-left_of false b e = absurd (false≢true e)
-
-right_of : (a b : Bool) → (a && b) ≡ true → b ≡ true
-right_of true b e = e
-right_of false b e = absurd (false≢true e)
-
-no_right : (b : Bool) → (b && false) ≡ false
-no_right true = refl
-no_right false = refl
+use Rattle.program_rows.proofs.Bools.{left_of, right_of, no_right}
 
 turn_true : (b : Bool) → not b ≡ true → b ≡ false
 turn_true true e = absurd (false≢true e)

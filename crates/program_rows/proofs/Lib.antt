@@ -1,3 +1,4 @@
+pub mod Bools
 pub mod Slotwise
 pub mod Beside
 pub mod Aside

@@ -19,8 +19,9 @@ use Rattle.unit_work.specs.declared.change.Change.{Change}
 use Rattle.unit_work.specs.Changes.{is_of, is_changed, AreOther, AreOnce}
 use Rattle.unit_work.specs.BackOut.{is_touched, was_in, backed_slot, cleared_slot}
 use Rattle.program_rows.proofs.Slotwise.{each_slot, back, slots_length}
-use Rattle.program_rows.proofs.Beside.{was_there, back_has, cleared_has, touched_is, or_left, or_right}
+use Rattle.program_rows.proofs.Beside.{was_there, back_has, cleared_has, touched_is}
 use Rattle.program_rows.proofs.Aside.{was_in_is}
+use Rattle.program_rows.proofs.Bools.{or_left, or_right}
 
 -- what backing out needs of the slots of one database
 pub record Restores (dbd : Dbd) (records : List Change) (db : ℕ) (slots : List (List Row)) : Type 0 where

@@ -22,6 +22,7 @@ use Rattle.unit_work.specs.Changes.{is_of, is_changed, with_change, Pairs}
 use Rattle.unit_work.specs.BackOut.{is_touched, cleared_slot, cleared_slots, cleared_from, backed_from, cleared, backed_out, IsStored, FitsStore, FitsOption, CanGoBack, AreApart, CanBackOut, with_image_back, with_back, with_record_back}
 use Rattle.unit_work.proofs.Keeping.{pairs_push}
 use Rattle.unit_work.proofs.Backing.{get_set_other, get_set_same, next_back}
+use Rattle.program_rows.proofs.Bools.{left_of, right_of, no_right}
 
 -- no rows, or a record of this root
 abbrev pub Own : List ℕ → List Row → Type 0
@@ -30,18 +31,6 @@ Own root image = (image ≡ []) ⊎ (has_root root image ≡ true)
 either_none : {A : Type 0} (b : Bool) (x : List A) → x ≡ [] → cond b [] x ≡ []
 either_none true x e = refl
 either_none false x e = e
-
-no_right : (b : Bool) → (b && false) ≡ false
-no_right true = refl
-no_right false = refl
-
-and_left : (a b : Bool) → (a && b) ≡ true → a ≡ true
-and_left true b e = refl
-and_left false b e = absurd (false≢true e)
-
-and_right : (a b : Bool) → (a && b) ≡ true → b ≡ true
-and_right true b e = e
-and_right false b e = absurd (false≢true e)
 
 or_none : (b : Bool) → (b || false) ≡ b
 or_none true = refl
@@ -366,10 +355,10 @@ module _ (c : Change) (records : List Change) (i : ℕ) (stores : List Stored) (
 
       clash : FitsOption (slice_get (cleared records stores) (x.db - 1)) x → ⊥
       clash f =
-          let db : c.db ≡ x.db = eqb-true c.db x.db (and_left (eqb c.db x.db) _ parts) in
-          let both : (eqb c.slot x.slot && not (is_free c.before)) ≡ true = and_right (eqb c.db x.db) _ parts in
-          let slot : c.slot ≡ x.slot = eqb-true c.slot x.slot (and_left (eqb c.slot x.slot) _ both) in
-          let some : not (is_free c.before) ≡ true = and_right (eqb c.slot x.slot) _ both in
+          let db : c.db ≡ x.db = eqb-true c.db x.db (left_of (eqb c.db x.db) _ parts) in
+          let both : (eqb c.slot x.slot && not (is_free c.before)) ≡ true = right_of (eqb c.db x.db) _ parts in
+          let slot : c.slot ≡ x.slot = eqb-true c.slot x.slot (left_of (eqb c.slot x.slot) _ both) in
+          let some : not (is_free c.before) ≡ true = right_of (eqb c.slot x.slot) _ both in
           let one : FitsOption (Some (record { dbd = s.dbd; slots = cleared_slots records c.db s.slots })) x =
           subst (λ (o : Option Stored). FitsOption o x) (ap (λ n. slice_get (cleared records stores) (n - 1)) (sym db) ∙ (ap (slice_get (cleared records stores)) place ∙ old_at)) f in
           let fits : FitsStore (record { dbd = s.dbd; slots = cleared_slots records c.db s.slots }) x = one in

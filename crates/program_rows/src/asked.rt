@@ -74,9 +74,9 @@ pub fn wait(asked: &Asked, table: &mut Table) -> Result<DataAnswer, Memory>
     ensures held { IsKept table.new }
     ensures kept { OnErr result (table.new ≡ table.old) }
 {
-    let asked = table.ask_all(asked.region, &asked.requests);
+    let waited = table.ask_all(asked.region, &asked.requests);
     let _regions = table.regions();
-    match asked {
+    match waited {
         Ok(Some(blocked)) => Ok(DataAnswer::Blocked(Blocked {
             resource: blocked.resource,
             by: blocked.by,
@@ -95,9 +95,9 @@ pub fn ask(asked: &Asked, table: &mut Table) -> Result<(), Memory>
     ensures held { IsKept table.new }
     ensures kept { OnErr result (table.new ≡ table.old) }
 {
-    let asked = table.ask_all(asked.region, &asked.requests);
+    let granted = table.ask_all(asked.region, &asked.requests);
     let _regions = table.regions();
-    match asked {
+    match granted {
         Ok(None) => Ok(()),
         Ok(Some(_)) => unreachable!(),
         Err(error) => Err(error),

@@ -4,10 +4,9 @@ ghost use Rattle.model_dli.specs.Conditions.{IsDbCall, IsPosition};
 ghost use Rattle.model_dli.specs.Data.{data_abend};
 ghost use Rattle.model_dli.specs.Dli.{dli};
 ghost use Rattle.model_enqueue.specs.Table.{empty_table};
-ghost use Rattle.model_enqueue.specs.Ask.{first_blocked, waits_for_nothing};
+ghost use Rattle.model_enqueue.specs.Ask.{first_blocked, released, waits_for_nothing};
 ghost use Rattle.std.specs.List.{AllByRecursion};
 ghost use Rattle.tm_types.specs.SegTypes.{IsHierarchy};
-ghost use Rattle.model_enqueue.specs.Ask.{released};
 ghost use Rattle.model_enqueue.specs.Cycle.{IsRegion};
 ghost use Rattle.pi_enqueue.specs.Kept.{IsKept};
 ghost use Rattle.unit_work.specs.BackOut.{CanBackOut, backed_out};
@@ -171,8 +170,9 @@ impl Databases {
         ensures value { IsGivenUp region self.old self.new }
         ensures databases { dbds_of self.new ≡ dbds_of self.old }
     {
-        take_back(self.alloc, region, &mut self.opened);
-        release(region, &mut self.opened.table);
+        let opened = &mut self.opened;
+        take_back(self.alloc, region, opened);
+        release(region, &mut opened.table);
     }
 }
 
