@@ -196,6 +196,7 @@ module _ (o new : Opened) (h : IsOpen o) (region : ℕ) (u : HasUnit o region) (
     pub is_committed : new.table ≡ released region o.table → IsCommitted region (seen o) (seen new)
     is_committed table =
         record {
+          stores = stores;
           rows = ap rows_of committed_is ∙ ap (λ (x : RegionRows). x.rows) (sym (region_is (region - 1) (records_of o.units.items) o.stores u.within));
           own = new_region (region - 1) (omega (arith, u.within, length-set (records_of o.units.items) (region - 1) []))
               ∙ ((λ i. record {

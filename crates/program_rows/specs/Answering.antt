@@ -94,8 +94,10 @@ pub record IsBeside (other : ℕ) (old new : DatabasesState) : Type 0 where
       ≡ record { rows = with_records_from (region_at other old).changed (region_at other old).rows (committed_rows new); changed = (region_at other old).changed }
   pub held : AgreeOnHeld old.table other (committed_rows old) (committed_rows new)
 
--- The region's changes stay: what it saw is committed, and it holds and waits for nothing any more.
+-- The region's changes stay, each record in its slot: what it saw is committed, and it holds and waits for nothing
+-- any more.
 pub record IsCommitted (region : ℕ) (old new : DatabasesState) : Type 0 where
+  pub stores : new.stores ≡ old.stores
   pub rows : committed_rows new ≡ (region_at region old).rows
   pub own : region_at region new ≡ clean_region (committed_rows new)
   pub count : length new.regions ≡ length old.regions
