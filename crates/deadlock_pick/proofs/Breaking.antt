@@ -15,8 +15,10 @@ use Rattle.model_enqueue.specs.Ask.{granted, waiting, waits_only_for, waits_for_
 use Rattle.model_enqueue.specs.Cycle.{IsRegion, WaitsAlong, IsRing, IsCycle, HasNoCycle, changes_of, gives_way, victim_of, Breaks, after_victims}
 use Rattle.pi_enqueue.specs.Kept.{IsKept, Upgrades, Waits, waiting_regions}
 use Rattle.pi_enqueue.proofs.Granting.{clash}
+use Rattle.pi_enqueue.proofs.Ascending.{all_map}
 use Rattle.pi_enqueue.proofs.Asking.{AreOf}
 use Rattle.deadlock_pick.specs.Broken.{HasNoCycles}
+use Rattle.deadlock_pick.specs.Weighed.{IsWeighed}
 use Rattle.deadlock_pick.proofs.Ways.{each, few_regions}
 use Rattle.deadlock_pick.proofs.Fewer.{Fewer, fewer_less, less_nothing, less_released, fewer_asked}
 
@@ -272,3 +274,9 @@ few_waits T kept = subst (λ n. n ≤ T.regions) (length-map (T.upgrades ++ T.wa
 -- Breaking ends: there are no more victims than regions.
 pub few_victims : (weights : List ℕ) (region : ℕ) (T : EnqueueTable) (victims : List Victim) → IsKept T → Breaks weights region T victims → length victims ≤ T.regions
 few_victims weights region T victims kept h = omega (arith, victims_waits weights region T victims h, few_waits T kept)
+
+-- Each region of a cycle has a weight where each region of the table has one.
+pub cycle_weighed : (T : EnqueueTable) (region : ℕ) (weights cycle : List ℕ) → IsRegion T region → T.regions ≤ length weights → IsCycle T region cycle → AllByRecursion (IsWeighed weights) cycle
+cycle_weighed T region weights [] is enough c = absurd c
+cycle_weighed T region weights (first ∷ others) is enough c =
+    all_map (λ x h. record { first = h.0; last = omega (arith, h.1) }) (first ∷ others) (subst (IsRegion T) (sym c.0) is, each (IsRegion T) others c.1.regions)
