@@ -8,6 +8,8 @@ mod disk_images;
 #[cfg(test)]
 mod edge_lines;
 #[cfg(test)]
+mod enqueue_rings;
+#[cfg(test)]
 mod forced_logs;
 #[cfg(test)]
 mod message_calls;
