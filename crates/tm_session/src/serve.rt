@@ -15,8 +15,8 @@ use model_machine::ControlCall;
 use model_session::{Asked, InputStopped};
 use session_lines::{Block, read_block};
 use session_text::{
-    ANSWER_ROOM, PAGE_ROOM, Printed, TURN_ROOM, WORD_ROOM, ack_line, bad_line, input_line, none_line,
-    page_lines, reply_lines, shown_word, stopped_line, turned_line, unknown_line,
+    ANSWER_ROOM, PAGE_ROOM, Printed, TURN_ROOM, WORD_ROOM, ack_line, bad_line, input_line,
+    none_line, page_lines, reply_lines, shown_word, stopped_line, turned_line, unknown_line,
 };
 use std::alloc::Global;
 use system_types::System;
