@@ -1,1 +1,2 @@
 mod Invariant
+mod Rings

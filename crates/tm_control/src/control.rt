@@ -7,6 +7,7 @@ ghost use Rattle.model_machine.specs.declared.entry.Entry.TheVariants.{Accept, S
 ghost use Rattle.model_machine.specs.Machine.{empty_state, start_of, output_at, IsRegion};
 ghost use Rattle.model_machine.specs.Steps.{is_quiet, show_answer};
 ghost use Rattle.model_machine.specs.History.{Adds, AddsEntry, AddsNothing, AreSteps, is_fault, now_of};
+ghost use Rattle.deadlock_pick.specs.Broken.{HasNoCycles};
 ghost use Rattle.lasting_state.specs.Showing.{IsShown};
 ghost use Rattle.tm_control.specs.Noting.{noted};
 ghost use Rattle.tm_control.specs.contracts.control.Control.{the_row};
@@ -127,12 +128,13 @@ impl Control {
         self.parts.showing(terminal)
     }
 
-    /// Ends the life.
+    /// Ends the life. Whatever its calls were, no ring of regions that wait for one another stands.
     pub fn into_life(self) -> Life
         ensures opening { result.opening ≡ self.opening }
         ensures history { result.history ≡ self.history }
         ensures kept { result.kept ≡ (now_of self).lasting.steps }
         ensures legal { AreSteps self.system (start_of self.system self.opening) self.history }
+        ensures rings { HasNoCycles (now_of self).enqueues }
     {
         Life {
             opening: self.opening,
