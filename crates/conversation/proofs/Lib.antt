@@ -1,0 +1,3 @@
+pub mod Terminals
+pub mod Padded
+pub mod Walking

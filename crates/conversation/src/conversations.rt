@@ -1,0 +1,132 @@
+//! The conversations of all terminals.
+ghost use Rattle.std.specs.Prelude.{◌≡◌, None, Some, map, IsSomeAnd, IsSome, OnOk, OnErr, IfOk, IfErr};
+ghost use Rattle.std.specs.Option.{option_copied};
+ghost use Rattle.model_queues.specs.Queue.{messages_of};
+ghost use Rattle.conversation.specs.Terminals.{without_conversation, conversation_at, pad_at, IsTerminal, with_terminal, with_conversation};
+ghost use Rattle.conversation.specs.Pads.{begun, with_pad, pad_fault, RefusesPad};
+ghost use Rattle.conversation.specs.Input.{busy_id, input_answer};
+
+use crate::pads::PadRefused;
+use crate::table::{Conversation, TerminalConversation};
+use crate::{pads, table, walk};
+use msg_queues::Queues;
+use std::alloc::Global;
+use std::marker::Model;
+use thiserror::Error;
+use tm_types::{Memory, Name};
+
+/// A message of the conversation is queued, or a region works on it.
+#[derive(Clone, Copy, Debug, Error)]
+#[error("message {id} of the conversation isn't done")]
+pub struct Busy {
+    pub id: u64,
+}
+
+/// The terminals of a system, each with its conversation or none.
+#[derive(Debug, Drop)]
+pub struct Conversations {
+    terminals: Vec<TerminalConversation>,
+    alloc: Global,
+}
+
+impl Model for Conversations {
+    ghost use Rattle.std.specs.Prelude.{List};
+    ghost use Rattle.conversation.specs.declared.table.TerminalConversation.{TerminalConversation};
+
+    ghost Value = { List TerminalConversation };
+
+    ghost view = { λ c. c.terminals.items };
+}
+
+impl Conversations {
+    /// These terminals, none of which has a conversation. `Memory` is the only refusal.
+    pub fn none(alloc: Global, terminals: &[Name]) -> Result<Conversations, Memory>
+        ensures { IfOk result (λ conversations. conversations ≡ map without_conversation terminals.now) }
+    {
+        Ok(Conversations {
+            terminals: table::without_conversations(alloc, terminals)?,
+            alloc,
+        })
+    }
+
+    /// The terminal begins a conversation of the code. Its pad is the code, padded with blanks to 8
+    /// bytes, and `work` blanks. Where it answers `Memory`, nothing has changed.
+    pub fn begin(&mut self, terminal: &Name, code: &Name, work: u16) -> Result<(), Memory>
+        requires terminal { IsTerminal terminal.now self.old }
+        requires without { conversation_at terminal.now self.old ≡ None }
+        ensures ok { OnOk result (self.new ≡ with_terminal terminal.now (with_conversation (Some (begun code.now work))) self.old) }
+        ensures err { OnErr result (self.new ≡ self.old) }
+    {
+        let begun = pads::begun(self.alloc, code, work)?;
+        table::set(&mut self.terminals, terminal, Some(begun));
+        Ok(())
+    }
+
+    /// The code to which an input of the terminal goes whatever its text, or None where the terminal
+    /// has no conversation.
+    ///
+    /// While a message of the conversation is queued, or a region works on it, the input is refused
+    /// with the message's id. A message is of the terminal's conversation where it came from the
+    /// terminal and has the flag of conversations.
+    pub fn input(&self, terminal: &Name, queues: &Queues) -> Result<Option<Name>, Busy>
+        requires { IsTerminal terminal.now self.now }
+        ensures { result ≡ input_answer (conversation_at terminal.now self.now) (busy_id terminal.now (messages_of queues.now.queued)) }
+    {
+        match table::conversation_of(&self.terminals, terminal) {
+            Some(conversation) => answer(conversation, walk::busy_id(queues, terminal)),
+            None => Ok(None),
+        }
+    }
+
+    /// The text becomes the pad of the terminal's conversation, padded with blanks or cut to the
+    /// pad's length. Code and length of the conversation stay.
+    ///
+    /// A text of fewer than 8 bytes is refused as `BadSpa(1)`, and one that begins with another code
+    /// as `BadSpa(2)`. Blanks in place of the code are another code; they are how a program asks for
+    /// the end, and the caller then calls `end`. After a refusal nothing has changed.
+    pub fn update(&mut self, terminal: &Name, pad: &[u8]) -> Result<(), PadRefused>
+        requires terminal { IsTerminal terminal.now self.old }
+        requires conversing { IsSome (conversation_at terminal.now self.old) }
+        ensures ok { OnOk result (IsSomeAnd (conversation_at terminal.now self.old) (λ c. self.new ≡ with_terminal terminal.now (with_conversation (Some (with_pad pad.now c))) self.old)) }
+        ensures good { OnOk result (IsSomeAnd (conversation_at terminal.now self.old) (λ c. pad_fault c.code pad.now ≡ None)) }
+        ensures refused { IfErr result (λ refused. IsSomeAnd (conversation_at terminal.now self.old) (λ c. RefusesPad (pad_fault c.code pad.now) refused)) }
+        ensures err { OnErr result (self.new ≡ self.old) }
+    {
+        let Some(conversation) = table::conversation_of(&self.terminals, terminal) else {
+            unreachable!()
+        };
+        let updated = pads::updated(self.alloc, conversation, pad)?;
+        table::set(&mut self.terminals, terminal, Some(updated));
+        Ok(())
+    }
+
+    /// Ends the conversation of the terminal. This takes no memory.
+    pub fn end(&mut self, terminal: &Name)
+        requires terminal { IsTerminal terminal.now self.old }
+        requires conversing { IsSome (conversation_at terminal.now self.old) }
+        ensures { self.new ≡ with_terminal terminal.now (with_conversation None) self.old }
+    {
+        table::set(&mut self.terminals, terminal, None);
+    }
+
+    /// The pad of the terminal's conversation: its code and the work area. None exactly where the
+    /// terminal has no conversation.
+    pub fn pad(&self, terminal: &Name) -> Option<&[u8]>
+        requires { IsTerminal terminal.now self.now }
+        ensures { option_copied result ≡ pad_at terminal.now self.now }
+    {
+        match table::conversation_of(&self.terminals, terminal) {
+            Some(conversation) => Some(conversation.pad.as_slice()),
+            None => None,
+        }
+    }
+}
+
+fn answer(conversation: &Conversation, busy: Option<u64>) -> Result<Option<Name>, Busy>
+    ensures { result ≡ input_answer (Some conversation.now) busy }
+{
+    match busy {
+        Some(id) => Err(Busy { id }),
+        None => Ok(Some(conversation.code)),
+    }
+}

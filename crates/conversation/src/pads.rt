@@ -1,0 +1,98 @@
+//! Scratch pads.
+ghost use Rattle.std.specs.Prelude.{◌≡◌, None, IfOk, IfErr, OnOk};
+ghost use Rattle.std.specs.Str.{bytes_eq};
+ghost use Rattle.conversation.specs.Pads.{fitted, code_field, begun, with_pad, pad_fault, RefusesPad};
+
+use crate::table::Conversation;
+use std::alloc::Global;
+use thiserror::Error;
+use tm_types::{Bytes, Memory, Name};
+
+/// How many bytes of a pad are the code.
+const CODE_BYTES: usize = 8;
+
+/// Why a text doesn't become the pad of a conversation.
+#[derive(Clone, Copy, Debug, Error)]
+pub enum PadRefused {
+    /// 1: the text is shorter than 8 bytes; 2: its code isn't the conversation's.
+    #[error("no scratch pad of the conversation ({0})")]
+    BadSpa(u8),
+    #[error("no memory")]
+    Memory,
+}
+
+/// A conversation of the code as it begins, with a work area of so many blanks.
+pub fn begun(alloc: Global, code: &Name, work: u16) -> Result<Conversation, Memory>
+    ensures { IfOk result (λ conversation. conversation ≡ begun code.now work) }
+{
+    let field = code_field(code);
+    let mut pad = Bytes::copied(alloc, field.as_slice())?;
+    let blanks = vec![in alloc; b' '; work as usize]?;
+    pad.append(&blanks)?;
+    Ok(Conversation { code: *code, pad })
+}
+
+/// The conversation with this text as its pad.
+pub fn updated(
+    alloc: Global,
+    conversation: &Conversation,
+    text: &[u8],
+) -> Result<Conversation, PadRefused>
+    ensures ok { IfOk result (λ updated. updated ≡ with_pad text.now conversation.now) }
+    ensures good { OnOk result (pad_fault conversation.now.code text.now ≡ None) }
+    ensures refused { IfErr result (RefusesPad (pad_fault conversation.now.code text.now)) }
+{
+    match pad_fault(&conversation.code, text) {
+        Some(fault) => Err(PadRefused::BadSpa(fault)),
+        None => match fitted(alloc, conversation.pad.len(), text) {
+            Ok(pad) => Ok(Conversation {
+                code: conversation.code,
+                pad,
+            }),
+            Err(_) => Err(PadRefused::Memory),
+        },
+    }
+}
+
+/// What is wrong with the text as a pad of a conversation of the code.
+fn pad_fault(code: &Name, text: &[u8]) -> Option<u8>
+    ensures { result ≡ pad_fault code.now text.now }
+{
+    if text.len() < CODE_BYTES {
+        return Some(1);
+    }
+    if is_field(&text[..CODE_BYTES], code) {
+        return None;
+    }
+    Some(2)
+}
+
+fn is_field(bytes: &[u8], code: &Name) -> bool
+    ensures { result ≡ bytes_eq bytes.now (code_field code.now) }
+{
+    let field = code_field(code);
+    bytes == field.as_slice()
+}
+
+/// The text with blanks behind up to this length, or cut to it.
+#[tactic(auto, using(crate::proofs::Padded::fits))]
+fn fitted(alloc: Global, length: usize, text: &[u8]) -> Result<Bytes, Memory>
+    ensures { IfOk result (λ whole. whole ≡ fitted length text.now) }
+{
+    let size = text.len().min(length);
+    let mut whole = Bytes::copied(alloc, &text[..size])?;
+    let blanks = vec![in alloc; b' '; length - size]?;
+    whole.append(&blanks)?;
+    Ok(whole)
+}
+
+/// The bytes of the code with blanks behind.
+#[tactic(auto, using(crate::proofs::Padded::field_is))]
+fn code_field(code: &Name) -> [u8; CODE_BYTES]
+    ensures { result ≡ code_field code.now }
+{
+    let bytes = code.as_bytes();
+    let mut field = [b' '; CODE_BYTES];
+    field[..bytes.len()].copy_from_slice(bytes);
+    field
+}
