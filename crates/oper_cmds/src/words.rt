@@ -1,0 +1,53 @@
+//! The words of a command, which one blank parts, and its names.
+ghost use Rattle.std.specs.Prelude.{◌≡◌};
+ghost use Rattle.model_command.specs.Commands as spec;
+
+use crate::rules::{NO_NAME, WRONG_OPERANDS};
+use tm_types::{Name, first_word, operands};
+
+/// How many operands a text has, as many as blanks.
+pub(crate) fn operand_count(text: &[u8]) -> usize
+    ensures { result ≡ spec.operand_count text.now }
+{
+    text.iter().filter(|b| **b == b' ').count()
+}
+
+pub(crate) fn first_operand(text: &[u8]) -> &[u8]
+    ensures { result.now ≡ spec.first_operand text.now }
+{
+    first_word(operands(text))
+}
+
+pub(crate) fn second_operand(text: &[u8]) -> &[u8]
+    ensures { result.now ≡ spec.second_operand text.now }
+{
+    first_word(operands(operands(text)))
+}
+
+pub(crate) fn third_operand(text: &[u8]) -> &[u8]
+    ensures { result.now ≡ spec.third_operand text.now }
+{
+    first_word(operands(operands(operands(text))))
+}
+
+/// The name that a word is.
+#[tactic(auto, unfolding(model_command::specs::Commands::name_operand))]
+pub(crate) fn name_operand(word: &[u8]) -> Result<Name, u8>
+    ensures { result ≡ spec.name_operand word.now }
+{
+    match Name::read(word) {
+        Some(name) => Ok(name),
+        None => Err(NO_NAME),
+    }
+}
+
+/// The name that stands second, where there are so many operands.
+pub(crate) fn name_of(count: usize, text: &[u8]) -> Result<Name, u8>
+    ensures { result ≡ spec.name_of count text.now }
+{
+    if operand_count(text) == count {
+        name_operand(second_operand(text))
+    } else {
+        Err(WRONG_OPERANDS)
+    }
+}
