@@ -30,7 +30,7 @@ pub enum Command {
     Exit(Name),
     /// `/ERESTART`: the system that is down is opened again.
     EmergencyRestart,
-    /// `/NRESTART`: the same, behind a freeze.
+    /// `/NRESTART`: the same.
     NormalRestart,
     /// `/NRESTART CHECKPOINT 0`: the system begins from nothing.
     ColdStart,
