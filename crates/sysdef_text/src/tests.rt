@@ -303,7 +303,7 @@ fn databases(rt: HostRuntime) -> Result<(), Fail> {
         ),
         (
             b"NAME LTERM=T\nREGION CLASS=(1)\nREGION CLASS=(1)".as_slice(),
-            Fault::Cross(8, 19),
+            Fault::Nothing,
         ),
         (
             b"APPLCTN PSB=P\nPCB TYPE=DB,DBDNAME=D,PROCOPT=A\nPROGRAM P\nCALL GU 1 A\nCALL GHU 2 A\nENDPROG".as_slice(),
