@@ -1,0 +1,5 @@
+pub mod Programs
+pub mod Definition
+pub mod Draws
+pub mod Session
+pub mod Workload
