@@ -29,3 +29,5 @@ mod script_runs;
 mod sector_chains;
 #[cfg(test)]
 mod text_pieces;
+#[cfg(test)]
+mod workload_texts;
