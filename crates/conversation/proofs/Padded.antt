@@ -2,7 +2,7 @@
 use Rattle.std.proofs.Common.{◌≡◌, ℕ, ◌-◌, ◌≤◌, ◌++◌, ◌∷◌, [], List, length, take, drop, min, zero, suc, refl, sym, ap, ◌∙◌, arith}
 use Rattle.std.specs.Prelude.{replicate}
 use Rattle.std.proofs.lemmas.List.{drop-replicate}
-use Rattle.conversation.specs.Pads.{fitted, code_field}
+use Rattle.model_conversation.specs.Pads.{fitted, code_field}
 
 take_whole : (n : ℕ) (xs : List ℕ) → length xs ≤ n → take n xs ≡ xs
 take_whole zero [] h = refl

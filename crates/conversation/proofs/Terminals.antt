@@ -4,8 +4,8 @@ use Rattle.std.specs.Prelude.{position, slice_get}
 use Rattle.std.specs.List.{position_from}
 use Rattle.std.proofs.lemmas.Iterator.Adapters.{position_from-zero}
 use Rattle.std.specs.Option.{is_some}
-use Rattle.conversation.specs.declared.table.TerminalConversation.{TerminalConversation}
-use Rattle.conversation.specs.Terminals.{is_of, terminal_at, IsTerminal, with_terminal}
+use Rattle.model_conversation.specs.declared.conversation.TerminalConversation.{TerminalConversation}
+use Rattle.model_conversation.specs.Terminals.{is_of, terminal_at, IsTerminal, with_terminal}
 
 -- this is the place of the terminal of the name
 record IsPlace (name : List ℕ) (ts : List TerminalConversation) (place : ℕ) : Type 0 where

@@ -1,3 +1,1 @@
-pub mod Terminals
-pub mod Pads
-pub mod Input
+pub mod Refusals

@@ -2,13 +2,14 @@
 ghost use Rattle.std.specs.Prelude.{◌≡◌, None, Some, map, IsSomeAnd, IsSome, OnOk, OnErr, IfOk, IfErr};
 ghost use Rattle.std.specs.Option.{option_copied};
 ghost use Rattle.model_queues.specs.Queue.{messages_of};
-ghost use Rattle.conversation.specs.Terminals.{without_conversation, conversation_at, pad_at, IsTerminal, with_terminal, with_conversation};
-ghost use Rattle.conversation.specs.Pads.{begun, with_pad, pad_fault, RefusesPad};
-ghost use Rattle.conversation.specs.Input.{busy_id, input_answer};
+ghost use Rattle.model_conversation.specs.Terminals.{without_conversation, conversation_at, pad_at, IsTerminal, with_terminal, with_conversation};
+ghost use Rattle.model_conversation.specs.Pads.{begun, with_pad, pad_fault};
+ghost use Rattle.conversation.specs.Refusals.{RefusesPad, input_answer};
+ghost use Rattle.model_conversation.specs.Input.{busy_id};
 
 use crate::pads::PadRefused;
-use crate::table::{Conversation, TerminalConversation};
 use crate::{pads, table, walk};
+use model_conversation::{Conversation, TerminalConversation};
 use msg_queues::Queues;
 use std::alloc::Global;
 use std::marker::Model;
@@ -31,7 +32,7 @@ pub struct Conversations {
 
 impl Model for Conversations {
     ghost use Rattle.std.specs.Prelude.{List};
-    ghost use Rattle.conversation.specs.declared.table.TerminalConversation.{TerminalConversation};
+    ghost use Rattle.model_conversation.specs.declared.conversation.TerminalConversation.{TerminalConversation};
 
     ghost Value = { List TerminalConversation };
 

@@ -2,13 +2,13 @@
 //!
 //! A conversation is of one code at one terminal, which has one at most. Its pad is the code, padded
 //! with blanks to 8 bytes, and a work area behind it, and keeps its length to the end. The table is
-//! the list of specs/Terminals; each call shows it or changes one terminal of it. After a refusal
+//! the list of `model_conversation`; each call shows it or changes one terminal of it. After a refusal
 //! nothing changed.
 #![tactic(auto)]
 
 pub use conversations::{Busy, Conversations};
+pub use model_conversation::{Conversation, TerminalConversation};
 pub use pads::PadRefused;
-pub use table::{Conversation, TerminalConversation};
 
 mod conversations;
 mod pads;

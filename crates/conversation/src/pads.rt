@@ -1,9 +1,10 @@
 //! Scratch pads.
 ghost use Rattle.std.specs.Prelude.{◌≡◌, None, IfOk, IfErr, OnOk};
 ghost use Rattle.std.specs.Str.{bytes_eq};
-ghost use Rattle.conversation.specs.Pads.{fitted, code_field, begun, with_pad, pad_fault, RefusesPad};
+ghost use Rattle.model_conversation.specs.Pads.{fitted, code_field, begun, with_pad, pad_fault};
+ghost use Rattle.conversation.specs.Refusals.{RefusesPad};
 
-use crate::table::Conversation;
+use model_conversation::Conversation;
 use std::alloc::Global;
 use thiserror::Error;
 use tm_types::{Bytes, Memory, Name};

@@ -1,26 +1,11 @@
 //! The terminals of a system by their names.
 ghost use Rattle.std.specs.Prelude.{◌≡◌, Some, map, position, slice_get, IfOk};
 ghost use Rattle.std.specs.Option.{option_copied};
-ghost use Rattle.conversation.specs.Terminals.{without_conversation, is_of, terminal_at, conversation_at, IsTerminal, with_terminal, with_conversation};
+ghost use Rattle.model_conversation.specs.Terminals.{without_conversation, is_of, terminal_at, conversation_at, IsTerminal, with_terminal, with_conversation};
 
+use model_conversation::{Conversation, TerminalConversation};
 use std::alloc::Global;
-use tm_types::{Bytes, Memory, Name};
-
-/// A conversation.
-#[derive(Debug, Drop)]
-pub struct Conversation {
-    /// The code that the messages of the conversation go to.
-    pub code: Name,
-    /// The code, padded with blanks to 8 bytes, and the work area.
-    pub pad: Bytes,
-}
-
-/// A terminal with its conversation, if it has one.
-#[derive(Debug, Drop)]
-pub struct TerminalConversation {
-    pub terminal: Name,
-    pub conversation: Option<Conversation>,
-}
+use tm_types::{Memory, Name};
 
 /// These terminals without conversations.
 pub fn without_conversations(

@@ -1,7 +1,7 @@
 //! The messages of a conversation among all messages.
 ghost use Rattle.std.specs.Prelude.{◌≡◌};
 ghost use Rattle.model_queues.specs.Queue.{messages_of};
-ghost use Rattle.conversation.specs.Input.{is_conversing, busy_id};
+ghost use Rattle.model_conversation.specs.Input.{is_conversing, busy_id};
 
 use msg_queues::Queues;
 use tm_types::{Message, Name};

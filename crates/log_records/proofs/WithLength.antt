@@ -3,7 +3,7 @@ use Rattle.std.proofs.Common.{◌≡◌, ℕ, ◌-◌, ◌<◌, ◌≤◌, ◌^�
 use Rattle.std.proofs.lemmas.List.{length-append}
 use Rattle.log_records.specs.declared.record.Record.{Record}
 use Rattle.log_records.specs.declared.record.Record.TheVariants.{SyncPoint}
-use Rattle.log_records.specs.declared.record.PadChange.TheVariants.{Stays, New, Ends}
+use Rattle.model_conversation.specs.declared.conversation.PadChange.TheVariants.{Stays, New, Ends}
 use Rattle.log_records.specs.Spelling.{content, IsShort, IsRecord}
 use Rattle.log_records.proofs.Lengths.{eight, text_length}
 

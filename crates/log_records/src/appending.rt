@@ -7,7 +7,7 @@ use crate::encoding::{
     put_acknowledged, put_change, put_completed, put_discarded, put_input, put_reply,
     put_sync_point,
 };
-use crate::record::PadChange;
+use model_conversation::PadChange;
 use tm_types::{AbendCode, Memory, Name, Segments};
 
 // The record that begins at `start` gets its length, for which it has two bytes.

@@ -12,7 +12,8 @@ pub use appending::{
 pub use decoding::{decode, one_spelling};
 pub use encoding::encode;
 pub use fault::DecodeFault;
-pub use record::{Conversation, PadChange, Record};
+pub use model_conversation::{Conversation, PadChange};
+pub use record::Record;
 
 mod appending;
 mod decoding;

@@ -1,4 +1,5 @@
 //! The records of the log and of a snapshot.
+use model_conversation::{Conversation, PadChange};
 use tm_types::{AbendCode, Bytes, Name, Segments};
 
 /// A record of the log or of a snapshot.
@@ -80,23 +81,4 @@ pub enum Record {
         before: Bytes,
         after: Bytes,
     },
-}
-
-/// What a sync point does with the scratch pad of the conversation.
-#[derive(Debug, Drop)]
-pub enum PadChange {
-    /// The pad stays as it was, or there is none.
-    Stays,
-    /// The new pad: its code and work area.
-    New(Bytes),
-    /// The conversation ends.
-    Ends,
-}
-
-/// The conversation of a terminal.
-#[derive(Debug, Drop)]
-pub struct Conversation {
-    pub code: Name,
-    /// The code and the work area of the scratch pad.
-    pub pad: Bytes,
 }

@@ -14,7 +14,7 @@ use Rattle.model_machine.specs.Lasting.{applied, code_word, sent, all_sent, swit
 use Rattle.model_machine.specs.Lasting.LastingStep.{Accepts, Acknowledges, Completes, Discards}
 use Rattle.log_records.specs.declared.record.Record.{Record}
 use Rattle.log_records.specs.declared.record.Record.TheVariants.{Completed}
-use Rattle.log_records.specs.declared.record.PadChange.TheVariants.{Stays}
+use Rattle.model_conversation.specs.declared.conversation.PadChange.TheVariants.{Stays}
 use Rattle.model_image.specs.Replay.{done, all_done, accepts, acknowledges, discards, syncs, with_step}
 use Rattle.model_image.specs.Steps.{output_record, output_records, completion_records}
 

@@ -1,16 +1,21 @@
 -- The records of a log, done again.
-use Rattle.std.specs.Prelude.{ℕ, zero, suc, ◌+◌, Bool, false, not, ◌&&◌, ◌==◌, List, [], ◌∷◌, ◌++◌, filter, Option, Some, None, if◌then◌else◌}
-use Rattle.std.specs.Option.{option_map, option_map_or, option_and_then}
+use Rattle.std.specs.Prelude.{ℕ, zero, suc, ◌+◌, ◌-◌, Bool, false, not, ◌&&◌, ◌==◌, List, [], ◌∷◌, ◌++◌, filter, Option, Some, None, if◌then◌else◌}
+use Rattle.std.specs.Option.{option_map, option_map_or, option_and_then, is_some}
+use Rattle.tm_types.specs.declared.message.Message.{Message}
 use Rattle.tm_types.specs.declared.abend.AbendCode.{AbendCode}
+use Rattle.model_conversation.specs.declared.conversation.Conversation.{Conversation}
+use Rattle.model_conversation.specs.Pads.{begun}
+use Rattle.model_conversation.specs.Terminals.{conversation_at}
+use Rattle.model_system.specs.Codes.{code_at}
 use Rattle.model_system.specs.System.{System}
 use Rattle.model_queues.specs.Outputs.{with_terminal, with_reply, next_of, reply_at}
 use Rattle.model_machine.specs.Machine.{LastingState, terminal_at, message_at}
-use Rattle.model_machine.specs.Lasting.{applied}
+use Rattle.model_machine.specs.Lasting.{KeptInput, applied, with_pad_by}
 use Rattle.model_machine.specs.Lasting.LastingStep.{Accepts, Acknowledges, Discards}
 use Rattle.log_records.specs.declared.record.Record.{Record}
 use Rattle.log_records.specs.declared.record.Record.TheVariants.{Input, Command, Reply, Discarded, Completed, Acknowledged, SyncPoint, Checkpoint, Terminal, Code, Change}
-use Rattle.log_records.specs.declared.record.PadChange.{PadChange}
-use Rattle.log_records.specs.declared.record.PadChange.TheVariants.{Stays, New, Ends}
+use Rattle.model_conversation.specs.declared.conversation.PadChange.{PadChange}
+use Rattle.model_conversation.specs.declared.conversation.PadChange.TheVariants.{Stays, New, Ends}
 use Rattle.model_image.specs.States.{is_terminal, is_code, breaks_a_rule}
 use Rattle.model_image.specs.Snapshot.{message_of}
 use Rattle.model_image.specs.Slots.{is_image_of}
@@ -36,11 +41,28 @@ all_done (r ∷ records) lasting = option_and_then (all_done records) (done r la
 
 -- ---- what is a lasting step at once
 
--- An input is accepted, if its number and its id are the next ones. The message is the one that the record keeps.
-abbrev pub accepts : ℕ → List ℕ → List ℕ → ℕ → Bool → List (List ℕ) → LastingState → Option LastingState
-accepts id origin code number conversation segments lasting =
+-- The message of an input is the one that the record keeps. One of a conversation at a terminal that has none begins
+-- it, with a work area of the length of the code's pad, less 14.
+abbrev pub pad_size : System → List ℕ → ℕ
+pad_size system code = option_map_or (λ found. found.transaction.scratch_pad) (code_at system.codes code) 0
+
+abbrev pub begins_in : System → LastingState → List ℕ → List ℕ → Bool → Option Conversation
+begins_in system lasting origin code conversation =
+    if conversation && not (is_some (conversation_at origin lasting.conversations)) then Some (begun code (pad_size system code - 14)) else None
+
+abbrev pub kept_in_record : System → LastingState → List ℕ → List ℕ → Bool → List (List ℕ) → KeptInput
+kept_in_record system lasting origin code conversation segments = record {
+  code = code;
+  conversation = conversation;
+  segments = segments;
+  begins = begins_in system lasting origin code conversation;
+}
+
+-- An input is accepted, if its number and its id are the next ones.
+abbrev pub accepts : System → ℕ → List ℕ → List ℕ → ℕ → Bool → List (List ℕ) → LastingState → Option LastingState
+accepts system id origin code number conversation segments lasting =
     if option_map_or (λ terminal. terminal.last + 1 == number) (terminal_at lasting.terminals origin) false && (lasting.next_id == id)
-    then Some (record (applied (Accepts origin number segments) lasting) { messages = lasting.messages ++ message_of id origin code conversation segments ∷ [] })
+    then Some (applied (Accepts origin number (kept_in_record system lasting origin code conversation segments)) lasting)
     else None
 
 -- A reply is acknowledged, if it is the first that is kept.
@@ -55,14 +77,22 @@ discards id abend number lasting =
     if option_map_or (λ message. next_of message.origin lasting.outputs == number) (message_at lasting.messages id) false
     then Some (applied (Discards id abend) lasting) else None
 
--- A unit reaches its sync point: its records are done, in their order. No pad is new, as no code has one.
+-- A unit reaches its sync point: its records are done, in their order, and this becomes of the pad of the message
+-- that they complete.
 abbrev pub with_step : LastingState → LastingState
 with_step lasting = record lasting { steps = lasting.steps + 1 }
 
+abbrev pub completed_id : List Record → Option ℕ
+completed_id [] = None
+completed_id (Completed unit id ∷ records) = Some id
+completed_id (r ∷ records) = completed_id records
+
+abbrev pub completed_message : List Record → LastingState → Option Message
+completed_message records lasting = option_and_then (message_at lasting.messages) (completed_id records)
+
 abbrev pub syncs : PadChange → List Record → LastingState → Option LastingState
-syncs (New text) records lasting = None
-syncs Stays records lasting = option_map with_step (all_done records lasting)
-syncs Ends records lasting = option_map with_step (all_done records lasting)
+syncs pad records lasting =
+    option_map (λ after. with_step (with_pad_by (completed_message records lasting) (λ _. pad) after)) (all_done records lasting)
 
 -- ---- one record after another
 
@@ -88,22 +118,22 @@ without_unit unit replay = record replay { waiting = filter (λ r. not (is_of_un
 
 -- What a record of the log does: none where a number isn't the next one, where what it is about isn't there, and where it
 -- is none of a log. A change says something of a slot alone. No command lasts.
-abbrev pub replayed : Record → Replay → Option Replay
-replayed (Input zero id origin code number conversation segments) replay =
-    with_lasting replay (accepts id origin code number conversation segments replay.lasting)
-replayed (Input (suc u) id origin code number conversation segments) replay =
+abbrev pub replayed : System → Record → Replay → Option Replay
+replayed system (Input zero id origin code number conversation segments) replay =
+    with_lasting replay (accepts system id origin code number conversation segments replay.lasting)
+replayed system (Input (suc u) id origin code number conversation segments) replay =
     Some (with_waiting (Input (suc u) id origin code number conversation segments) replay)
-replayed (Reply unit terminal number segments) replay = Some (with_waiting (Reply unit terminal number segments) replay)
-replayed (Completed unit id) replay = Some (with_waiting (Completed unit id) replay)
-replayed (Acknowledged terminal number) replay = with_lasting replay (acknowledges terminal number replay.lasting)
-replayed (Discarded unit id abend number) replay = with_lasting replay (discards id abend number replay.lasting)
-replayed (SyncPoint unit pad) replay =
+replayed system (Reply unit terminal number segments) replay = Some (with_waiting (Reply unit terminal number segments) replay)
+replayed system (Completed unit id) replay = Some (with_waiting (Completed unit id) replay)
+replayed system (Acknowledged terminal number) replay = with_lasting replay (acknowledges terminal number replay.lasting)
+replayed system (Discarded unit id abend number) replay = with_lasting replay (discards id abend number replay.lasting)
+replayed system (SyncPoint unit pad) replay =
     with_lasting (without_unit unit replay) (syncs pad (filter (is_of_unit unit) replay.waiting) replay.lasting)
-replayed (Change unit database slot before after) replay = Some replay
-replayed (Command text) replay = None
-replayed (Checkpoint checkpoint next_id next_unit steps) replay = None
-replayed (Terminal name last next stopped conversation) replay = None
-replayed (Code name stopped class priority) replay = None
+replayed system (Change unit database slot before after) replay = Some replay
+replayed system (Command text) replay = None
+replayed system (Checkpoint checkpoint next_id next_unit steps) replay = None
+replayed system (Terminal name last next stopped conversation) replay = None
+replayed system (Code name stopped class priority) replay = None
 
 -- the names of a record are known where it stands, and the images of a change are of a slot
 abbrev pub is_known : System → Record → Bool
@@ -117,7 +147,7 @@ abbrev pub unless_it_breaks : System → Replay → Option Replay
 unless_it_breaks system replay = if breaks_a_rule system replay.lasting then None else Some replay
 
 abbrev pub replay_one : System → Record → Replay → Option Replay
-replay_one system r replay = if is_known system r then option_and_then (unless_it_breaks system) (replayed r replay) else None
+replay_one system r replay = if is_known system r then option_and_then (unless_it_breaks system) (replayed system r replay) else None
 
 abbrev pub replay_all : System → List Record → Replay → Option Replay
 replay_all system [] replay = Some replay

@@ -1,6 +1,5 @@
 -- The records of a snapshot: what they say together, and the rules on them.
 use Rattle.std.specs.Prelude.{ℕ, Bool, true, false, not, ◌&&◌, ◌||◌, nat_lt, nat_le, ◌==◌, List, [], ◌∷◌, ◌++◌, length, map, filter_map, Option, Some, None, position}
-use Rattle.std.specs.Option.{is_some}
 use Rattle.std.specs.List.{list_all, list_any}
 use Rattle.std.specs.Str.{bytes_eq}
 use Rattle.tm_types.specs.declared.message.Message.{Message}
@@ -8,6 +7,7 @@ use Rattle.model_system.specs.System.{System}
 use Rattle.model_system.specs.Lists.{change_at}
 use Rattle.model_queues.specs.declared.replies.TerminalReplies.{TerminalReplies}
 use Rattle.model_queues.specs.Outputs.{with_terminal}
+use Rattle.model_machine.specs.Lasting.{conversing}
 use Rattle.model_machine.specs.Machine.{LastingState, terminal_place, empty_state}
 use Rattle.log_records.specs.declared.record.Record.{Record}
 use Rattle.log_records.specs.declared.record.Record.TheVariants.{Input, Reply, Checkpoint, Terminal, Code, Change}
@@ -28,6 +28,7 @@ told (Checkpoint checkpoint next_id next_unit steps) lasting = record lasting { 
 told (Terminal name last next stopped conversation) lasting = record lasting {
   terminals = change_at lasting.terminals (terminal_place lasting.terminals name) (λ t. record t { last = last; stopped = stopped });
   outputs = with_terminal name (λ t. record t { next = next }) lasting.outputs;
+  conversations = conversing name conversation lasting.conversations;
 }
 told (Code name stopped class priority) lasting = record lasting {
   codes = change_at lasting.codes (position (λ code. bytes_eq code.code name) lasting.codes) (λ c. record c { stopped = stopped; class = class; priority = priority });
@@ -130,10 +131,8 @@ out_of_order system records =
 
 -- ---- 12: terminals and codes are those of the definition, each once; numbers that are not of the state
 
--- no code has a conversation
 abbrev pub wrong_record : Record → Bool
 wrong_record (Checkpoint checkpoint next_id next_unit steps) = not (is_small checkpoint && is_next next_unit)
-wrong_record (Terminal name last next stopped conversation) = is_some conversation
 wrong_record _ = false
 
 abbrev pub missing_or_twice : System → List Record → Bool
@@ -155,7 +154,7 @@ abbrev pub snapshot_rules : System → List Record → List (ℕ × Bool)
 snapshot_rules system records =
     let lasting = snapshot_state system records in
     (11, out_of_order system records)
-    ∷ (12, missing_or_twice system records || wrong_values lasting)
+    ∷ (12, missing_or_twice system records || wrong_values system lasting)
     ∷ (13, wrong_ids lasting)
     ∷ (14, unknown_messages system lasting)
     ∷ (15, wrong_replies lasting || reply_of_none system records)

@@ -1,10 +1,20 @@
 -- The steps that last, and what each leaves. The running machine does them, and a recovery does them again.
-use Rattle.std.specs.Prelude.{ℕ, ◌+◌, ◌==◌, filter, not, false, if◌then◌else◌, Option, Some, None, List, [], ◌∷◌, ◌++◌, codes, slice_index_or}
-use Rattle.std.specs.Option.{is_some}
+use Rattle.std.specs.Prelude.{ℕ, ◌+◌, ◌-◌, ◌==◌, Bool, filter, not, true, false, if◌then◌else◌, Option, Some, None, List, [], ◌∷◌, ◌++◌, codes, slice_index_or}
+use Rattle.std.specs.Option.{is_some, option_map}
 use Rattle.tm_types.specs.declared.abend.AbendCode.{AbendCode}
 use Rattle.tm_types.specs.declared.message.Message.{Message}
-use Rattle.tm_types.specs.Words.{first_word}
+use Rattle.tm_types.specs.Words.{first_word, operands}
 use Rattle.tm_types.specs.Digits.{four_digits}
+use Rattle.model_conversation.specs.declared.conversation.Conversation.{Conversation}
+use Rattle.model_conversation.specs.declared.conversation.PadChange.{PadChange}
+use Rattle.model_conversation.specs.declared.conversation.PadChange.TheVariants.{Stays, New, Ends}
+use Rattle.model_conversation.specs.declared.conversation.TerminalConversation.{TerminalConversation}
+use Rattle.model_conversation.specs.Pads.{begun}
+use Rattle.model_conversation.specs.Terminals.{conversation_at, with_conversation}
+use Rattle.model_conversation.specs.Terminals as conversations
+use Rattle.model_system.specs.declared.code.Code.{Code}
+use Rattle.model_system.specs.Codes.{code_at}
+use Rattle.model_system.specs.System.{System}
 use Rattle.model_system.specs.Lists.{change_at}
 use Rattle.model_queues.specs.Outputs.{with_terminal, with_reply, without_first}
 use Rattle.model_message.specs.declared.ended_message.EndedMessage.{EndedMessage}
@@ -12,30 +22,87 @@ use Rattle.model_rows.specs.declared.row.Row.{Row}
 use Rattle.model_machine.specs.declared.lasting.TerminalState.{TerminalState}
 use Rattle.model_machine.specs.Machine.{LastingState, terminal_place, output_at, message_at}
 
--- An input of a terminal under a number is accepted. A terminal's first reply is acknowledged. The message
--- of an id is completed: the rows are these, and these outputs are sent. The message of an id is discarded
--- with an abend.
-pub data LastingStep : Type 0 where
-  Accepts : List ℕ → ℕ → List (List ℕ) → LastingStep
-  Acknowledges : List ℕ → LastingStep
-  Completes : ℕ → List (List Row) → List EndedMessage → LastingStep
-  Discards : ℕ → AbendCode → LastingStep
+-- ---- an input as it is kept
 
--- an input's code is the first word of its first segment
+-- the code that it goes to, whether it belongs to a conversation, its segments, and the conversation that begins
+-- with it, if one does
+pub record KeptInput : Type 0 where
+  pub code : List ℕ
+  pub conversation : Bool
+  pub segments : List (List ℕ)
+  pub begins : Option Conversation
+
+-- the first word of an input's first segment
 abbrev pub code_word : List (List ℕ) → List ℕ
 code_word segments = first_word (slice_index_or segments 0 [])
+
+-- the segments without the first one's first word, and without the blank that ends it
+abbrev pub without_word : List (List ℕ) → List (List ℕ)
+without_word [] = []
+without_word (segment ∷ segments) = operands segment ∷ segments
+
+-- An input to a code without conversations is kept as it is. A code with conversations begins one: the code is cut
+-- off, and the pad has a work area of the length of the code's pad, less 14.
+abbrev pub kept_alone : List (List ℕ) → KeptInput
+kept_alone segments = record { code = code_word segments; conversation = false; segments = segments; begins = None }
+
+abbrev pub kept_first : ℕ → List (List ℕ) → KeptInput
+kept_first pad segments = record {
+  code = code_word segments;
+  conversation = true;
+  segments = without_word segments;
+  begins = Some (begun (code_word segments) (pad - 14));
+}
+
+abbrev pub kept_by_code : Option Code → List (List ℕ) → KeptInput
+kept_by_code None segments = kept_alone segments
+kept_by_code (Some code) segments =
+    if code.transaction.scratch_pad == 0 then kept_alone segments else kept_first code.transaction.scratch_pad segments
+
+-- Where the terminal has a conversation, the input goes to its code whatever the text.
+abbrev pub kept_by : System → Option Conversation → List (List ℕ) → KeptInput
+kept_by system (Some c) segments = record { code = c.code; conversation = true; segments = segments; begins = None }
+kept_by system None segments = kept_by_code (code_at system.codes (code_word segments)) segments
+
+abbrev pub kept_input : System → LastingState → List ℕ → List (List ℕ) → KeptInput
+kept_input system lasting terminal segments = kept_by system (conversation_at terminal lasting.conversations) segments
+
+-- ---- the steps
+
+-- An input of a terminal under a number is accepted, and kept so. A terminal's first reply is acknowledged. The
+-- message of an id is completed: the rows are these, these outputs are sent, and this becomes of the pad. The
+-- message of an id is discarded with an abend.
+pub data LastingStep : Type 0 where
+  Accepts : List ℕ → ℕ → KeptInput → LastingStep
+  Acknowledges : List ℕ → LastingStep
+  Completes : ℕ → List (List Row) → List EndedMessage → PadChange → LastingStep
+  Discards : ℕ → AbendCode → LastingStep
 
 -- a terminal with this number as its last input's
 abbrev pub with_last : ℕ → TerminalState → TerminalState
 with_last number terminal = record terminal { last = number }
 
--- What an accepted input leaves: its message behind all others, under the next id, and its number as the
--- terminal's last.
-abbrev pub accepted : List ℕ → ℕ → List (List ℕ) → LastingState → LastingState
-accepted terminal number segments lasting = record lasting {
-  messages = lasting.messages ++ record { id = lasting.next_id; origin = terminal; code = code_word segments; conversation = false; segments = segments } ∷ [];
+-- the terminal has this conversation, or none
+abbrev pub conversing : List ℕ → Option Conversation → List TerminalConversation → List TerminalConversation
+conversing terminal conversation all = conversations.with_terminal terminal (with_conversation conversation) all
+
+-- a conversation begins at the terminal, if one does
+abbrev pub with_begun : List ℕ → Option Conversation → List TerminalConversation → List TerminalConversation
+with_begun terminal None all = all
+with_begun terminal (Some c) all = conversing terminal (Some c) all
+
+-- the message of an input that is kept so
+abbrev pub input_message : ℕ → List ℕ → KeptInput → Message
+input_message id terminal kept = record { id = id; origin = terminal; code = kept.code; conversation = kept.conversation; segments = kept.segments }
+
+-- What an accepted input leaves: its message behind all others, under the next id, its number as the
+-- terminal's last, and the conversation that begins with it.
+abbrev pub accepted : List ℕ → ℕ → KeptInput → LastingState → LastingState
+accepted terminal number kept lasting = record lasting {
+  messages = lasting.messages ++ input_message lasting.next_id terminal kept ∷ [];
   next_id = lasting.next_id + 1;
   terminals = change_at lasting.terminals (terminal_place lasting.terminals terminal) (with_last number);
+  conversations = with_begun terminal kept.begins lasting.conversations;
 }
 
 -- what an acknowledged reply leaves: the terminal without it
@@ -83,14 +150,36 @@ abbrev pub finished_by : Option Message → (Message → List EndedMessage) → 
 finished_by (Some message) outputs lasting = finished message (outputs message) lasting
 finished_by None outputs lasting = lasting
 
+-- The pad of a message's conversation stays, or is another one, or the conversation ends.
+abbrev pub with_text : List ℕ → Conversation → Conversation
+with_text text c = record c { pad = text }
+
+abbrev pub new_pad : List ℕ → TerminalConversation → TerminalConversation
+new_pad text t = record t { conversation = option_map (with_text text) t.conversation }
+
+abbrev pub padded : PadChange → List ℕ → List TerminalConversation → List TerminalConversation
+padded Stays origin all = all
+padded (New text) origin all = conversations.with_terminal origin (new_pad text) all
+padded Ends origin all = conversing origin None all
+
+-- a discarded message that belongs to a conversation ends it
+abbrev pub discarded_pad : Message → PadChange
+discarded_pad message = if message.conversation then Ends else Stays
+
+abbrev pub with_pad_by : Option Message → (Message → PadChange) → LastingState → LastingState
+with_pad_by (Some message) change lasting = record lasting { conversations = padded (change message) message.origin lasting.conversations }
+with_pad_by None change lasting = lasting
+
 -- what a step changes
 abbrev pub changed : LastingStep → LastingState → LastingState
-changed (Accepts terminal number segments) lasting = accepted terminal number segments lasting
+changed (Accepts terminal number kept) lasting = accepted terminal number kept lasting
 changed (Acknowledges terminal) lasting = acknowledged terminal lasting
-changed (Completes id rows outputs) lasting =
-    finished_by (message_at lasting.messages id) (λ _. outputs) (record lasting { rows = rows })
+changed (Completes id rows outputs pad) lasting =
+    finished_by (message_at lasting.messages id) (λ _. outputs)
+    (with_pad_by (message_at lasting.messages id) (λ _. pad) (record lasting { rows = rows }))
 changed (Discards id abend) lasting =
-    finished_by (message_at lasting.messages id) (λ message. abend_outputs message abend) lasting
+    finished_by (message_at lasting.messages id) (λ message. abend_outputs message abend)
+    (with_pad_by (message_at lasting.messages id) discarded_pad lasting)
 
 -- what a step leaves, which is counted
 abbrev pub applied : LastingStep → LastingState → LastingState

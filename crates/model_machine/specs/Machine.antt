@@ -4,6 +4,8 @@ use Rattle.std.specs.Option.{unwrap_or, is_some}
 use Rattle.std.specs.List.{list_any, count_by}
 use Rattle.std.specs.Str.{bytes_eq}
 use Rattle.tm_types.specs.declared.message.Message.{Message}
+use Rattle.model_conversation.specs.declared.conversation.TerminalConversation.{TerminalConversation}
+use Rattle.model_conversation.specs.Terminals.{without_conversation}
 use Rattle.model_queues.specs.declared.replies.TerminalReplies.{TerminalReplies}
 use Rattle.model_queues.specs.Outputs.{fresh_terminal, replies_at, outputs_bytes}
 use Rattle.model_queues.specs.Room.{messages_bytes}
@@ -19,14 +21,15 @@ use Rattle.model_machine.specs.declared.lasting.CodeSetting.{CodeSetting}
 
 -- What lasts of the machine: the rows of each database; the messages in the order of their ids, and the
 -- next id; per terminal the last input number and whether it is stopped; the replies kept for each, with
--- the next number; per code whether it is stopped, its class and its priority; and how many lasting steps
--- were done.
+-- the next number; the conversation of each, if it has one; per code whether it is stopped, its class and its
+-- priority; and how many lasting steps were done.
 pub record LastingState : Type 0 where
   pub rows : List (List Row)
   pub messages : List Message
   pub next_id : ℕ
   pub terminals : List TerminalState
   pub outputs : List TerminalReplies
+  pub conversations : List TerminalConversation
   pub codes : List CodeSetting
   pub steps : ℕ
 
@@ -146,6 +149,7 @@ empty_state system = record {
   next_id = 1;
   terminals = map fresh_terminal_state system.terminals;
   outputs = map fresh_terminal system.terminals;
+  conversations = map without_conversation system.terminals;
   codes = map first_setting system.codes;
   steps = 0;
 }

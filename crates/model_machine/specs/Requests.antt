@@ -1,7 +1,6 @@
 -- What a region asks for before its script's next call is made, and what blocks it.
 use Rattle.std.specs.Prelude.{◌≡◌, ℕ, zero, suc, ◌-◌, Option, Some, None, List, [], ◌∷◌, ◌++◌, map, length, slice_set}
 use Rattle.std.specs.Option.{option_map_or}
-use Rattle.tm_types.specs.declared.message.Message.{Message}
 use Rattle.model_rows.specs.declared.row.Row.{Row}
 use Rattle.model_script.specs.declared.need.CallText.{CallText}
 use Rattle.model_script.specs.declared.need.Need.{Need}
@@ -18,7 +17,7 @@ use Rattle.model_enqueue.specs.Ask.{after_asks, first_blocked, released}
 use Rattle.model_enqueue.specs.Cycle.{Breaks, after_victims}
 use Rattle.model_machine.specs.declared.entry.Turned.{Turned}
 use Rattle.model_machine.specs.declared.entry.Turned.TheVariants.{Scheduled, Called, Next, QC, Done, Abended, Idle, Held, Waits, Backed}
-use Rattle.model_machine.specs.Trial.{DbPcb, Reached, Trial, reached, db_call, trial_need, trial_of}
+use Rattle.model_machine.specs.Trial.{DbPcb, Given, Reached, Trial, reached, db_call, trial_need, trial_of}
 use Rattle.model_machine.specs.Trial.Reached.{Messages, Rows, Nothing}
 use Rattle.model_machine.specs.Machine.{LastingState, Moment, Slot, slot_at}
 use Rattle.model_machine.specs.Work.{slot_trial}
@@ -52,10 +51,10 @@ abbrev pub asked_behind : ℕ → Job → Option Trial → List Request
 asked_behind region job (Some trial) = requests_of region job trial
 asked_behind region job None = []
 
-abbrev pub asked_before : ℕ → Job → List (List Row) → Message → ℕ → List Request
-asked_before region job rows message zero = []
-asked_before region job rows message (suc calls) =
-    asked_before region job rows message calls ++ asked_behind region job (trial_of job rows message calls)
+abbrev pub asked_before : ℕ → Job → List (List Row) → Given → ℕ → List Request
+asked_before region job rows given zero = []
+asked_before region job rows given (suc calls) =
+    asked_before region job rows given calls ++ asked_behind region job (trial_of job rows given calls)
 
 -- what a slot's region asks for in its next turn
 abbrev pub requests_on : System → LastingState → ℕ → Slot → Job → List Request

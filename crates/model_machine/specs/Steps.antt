@@ -10,6 +10,9 @@ use Rattle.model_system.specs.declared.code.SegmentKind.TheVariants.{Multiple, S
 use Rattle.model_system.specs.System.{System}
 use Rattle.model_system.specs.Codes.{code_at, code_place}
 use Rattle.model_system.specs.Jobs.{Job, job_of}
+use Rattle.model_conversation.specs.declared.conversation.Conversation.{Conversation}
+use Rattle.model_conversation.specs.Input.{busy_id}
+use Rattle.model_conversation.specs.Terminals.{conversation_at}
 use Rattle.model_queues.specs.declared.replies.TerminalReplies.{TerminalReplies}
 use Rattle.model_queues.specs.Outputs.{first_number}
 use Rattle.model_queues.specs.Room.{input_needs, slot_needs, slot_room}
@@ -19,7 +22,7 @@ use Rattle.model_machine.specs.declared.entry.ControlCall.TheVariants.{Input, Re
 use Rattle.model_machine.specs.declared.entry.Taken.{Taken}
 use Rattle.model_machine.specs.declared.entry.Taken.TheVariants.{New, Already}
 use Rattle.model_machine.specs.declared.entry.InputRefused.{InputRefused}
-use Rattle.model_machine.specs.declared.entry.InputRefused.TheVariants.{Terminal as NoTerminal, Expected, Code as NoCode, SegmentsOver, QueueFull}
+use Rattle.model_machine.specs.declared.entry.InputRefused.TheVariants.{Terminal as NoTerminal, Expected, Conversation as Conversing, Code as NoCode, SegmentsOver, QueueFull}
 use Rattle.model_machine.specs.declared.entry.ShowAnswer.{ShowAnswer}
 use Rattle.model_machine.specs.declared.entry.ShowAnswer.TheVariants.{Reply as Showed, Empty, Unknown as ShowUnknown}
 use Rattle.model_machine.specs.declared.entry.Acked.{Acked}
@@ -28,11 +31,11 @@ use Rattle.model_machine.specs.declared.entry.AckRefused.{AckRefused}
 use Rattle.model_machine.specs.declared.entry.AckRefused.TheVariants.{Unknown as AckUnknown, Ahead}
 use Rattle.model_machine.specs.declared.entry.Turned.{Turned}
 use Rattle.model_machine.specs.declared.entry.Turned.TheVariants.{Scheduled, Called, Next, QC, Done, Abended, Idle, Held, Waits, Backed}
-use Rattle.model_machine.specs.Trial.{Trial, WorkEnd, Advance, advance, outputs_of}
+use Rattle.model_machine.specs.Trial.{Trial, WorkEnd, Advance, advance, outputs_of, pad_of}
 use Rattle.model_machine.specs.Trial.WorkEnd.{Ends, Syncs, Abends}
 use Rattle.model_machine.specs.Trial.Advance.{Goes, Stops}
 use Rattle.model_machine.specs.Machine.{LastingState, Moment, Slot, terminal_at, output_at, slot_at, is_held, busy_slots, content, states_of, moment_with}
-use Rattle.model_machine.specs.Lasting.{LastingStep, code_word, applied}
+use Rattle.model_machine.specs.Lasting.{KeptInput, LastingStep, kept_input, applied}
 use Rattle.model_machine.specs.Lasting.LastingStep.{Accepts, Acknowledges, Completes, Discards}
 use Rattle.model_machine.specs.Pick.{Candidate, pick_of}
 use Rattle.model_machine.specs.Work.{slot_trial}
@@ -61,7 +64,16 @@ by_number last number =
 abbrev pub wrong_number : LastingState → List ℕ → ℕ → Refusal
 wrong_number lasting terminal number = option_and_then (λ t. by_number t.last number) (terminal_at lasting.terminals terminal)
 
--- no code is the first word
+-- a message of the terminal's conversation is queued or worked on
+abbrev pub busy_by : Option Conversation → Option ℕ → Refusal
+busy_by None id = None
+busy_by (Some c) None = None
+busy_by (Some c) (Some id) = Some (Err (Conversing id))
+
+abbrev pub busy_conversation : LastingState → List ℕ → Refusal
+busy_conversation lasting terminal = busy_by (conversation_at terminal lasting.conversations) (busy_id terminal lasting.messages)
+
+-- no code is the one that the input goes to
 abbrev pub unknown_code : List Code → List ℕ → Refusal
 unknown_code codes word = if is_some (code_at codes word) then None else Some (Err NoCode)
 
@@ -73,25 +85,26 @@ most_segments Single = 1
 abbrev pub by_count : ℕ → ℕ → Refusal
 by_count most count = if nat_lt most count then Some (Err (SegmentsOver count most)) else None
 
-abbrev pub many_segments : List Code → List (List ℕ) → Refusal
-many_segments codes segments =
-    option_and_then (λ code. by_count (most_segments code.transaction.segment_kind) (length segments)) (code_at codes (code_word segments))
+abbrev pub many_segments : List Code → KeptInput → Refusal
+many_segments codes kept =
+    option_and_then (λ code. by_count (most_segments code.transaction.segment_kind) (length kept.segments)) (code_at codes kept.code)
 
--- the queues have no room for the input
+-- the queues have no room for the input as it is kept
 abbrev pub by_room : ℕ → ℕ → Refusal
 by_room need limit = if nat_lt limit need then Some (Err (QueueFull need limit)) else None
 
 abbrev pub no_room : System → Moment → List (List ℕ) → Refusal
 no_room system moment segments = by_room (input_needs (content moment.lasting) (counted_bytes segments) (busy_slots moment.slots)) system.qbytes
 
--- the refusals of an input, in the order in which they are looked at
-abbrev pub refusals : System → Moment → List ℕ → ℕ → List (List ℕ) → List Refusal
-refusals system moment terminal number segments =
+-- the refusals of an input that would be kept so, in the order in which they are looked at
+abbrev pub refusals : System → Moment → List ℕ → ℕ → KeptInput → List Refusal
+refusals system moment terminal number kept =
     unknown_terminal moment.lasting terminal
     ∷ wrong_number moment.lasting terminal number
-    ∷ unknown_code system.codes (code_word segments)
-    ∷ many_segments system.codes segments
-    ∷ no_room system moment segments
+    ∷ busy_conversation moment.lasting terminal
+    ∷ unknown_code system.codes kept.code
+    ∷ many_segments system.codes kept
+    ∷ no_room system moment kept.segments
     ∷ []
 
 -- the first that applies
@@ -102,7 +115,7 @@ first_of (refusal ∷ others) = option_or refusal (first_of others)
 -- an input that none applies to is new, under the next id
 abbrev pub input_answer : System → Moment → List ℕ → ℕ → List (List ℕ) → Result Taken InputRefused
 input_answer system moment terminal number segments =
-    unwrap_or (first_of (refusals system moment terminal number segments)) (Ok (New moment.lasting.next_id))
+    unwrap_or (first_of (refusals system moment terminal number (kept_input system moment.lasting terminal segments))) (Ok (New moment.lasting.next_id))
 
 -- ---- replies
 
@@ -153,8 +166,8 @@ slot_work system lasting slot =
 
 -- the step with which the work on a slot's message ends
 abbrev pub ending_step : Slot → Trial → WorkEnd → LastingStep
-ending_step slot trial Ends = Completes slot.id trial.databases.rows (outputs_of trial)
-ending_step slot trial Syncs = Completes slot.id trial.databases.rows (outputs_of trial)
+ending_step slot trial Ends = Completes slot.id trial.databases.rows (outputs_of trial) (pad_of trial)
+ending_step slot trial Syncs = Completes slot.id trial.databases.rows (outputs_of trial) (pad_of trial)
 ending_step slot trial (Abends abend) = Discards slot.id abend
 
 -- A region goes on with a further message where it has taken fewer than its code's count, or that
@@ -208,9 +221,9 @@ turn_answer system moment region victims = turn_by system moment region victims 
 -- ---- what a call leaves
 
 -- The step that lasts of a call, if one does: a function of the moment and the call alone.
-abbrev pub accepts : List ℕ → ℕ → List (List ℕ) → Result Taken InputRefused → Option LastingStep
-accepts terminal number segments (Ok (New id)) = Some (Accepts terminal number segments)
-accepts terminal number segments _ = None
+abbrev pub accepts : List ℕ → ℕ → KeptInput → Result Taken InputRefused → Option LastingStep
+accepts terminal number kept (Ok (New id)) = Some (Accepts terminal number kept)
+accepts terminal number kept _ = None
 
 abbrev pub acknowledges : List ℕ → Result Acked AckRefused → Option LastingStep
 acknowledges terminal (Ok Removed) = Some (Acknowledges terminal)
@@ -232,7 +245,8 @@ abbrev pub step_in_turn : System → Moment → ℕ → Slot → Option LastingS
 step_in_turn system moment region slot = unless_blocked (blocked_now system moment region slot) (turn_step system moment.lasting slot)
 
 abbrev pub lasting_step : System → Moment → ControlCall → Option LastingStep
-lasting_step system moment (Input terminal number segments) = accepts terminal number segments (input_answer system moment terminal number segments)
+lasting_step system moment (Input terminal number segments) =
+    accepts terminal number (kept_input system moment.lasting terminal segments) (input_answer system moment terminal number segments)
 lasting_step system moment (Receive terminal) = None
 lasting_step system moment (Acknowledge terminal number) = acknowledges terminal (ack_answer moment terminal number)
 lasting_step system moment (Turn region) =

@@ -4,8 +4,10 @@ use Rattle.std.specs.Option.{option_and_then, option_map_or}
 use Rattle.tm_types.specs.declared.abend.AbendCode.{AbendCode}
 use Rattle.tm_types.specs.declared.dbd.Dbd.{Dbd}
 use Rattle.tm_types.specs.declared.function.Function.{Function}
-use Rattle.tm_types.specs.declared.function.Function.TheVariants.{GU, ROLB, ROLL}
+use Rattle.tm_types.specs.declared.function.Function.TheVariants.{GU, ROLB}
 use Rattle.tm_types.specs.declared.message.Message.{Message}
+use Rattle.model_conversation.specs.declared.conversation.Conversation.{Conversation}
+use Rattle.model_conversation.specs.declared.conversation.PadChange.{PadChange}
 use Rattle.tm_types.specs.declared.status.Status.{Status}
 use Rattle.tm_types.specs.declared.status.Status.TheVariants.{AM}
 use Rattle.model_script.specs.declared.need.CallText.{CallText}
@@ -23,7 +25,7 @@ use Rattle.model_dli.specs.Dli.{DliResult}
 use Rattle.model_dli.specs.Data.{Data, data_start, data_call, data_abend, data_after}
 use Rattle.model_message.specs.declared.ended_message.EndedMessage.{EndedMessage}
 use Rattle.model_message.specs.Work.{MessageWork, message_start}
-use Rattle.model_message.specs.Calls.{status_alone, message_answer, message_work, finish_work}
+use Rattle.model_message.specs.Calls.{status_alone, message_answer, message_work, message_abend, pad_change, finish_work}
 
 -- the database that a PCB reaches: its number, its definition, and the PCB's options
 pub record DbPcb : Type 0 where
@@ -63,11 +65,6 @@ abbrev pub rolled_back : List (List Row) → Function → Data → Data
 rolled_back rows ROLB d = data_start (length d.positions) rows
 rolled_back rows _ d = d
 
--- ROLL ends the work with U0778.
-abbrev pub roll_abend : Function → Option AbendCode
-roll_abend ROLL = Some (record { number = 778 })
-roll_abend _ = None
-
 -- a script's call as one on a database
 abbrev pub db_call : DbPcb → CallText → DbCall
 db_call target call = record { function = call.function; options = target.options; area = call.area; ssas = call.ssas }
@@ -91,7 +88,7 @@ outcome_at system rows Messages work d call = record {
   answer = message_answer system work call;
   work = message_work system work call;
   databases = rolled_back rows call.function d;
-  abend = roll_abend call.function;
+  abend = message_abend work call;
 }
 outcome_at system rows (Rows target) work d call = db_outcome target work d call (db_result target d call)
 outcome_at system rows Nothing work d call = record { answer = status_alone AM; work = work; databases = d; abend = None }
@@ -120,10 +117,15 @@ pub data Advance : Type 0 where
   Goes : Trial → CalledWith → Advance
   Stops : WorkEnd → Advance
 
-abbrev pub trial_start : Job → List (List Row) → Message → Trial
-trial_start job rows message = record {
+-- a message as it is given to its program: with the conversation of its origin, where it belongs to one
+pub record Given : Type 0 where
+  pub message : Message
+  pub conversation : Option Conversation
+
+abbrev pub trial_start : Job → List (List Row) → Given → Trial
+trial_start job rows given = record {
   answers = [];
-  work = message_start job.transaction message job.pcbs;
+  work = message_start job.transaction given.message given.conversation job.pcbs;
   databases = data_start (length job.pcbs) rows;
 }
 
@@ -173,11 +175,15 @@ gone (Stops end) = None
 -- What k calls of the script give for a message, on these rows of each database, when nothing else
 -- happens: from the script's start, one call after another. There is no such trial where the work ends
 -- before.
-abbrev pub trial_of : Job → List (List Row) → Message → ℕ → Option Trial
-trial_of job rows message zero = Some (trial_start job rows message)
-trial_of job rows message (suc calls) = option_and_then (λ trial. gone (advance job rows trial)) (trial_of job rows message calls)
+abbrev pub trial_of : Job → List (List Row) → Given → ℕ → Option Trial
+trial_of job rows given zero = Some (trial_start job rows given)
+trial_of job rows given (suc calls) = option_and_then (λ trial. gone (advance job rows trial)) (trial_of job rows given calls)
 
 -- what the work sends: the messages that were ended, in that order, and then those under construction,
 -- in the order of the PCBs
 abbrev pub outputs_of : Trial → List EndedMessage
 outputs_of trial = (finish_work trial.work).ended
+
+-- what becomes of the pad of the message's conversation
+abbrev pub pad_of : Trial → PadChange
+pad_of trial = pad_change trial.work

@@ -41,6 +41,8 @@ pub enum InputRefused {
     Terminal,
     #[error("the number {0} was expected")]
     Expected(u64),
+    #[error("message {0} of the terminal's conversation isn't done")]
+    Conversation(u64),
     #[error("the first word is no transaction code")]
     Code,
     #[error("the input has {0} segments, and its code takes at most {1}")]

@@ -1,6 +1,7 @@
 //! What lasts of the machine.
 ghost use Rattle.std.specs.Prelude.{◌≡◌, []};
 
+use model_conversation::TerminalConversation;
 use model_queues::TerminalReplies;
 use model_rows::Row;
 use std::alloc::Global;
@@ -72,6 +73,8 @@ pub struct Lasting {
     pub terminals: Vec<TerminalState>,
     /// The replies that are kept.
     pub outputs: Vec<TerminalReplies>,
+    /// The conversation of each terminal, if it has one.
+    pub conversations: Vec<TerminalConversation>,
     /// The transaction codes, in the order of the definition.
     pub codes: Vec<CodeSetting>,
     /// How many lasting steps were done.
@@ -83,5 +86,5 @@ impl Model for Lasting {
 
     ghost Value = { LastingState };
 
-    ghost view = { λ l. record { rows = l.rows.items; messages = l.messages.items; next_id = l.next_id; terminals = l.terminals.items; outputs = l.outputs.items; codes = l.codes.items; steps = l.steps } };
+    ghost view = { λ l. record { rows = l.rows.items; messages = l.messages.items; next_id = l.next_id; terminals = l.terminals.items; outputs = l.outputs.items; conversations = l.conversations.items; codes = l.codes.items; steps = l.steps } };
 }

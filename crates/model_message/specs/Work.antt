@@ -1,18 +1,21 @@
 -- The work on a message, as far as calls on PCB 0 and on output PCBs change it.
 use Rattle.std.specs.Prelude.{ℕ, Bool, false, List, [], ◌∷◌, Option, Some, None, map}
 use Rattle.tm_types.specs.declared.message.Message.{Message}
+use Rattle.model_conversation.specs.declared.conversation.Conversation.{Conversation}
 use Rattle.model_system.specs.declared.code.Transaction.{Transaction}
 use Rattle.model_system.specs.declared.pcb.Pcb.{Pcb}
 use Rattle.model_system.specs.declared.pcb.Pcb.TheVariants.{Database, Destination, Modifiable}
 use Rattle.model_message.specs.declared.ended_message.EndedMessage.{EndedMessage}
 use Rattle.model_message.specs.declared.open_pcb.OpenPcb.{OpenPcb}
 
--- The message's segments; whether the script has got the first one, and the place of the one that is
--- given next; the longest LL of a segment that is inserted, and how many may be; how many were, by
--- all PCBs together; the PCBs, of which PCB 0 is the first; and the messages that were ended, in the
--- order in which they were.
+-- The message's segments; the conversation that it belongs to, if it does, and the pad that was given back;
+-- whether the script has got the first text, and the place of the one that is given next; the longest LL of a
+-- segment that is inserted, and how many may be; how many were, by all PCBs together; the PCBs, of which PCB 0 is
+-- the first; and the messages that were ended, in the order in which they were.
 pub record MessageWork : Type 0 where
   pub segments : List (List ℕ)
+  pub conversation : Option Conversation
+  pub returned : Option (List ℕ)
   pub begun : Bool
   pub place : ℕ
   pub size_limit : ℕ
@@ -29,10 +32,12 @@ fresh_pcb kind = record { kind = kind; chosen = None; segments = [] }
 abbrev pub fresh_pcbs : List ℕ → List Pcb → List OpenPcb
 fresh_pcbs origin pcbs = map fresh_pcb (Destination origin ∷ pcbs)
 
--- the work on a message before the first call, by a program with these PCBs
-abbrev pub message_start : Transaction → Message → List Pcb → MessageWork
-message_start transaction message pcbs = record {
+-- the work on a message, in this conversation or in none, before the first call, by a program with these PCBs
+abbrev pub message_start : Transaction → Message → Option Conversation → List Pcb → MessageWork
+message_start transaction message conversation pcbs = record {
   segments = message.segments;
+  conversation = conversation;
+  returned = None;
   begun = false;
   place = 0;
   size_limit = transaction.segment_size;

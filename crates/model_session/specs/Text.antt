@@ -22,7 +22,7 @@ use Rattle.model_machine.specs.declared.entry.ControlFault.{ControlFault}
 use Rattle.model_machine.specs.declared.entry.Taken.{Taken}
 use Rattle.model_machine.specs.declared.entry.Taken.TheVariants.{New, Already}
 use Rattle.model_machine.specs.declared.entry.InputRefused.{InputRefused}
-use Rattle.model_machine.specs.declared.entry.InputRefused.TheVariants.{Terminal as NoTerminal, Expected, Code as NoCode, SegmentsOver, QueueFull, Fault as InputFault}
+use Rattle.model_machine.specs.declared.entry.InputRefused.TheVariants.{Terminal as NoTerminal, Expected, Conversation as Conversing, Code as NoCode, SegmentsOver, QueueFull, Fault as InputFault}
 use Rattle.model_machine.specs.declared.entry.ShowAnswer.{ShowAnswer}
 use Rattle.model_machine.specs.declared.entry.ShowAnswer.TheVariants.{Reply as Showed, Empty, Unknown as ShowUnknown}
 use Rattle.model_machine.specs.declared.entry.Acked.{Acked}
@@ -59,6 +59,7 @@ input_text terminal number word (Ok (New id)) = about (codes "ACK") terminal num
 input_text terminal number word (Ok Already) = about (codes "ALREADY") terminal number ++ line_end
 input_text terminal number word (Err NoTerminal) = about (codes "REFUSED") terminal number ++ codes " TERMINAL" ++ line_end
 input_text terminal number word (Err (Expected next)) = about (codes "REFUSED") terminal number ++ codes " EXPECTED " ++ decimal next ++ line_end
+input_text terminal number word (Err (Conversing id)) = about (codes "REFUSED") terminal number ++ codes " CONVERSATION " ++ decimal id ++ line_end
 input_text terminal number word (Err NoCode) = about (codes "REFUSED") terminal number ++ codes " CODE " ++ word ++ line_end
 input_text terminal number word (Err (SegmentsOver count most)) = about (codes "REFUSED") terminal number ++ codes " SEGMENTS " ++ decimal count ++ 32 ∷ [] ++ decimal most ++ line_end
 input_text terminal number word (Err (QueueFull need limit)) = about (codes "REFUSED") terminal number ++ codes " QUEUE FULL " ++ decimal need ++ 32 ∷ [] ++ decimal limit ++ line_end

@@ -31,6 +31,9 @@ pub struct Transaction {
     pub segment_count: u8,
     /// The longest output segment, 5 to 2,000.
     pub segment_size: u16,
+    /// How long the scratch pad of the code's conversations is, 16 to 1,000, with 6 bytes before the code and the work
+    /// area; 0 for a code without conversations.
+    pub scratch_pad: u16,
     /// Whether one message at a time is worked on.
     pub serial: bool,
 }

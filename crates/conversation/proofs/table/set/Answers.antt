@@ -1,4 +1,4 @@
-use Rattle.conversation.specs.Terminals.{with_conversation}
+use Rattle.model_conversation.specs.Terminals.{with_conversation}
 use Rattle.conversation.proofs.Terminals.{place_changed}
 use Rattle.conversation.proofs.table.set.Goals as goal
 

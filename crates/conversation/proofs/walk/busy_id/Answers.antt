@@ -2,7 +2,7 @@ use Rattle.std.proofs.Common.{true, false, sym, ap, ◌∙◌}
 use Rattle.std.specs.Option.{option_copied, option_map}
 use Rattle.tm_types.specs.declared.message.Message.{Message}
 use Rattle.model_queues.specs.Queue.{messages_of}
-use Rattle.conversation.specs.Input.{is_conversing}
+use Rattle.model_conversation.specs.Input.{is_conversing}
 use Rattle.conversation.proofs.Walking.{ascending, ends, found, goes, fewer}
 use Rattle.conversation.proofs.walk.busy_id.Goals as goal
 

@@ -1,7 +1,7 @@
 -- the messages before the next one aren't of the terminal's conversation
 use Rattle.std.specs.Option.{option_copied}
 use Rattle.model_queues.specs.Queue.{messages_of}
-use Rattle.conversation.specs.Input.{is_conversing}
+use Rattle.model_conversation.specs.Input.{is_conversing}
 use Rattle.conversation.proofs.Walking.{IsAt, left}
 use Rattle.conversation.proofs.walk.busy_id.Given as goal
 

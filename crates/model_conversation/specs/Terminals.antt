@@ -2,8 +2,8 @@
 use Rattle.std.specs.Prelude.{ℕ, Bool, if◌then◌else◌, List, [], ◌∷◌, Option, None, find, IsSome}
 use Rattle.std.specs.Option.{option_and_then, option_map}
 use Rattle.std.specs.Str.{bytes_eq}
-use Rattle.conversation.specs.declared.table.Conversation.{Conversation}
-use Rattle.conversation.specs.declared.table.TerminalConversation.{TerminalConversation}
+use Rattle.model_conversation.specs.declared.conversation.Conversation.{Conversation}
+use Rattle.model_conversation.specs.declared.conversation.TerminalConversation.{TerminalConversation}
 
 -- a terminal that has no conversation
 abbrev pub without_conversation : List ℕ → TerminalConversation
