@@ -1,5 +1,5 @@
 -- The records of a lasting step, done again, leave what the machine's step leaves.
-use Rattle.std.proofs.Common.{◌≡◌, ℕ, ◌+◌, ◌<◌, ◌≤◌, Bool, true, false, not, ◌&&◌, List, [], ◌∷◌, ◌++◌, refl, sym, ◌∙◌, ap, arith, Some, None}
+use Rattle.std.proofs.Common.{◌≡◌, ℕ, ◌+◌, ◌-◌, ◌<◌, ◌≤◌, Bool, true, false, not, ◌&&◌, List, [], ◌∷◌, ◌++◌, refl, sym, ◌∙◌, ap, arith, Some, None}
 use Rattle.std.specs.Prelude.{Option, if◌then◌else◌, ◌==◌}
 use Rattle.std.specs.Option.{is_some, option_map, option_map_or, option_and_then}
 use Rattle.std.proofs.lemmas.Bool.{eq-eqb, eqb-true, ne_eqb}
@@ -10,12 +10,18 @@ use Rattle.model_queues.specs.Outputs.{next_of, reply_at}
 use Rattle.model_message.specs.declared.ended_message.EndedMessage.{EndedMessage}
 use Rattle.model_machine.specs.declared.lasting.TerminalState.{TerminalState}
 use Rattle.model_machine.specs.Machine.{LastingState, terminal_at, message_at, output_at}
-use Rattle.model_machine.specs.Lasting.{applied, code_word, sent, all_sent, switched, replied, without_message, finished_by}
+use Rattle.model_machine.specs.Lasting.{KeptInput, applied, code_word, kept_alone, kept_first, kept_by, kept_by_code, kept_input, without_word, padded, sent, all_sent, switched, replied, without_message, finished_by, with_pad_by}
 use Rattle.model_machine.specs.Lasting.LastingStep.{Accepts, Acknowledges, Completes, Discards}
 use Rattle.log_records.specs.declared.record.Record.{Record}
-use Rattle.log_records.specs.declared.record.Record.TheVariants.{Completed}
-use Rattle.model_conversation.specs.declared.conversation.PadChange.TheVariants.{Stays}
-use Rattle.model_image.specs.Replay.{done, all_done, accepts, acknowledges, discards, syncs, with_step}
+use Rattle.log_records.specs.declared.record.Record.TheVariants.{Input, Reply, Completed}
+use Rattle.model_conversation.specs.declared.conversation.Conversation.{Conversation}
+use Rattle.model_conversation.specs.declared.conversation.PadChange.{PadChange}
+use Rattle.model_conversation.specs.Pads.{begun}
+use Rattle.model_conversation.specs.Terminals.{conversation_at}
+use Rattle.model_system.specs.declared.code.Code.{Code}
+use Rattle.model_system.specs.Codes.{code_at}
+use Rattle.model_system.specs.System.{System}
+use Rattle.model_image.specs.Replay.{done, all_done, pad_size, kept_in_record, accepts, acknowledges, discards, syncs, with_step, completed_id, completed_message}
 use Rattle.model_image.specs.Steps.{output_record, output_records, completion_records}
 
 same : (n : ℕ) → (n == n) ≡ true
@@ -32,16 +38,40 @@ both false b x y = x
 
 -- ---- steps that one record tells of
 
-module _ (lasting : LastingState) where
-  -- an input
+-- What the record of an input says again of how it is kept.
+kept_again : (system : System) (found : Option Code) (segments : List (List ℕ)) (lasting : LastingState) (terminal : List ℕ) → code_at system.codes (code_word segments) ≡ found → conversation_at terminal lasting.conversations ≡ None →
+    kept_in_record system lasting terminal (kept_by_code found segments).code (kept_by_code found segments).conversation (kept_by_code found segments).segments ≡ kept_by_code found segments
+kept_again system None segments lasting terminal is none = refl
+kept_again system (Some code) segments lasting terminal is none = by_pad (code.transaction.scratch_pad == 0) where
+  by_pad : (b : Bool) → let kept = if b then kept_alone segments else kept_first code.transaction.scratch_pad segments in
+      kept_in_record system lasting terminal kept.code kept.conversation kept.segments ≡ kept
+  by_pad true = refl
+  by_pad false =
+      ap (λ (c : Option Conversation). record { code = code_word segments; conversation = true; segments = without_word segments; begins = if true && not (is_some c) then Some (begun (code_word segments) (pad_size system (code_word segments) - 14)) else None }) none
+      ∙ ap (λ (o : Option Code). record { code = code_word segments; conversation = true; segments = without_word segments; begins = Some (begun (code_word segments) (option_map_or (λ found. found.transaction.scratch_pad) o 0 - 14)) }) is
+
+kept_where : (system : System) (conversation : Option Conversation) (segments : List (List ℕ)) (lasting : LastingState) (terminal : List ℕ) → conversation_at terminal lasting.conversations ≡ conversation →
+    kept_in_record system lasting terminal (kept_by system conversation segments).code (kept_by system conversation segments).conversation (kept_by system conversation segments).segments ≡ kept_by system conversation segments
+kept_where system (Some c) segments lasting terminal is =
+    ap (λ (o : Option Conversation). record { code = c.code; conversation = true; segments = segments; begins = if true && not (is_some o) then Some (begun c.code (pad_size system c.code - 14)) else None }) is
+kept_where system None segments lasting terminal is =
+    kept_again system (code_at system.codes (code_word segments)) segments lasting terminal refl is
+
+module _ (system : System) (lasting : LastingState) where
+  -- an input, as it is kept
   pub accepts_again : (terminal : List ℕ) (number : ℕ) (segments : List (List ℕ)) (t : TerminalState) → terminal_at lasting.terminals terminal ≡ Some t → t.last + 1 ≡ number →
-      accepts lasting.next_id terminal (code_word segments) number false segments lasting ≡ Some (applied (Accepts terminal number segments) lasting)
+      let kept = kept_input system lasting terminal segments in
+      accepts system lasting.next_id terminal kept.code number kept.conversation kept.segments lasting ≡ Some (applied (Accepts terminal number kept) lasting)
   accepts_again terminal number segments t found next =
-      where_true (option_map_or (λ terminal. terminal.last + 1 == number) (terminal_at lasting.terminals terminal) false && (lasting.next_id == lasting.next_id)) (applied (Accepts terminal number segments) lasting)
+      let kept = kept_input system lasting terminal segments in
+      where_true (option_map_or (λ terminal. terminal.last + 1 == number) (terminal_at lasting.terminals terminal) false && (lasting.next_id == lasting.next_id))
+      (applied (Accepts terminal number (kept_in_record system lasting terminal kept.code kept.conversation kept.segments)) lasting)
       (both (option_map_or (λ terminal. terminal.last + 1 == number) (terminal_at lasting.terminals terminal) false) (lasting.next_id == lasting.next_id)
       (ap (λ (o : Option TerminalState). option_map_or (λ terminal. terminal.last + 1 == number) o false) found ∙ eq-eqb (t.last + 1) number next)
       (same lasting.next_id))
+      ∙ ap (λ (k : KeptInput). Some (applied (Accepts terminal number k) lasting)) (kept_where system (conversation_at terminal lasting.conversations) segments lasting terminal refl)
 
+module _ (lasting : LastingState) where
   -- a reply that is acknowledged
   pub acknowledges_again : (terminal : List ℕ) (reply : KeptReply) → reply_at terminal 0 lasting.outputs ≡ Some reply →
       acknowledges terminal reply.number lasting ≡ Some (applied (Acknowledges terminal) lasting)
@@ -134,21 +164,53 @@ has_its_id id (first ∷ messages) message found = by_first (first.id == id) ref
   by_first true is later found = let e : first ≡ message = cc in ap (λ (m : Message). m.id) (sym e) ∙ eqb-true first.id id is
   by_first false is later found = later found
 
-finishes : (id : ℕ) (message : Message) (outputs : List EndedMessage) (lasting : LastingState) → message_at lasting.messages id ≡ Some message → with_step (all_sent message.origin outputs (gone id lasting)) ≡ applied (Completes id lasting.rows outputs) lasting
-finishes id message outputs lasting found =
-    ap (λ (n : ℕ). record (all_sent message.origin outputs (gone id lasting)) { steps = n + 1 }) (all_sent_steps message.origin outputs (gone id lasting))
-    ∙ ap (λ (k : ℕ). record (all_sent message.origin outputs (gone k lasting)) { steps = lasting.steps + 1 }) (sym (has_its_id id lasting.messages message found))
-    ∙ ap (λ (o : Option Message). record (finished_by o (λ _. outputs) lasting) { steps = lasting.steps + 1 }) (sym found)
+-- what becomes of a pad, which no sending changes
+abbrev pads : PadChange → List ℕ → LastingState → LastingState
+pads pad origin lasting = record lasting { conversations = padded pad origin lasting.conversations }
 
--- A unit's outputs, and that its message is completed: at its sync point they leave what completing the message leaves.
-pub completes_again : (unit id : ℕ) (message : Message) (outputs : List EndedMessage) (lasting : LastingState) → message_at lasting.messages id ≡ Some message → id < lasting.next_id →
-    syncs Stays (completion_records unit message.origin id outputs lasting) lasting ≡ Some (applied (Completes id lasting.rows outputs) lasting)
-completes_again unit id message outputs lasting found below =
+sent_pads : (pad : PadChange) (at origin : List ℕ) (output : EndedMessage) (lasting : LastingState) (b : Bool) → is_some (output_at lasting.outputs output.to) ≡ b → pads pad at (sent origin output lasting) ≡ sent origin output (pads pad at lasting)
+sent_pads pad at origin output lasting true is = rw is refl
+sent_pads pad at origin output lasting false is = rw is refl
+
+all_sent_pads : (pad : PadChange) (at origin : List ℕ) (outputs : List EndedMessage) (lasting : LastingState) → pads pad at (all_sent origin outputs lasting) ≡ all_sent origin outputs (pads pad at lasting)
+all_sent_pads pad at origin [] lasting = refl
+all_sent_pads pad at origin (output ∷ outputs) lasting =
+    all_sent_pads pad at origin outputs (sent origin output lasting)
+    ∙ ap (all_sent origin outputs) (sent_pads pad at origin output lasting (is_some (output_at lasting.outputs output.to)) refl)
+
+finishes : (id : ℕ) (message : Message) (outputs : List EndedMessage) (pad : PadChange) (lasting : LastingState) → message_at lasting.messages id ≡ Some message → with_step (all_sent message.origin outputs (gone id (pads pad message.origin lasting))) ≡ applied (Completes id lasting.rows outputs pad) lasting
+finishes id message outputs pad lasting found =
+    let before = pads pad message.origin lasting in
+    ap (λ (n : ℕ). record (all_sent message.origin outputs (gone id before)) { steps = n + 1 }) (all_sent_steps message.origin outputs (gone id before))
+    ∙ ap (λ (k : ℕ). record (all_sent message.origin outputs (gone k before)) { steps = lasting.steps + 1 }) (sym (has_its_id id lasting.messages message found))
+    ∙ ap (λ (o : Option Message). record (finished_by o (λ _. outputs) (with_pad_by o (λ _. pad) lasting)) { steps = lasting.steps + 1 }) (sym found)
+
+-- the message that a unit's records complete
+completes_id : (unit : ℕ) (origin : List ℕ) (id : ℕ) (outputs : List EndedMessage) (lasting : LastingState) → completed_id (completion_records unit origin id outputs lasting) ≡ Some id
+completes_id unit origin id [] lasting = refl
+completes_id unit origin id (output ∷ outputs) lasting =
+    by_output (is_some (output_at lasting.outputs output.to)) (completes_id unit origin id outputs (sent origin output lasting)) where
+      by_output : (b : Bool) → completed_id (completion_records unit origin id outputs (sent origin output lasting)) ≡ Some id →
+          completed_id ((if b then Reply unit output.to (next_of output.to lasting.outputs) output.segments else Input unit lasting.next_id origin output.to 0 false output.segments) ∷ completion_records unit origin id outputs (sent origin output lasting)) ≡ Some id
+      by_output true later = later
+      by_output false later = later
+
+-- A unit's outputs, and that its message is completed: at its sync point they leave what completing the message leaves,
+-- the pad with it.
+pub completes_again : (unit id : ℕ) (message : Message) (outputs : List EndedMessage) (pad : PadChange) (lasting : LastingState) → message_at lasting.messages id ≡ Some message → id < lasting.next_id →
+    syncs pad (completion_records unit message.origin id outputs lasting) lasting ≡ Some (applied (Completes id lasting.rows outputs pad) lasting)
+completes_again unit id message outputs pad lasting found below =
     let after = all_sent message.origin outputs lasting in
+    let records = completion_records unit message.origin id outputs lasting in
     let completed : done (Completed unit id) after ≡ Some (gone id after) =
     ap (λ (o : Option Message). option_map (λ _. gone id after) o) (found_all_sent id message.origin outputs lasting message found) in
-    ap (option_map with_step)
-    (all_sent_again unit message.origin outputs lasting (Completed unit id ∷ [])
+    let all : all_done records lasting ≡ Some (all_sent message.origin outputs (gone id lasting)) =
+    all_sent_again unit message.origin outputs lasting (Completed unit id ∷ [])
     ∙ ap (option_and_then (all_done [])) completed
-    ∙ ap (λ (l : LastingState). Some l) (all_sent_without id message.origin outputs lasting below))
-    ∙ ap (λ (l : LastingState). Some l) (finishes id message outputs lasting found)
+    ∙ ap (λ (l : LastingState). Some l) (all_sent_without id message.origin outputs lasting below) in
+    let which : completed_message records lasting ≡ Some message =
+    ap (option_and_then (message_at lasting.messages)) (completes_id unit message.origin id outputs lasting) ∙ found in
+    ap (option_map (λ after. with_step (with_pad_by (completed_message records lasting) (λ _. pad) after))) all
+    ∙ ap (λ (o : Option Message). Some (with_step (with_pad_by o (λ _. pad) (all_sent message.origin outputs (gone id lasting))))) which
+    ∙ ap (λ (l : LastingState). Some (with_step l)) (all_sent_pads pad message.origin message.origin outputs (gone id lasting))
+    ∙ ap (λ (l : LastingState). Some l) (finishes id message outputs pad lasting found)
