@@ -1,13 +1,13 @@
 //! Records, spelled from borrowed parts.
 ghost use Rattle.std.specs.Prelude.{◌≡◌, ◌<◌, ◌≤◌, ◌^◌, ◌+◌, ◌-◌, ◌++◌, length, take, drop, OnOk};
-ghost use Rattle.log_records.specs.declared.record.Record.TheVariants.{Input, Reply, Discarded, Completed, Acknowledged, SyncPoint, Change};
-ghost use Rattle.log_records.specs.Spelling.{number2, spelling, IsCount, IsAbend, IsPadChange, IsShort, IsRecord};
+ghost use Rattle.log_records.specs.declared.record.Record.TheVariants.{Input, Reply, Discarded, Completed, Acknowledged, SyncPoint, Checkpoint, Terminal, Code, Change};
+ghost use Rattle.log_records.specs.Spelling.{number2, spelling, IsCount, IsAbend, IsPadChange, IsShortPad, IsShort, IsRecord};
 
 use crate::encoding::{
-    put_acknowledged, put_change, put_completed, put_discarded, put_input, put_reply,
-    put_sync_point,
+    put_acknowledged, put_change, put_checkpoint, put_code, put_completed, put_discarded,
+    put_input, put_reply, put_sync_point, put_terminal,
 };
-use model_conversation::PadChange;
+use model_conversation::{Conversation, PadChange};
 use tm_types::{AbendCode, Memory, Name, Segments};
 
 // The record that begins at `start` gets its length, for which it has two bytes.
@@ -118,6 +118,71 @@ pub fn append_sync_point(out: &mut Vec<u8>, unit: u64, pad: &PadChange) -> Resul
     let start = out.len();
     out.extend_from_slice(&[0, 0])?;
     put_sync_point(out, unit, pad)?;
+    set_length(out, start);
+    Ok(())
+}
+
+/// Appends the spelling of what a snapshot counts. After `Memory` a part of it may be appended.
+pub fn append_checkpoint(
+    out: &mut Vec<u8>,
+    checkpoint: u64,
+    next_id: u64,
+    next_unit: u64,
+    lasting_steps: u64,
+) -> Result<(), Memory>
+    ensures ok { OnOk result (out.new.items ≡ out.old.items ++ spelling (Checkpoint checkpoint next_id next_unit lasting_steps)) }
+    ensures valid { OnOk result (IsRecord (Checkpoint checkpoint next_id next_unit lasting_steps)) }
+{
+    let start = out.len();
+    out.extend_from_slice(&[0, 0])?;
+    put_checkpoint(out, checkpoint, next_id, next_unit, lasting_steps)?;
+    set_length(out, start);
+    Ok(())
+}
+
+/// Appends the spelling of a terminal of a snapshot. A pad is so short that the record has at most 65,535 bytes. After
+/// `Memory` a part of it may be appended.
+pub fn append_terminal(
+    out: &mut Vec<u8>,
+    terminal: &Name,
+    last_input: u64,
+    next_output: u64,
+    stopped: bool,
+    conversation: &Option<Conversation>,
+) -> Result<(), Memory>
+    requires pad { IsShortPad conversation.now }
+    requires short { IsShort (Terminal terminal.now last_input next_output stopped conversation.now) }
+    ensures ok { OnOk result (out.new.items ≡ out.old.items ++ spelling (Terminal terminal.now last_input next_output stopped conversation.now)) }
+    ensures valid { OnOk result (IsRecord (Terminal terminal.now last_input next_output stopped conversation.now)) }
+{
+    let start = out.len();
+    out.extend_from_slice(&[0, 0])?;
+    put_terminal(
+        out,
+        terminal,
+        last_input,
+        next_output,
+        stopped,
+        conversation,
+    )?;
+    set_length(out, start);
+    Ok(())
+}
+
+/// Appends the spelling of a transaction code of a snapshot. After `Memory` a part of it may be appended.
+pub fn append_code(
+    out: &mut Vec<u8>,
+    code: &Name,
+    stopped: bool,
+    class: u8,
+    priority: u8,
+) -> Result<(), Memory>
+    ensures ok { OnOk result (out.new.items ≡ out.old.items ++ spelling (Code code.now stopped class priority)) }
+    ensures valid { OnOk result (IsRecord (Code code.now stopped class priority)) }
+{
+    let start = out.len();
+    out.extend_from_slice(&[0, 0])?;
+    put_code(out, code, stopped, class, priority)?;
     set_length(out, start);
     Ok(())
 }

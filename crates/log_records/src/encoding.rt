@@ -1,6 +1,6 @@
 //! Records, spelled.
 ghost use Rattle.std.specs.Prelude.{◌≡◌, ◌<◌, ◌≤◌, ◌^◌, ◌++◌, ◌∷◌, [], length, OnOk, OnErr};
-ghost use Rattle.log_records.specs.declared.record.Record.TheVariants.{Input, Reply, Discarded, Completed, Acknowledged, SyncPoint, Change};
+ghost use Rattle.log_records.specs.declared.record.Record.TheVariants.{Input, Reply, Discarded, Completed, Acknowledged, SyncPoint, Checkpoint, Terminal, Code, Change};
 ghost use Rattle.std.specs.List.{AllByRecursion, flat_map};
 ghost use Rattle.tm_types.specs.Name.{IsName};
 ghost use Rattle.tm_types.specs.Segment.{IsSegmentText};
@@ -213,6 +213,61 @@ pub(crate) fn put_sync_point(out: &mut Vec<u8>, unit: u64, pad: &PadChange) -> R
     put_pad_change(out, pad)
 }
 
+pub(crate) fn put_checkpoint(
+    out: &mut Vec<u8>,
+    checkpoint: u64,
+    next_id: u64,
+    next_unit: u64,
+    lasting_steps: u64,
+) -> Result<(), Memory>
+    ensures ok { OnOk result (out.new.items ≡ out.old.items ++ content (Checkpoint checkpoint next_id next_unit lasting_steps)) }
+    ensures valid { OnOk result (AreInRange (Checkpoint checkpoint next_id next_unit lasting_steps)) }
+{
+    out.extend_from_slice(&[0x40, 0])?;
+    put_number8(out, checkpoint)?;
+    put_number8(out, next_id)?;
+    put_number8(out, next_unit)?;
+    put_number8(out, lasting_steps)
+}
+
+pub(crate) fn put_terminal(
+    out: &mut Vec<u8>,
+    terminal: &Name,
+    last_input: u64,
+    next_output: u64,
+    stopped: bool,
+    conversation: &Option<Conversation>,
+) -> Result<(), Memory>
+    requires { IsShortPad conversation.now }
+    ensures ok { OnOk result (out.new.items ≡ out.old.items ++ content (Terminal terminal.now last_input next_output stopped conversation.now)) }
+    ensures valid { OnOk result (AreInRange (Terminal terminal.now last_input next_output stopped conversation.now)) }
+{
+    out.extend_from_slice(&[0x40, 1])?;
+    put_name(out, terminal)?;
+    put_number8(out, last_input)?;
+    put_number8(out, next_output)?;
+    put_flag(out, stopped)?;
+    put_conversation(out, conversation)
+}
+
+pub(crate) fn put_code(
+    out: &mut Vec<u8>,
+    code: &Name,
+    stopped: bool,
+    class: u8,
+    priority: u8,
+) -> Result<(), Memory>
+    ensures ok { OnOk result (out.new.items ≡ out.old.items ++ content (Code code.now stopped class priority)) }
+    ensures valid { OnOk result (AreInRange (Code code.now stopped class priority)) }
+{
+    out.extend_from_slice(&[0x40, 2])?;
+    put_name(out, code)?;
+    put_flag(out, stopped)?;
+    out.push(class)?;
+    out.push(priority)?;
+    Ok(())
+}
+
 pub(crate) fn put_change(
     out: &mut Vec<u8>,
     unit: u64,
@@ -282,40 +337,27 @@ fn put_content(out: &mut Vec<u8>, value: &Record) -> Result<(), Memory>
             next_id,
             next_unit,
             lasting_steps,
-        } => {
-            out.extend_from_slice(&[0x40, 0])?;
-            put_number8(out, *checkpoint)?;
-            put_number8(out, *next_id)?;
-            put_number8(out, *next_unit)?;
-            put_number8(out, *lasting_steps)
-        }
+        } => put_checkpoint(out, *checkpoint, *next_id, *next_unit, *lasting_steps),
         Record::Terminal {
             terminal,
             last_input,
             next_output,
             stopped,
             conversation,
-        } => {
-            out.extend_from_slice(&[0x40, 1])?;
-            put_name(out, terminal)?;
-            put_number8(out, *last_input)?;
-            put_number8(out, *next_output)?;
-            put_flag(out, *stopped)?;
-            put_conversation(out, conversation)
-        }
+        } => put_terminal(
+            out,
+            terminal,
+            *last_input,
+            *next_output,
+            *stopped,
+            conversation,
+        ),
         Record::Code {
             code,
             stopped,
             class,
             priority,
-        } => {
-            out.extend_from_slice(&[0x40, 2])?;
-            put_name(out, code)?;
-            put_flag(out, *stopped)?;
-            out.push(*class)?;
-            out.push(*priority)?;
-            Ok(())
-        }
+        } => put_code(out, code, *stopped, *class, *priority),
         Record::Change {
             unit,
             database,

@@ -7,8 +7,8 @@ ghost use Rattle.tm_types.specs.Segment.{is_printable};
 ghost use Rattle.log_records.specs.Reading.{Gives, byte_at, number_at, flag_at, bytes_at, bytes_of_kind_at, number_within_at, byte_within_at, name_at, text_at, segment_at, segments_at, segs_at, pad_of_kind_at, pad_change_at, conversation_where_at, conversation_at};
 
 use crate::fault::{ENDS, OUT_OF_RANGE, ReadFault};
-use model_conversation::{Conversation, PadChange};
 use crate::wrong_bytes::{first_outside_names, front};
+use model_conversation::{Conversation, PadChange};
 use std::alloc::Global;
 use tm_types::{Bytes, Name, Segment, SegmentRefused, Segments, first_unprintable};
 

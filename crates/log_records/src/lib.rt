@@ -6,8 +6,8 @@
 #![tactic(auto)]
 
 pub use appending::{
-    append_acknowledged, append_change, append_completed, append_discarded, append_input,
-    append_reply, append_sync_point,
+    append_acknowledged, append_change, append_checkpoint, append_code, append_completed,
+    append_discarded, append_input, append_reply, append_sync_point, append_terminal,
 };
 pub use decoding::{decode, one_spelling};
 pub use encoding::encode;
