@@ -1,0 +1,27 @@
+-- The slots of which a record says what stands there.
+use Rattle.std.specs.Prelude.{◌≡◌, ◌⊎◌, ℕ, ◌<◌, ◌==◌, Bool, ◌&&◌, List, [], ◌∷◌, Option, find}
+use Rattle.std.specs.Option.{option_map}
+use Rattle.log_records.specs.declared.record.Record.{Record}
+use Rattle.model_image.specs.Slots.{named_by}
+use Rattle.image_records.specs.declared.slots.NamedSlot.{NamedSlot}
+
+abbrev pub is_at : ℕ → ℕ → NamedSlot → Bool
+is_at database number s = (s.database == database) && (s.slot == number)
+
+-- what stands in a slot of a database, where the list has it
+abbrev pub bytes_at : ℕ → ℕ → List NamedSlot → Option (List ℕ)
+bytes_at database number slots = option_map (λ s. s.bytes) (find (is_at database number) slots)
+
+-- by database and slot, each once
+abbrev pub IsBefore : NamedSlot → NamedSlot → Type 0
+IsBefore s other = (s.database < other.database) ⊎ ((s.database ≡ other.database) × (s.slot < other.slot))
+
+abbrev pub Ascend : List NamedSlot → Type 0
+Ascend [] = Unit {0}
+Ascend (s ∷ []) = Unit {0}
+Ascend (s ∷ next ∷ slots) = IsBefore s next × Ascend (next ∷ slots)
+
+-- The list has the slots that a record of the snapshot or the log names, each with the bytes that it says.
+pub record AreNamed (snapshot log : List Record) (slots : List NamedSlot) : Type 0 where
+  pub ascending : Ascend slots
+  pub each : (database number : ℕ) → bytes_at database number slots ≡ named_by snapshot log database number
