@@ -1,6 +1,6 @@
 -- What serves a code, by the places that are kept.
-use Rattle.std.proofs.Common.{◌≡◌, ℕ, List, [], ◌∷◌, map, find, slice_get, Bool, true, false, cond, Option, Some, None, IsSome, IfSome, All, refl, sym, ap, ◌∙◌}
-use Rattle.std.specs.Option.{option_and_then, option_map}
+use Rattle.std.proofs.Common.{◌≡◌, ℕ, List, [], ◌∷◌, map, find, slice_get, Bool, true, false, cond, Bor, Option, Some, None, IsSome, IfSome, All, refl, sym, ap, ◌∙◌}
+use Rattle.std.specs.Option.{option_and_then, option_copied, option_map}
 use Rattle.std.specs.Str.{bytes_eq}
 use Rattle.std.proofs.lemmas.List.Elements.{All-head, All-tail}
 use Rattle.std.proofs.lemmas.List.Folds.{find_at}
@@ -13,7 +13,7 @@ use Rattle.model_system.specs.System.{System}
 use Rattle.system_types.specs.declared.job.Job.{Job}
 use Rattle.system_types.specs.Indexes.{has_program_name, program_place}
 use Rattle.system_types.specs.Jobs.{lent_job}
-use Rattle.system_types.specs.Valid.{IsServable, IsSystem}
+use Rattle.system_types.specs.Valid.{IsPadLength, IsSentTo, IsServable, IsSystem}
 use Rattle.system_types.proofs.Indexed.{found_at}
 
 place_of : (programs : List SystemProgram) (places : List ℕ) (codes : List Code) (place : Option ℕ) → places ≡ map (program_place programs) codes
@@ -113,3 +113,56 @@ lent_serves_by system None h = h
 pub lent_serves : (system : System) (name : List ℕ) (lent : Option Job) → IsSystem system → option_map (lent_job system) lent ≡ job_of system name
     → IfSome lent (λ job. IsServable system.databases job.pcbs.now job.program.now)
 lent_serves system name lent valid e = lent_serves_by system lent (rw e (job_serves system name valid))
+
+-- the PCBs of a job send to no code with conversations
+sent_by : (system : System) (code : Code) (program : Option SystemProgram) → IfSome program (λ p. All (IsSentTo system.codes) p.pcbs)
+    → IfSome (option_map (job_with system code) program) (λ job. All (IsSentTo system.codes) job.pcbs)
+sent_by system code (Some program) h = h
+sent_by system code None h = h
+
+sent_code : (system : System) (code : Option Code) → IsSystem system → IfSome (option_and_then (job_by system) code) (λ job. All (IsSentTo system.codes) job.pcbs)
+sent_code system None valid = tt
+sent_code system (Some code) valid =
+    sent_by system code (program_at system.programs code.psb)
+    (found_holds (λ p. All (IsSentTo system.codes) p.pcbs) (has_program_name code.psb) system.programs valid.destinations)
+
+lent_sent_by : (system : System) (lent : Option Job) → IfSome (option_map (lent_job system) lent) (λ job. All (IsSentTo system.codes) job.pcbs)
+    → IfSome lent (λ job. All (IsSentTo system.codes) job.pcbs.now)
+lent_sent_by system (Some job) h = h
+lent_sent_by system None h = h
+
+pub lent_sent : (system : System) (name : List ℕ) (lent : Option Job) → IsSystem system → option_map (lent_job system) lent ≡ job_of system name
+    → IfSome lent (λ job. All (IsSentTo system.codes) job.pcbs.now)
+lent_sent system name lent valid e = lent_sent_by system lent (rw e (sent_code system (code_at system.codes name) valid))
+
+-- the scratch pad of a code that is found has a length that it may have
+padded_at : (system : System) (name : List ℕ) → IsSystem system → IfSome (code_at system.codes name) (λ code. IsPadLength code.transaction.scratch_pad)
+padded_at system name valid =
+    found_holds (λ code. IsPadLength code.transaction.scratch_pad) (λ code. bytes_eq code.transaction.code name) system.codes valid.pads
+
+copied_by : (lent : Option (Bor Code)) → IfSome (option_copied lent) (λ code. IsPadLength code.transaction.scratch_pad) → IfSome lent (λ code. IsPadLength code.now.transaction.scratch_pad)
+copied_by (Some code) h = h
+copied_by None h = h
+
+pub code_padded : (system : System) (name : List ℕ) (lent : Option (Bor Code)) → IsSystem system → option_copied lent ≡ code_at system.codes name
+    → IfSome lent (λ code. IsPadLength code.now.transaction.scratch_pad)
+code_padded system name lent valid e = copied_by lent (rw e (padded_at system name valid))
+
+padded_by : (system : System) (code : Code) (program : Option SystemProgram) → IsPadLength code.transaction.scratch_pad
+    → IfSome (option_map (job_with system code) program) (λ job. IsPadLength job.transaction.scratch_pad)
+padded_by system code (Some program) h = h
+padded_by system code None h = tt
+
+padded_code : (system : System) (code : Option Code) → IfSome code (λ c. IsPadLength c.transaction.scratch_pad)
+    → IfSome (option_and_then (job_by system) code) (λ job. IsPadLength job.transaction.scratch_pad)
+padded_code system None h = tt
+padded_code system (Some code) h = padded_by system code (program_at system.programs code.psb) h
+
+lent_padded_by : (system : System) (lent : Option Job) → IfSome (option_map (lent_job system) lent) (λ job. IsPadLength job.transaction.scratch_pad)
+    → IfSome lent (λ job. IsPadLength job.transaction.now.scratch_pad)
+lent_padded_by system (Some job) h = h
+lent_padded_by system None h = h
+
+pub lent_padded : (system : System) (name : List ℕ) (lent : Option Job) → IsSystem system → option_map (lent_job system) lent ≡ job_of system name
+    → IfSome lent (λ job. IsPadLength job.transaction.now.scratch_pad)
+lent_padded system name lent valid e = lent_padded_by system lent (rw e (padded_code system (code_at system.codes name) (padded_at system name valid)))

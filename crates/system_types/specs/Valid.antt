@@ -1,5 +1,5 @@
 -- What holds of each system that a definition defines: what the rules on its macros give.
-use Rattle.std.specs.Prelude.{◌≡◌, ℕ, ◌-◌, ◌≤◌, List, [], Option, Some, None, All, IsSome, IsSomeAnd, IsTrue, length, map, slice_get}
+use Rattle.std.specs.Prelude.{◌≡◌, ℕ, ◌-◌, ◌≤◌, List, [], Option, Some, None, All, IsSome, IfSome, IsSomeAnd, IsTrue, length, map, slice_get}
 use Rattle.tm_types.specs.declared.dbd.Dbd.{Dbd}
 use Rattle.tm_types.specs.declared.function.Function.{Function}
 use Rattle.model_script.specs.declared.program.ScriptLine.{ScriptLine}
@@ -10,7 +10,7 @@ use Rattle.model_format.specs.Breaks.{KeepsRule}
 use Rattle.model_system.specs.declared.code.Code.{Code}
 use Rattle.model_system.specs.declared.pcb.Pcb.{Pcb}
 use Rattle.model_system.specs.declared.pcb.Pcb.TheVariants.{Database, Destination, Modifiable}
-use Rattle.model_system.specs.Codes.{code_place}
+use Rattle.model_system.specs.Codes.{code_at, code_place}
 use Rattle.model_system.specs.Jobs.{program_at}
 use Rattle.model_system.specs.Pcbs.{pcb_at}
 use Rattle.model_system.specs.System.{System}
@@ -33,6 +33,17 @@ abbrev pub IsPcbOf : List Dbd → Pcb → Type 0
 IsPcbOf databases (Database number options) = (1 ≤ number) × (number ≤ length databases)
 IsPcbOf databases (Destination name) = Unit {0}
 IsPcbOf databases Modifiable = Unit {0}
+
+-- a scratch pad has no length, or one of 16 to 1,000
+pub record IsPadLength (pad : ℕ) : Type 0 where
+  pub least : 1 ≤ pad → 16 ≤ pad
+  pub most : pad ≤ 1000
+
+-- the destination of a PCB is no code with conversations
+abbrev pub IsSentTo : List Code → Pcb → Type 0
+IsSentTo codes (Destination name) = IfSome (code_at codes name) (λ code. code.transaction.scratch_pad ≡ 0)
+IsSentTo codes (Database number options) = Unit {0}
+IsSentTo codes Modifiable = Unit {0}
 
 -- A call on a database has a function of databases. Its arguments name segment types of it, and are in
 -- order, whatever the script's variables hold.
@@ -63,8 +74,8 @@ pub record IsServable (databases : List Dbd) (pcbs : List Pcb) (lines : List Scr
       → 1 ≤ pcb → IsCallOn databases function ssas (pcb_at pcbs pcb)
 
 -- The counts, the bytes of the queues and the sectors of a log area lie within their limits, databases
--- and programs are as above, each code has a program, and a code is found by its name at its place.
--- Each format keeps the rule among its lines.
+-- and programs are as above, each code has a program and a scratch pad of a length as above, and a code is found
+-- by its name at its place. No PCB sends to a code with conversations. Each format keeps the rule among its lines.
 pub record IsSystem (system : System) : Type 0 where
   pub least_bytes : 131072 ≤ system.qbytes
   pub most_bytes : system.qbytes ≤ 8388608
@@ -74,7 +85,9 @@ pub record IsSystem (system : System) : Type 0 where
   pub databases : All IsDatabase system.databases
   pub few_programs : length system.programs ≤ 64
   pub programs : All (λ program. IsServable system.databases program.pcbs program.program) system.programs
+  pub destinations : All (λ program. All (IsSentTo system.codes) program.pcbs) system.programs
   pub few_codes : length system.codes ≤ 256
+  pub pads : All (λ code. IsPadLength code.transaction.scratch_pad) system.codes
   pub served : All (λ code. IsSome (program_at system.programs code.psb)) system.codes
   pub apart : (place : ℕ) (code : Code) → slice_get system.codes place ≡ Some code → code_place system.codes code.transaction.code ≡ Some place
   pub some_terminal : 1 ≤ length system.terminals

@@ -1,5 +1,5 @@
 //! A system, with the facts that hold of it.
-ghost use Rattle.std.specs.Prelude.{◌≡◌, ◌<◌, ℕ, List, IfOk, IfSome, IsSome, length, position};
+ghost use Rattle.std.specs.Prelude.{◌≡◌, ◌<◌, ℕ, List, All, IfOk, IfSome, IsSome, length, position};
 ghost use Rattle.std.specs.Option.{option_copied, option_map};
 ghost use Rattle.std.specs.Str.{bytes_eq};
 ghost use Rattle.model_system.specs.Codes.{code_at, code_place};
@@ -8,7 +8,7 @@ ghost use Rattle.model_system.specs.Formats.{format_of};
 ghost use Rattle.model_system.specs.Jobs.{job_of};
 ghost use Rattle.system_types.specs.Parts.{parts_of};
 ghost use Rattle.system_types.specs.Jobs.{lent_job};
-ghost use Rattle.system_types.specs.Valid.{IsServable, IsSystem};
+ghost use Rattle.system_types.specs.Valid.{IsPadLength, IsSentTo, IsServable, IsSystem};
 
 use crate::Job;
 use crate::formats::{format_name, format_named};
@@ -120,9 +120,10 @@ impl System {
     }
 
     /// The code of this name, or None where there is none.
-    #[tactic(auto, using(crate::proofs::Indexed::found_at))]
+    #[tactic(auto, using(crate::proofs::Indexed::found_at, crate::proofs::Served::code_padded))]
     pub fn code(&self, name: &Name) -> Option<&Code>
         ensures value { option_copied result ≡ code_at self.now.codes name.now }
+        ensures pad { IfSome result (λ code. IsPadLength code.now.transaction.scratch_pad) }
         ensures valid { IsSystem self.now }
     {
         code_at(&self.parts.codes, self.code_place(name))
@@ -142,6 +143,8 @@ impl System {
         ensures value { option_map (lent_job self.now) result ≡ job_of self.now code.now }
         ensures there { IsSome (code_at self.now.codes code.now) → IsSome result }
         ensures servable { IfSome result (λ job. IsServable self.now.databases job.pcbs.now job.program.now) }
+        ensures sent { IfSome result (λ job. All (IsSentTo self.now.codes) job.pcbs.now) }
+        ensures pad { IfSome result (λ job. IsPadLength job.transaction.now.scratch_pad) }
         ensures valid { IsSystem self.now }
     {
         let place = self.code_place(code);

@@ -3,7 +3,7 @@ use Rattle.std.specs.Option.{option_copied, option_map}
 use Rattle.model_system.specs.Jobs.{job_of}
 use Rattle.system_types.specs.Jobs.{lent_job}
 use Rattle.system_types.specs.Parts.{parts_of}
-use Rattle.system_types.proofs.Served.{is_lent, job_by_places, lent_serves}
+use Rattle.system_types.proofs.Served.{is_lent, job_by_places, lent_padded, lent_sent, lent_serves}
 use Rattle.system_types.proofs.system.System.job.Goals as goal
 
 lent_is : (c : goal.After-job_of) → option_map (lent_job (parts_of c.self.inside.parts)) c.job_of.result ≡ job_of (parts_of c.self.inside.parts) c.args.code.now
@@ -20,3 +20,9 @@ returns-clause-there c = rw (← c.self.view_is) (is_lent (parts_of c.self.insid
 
 pub returns-clause-servable : goal.returns-clause-servable
 returns-clause-servable c = rw (← c.self.view_is) (lent_serves (parts_of c.self.inside.parts) c.args.code.now c.job_of.result c.self.invariant.0 (lent_is c))
+
+pub returns-clause-sent : goal.returns-clause-sent
+returns-clause-sent c = rw (← c.self.view_is) (lent_sent (parts_of c.self.inside.parts) c.args.code.now c.job_of.result c.self.invariant.0 (lent_is c))
+
+pub returns-clause-pad : goal.returns-clause-pad
+returns-clause-pad c = lent_padded (parts_of c.self.inside.parts) c.args.code.now c.job_of.result c.self.invariant.0 (lent_is c)
