@@ -1,0 +1,4 @@
+pub mod Parts
+pub mod Definition
+pub mod Renewal
+pub mod Opening
