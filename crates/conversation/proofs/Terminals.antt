@@ -1,15 +1,14 @@
 -- Terminals by their names.
 use Rattle.std.proofs.Common.{◌≡◌, ℕ, ◌+◌, ◌∷◌, [], List, refl, sym, ◌∙◌, ap, subst, arith, Bool, true, false, cond, Some, None, suc, get_or, slice_set}
-use Rattle.std.specs.Prelude.{position, slice_get}
+use Rattle.std.specs.Prelude.{position}
 use Rattle.std.specs.List.{position_from}
 use Rattle.std.proofs.lemmas.Iterator.Adapters.{position_from-zero}
-use Rattle.std.specs.Option.{is_some}
 use Rattle.model_conversation.specs.declared.conversation.TerminalConversation.{TerminalConversation}
-use Rattle.model_conversation.specs.Terminals.{is_of, terminal_at, IsTerminal, with_terminal}
+use Rattle.model_conversation.specs.Terminals.{is_of, terminal_at, with_terminal}
 
 -- this is the place of the terminal of the name
 record IsPlace (name : List ℕ) (ts : List TerminalConversation) (place : ℕ) : Type 0 where
-  pub found : terminal_at name ts ≡ slice_get ts place
+  pub held : (d : TerminalConversation) → terminal_at name ts ≡ Some (get_or ts place d)
   pub changed : (f : TerminalConversation → TerminalConversation) (d : TerminalConversation) → slice_set ts place (f (get_or ts place d)) ≡ with_terminal name f ts
 
 place_from : (name : List ℕ) (k : ℕ) (ts : List TerminalConversation) (i : ℕ) → position_from (is_of name) k ts ≡ Some i → (j : ℕ) × (i ≡ j + k) × IsPlace name ts j
@@ -25,7 +24,7 @@ place_from name k (t ∷ ts) i e = by (is_of name t) refl e (place_from name (k 
           0,
           omega (arith, same),
           record {
-            found = ap (λ b. cond b (Some t) (terminal_at name ts)) q;
+            held = λ d. ap (λ b. cond b (Some t) (terminal_at name ts)) q;
             changed = λ f d. sym (ap (λ b. cond b (f t ∷ ts) (t ∷ with_terminal name f ts)) q);
           },
         )
@@ -34,7 +33,7 @@ place_from name k (t ∷ ts) i e = by (is_of name t) refl e (place_from name (k 
           suc r.0,
           omega (arith, r.1),
           record {
-            found = ap (λ b. cond b (Some t) (terminal_at name ts)) q ∙ r.2.found;
+            held = λ d. ap (λ b. cond b (Some t) (terminal_at name ts)) q ∙ r.2.held d;
             changed = λ f d. ap (λ us. t ∷ us) (r.2.changed f d) ∙ sym (ap (λ b. cond b (f t ∷ ts) (t ∷ with_terminal name f ts)) q);
           },
         )
@@ -45,8 +44,9 @@ place_is name ts i e =
     let same : r.0 ≡ i = omega (arith, r.1) in
     subst (IsPlace name ts) same r.2
 
-pub place_found : (name : List ℕ) (ts : List TerminalConversation) (i : ℕ) → position (is_of name) ts ≡ Some i → terminal_at name ts ≡ slice_get ts i
-place_found name ts i e = (place_is name ts i e).found
+-- the element at the place is the terminal
+pub place_held : (name : List ℕ) (ts : List TerminalConversation) (i : ℕ) (t : TerminalConversation) → position (is_of name) ts ≡ Some i → t ≡ get_or ts i t → terminal_at name ts ≡ Some t
+place_held name ts i t e g = (place_is name ts i e).held t ∙ ap Some (sym g)
 
 -- a changed element is the terminal changed
 pub place_changed : (name : List ℕ) (f : TerminalConversation → TerminalConversation) (ts : List TerminalConversation) (i : ℕ) (d new : TerminalConversation) → position (is_of name) ts ≡ Some i
@@ -62,8 +62,18 @@ none_from name k (t ∷ ts) e = by (is_of name t) e (none_from name (k + 1) ts)
     by true g rec = let clash : Some k ≡ None = g in absurd (cc)
     by false g rec = rec g
 
--- a terminal that is there has a place
-pub no_place : (name : List ℕ) (ts : List TerminalConversation) → IsTerminal name ts → position (is_of name) ts ≡ None → ⊥
-no_place name ts h e =
-    let none : terminal_at name ts ≡ None = none_from name 0 ts (sym (position_from-zero (is_of name) ts) ∙ e) in
-    let clash : true ≡ false = sym h ∙ ap is_some none in cc
+pub none_at : (name : List ℕ) (ts : List TerminalConversation) → position (is_of name) ts ≡ None → terminal_at name ts ≡ None
+none_at name ts e = none_from name 0 ts (sym (position_from-zero (is_of name) ts) ∙ e)
+
+-- where no terminal has the name, none is changed
+unchanged_from : (name : List ℕ) (f : TerminalConversation → TerminalConversation) (ts : List TerminalConversation) → terminal_at name ts ≡ None → with_terminal name f ts ≡ ts
+unchanged_from name f [] e = refl
+unchanged_from name f (t ∷ ts) e = by (is_of name t) e (unchanged_from name f ts)
+  where
+    by : (b : Bool) → cond b (Some t) (terminal_at name ts) ≡ None → (terminal_at name ts ≡ None → with_terminal name f ts ≡ ts)
+        → cond b (f t ∷ ts) (t ∷ with_terminal name f ts) ≡ t ∷ ts
+    by true g rec = let clash : Some t ≡ None = g in absurd (cc)
+    by false g rec = ap (λ us. t ∷ us) (rec g)
+
+pub none_changed : (name : List ℕ) (f : TerminalConversation → TerminalConversation) (ts : List TerminalConversation) → position (is_of name) ts ≡ None → ts ≡ with_terminal name f ts
+none_changed name f ts e = sym (unchanged_from name f ts (none_at name ts e))

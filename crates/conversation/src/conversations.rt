@@ -4,6 +4,7 @@ ghost use Rattle.std.specs.Option.{option_copied};
 ghost use Rattle.model_queues.specs.Queue.{messages_of};
 ghost use Rattle.model_conversation.specs.Terminals.{without_conversation, conversation_at, pad_at, IsTerminal, with_terminal, with_conversation};
 ghost use Rattle.model_conversation.specs.Pads.{begun, with_pad, pad_fault};
+ghost use Rattle.conversation.specs.Changes.{with_new_pad};
 ghost use Rattle.conversation.specs.Refusals.{RefusesPad, input_answer};
 ghost use Rattle.model_conversation.specs.Input.{busy_id};
 
@@ -14,7 +15,7 @@ use msg_queues::Queues;
 use std::alloc::Global;
 use std::marker::Model;
 use thiserror::Error;
-use tm_types::{Memory, Name};
+use tm_types::{Bytes, Memory, Name};
 
 /// A message of the conversation is queued, or a region works on it.
 #[derive(Clone, Copy, Debug, Error)]
@@ -101,10 +102,31 @@ impl Conversations {
         Ok(())
     }
 
-    /// Ends the conversation of the terminal. This takes no memory.
+    /// The terminal has this conversation, which was begun before. This takes no memory. Where there is
+    /// no such terminal, nothing changes.
+    pub fn place(&mut self, terminal: &Name, conversation: Conversation)
+        ensures { self.new ≡ with_terminal terminal.now (with_conversation (Some conversation)) self.old }
+    {
+        table::set(&mut self.terminals, terminal, Some(conversation));
+    }
+
+    /// The conversation of the terminal has this pad, which is taken over. This takes no memory. Where
+    /// there is no conversation, nothing changes.
+    pub fn replace(&mut self, terminal: &Name, pad: Bytes)
+        ensures { self.new ≡ with_terminal terminal.now (with_new_pad pad) self.old }
+    {
+        table::set_pad(&mut self.terminals, terminal, pad);
+    }
+
+    /// The conversation of the terminal; None exactly where it has none.
+    pub fn conversation(&self, terminal: &Name) -> Option<&Conversation>
+        ensures { option_copied result ≡ conversation_at terminal.now self.now }
+    {
+        table::conversation_of(&self.terminals, terminal)
+    }
+
+    /// Ends the conversation of the terminal. This takes no memory. Where it has none, nothing changes.
     pub fn end(&mut self, terminal: &Name)
-        requires terminal { IsTerminal terminal.now self.old }
-        requires conversing { IsSome (conversation_at terminal.now self.old) }
         ensures { self.new ≡ with_terminal terminal.now (with_conversation None) self.old }
     {
         table::set(&mut self.terminals, terminal, None);
@@ -113,7 +135,6 @@ impl Conversations {
     /// The pad of the terminal's conversation: its code and the work area. None exactly where the
     /// terminal has no conversation.
     pub fn pad(&self, terminal: &Name) -> Option<&[u8]>
-        requires { IsTerminal terminal.now self.now }
         ensures { option_copied result ≡ pad_at terminal.now self.now }
     {
         match table::conversation_of(&self.terminals, terminal) {

@@ -8,7 +8,7 @@
 
 pub use conversations::{Busy, Conversations};
 pub use model_conversation::{Conversation, TerminalConversation};
-pub use pads::PadRefused;
+pub use pads::{PadRefused, begun};
 
 mod conversations;
 mod pads;

@@ -1,11 +1,12 @@
 //! The terminals of a system by their names.
-ghost use Rattle.std.specs.Prelude.{◌≡◌, Some, map, position, slice_get, IfOk};
+ghost use Rattle.std.specs.Prelude.{◌≡◌, map, position, IfOk};
 ghost use Rattle.std.specs.Option.{option_copied};
-ghost use Rattle.model_conversation.specs.Terminals.{without_conversation, is_of, terminal_at, conversation_at, IsTerminal, with_terminal, with_conversation};
+ghost use Rattle.model_conversation.specs.Terminals.{without_conversation, is_of, conversation_at, with_terminal, with_conversation};
+ghost use Rattle.conversation.specs.Changes.{with_new_pad};
 
 use model_conversation::{Conversation, TerminalConversation};
 use std::alloc::Global;
-use tm_types::{Memory, Name};
+use tm_types::{Bytes, Memory, Name};
 
 /// These terminals without conversations.
 pub fn without_conversations(
@@ -35,56 +36,76 @@ fn is_of(name: &Name, kept: &TerminalConversation) -> bool
     &kept.terminal == name
 }
 
-/// The place of the terminal of this name.
-fn place_of(terminals: &[TerminalConversation], name: &Name) -> usize
-    requires { IsTerminal name.now terminals.now }
-    ensures place { position (is_of name.now) terminals.now ≡ Some result }
-    ensures found { terminal_at name.now terminals.now ≡ slice_get terminals.now result }
-{
-    match position(terminals, name) {
-        Some(place) => place,
-        None => unreachable!(),
-    }
-}
-
 fn position(terminals: &[TerminalConversation], name: &Name) -> Option<usize>
     ensures { result ≡ position (is_of name.now) terminals.now }
 {
     terminals.iter().position(|kept| is_of(name, kept))
 }
 
-/// The conversation of the terminal of this name, which is there.
+/// The conversation of the terminal of this name, where it has one.
 pub fn conversation_of<'a>(
     terminals: &'a [TerminalConversation],
     name: &Name,
 ) -> Option<&'a Conversation>
-    requires { IsTerminal name.now terminals.now }
     ensures { option_copied result ≡ conversation_at name.now terminals.now }
 {
-    match &find(terminals, name).conversation {
+    match position(terminals, name) {
+        Some(place) => shown(&terminals[place]),
+        None => None,
+    }
+}
+
+fn shown(kept: &TerminalConversation) -> Option<&Conversation>
+    ensures { option_copied result ≡ kept.now.conversation }
+{
+    match &kept.conversation {
         Some(conversation) => Some(conversation),
         None => None,
     }
 }
 
-fn find<'a>(terminals: &'a [TerminalConversation], name: &Name) -> &'a TerminalConversation
-    requires { IsTerminal name.now terminals.now }
-    ensures { terminal_at name.now terminals.now ≡ Some result.now }
+/// The terminal of this name has this conversation, or none. Where there is no such terminal, nothing
+/// changes.
+pub fn set(
+    terminals: &mut Vec<TerminalConversation>,
+    name: &Name,
+    conversation: Option<Conversation>,
+)
+    ensures { terminals.new.items ≡ with_terminal name.now (with_conversation conversation) terminals.old.items }
 {
-    &terminals[place_of(terminals, name)]
-}
-
-/// The terminal of this name has this conversation, or none.
-pub fn set(terminals: &mut [TerminalConversation], name: &Name, conversation: Option<Conversation>)
-    requires { IsTerminal name.now terminals.old }
-    ensures { terminals.new ≡ with_terminal name.now (with_conversation conversation) terminals.old }
-{
-    let place = place_of(terminals, name);
-    put(&mut terminals[place], conversation);
+    match position(terminals, name) {
+        Some(place) => put(&mut terminals[place], conversation),
+        None => {}
+    }
 }
 
 fn put(kept: &mut TerminalConversation, conversation: Option<Conversation>)
     ensures { kept.new ≡ with_conversation conversation kept.old }
 {
     kept.conversation = conversation;
+}
+
+/// The conversation of the terminal of this name has this pad. Where there is none, nothing changes.
+pub fn set_pad(terminals: &mut Vec<TerminalConversation>, name: &Name, pad: Bytes)
+    ensures { terminals.new.items ≡ with_terminal name.now (with_new_pad pad) terminals.old.items }
+{
+    match position(terminals, name) {
+        Some(place) => put_pad(&mut terminals[place], pad),
+        None => {}
+    }
+}
+
+fn put_pad(kept: &mut TerminalConversation, pad: Bytes)
+    ensures { kept.new ≡ with_new_pad pad kept.old }
+{
+    match kept.conversation.take() {
+        Some(conversation) => put(
+            kept,
+            Some(Conversation {
+                code: conversation.code,
+                pad,
+            }),
+        ),
+        None => {}
+    }
 }
