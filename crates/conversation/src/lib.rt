@@ -9,6 +9,7 @@
 pub use conversations::{Busy, Conversations};
 pub use model_conversation::{Conversation, TerminalConversation};
 pub use pads::{PadRefused, begun};
+pub use table::without_conversations;
 
 mod conversations;
 mod pads;

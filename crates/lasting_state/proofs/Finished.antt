@@ -6,6 +6,8 @@ use Rattle.std.proofs.lemmas.Bool.{ne_eqb, eqb-true}
 use Rattle.std.specs.Prelude.{IsSome, IsSomeAnd, if◌then◌else◌, find, ◌==◌}
 use Rattle.std.specs.Option.{is_some, option_map}
 use Rattle.tm_types.specs.declared.message.Message.{Message}
+use Rattle.model_conversation.specs.declared.conversation.PadChange.{PadChange}
+use Rattle.model_conversation.specs.declared.conversation.TerminalConversation.{TerminalConversation}
 use Rattle.model_queues.specs.declared.queued.Queued.{Queued}
 use Rattle.model_queues.specs.declared.replies.TerminalReplies.{TerminalReplies}
 use Rattle.model_queues.specs.Queue.{QueuesState, IsNewId, has_id, queued_at, message_at, messages_of, without}
@@ -14,13 +16,13 @@ use Rattle.model_queues.proofs.Laws.{found_message, found_behind, message_found,
 use Rattle.model_message.specs.declared.ended_message.EndedMessage.{EndedMessage}
 use Rattle.model_machine.specs.Machine.{LastingState}
 use Rattle.model_machine.specs.declared.lasting.CodeSetting.{CodeSetting}
-use Rattle.model_machine.specs.Lasting.{finished as finished_state, finished_by, all_sent, switched, replied, without_message, abend_outputs}
+use Rattle.model_machine.specs.Lasting.{finished as finished_state, finished_by, all_sent, switched, replied, without_message, abend_outputs, discarded_pad, padded, with_pad_by}
 use Rattle.model_machine.specs.Lasting.LastingStep.{Completes, Discards}
 use Rattle.tm_types.specs.declared.abend.AbendCode.{AbendCode}
 use Rattle.model_rows.specs.declared.row.Row.{Row}
 use Rattle.program_rows.specs.State.{DatabasesState, region_at, rows_of}
 use Rattle.program_rows.specs.Answering.{IsCommitted, IsGivenUp}
-use Rattle.lasting_state.specs.Tables.{TablesState, lasting_of, finished, with_databases, Applies, IsFinished, IsClosed}
+use Rattle.lasting_state.specs.Tables.{TablesState, lasting_of, closed, finished, Applies, IsFinished, IsClosed}
 use Rattle.lasting_state.specs.Sending.{switches, switched_message, switched_messages, with_messages, with_replies, IsSent}
 use Rattle.lasting_state.proofs.Sent.{with_terminal_none, switches_still, switches_code, switches_terminal}
 
@@ -131,55 +133,75 @@ messages_both [] (message ∷ messages) = ap (λ ms. message ∷ ms) (messages_b
 messages_both (q ∷ queued) messages = ap (λ ms. q.message ∷ ms) (messages_both queued messages)
 
 -- what a message that is gone leaves, with these databases, is what the machine says
-closed_lasting : (settings : List CodeSetting) (t : TablesState) (message : Message) (outputs : List EndedMessage) (databases : DatabasesState)
-    → lasting_of settings (with_databases (finished t message outputs) databases)
-    ≡ record (finished_state message outputs (record (lasting_of settings t) { rows = rows_of databases.committed })) { steps = t.steps + 1 }
-closed_lasting settings t message outputs databases =
-    ap {A = List Message} (λ ms. record (lasting_of settings (with_databases (finished t message outputs) databases)) { messages = ms })
+abbrev state_then : List CodeSetting → TablesState → List (List Row) → LastingState
+state_then settings t rows = record (lasting_of settings t) { rows = rows }
+
+closed_lasting : (settings : List CodeSetting) (t : TablesState) (message : Message) (pad : PadChange) (outputs : List EndedMessage) (databases : DatabasesState)
+    → lasting_of settings (closed databases pad t message outputs)
+    ≡ record (finished_state message outputs (record (state_then settings t (rows_of databases.committed)) { conversations = padded pad message.origin t.conversations })) { steps = t.steps + 1 }
+closed_lasting settings t message pad outputs databases =
+    ap {A = List Message} (λ ms. record (lasting_of settings (closed databases pad t message outputs)) { messages = ms })
     (messages_both (without message.id t.queues.queued) (switched_messages message.origin (switches t.outputs outputs) t.next_id)
     ∙ ap (λ ms. ms ++ switched_messages message.origin (switches t.outputs outputs) t.next_id) (messages_without message.id t.queues.queued))
     ∙ sym (ap {A = LastingState} (λ l. record l { steps = t.steps + 1 })
-    (all_sent_is message.origin outputs (record (lasting_of settings t) { rows = rows_of databases.committed; messages = without_message (messages_of t.queues.queued) message.id })))
+    (all_sent_is message.origin outputs
+    (record (state_then settings t (rows_of databases.committed)) { messages = without_message (messages_of t.queues.queued) message.id; conversations = padded pad message.origin t.conversations })))
 
 -- which message it is, by the queues or by the machine
-closed_by : (databases : DatabasesState) (sends : Message → List EndedMessage) (old new : TablesState) (id : ℕ) → IsClosed databases sends old new id → (settings : List CodeSetting)
-    → lasting_of settings new
-    ≡ record (finished_by (find (λ m. m.id == id) (messages_of old.queues.queued)) sends (record (lasting_of settings old) { rows = rows_of databases.committed })) { steps = old.steps + 1 }
-closed_by databases sends old new id h settings =
+abbrev done_by : List CodeSetting → TablesState → (Message → PadChange) → (Message → List EndedMessage) → List (List Row) → Option Message → LastingState
+done_by settings old pads sends rows found =
+    record (finished_by found sends (with_pad_by found pads (state_then settings old rows))) { steps = old.steps + 1 }
+
+closed_by : (databases : DatabasesState) (pads : Message → PadChange) (sends : Message → List EndedMessage) (old new : TablesState) (id : ℕ) → IsClosed databases pads sends old new id
+    → (settings : List CodeSetting)
+    → lasting_of settings new ≡ done_by settings old pads sends (rows_of databases.committed) (find (λ m. m.id == id) (messages_of old.queues.queued))
+closed_by databases pads sends old new id h settings =
     by (message_at id old.queues.queued) refl h
-    ∙ ap {A = Option Message} (λ found. record (finished_by found sends (record (lasting_of settings old) { rows = rows_of databases.committed })) { steps = old.steps + 1 })
-    (sym (message_found id old.queues.queued))
+    ∙ ap (done_by settings old pads sends (rows_of databases.committed)) (sym (message_found id old.queues.queued))
   where
     by : (found : Option Message) → message_at id old.queues.queued ≡ found
-        → IsSomeAnd found (λ message. (message.id ≡ id) × (new ≡ with_databases (finished old message (sends message)) databases))
-        → lasting_of settings new ≡ record (finished_by found sends (record (lasting_of settings old) { rows = rows_of databases.committed })) { steps = old.steps + 1 }
-    by (Some message) e g = ap (lasting_of settings) g.1 ∙ closed_lasting settings old message (sends message) databases
+        → IsSomeAnd found (λ message. (message.id ≡ id) × (new ≡ closed databases (pads message) old message (sends message)))
+        → lasting_of settings new ≡ done_by settings old pads sends (rows_of databases.committed) found
+    by (Some message) e g = ap (lasting_of settings) g.1 ∙ closed_lasting settings old message (pads message) (sends message) databases
     by None e g = absurd g
 
-pub completes_is : (region : ℕ) (old new : TablesState) (id : ℕ) (outputs : List EndedMessage) → IsCommitted region old.databases new.databases
-    → IsClosed new.databases (λ _. outputs) old new id → Applies (Completes id (region_at region old.databases).rows outputs) old new
-completes_is region old new id outputs stays h settings =
-    closed_by new.databases (λ _. outputs) old new id h settings
-    ∙ ap {A = List (List Row)} (λ rows. record (finished_by (find (λ m. m.id == id) (messages_of old.queues.queued)) (λ _. outputs) (record (lasting_of settings old) { rows = rows })) { steps = old.steps + 1 })
+pub completes_is : (region : ℕ) (old new : TablesState) (id : ℕ) (outputs : List EndedMessage) (pad : PadChange) → IsCommitted region old.databases new.databases
+    → IsClosed new.databases (λ _. pad) (λ _. outputs) old new id → Applies (Completes id (region_at region old.databases).rows outputs pad) old new
+completes_is region old new id outputs pad stays h settings =
+    closed_by new.databases (λ _. pad) (λ _. outputs) old new id h settings
+    ∙ ap {A = List (List Row)} (λ rows. done_by settings old (λ _. pad) (λ _. outputs) rows (find (λ m. m.id == id) (messages_of old.queues.queued)))
     stays.rows
 
 pub discards_is : (region : ℕ) (old new : TablesState) (id : ℕ) (abend : AbendCode) → IsGivenUp region old.databases new.databases
-    → IsClosed new.databases (λ message. abend_outputs message abend) old new id → Applies (Discards id abend) old new
+    → IsClosed new.databases discarded_pad (λ message. abend_outputs message abend) old new id → Applies (Discards id abend) old new
 discards_is region old new id abend back h settings =
-    closed_by new.databases (λ message. abend_outputs message abend) old new id h settings
-    ∙ ap {A = List (List Row)} (λ rows. record (finished_by (find (λ m. m.id == id) (messages_of old.queues.queued)) (λ message. abend_outputs message abend) (record (lasting_of settings old) { rows = rows })) { steps = old.steps + 1 })
+    closed_by new.databases discarded_pad (λ message. abend_outputs message abend) old new id h settings
+    ∙ ap {A = List (List Row)} (λ rows. done_by settings old discarded_pad (λ message. abend_outputs message abend) rows (find (λ m. m.id == id) (messages_of old.queues.queued)))
     (ap rows_of back.committed)
 
--- what was finished, with the databases then
-pub closes : (databases : DatabasesState) (sends : Message → List EndedMessage) (outputs : List EndedMessage) (old middle new : TablesState) (id : ℕ)
-    → IsSomeAnd (message_at id old.queues.queued) (λ message. outputs ≡ sends message) → IsFinished old middle id outputs
-    → new ≡ with_databases middle databases → IsClosed databases sends old new id
-closes databases sends outputs old middle new id sent done is = by (message_at id old.queues.queued) sent done
+-- what was finished, with the pad and the databases then
+pub closes : (databases : DatabasesState) (conversations : List TerminalConversation) (pads : Message → PadChange) (sends : Message → List EndedMessage) (pad : PadChange) (outputs : List EndedMessage)
+    (origin : List ℕ) (old middle new : TablesState) (id : ℕ)
+    → IsSomeAnd (message_at id old.queues.queued) (λ message. (outputs ≡ sends message) × (pad ≡ pads message)) → IsFinished old middle id outputs
+    → IsSomeAnd (message_at id old.queues.queued) (λ message. origin ≡ message.origin)
+    → conversations ≡ padded pad origin middle.conversations
+    → new ≡ record middle { databases = databases; conversations = conversations } → IsClosed databases pads sends old new id
+closes databases conversations pads sends pad outputs origin old middle new id sent done from padded_so is = by (message_at id old.queues.queued) sent done from
   where
-    by : (found : Option Message) → IsSomeAnd found (λ message. outputs ≡ sends message) → IsSomeAnd found (λ message. (message.id ≡ id) × (middle ≡ finished old message outputs))
-        → IsSomeAnd found (λ message. (message.id ≡ id) × (new ≡ with_databases (finished old message (sends message)) databases))
-    by (Some message) s d = (d.0, is ∙ ap (λ t. with_databases t databases) d.1 ∙ ap (λ os. with_databases (finished old message os) databases) s)
-    by None s d = absurd d
+    by : (found : Option Message) → IsSomeAnd found (λ message. (outputs ≡ sends message) × (pad ≡ pads message))
+        → IsSomeAnd found (λ message. (message.id ≡ id) × (middle ≡ finished old message outputs))
+        → IsSomeAnd found (λ message. origin ≡ message.origin)
+        → IsSomeAnd found (λ message. (message.id ≡ id) × (new ≡ closed databases (pads message) old message (sends message)))
+    by (Some message) s d f = (
+      d.0,
+      is
+          ∙ ap {A = List TerminalConversation} (λ cs. record middle { databases = databases; conversations = cs }) padded_so
+          ∙ ap {A = TablesState} (λ t. record t { databases = databases; conversations = padded pad origin t.conversations }) d.1
+          ∙ ap {A = List ℕ} (λ o. record (finished old message outputs) { databases = databases; conversations = padded pad o old.conversations }) f
+          ∙ ap (closed databases pad old message) s.0
+          ∙ ap (λ p. closed databases p old message (sends message)) s.1,
+    )
+    by None s d f = absurd d
 
 -- what holds of the message that is lent holds of the one that is there
 pub found_message_and : (id : ℕ) (queued : List Queued) (message : Message) (P : Message → Type 0) → Some message ≡ message_at id queued → P message → IsSomeAnd (message_at id queued) P

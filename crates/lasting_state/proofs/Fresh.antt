@@ -4,6 +4,8 @@ use Rattle.tm_types.specs.declared.dbd.Dbd.{Dbd}
 use Rattle.model_rows.specs.declared.row.Row.{Row}
 use Rattle.seg_store.specs.Slots.{rows_of_slots, free_slots}
 use Rattle.seg_store.specs.Stores.{empty_stores}
+use Rattle.model_conversation.specs.declared.conversation.TerminalConversation.{TerminalConversation}
+use Rattle.model_conversation.specs.Terminals.{without_conversation}
 use Rattle.model_queues.specs.declared.replies.TerminalReplies.{TerminalReplies}
 use Rattle.model_queues.specs.Queue.{QueuesState, messages_of}
 use Rattle.model_queues.specs.Outputs.{fresh_terminal}
@@ -28,16 +30,17 @@ dbds_empty (dbd ∷ dbds) = ap (λ ds. dbd ∷ ds) (dbds_empty dbds)
 pub fresh_dbds : (dbds : List Dbd) (databases : DatabasesState) → databases.stores ≡ empty_stores dbds → dbds_of databases ≡ dbds
 fresh_dbds dbds databases e = ap (map (λ s. s.dbd)) e ∙ dbds_empty dbds
 
-pub fresh_is : (system : System) (databases : DatabasesState) (queues : QueuesState) (terminals : List TerminalState) (outputs : List TerminalReplies)
-    → databases.committed ≡ empty_stores system.databases → queues.queued ≡ [] → terminals ≡ map fresh_terminal_state system.terminals → outputs ≡ map fresh_terminal system.terminals
-    → lasting_of (map first_setting system.codes) (record { databases = databases; queues = queues; next_id = 1; terminals = terminals; outputs = outputs; steps = 0 }) ≡ empty_state system
-fresh_is system databases queues terminals outputs d q i o =
+pub fresh_is : (system : System) (databases : DatabasesState) (queues : QueuesState) (terminals : List TerminalState) (outputs : List TerminalReplies) (conversations : List TerminalConversation)
+    → databases.committed ≡ empty_stores system.databases → queues.queued ≡ [] → terminals ≡ map fresh_terminal_state system.terminals → outputs ≡ map fresh_terminal system.terminals → conversations ≡ map without_conversation system.terminals
+    → lasting_of (map first_setting system.codes) (record { databases = databases; queues = queues; next_id = 1; terminals = terminals; outputs = outputs; conversations = conversations; steps = 0 }) ≡ empty_state system
+fresh_is system databases queues terminals outputs conversations d q i o v =
     λ j. record {
       rows = (ap rows_of d ∙ rows_empty system.databases) j;
       messages = ap messages_of q j;
       next_id = 1;
       terminals = i j;
       outputs = o j;
+      conversations = v j;
       codes = map first_setting system.codes;
       steps = 0;
     }

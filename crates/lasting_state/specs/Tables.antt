@@ -1,7 +1,9 @@
 -- What lasts of a control region, as its tables keep it.
-use Rattle.std.specs.Prelude.{◌≡◌, ℕ, ◌+◌, ◌<◌, ◌≤◌, false, List, Some, None, IsSomeAnd, length, Result, Ok, Err}
+use Rattle.std.specs.Prelude.{◌≡◌, ℕ, ◌+◌, ◌<◌, ◌≤◌, List, Some, None, IsSomeAnd, length, Result, Ok, Err}
 use Rattle.tm_types.specs.declared.message.Message.{Message}
 use Rattle.tm_types.specs.Segment.{counted_bytes}
+use Rattle.model_conversation.specs.declared.conversation.PadChange.{PadChange}
+use Rattle.model_conversation.specs.declared.conversation.TerminalConversation.{TerminalConversation}
 use Rattle.model_queues.specs.declared.replies.TerminalReplies.{TerminalReplies}
 use Rattle.model_queues.specs.Queue.{QueuesState, messages_of, message_at, with_message, with_holder, without}
 use Rattle.model_queues.specs.Outputs.{with_terminal, without_first, outputs_bytes}
@@ -15,7 +17,7 @@ use Rattle.model_machine.specs.declared.entry.AckRefused.TheVariants.{Unknown, A
 use Rattle.model_machine.specs.declared.lasting.TerminalState.{TerminalState}
 use Rattle.model_machine.specs.declared.lasting.CodeSetting.{CodeSetting}
 use Rattle.model_machine.specs.Machine.{LastingState, terminal_place, output_at}
-use Rattle.model_machine.specs.Lasting.{LastingStep, code_word, with_last, applied}
+use Rattle.model_machine.specs.Lasting.{KeptInput, LastingStep, input_message, padded, with_begun, with_last, applied}
 use Rattle.model_machine.specs.Lasting.LastingStep.{Accepts}
 use Rattle.model_machine.specs.Steps.{ack_by}
 use Rattle.program_rows.specs.State.{DatabasesState, rows_of}
@@ -31,6 +33,7 @@ pub record TablesState : Type 0 where
   pub next_id : ℕ
   pub terminals : List TerminalState
   pub outputs : List TerminalReplies
+  pub conversations : List TerminalConversation
   pub steps : ℕ
 
 -- what lasts, with these settings of the codes
@@ -41,6 +44,7 @@ lasting_of settings t = record {
   next_id = t.next_id;
   terminals = t.terminals;
   outputs = t.outputs;
+  conversations = t.conversations;
   codes = settings;
   steps = t.steps;
 }
@@ -61,22 +65,23 @@ with_databases t new = record t { databases = new }
 abbrev pub needs : TablesState → List (List ℕ) → ℕ → ℕ
 needs t segments busy = input_needs (content_of t) (counted_bytes segments) busy
 
--- the input stands behind all other messages, under the next id
-abbrev pub enqueued : TablesState → List ℕ → ℕ → List (List ℕ) → TablesState
-enqueued t terminal number segments = record t {
-  queues = record t.queues { queued = with_message (record { id = t.next_id; origin = terminal; code = code_word segments; conversation = false; segments = segments }) t.queues.queued };
+-- the input stands behind all other messages, under the next id, and the conversation that it begins at its terminal
+abbrev pub enqueued : TablesState → List ℕ → ℕ → KeptInput → TablesState
+enqueued t terminal number kept = record t {
+  queues = record t.queues { queued = with_message (input_message t.next_id terminal kept) t.queues.queued };
   next_id = t.next_id + 1;
   terminals = change_at t.terminals (terminal_place t.terminals terminal) (with_last number);
+  conversations = with_begun terminal kept.begins t.conversations;
   steps = t.steps + 1;
 }
 
 -- The input is accepted under the next id where there is room for it, and else nothing changes.
-abbrev pub IsEnqueued : TablesState → TablesState → List ℕ → ℕ → List (List ℕ) → ℕ → Enqueued → Type 0
-IsEnqueued old new terminal number segments busy (New id) =
-    (id ≡ old.next_id) × (needs old segments busy ≤ old.queues.limit) × (new ≡ enqueued old terminal number segments)
-    × Applies (Accepts terminal number segments) old new
-IsEnqueued old new terminal number segments busy (Full needed limit) =
-    (needed ≡ needs old segments busy) × (limit ≡ old.queues.limit) × (limit < needed) × (new ≡ old)
+abbrev pub IsEnqueued : TablesState → TablesState → List ℕ → ℕ → KeptInput → ℕ → Enqueued → Type 0
+IsEnqueued old new terminal number kept busy (New id) =
+    (id ≡ old.next_id) × (needs old kept.segments busy ≤ old.queues.limit) × (new ≡ enqueued old terminal number kept)
+    × Applies (Accepts terminal number kept) old new
+IsEnqueued old new terminal number kept busy (Full needed limit) =
+    (needed ≡ needs old kept.segments busy) × (limit ≡ old.queues.limit) × (limit < needed) × (new ≡ old)
 
 -- a region has a message
 abbrev pub held : TablesState → ℕ → ℕ → TablesState
@@ -87,7 +92,7 @@ abbrev pub given_back : TablesState → ℕ → TablesState
 given_back t id = record t { queues = record t.queues { queued = with_holder id None t.queues.queued } }
 
 -- A message is gone, and what it sends was sent: to codes, as messages behind all others, and to
--- terminals, as replies. One step more was done; the databases stay.
+-- terminals, as replies. One step more was done; databases and conversations stay.
 abbrev pub finished : TablesState → Message → List EndedMessage → TablesState
 finished t message outputs = record t {
   queues = record t.queues { queued = with_messages (switched_messages message.origin (switches t.outputs outputs) t.next_id) (without message.id t.queues.queued) };
@@ -100,10 +105,16 @@ abbrev pub IsFinished : TablesState → TablesState → ℕ → List EndedMessag
 IsFinished old new id outputs =
     IsSomeAnd (message_at id old.queues.queued) (λ message. (message.id ≡ id) × (new ≡ finished old message outputs))
 
--- The message of an id is gone, what it sends was sent, and the databases are then these.
-abbrev pub IsClosed : DatabasesState → (Message → List EndedMessage) → TablesState → TablesState → ℕ → Type 0
-IsClosed databases sends old new id =
-    IsSomeAnd (message_at id old.queues.queued) (λ message. (message.id ≡ id) × (new ≡ with_databases (finished old message (sends message)) databases))
+-- a message is gone, this became of the pad of its origin, and the databases are then these
+abbrev pub closed : DatabasesState → PadChange → TablesState → Message → List EndedMessage → TablesState
+closed databases pad t message outputs =
+    record (finished t message outputs) { databases = databases; conversations = padded pad message.origin t.conversations }
+
+-- The message of an id is gone, what it sends was sent, this became of the pad of its origin, and the databases are
+-- then these.
+abbrev pub IsClosed : DatabasesState → (Message → PadChange) → (Message → List EndedMessage) → TablesState → TablesState → ℕ → Type 0
+IsClosed databases pads sends old new id =
+    IsSomeAnd (message_at id old.queues.queued) (λ message. (message.id ≡ id) × (new ≡ closed databases (pads message) old message (sends message)))
 
 -- the terminal's first reply is gone
 abbrev pub removed : TablesState → List ℕ → TablesState

@@ -1,9 +1,9 @@
 //! What lasts of a control region: databases, messages, replies and numbers.
 ghost use Rattle.std.specs.Prelude.{◌≡◌, ◌<◌, ◌^◌, [], IfOk, OnOk, OnErr, IsSome, IsSomeAnd, None, Some, length, map, replicate, slice_get};
 ghost use Rattle.std.specs.Borrow.{sem};
-ghost use Rattle.model_queues.specs.Queue.{AreInOrder, IsNewId, queued_at};
+ghost use Rattle.model_queues.specs.Queue.{AreInOrder, IsNewId, message_at, queued_at};
 ghost use Rattle.model_machine.specs.Machine.{output_at, empty_state, first_setting, terminal_place};
-ghost use Rattle.model_machine.specs.Lasting.{code_word, abend_outputs};
+ghost use Rattle.model_machine.specs.Lasting.{abend_outputs, discarded_pad};
 ghost use Rattle.model_machine.specs.Lasting.LastingStep.{Completes, Discards};
 ghost use Rattle.model_enqueue.specs.Table.{empty_table};
 ghost use Rattle.program_rows.specs.State.{clean_region, committed_rows, dbds_of, region_at, AreRowsOf, IsRegionOf};
@@ -13,11 +13,14 @@ ghost use Rattle.lasting_state.specs.Showing.{IsShown};
 
 use crate::Shown;
 use crate::abend::abend_outputs;
+use crate::conversing::{KeptInput, begin, change_pad, discarded_pad};
 use crate::databases::empty_rows;
 use crate::limits::COUNT_LIMIT;
 use crate::sending::{bytes_of, send_all};
 use crate::settings::first_settings;
 use crate::terminals::{fresh_states, note_input};
+use conversation::{Conversations, without_conversations};
+use model_conversation::PadChange;
 use model_machine::{AckRefused, Acked, ControlFault, Lasting, TerminalState};
 use model_message::EndedMessage;
 use msg_queues::{QueueRefused, Queues};
@@ -50,6 +53,8 @@ pub struct Tables {
     terminals: Vec<TerminalState>,
     /// The replies of each terminal.
     outputs: Outputs,
+    /// The conversation of each terminal, if it has one.
+    conversations: Conversations,
     /// How many lasting steps were done.
     steps: u64,
 }
@@ -60,7 +65,7 @@ impl Model for Tables {
 
     ghost Value = { TablesState };
 
-    ghost view = { λ t. record { databases = t.databases; queues = t.queues; next_id = t.next_id; terminals = t.terminals.items; outputs = t.outputs; steps = t.steps } };
+    ghost view = { λ t. record { databases = t.databases; queues = t.queues; next_id = t.next_id; terminals = t.terminals.items; outputs = t.outputs; conversations = t.conversations; steps = t.steps } };
 
     ghost invariant = { λ t. IsNewId t.next_id t.queues.queued };
 }
@@ -84,6 +89,7 @@ impl Tables {
             next_id: 1,
             terminals: fresh_states(alloc, system.terminals())?,
             outputs: Outputs::new(alloc, system.terminals())?,
+            conversations: Conversations::none(alloc, system.terminals())?,
             steps: 0,
         })
     }
@@ -126,6 +132,13 @@ impl Tables {
         &self.queues
     }
 
+    /// The conversations of the terminals.
+    pub fn conversations(&self) -> &Conversations
+        ensures { result.now ≡ self.now.conversations }
+    {
+        &self.conversations
+    }
+
     /// How many lasting steps were done.
     pub fn steps(&self) -> u64
         ensures { result ≡ self.now.steps }
@@ -133,27 +146,25 @@ impl Tables {
         self.steps
     }
 
-    /// Accepts an input of the terminal at this place, which has this code, if the queues have the room
-    /// for it with so many busy regions. Want of memory changes nothing; it is answered too where a
-    /// count would pass its limit.
+    /// Accepts an input of the terminal at this place, as it is to be kept, if the queues have the room
+    /// beside so many busy regions; the conversation that it begins, if it begins one, stands at the terminal
+    /// then. Want of memory changes nothing; it is answered too where a count would pass its limit.
     pub fn enqueue(
         &mut self,
         place: usize,
         terminal: &Name,
         number: u64,
-        code: &Name,
-        segments: Segments,
+        kept: KeptInput,
         busy: u32,
     ) -> Result<Enqueued, Memory>
         requires place { terminal_place self.old.terminals terminal.now ≡ Some place }
         requires within { place < length self.old.terminals }
-        requires code { code.now ≡ code_word segments }
-        ensures ok { IfOk result (IsEnqueued self.old self.new terminal.now number segments busy) }
+        ensures ok { IfOk result (IsEnqueued self.old self.new terminal.now number kept busy) }
         ensures err { OnErr result (self.new ≡ self.old) }
         ensures above { IsNewId self.old.next_id self.old.queues.queued }
     {
         let id = self.next_id;
-        let Some(bytes) = bytes_of(&segments) else {
+        let Some(bytes) = bytes_of(&kept.segments) else {
             return Err(Memory);
         };
         if id >= COUNT_LIMIT || self.steps >= COUNT_LIMIT || self.content() + bytes >= 1 << 62 {
@@ -162,14 +173,15 @@ impl Tables {
         let message = Message {
             id,
             origin: *terminal,
-            code: *code,
-            conversation: false,
-            segments,
+            code: kept.code,
+            conversation: kept.conversation,
+            segments: kept.segments,
         };
         let replies = self.outputs.content();
         match self.queues.accept(message, busy, replies) {
             Ok(()) => {
                 note_input(&mut self.terminals, place, number);
+                begin(&mut self.conversations, terminal, kept.begins);
                 self.next_id += 1;
                 self.steps += 1;
                 Ok(Enqueued::New(id))
@@ -201,33 +213,36 @@ impl Tables {
         self.queues.give_back(id);
     }
 
-    /// Completes the message of this id in a region: it goes, its outputs are sent in their order, what the
-    /// region has changed in the databases stays, and it holds nothing any more. Want of memory changes
-    /// nothing; it is answered too where a count would pass its limit.
+    /// Completes the message of this id in a region: it goes, its outputs are sent in their order, this
+    /// becomes of the pad of its origin, what the region has changed in the databases stays, and it holds
+    /// nothing any more. Want of memory changes nothing; it is answered too where a count would pass its
+    /// limit.
     pub fn complete(
         &mut self,
         region: u32,
         id: u64,
         outputs: VecDeque<EndedMessage>,
+        pad: PadChange,
     ) -> Result<(), Memory>
         requires region { IsRegionOf self.old.databases region }
         requires found { IsSome (queued_at id self.old.queues.queued) }
-        ensures step { OnOk result (Applies (Completes id (region_at region self.old.databases).rows outputs.items) self.old self.new) }
-        ensures closed { OnOk result (IsClosed self.new.databases (λ _. outputs.items) self.old self.new id) }
+        ensures step { OnOk result (Applies (Completes id (region_at region self.old.databases).rows outputs.items pad) self.old self.new) }
+        ensures closed { OnOk result (IsClosed self.new.databases (λ _. pad) (λ _. outputs.items) self.old self.new id) }
         ensures databases { OnOk result (IsCommitted region self.old.databases self.new.databases) }
         ensures rows { OnOk result (AreRowsOf (dbds_of self.new.databases) (committed_rows self.new.databases)) }
         ensures dbds { dbds_of self.new.databases ≡ dbds_of self.old.databases }
         ensures err { OnErr result (self.new ≡ self.old) }
         ensures above { IsNewId self.old.next_id self.old.queues.queued }
     {
-        self.finish(id, outputs)?;
+        let origin = self.finish(id, outputs)?;
+        change_pad(&mut self.conversations, &origin, pad);
         self.databases.commit(region);
         Ok(())
     }
 
     /// Discards the message of this id, the work on which ended abnormally in a region: it goes, its origin
-    /// is told so, what the region has changed in the databases is taken back, and it holds nothing any
-    /// more. Want of memory changes nothing; it is answered too where a count would pass its limit.
+    /// is told so, its conversation ends if it belongs to one, what the region has changed in the databases
+    /// is taken back, and it holds nothing any more. Want of memory changes nothing; it is answered too where a count would pass its limit.
     pub fn discard(
         &mut self,
         alloc: Global,
@@ -238,7 +253,7 @@ impl Tables {
         requires region { IsRegionOf self.old.databases region }
         requires found { IsSome (queued_at id self.old.queues.queued) }
         ensures step { OnOk result (Applies (Discards id abend) self.old self.new) }
-        ensures closed { OnOk result (IsClosed self.new.databases (λ message. abend_outputs message abend) self.old self.new id) }
+        ensures closed { OnOk result (IsClosed self.new.databases discarded_pad (λ message. abend_outputs message abend) self.old self.new id) }
         ensures databases { OnOk result (IsGivenUp region self.old.databases self.new.databases) }
         ensures dbds { dbds_of self.new.databases ≡ dbds_of self.old.databases }
         ensures err { OnErr result (self.new ≡ self.old) }
@@ -247,16 +262,20 @@ impl Tables {
         let Some(message) = self.queues.find(id) else {
             unreachable!()
         };
+        let pad = discarded_pad(message);
         let outputs = abend_outputs(alloc, message, abend)?;
-        self.finish(id, outputs)?;
+        let origin = self.finish(id, outputs)?;
+        change_pad(&mut self.conversations, &origin, pad);
         self.databases.give_up(region);
         Ok(())
     }
 
-    /// Removes a message, and sends its outputs in their order; the databases stay.
-    fn finish(&mut self, id: u64, outputs: VecDeque<EndedMessage>) -> Result<(), Memory>
+    /// Removes a message, sends its outputs in their order, and tells its origin; databases and
+    /// conversations stay.
+    fn finish(&mut self, id: u64, outputs: VecDeque<EndedMessage>) -> Result<Name, Memory>
         requires { IsSome (queued_at id self.old.queues.queued) }
         ensures ok { OnOk result (IsFinished self.old self.new id outputs.items) }
+        ensures origin { IfOk result (λ origin. IsSomeAnd (message_at id self.old.queues.queued) (λ message. origin ≡ message.origin)) }
         ensures databases { self.new.databases ≡ self.old.databases }
         ensures err { OnErr result (self.new ≡ self.old) }
         ensures above { IsNewId self.old.next_id self.old.queues.queued }
@@ -278,7 +297,7 @@ impl Tables {
         self.queues.remove(id);
         self.next_id = next;
         self.steps += 1;
-        Ok(())
+        Ok(origin)
     }
 
     /// What the terminal is to be shown.
@@ -326,6 +345,7 @@ pub fn empty_lasting(alloc: Global, system: &System) -> Result<Lasting, Memory>
         next_id: 1,
         terminals: fresh_states(alloc, system.terminals())?,
         outputs: fresh_terminals(alloc, system.terminals())?,
+        conversations: without_conversations(alloc, system.terminals())?,
         codes: first_settings(alloc, system.codes())?,
         steps: 0,
     })

@@ -19,7 +19,7 @@ invariant_of-self-2 c =
 pub returns-clause-ok : goal.returns-clause-ok
 returns-clause-ok c =
     rw (sym c.self.view_is)
-    (finished_is (record { databases = c.self.inside.databases; queues = c.self.inside.queues; next_id = c.self.inside.next_id; terminals = c.self.inside.terminals.items; outputs = c.self.inside.outputs; steps = c.self.inside.steps })
+    (finished_is (record { databases = c.self.inside.databases; queues = c.self.inside.queues; next_id = c.self.inside.next_id; terminals = c.self.inside.terminals.items; outputs = c.self.inside.outputs; conversations = c.self.inside.conversations; steps = c.self.inside.steps })
     c.send_all.new.queues c.remove.new.self c.send_all.new.terminals c.in_ok-next.next c.args.id c.args.outputs.items c.in-Some.message.now
     c.in-Some.ensures (found_below c.args.id c.self.inside.next_id c.self.inside.queues.queued c.self.invariant (rw (← c.self.view_is) at c.requires))
     c.in_ok-next.ensures.ok c.remove.ensures)

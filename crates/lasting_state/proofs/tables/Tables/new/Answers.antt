@@ -1,4 +1,5 @@
 use Rattle.std.proofs.Common.{◌∙◌, ap, map}
+use Rattle.model_conversation.specs.Terminals.{without_conversation}
 use Rattle.model_queues.specs.Outputs.{fresh_terminal}
 use Rattle.model_machine.specs.Machine.{fresh_terminal_state}
 use Rattle.seg_store.specs.Stores.{empty_stores}
@@ -7,9 +8,10 @@ use Rattle.lasting_state.proofs.tables.Tables.new.Goals as goal
 
 pub returns-clause-lasting : goal.returns-clause-lasting
 returns-clause-lasting c =
-    fresh_is c.args.system.now c.in_ok-empty.field-0 c.new.result c.in_ok-fresh_states.field-0.items c.in_ok-new.field-0
+    fresh_is c.args.system.now c.in_ok-empty.field-0 c.new.result c.in_ok-fresh_states.field-0.items c.in_ok-new.field-0 c.in_ok-none.field-0
     (c.in_ok-empty.ensures.committed ∙ ap empty_stores c.databases.ensures.value) c.new.ensures.empty
     (c.in_ok-fresh_states.ensures ∙ ap (map fresh_terminal_state) c.terminals.ensures.value) (c.in_ok-new.ensures ∙ ap (map fresh_terminal) c.terminals-2.ensures.value)
+    (c.in_ok-none.ensures ∙ ap (map without_conversation) c.terminals-3.ensures.value)
 
 pub returns-clause-databases : goal.returns-clause-databases
 returns-clause-databases c =
