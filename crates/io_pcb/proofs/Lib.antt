@@ -1,3 +1,5 @@
 pub mod Trimmed
 pub mod Changed
 pub mod Printable
+pub mod Padded
+pub mod Kept

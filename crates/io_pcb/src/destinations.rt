@@ -1,10 +1,10 @@
 //! The terminals and the codes of a system as destinations.
 ghost use Rattle.std.specs.Prelude.{◌≡◌, ◌+◌, ◌==◌, find, length};
 ghost use Rattle.std.specs.List.{suffix_len};
-ghost use Rattle.std.specs.Option.{option_copied, option_map};
+ghost use Rattle.std.specs.Option.{option_and_then, option_copied};
 ghost use Rattle.std.specs.Str.{bytes_eq};
 ghost use Rattle.model_system.specs.Codes.{code_at};
-ghost use Rattle.model_message.specs.Calls.{destination_named, without_blanks};
+ghost use Rattle.model_message.specs.Calls.{destination_named, switched_to, without_blanks};
 
 use model_system::Code;
 use system_types::System;
@@ -28,7 +28,7 @@ fn text_end(text: &[u8]) -> usize
     end
 }
 
-/// The terminal of this name, or else the code.
+/// The terminal of this name, or else the code, if it has no scratch pad.
 pub fn destination_named(system: &System, name: &[u8]) -> Option<Name>
     ensures { result ≡ destination_named system.now name.now }
 {
@@ -47,12 +47,21 @@ fn terminal_named<'a>(terminals: &'a [Name], name: &[u8]) -> Option<&'a Name>
 }
 
 fn code_named(codes: &[Code], name: &[u8]) -> Option<Name>
-    ensures { result ≡ option_map (λ code. code.transaction.code) (code_at codes.now name.now) }
+    ensures { result ≡ option_and_then switched_to (code_at codes.now name.now) }
 {
     match find_code(codes, name) {
-        Some(code) => Some(code.transaction.code),
+        Some(code) => switched_to(code),
         None => None,
     }
+}
+
+fn switched_to(code: &Code) -> Option<Name>
+    ensures { result ≡ switched_to code.now }
+{
+    if code.transaction.scratch_pad != 0 {
+        return None;
+    }
+    Some(code.transaction.code)
 }
 
 fn find_code<'a>(codes: &'a [Code], name: &[u8]) -> Option<&'a Code>

@@ -1,27 +1,30 @@
 //! The work on a message.
-ghost use Rattle.std.specs.Prelude.{◌≡◌, IfOk, OnOk, OnErr, slice_get};
+ghost use Rattle.std.specs.Prelude.{◌≡◌, true, false, IfOk, IfSome, OnOk, OnErr, slice_get};
 ghost use Rattle.std.specs.Option.{option_copied, option_map};
 ghost use Rattle.tm_types.specs.Segment.{IsSegmentText};
 ghost use Rattle.model_message.specs.Calls.{given};
 ghost use Rattle.model_message.specs.Work.{message_start};
 ghost use Rattle.model_message.specs.Calls.{unique_answer, unique_work, next_answer, next_work, insert_status, insert_work, purge_status, purge_work, change_status, change_work, reset_work, finish_work};
+ghost use Rattle.model_message.specs.Calls.{texts_of, gives_back, segment_status, segment_work, pad_change};
 ghost use Rattle.io_pcb.specs.Shown.{shown};
+ghost use Rattle.io_pcb.specs.Pads.{IsPadText, Suits, conversation_by, gives_wrong, lent_pad};
 
 use crate::destinations::{destination_named, without_blanks};
-use crate::{Output, outputs, pcbs};
+use crate::pads::segment_of;
+use crate::{LentPad, Output, outputs, pads, pcbs};
 use model_message::{EndedMessage, OpenPcb};
 use model_system::{Pcbs, Transaction};
 use std::alloc::Global;
 use std::collections::VecDeque;
 use std::marker::Model;
 use system_types::System;
-use tm_types::{Memory, Message, Segment, SegmentRefused, Segments, Status};
+use tm_types::{Bytes, Memory, Message, Name, Segment, Segments, Status};
 
 /// What a get is answered.
 #[derive(Debug, Drop)]
 pub struct Got {
     pub status: Status,
-    /// The segment that was got.
+    /// The text that was got.
     pub text: Option<Segment>,
 }
 
@@ -29,11 +32,17 @@ pub struct Got {
 #[derive(Debug, Drop)]
 pub struct Work {
     alloc: Global,
+    /// The message's code.
+    code: Name,
     segments: Segments,
-    /// Whether the script has got the first segment.
+    /// The pad of the conversation that the message belongs to, if it does.
+    pad: Option<Segment>,
+    /// The pad that was given back.
+    returned: Option<Bytes>,
+    /// Whether the script has got the first text.
     begun: bool,
-    /// The place of the segment that is given next.
-    place: usize,
+    /// The place of the segment that is given next, once the script has got the first text.
+    next: usize,
     /// The longest segment that may be inserted, with its LL.
     size_limit: u16,
     /// How many segments may be inserted.
@@ -48,29 +57,39 @@ pub struct Work {
 
 impl Model for Work {
     ghost use Rattle.model_message.specs.Work.{MessageWork};
+    ghost use Rattle.io_pcb.specs.Pads.{AreKept, conversation_by, place_by};
 
     ghost Value = { MessageWork };
 
-    ghost view = { λ w. record { segments = w.segments; begun = w.begun; place = w.place; size_limit = w.size_limit; count_limit = w.count_limit; inserted = w.inserted; pcbs = w.pcbs.items; ended = w.ended.items } };
+    ghost view = { λ w. record { segments = w.segments; conversation = conversation_by w.code w.pad; returned = w.returned; begun = w.begun; place = place_by w.begun w.pad w.next; size_limit = w.size_limit; count_limit = w.count_limit; inserted = w.inserted; pcbs = w.pcbs.items; ended = w.ended.items } };
+
+    ghost invariant = { λ w. AreKept w.code w.pad w.returned };
 }
 
 impl Work {
-    /// The work on a message before the first call, by a program with these PCBs.
+    /// The work on a message before the first call, by a program with these PCBs. The pad is that of the
+    /// conversation to which the message belongs, and is there where it belongs to one.
     pub fn new(
         alloc: Global,
         transaction: &Transaction,
         message: &Message,
+        pad: Option<&[u8]>,
         pcbs: &Pcbs,
     ) -> Result<Work, Memory>
-        ensures { IfOk result (λ work. work ≡ message_start transaction.now message.now pcbs.now) }
+        requires { IfSome (option_copied pad) IsPadText }
+        ensures { IfOk result (λ work. work ≡ message_start transaction.now message.now (conversation_by message.now.code (option_copied pad.entry)) pcbs.now) }
     {
         let segments = message.segments.clone()?;
+        let pad = pads::copied(alloc, pad)?;
         let pcbs = pcbs::fresh_pcbs(alloc, message.origin, pcbs.as_slice())?;
         Ok(Work {
             alloc,
+            code: message.code,
             segments,
+            pad,
+            returned: None,
             begun: false,
-            place: 0,
+            next: 0,
             size_limit: transaction.segment_size,
             count_limit: transaction.segment_count,
             inserted: 0,
@@ -79,14 +98,17 @@ impl Work {
         })
     }
 
-    /// The first segment, which a GU gives.
+    /// The first text, which a GU gives: the pad, or the first segment of a message without one.
     pub fn first(&self) -> Option<&Segment>
-        ensures { option_copied result ≡ slice_get self.now.segments 0 }
+        ensures { option_copied result ≡ slice_get (texts_of self.now) 0 }
     {
-        self.segments.get(0)
+        match &self.pad {
+            Some(pad) => Some(pad),
+            None => self.segments.get(0),
+        }
     }
 
-    /// The segment that a GN gives: the next one behind those that were given. Before a GU or a reset
+    /// The text that a GN gives: the next one behind those that were given. Before a GU or a reset
     /// there is none.
     pub fn next(&self) -> Option<&Segment>
         ensures { given (option_copied result) ≡ next_answer self.now }
@@ -94,37 +116,40 @@ impl Work {
         if !self.begun {
             return None;
         }
-        self.segments.get(self.place)
+        self.segments.get(self.next)
     }
 
-    /// Whether the first segment was given.
+    /// Whether the first text was given.
     pub fn has_begun(&self) -> bool
         ensures { result ≡ self.now.begun }
     {
         self.begun
     }
 
-    /// Stands behind the first segment, which was given.
+    /// Stands behind the first text, which was given.
     pub fn begin(&mut self)
         ensures { self.new ≡ unique_work self.old }
     {
         self.begun = true;
-        self.place = 1;
+        self.next = match &self.pad {
+            Some(_) => 0,
+            None => 1,
+        };
     }
 
-    /// Stands behind the next segment, if there is one, which was given.
+    /// Stands behind the next text, if there is one, which was given.
     pub fn go_on(&mut self)
         ensures { self.new ≡ next_work self.old }
     {
         if !self.begun {
             return;
         }
-        if self.place < self.segments.len() {
-            self.place += 1;
+        if self.next < self.segments.len() {
+            self.next += 1;
         }
     }
 
-    /// A copy of the first segment, which is given.
+    /// A copy of the first text, which is given.
     pub fn get_unique(&mut self) -> Result<Got, Memory>
         ensures status { IfOk result (λ got. got.status ≡ (unique_answer self.old).status) }
         ensures text { IfOk result (λ got. got.text ≡ (unique_answer self.old).area) }
@@ -136,7 +161,7 @@ impl Work {
         Ok(got)
     }
 
-    /// A copy of the next segment behind those that were given, or QD where there is none.
+    /// A copy of the next text behind those that were given, or QD where there is none.
     pub fn get_next(&mut self) -> Result<Got, Memory>
         ensures status { IfOk result (λ got. got.status ≡ (next_answer self.old).status) }
         ensures text { IfOk result (λ got. got.text ≡ (next_answer self.old).area) }
@@ -148,11 +173,57 @@ impl Work {
         Ok(got)
     }
 
-    /// Puts a segment behind the others of the PCB's message under construction, or refuses it.
+    /// Whether an ISRT by the PCB gives the pad back: the first one on PCB 0 in a conversation.
+    fn gives_back(&self, pcb: u8) -> bool
+        ensures { result ≡ gives_back self.now pcb }
+    {
+        pcb == 0 && self.pad.is_some() && self.returned.is_none()
+    }
+
+    /// Whether an ISRT by the PCB would give back this text, and it is no pad of the conversation: it is
+    /// shorter than 8 bytes, or has neither the code nor blanks in front. The work then ends with U0904.
+    pub fn is_wrong_pad(&self, pcb: u8, text: &[u8]) -> bool
+        ensures { result ≡ gives_wrong self.now pcb text.now }
+    {
+        self.gives_back(pcb) && !pads::is_pad(&self.code, text)
+    }
+
+    /// Takes the pad back, padded or cut; or puts a segment behind the others of the PCB's message under
+    /// construction, or refuses it.
     pub fn insert(&mut self, pcb: u8, text: &[u8]) -> Result<Status, Memory>
-        requires { IsSegmentText text.now }
+        requires text { IsSegmentText text.now }
+        requires pad { gives_wrong self.old pcb text.now ≡ false }
         ensures status { IfOk result (λ status. status ≡ insert_status self.old pcb text.now) }
         ensures work { OnOk result (self.new ≡ insert_work self.old pcb text.now) }
+        ensures err { OnErr result (self.new ≡ self.old) }
+    {
+        if self.gives_back(pcb) {
+            return self.give_back(pcb, text);
+        }
+        self.insert_segment(pcb, text)
+    }
+
+    /// Takes the pad back, padded or cut to the length of the one before.
+    fn give_back(&mut self, pcb: u8, text: &[u8]) -> Result<Status, Memory>
+        requires text { IsSegmentText text.now }
+        requires gives { gives_back self.old pcb ≡ true }
+        requires pad { gives_wrong self.old pcb text.now ≡ false }
+        ensures status { IfOk result (λ status. status ≡ insert_status self.old pcb text.now) }
+        ensures work { OnOk result (self.new ≡ insert_work self.old pcb text.now) }
+        ensures err { OnErr result (self.new ≡ self.old) }
+    {
+        let Some(pad) = &self.pad else { unreachable!() };
+        let length = pad.text().len();
+        let returned = pads::fitted(self.alloc, length, text)?;
+        self.returned = Some(returned);
+        Ok(Status::Blank)
+    }
+
+    /// Puts a segment behind the others of the PCB's message under construction, or refuses it.
+    fn insert_segment(&mut self, pcb: u8, text: &[u8]) -> Result<Status, Memory>
+        requires { IsSegmentText text.now }
+        ensures status { IfOk result (λ status. status ≡ segment_status self.old pcb text.now) }
+        ensures work { OnOk result (self.new ≡ segment_work self.old pcb text.now) }
         ensures err { OnErr result (self.new ≡ self.old) }
     {
         if pcbs::destination_at(&self.pcbs, pcb).is_none() {
@@ -185,7 +256,7 @@ impl Work {
     }
 
     /// Makes the terminal or the code of this name, behind which blanks may stand, the destination of
-    /// the PCB. This takes no memory.
+    /// the PCB. A code with a scratch pad is none. This takes no memory.
     pub fn change(&mut self, pcb: u8, name: &[u8], system: &System) -> Status
         ensures status { result ≡ change_status system.now self.old pcb name.now }
         ensures work { self.new ≡ change_work system.now self.old pcb name.now }
@@ -202,16 +273,16 @@ impl Work {
         }
     }
 
-    /// Takes back output and chosen destinations, and stands behind the first segment. This takes no
-    /// memory.
+    /// Takes back output, chosen destinations and the pad that was given back, and stands behind the first
+    /// text. This takes no memory.
     pub fn reset(&mut self)
         ensures { self.new ≡ reset_work self.old }
     {
         pcbs::reset_each(self.alloc, &mut self.pcbs);
         self.ended = Vec::new(self.alloc);
-        self.begun = true;
-        self.place = 1;
+        self.returned = None;
         self.inserted = 0;
+        self.begin();
     }
 
     /// A copy of what is sent at the sync point: the messages that were ended, and then those under
@@ -237,23 +308,30 @@ impl Work {
             None => None,
         }
     }
-}
 
-/// The segment of a text that is one.
-#[tactic(auto, using(crate::proofs::Printable::no_bad_byte))]
-fn segment_of(alloc: Global, text: &[u8]) -> Result<Segment, Memory>
-    requires { IsSegmentText text.now }
-    ensures { IfOk result (λ segment. segment ≡ text.now) }
-{
-    match Segment::make(alloc, text) {
-        Ok(segment) => Ok(segment),
-        Err(SegmentRefused::Memory) => Err(Memory),
-        Err(SegmentRefused::TooLong(_)) => unreachable!(),
-        Err(SegmentRefused::BadByte(_)) => unreachable!(),
+    /// The pad that was given back, padded or cut; None exactly where none was.
+    pub fn pad(&self) -> Option<&[u8]>
+        ensures { option_copied result ≡ self.now.returned }
+    {
+        match &self.returned {
+            Some(text) => Some(text.as_slice()),
+            None => None,
+        }
+    }
+
+    /// What the sync point does with the pad of the conversation.
+    pub fn pad_change(&self) -> LentPad<'_>
+        ensures value { lent_pad result ≡ pad_change self.now }
+        ensures suits { Suits self.now.conversation (pad_change self.now) }
+    {
+        match &self.returned {
+            Some(text) => pads::change_by(text.as_slice()),
+            None => LentPad::Stays,
+        }
     }
 }
 
-/// A copy of the segment with a blank status, or QD where there is none.
+/// A copy of the text with a blank status, or QD where there is none.
 fn give(segment: Option<&Segment>) -> Result<Got, Memory>
     ensures status { IfOk result (λ got. got.status ≡ (given (option_copied segment.entry)).status) }
     ensures text { IfOk result (λ got. got.text ≡ (given (option_copied segment.entry)).area) }

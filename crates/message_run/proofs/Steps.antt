@@ -5,7 +5,6 @@ use Rattle.std.specs.Option.{option_and_then}
 use Rattle.std.proofs.lemmas.List.Elements.{All-nil, All-append, All-push, All-weaker}
 use Rattle.tm_types.specs.declared.abend.AbendCode.{AbendCode}
 use Rattle.tm_types.specs.declared.dbd.Dbd.{Dbd}
-use Rattle.tm_types.specs.declared.message.Message.{Message}
 use Rattle.tm_types.specs.declared.resource.Resource.{Resource}
 use Rattle.tm_types.specs.declared.status.Status.{Status}
 use Rattle.model_script.specs.declared.need.CallText.{CallText}
@@ -26,7 +25,7 @@ use Rattle.model_message.specs.Work.{MessageWork, message_start}
 use Rattle.seg_store.specs.Slots.{Stored}
 use Rattle.program_rows.specs.State.{DatabasesState, RegionRows, IsClean, committed_rows, rows_of, dbds_of, data_of, no_rows}
 use Rattle.program_rows.specs.Answering.{told_blocked}
-use Rattle.model_machine.specs.Trial.{Trial, WorkEnd, Outcome, Advance, trial_start, trial_of, trial_need, advance, advance_by, called, gone, gone_on, is_get_unique, is_sync, unless_abend, call_outcome, outcome_at, Reached, reached, reached_by}
+use Rattle.model_machine.specs.Trial.{Given, Trial, WorkEnd, Outcome, Advance, trial_start, trial_of, trial_need, advance, advance_by, called, gone, gone_on, is_get_unique, is_sync, unless_abend, call_outcome, outcome_at, Reached, reached, reached_by}
 use Rattle.model_machine.specs.Trial.Advance.{Goes, Stops}
 use Rattle.model_machine.specs.Trial.Reached.{Messages}
 use Rattle.model_machine.specs.Trial.WorkEnd.{Syncs, Abends}
@@ -57,17 +56,17 @@ abbrev target_of : Job → CallText → Reached
 target_of job call = reached job.system.databases job.pcbs call.pcb
 
 -- behind a call more, what it asked for is asked for
-asked_next : (region : ℕ) (job : Job) (rows : List (List Row)) (message : Message) (calls : ℕ) (trial : Trial) → trial_of job rows message calls ≡ Some trial
-    → asked_before region job rows message (calls + 1) ≡ asked_before region job rows message calls ++ requests_of region job trial
-asked_next region job rows message calls trial made =
-    ap (asked_before region job rows message) (add-one calls) ∙ ap (λ t. asked_before region job rows message calls ++ asked_behind region job t) made
+asked_next : (region : ℕ) (job : Job) (rows : List (List Row)) (given : Given) (calls : ℕ) (trial : Trial) → trial_of job rows given calls ≡ Some trial
+    → asked_before region job rows given (calls + 1) ≡ asked_before region job rows given calls ++ requests_of region job trial
+asked_next region job rows given calls trial made =
+    ap (asked_before region job rows given) (add-one calls) ∙ ap (λ t. asked_before region job rows given calls ++ asked_behind region job t) made
 
-needs_next : (job : Job) (rows : List (List Row)) (message : Message) (calls : ℕ) (trial : Trial) → trial_of job rows message calls ≡ Some trial
-    → needs_before job rows message (calls + 1) ≡ needs_before job rows message calls ++ trial_need job trial ∷ []
-needs_next job rows message calls trial made =
-    ap (needs_before job rows message) (add-one calls) ∙ ap (λ t. needs_before job rows message calls ++ needs_behind job t) made
+needs_next : (job : Job) (rows : List (List Row)) (given : Given) (calls : ℕ) (trial : Trial) → trial_of job rows given calls ≡ Some trial
+    → needs_before job rows given (calls + 1) ≡ needs_before job rows given calls ++ trial_need job trial ∷ []
+needs_next job rows given calls trial made =
+    ap (needs_before job rows given) (add-one calls) ∙ ap (λ t. needs_before job rows given calls ++ needs_behind job t) made
 
-module _ (job : Job) (message : Message) (region : ℕ) (databases : DatabasesState) (run : RunState) (ahead : IsAhead job message region databases run) where
+module _ (job : Job) (given : Given) (region : ℕ) (databases : DatabasesState) (run : RunState) (ahead : IsAhead job given region databases run) where
   abbrev rows : List (List Row)
   rows = committed_rows databases
 
@@ -80,11 +79,11 @@ module _ (job : Job) (message : Message) (region : ℕ) (databases : DatabasesSt
 
   -- the texts of one call more
   texts_next : (after : DatabasesState) (need : Need) (calls : ℕ) → after.committed ≡ databases.committed → trial_need job ahead.trial ≡ need → HasTexts need
-      → calls ≡ run.calls + 1 → All HasTexts (needs_before job (committed_rows after) message calls)
+      → calls ≡ run.calls + 1 → All HasTexts (needs_before job (committed_rows after) given calls)
   texts_next after need calls committed needs texts count =
-      subst (λ (ss : List Stored). All HasTexts (needs_before job (rows_of ss) message calls)) (sym committed)
-      (subst (All HasTexts) (sym (ap (needs_before job (committed_rows databases) message) count ∙ needs_next job (committed_rows databases) message run.calls ahead.trial ahead.made))
-      (All-push HasTexts (needs_before job (committed_rows databases) message run.calls) (trial_need job ahead.trial) ahead.texts (subst HasTexts (sym needs) texts)))
+      subst (λ (ss : List Stored). All HasTexts (needs_before job (rows_of ss) given calls)) (sym committed)
+      (subst (All HasTexts) (sym (ap (needs_before job (committed_rows databases) given) count ∙ needs_next job (committed_rows databases) given run.calls ahead.trial ahead.made))
+      (All-push HasTexts (needs_before job (committed_rows databases) given run.calls) (trial_need job ahead.trial) ahead.texts (subst HasTexts (sym needs) texts)))
 
   -- the trial needs what the script needs
   need_is : (need : Need) → need_at job.lines job.transaction.statement_limit run.machine.script ≡ need → trial_need job ahead.trial ≡ need
@@ -104,24 +103,24 @@ module _ (job : Job) (message : Message) (region : ℕ) (databases : DatabasesSt
 
   -- what was asked for before is held on
   held_on : (after : DatabasesState) (requests : List Request) → after.committed ≡ databases.committed → after.table ≡ after_asks region requests databases.table
-      → All (IsHeld after.table) (asked_before region job (committed_rows after) message run.calls)
+      → All (IsHeld after.table) (asked_before region job (committed_rows after) given run.calls)
   held_on after requests committed asked =
-      subst (λ (t : EnqueueTable). All (IsHeld t) (asked_before region job (committed_rows after) message run.calls)) (sym asked)
-      (subst (λ (ss : List Stored). All (IsHeld (after_asks region requests databases.table)) (asked_before region job (rows_of ss) message run.calls)) (sym committed)
+      subst (λ (t : EnqueueTable). All (IsHeld t) (asked_before region job (committed_rows after) given run.calls)) (sym asked)
+      (subst (λ (ss : List Stored). All (IsHeld (after_asks region requests databases.table)) (asked_before region job (rows_of ss) given run.calls)) (sym committed)
       (All-weaker (IsHeld databases.table) (IsHeld (after_asks region requests databases.table)) (asks_keep region requests databases.table)
-      (asked_before region job (committed_rows databases) message run.calls) ahead.held))
+      (asked_before region job (committed_rows databases) given run.calls) ahead.held))
 
   -- and so is what the call asked for
   held_next : (after : DatabasesState) (calls : ℕ) → after.committed ≡ databases.committed → IsFree job region databases after ahead.trial → calls ≡ run.calls + 1
-      → All (IsHeld after.table) (asked_before region job (committed_rows after) message calls)
+      → All (IsHeld after.table) (asked_before region job (committed_rows after) given calls)
   held_next after calls committed granted count =
       let asked = requests_of region job ahead.trial in
       let table = after_asks region asked databases.table in
-      subst (λ (t : EnqueueTable). All (IsHeld t) (asked_before region job (committed_rows after) message calls)) (sym granted.asked)
-      (subst (λ (ss : List Stored). All (IsHeld table) (asked_before region job (rows_of ss) message calls)) (sym committed)
-      (subst (All (IsHeld table)) (sym (ap (asked_before region job (committed_rows databases) message) count ∙ asked_next region job (committed_rows databases) message run.calls ahead.trial ahead.made))
-      (All-append (IsHeld table) (asked_before region job (committed_rows databases) message run.calls) asked
-      (All-weaker (IsHeld databases.table) (IsHeld table) (asks_keep region asked databases.table) (asked_before region job (committed_rows databases) message run.calls) ahead.held)
+      subst (λ (t : EnqueueTable). All (IsHeld t) (asked_before region job (committed_rows after) given calls)) (sym granted.asked)
+      (subst (λ (ss : List Stored). All (IsHeld table) (asked_before region job (rows_of ss) given calls)) (sym committed)
+      (subst (All (IsHeld table)) (sym (ap (asked_before region job (committed_rows databases) given) count ∙ asked_next region job (committed_rows databases) given run.calls ahead.trial ahead.made))
+      (All-append (IsHeld table) (asked_before region job (committed_rows databases) given run.calls) asked
+      (All-weaker (IsHeld databases.table) (IsHeld table) (asks_keep region asked databases.table) (asked_before region job (committed_rows databases) given run.calls) ahead.held)
       (asks_hold region asked databases.table granted.free))))
 
   -- the trial needs what the script needs
@@ -139,10 +138,10 @@ module _ (job : Job) (message : Message) (region : ℕ) (databases : DatabasesSt
       → dbds_of after ≡ dbds_of databases → after.table ≡ after_asks region requests databases.table
       → machine.limit ≡ run.machine.limit
       → settled job.lines job.transaction.statement_limit machine.script ≡ settled job.lines job.transaction.statement_limit run.machine.script
-      → IsAhead job message region after (record run { machine = machine })
+      → IsAhead job given region after (record run { machine = machine })
   same_ahead after requests machine committed regions dbds asked limited script = record {
     trial = ahead.trial;
-    made = ap (λ (ss : List Stored). trial_of job (rows_of ss) message run.calls) committed ∙ ahead.made;
+    made = ap (λ (ss : List Stored). trial_of job (rows_of ss) given run.calls) committed ∙ ahead.made;
     limit = limited ∙ ahead.limit;
     script = ahead.script ∙ sym script;
     work = ahead.work;
@@ -150,7 +149,7 @@ module _ (job : Job) (message : Message) (region : ℕ) (databases : DatabasesSt
         ahead.seen
         ∙ ap (λ (rs : List RegionRows). record { rows = (slice_index_or rs (region - 1) no_rows).rows; positions = run.positions; changed = (slice_index_or rs (region - 1) no_rows).changed }) (sym regions);
     held = held_on after requests committed asked;
-    texts = subst (λ (ss : List Stored). All HasTexts (needs_before job (rows_of ss) message run.calls)) (sym committed) ahead.texts;
+    texts = subst (λ (ss : List Stored). All HasTexts (needs_before job (rows_of ss) given run.calls)) (sym committed) ahead.texts;
     dbds = dbds ∙ ahead.dbds;
     standing = ahead.standing;
   }
@@ -183,9 +182,9 @@ module _ (job : Job) (message : Message) (region : ℕ) (databases : DatabasesSt
         ∙ ap (answered job.lines job.transaction.statement_limit run.machine.script) same)
 
     made_next : (calls : ℕ) (goes : Goes next (record { function = call.function; pcb = call.pcb; status = (call_outcome job rows ahead.trial call).answer.status }) ≡ advance job rows ahead.trial)
-        → calls ≡ run.calls + 1 → trial_of job rows message calls ≡ Some next
+        → calls ≡ run.calls + 1 → trial_of job rows given calls ≡ Some next
     made_next calls goes count =
-        ap (trial_of job rows message) count
+        ap (trial_of job rows given) count
         ∙ rw (add-one run.calls) (ap (option_and_then (λ t. gone (advance job rows t))) ahead.made ∙ ap gone (sym goes))
 
     pub called_next : (after : DatabasesState) (new : RunState) (status : Status) → HasTexts (Call call)
@@ -200,7 +199,7 @@ module _ (job : Job) (message : Message) (region : ℕ) (databases : DatabasesSt
         → AreGranted region (requests_by_run (target_of job call) region databases run call) databases after
         → after.committed ≡ databases.committed → dbds_of after ≡ dbds_of databases
         → AreStanding job.system.databases job.pcbs new.positions
-        → GoesBy job message region databases after ahead.trial run new (record { function = call.function; pcb = call.pcb; status = status })
+        → GoesBy job given region databases after ahead.trial run new (record { function = call.function; pcb = call.pcb; status = status })
     called_next after new status texts calls limited script work seen told goes_on granted committed dbds standing =
         let same = outcome_is call in
         let goes : advance job rows ahead.trial ≡ Goes next (record { function = call.function; pcb = call.pcb; status = (call_outcome job rows ahead.trial call).answer.status }) =
@@ -210,7 +209,7 @@ module _ (job : Job) (message : Message) (region : ℕ) (databases : DatabasesSt
           free = free_so call after needs granted;
           ahead = record {
             trial = next;
-            made = ap (λ stores. trial_of job (rows_of stores) message new.calls) committed ∙ made_next new.calls (sym goes) calls;
+            made = ap (λ stores. trial_of job (rows_of stores) given new.calls) committed ∙ made_next new.calls (sym goes) calls;
             limit = limited ∙ ahead.limit;
             script =
                 settles_next ahead.trial.answers (call_outcome job rows ahead.trial call).answer (outcome_of job.system (target_of job call) region databases run call).answer ahead.script
@@ -233,22 +232,22 @@ data_started count region databases positions clean standing =
     λ i. record { rows = (sym clean.sees) i; positions = (sym standing) i; changed = (sym clean.changed) i }
 
 -- the work begins at the trial without a call
-pub start_is : (job : Job) (message : Message) (run : RunState)
+pub start_is : (job : Job) (given : Given) (run : RunState)
     → run.calls ≡ 0 → run.machine.limit ≡ job.transaction.statement_limit → run.machine.script ≡ script_start
-    → run.work ≡ message_start job.transaction message job.pcbs → run.positions ≡ replicate (length job.pcbs) nowhere
-    → IsStart job message run
-start_is job message run calls limit script work standing = record {
+    → run.work ≡ message_start job.transaction given.message given.conversation job.pcbs → run.positions ≡ replicate (length job.pcbs) nowhere
+    → IsStart job given run
+start_is job given run calls limit script work standing = record {
   calls = calls;
   ahead = λ region databases clean dbds. record {
-    trial = trial_start job (committed_rows databases) message;
-    made = ap (trial_of job (committed_rows databases) message) calls;
+    trial = trial_start job (committed_rows databases) given;
+    made = ap (trial_of job (committed_rows databases) given) calls;
     limit = limit;
     script = ap (settled job.lines job.transaction.statement_limit) (sym script);
     work = sym work;
     seen = data_started (length job.pcbs) region databases run.positions clean standing;
     held =
-        subst (λ n. All (IsHeld databases.table) (asked_before region job (committed_rows databases) message n)) (sym calls) (All-nil (IsHeld databases.table));
-    texts = subst (λ n. All HasTexts (needs_before job (committed_rows databases) message n)) (sym calls) (All-nil HasTexts);
+        subst (λ n. All (IsHeld databases.table) (asked_before region job (committed_rows databases) given n)) (sym calls) (All-nil (IsHeld databases.table));
+    texts = subst (λ n. All HasTexts (needs_before job (committed_rows databases) given n)) (sym calls) (All-nil HasTexts);
     dbds = dbds;
     standing = all_nowhere job.system.databases job.pcbs run.positions standing;
   };
@@ -269,18 +268,18 @@ sync_asks region databases pcbs work d call e = by_pcb region databases pcbs d c
     middle true false c h = h
     middle false b c h = absurd (cc)
 
-module _ (job : Job) (message : Message) (region : ℕ) (databases : DatabasesState) (run : RunState) (machine : Running) (ahead : IsAhead job message region databases run)
+module _ (job : Job) (given : Given) (region : ℕ) (databases : DatabasesState) (run : RunState) (machine : Running) (ahead : IsAhead job given region databases run)
     (limited : machine.limit ≡ run.machine.limit) where
   -- a script that settles where it settled before, once its region has asked for something
   pub still_ahead : (after : DatabasesState) (requests : List Request) → after.committed ≡ databases.committed → after.regions ≡ databases.regions
       → dbds_of after ≡ dbds_of databases → after.table ≡ after_asks region requests databases.table
       → settled job.lines run.machine.limit machine.script ≡ settled job.lines run.machine.limit run.machine.script
-      → IsAhead job message region after (record run { machine = machine })
+      → IsAhead job given region after (record run { machine = machine })
   still_ahead after requests committed regions dbds asked settles =
-      same_ahead job message region databases run ahead after requests machine committed regions dbds asked limited (rw (sym ahead.limit) settles)
+      same_ahead job given region databases run ahead after requests machine committed regions dbds asked limited (rw (sym ahead.limit) settles)
 
   same_run : settled job.lines run.machine.limit machine.script ≡ settled job.lines run.machine.limit run.machine.script
-      → IsAhead job message region databases (record run { machine = machine })
+      → IsAhead job given region databases (record run { machine = machine })
   same_run settles = record {
     trial = ahead.trial;
     made = ahead.made;
@@ -309,17 +308,17 @@ module _ (job : Job) (message : Message) (region : ℕ) (databases : DatabasesSt
     -- the trial stops where the script needs no call
     pub stops_so : (end : WorkEnd) → requests_by region job ahead.trial need ≡ []
         → advance_by job (committed_rows databases) ahead.trial need ≡ Stops end
-        → StopsSo job message region databases databases ahead.trial run (record run { machine = machine }) end
+        → StopsSo job given region databases databases ahead.trial run (record run { machine = machine }) end
     stops_so end nothing ends = record {
       calls = refl;
       free = ap (λ rs. first_blocked rs databases.table) (ap (requests_by region job ahead.trial) trial_needs ∙ nothing);
       ahead = same_run (settled_again script);
-      stops = advance_is job message region databases run ahead need needed ∙ ends;
+      stops = advance_is job given region databases run ahead need needed ∙ ends;
     }
 
     -- and at a further GU
     pub syncs : (call : CallText) → need ≡ Call call → is_sync run.work call ≡ true
-        → StopsSo job message region databases databases ahead.trial run (record run { machine = machine }) Syncs
+        → StopsSo job given region databases databases ahead.trial run (record run { machine = machine }) Syncs
     syncs call e further =
         stops_so Syncs
         (ap (requests_by region job ahead.trial) e ∙ sync_asks region job.system.databases job.pcbs run.work ahead.trial.databases call further)
@@ -330,12 +329,12 @@ module _ (job : Job) (message : Message) (region : ℕ) (databases : DatabasesSt
     pub abends : (call : CallText) (abend : AbendCode) → need ≡ Call call → is_sync run.work call ≡ false
         → first_blocked (requests_by_run (target_of job call) region databases run call) databases.table ≡ None
         → (outcome_of job.system (target_of job call) region databases run call).abend ≡ Some abend
-        → StopsSo job message region databases databases ahead.trial run (record run { machine = machine }) (Abends abend)
+        → StopsSo job given region databases databases ahead.trial run (record run { machine = machine }) (Abends abend)
     abends call abend e further free found = record {
       calls = refl;
-      free = free_of job message region databases run ahead call (needed ∙ e) free;
+      free = free_of job given region databases run ahead call (needed ∙ e) free;
       ahead = same_run (settled_again script);
-      stops = abended job message region databases run ahead call (needed ∙ e) further abend found;
+      stops = abended job given region databases run ahead call (needed ∙ e) further abend found;
     }
 
     module _ (after : DatabasesState) (call : CallText) (e : need ≡ Call call) where
@@ -343,9 +342,9 @@ module _ (job : Job) (message : Message) (region : ℕ) (databases : DatabasesSt
       pub waits_for : (resource : Resource) (by : ℕ)
           → AreBlocked region (requests_by_run (target_of job call) region databases run call) databases after resource by
           → after.committed ≡ databases.committed → after.regions ≡ databases.regions → dbds_of after ≡ dbds_of databases
-          → WaitsFor job message region databases after ahead.trial run (record run { machine = machine }) resource by
+          → WaitsFor job given region databases after ahead.trial run (record run { machine = machine }) resource by
       waits_for resource by blocked committed regions dbds =
-          let asks = asks_are job message region databases run ahead call (needed ∙ e) in
+          let asks = asks_are job given region databases run ahead call (needed ∙ e) in
           let asked : after.table ≡ after_asks region (requests_of region job ahead.trial) databases.table = blocked.asked ∙ ap (λ rs. after_asks region rs databases.table) (sym asks) in
           record {
             calls = refl;
@@ -363,9 +362,9 @@ module _ (job : Job) (message : Message) (region : ℕ) (databases : DatabasesSt
           → Answers region (outcome_of job.system (target_of job call) region databases run call) after (record run { machine = machine }) new status
           → after.committed ≡ databases.committed → dbds_of after ≡ dbds_of databases
           → AreStanding job.system.databases job.pcbs new.positions
-          → GoesBy job message region databases after ahead.trial run (record new { calls = calls }) (record { function = call.function; pcb = call.pcb; status = status })
+          → GoesBy job given region databases after ahead.trial run (record new { calls = calls }) (record { function = call.function; pcb = call.pcb; status = status })
       goes_by new calls status texts waiting further count granted answers committed dbds standing =
-          called_next job message region databases run ahead call (needed ∙ e) further after (record new { calls = calls }) status texts
+          called_next job given region databases run ahead call (needed ∙ e) further after (record new { calls = calls }) status texts
           count
           (ap (λ m. m.limit) answers.machine ∙ limited)
           (ap (settled job.lines job.transaction.statement_limit)
@@ -376,11 +375,11 @@ module _ (job : Job) (message : Message) (region : ℕ) (databases : DatabasesSt
           answers.work answers.seen answers.told answers.goes_on granted committed dbds standing
 
 -- the work with the same script, and all else as it was
-pub same_run_ahead : (job : Job) (message : Message) (region : ℕ) (databases : DatabasesState) (run new : RunState) (machine : Running) → IsAhead job message region databases run
+pub same_run_ahead : (job : Job) (given : Given) (region : ℕ) (databases : DatabasesState) (run new : RunState) (machine : Running) → IsAhead job given region databases run
     → machine.limit ≡ run.machine.limit
     → machine.script ≡ settled job.lines run.machine.limit run.machine.script
     → new ≡ record run { machine = machine }
-    → IsAhead job message region databases new
-same_run_ahead job message region databases run new machine ahead limited script same =
-    subst (IsAhead job message region databases) (sym same)
-    (same_run job message region databases run machine ahead limited (settled_again job message region databases run machine ahead limited script))
+    → IsAhead job given region databases new
+same_run_ahead job given region databases run new machine ahead limited script same =
+    subst (IsAhead job given region databases) (sym same)
+    (same_run job given region databases run machine ahead limited (settled_again job given region databases run machine ahead limited script))

@@ -1,9 +1,10 @@
 //! How the calls of a script are answered.
-ghost use Rattle.std.specs.Prelude.{◌≡◌, ◌≤◌, ◌-◌, Some, IfOk, IfSome, IsOk, IsSome, OnOk, OnErr, length, replicate, slice_get};
+ghost use Rattle.std.specs.Prelude.{◌≡◌, ◌≤◌, ◌-◌, false, Some, IfOk, IfSome, IsOk, IsSome, OnOk, OnErr, length, replicate, slice_get};
 ghost use Rattle.std.specs.Option.{option_copied};
 ghost use Rattle.tm_types.specs.Segment.{IsSegmentText};
 ghost use Rattle.model_system.specs.declared.pcb.Pcb.TheVariants.{Database};
 ghost use Rattle.model_message.specs.Calls.{given, status_alone, unique_answer, unique_work, next_answer, next_work, insert_status, insert_work, purge_status, purge_work, change_status, change_work};
+ghost use Rattle.io_pcb.specs.Pads.{gives_wrong};
 ghost use Rattle.model_dli.specs.Data.{nowhere};
 ghost use Rattle.system_types.specs.Valid.{IsDatabase};
 ghost use Rattle.model_machine.specs.Trial.{reached, reached_by};
@@ -18,7 +19,7 @@ ghost use Rattle.message_run.specs.RunState.{AreStanding, IsCallBy, IsCallOf};
 
 use crate::run::Run;
 use model_dli::DbCall;
-use model_message::abends::ROLLED_BACK;
+use model_message::abends::{ROLLED_BACK, WRONG_PAD};
 use model_script::CallText;
 use model_system::{Pcb, Pcbs};
 use program_rows::{Answered, DataAnswer, Databases, Position};
@@ -100,7 +101,12 @@ impl Run {
         match call.function {
             Function::GU => Ok(answered(self.get_unique()?, region, databases)),
             Function::GN => Ok(answered(self.get_next()?, region, databases)),
-            Function::ISRT => Ok(answered(self.insert(pcb, area)?, region, databases)),
+            Function::ISRT => {
+                if self.work.is_wrong_pad(pcb, area) {
+                    return Ok(CallEnd::Abended(AbendCode { number: WRONG_PAD }));
+                }
+                Ok(answered(self.insert(pcb, area)?, region, databases))
+            }
             Function::PURG => Ok(answered(self.purge(pcb)?, region, databases)),
             Function::CHNG => Ok(answered(self.change(system, pcb, area)?, region, databases)),
             Function::ROLB => Ok(rolled_back(self.roll_back()?, region, databases)),
@@ -134,6 +140,7 @@ impl Run {
     fn insert(&mut self, pcb: u8, text: &[u8]) -> Result<Status, Memory>
         requires waits { IsSome self.old.machine.waiting }
         requires text { IsSegmentText text.now }
+        requires pad { gives_wrong self.old.work pcb text.now ≡ false }
         ensures ok { IfOk result (Serves (status_alone (insert_status self.old.work pcb text.now)) (insert_work self.old.work pcb text.now) self.old self.new) }
         ensures err { OnErr result (self.new ≡ self.old) }
     {
@@ -159,7 +166,7 @@ impl Run {
         self.tell(status)
     }
 
-    /// Gives the first segment again, and takes back all else but what was done in the databases.
+    /// Gives the first text again, and takes back all else but what was done in the databases.
     fn roll_back(&mut self) -> Result<Status, Memory>
         requires { IsSome self.old.machine.waiting }
         ensures ok { IfOk result (RollsBack self.old self.new) }
@@ -303,7 +310,7 @@ fn tell(machine: &mut Machine, status: Status) -> Result<Status, Memory>
     Ok(status)
 }
 
-/// Answers the script's call with the segment, or with QD where there is none.
+/// Answers the script's call with the text, or with QD where there is none.
 fn give(machine: &mut Machine, segment: Option<&Segment>) -> Result<Status, Memory>
     requires { IsSome machine.old.waiting }
     ensures told { IfOk result (λ told. told ≡ (given (option_copied segment.entry)).status) }

@@ -1,17 +1,19 @@
 //! The work on a message, from call to call.
-ghost use Rattle.std.specs.Prelude.{◌≡◌, IfOk, OnErr, length, replicate};
+ghost use Rattle.std.specs.Prelude.{◌≡◌, IfOk, IfSome, OnErr, length, replicate};
+ghost use Rattle.std.specs.Option.{option_copied};
 ghost use Rattle.model_dli.specs.Data.{nowhere};
 ghost use Rattle.model_machine.specs.Trial.{is_sync};
-ghost use Rattle.model_message.specs.Calls.{finish_work};
+ghost use Rattle.model_message.specs.Calls.{finish_work, pad_change};
+ghost use Rattle.io_pcb.specs.Pads.{IsPadText, Suits, lent_pad};
 ghost use Rattle.program_rows.specs.State.{dbds_of, IsRegionOf};
 ghost use Rattle.model_system.specs.System as model;
 ghost use Rattle.system_types.specs.Jobs.{lent_job};
 ghost use Rattle.system_types.specs.Valid.{IsServable};
 ghost use Rattle.message_run.specs.RunState.{AreStanding};
-ghost use Rattle.message_run.specs.Ahead.{IsStart, GoesOn, StaysAhead, StaysUnlessCalled, StayOthers};
+ghost use Rattle.message_run.specs.Ahead.{given_with, IsStart, GoesOn, StaysAhead, StaysUnlessCalled, StayOthers};
 
 use crate::answer::CallEnd;
-use io_pcb::Work;
+use io_pcb::{LentPad, Work};
 use model_message::EndedMessage;
 use model_script::{CallText, Need};
 use program_rows::{Databases, Position};
@@ -67,13 +69,20 @@ impl Model for Run {
 }
 
 impl Run {
-    /// The work on this message of the job's code, whose script has made no call yet.
-    pub fn start(alloc: Global, job: &Job<'_>, message: &Message) -> Result<Run, Memory>
-        ensures { IfOk result (λ run. (system : model.System) → IsStart (lent_job system job.now) message.now run) }
+    /// The work on this message of the job's code, whose script has made no call yet. The pad is that of
+    /// the conversation to which the message belongs, and is there where it belongs to one.
+    pub fn start(
+        alloc: Global,
+        job: &Job<'_>,
+        message: &Message,
+        pad: Option<&[u8]>,
+    ) -> Result<Run, Memory>
+        requires { IfSome (option_copied pad) IsPadText }
+        ensures { IfOk result (λ run. (system : model.System) → IsStart (lent_job system job.now) (given_with message.now (option_copied pad.entry)) run) }
     {
         let limit = u32::from(job.transaction.statement_limit);
         let machine = Machine::new(alloc, job.program, limit)?;
-        let work = Work::new(alloc, job.transaction, message, job.pcbs)?;
+        let work = Work::new(alloc, job.transaction, message, pad, job.pcbs)?;
         let positions = standing_nowhere(alloc, job.pcbs.len())?;
         Ok(Run {
             calls: 0,
@@ -151,6 +160,14 @@ impl Run {
         ensures { IfOk result (λ outputs. outputs.items ≡ (finish_work self.now.work).ended) }
     {
         self.work.outputs()
+    }
+
+    /// What becomes of the pad of the message's conversation where the work ends with success.
+    pub fn pad_change(&self) -> LentPad<'_>
+        ensures value { lent_pad result ≡ pad_change self.now.work }
+        ensures suits { Suits self.now.work.conversation (pad_change self.now.work) }
+    {
+        self.work.pad_change()
     }
 }
 

@@ -7,24 +7,24 @@ use Rattle.message_run.proofs.run.Run.advance.Goals as goal
 
 pub returns-in-Ended-clause-advances : goal.returns-in-Ended-clause-advances
 returns-in-Ended-clause-advances c =
-    rw (sym c.self.view_is) (λ message ahead.
-    stops_so (lent_job c.args.system.now c.args.job.now) message c.args.region c.args.databases.now
+    rw (sym c.self.view_is) (λ given ahead.
+    stops_so (lent_job c.args.system.now c.args.job.now) given c.args.region c.args.databases.now
     (record { calls = c.self.inside.calls; machine = c.self.inside.machine; work = c.self.inside.work; positions = c.self.inside.positions.items })
     c.next.new.self ahead c.in-Ok.ensures.limit c.in-Ok.need c.in-Ok.ensures.script c.in-Ok.ensures.need Ends
     (rw c.in-Ended.is refl) (rw c.in-Ended.is refl))
 
 pub returns-in-Abend-clause-advances : goal.returns-in-Abend-clause-advances
 returns-in-Abend-clause-advances c =
-    rw (sym c.self.view_is) (λ message ahead.
-    stops_so (lent_job c.args.system.now c.args.job.now) message c.args.region c.args.databases.now
+    rw (sym c.self.view_is) (λ given ahead.
+    stops_so (lent_job c.args.system.now c.args.job.now) given c.args.region c.args.databases.now
     (record { calls = c.self.inside.calls; machine = c.self.inside.machine; work = c.self.inside.work; positions = c.self.inside.positions.items })
     c.next.new.self ahead c.in-Ok.ensures.limit c.in-Ok.need c.in-Ok.ensures.script c.in-Ok.ensures.need (Abends c.in-Abend.abend)
     (rw c.in-Abend.is refl) (rw c.in-Abend.is refl))
 
 pub returns-then-is_sync-clause-advances : goal.returns-then-is_sync-clause-advances
 returns-then-is_sync-clause-advances c =
-    rw (sym c.self.view_is) (λ message ahead.
-    syncs (lent_job c.args.system.now c.args.job.now) message c.args.region c.args.databases.now
+    rw (sym c.self.view_is) (λ given ahead.
+    syncs (lent_job c.args.system.now c.args.job.now) given c.args.region c.args.databases.now
     (record { calls = c.self.inside.calls; machine = c.self.inside.machine; work = c.self.inside.work; positions = c.self.inside.positions.items })
     c.next.new.self ahead c.in-Ok.ensures.limit c.in-Ok.need c.in-Ok.ensures.script c.in-Ok.ensures.need c.in-Call.call c.in-Call.is
     (sym c.is_sync.ensures ∙ c.if-is_sync.true))
@@ -37,8 +37,8 @@ answer-requires-clause-call c =
 pub returns-in-Ok-Answered-clause-advances : goal.returns-in-Ok-Answered-clause-advances
 returns-in-Ok-Answered-clause-advances c =
     let comes = rw (← c.self-in-Call.view_is) at (rw c.in-Ok-Answered.field-0-is at c.in-Ok-Answered.ensures.ok) in
-    rw (sym c.self.view_is) (λ message ahead.
-    goes_by (lent_job c.args.system.now c.args.job.now) message c.args.region c.args.databases.now
+    rw (sym c.self.view_is) (λ given ahead.
+    goes_by (lent_job c.args.system.now c.args.job.now) given c.args.region c.args.databases.now
     (record { calls = c.self.inside.calls; machine = c.self.inside.machine; work = c.self.inside.work; positions = c.self.inside.positions.items })
     c.next.new.self ahead c.in-Ok.ensures.limit c.in-Ok.need c.in-Ok.ensures.script c.in-Ok.ensures.need
     c.answer.new.databases c.in-Call.call c.in-Call.is
@@ -56,8 +56,8 @@ returns-in-Ok-Answered-clause-advances c =
 pub returns-in-Ok-Waits-clause-advances : goal.returns-in-Ok-Waits-clause-advances
 returns-in-Ok-Waits-clause-advances c =
     let comes = rw c.in-Ok-Waits.field-0-is at c.in-Ok-Waits.ensures.ok in
-    rw (comes.1, sym c.self.view_is) (λ message ahead.
-    waits_for (lent_job c.args.system.now c.args.job.now) message c.args.region c.args.databases.now
+    rw (comes.1, sym c.self.view_is) (λ given ahead.
+    waits_for (lent_job c.args.system.now c.args.job.now) given c.args.region c.args.databases.now
     (record { calls = c.self.inside.calls; machine = c.self.inside.machine; work = c.self.inside.work; positions = c.self.inside.positions.items })
     c.next.new.self ahead c.in-Ok.ensures.limit c.in-Ok.need c.in-Ok.ensures.script c.in-Ok.ensures.need
     c.answer.new.databases c.in-Call.call c.in-Call.is c.in-Ok-Waits.resource c.in-Ok-Waits.by comes.0
@@ -66,15 +66,15 @@ returns-in-Ok-Waits-clause-advances c =
 pub returns-in-Ok-Abended-clause-advances : goal.returns-in-Ok-Abended-clause-advances
 returns-in-Ok-Abended-clause-advances c =
     let comes = rw c.in-Ok-Abended.field-0-is at c.in-Ok-Abended.ensures.ok in
-    rw (comes.1, comes.2, sym c.self.view_is) (λ message ahead.
-    abends (lent_job c.args.system.now c.args.job.now) message c.args.region c.args.databases.now
+    rw (comes.1, comes.2, sym c.self.view_is) (λ given ahead.
+    abends (lent_job c.args.system.now c.args.job.now) given c.args.region c.args.databases.now
     (record { calls = c.self.inside.calls; machine = c.self.inside.machine; work = c.self.inside.work; positions = c.self.inside.positions.items })
     c.next.new.self ahead c.in-Ok.ensures.limit c.in-Ok.need c.in-Ok.ensures.script c.in-Ok.ensures.need
     c.in-Call.call c.in-Ok-Abended.abend c.in-Call.is
     (sym c.is_sync.ensures ∙ c.if-is_sync.false) comes.0 comes.3)
 
 pub returns-in-Err-answer-clause-ahead : goal.returns-in-Err-answer-clause-ahead
-returns-in-Err-answer-clause-ahead c = λ message ahead.
-    same_run_ahead (lent_job c.args.system.now c.args.job.now) message c.args.region c.args.databases.now
+returns-in-Err-answer-clause-ahead c = λ given ahead.
+    same_run_ahead (lent_job c.args.system.now c.args.job.now) given c.args.region c.args.databases.now
     (record { calls = c.self.inside.calls; machine = c.self.inside.machine; work = c.self.inside.work; positions = c.self.inside.positions.items })
     c.answer.new.self c.next.new.self (rw (← c.self.view_is) at ahead) c.in-Ok.ensures.limit c.in-Ok.ensures.script c.in-Err-answer.ensures.err
