@@ -7,7 +7,7 @@ use Rattle.log_sectors.specs.Sealed.{sealed, opened}
 use Rattle.log_sectors.specs.Chain.{chain, joined}
 use Rattle.log_sectors.proofs.Sealing.{opened-sealed}
 use Rattle.log_writer.specs.Writer.{Writer}
-use Rattle.log_writer.specs.Log.{log_of, sectors_of, IsAtEnd, ChangesOnly, AddsFront, AddsAll, pieces, piece, Lays, HasLaid}
+use Rattle.log_writer.specs.Log.{log_of, sectors_of, IsAtEnd, StaysOrLogs, ChangesOnly, AddsFront, AddsAll, pieces, piece, Lays, HasLaid}
 use Rattle.log_writer.proofs.Laying.{length-pieces, piece-pieces, joined-pieces}
 use Rattle.log_writer.proofs.Gaining.{link, link_at, chain-front, chain-all, Front, joined-append, joined-front, sectors-enough, log-split, log-old}
 
@@ -58,6 +58,33 @@ log-gains w old new tail end le same is =
     ∙ joined-append (chain w.place old w.first w.sequence w.epoch) tail
     ∙ ap (λ (l : List ℕ). l ++ joined tail) (sym (ap joined (log-old w old new end le)))
 
+some_is : (o : Option (List ℕ)) (p : List ℕ) → o ≡ Some p → IsSome o
+some_is None p e = cc
+some_is (Some q) p e = refl
+
+-- each sector of the area stays or is a log sector
+lays_or_stays : (w : Writer) (old new : Image) → w.place + count_of w ≤ w.count → Lays (at_of w) (sequence_of w) w.epoch (payloads_of w) (count_of w) old new → (x : ℕ) → StaysOrLogs w old new x
+lays_or_stays w old new room lays x =
+    ⊎_elim
+    (λ (near : x < w.place). inl (lays.below (w.first + x) (omega (arith, near))))
+    (λ (far : w.place ≤ x).
+    let y = x - w.place in
+    let is : w.place + y ≡ x = omega (arith, far) in
+    let place : at_of w + y ≡ w.first + x = omega (arith, is) in
+    ⊎_elim
+    (λ (within : y < count_of w).
+    ⊎_elim
+    (λ same. inl (subst (λ k. sector_at new k ≡ sector_at old k) place same))
+    (λ laid. inr (some_is (link new w.first w.sequence w.epoch x) (piece (payloads_of w) y)
+    (ap (λ k. link new w.first w.sequence w.epoch k) (sym is) ∙ sym (link_at w new y) ∙ laid_some w new y within laid)))
+    (lays.each y within))
+    (λ (behind : count_of w ≤ y). inl (lays.above (w.first + x) (omega (arith, behind, is))))
+    (cases_lt y (count_of w)))
+    (cases_lt x w.place)
+
+has_laid_lays : (w : Writer) (old new : Image) → HasLaid (at_of w) (sequence_of w) w.epoch (payloads_of w) (count_of w) old new → Lays (at_of w) (sequence_of w) w.epoch (payloads_of w) (count_of w) old new
+has_laid_lays w old new laid = record { size = laid.size; below = laid.below; above = laid.above; each = λ x lt. inr (laid.each x lt) }
+
 pub adds-front : (w : Writer) (old new : Image) → IsAtEnd w old → w.place + count_of w ≤ w.count → Lays (at_of w) (sequence_of w) w.epoch (payloads_of w) (count_of w) old new → AddsFront w old new
 adds-front w old new end room lays =
     let size = length-payloads w in
@@ -72,6 +99,7 @@ adds-front w old new end room lays =
     let bytes : joined (payloads_of w) ≡ w.appended = joined-pieces (count_of w) w.appended (sectors-enough (length w.appended)) in
     record {
       changes = record { size = lays.size; below = lays.below; above = lays.above };
+      each = lays_or_stays w old new room lays;
       front = length (joined tail);
       log = log ∙ ap (λ (l : List ℕ). log_of w old ++ l) (joined-front front.count (payloads_of w) ∙ ap (λ (l : List ℕ). take (length (joined tail)) l) bytes);
     }
@@ -86,16 +114,13 @@ adds-all w old new end room laid =
     let bytes : joined (payloads_of w) ≡ w.appended = joined-pieces (count_of w) w.appended (sectors-enough (length w.appended)) in
     record {
       changes = record { size = laid.size; below = laid.below; above = laid.above };
+      each = lays_or_stays w old new room (has_laid_lays w old new laid);
       log = log-gains w old new (payloads_of w) end (omega arith) (λ x lt. laid.below (w.first + x) (omega arith)) all ∙ ap (λ (l : List ℕ). log_of w old ++ l) bytes;
     }
 
 -- the writer behind what it wrote
 abbrev pub moved : Writer → Writer
 moved w = record w { place = w.place + count_of w; appended = [] }
-
-some_is : (o : Option (List ℕ)) (p : List ℕ) → o ≡ Some p → IsSome o
-some_is None p e = cc
-some_is (Some q) p e = refl
 
 pub at_end-moved : (w : Writer) (old new : Image) → IsAtEnd w old → w.place + count_of w ≤ w.count → HasLaid (at_of w) (sequence_of w) w.epoch (payloads_of w) (count_of w) old new → IsAtEnd (moved w) new
 at_end-moved w old new end room laid = record {

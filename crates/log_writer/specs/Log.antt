@@ -33,15 +33,22 @@ pub record ChangesOnly (at count : ℕ) (before after : Image) : Type 0 where
   pub below : (k : ℕ) → k < at → sector_at after k ≡ sector_at before k
   pub above : (k : ℕ) → at + count ≤ k → sector_at after k ≡ sector_at before k
 
+-- a sector of the writer's area is as before, or a log sector of its epoch with the sequence that belongs to its place
+abbrev pub StaysOrLogs : Writer → Image → Image → ℕ → Type 0
+StaysOrLogs writer before after x =
+    (sector_at after (writer.first + x) ≡ sector_at before (writer.first + x)) ⊎ IsSome (opened writer.epoch (writer.sequence + x) (sector_at after (writer.first + x)))
+
 -- The log has gained a front of what was appended.
 pub record AddsFront (writer : Writer) (before after : Image) : Type 0 where
   pub changes : ChangesOnly (writer.first + writer.place) (sectors_of (length writer.appended)) before after
+  pub each : (x : ℕ) → StaysOrLogs writer before after x
   pub front : ℕ
   pub log : log_of writer after ≡ log_of writer before ++ take front writer.appended
 
 -- The log has gained all of what was appended.
 pub record AddsAll (writer : Writer) (before after : Image) : Type 0 where
   pub changes : ChangesOnly (writer.first + writer.place) (sectors_of (length writer.appended)) before after
+  pub each : (x : ℕ) → StaysOrLogs writer before after x
   pub log : log_of writer after ≡ log_of writer before ++ writer.appended
 
 -- bytes cut into pieces of 4,064
