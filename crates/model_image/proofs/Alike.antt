@@ -1,6 +1,6 @@
 -- Images of which the same is read recover to the same.
 use Rattle.std.proofs.Common.{◌≡◌, ◌⊎◌, ℕ, zero, suc, ◌+◌, ◌*◌, ◌<◌, ◌≤◌, Bool, true, false, List, [], ◌∷◌, refl, sym, ◌∙◌, ap, subst, ⊎_elim, arith, Some, None, Ok, Err, IsSome}
-use Rattle.std.specs.Prelude.{Option, Result, if◌then◌else◌, Decides, option_map}
+use Rattle.std.specs.Prelude.{Option, Result, if◌then◌else◌, Decides, option_map, slice_get}
 use Rattle.tm_types.specs.declared.dbd.Dbd.{Dbd}
 use Rattle.model_disk.specs.Disk.{Image, sector_at}
 use Rattle.model_system.specs.System.{System}
@@ -19,13 +19,19 @@ use Rattle.model_image.specs.Snapshot.{snapshot_rules}
 use Rattle.model_image.specs.Slots.{Slot, source_of, slots_by, slot_in, named_by, all_slots, slot_fault, rows_of, rows_from}
 use Rattle.model_image.specs.Recovered.{snapshot_from, log_in, log_from, state_from, is_later, first_later, later_sector, state_with, state_by, recovered, rest_by, log_rest, Recovers}
 
+-- a slot of the database at a place
+pub record IsSlotOf (system : System) (place number : ℕ) : Type 0 where
+  pub dbd : Dbd
+  pub found : slice_get system.databases place ≡ Some dbd
+  pub below : number < dbd.roots
+
 -- Two images agree on what a restart sector names: the snapshot, the log, which sectors of the log areas have a later
 -- epoch, and the data sectors of those slots that no record names.
 pub record AreasAlike (system : System) (r : RestartSector) (old new : Image) : Type 0 where
   pub snapshot : (k : ℕ) → snapshot_first system r.snapshot ≤ k → k < snapshot_first system r.snapshot + r.sectors → sector_at new k ≡ sector_at old k
   pub log : (k : ℕ) → log_first system r.log ≤ k → k < log_first system r.log + system.logs → sector_at new k ≡ sector_at old k
   pub later : (k : ℕ) → log_first system 0 ≤ k → k < log_first system 0 + 2 * system.logs → is_later r.epoch (sector_at new k) ≡ is_later r.epoch (sector_at old k)
-  pub slots : (snapshot : List Record) → snapshot_from system old r ≡ Ok snapshot → (place number : ℕ) →
+  pub slots : (snapshot : List Record) → snapshot_from system old r ≡ Ok snapshot → (place number : ℕ) → IsSlotOf system place number →
       IsSome (named_by snapshot (log_in system old r).records (place + 1) number) ⊎ (sector_at new (data_first system place + number) ≡ sector_at old (data_first system place + number))
 
 -- Two images agree on the restart sector, and on what it names.
@@ -49,31 +55,35 @@ later_same (suc n) old new at epoch same =
     ∙ ap (λ (rest : Option ℕ). if is_later epoch (sector_at old at) then Some at else rest)
     (later_same n old new (at + 1) epoch (λ k low high. same k (omega (arith, low)) (omega (arith, high))))
 
-slots_same : (n number : ℕ) (f g : ℕ → Slot) → ((k : ℕ) → f k ≡ g k) → slots_by f n number ≡ slots_by g n number
+slots_same : (n number : ℕ) (f g : ℕ → Slot) → ((k : ℕ) → k < number + n → f k ≡ g k) → slots_by f n number ≡ slots_by g n number
 slots_same zero number f g same = refl
 slots_same (suc n) number f g same =
-    ap (λ (s : Slot). s ∷ slots_by f n (number + 1)) (same number) ∙ ap (λ (rest : List Slot). g number ∷ rest) (slots_same n (number + 1) f g same)
+    ap (λ (s : Slot). s ∷ slots_by f n (number + 1)) (same number (omega arith))
+    ∙ ap (λ (rest : List Slot). g number ∷ rest) (slots_same n (number + 1) f g (λ k below. same k (omega (arith, below))))
 
 source_same : (named : Option (List ℕ)) (old new : List ℕ) → IsSome named ⊎ (new ≡ old) → source_of named new ≡ source_of named old
 source_same (Some bytes) old new agree = refl
 source_same None old new agree = ⊎_elim (λ some. absurd cc) (λ same. ap (source_of None) same) agree
 
-module _ (system : System) (old new : Image) (snapshot log : List Record) (agree : (place number : ℕ) → IsSome (named_by snapshot log (place + 1) number) ⊎ (sector_at new (data_first system place + number) ≡ sector_at old (data_first system place + number))) where
-  slot_same : (dbd : Dbd) (place number : ℕ) → slot_in new snapshot log dbd (data_first system place) (place + 1) number ≡ slot_in old snapshot log dbd (data_first system place) (place + 1) number
-  slot_same dbd place number =
+module _ (system : System) (old new : Image) (snapshot log : List Record) (agree : (place number : ℕ) → IsSlotOf system place number → IsSome (named_by snapshot log (place + 1) number) ⊎ (sector_at new (data_first system place + number) ≡ sector_at old (data_first system place + number))) where
+  slot_same : (dbd : Dbd) (place number : ℕ) → IsSlotOf system place number → slot_in new snapshot log dbd (data_first system place) (place + 1) number ≡ slot_in old snapshot log dbd (data_first system place) (place + 1) number
+  slot_same dbd place number is =
       ap (λ source. record { dbd = dbd; place = data_first system place + number; source = source })
-      (source_same (named_by snapshot log (place + 1) number) (sector_at old (data_first system place + number)) (sector_at new (data_first system place + number)) (agree place number))
+      (source_same (named_by snapshot log (place + 1) number) (sector_at old (data_first system place + number)) (sector_at new (data_first system place + number)) (agree place number is))
 
-  all_slots_same : (place : ℕ) (dbds : List Dbd) → all_slots system new snapshot log place dbds ≡ all_slots system old snapshot log place dbds
+  -- the databases from a place on are these
+  all_slots_same : (place : ℕ) (dbds : List Dbd) → ((i : ℕ) (d : Dbd) → slice_get dbds i ≡ Some d → slice_get system.databases (place + i) ≡ Some d) → all_slots system new snapshot log place dbds ≡ all_slots system old snapshot log place dbds
   unfolding all_slots
-  all_slots_same place [] = refl
-  all_slots_same place (dbd ∷ dbds) =
+  all_slots_same place [] are = refl
+  all_slots_same place (dbd ∷ dbds) are =
+      let first : slice_get system.databases place ≡ Some dbd = subst (λ k. slice_get system.databases k ≡ Some dbd) (omega arith) (are 0 dbd refl) in
       ap (λ (s : List Slot). s ∷ all_slots system new snapshot log (place + 1) dbds)
-      (slots_same dbd.roots 0 (slot_in new snapshot log dbd (data_first system place) (place + 1)) (slot_in old snapshot log dbd (data_first system place) (place + 1)) (slot_same dbd place))
-      ∙ ap (λ (rest : List (List Slot)). slots_by (slot_in old snapshot log dbd (data_first system place) (place + 1)) dbd.roots 0 ∷ rest) (all_slots_same (place + 1) dbds)
+      (slots_same dbd.roots 0 (slot_in new snapshot log dbd (data_first system place) (place + 1)) (slot_in old snapshot log dbd (data_first system place) (place + 1)) (λ k below. slot_same dbd place k (record { dbd = dbd; found = first; below = omega (arith, below) })))
+      ∙ ap (λ (rest : List (List Slot)). slots_by (slot_in old snapshot log dbd (data_first system place) (place + 1)) dbd.roots 0 ∷ rest)
+      (all_slots_same (place + 1) dbds (λ i d found. subst (λ k. slice_get system.databases k ≡ Some d) (omega arith) (are (suc i) d found)))
 
   rows_same : rows_from system new snapshot log ≡ rows_from system old snapshot log
-  rows_same = ap (λ (databases : List (List Slot)). unless_fault (slot_fault databases) (rows_of databases)) (all_slots_same 0 system.databases)
+  rows_same = ap (λ (databases : List (List Slot)). unless_fault (slot_fault databases) (rows_of databases)) (all_slots_same 0 system.databases (λ i d found. subst (λ k. slice_get system.databases k ≡ Some d) (omega arith) found))
 
 -- ---- the whole
 
@@ -108,8 +118,8 @@ module _ (system : System) (r : RestartSector) (old new : Image) (alike : AreasA
       bind_same (log_from system new r cut_off) (log_from system old r cut_off) _ _ (log_from_alike cut_off) (λ log is_log.
       bind_same (state_from system r snapshot log) (state_from system r snapshot log) _ _ refl (λ lasting _.
       bind_same (rows_from system new snapshot log) (rows_from system old snapshot log) _ _
-      (rows_same system old new snapshot log (λ place number.
-      subst (λ (l : List Record). IsSome (named_by snapshot l (place + 1) number) ⊎ (sector_at new (data_first system place + number) ≡ sector_at old (data_first system place + number))) (log_records system old r cut_off log is_log) (alike.slots snapshot is_snapshot place number)))
+      (rows_same system old new snapshot log (λ place number is.
+      subst (λ (l : List Record). IsSome (named_by snapshot l (place + 1) number) ⊎ (sector_at new (data_first system place + number) ≡ sector_at old (data_first system place + number))) (log_records system old r cut_off log is_log) (alike.slots snapshot is_snapshot place number is)))
       (λ rows _. ap (λ (fault : Option Fault). unless_fault fault (record lasting { rows = rows })) later_alike))))
 
 in_0 : {A : Type 0} (read : Result A ℕ) (x : A) → in_sector 0 read ≡ Ok x → read ≡ Ok x
