@@ -51,9 +51,19 @@ impl LogWriter {
 
     /// How many bytes may still be appended.
     pub fn room(&self) -> u64
-        ensures { result ≡ room_of self.now }
+        ensures value { result ≡ room_of self.now }
+        // What was appended fits in the sectors that are left.
+        ensures fits { self.now.place + sectors_of (length self.now.appended) ≤ self.now.count }
     {
         (self.count - self.place) as u64 * PAYLOAD_BYTES as u64 - self.appended.len() as u64
+    }
+
+    /// The sequence of the next sector that a force writes.
+    pub fn next_sequence(&self) -> u64
+        requires { self.now.sequence + self.now.count < 2 ^ 64 }
+        ensures { result ≡ self.now.sequence + self.now.place }
+    {
+        self.sequence + self.place as u64
     }
 
     /// Appends bytes, for which there must be room. Where it answers `Memory`, none is appended.

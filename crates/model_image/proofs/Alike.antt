@@ -95,11 +95,15 @@ log_records : (system : System) (image : Image) (r : RestartSector) (cut_off : B
 log_records system image r true log is = cc
 log_records system image r false log is = cc
 
+-- the records of a snapshot are read of its sectors alone
+pub snapshot_same : (system : System) (r : RestartSector) (old new : Image) → ((k : ℕ) → snapshot_first system r.snapshot ≤ k → k < snapshot_first system r.snapshot + r.sectors → sector_at new k ≡ sector_at old k) → snapshot_from system new r ≡ snapshot_from system old r
+snapshot_same system r old new same =
+    ap (λ (read : Result (List ℕ) Fault). read >>= λ bytes. or_fault (10, snapshot_first system r.snapshot) (records_of bytes) >>= λ records. unless_any (snapshot_first system r.snapshot) (snapshot_rules system records) records)
+    (parts_same r.sectors old new (snapshot_first system r.snapshot) r.checkpoint 0 same)
+
 module _ (system : System) (r : RestartSector) (old new : Image) (alike : AreasAlike system r old new) where
   snapshot_alike : snapshot_from system new r ≡ snapshot_from system old r
-  snapshot_alike =
-      ap (λ (read : Result (List ℕ) Fault). read >>= λ bytes. or_fault (10, snapshot_first system r.snapshot) (records_of bytes) >>= λ records. unless_any (snapshot_first system r.snapshot) (snapshot_rules system records) records)
-      (parts_same r.sectors old new (snapshot_first system r.snapshot) r.checkpoint 0 alike.snapshot)
+  snapshot_alike = snapshot_same system r old new alike.snapshot
 
   pub log_alike : log_in system new r ≡ log_in system old r
   log_alike =
