@@ -1,6 +1,7 @@
 //! The rows of a database, kept by the keys of their roots.
 ghost use Rattle.std.specs.Prelude.{◌≡◌, [], IfOk, find, slice_get, not, is_some, nat_le, ◌&&◌};
 ghost use Rattle.std.specs.Ordering.{is_lt};
+ghost use Rattle.std.specs.Option.{option_copied, option_map};
 ghost use Rattle.std.specs.BTreeMap.{keys, get_by, btree_map_len, IsOrdered};
 ghost use Rattle.model_rows.specs.Path.{key_cmp};
 
@@ -71,6 +72,13 @@ impl Rows for PlainRows {
         }
     }
 
+    fn next_record(&self, after: Option<&Key>) -> Option<&RecordImage> {
+        match after {
+            None => first_image(&self.records),
+            Some(key) => image_after(&self.records, key),
+        }
+    }
+
     fn set(&mut self, root: &Key, image: RecordImage) -> Result<(), StoreRefused> {
         if image.is_empty() {
             self.records.remove(root);
@@ -114,6 +122,26 @@ fn key_after(records: &BTreeMap<Key, RecordImage>, key: &Key) -> Option<Key>
     let mut later = records.range((Bound::Excluded(*key), Bound::Unbounded));
     match later.next() {
         Some((other, _)) => Some(*other),
+        None => None,
+    }
+}
+
+fn first_image(records: &BTreeMap<Key, RecordImage>) -> Option<&RecordImage>
+    ensures { option_copied result ≡ option_map (λ e. e.1) (slice_get records.now.entries 0) }
+{
+    match records.first_key_value() {
+        Some((_, image)) => Some(image),
+        None => None,
+    }
+}
+
+// The image of the first key after this one.
+fn image_after<'a>(records: &'a BTreeMap<Key, RecordImage>, key: &Key) -> Option<&'a RecordImage>
+    ensures { option_copied result ≡ option_map (λ e. e.1) (find (λ e. is_lt (key_cmp key.now e.0)) records.now.entries) }
+{
+    let mut later = records.range((Bound::Excluded(*key), Bound::Unbounded));
+    match later.next() {
+        Some((_, image)) => Some(image),
         None => None,
     }
 }

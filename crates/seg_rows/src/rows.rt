@@ -26,6 +26,7 @@ pub trait Rows {
     ghost use Rattle.model_rows.specs.declared.row.Row.{Row};
     ghost use Rattle.model_rows.specs.Rows.{record_of, next_root, with_record, IsImage, AreRows};
     ghost use Rattle.seg_rows.specs.StoreRefused.{set_refusal, RefusesToSet};
+    ghost use Rattle.seg_rows.specs.NextRecord.{next_record};
 
     /// The database whose rows these are.
     ghost database: { Self → Dbd };
@@ -42,6 +43,11 @@ pub trait Rows {
     /// The first root after this key, or of all, or None exactly where there is none.
     fn next_root(&self, after: Option<&Key>) -> Option<Key>
         ensures value { result ≡ next_root (rows self.now) (option_copied after.entry) }
+        ensures valid { AreRows (database self.now) (rows self.now) };
+
+    /// The record of the first root after this key, or of all, or None exactly where there is none.
+    fn next_record(&self, after: Option<&Key>) -> Option<&RecordImage>
+        ensures value { option_copied result ≡ next_record (rows self.now) (option_copied after.entry) }
         ensures valid { AreRows (database self.now) (rows self.now) };
 
     /// Puts the image in place of the record of this root; an image without rows removes it. All

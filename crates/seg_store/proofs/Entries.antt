@@ -11,7 +11,11 @@ use Rattle.std.proofs.lemmas.Map.Lookups.{exact_bytes}
 use Rattle.std.proofs.lemmas.Map.Keys.{Less-from_sorted}
 use Rattle.std.proofs.lemmas.Cmp.{tied_itself}
 use Rattle.std.proofs.lemmas.Bool.{false≢true}
+use Rattle.std.specs.Option.{option_map}
+use Rattle.model_rows.specs.declared.row.Row.{Row}
 use Rattle.model_rows.specs.Path.{key_cmp}
+use Rattle.model_rows.specs.Rows.{roots, next_root}
+use Rattle.seg_store.specs.Store.{next_entry}
 use Rattle.model_rows.proofs.Order.{key_total, turned_less, turned_greater}
 use Rattle.model_rows.proofs.Lists.{all_then}
 use Rattle.model_rows.proofs.Records.{is_lt-true, is_eq-true}
@@ -292,40 +296,40 @@ module _ {X : Type 0} where
           let value : e.1 ≡ f.1 = cc in
           λ i. (same i, value i) ∷ rec (λ q. rest same q (is_eq (key_cmp q e.0)) refl) i
 
-  -- the first key after this one: what stands at its place, or behind it where that is the key
-  abbrev pub after_of : List ℕ → Option (List ℕ × X) → Option (List ℕ) → Option (List ℕ)
+  -- the first entry after this key: what stands at its place, or behind it where that is the key's
+  abbrev pub after_of : List ℕ → Option (List ℕ × X) → Option (List ℕ × X) → Option (List ℕ × X)
   after_of key None later = None
-  after_of key (Some e) later = cond (is_eq (key_cmp e.0 key)) later (Some e.0)
+  after_of key (Some e) later = cond (is_eq (key_cmp e.0 key)) later (Some e)
 
   pub after_at : (key : List ℕ) (es : List (List ℕ × X)) → IsStrictlySortedBy key_cmp (keys_of es)
-      → find (λ other. is_lt (key_cmp key other)) (keys_of es) ≡ after_of key (slice_get es (place_in key es)) (slice_get (keys_of es) (suc (place_in key es)))
+      → find (λ e. is_lt (key_cmp key e.0)) es ≡ after_of key (slice_get es (place_in key es)) (slice_get es (suc (place_in key es)))
   after_at key [] s = refl
   after_at key (e ∷ es) s = by (key_cmp key e.0) refl (after_at key es (other_keys e es s))
     where
-      later : List (List ℕ × X) → Option (List ℕ)
-      later fs = find (λ other. is_lt (key_cmp key other)) (keys_of fs)
+      later : List (List ℕ × X) → Option (List ℕ × X)
+      later fs = find (λ f. is_lt (key_cmp key f.0)) fs
 
-      here : (o : Ordering) → key_cmp key e.0 ≡ o → later (e ∷ es) ≡ cond (is_lt o) (Some e.0) (later es)
-      here o q = ap (λ p. cond (is_lt p) (Some e.0) (later es)) q
+      here : (o : Ordering) → key_cmp key e.0 ≡ o → later (e ∷ es) ≡ cond (is_lt o) (Some e) (later es)
+      here o q = ap (λ p. cond (is_lt p) (Some e) (later es)) q
 
-      stands : ℕ → Option (List ℕ)
-      stands p = after_of key (slice_get (e ∷ es) p) (slice_get (keys_of (e ∷ es)) (suc p))
+      stands : ℕ → Option (List ℕ × X)
+      stands p = after_of key (slice_get (e ∷ es) p) (slice_get (e ∷ es) (suc p))
 
-      first : (fs : List (List ℕ × X)) → AllByRecursion (λ f. key_cmp key f.0 ≡ Less) fs → later fs ≡ slice_get (keys_of fs) 0
+      first : (fs : List (List ℕ × X)) → AllByRecursion (λ f. key_cmp key f.0 ≡ Less) fs → later fs ≡ slice_get fs 0
       first [] h = refl
-      first (f ∷ fs) h = ap (λ o. cond (is_lt o) (Some f.0) (later fs)) h.0
+      first (f ∷ fs) h = ap (λ o. cond (is_lt o) (Some f) (later fs)) h.0
 
-      by : (o : Ordering) → key_cmp key e.0 ≡ o → later es ≡ after_of key (slice_get es (place_in key es)) (slice_get (keys_of es) (suc (place_in key es)))
+      by : (o : Ordering) → key_cmp key e.0 ≡ o → later es ≡ after_of key (slice_get es (place_in key es)) (slice_get es (suc (place_in key es)))
           → later (e ∷ es) ≡ stands (place_in key (e ∷ es))
       by Less q rec =
           here Less q
           ∙ sym (ap stands (place_here key e es Greater (turned_less key_total key e.0 q))
-          ∙ ap (λ o. cond (is_eq o) (slice_get (keys_of es) 0) (Some e.0)) (turned_less key_total key e.0 q))
+          ∙ ap (λ o. cond (is_eq o) (slice_get es 0) (Some e)) (turned_less key_total key e.0 q))
       by Equal q rec =
           here Equal q
           ∙ (first es (keys_above_equal key e es s q)
           ∙ sym (ap stands (place_here key e es Equal (turned_equal key e.0 q))
-          ∙ ap (λ o. cond (is_eq o) (slice_get (keys_of es) 0) (Some e.0)) (turned_equal key e.0 q)))
+          ∙ ap (λ o. cond (is_eq o) (slice_get es 0) (Some e)) (turned_equal key e.0 q)))
       by Greater q rec = here Greater q ∙ (rec ∙ sym (ap stands (place_here key e es Less (turned_greater key_total key e.0 q))))
 
   pub place_within : (key : List ℕ) (es : List (List ℕ × X)) → place_in key es ≤ length es
@@ -343,3 +347,52 @@ module _ {X : Type 0} where
       by : (o : Option (List ℕ × X)) → slice_get es (place_in key es) ≡ o → place_in key es < length es
       by None e = let clash : None ≡ Some x = sym (lookup_at key es s ∙ ap (found_at key) e) ∙ f in absurd (cc)
       by (Some entry) e = slice_get_within es (place_in key es) entry e
+
+-- the next entry has the next key, and that key finds it
+abbrev pub next_key : List (List ℕ) → Option (List ℕ) → Option (List ℕ)
+next_key keys None = slice_get keys 0
+next_key keys (Some after) = find (λ key. is_lt (key_cmp after key)) keys
+
+first_found : (f : List ℕ → Bool) (es : List (List ℕ × ℕ)) → option_map (λ e. e.0) (find (λ e. f e.0) es) ≡ find f (keys_of es)
+first_found f [] = refl
+first_found f (e ∷ es) =
+    elim (f e.0) as (λ b. option_map (λ e'. e'.0) (cond b (Some e) (find (λ e'. f e'.0) es)) ≡ cond b (Some e.0) (find f (keys_of es))) [
+      | true ↦ refl
+      | false ↦ first_found f es
+    ]
+
+own_entry : (e : List ℕ × ℕ) (es : List (List ℕ × ℕ)) → lookup (is_at (key_cmp e.0)) (e ∷ es) ≡ Some e.1
+own_entry e es = ap (λ o. cond (is_eq o) (Some e.1) (lookup (is_at (key_cmp e.0)) es)) (tied_itself key_total e.0)
+
+passing_found : (f : List ℕ → Bool) (es : List (List ℕ × ℕ)) (e : List ℕ × ℕ) → find (λ x. f x.0) es ≡ Some e → (f e.0 ≡ true) × (lookup (is_at (key_cmp e.0)) es ≡ Some e.1)
+passing_found f [] e h = let clash : None ≡ Some e = h in absurd (cc)
+passing_found f (x ∷ es) e h = by (f x.0) refl h (passing_found f es e)
+  where
+    apart : f x.0 ≡ false → f e.0 ≡ true → lookup (is_at (key_cmp e.0)) es ≡ Some e.1 → (b : Bool) → is_eq (key_cmp e.0 x.0) ≡ b → lookup (is_at (key_cmp e.0)) (x ∷ es) ≡ Some e.1
+    apart fails passes found true q = absurd (false≢true (sym fails ∙ (ap f (sym (exact_bytes e.0 x.0 (is_eq-true _ q))) ∙ passes)))
+    apart fails passes found false q = ap (λ b. cond b (Some x.1) (lookup (is_at (key_cmp e.0)) es)) q ∙ found
+
+    by : (b : Bool) → f x.0 ≡ b → cond b (Some x) (find (λ y. f y.0) es) ≡ Some e → (find (λ y. f y.0) es ≡ Some e → (f e.0 ≡ true) × (lookup (is_at (key_cmp e.0)) es ≡ Some e.1))
+        → (f e.0 ≡ true) × (lookup (is_at (key_cmp e.0)) (x ∷ es) ≡ Some e.1)
+    by true q g rec =
+        let same : Some x ≡ Some e = g in
+        let one : x ≡ e = cc in
+        subst (λ y. (f y.0 ≡ true) × (lookup (is_at (key_cmp y.0)) (x ∷ es) ≡ Some y.1)) one (q, own_entry x es)
+    by false q g rec = let h' = rec g in (h'.0, apart q h'.0 h'.1 (is_eq (key_cmp e.0 x.0)) refl)
+
+pub next_entry_key : (es : List (List ℕ × ℕ)) (after : Option (List ℕ)) → option_map (λ e. e.0) (next_entry es after) ≡ next_key (keys_of es) after
+next_entry_key [] None = refl
+next_entry_key (e ∷ es) None = refl
+next_entry_key es (Some key) = first_found (λ k. is_lt (key_cmp key k)) es
+
+pub next_entry_found : (es : List (List ℕ × ℕ)) (after : Option (List ℕ)) (e : List ℕ × ℕ) → next_entry es after ≡ Some e → lookup (is_at (key_cmp e.0)) es ≡ Some e.1
+next_entry_found [] None e h = let clash : None ≡ Some e = h in absurd (cc)
+next_entry_found (x ∷ es) None e h =
+    let same : Some x ≡ Some e = h in
+    let one : x ≡ e = cc in
+    subst (λ y. lookup (is_at (key_cmp y.0)) (x ∷ es) ≡ Some y.1) one (own_entry x es)
+next_entry_found es (Some key) e h = (passing_found (λ k. is_lt (key_cmp key k)) es e h).1
+
+pub next_root_key : (rows : List Row) (es : List (List ℕ × ℕ)) (after : Option (List ℕ)) → roots rows ≡ keys_of es → next_root rows after ≡ option_map (λ e. e.0) (next_entry es after)
+next_root_key rows es None h = ap (λ keys. slice_get keys 0) h ∙ sym (next_entry_key es None)
+next_root_key rows es (Some key) h = ap (λ keys. find (λ k. is_lt (key_cmp key k)) keys) h ∙ sym (next_entry_key es (Some key))

@@ -3,3 +3,4 @@ pub mod Entries
 pub mod SlotRows
 pub mod Numbers
 pub mod Indexed
+mod Nexts

@@ -1,7 +1,8 @@
 -- How a store keeps its slots.
-use Rattle.std.specs.Prelude.{◌≡◌, ℕ, suc, ◌≤◌, nat_lt, List, [], ◌∷◌}
+use Rattle.std.specs.Prelude.{◌≡◌, ℕ, suc, ◌≤◌, nat_lt, List, [], ◌∷◌, Option, None, Some, slice_get, find}
 use Rattle.std.specs.List.{prefix_len}
 use Rattle.std.specs.List.Sorted.{IsStrictlySortedBy}
+use Rattle.std.specs.Ordering.{is_lt}
 use Rattle.std.specs.BTreeMap.{is_at}
 use Rattle.std.specs.Map.{keys_of, lookup}
 use Rattle.tm_types.specs.declared.dbd.Dbd.{Dbd}
@@ -27,3 +28,8 @@ pub record AreIndexed (dbd : Dbd) (slots : List (List Row)) (index : List (List 
   pub index_enough : dbd.roots ≤ index_room
   pub free_is : free ≡ free_numbers 0 slots
   pub free_enough : dbd.roots ≤ free_room
+
+-- the first entry of the index, or the first one after this root
+abbrev pub next_entry : List (List ℕ × ℕ) → Option (List ℕ) → Option (List ℕ × ℕ)
+next_entry index None = slice_get index 0
+next_entry index (Some root) = find (λ entry. is_lt (key_cmp root entry.0)) index

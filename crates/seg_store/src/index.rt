@@ -1,5 +1,5 @@
 //! An index of roots: pairs of a root and its slot, by roots.
-ghost use Rattle.std.specs.Prelude.{◌≡◌, ◌≤◌, ◌<◌, length, find, None, ℕ, slice_get};
+ghost use Rattle.std.specs.Prelude.{◌≡◌, ◌≤◌, ◌<◌, length, None, Some, ℕ, slice_get};
 ghost use Rattle.std.specs.List.{prefix_len};
 ghost use Rattle.std.specs.List.Sorted.{IsStrictlySortedBy};
 ghost use Rattle.std.specs.Ordering.{is_lt};
@@ -8,6 +8,7 @@ ghost use Rattle.std.specs.BTreeMap.{is_at, insert_entry};
 ghost use Rattle.std.specs.Map.{keys_of, lookup, remove_entry};
 ghost use Rattle.std.specs.Vec.{vec_capacity};
 ghost use Rattle.model_rows.specs.Path.{key_cmp};
+ghost use Rattle.seg_store.specs.Store.{next_entry};
 
 use tm_types::Key;
 
@@ -50,10 +51,20 @@ fn entry_at(index: &[(Key, u16)], place: usize) -> Option<&(Key, u16)>
     index.get(place)
 }
 
-/// The first root after this one.
-pub fn root_after(index: &[(Key, u16)], root: &Key) -> Option<Key>
+/// The first entry after this root, or of all.
+pub fn next_entry<'a>(index: &'a [(Key, u16)], after: Option<&Key>) -> Option<&'a (Key, u16)>
     requires { IsStrictlySortedBy key_cmp (keys_of index.now) }
-    ensures { result ≡ find (λ other. is_lt (key_cmp root.now other)) (keys_of index.now) }
+    ensures { option_copied result ≡ next_entry index.now (option_copied after.entry) }
+{
+    match after {
+        None => entry_at(index, 0),
+        Some(root) => entry_after(index, root),
+    }
+}
+
+fn entry_after<'a>(index: &'a [(Key, u16)], root: &Key) -> Option<&'a (Key, u16)>
+    requires { IsStrictlySortedBy key_cmp (keys_of index.now) }
+    ensures { option_copied result ≡ next_entry index.now (Some root.now) }
 {
     let place = place_among(index, root);
     let _count = index.len();
@@ -61,19 +72,9 @@ pub fn root_after(index: &[(Key, u16)], root: &Key) -> Option<Key>
         return None;
     };
     if entry.0.cmp(root).is_eq() {
-        root_at(index, place + 1)
+        entry_at(index, place + 1)
     } else {
-        Some(entry.0)
-    }
-}
-
-/// The root at this place.
-pub fn root_at(index: &[(Key, u16)], place: usize) -> Option<Key>
-    ensures { result ≡ slice_get (keys_of index.now) place }
-{
-    match index.get(place) {
-        Some(entry) => Some(entry.0),
-        None => None,
+        Some(entry)
     }
 }
 

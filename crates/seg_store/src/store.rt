@@ -7,7 +7,7 @@ ghost use Rattle.seg_rows.specs.StoreRefused.{set_refusal};
 ghost use Rattle.seg_store.specs.Slots.{image_root, slot_of, lowest_free, slot_for, with_root, rows_of_slots, AreSlots, free_slots, without_root};
 
 use crate::free::{add_slot, all_free, lowest, take_slot};
-use crate::index::{add_root, root_after, root_at, slot_of, take_root};
+use crate::index::{add_root, next_entry, slot_of, take_root};
 use seg_rows::{RecordImage, Rows, StoreRefused};
 use std::alloc::Global;
 use std::marker::Model;
@@ -168,9 +168,16 @@ impl Rows for Store {
     }
 
     fn next_root(&self, after: Option<&Key>) -> Option<Key> {
-        match after {
-            None => root_at(&self.index, 0),
-            Some(root) => root_after(&self.index, root),
+        match next_entry(&self.index, after) {
+            Some(entry) => Some(entry.0),
+            None => None,
+        }
+    }
+
+    fn next_record(&self, after: Option<&Key>) -> Option<&RecordImage> {
+        match next_entry(&self.index, after) {
+            Some(entry) => Some(&self.slots[entry.1 as usize]),
+            None => None,
         }
     }
 

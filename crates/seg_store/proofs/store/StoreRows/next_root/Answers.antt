@@ -1,36 +1,33 @@
 use Rattle.std.proofs.Common.{◌≡◌, Some, None, subst, sym, ap, ◌∙◌}
-use Rattle.std.specs.Map.{keys_of}
-use Rattle.std.specs.Option.{option_copied}
-use Rattle.std.specs.List.{find, slice_get}
-use Rattle.std.specs.Ordering.{is_lt}
-use Rattle.model_rows.specs.Path.{key_cmp}
-use Rattle.model_rows.specs.Rows.{next_root, AreRows, roots}
+use Rattle.std.specs.Option.{option_map, option_copied}
+use Rattle.model_rows.specs.Rows.{next_root, AreRows}
 use Rattle.seg_store.specs.Slots.{Stored, rows_of_slots}
-use Rattle.seg_store.proofs.SlotRows.{slots_are_rows, slots_roots, index_keys}
+use Rattle.seg_store.specs.Store.{next_entry}
+use Rattle.seg_store.proofs.Nexts.{next_root_is, indexed_rows}
 use Rattle.seg_store.proofs.store.StoreRows.next_root.Goals as goal
-
-pub returns-in-None-clause-value : goal.returns-in-None-clause-value
-returns-in-None-clause-value c =
-    let keys : keys_of c.self.inside.index.items ≡ roots (rows_of_slots c.self.inside.slots.items) =
-    index_keys c.self.inside.slots.items c.self.inside.index.items c.self.invariant.ascending c.self.invariant.found
-    ∙ sym (slots_roots c.self.inside.dbd c.self.inside.slots.items c.self.invariant.valid) in
-    c.root_at.ensures
-    ∙ (ap (λ es. slice_get (keys_of es) 0) c.deref.ensures.value
-    ∙ (ap (λ ks. slice_get ks 0) keys
-    ∙ (ap (λ (s : Stored). next_root (rows_of_slots s.slots) None) c.self.view_is ∙ ap (λ after. next_root (rows_of_slots c.args.self.now.slots) (option_copied after)) (sym c.in-None.is))))
-
-pub returns-in-None-clause-valid : goal.returns-in-None-clause-valid
-returns-in-None-clause-valid c = subst (λ (s : Stored). AreRows s.dbd (rows_of_slots s.slots)) c.self.view_is (slots_are_rows c.self.inside.dbd c.self.inside.slots.items c.self.invariant.valid)
 
 pub returns-in-Some-clause-value : goal.returns-in-Some-clause-value
 returns-in-Some-clause-value c =
-    let keys : keys_of c.self.inside.index.items ≡ roots (rows_of_slots c.self.inside.slots.items) =
-    index_keys c.self.inside.slots.items c.self.inside.index.items c.self.invariant.ascending c.self.invariant.found
-    ∙ sym (slots_roots c.self.inside.dbd c.self.inside.slots.items c.self.invariant.valid) in
-    c.root_after.ensures
-    ∙ (ap (λ es. find (λ other. is_lt (key_cmp c.in-Some.root.now other)) (keys_of es)) c.deref-in-Some.ensures.value
-    ∙ (ap (λ ks. find (λ other. is_lt (key_cmp c.in-Some.root.now other)) ks) keys
-    ∙ (ap (λ (s : Stored). next_root (rows_of_slots s.slots) (Some c.in-Some.root.now)) c.self.view_is ∙ ap (λ after. next_root (rows_of_slots c.args.self.now.slots) (option_copied after)) (sym c.in-Some.is))))
+    let found : next_entry c.self.inside.index.items (option_copied c.args.after) ≡ Some c.in-Some.entry.now =
+    ap (λ es. next_entry es (option_copied c.args.after)) (sym c.deref.ensures.value) ∙ sym c.in-Some.ensures in
+    ap (option_map (λ e. e.0)) (sym found)
+    ∙ (sym (next_root_is c.self.inside.dbd c.self.inside.slots.items c.self.inside.index.items _ _ _ c.self.invariant (option_copied c.args.after))
+    ∙ ap (λ (s : Stored). next_root (rows_of_slots s.slots) (option_copied c.args.after)) c.self.view_is)
 
 pub returns-in-Some-clause-valid : goal.returns-in-Some-clause-valid
-returns-in-Some-clause-valid c = subst (λ (s : Stored). AreRows s.dbd (rows_of_slots s.slots)) c.self.view_is (slots_are_rows c.self.inside.dbd c.self.inside.slots.items c.self.invariant.valid)
+returns-in-Some-clause-valid c =
+    subst (λ (s : Stored). AreRows s.dbd (rows_of_slots s.slots)) c.self.view_is
+    (indexed_rows c.self.inside.dbd c.self.inside.slots.items c.self.inside.index.items _ _ _ c.self.invariant)
+
+pub returns-in-None-clause-value : goal.returns-in-None-clause-value
+returns-in-None-clause-value c =
+    let none : next_entry c.self.inside.index.items (option_copied c.args.after) ≡ None =
+    ap (λ es. next_entry es (option_copied c.args.after)) (sym c.deref.ensures.value) ∙ sym c.in-None.ensures in
+    ap (option_map (λ e. e.0)) (sym none)
+    ∙ (sym (next_root_is c.self.inside.dbd c.self.inside.slots.items c.self.inside.index.items _ _ _ c.self.invariant (option_copied c.args.after))
+    ∙ ap (λ (s : Stored). next_root (rows_of_slots s.slots) (option_copied c.args.after)) c.self.view_is)
+
+pub returns-in-None-clause-valid : goal.returns-in-None-clause-valid
+returns-in-None-clause-valid c =
+    subst (λ (s : Stored). AreRows s.dbd (rows_of_slots s.slots)) c.self.view_is
+    (indexed_rows c.self.inside.dbd c.self.inside.slots.items c.self.inside.index.items _ _ _ c.self.invariant)
