@@ -5,7 +5,6 @@ use Rattle.std.specs.Option.{option_map_or}
 use Rattle.std.proofs.lemmas.Bool.{false≢true, eqb-true, ne_eqb}
 use Rattle.std.proofs.lemmas.List.Elements.{All-nil, All-cons, All-append, All-head, All-tail}
 use Rattle.std.proofs.lemmas.Map.Entries.{lookup-filter-keys}
-use Rattle.tm_types.specs.declared.message.Message.{Message}
 use Rattle.model_rows.specs.declared.row.Row.{Row}
 use Rattle.model_script.specs.declared.need.CallText.{CallText}
 use Rattle.model_script.specs.declared.need.Need.{Need}
@@ -19,7 +18,7 @@ use Rattle.model_enqueue.specs.declared.request.Request.{Request}
 use Rattle.model_enqueue.specs.Modes.{serves}
 use Rattle.model_enqueue.specs.Table.{EnqueueTable, holds_of, is_asker}
 use Rattle.model_enqueue.specs.Ask.{released}
-use Rattle.model_machine.specs.Trial.{Reached, Trial, trial_of, trial_need, reached}
+use Rattle.model_machine.specs.Trial.{Given, Reached, Trial, trial_of, trial_need, reached}
 use Rattle.model_machine.specs.Trial.Reached.{Messages, Rows, Nothing}
 use Rattle.model_machine.specs.Requests.{asked_before, asked_behind, request_for, requests_at, requests_by}
 use Rattle.system_types.specs.Valid.{IsServable}
@@ -45,11 +44,11 @@ by_region region job trial (Call call) = at_region region (reached job.system.da
 by_region region job trial Ended = All-nil (λ (r : Request). r.region ≡ region)
 by_region region job trial (Abend code) = All-nil (λ (r : Request). r.region ≡ region)
 
-pub asked_region : (region : ℕ) (job : Job) (rows : List (List Row)) (message : Message) (calls : ℕ) → All (λ (r : Request). r.region ≡ region) (asked_before region job rows message calls)
-asked_region region job rows message zero = All-nil (λ (r : Request). r.region ≡ region)
-asked_region region job rows message (suc calls) =
-    All-append (λ (r : Request). r.region ≡ region) (asked_before region job rows message calls) (asked_behind region job (trial_of job rows message calls))
-    (asked_region region job rows message calls) (behind (trial_of job rows message calls))
+pub asked_region : (region : ℕ) (job : Job) (rows : List (List Row)) (given : Given) (calls : ℕ) → All (λ (r : Request). r.region ≡ region) (asked_before region job rows given calls)
+asked_region region job rows given zero = All-nil (λ (r : Request). r.region ≡ region)
+asked_region region job rows given (suc calls) =
+    All-append (λ (r : Request). r.region ≡ region) (asked_before region job rows given calls) (asked_behind region job (trial_of job rows given calls))
+    (asked_region region job rows given calls) (behind (trial_of job rows given calls))
   where
     behind : (o : Option Trial) → All (λ (r : Request). r.region ≡ region) (asked_behind region job o)
     behind (Some trial) = by_region region job trial (trial_need job trial)
@@ -77,23 +76,23 @@ held_still old new region keeps (r ∷ rs) own held =
     All-cons (IsHeld new) r rs (keeps r (All-head (λ (q : Request). q.region ≡ region) r rs own) (All-head (IsHeld old) r rs held))
     (held_still old new region keeps rs (All-tail (λ (q : Request). q.region ≡ region) r rs own) (All-tail (IsHeld old) r rs held))
 
-module _ (job : Job) (message : Message) (other : ℕ) (old new : DatabasesState) (run : RunState) (dbds : dbds_of new ≡ dbds_of old)
-    (keeps : (r : Request) → r.region ≡ other → IsHeld old.table r → IsHeld new.table r) (ahead : IsAhead job message other old run) where
+module _ (job : Job) (given : Given) (other : ℕ) (old new : DatabasesState) (run : RunState) (dbds : dbds_of new ≡ dbds_of old)
+    (keeps : (r : Request) → r.region ≡ other → IsHeld old.table r → IsHeld new.table r) (ahead : IsAhead job given other old run) where
   -- Where others go on or are backed out, what is committed stays, and so does what this region sees.
-  pub kept : new.committed ≡ old.committed → region_at other new ≡ region_at other old → IsAhead job message other new run
+  pub kept : new.committed ≡ old.committed → region_at other new ≡ region_at other old → IsAhead job given other new run
   kept committed sees =
       let rows : committed_rows new ≡ committed_rows old = ap rows_of committed in
       record {
         trial = ahead.trial;
-        made = ap (λ rs. trial_of job rs message run.calls) rows ∙ ahead.made;
+        made = ap (λ rs. trial_of job rs given run.calls) rows ∙ ahead.made;
         limit = ahead.limit;
         script = ahead.script;
         work = ahead.work;
         seen = ahead.seen ∙ (λ i. record { rows = (sym sees i).rows; positions = run.positions; changed = (sym sees i).changed });
         held =
-            subst (λ rs. All (IsHeld new.table) (asked_before other job rs message run.calls)) (sym rows)
-            (held_still old.table new.table other keeps (asked_before other job (committed_rows old) message run.calls) (asked_region other job (committed_rows old) message run.calls) ahead.held);
-        texts = subst (λ rs. All HasTexts (needs_before job rs message run.calls)) (sym rows) ahead.texts;
+            subst (λ rs. All (IsHeld new.table) (asked_before other job rs given run.calls)) (sym rows)
+            (held_still old.table new.table other keeps (asked_before other job (committed_rows old) given run.calls) (asked_region other job (committed_rows old) given run.calls) ahead.held);
+        texts = subst (λ rs. All HasTexts (needs_before job rs given run.calls)) (sym rows) ahead.texts;
         dbds = dbds ∙ ahead.dbds;
         standing = ahead.standing;
       }
@@ -101,11 +100,11 @@ module _ (job : Job) (message : Message) (other : ℕ) (old new : DatabasesState
   -- Where another region has ended its work, the calls of this one give on what is committed now what they gave.
   pub beside : IsServable job.system.databases job.pcbs job.lines
       → AreRowsOf (dbds_of old) (committed_rows old) → AreRowsOf (dbds_of new) (committed_rows new)
-      → IsBeside other old new → IsAhead job message other new run
+      → IsBeside other old new → IsAhead job given other new run
   beside servable rows_old rows_new is =
       let rows_a = subst (λ ds. AreRowsOf ds (committed_rows old)) ahead.dbds rows_old in
       let rows_b = subst (λ ds. AreRowsOf ds (committed_rows new)) (dbds ∙ ahead.dbds) rows_new in
-      let again = gives_again job message other old.table servable (committed_rows old) (committed_rows new) rows_a rows_b is.held run.calls ahead.trial ahead.made ahead.held ahead.texts in
+      let again = gives_again job given other old.table servable (committed_rows old) (committed_rows new) rows_a rows_b is.held run.calls ahead.trial ahead.made ahead.held ahead.texts in
       record {
         trial = record ahead.trial { databases = record ahead.trial.databases { rows = with_records_from ahead.trial.databases.changed ahead.trial.databases.rows (committed_rows new) } };
         made = again.made;
@@ -117,7 +116,7 @@ module _ (job : Job) (message : Message) (other : ℕ) (old new : DatabasesState
             ∙ (λ i. record { rows = (sym is.sees i).rows; positions = run.positions; changed = (sym is.sees i).changed });
         held =
             subst (All (IsHeld new.table)) (sym again.asked)
-            (held_still old.table new.table other keeps (asked_before other job (committed_rows old) message run.calls) (asked_region other job (committed_rows old) message run.calls) ahead.held);
+            (held_still old.table new.table other keeps (asked_before other job (committed_rows old) given run.calls) (asked_region other job (committed_rows old) given run.calls) ahead.held);
         texts = subst (All HasTexts) (sym again.needs) ahead.texts;
         dbds = dbds ∙ ahead.dbds;
         standing = ahead.standing;

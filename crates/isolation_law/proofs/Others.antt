@@ -2,11 +2,11 @@
 use Rattle.std.proofs.Common.{◌≡◌, ◌≢◌, ℕ, ◌-◌, ◌≤◌, List, length, get_or, sym, ◌∙◌, ap, subst, arith}
 use Rattle.std.specs.Prelude.{slice_set}
 use Rattle.std.proofs.lemmas.List.{get_or-set_other}
-use Rattle.tm_types.specs.declared.message.Message.{Message}
 use Rattle.model_system.specs.Jobs.{Job}
 use Rattle.model_enqueue.specs.declared.request.Request.{Request}
 use Rattle.model_enqueue.specs.Table.{EnqueueTable}
 use Rattle.model_enqueue.specs.Ask.{after_asks, released}
+use Rattle.model_machine.specs.Trial.{Given}
 use Rattle.system_types.specs.Valid.{IsServable}
 use Rattle.program_rows.specs.State.{DatabasesState, RegionRows, AreRowsOf, clean_region, committed_rows, dbds_of, no_rows, region_at}
 use Rattle.program_rows.specs.Answering.{IsCommitted, IsGivenUp}
@@ -27,23 +27,23 @@ keeps_asked region requests old new e r held = subst (λ t. IsHeld t r) (sym e) 
 keeps_released : (other region : ℕ) (old new : EnqueueTable) → other ≢ region → new ≡ released region old → (r : Request) → r.region ≡ other → IsHeld old r → IsHeld new r
 keeps_released other region old new differs e r own held = subst (λ t. IsHeld t r) (sym e) (released_keeps region old r (λ f. differs (sym own ∙ f)) held)
 
-module _ (job : Job) (message : Message) (other region : ℕ) (old new : DatabasesState) (run : RunState) (least_other : 1 ≤ other) (least : 1 ≤ region) (differs : other ≢ region)
-    (dbds : dbds_of new ≡ dbds_of old) (ahead : IsAhead job message other old run) where
+module _ (job : Job) (given : Given) (other region : ℕ) (old new : DatabasesState) (run : RunState) (least_other : 1 ≤ other) (least : 1 ≤ region) (differs : other ≢ region)
+    (dbds : dbds_of new ≡ dbds_of old) (ahead : IsAhead job given other old run) where
   -- it goes on by a call, takes back what it changed, or waits
-  pub beside_call : StayOthers region old new → (requests : List Request) → new.table ≡ after_asks region requests old.table → IsAhead job message other new run
+  pub beside_call : StayOthers region old new → (requests : List Request) → new.table ≡ after_asks region requests old.table → IsAhead job given other new run
   beside_call stay requests asked =
-      kept job message other old new run dbds (λ r own held. keeps_asked region requests old.table new.table asked r held) ahead stay.committed
+      kept job given other old new run dbds (λ r own held. keeps_asked region requests old.table new.table asked r held) ahead stay.committed
       (sees_on other region old.regions new.regions (region_at region new) least_other least differs stay.regions)
 
   -- it gives all up
-  pub beside_given_up : IsGivenUp region old new → IsAhead job message other new run
-  beside_given_up given =
-      kept job message other old new run dbds (keeps_released other region old.table new.table differs given.table) ahead given.committed
-      (sees_on other region old.regions new.regions (clean_region (committed_rows old)) least_other least differs given.regions)
+  pub beside_given_up : IsGivenUp region old new → IsAhead job given other new run
+  beside_given_up left =
+      kept job given other old new run dbds (keeps_released other region old.table new.table differs left.table) ahead left.committed
+      (sees_on other region old.regions new.regions (clean_region (committed_rows old)) least_other least differs left.regions)
 
   -- its changes stay
   pub beside_committed : IsServable job.system.databases job.pcbs job.lines → AreRowsOf (dbds_of old) (committed_rows old) → AreRowsOf (dbds_of new) (committed_rows new)
-      → other ≤ length old.regions → IsCommitted region old new → IsAhead job message other new run
+      → other ≤ length old.regions → IsCommitted region old new → IsAhead job given other new run
   beside_committed servable rows_old rows_new most committed =
-      beside job message other old new run dbds (keeps_released other region old.table new.table differs committed.table) ahead servable rows_old rows_new
+      beside job given other old new run dbds (keeps_released other region old.table new.table differs committed.table) ahead servable rows_old rows_new
       (committed.others other differs least_other most)

@@ -8,7 +8,6 @@ use Rattle.tm_types.specs.declared.abend.AbendCode.{AbendCode}
 use Rattle.tm_types.specs.declared.dbd.Dbd.{Dbd}
 use Rattle.tm_types.specs.declared.function.Function.{Function}
 use Rattle.tm_types.specs.declared.function.Function.TheVariants.{GU, GN, GNP, GHU, GHN, GHNP, ISRT, REPL, DLET, PURG, CHNG, ROLB, ROLL}
-use Rattle.tm_types.specs.declared.message.Message.{Message}
 use Rattle.tm_types.specs.Segment.{IsSegmentText}
 use Rattle.model_rows.specs.declared.row.Row.{Row}
 use Rattle.model_script.specs.declared.need.CallText.{CallText}
@@ -22,7 +21,7 @@ use Rattle.model_system.specs.Jobs.{Job}
 use Rattle.model_dli.specs.Conditions.{IsDbCall}
 use Rattle.model_dli.specs.Data.{Data, data_start, nowhere}
 use Rattle.model_enqueue.specs.Table.{EnqueueTable}
-use Rattle.model_machine.specs.Trial.{Reached, Trial, Outcome, advance, advance_by, call_outcome, called, db_call, gone, gone_on, is_sync, outcome_at, reached, reached_by, rolled_back, trial_need, trial_of, trial_start, unless_abend}
+use Rattle.model_machine.specs.Trial.{Given, Reached, Trial, Outcome, advance, advance_by, call_outcome, called, db_call, gone, gone_on, is_sync, outcome_at, reached, reached_by, rolled_back, trial_need, trial_of, trial_start, unless_abend}
 use Rattle.model_machine.specs.Trial.Advance.{Stops}
 use Rattle.model_machine.specs.Trial.Reached.{Messages, Rows, Nothing}
 use Rattle.model_machine.specs.Trial.WorkEnd.{Syncs}
@@ -117,7 +116,7 @@ reaches_so dbds pcbs call has text = first (call.pcb == 0) refl
         (subst (IsCallBy dbds call) (ap (λ t. cond t None (slice_get pcbs (call.pcb - 1))) e) (has (some e)))
 
 -- ---- one call
-module _ (job : Job) (message : Message) (region : ℕ) (table : EnqueueTable) (servable : IsServable job.system.databases job.pcbs job.lines)
+module _ (job : Job) (given : Given) (region : ℕ) (table : EnqueueTable) (servable : IsServable job.system.databases job.pcbs job.lines)
     (a b : List (List Row)) (rows_a : AreRowsOf job.system.databases a) (rows_b : AreRowsOf job.system.databases b) (agree : AgreeOnHeld table region a b) where
   abbrev Stand : Data → Type 0
   Stand d = StandOn job.system.databases job.pcbs a b d
@@ -208,9 +207,9 @@ module _ (job : Job) (message : Message) (region : ℕ) (table : EnqueueTable) (
   -- ---- all calls
   -- So many calls give on the rows committed now what they gave, ask for the same, and need the same.
   pub record GivesAgain (calls : ℕ) (one : Trial) : Type 0 where
-    pub made : trial_of job b message calls ≡ Some (moved one)
-    pub asked : asked_before region job b message calls ≡ asked_before region job a message calls
-    pub needs : needs_before job b message calls ≡ needs_before job a message calls
+    pub made : trial_of job b given calls ≡ Some (moved one)
+    pub asked : asked_before region job b given calls ≡ asked_before region job a given calls
+    pub needs : needs_before job b given calls ≡ needs_before job a given calls
     pub stand : Stand one.databases
 
   all_left : {A : Type 0} (P : A → Type 0) (xs ys : List A) → All P (xs ++ ys) → All P xs
@@ -221,10 +220,10 @@ module _ (job : Job) (message : Message) (region : ℕ) (table : EnqueueTable) (
   all_right P [] ys h = h
   all_right P (x ∷ xs) ys h = all_right P xs ys (All-tail P x (xs ++ ys) h)
 
-  pub gives_again : (calls : ℕ) (one : Trial) → trial_of job a message calls ≡ Some one → All (IsHeld table) (asked_before region job a message calls)
-      → All HasTexts (needs_before job a message calls) → GivesAgain calls one
+  pub gives_again : (calls : ℕ) (one : Trial) → trial_of job a given calls ≡ Some one → All (IsHeld table) (asked_before region job a given calls)
+      → All HasTexts (needs_before job a given calls) → GivesAgain calls one
   gives_again zero one made held texts =
-      let same : trial_start job a message ≡ one = cc in
+      let same : trial_start job a given ≡ one = cc in
       record {
         made = ap (λ t. Some (moved t)) same;
         asked = refl;
@@ -232,32 +231,32 @@ module _ (job : Job) (message : Message) (region : ℕ) (table : EnqueueTable) (
         stand = subst (λ (t : Trial). Stand t.databases) same (start_stands job.system.databases job.pcbs a b (length job.pcbs) rows_a rows_b refl);
       }
   gives_again (suc calls) one made held texts =
-      by (trial_of job a message calls) refl made held texts
+      by (trial_of job a given calls) refl made held texts
       (λ before e. gives_again calls before e
-      (all_left (IsHeld table) (asked_before region job a message calls) (asked_behind region job (trial_of job a message calls)) held)
-      (all_left HasTexts (needs_before job a message calls) (needs_behind job (trial_of job a message calls)) texts))
+      (all_left (IsHeld table) (asked_before region job a given calls) (asked_behind region job (trial_of job a given calls)) held)
+      (all_left HasTexts (needs_before job a given calls) (needs_behind job (trial_of job a given calls)) texts))
     where
-      by : (o : Option Trial) → trial_of job a message calls ≡ o → option_and_then (λ t. gone (advance job a t)) o ≡ Some one
-          → All (IsHeld table) (asked_before region job a message calls ++ asked_behind region job o)
-          → All HasTexts (needs_before job a message calls ++ needs_behind job o)
-          → ((before : Trial) → trial_of job a message calls ≡ Some before → GivesAgain calls before)
+      by : (o : Option Trial) → trial_of job a given calls ≡ o → option_and_then (λ t. gone (advance job a t)) o ≡ Some one
+          → All (IsHeld table) (asked_before region job a given calls ++ asked_behind region job o)
+          → All HasTexts (needs_before job a given calls ++ needs_behind job o)
+          → ((before : Trial) → trial_of job a given calls ≡ Some before → GivesAgain calls before)
           → GivesAgain (suc calls) one
       by None e g h t rec = absurd (cc)
       by (Some before) e g h t rec =
           let again = rec before e in
           let more = one_more before one (trial_need job before) refl
-          (All-head HasTexts (trial_need job before) [] (all_right HasTexts (needs_before job a message calls) (trial_need job before ∷ []) t))
+          (All-head HasTexts (trial_need job before) [] (all_right HasTexts (needs_before job a given calls) (trial_need job before ∷ []) t))
           again.stand
-          (all_right (IsHeld table) (asked_before region job a message calls) (requests_of region job before) h)
+          (all_right (IsHeld table) (asked_before region job a given calls) (requests_of region job before) h)
           g in
           record {
             made = ap (option_and_then (λ t. gone (advance job b t))) again.made ∙ more.goes;
             asked =
                 (λ i. again.asked i ++ asked_behind region job (again.made i))
-                ∙ ((λ i. asked_before region job a message calls ++ more.requests i)
-                ∙ sym (ap (λ o. asked_before region job a message calls ++ asked_behind region job o) e));
+                ∙ ((λ i. asked_before region job a given calls ++ more.requests i)
+                ∙ sym (ap (λ o. asked_before region job a given calls ++ asked_behind region job o) e));
             needs =
                 (λ i. again.needs i ++ needs_behind job (again.made i))
-                ∙ sym (ap (λ o. needs_before job a message calls ++ needs_behind job o) e);
+                ∙ sym (ap (λ o. needs_before job a given calls ++ needs_behind job o) e);
             stand = more.stand;
           }
