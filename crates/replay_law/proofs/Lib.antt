@@ -1,0 +1,10 @@
+pub mod Bools
+pub mod Lists
+pub mod SoundLaws
+pub mod Conversing
+pub mod Ordered
+pub mod Kept
+pub mod Accepted
+pub mod Replayed
+pub mod Laws
+pub mod Rows
