@@ -1,0 +1,4 @@
+pub mod Named
+pub mod Told
+pub mod Plain
+pub mod Judged

@@ -1,0 +1,4 @@
+//! The records of a snapshot, spelled from what lasts of a machine.
+//!
+//! What is spelled is read back as the same state, and breaks no rule on a snapshot (proofs/Whole).
+#![tactic(auto)]
