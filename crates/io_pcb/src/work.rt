@@ -1,5 +1,5 @@
 //! The work on a message.
-ghost use Rattle.std.specs.Prelude.{◌≡◌, true, false, IfOk, IfSome, OnOk, OnErr, slice_get};
+ghost use Rattle.std.specs.Prelude.{◌≡◌, true, false, IfOk, IfSome, IsSomeAnd, OnOk, OnErr, slice_get};
 ghost use Rattle.std.specs.Option.{option_copied, option_map};
 ghost use Rattle.tm_types.specs.Segment.{IsSegmentText};
 ghost use Rattle.model_message.specs.Calls.{given};
@@ -7,6 +7,9 @@ ghost use Rattle.model_message.specs.Work.{message_start};
 ghost use Rattle.model_message.specs.Calls.{unique_answer, unique_work, next_answer, next_work, insert_status, insert_work, purge_status, purge_work, change_status, change_work, reset_work, finish_work};
 ghost use Rattle.model_message.specs.Calls.{texts_of, gives_back, segment_status, segment_work, pad_change};
 ghost use Rattle.io_pcb.specs.Shown.{shown};
+ghost use Rattle.model_system.specs.Codes.{code_at};
+ghost use Rattle.model_system.specs.Jobs.{job_of};
+ghost use Rattle.io_pcb.specs.Starting.{IsPadFor, IsStartFor};
 ghost use Rattle.io_pcb.specs.Pads.{IsPadText, Suits, conversation_by, gives_wrong, lent_pad};
 
 use crate::destinations::{destination_named, without_blanks};
@@ -67,9 +70,26 @@ impl Model for Work {
 }
 
 impl Work {
+    /// The work on a message of a code of this system before the first call. The pad is that of the
+    /// conversation to which the message belongs: it is there exactly where its code has a scratch pad.
+    pub fn new(
+        alloc: Global,
+        system: &System,
+        message: &Message,
+        pad: Option<&[u8]>,
+    ) -> Result<Work, Memory>
+        requires { IsSomeAnd (code_at system.now.codes message.now.code) (λ code. IsPadFor code.transaction.scratch_pad (option_copied pad)) }
+        ensures { IfOk result (λ work. IsSomeAnd (job_of system.now message.now.code) (IsStartFor message.now (option_copied pad.entry) work)) }
+    {
+        let Some(job) = system.job(&message.code) else {
+            unreachable!()
+        };
+        Work::served_by(alloc, job.transaction, message, pad, job.pcbs)
+    }
+
     /// The work on a message before the first call, by a program with these PCBs. The pad is that of the
     /// conversation to which the message belongs, and is there where it belongs to one.
-    pub fn new(
+    pub fn served_by(
         alloc: Global,
         transaction: &Transaction,
         message: &Message,

@@ -82,7 +82,7 @@ impl Run {
     {
         let limit = u32::from(job.transaction.statement_limit);
         let machine = Machine::new(alloc, job.program, limit)?;
-        let work = Work::new(alloc, job.transaction, message, pad, job.pcbs)?;
+        let work = Work::served_by(alloc, job.transaction, message, pad, job.pcbs)?;
         let positions = standing_nowhere(alloc, job.pcbs.len())?;
         Ok(Run {
             calls: 0,
