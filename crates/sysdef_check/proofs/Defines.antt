@@ -7,7 +7,7 @@ use Rattle.system_types.specs.declared.definition.Macro.{Macro}
 use Rattle.system_types.specs.declared.definition.Macro.TheVariants.{Control}
 use Rattle.system_types.specs.Definitions.{IsDefinition, IsInRange, begins_well, is_control}
 use Rattle.system_types.specs.Valid.{IsSystem}
-use Rattle.sysdef_rules.specs.declared.cross.CrossRule.TheVariants.{CodeTwice, DatabaseUnknown, OfCalls, OfFormats, OfSegments, ProgramMissing, WrongCount}
+use Rattle.sysdef_rules.specs.declared.cross.CrossRule.TheVariants.{CodeTwice, DatabaseUnknown, DestinationUnknown, OfCalls, OfFormats, OfSegments, ProgramMissing, WrongCount, WrongPad}
 use Rattle.sysdef_rules.specs.declared.calls.CallRule.TheVariants.{PcbMissing, SsaAstray, NoInsertPath}
 use Rattle.sysdef_rules.specs.declared.segments.SegmentRule.TheVariants.{ParentAstray}
 use Rattle.sysdef_rules.specs.Cross.{cross_rules}
@@ -16,6 +16,7 @@ use Rattle.sysdef_check.proofs.Dbds.{databases_valid}
 use Rattle.sysdef_check.proofs.Kept.{rule_kept}
 use Rattle.sysdef_check.proofs.Formats.{formats_kept}
 use Rattle.sysdef_check.proofs.Limits.{few_codes, few_databases, few_formats, few_programs, few_regions, few_terminals, some_of_each}
+use Rattle.sysdef_check.proofs.Pads.{destinations_kept, pads_kept}
 use Rattle.sysdef_check.proofs.Servable.{programs_serve}
 use Rattle.sysdef_check.proofs.Served.{codes_apart, codes_served}
 
@@ -46,7 +47,9 @@ defines_system lines definition kept =
       few_programs = few_programs (databases_in lines) lines counts;
       programs = programs_serve lines parents counts (rule_kept lines 6 DatabaseUnknown kept refl) (rule_kept lines 12 (OfCalls PcbMissing) kept refl)
           (rule_kept lines 13 (OfCalls SsaAstray) kept refl) (rule_kept lines 14 (OfCalls NoInsertPath) kept refl);
+      destinations = destinations_kept (databases_in lines) lines (rule_kept lines 7 DestinationUnknown kept refl);
       few_codes = few_codes lines counts;
+      pads = pads_kept lines (rule_kept lines 17 WrongPad kept refl);
       served = codes_served (databases_in lines) lines (rule_kept lines 10 ProgramMissing kept refl);
       apart = codes_apart lines (rule_kept lines 8 CodeTwice kept refl);
       some_terminal = some.0;

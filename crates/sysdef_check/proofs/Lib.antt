@@ -7,4 +7,5 @@ pub mod Types
 pub mod Kept
 pub mod Limits
 pub mod Formats
+pub mod Pads
 pub mod Defines

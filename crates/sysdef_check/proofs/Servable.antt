@@ -93,7 +93,7 @@ behind_holds : (P : MacroLine → Type 0) (test : Macro → Bool) (lines : List 
 behind_holds P test [] h = h
 behind_holds P test (line ∷ lines) h = behind_by P (test line.content) lines (behind test lines) (All-tail P line lines h) (behind_holds P test lines (All-tail P line lines h))
 
-pcbs_hold : (P : MacroLine → Type 0) (psb : List ℕ) (lines : List MacroLine) → All P lines → All P (pcbs_of psb lines)
+pub pcbs_hold : (P : MacroLine → Type 0) (psb : List ℕ) (lines : List MacroLine) → All P lines → All P (pcbs_of psb lines)
 unfolding pcbs_of
 pcbs_hold P psb lines h = front_holds P Pcbs (behind (is_application psb) lines) (behind_holds P (is_application psb) lines h)
 

@@ -1,2 +1,3 @@
 pub mod ClassSteps
 pub mod RowRanges
+pub mod Pads

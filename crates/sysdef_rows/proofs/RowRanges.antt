@@ -141,8 +141,8 @@ region_fits : (ops : List (List ℕ)) → IfOk (region_row ops) (Fits Region)
 unfolding region_row
 region_fits ops = region_by _
 
-transaction_by : (parts : Result ((List ℕ × (SegmentKind × ℕ)) × ((ℕ × (ℕ × ℕ)) × ((ℕ × ℕ) × ((ℕ × ℕ) × Bool)))) ℕ) → IfOk (transaction_made parts) (Fits Transaction)
-transaction_by (Ok ((code, (kind, class)), ((normal, (limit, count)), ((processing, statements), ((segments, size), serial))))) = (tt, tt)
+transaction_by : (parts : Result ((List ℕ × (SegmentKind × ℕ)) × ((ℕ × (ℕ × ℕ)) × ((ℕ × ℕ) × ((ℕ × ℕ) × (ℕ × Bool))))) ℕ) → IfOk (transaction_made parts) (Fits Transaction)
+transaction_by (Ok ((code, (kind, class)), ((normal, (limit, count)), ((processing, statements), ((segments, size), (pad, serial)))))) = (tt, tt)
 transaction_by (Err rule) = tt
 
 transaction_fits : (ops : List (List ℕ)) → IfOk (transaction_row ops) (Fits Transaction)

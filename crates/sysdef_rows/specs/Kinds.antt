@@ -25,7 +25,7 @@ abbrev pub segment_keys : List (List ℕ)
 segment_keys = codes "NAME" ∷ codes "PARENT" ∷ codes "KEY" ∷ codes "BYTES" ∷ []
 
 abbrev pub transaction_keys : List (List ℕ)
-transaction_keys = codes "CODE" ∷ codes "MSGTYPE" ∷ codes "PRTY" ∷ codes "PROCLIM" ∷ codes "SEGNO" ∷ codes "SEGSIZE" ∷ codes "SERIAL" ∷ []
+transaction_keys = codes "CODE" ∷ codes "MSGTYPE" ∷ codes "PRTY" ∷ codes "PROCLIM" ∷ codes "SPA" ∷ codes "SEGNO" ∷ codes "SEGSIZE" ∷ codes "SERIAL" ∷ []
 
 -- the keys that a macro has
 abbrev pub keys : Kind → List (List ℕ)

@@ -13,7 +13,7 @@ use Rattle.sysdef_rows.specs.declared.kinds.Kind.{Kind}
 use Rattle.sysdef_rows.specs.declared.kinds.Kind.TheVariants.{Control, Database, Segment, Application, Pcb, Transaction, Terminal, Region, End}
 use Rattle.sysdef_rows.specs.Kinds.{format_keys, known_among}
 use Rattle.sysdef_rows.specs.Pcbs.{pcb_row}
-use Rattle.sysdef_rows.specs.Values.{named, parent_of, message_type_of, priorities_of, limits_of, serial_of, classes_of}
+use Rattle.sysdef_rows.specs.Values.{named, parent_of, message_type_of, priorities_of, limits_of, pad_of, serial_of, classes_of}
 
 -- IMSCTRL QBYTES, LOGS
 abbrev pub control_made : Result (ℕ × ℕ) ℕ → Result Macro ℕ
@@ -69,9 +69,9 @@ region_made (Err rule) = Err rule
 unfoldable pub region_row : List (List ℕ) → Result Macro ℕ
 region_row ops = region_made (needed (codes "CLASS") classes_of ops)
 
--- TRANSACT CODE, MSGTYPE, PRTY, PROCLIM, SEGNO, SEGSIZE, SERIAL
-abbrev pub transaction_made : Result ((List ℕ × (SegmentKind × ℕ)) × ((ℕ × (ℕ × ℕ)) × ((ℕ × ℕ) × ((ℕ × ℕ) × Bool)))) ℕ → Result Macro ℕ
-transaction_made (Ok ((code, (kind, class)), ((normal, (limit, count)), ((processing, statements), ((segments, size), serial))))) =
+-- TRANSACT CODE, MSGTYPE, PRTY, PROCLIM, SPA, SEGNO, SEGSIZE, SERIAL
+abbrev pub transaction_made : Result ((List ℕ × (SegmentKind × ℕ)) × ((ℕ × (ℕ × ℕ)) × ((ℕ × ℕ) × ((ℕ × ℕ) × (ℕ × Bool))))) ℕ → Result Macro ℕ
+transaction_made (Ok ((code, (kind, class)), ((normal, (limit, count)), ((processing, statements), ((segments, size), (pad, serial)))))) =
     Ok (macro.Transaction (record {
       code = code;
       segment_kind = kind;
@@ -83,6 +83,7 @@ transaction_made (Ok ((code, (kind, class)), ((normal, (limit, count)), ((proces
       statement_limit = statements;
       segment_count = segments;
       segment_size = size;
+      scratch_pad = pad;
       serial = serial;
     }))
 transaction_made (Err rule) = Err rule
@@ -90,10 +91,13 @@ transaction_made (Err rule) = Err rule
 unfoldable pub code_part : List (List ℕ) → Result (List ℕ × (SegmentKind × ℕ)) ℕ
 code_part ops = both (needed (codes "CODE") name_of ops) (or_as (codes "MSGTYPE") message_type_of (Multiple, 1) ops)
 
-unfoldable pub segment_part : List (List ℕ) → Result ((ℕ × ℕ) × Bool) ℕ
-segment_part ops = both (both (or_as (codes "SEGNO") (number_between 1 32) 32 ops) (or_as (codes "SEGSIZE") (number_between 5 2000) 2000 ops)) (or_as (codes "SERIAL") serial_of false ops)
+unfoldable pub pad_part : List (List ℕ) → Result (ℕ × Bool) ℕ
+pad_part ops = both (or_as (codes "SPA") pad_of 0 ops) (or_as (codes "SERIAL") serial_of false ops)
 
-unfoldable pub limit_part : List (List ℕ) → Result ((ℕ × (ℕ × ℕ)) × ((ℕ × ℕ) × ((ℕ × ℕ) × Bool))) ℕ
+unfoldable pub segment_part : List (List ℕ) → Result ((ℕ × ℕ) × (ℕ × Bool)) ℕ
+segment_part ops = both (both (or_as (codes "SEGNO") (number_between 1 32) 32 ops) (or_as (codes "SEGSIZE") (number_between 5 2000) 2000 ops)) (pad_part ops)
+
+unfoldable pub limit_part : List (List ℕ) → Result ((ℕ × (ℕ × ℕ)) × ((ℕ × ℕ) × ((ℕ × ℕ) × (ℕ × Bool)))) ℕ
 limit_part ops = both (or_as (codes "PRTY") priorities_of (1, (1, 65535)) ops) (both (or_as (codes "PROCLIM") limits_of (65535, 65535) ops) (segment_part ops))
 
 unfoldable pub transaction_row : List (List ℕ) → Result Macro ℕ

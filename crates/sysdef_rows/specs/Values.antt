@@ -1,11 +1,11 @@
 -- The values of operands.
-use Rattle.std.specs.Prelude.{ℕ, ◌+◌, ◌==◌, Bool, true, false, ◌&&◌, ◌||◌, not, List, [], ◌∷◌, ◌++◌, length, nat_le, codes, Option, Some, None, Result, Ok, Err, if◌then◌else◌}
+use Rattle.std.specs.Prelude.{ℕ, ◌+◌, ◌==◌, min, Bool, true, false, ◌&&◌, ◌||◌, not, List, [], ◌∷◌, ◌++◌, length, nat_le, codes, Option, Some, None, Result, Ok, Err, if◌then◌else◌}
 use Rattle.std.specs.List.{list_any}
 use Rattle.std.specs.Str.{bytes_eq}
 use Rattle.text_rows.specs.Lists.{list_of, two_of, three_of}
 use Rattle.text_rows.specs.Lowest.{both, also}
 use Rattle.text_rows.specs.Names.{name_of}
-use Rattle.text_rows.specs.Numbers.{number_between}
+use Rattle.text_rows.specs.Numbers.{is_number, number_of, number_between}
 use Rattle.model_system.specs.declared.code.SegmentKind.{SegmentKind}
 use Rattle.model_system.specs.declared.code.SegmentKind.TheVariants.{Multiple, Single}
 
@@ -84,6 +84,14 @@ limits_in (Err rule) = Err rule
 
 unfoldable pub limits_of : List ℕ → Result (ℕ × ℕ) ℕ
 limits_of text = limits_in (two_of text)
+
+-- SPA: any number; above 65,535 it counts as 65,535. Which lengths a scratch pad may have is a rule among macros.
+abbrev pub capped : Result ℕ ℕ → Result ℕ ℕ
+capped (Ok number) = Ok number
+capped (Err rule) = if rule == 6 then Ok 65535 else Err rule
+
+unfoldable pub pad_of : List ℕ → Result ℕ ℕ
+pad_of text = if is_number text then Ok (min (number_of text) 65535) else Err 5
 
 -- CLASS: 1 to 4 classes of 1 to 255
 abbrev pub with_class : Result (ℕ × List ℕ) ℕ → Result (List ℕ) ℕ

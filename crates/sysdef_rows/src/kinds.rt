@@ -167,6 +167,7 @@ fn is_transaction_key(word: &[u8]) -> bool
         || is_word(word, b"MSGTYPE")
         || is_word(word, b"PRTY")
         || is_word(word, b"PROCLIM")
+        || is_word(word, b"SPA")
         || is_word(word, b"SEGNO")
         || is_word(word, b"SEGSIZE")
         || is_word(word, b"SERIAL")

@@ -12,8 +12,8 @@ use crate::kinds::known_name;
 use crate::pcbs::pcb_row;
 use crate::rules::OPERAND_MISSING;
 use crate::values::{
-    byte_between, classes_of, limits_of, message_type_of, parent_of, priorities_of, serial_of,
-    short_between,
+    byte_between, classes_of, limits_of, message_type_of, pad_of, parent_of, priorities_of,
+    serial_of, short_between,
 };
 use model_system::{Classes, SegmentKind, Transaction};
 use system_types::Macro;
@@ -142,6 +142,16 @@ fn segment_size(operands: &Operands<'_>) -> Result<u16, u8>
 }
 
 #[tactic(auto, unfolding(text_rows::specs::Operands::or_as))]
+fn scratch_pad(operands: &Operands<'_>) -> Result<u16, u8>
+    ensures { result ≡ or_as (codes "SPA") values.pad_of 0 operands.now }
+{
+    match operands.only_value(b"SPA")? {
+        Some(text) => pad_of(text),
+        None => Ok(0),
+    }
+}
+
+#[tactic(auto, unfolding(text_rows::specs::Operands::or_as))]
 fn serial(operands: &Operands<'_>) -> Result<bool, u8>
     ensures { result ≡ or_as (codes "SERIAL") values.serial_of false operands.now }
 {
@@ -246,17 +256,24 @@ fn code_part(operands: &Operands<'_>) -> Result<(Name, (SegmentKind, u8)), u8>
     both(needed_name(b"CODE", operands), message_type(operands))
 }
 
+#[tactic(auto, unfolding(crate::specs::Rows::pad_part))]
+fn pad_part(operands: &Operands<'_>) -> Result<(u16, bool), u8>
+    ensures { result ≡ spec.pad_part operands.now }
+{
+    both(scratch_pad(operands), serial(operands))
+}
+
 #[tactic(auto, unfolding(crate::specs::Rows::segment_part))]
-fn segment_part(operands: &Operands<'_>) -> Result<((u8, u16), bool), u8>
+fn segment_part(operands: &Operands<'_>) -> Result<((u8, u16), (u16, bool)), u8>
     ensures { result ≡ spec.segment_part operands.now }
 {
     both(
         both(segment_count(operands), segment_size(operands)),
-        serial(operands),
+        pad_part(operands),
     )
 }
 
-type Limits = ((u8, (u8, u16)), ((u16, u16), ((u8, u16), bool)));
+type Limits = ((u8, (u8, u16)), ((u16, u16), ((u8, u16), (u16, bool))));
 
 #[tactic(auto, unfolding(crate::specs::Rows::limit_part))]
 fn limit_part(operands: &Operands<'_>) -> Result<Limits, u8>
@@ -275,7 +292,8 @@ fn transaction_row(operands: &Operands<'_>) -> Result<Macro, u8>
     let (head, tail) = both(code_part(operands), limit_part(operands))?;
     let (code, (segment_kind, class)) = head;
     let ((normal_priority, (limit_priority, limit_count)), rest) = tail;
-    let ((processing_count, statement_limit), ((segment_count, segment_size), serial)) = rest;
+    let ((processing_count, statement_limit), (segments, (scratch_pad, serial))) = rest;
+    let (segment_count, segment_size) = segments;
     Ok(Macro::Transaction(Transaction {
         code,
         segment_kind,
@@ -287,6 +305,7 @@ fn transaction_row(operands: &Operands<'_>) -> Result<Macro, u8>
         statement_limit,
         segment_count,
         segment_size,
+        scratch_pad,
         serial,
     }))
 }

@@ -1,12 +1,12 @@
 //! The values of operands.
-ghost use Rattle.std.specs.Prelude.{◌≡◌, ◌<◌, ◌≤◌, ◌+◌, ◌||◌, length, Ok, IfOk};
+ghost use Rattle.std.specs.Prelude.{◌≡◌, ◌<◌, ◌≤◌, ◌+◌, ◌||◌, length, Ok, Err, IfOk};
 ghost use Rattle.text_rows.specs.Lowest.{both};
 ghost use Rattle.text_rows.specs.Numbers.{number_between};
 ghost use Rattle.sysdef_rows.specs.Values as spec;
 
 use crate::rules::WRONG_WORD;
 use model_system::{Classes, SegmentKind};
-use text_rows::rules::WRONG_LIST;
+use text_rows::rules::{OUT_OF_RANGE, WRONG_LIST};
 use text_rows::{Pieces, also, both, is_word, list_of, name_of, number_between, three_of, two_of};
 use tm_types::Name;
 use tm_types::processing::{DELETE, GET, INSERT, REPLACE};
@@ -52,6 +52,27 @@ fn response_of(word: &[u8]) -> Result<(), u8>
         Ok(())
     } else {
         Err(WRONG_WORD)
+    }
+}
+
+/// SPA: a number; above 65,535 it counts as 65,535.
+pub(crate) fn pad_of(text: &[u8]) -> Result<u16, u8>
+    ensures { result ≡ spec.pad_of text.now }
+{
+    match number_between(0, 65535, text) {
+        Ok(number) => Ok(number as u16),
+        Err(rule) => capped(rule),
+    }
+}
+
+/// A number out of range counts as 65,535.
+fn capped(rule: u8) -> Result<u16, u8>
+    ensures { result ≡ spec.capped (Err rule) }
+{
+    if rule == OUT_OF_RANGE {
+        Ok(65535)
+    } else {
+        Err(rule)
     }
 }
 

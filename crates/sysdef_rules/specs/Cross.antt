@@ -1,5 +1,5 @@
 -- The rules that macros keep among each other.
-use Rattle.std.specs.Prelude.{ℕ, Bool, false, ◌||◌, not, List, [], ◌∷◌, ◌++◌, Option, Some, None, Result, Ok, Err}
+use Rattle.std.specs.Prelude.{ℕ, ◌==◌, nat_le, Bool, false, ◌&&◌, ◌||◌, not, List, [], ◌∷◌, ◌++◌, Option, Some, None, Result, Ok, Err}
 use Rattle.std.specs.Option.{option_or}
 use Rattle.model_format.specs.Breaks as format_rule
 use Rattle.system_types.specs.declared.definition.Macro.{Macro}
@@ -8,8 +8,8 @@ use Rattle.system_types.specs.declared.definition.MacroLine.{MacroLine}
 use Rattle.sysdef_rules.specs.declared.segments.SegmentRule.TheVariants.{Twice, ParentAstray, KeyTooLong, LevelTooHigh}
 use Rattle.sysdef_rules.specs.declared.calls.CallRule.TheVariants.{PcbMissing, SsaAstray, NoInsertPath}
 use Rattle.sysdef_rules.specs.declared.cross.CrossRule.{CrossRule}
-use Rattle.sysdef_rules.specs.declared.cross.CrossRule.TheVariants.{DatabaseTwice, OfSegments, PsbTwice, DatabaseUnknown, DestinationUnknown, CodeTwice, TerminalTwice, ProgramMissing, ProgramAstray, OfCalls, OfFormats, WrongCount}
-use Rattle.sysdef_rules.specs.Lookups.{has, is_database, is_application, is_code, is_terminal, is_format, is_program}
+use Rattle.sysdef_rules.specs.declared.cross.CrossRule.TheVariants.{DatabaseTwice, OfSegments, PsbTwice, DatabaseUnknown, DestinationUnknown, CodeTwice, TerminalTwice, ProgramMissing, ProgramAstray, OfCalls, OfFormats, WrongCount, WrongPad}
+use Rattle.sysdef_rules.specs.Lookups.{has, is_database, is_application, is_code, is_conversational, is_terminal, is_format, is_program}
 use Rattle.sysdef_rules.specs.Segments.{own_line, broken_by_segment}
 use Rattle.sysdef_rules.specs.Calls.{broken_by_call}
 use Rattle.sysdef_rules.specs.Counts.{broken_by_count}
@@ -33,9 +33,10 @@ unfoldable pub breaks_pcb : List MacroLine → Macro → Bool
 breaks_pcb all (DatabasePcb database options) = not (has (is_database database) all)
 breaks_pcb all _ = false
 
--- the destination of a PCB is a terminal or a code
+-- the destination of a PCB is a terminal or a code, and no code with a scratch pad
 unfoldable pub breaks_destination : List MacroLine → Macro → Bool
-breaks_destination all (DestinationPcb destination) = not (has (is_terminal destination) all || has (is_code destination) all)
+breaks_destination all (DestinationPcb destination) =
+    not (has (is_terminal destination) all || has (is_code destination) all) || has (is_conversational destination) all
 breaks_destination all _ = false
 
 -- a code stands once, and is no terminal
@@ -64,6 +65,11 @@ breaks_format all before (Terminal name (Some format)) = not (has (is_format for
 breaks_format all before (Format name format) = has (is_format name) before
 breaks_format all before _ = false
 
+-- a code has no scratch pad, or one of 16 to 1,000
+unfoldable pub breaks_pad : Macro → Bool
+breaks_pad (Transaction transaction) = not (transaction.scratch_pad == 0) && not (nat_le 16 transaction.scratch_pad && nat_le transaction.scratch_pad 1000)
+breaks_pad _ = false
+
 -- the lowest line of a format that breaks the rule among its lines
 abbrev pub broken_within : MacroLine → Macro → Option ℕ
 broken_within line (Format name format) = format_rule.broken_line line.number format
@@ -83,6 +89,7 @@ broken_line ProgramAstray all before line behind = own_line line (breaks_program
 broken_line (OfCalls rule) all before line behind = broken_by_call rule all line.content
 broken_line OfFormats all before line behind = option_or (own_line line (breaks_format all before line.content)) (broken_within line line.content)
 broken_line WrongCount all before line behind = broken_by_count all before line behind
+broken_line WrongPad all before line behind = own_line line (breaks_pad line.content)
 
 -- the number of a rule
 abbrev pub number_of : CrossRule → ℕ
@@ -103,6 +110,7 @@ number_of (OfCalls SsaAstray) = 14
 number_of (OfCalls NoInsertPath) = 15
 number_of OfFormats = 16
 number_of WrongCount = 17
+number_of WrongPad = 18
 
 -- The lowest line that breaks a rule. What belongs to a macro stands behind it and before the next
 -- macro that has such lines, so the first macro that breaks the rule has the lowest line.
@@ -131,7 +139,7 @@ abbrev pub rules : List CrossRule
 rules =
     DatabaseTwice ∷ OfSegments Twice ∷ OfSegments ParentAstray ∷ OfSegments KeyTooLong ∷ OfSegments LevelTooHigh ∷ PsbTwice ∷ DatabaseUnknown
     ∷ DestinationUnknown ∷ CodeTwice ∷ TerminalTwice ∷ ProgramMissing ∷ ProgramAstray ∷ OfCalls PcbMissing ∷ OfCalls SsaAstray ∷ OfCalls NoInsertPath
-    ∷ OfFormats ∷ WrongCount ∷ []
+    ∷ OfFormats ∷ WrongCount ∷ WrongPad ∷ []
 
 unfoldable pub cross_rules : List MacroLine → Result (Unit {0}) (ℕ × ℕ)
 cross_rules all = keeps_all rules all

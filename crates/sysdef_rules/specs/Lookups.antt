@@ -1,5 +1,5 @@
 -- What stands where among the macros.
-use Rattle.std.specs.Prelude.{ℕ, ◌+◌, ◌-◌, ◌==◌, Bool, true, false, List, [], ◌∷◌, count_by, find, position, slice_get, Option, Some, None, if◌then◌else◌}
+use Rattle.std.specs.Prelude.{ℕ, ◌+◌, ◌-◌, ◌==◌, Bool, true, false, ◌&&◌, not, List, [], ◌∷◌, count_by, find, position, slice_get, Option, Some, None, if◌then◌else◌}
 use Rattle.std.specs.List.{list_any}
 use Rattle.std.specs.Option.{option_map_or}
 use Rattle.std.specs.Str.{bytes_eq}
@@ -25,6 +25,11 @@ is_application name _ = false
 abbrev pub is_code : List ℕ → Macro → Bool
 is_code name (Transaction transaction) = bytes_eq transaction.code name
 is_code name _ = false
+
+-- a code with a scratch pad
+abbrev pub is_conversational : List ℕ → Macro → Bool
+is_conversational name (Transaction transaction) = not (transaction.scratch_pad == 0) && bytes_eq transaction.code name
+is_conversational name _ = false
 
 abbrev pub is_terminal : List ℕ → Macro → Bool
 is_terminal name (Terminal terminal format) = bytes_eq terminal name

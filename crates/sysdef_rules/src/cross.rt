@@ -24,7 +24,8 @@ pub enum CrossRule {
     PsbTwice,
     /// A PCB has a database that isn't there.
     DatabaseUnknown,
-    /// A PCB is for output to a destination that is neither a terminal nor a code.
+    /// A PCB is for output to a destination that is neither a terminal nor a code, or is a code with a
+    /// scratch pad.
     DestinationUnknown,
     /// A code stands twice, or is the name of a terminal too.
     CodeTwice,
@@ -40,6 +41,8 @@ pub enum CrossRule {
     OfFormats,
     /// There are too many macros of a kind, or no terminal or no region.
     WrongCount,
+    /// A scratch pad has a length of 1 to 15 or above 1,000.
+    WrongPad,
 }
 
 #[tactic(auto, unfolding(crate::specs::Cross::breaks_database))]
@@ -79,6 +82,7 @@ fn breaks_destination(all: &NamedMacros<'_>, content: &Macro) -> bool
     match content {
         Macro::DestinationPcb { destination } => {
             !(all.has_terminal(destination) || all.has_code(destination))
+                || all.has_conversational(destination)
         }
         _ => false,
     }
@@ -140,6 +144,19 @@ fn breaks_format(all: &NamedMacros<'_>, before: &NamedMacros<'_>, content: &Macr
     }
 }
 
+#[tactic(auto, unfolding(crate::specs::Cross::breaks_pad))]
+fn breaks_pad(content: &Macro) -> bool
+    ensures { result ≡ spec.breaks_pad content.now }
+{
+    match content {
+        Macro::Transaction(transaction) => {
+            transaction.scratch_pad != 0
+                && !(16 <= transaction.scratch_pad && transaction.scratch_pad <= 1000)
+        }
+        _ => false,
+    }
+}
+
 fn broken_within(line: &MacroLine) -> Option<u32>
     ensures { result ≡ spec.broken_within line.now line.now.content }
 {
@@ -192,6 +209,7 @@ fn broken_line(
         CrossRule::OfCalls(rule) => broken_by_call(rule, all.lines(), &line.content),
         CrossRule::OfFormats => broken_by_format(all, before, line),
         CrossRule::WrongCount => broken_by_count(all.lines(), before.lines(), line, behind),
+        CrossRule::WrongPad => own_line(line, breaks_pad(&line.content)),
     }
 }
 
@@ -216,6 +234,7 @@ fn number_of(rule: CrossRule) -> u8
         CrossRule::OfCalls(CallRule::NoInsertPath) => 15,
         CrossRule::OfFormats => 16,
         CrossRule::WrongCount => 17,
+        CrossRule::WrongPad => 18,
     }
 }
 
@@ -284,6 +303,7 @@ pub fn cross_rules(alloc: Global, lines: &[MacroLine]) -> Result<(), CrossRefuse
         CrossRule::OfCalls(CallRule::NoInsertPath),
         CrossRule::OfFormats,
         CrossRule::WrongCount,
+        CrossRule::WrongPad,
     ];
     match NamedMacros::of(alloc, lines) {
         Ok(all) => keep_all(alloc, &rules, &all),

@@ -1,9 +1,11 @@
 //! Macros with indexes of their names.
-ghost use Rattle.std.specs.Prelude.{◌≡◌, [], ◌∷◌, ◌++◌, ℕ, List, Some, None, IfOk, OnOk, cond, is_some};
+ghost use Rattle.std.specs.Prelude.{◌≡◌, ◌==◌, ◌&&◌, not, [], ◌∷◌, ◌++◌, ℕ, List, Some, None, IfOk, OnOk, cond, is_some};
 ghost use Rattle.std.specs.Option.{option_or};
+ghost use Rattle.std.specs.Str.{bytes_eq};
 ghost use Rattle.system_types.specs.Indexes.{place_in};
 ghost use Rattle.sysdef_rules.specs.Lookups as spec;
 
+use model_system::Transaction;
 use std::alloc::{AllocError, Global};
 use std::collections::BTreeMap;
 use std::marker::Model;
@@ -17,6 +19,8 @@ pub(crate) struct NamedMacros<'a> {
     databases: BTreeMap<Name, usize>,
     applications: BTreeMap<Name, usize>,
     codes: BTreeMap<Name, usize>,
+    /// The codes with a scratch pad.
+    conversational: BTreeMap<Name, usize>,
     terminals: BTreeMap<Name, usize>,
     formats: BTreeMap<Name, usize>,
     programs: BTreeMap<Name, usize>,
@@ -31,7 +35,7 @@ impl<'a> Model for NamedMacros<'a> {
 
     ghost view = { λ n. n.lines.now };
 
-    ghost invariant = { λ n. AreIndexes n.lines.now n.databases n.applications n.codes n.terminals n.formats n.programs };
+    ghost invariant = { λ n. AreIndexes n.lines.now n.databases n.applications n.codes n.conversational n.terminals n.formats n.programs };
 }
 
 impl<'a> NamedMacros<'a> {
@@ -44,6 +48,7 @@ impl<'a> NamedMacros<'a> {
             databases: BTreeMap::new(alloc),
             applications: BTreeMap::new(alloc),
             codes: BTreeMap::new(alloc),
+            conversational: BTreeMap::new(alloc),
             terminals: BTreeMap::new(alloc),
             formats: BTreeMap::new(alloc),
             programs: BTreeMap::new(alloc),
@@ -64,6 +69,7 @@ impl<'a> NamedMacros<'a> {
             mut databases,
             mut applications,
             mut codes,
+            mut conversational,
             mut terminals,
             mut formats,
             mut programs,
@@ -72,6 +78,7 @@ impl<'a> NamedMacros<'a> {
         note_database(&mut databases, &line.content, place)?;
         note_application(&mut applications, &line.content, place)?;
         note_code(&mut codes, &line.content, place)?;
+        note_conversational(&mut conversational, &line.content, place)?;
         note_terminal(&mut terminals, &line.content, place)?;
         note_format(&mut formats, &line.content, place)?;
         note_program(&mut programs, &line.content, place)?;
@@ -80,6 +87,7 @@ impl<'a> NamedMacros<'a> {
             databases,
             applications,
             codes,
+            conversational,
             terminals,
             formats,
             programs,
@@ -120,6 +128,12 @@ impl<'a> NamedMacros<'a> {
         ensures { result ≡ spec.has (spec.is_code name.now) self.now }
     {
         has_name(&self.codes, name)
+    }
+
+    pub(crate) fn has_conversational(&self, name: &Name) -> bool
+        ensures { result ≡ spec.has (spec.is_conversational name.now) self.now }
+    {
+        has_name(&self.conversational, name)
     }
 
     pub(crate) fn has_terminal(&self, name: &Name) -> bool
@@ -187,6 +201,34 @@ fn note_code(
         Macro::Transaction(transaction) => add_name(index, &transaction.code, place),
         _ => Ok(()),
     }
+}
+
+#[tactic(auto, using(system_types::proofs::Indexed::first_none))]
+fn note_conversational(
+    index: &mut BTreeMap<Name, usize>,
+    content: &Macro,
+    place: usize,
+) -> Result<(), AllocError>
+    ensures { OnOk result ((name : List ℕ) → place_in index.new name ≡ option_or (place_in index.old name) (cond (spec.is_conversational name content.now) (Some place) None)) }
+{
+    match content {
+        Macro::Transaction(transaction) => note_padded(index, transaction, place),
+        _ => Ok(()),
+    }
+}
+
+#[tactic(auto, using(system_types::proofs::Indexed::first_none))]
+fn note_padded(
+    index: &mut BTreeMap<Name, usize>,
+    transaction: &Transaction,
+    place: usize,
+) -> Result<(), AllocError>
+    ensures { OnOk result ((name : List ℕ) → place_in index.new name ≡ option_or (place_in index.old name) (cond (not (transaction.now.scratch_pad == 0) && bytes_eq transaction.now.code name) (Some place) None)) }
+{
+    if transaction.scratch_pad == 0 {
+        return Ok(());
+    }
+    add_name(index, &transaction.code, place)
 }
 
 #[tactic(auto, using(system_types::proofs::Indexed::first_none))]

@@ -55,7 +55,7 @@ fn lines(rt: HostRuntime) -> Result<(), Fail> {
     let table = [
         (b"TRANSACT CODE=C".as_slice(), 0),
         (
-            b"TRANSACT CODE=C,MSGTYPE=(SNGLSEG,NONRESPONSE,255),PRTY=(0,14,1),PROCLIM=(1,10),SEGNO=32,SEGSIZE=5,SERIAL=NO".as_slice(),
+            b"TRANSACT CODE=C,MSGTYPE=(SNGLSEG,NONRESPONSE,255),PRTY=(0,14,1),PROCLIM=(1,10),SPA=1000,SEGNO=32,SEGSIZE=5,SERIAL=NO".as_slice(),
             0,
         ),
         (b"NAME LTERM=ABCDEFGH\r".as_slice(), 0),
@@ -126,6 +126,10 @@ fn lines(rt: HostRuntime) -> Result<(), Fail> {
         (b"NAME LTERM=T1,LTERM=T2".as_slice(), 3),
         (b"NAME".as_slice(), 4),
         (b"PROGRAM".as_slice(), 4),
+        (b"TRANSACT CODE=C,SPA=1,SPA=1".as_slice(), 3),
+        (b"TRANSACT CODE=C,SPA=".as_slice(), 5),
+        (b"TRANSACT CODE=C,SPA=000000000000000000016".as_slice(), 5),
+        (b"TRANSACT CODE=C,SPA=99999999999999999999".as_slice(), 0),
         (b"TRANSACT CODE=C,SEGNO=A".as_slice(), 5),
         (b"TRANSACT CODE=C,SEGNO=000000000000000000001".as_slice(), 5),
         (b"TRANSACT CODE=C,SEGNO=33".as_slice(), 6),
@@ -360,6 +364,56 @@ fn databases(rt: HostRuntime) -> Result<(), Fail> {
     ];
     for (text, want) in table {
         let found = fault_behind(rt.alloc(), DATABASE, text)?;
+        assert_eq!(rt; found, want);
+    }
+    Ok(())
+}
+
+/// What stands behind an APPLCTN, from line 3 on, with a terminal, a region and a program behind it; and what it
+/// breaks first.
+#[test]
+fn scratch_pads(rt: HostRuntime) -> Result<(), Fail> {
+    let table = [
+        (b"TRANSACT CODE=C,SPA=0".as_slice(), Fault::Nothing),
+        (b"TRANSACT CODE=C,SPA=16".as_slice(), Fault::Nothing),
+        (b"TRANSACT CODE=C,SPA=0001000".as_slice(), Fault::Nothing),
+        (b"TRANSACT CODE=C,SPA=1".as_slice(), Fault::Cross(3, 18)),
+        (
+            b"TRANSACT CODE=B\nTRANSACT CODE=C,SPA=15\nTRANSACT CODE=D,SPA=1001".as_slice(),
+            Fault::Cross(4, 18),
+        ),
+        (b"TRANSACT CODE=C,SPA=1001".as_slice(), Fault::Cross(3, 18)),
+        (b"TRANSACT CODE=C,SPA=65552".as_slice(), Fault::Cross(3, 18)),
+        (
+            b"TRANSACT CODE=C,SPA=99999999999999999999".as_slice(),
+            Fault::Cross(3, 18),
+        ),
+        (
+            b"TRANSACT CODE=C,SPA=15\nNAME LTERM=C".as_slice(),
+            Fault::Cross(3, 9),
+        ),
+        (
+            b"PCB TYPE=TP,LTERM=T\nPCB TYPE=TP,LTERM=C\nTRANSACT CODE=C".as_slice(),
+            Fault::Nothing,
+        ),
+        (
+            b"PCB TYPE=TP,LTERM=T\nPCB TYPE=TP,LTERM=C\nTRANSACT CODE=C,SPA=34".as_slice(),
+            Fault::Cross(4, 8),
+        ),
+        (
+            b"PCB TYPE=TP,LTERM=C\nTRANSACT CODE=C\nTRANSACT CODE=C,SPA=34".as_slice(),
+            Fault::Cross(3, 8),
+        ),
+        (
+            b"PCB TYPE=TP,LTERM=C\nTRANSACT CODE=C,SPA=34\nNAME LTERM=C".as_slice(),
+            Fault::Cross(3, 8),
+        ),
+    ];
+    for (text, want) in table {
+        let mut lines = Vec::new(rt.alloc());
+        lines.extend_from_slice(text)?;
+        lines.extend_from_slice(b"\nNAME LTERM=T\nREGION CLASS=(1)\nPROGRAM P\nENDPROG")?;
+        let found = fault_behind(rt.alloc(), APPLICATION, &lines)?;
         assert_eq!(rt; found, want);
     }
     Ok(())
