@@ -1,18 +1,14 @@
 //! `io_pcb`: what the calls answer, in worked rows.
-use io_pcb::Work;
+use io_pcb::{Got, LentPad, Work};
 use model_message::EndedMessage;
 use model_system::{Pcb, Pcbs, SegmentKind, Transaction};
 use std::alloc::Global;
 use std::test::Fail;
 use tm_types::{Function, Message, Name, Segment, Segments, Status};
 
-/// A message of two segments from T1, for a code with at most 3 segments of 8 bytes, and a program
-/// with a modifiable PCB and one for T2.
-fn start(alloc: Global) -> Result<Work, Fail> {
-    let code = Name::read(b"ECHO").ok_or("no name")?;
-    let origin = Name::read(b"T1").ok_or("no name")?;
-    let other = Name::read(b"T2").ok_or("no name")?;
-    let transaction = Transaction {
+/// The operands of a code with at most 3 segments of 8 bytes, and with a scratch pad of this length.
+fn transaction(code: Name, scratch_pad: u16) -> Transaction {
+    Transaction {
         code,
         segment_kind: SegmentKind::Multiple,
         class: 1,
@@ -23,22 +19,50 @@ fn start(alloc: Global) -> Result<Work, Fail> {
         statement_limit: 100,
         segment_count: 3,
         segment_size: 12,
+        scratch_pad,
         serial: false,
-    };
+    }
+}
+
+/// A message from T1 of this segment and of B.
+fn message(alloc: Global, code: Name, conversation: bool, first: &[u8]) -> Result<Message, Fail> {
     let mut segments = Segments::new(alloc);
-    segments.push(Segment::make(alloc, b"ECHO A")?)?;
+    segments.push(Segment::make(alloc, first)?)?;
     segments.push(Segment::make(alloc, b"B")?)?;
-    let message = Message {
+    Ok(Message {
         id: 1,
-        origin,
+        origin: Name::read(b"T1").ok_or("no name")?,
         code,
-        conversation: false,
+        conversation,
         segments,
-    };
+    })
+}
+
+/// A modifiable PCB and one for T2.
+fn pcbs(alloc: Global) -> Result<Pcbs, Fail> {
     let mut pcbs = Pcbs::new(alloc);
     pcbs.push(Pcb::Modifiable)?;
-    pcbs.push(Pcb::Destination(other))?;
-    Ok(Work::new(alloc, &transaction, &message, &pcbs)?)
+    pcbs.push(Pcb::Destination(Name::read(b"T2").ok_or("no name")?))?;
+    Ok(pcbs)
+}
+
+/// The work on a message that belongs to no conversation.
+fn start(alloc: Global) -> Result<Work, Fail> {
+    let code = Name::read(b"ECHO").ok_or("no name")?;
+    let transaction = transaction(code, 0);
+    let message = message(alloc, code, false, b"ECHO A")?;
+    let pcbs = pcbs(alloc)?;
+    Ok(Work::served_by(alloc, &transaction, &message, None, &pcbs)?)
+}
+
+/// The work on a message of a conversation with a pad of 14 bytes.
+fn start_conversation(alloc: Global) -> Result<Work, Fail> {
+    let code = Name::read(b"CONV").ok_or("no name")?;
+    let transaction = transaction(code, 20);
+    let message = message(alloc, code, true, b"A")?;
+    let pcbs = pcbs(alloc)?;
+    let pad = Segment::make(alloc, b"CONV    COUNT1")?;
+    Ok(Work::served_by(alloc, &transaction, &message, Some(pad.text()), &pcbs)?)
 }
 
 fn call(
@@ -53,6 +77,9 @@ fn call(
         Function::GN => Ok(work.get_next()?.status),
         Function::ISRT => {
             let segment = Segment::make(alloc, text)?;
+            if work.is_wrong_pad(pcb, segment.text()) {
+                return Err("a wrong pad".into());
+            }
             Ok(work.insert(pcb, segment.text())?)
         }
         Function::PURG => Ok(work.purge(pcb)?),
@@ -108,8 +135,10 @@ fn answers_a_script_of_calls(rt: HostRuntime) -> Result<(), Fail> {
 #[test]
 fn takes_output_back(rt: HostRuntime) -> Result<(), Fail> {
     let mut work = start(rt.alloc())?;
-    let segment = Segment::make(rt.alloc(), b"P")?;
-    assert_eq!(rt; work.insert(2, segment.text())?, Status::Blank);
+    assert_eq!(rt;
+        call(rt.alloc(), &mut work, Function::ISRT, 2, b"P")?,
+        Status::Blank
+    );
     assert_eq!(rt; work.purge(2)?, Status::Blank);
     work.reset();
     assert!(rt; work.output(0).is_none());
@@ -117,5 +146,62 @@ fn takes_output_back(rt: HostRuntime) -> Result<(), Fail> {
     assert_eq!(rt; first.text(), b"ECHO A".as_slice());
     let next = work.get_next()?.text.ok_or("no segment")?;
     assert_eq!(rt; next.text(), b"B".as_slice());
+    Ok(())
+}
+
+/// Whether a get gives this text.
+fn gives(got: &Got, text: &[u8]) -> bool {
+    match &got.text {
+        Some(segment) => segment.text() == text,
+        None => false,
+    }
+}
+
+/// Whether this pad was given back.
+fn is_back(work: &Work, text: &[u8]) -> bool {
+    match work.pad() {
+        Some(pad) => pad == text,
+        None => false,
+    }
+}
+
+#[test]
+fn gives_and_takes_a_scratch_pad(rt: HostRuntime) -> Result<(), Fail> {
+    let mut work = start_conversation(rt.alloc())?;
+    assert!(rt; gives(&work.get_unique()?, b"CONV    COUNT1"));
+    assert!(rt; gives(&work.get_next()?, b"A"));
+    assert!(rt; gives(&work.get_next()?, b"B"));
+    assert_eq!(rt; work.get_next()?.status, Status::QD);
+    assert!(rt; work.is_wrong_pad(0, b"CONV"));
+    assert!(rt; work.is_wrong_pad(0, b"CONVS   COUNT2"));
+    assert!(rt; !work.is_wrong_pad(2, b"CONV"));
+    assert!(rt; work.pad().is_none());
+    let calls: [(Function, u8, &[u8], Status); 6] = [
+        (Function::ISRT, 0, b"CONV    COUNT=23", Status::Blank),
+        (Function::ISRT, 0, b"CONV    COUNT3", Status::A6),
+        (Function::ISRT, 0, b"1", Status::Blank),
+        (Function::ISRT, 2, b"2", Status::Blank),
+        (Function::ISRT, 0, b"3", Status::Blank),
+        (Function::ISRT, 0, b"4", Status::A7),
+    ];
+    for (function, pcb, text, status) in calls.iter() {
+        let given = call(rt.alloc(), &mut work, *function, *pcb, *text)?;
+        assert_eq!(rt; given, *status);
+    }
+    assert!(rt; is_back(&work, b"CONV    COUNT="));
+    assert!(rt; matches!(work.pad_change(), LentPad::New(_)));
+    Ok(())
+}
+
+#[test]
+fn ends_a_conversation_by_blanks(rt: HostRuntime) -> Result<(), Fail> {
+    let mut work = start_conversation(rt.alloc())?;
+    assert!(rt; matches!(work.pad_change(), LentPad::Stays));
+    let blank = call(rt.alloc(), &mut work, Function::ISRT, 0, b"        ")?;
+    assert_eq!(rt; blank, Status::Blank);
+    assert!(rt; matches!(work.pad_change(), LentPad::Ends));
+    work.reset();
+    assert!(rt; work.pad().is_none());
+    assert!(rt; gives(&work.get_next()?, b"A"));
     Ok(())
 }
