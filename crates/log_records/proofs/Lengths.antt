@@ -36,7 +36,7 @@ eight n t = length-append (number8 n) t ∙ ap (λ (k : ℕ). k + length t) (num
 two : (n : ℕ) (t : List ℕ) → length (number2 n ++ t) ≡ 2 + length t
 two n t = length-append (number2 n) t ∙ ap (λ (k : ℕ). k + length t) (number2_length n)
 
-one : (b : Bool) (t : List ℕ) → length (flag b ++ t) ≡ 1 + length t
+pub one : (b : Bool) (t : List ℕ) → length (flag b ++ t) ≡ 1 + length t
 one b t = length-append (flag b) t ∙ ap (λ (k : ℕ). k + length t) (flag_length b)
 
 pub is_short_enough : (r : Record) → AreInRange r → IsShort r → record_length r < 2 ^ 16

@@ -1,11 +1,13 @@
 -- A record that is appended, with its length put in front.
-use Rattle.std.proofs.Common.{◌≡◌, ℕ, ◌-◌, ◌<◌, ◌≤◌, ◌^◌, List, [], ◌∷◌, ◌++◌, length, ap, arith}
+use Rattle.std.proofs.Common.{◌≡◌, ℕ, ◌-◌, ◌<◌, ◌≤◌, ◌^◌, Bool, List, [], ◌∷◌, ◌++◌, length, ap, arith, Some, None}
+use Rattle.std.specs.Prelude.{Option}
+use Rattle.model_conversation.specs.declared.conversation.Conversation.{Conversation}
 use Rattle.std.proofs.lemmas.List.{length-append}
 use Rattle.log_records.specs.declared.record.Record.{Record}
-use Rattle.log_records.specs.declared.record.Record.TheVariants.{SyncPoint}
+use Rattle.log_records.specs.declared.record.Record.TheVariants.{SyncPoint, Terminal}
 use Rattle.model_conversation.specs.declared.conversation.PadChange.TheVariants.{Stays, New, Ends}
-use Rattle.log_records.specs.Spelling.{content, IsShort, IsRecord}
-use Rattle.log_records.proofs.Lengths.{eight, text_length}
+use Rattle.log_records.specs.Spelling.{content, IsShort, IsShortPad, AreInRange, HasRoom, IsRecord}
+use Rattle.log_records.proofs.Lengths.{eight, one, text_length}
 
 -- the length is a number of two bytes
 pub is_short_from : (base before out : List ℕ) (r : Record) (start : ℕ) → before ≡ base ++ 0 ∷ 0 ∷ [] → out ≡ before ++ content r → start ≡ length base → IsRecord r → length out - start < 2 ^ 16
@@ -21,3 +23,17 @@ ends_short unit = simp (eight, text_length) (omega arith)
 
 pub new_short : (unit : ℕ) (pad : List ℕ) → length pad ≤ 65521 → IsShort (SyncPoint unit (New pad))
 new_short unit pad fits = simp (eight, text_length) (omega arith)
+
+-- a terminal's record is short where its pad is
+pub terminal_short : (terminal : List ℕ) (last next : ℕ) (stopped : Bool) (conversation : Option Conversation) → AreInRange (Terminal terminal last next stopped conversation) → HasRoom conversation → IsShort (Terminal terminal last next stopped conversation)
+terminal_short terminal last next stopped None h room =
+    let most = h.0.1 in
+    simp (eight, one, text_length, length-append {A = ℕ}) (omega arith)
+terminal_short terminal last next stopped (Some c) h room =
+    let most = h.0.1 in
+    let code = h.1.1.1.1.0.1 in
+    simp (eight, one, text_length, length-append {A = ℕ}) (omega arith)
+
+pub short_pad : (conversation : Option Conversation) → HasRoom conversation → IsShortPad conversation
+short_pad None room = tt
+short_pad (Some c) room = omega (arith, room)

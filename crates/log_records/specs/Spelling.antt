@@ -146,6 +146,11 @@ abbrev pub IsShortPad : Option Conversation → Type 0
 IsShortPad None = Unit {0}
 IsShortPad (Some c) = IsText c.pad
 
+-- a pad that any terminal's record has room for
+abbrev pub HasRoom : Option Conversation → Type 0
+HasRoom None = Unit {0}
+HasRoom (Some c) = length c.pad ≤ 65000
+
 -- A name is a name and the text of a segment is one by its type; these are the other ranges.
 abbrev pub KeepsLimits : Record → Type 0
 KeepsLimits (Input unit id origin code number conversation segments) = IsCount segments

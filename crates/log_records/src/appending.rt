@@ -1,7 +1,7 @@
 //! Records, spelled from borrowed parts.
 ghost use Rattle.std.specs.Prelude.{◌≡◌, ◌<◌, ◌≤◌, ◌^◌, ◌+◌, ◌-◌, ◌++◌, length, take, drop, OnOk};
 ghost use Rattle.log_records.specs.declared.record.Record.TheVariants.{Input, Reply, Discarded, Completed, Acknowledged, SyncPoint, Checkpoint, Terminal, Code, Change};
-ghost use Rattle.log_records.specs.Spelling.{number2, spelling, IsCount, IsAbend, IsPadChange, IsShortPad, IsShort, IsRecord};
+ghost use Rattle.log_records.specs.Spelling.{number2, spelling, IsCount, IsAbend, IsPadChange, HasRoom, IsShort, IsRecord};
 
 use crate::encoding::{
     put_acknowledged, put_change, put_checkpoint, put_code, put_completed, put_discarded,
@@ -140,8 +140,8 @@ pub fn append_checkpoint(
     Ok(())
 }
 
-/// Appends the spelling of a terminal of a snapshot. A pad is so short that the record has at most 65,535 bytes. After
-/// `Memory` a part of it may be appended.
+/// Appends the spelling of a terminal of a snapshot. A pad has at most 65,000 bytes. After `Memory` a part of it may be
+/// appended.
 pub fn append_terminal(
     out: &mut Vec<u8>,
     terminal: &Name,
@@ -150,8 +150,7 @@ pub fn append_terminal(
     stopped: bool,
     conversation: &Option<Conversation>,
 ) -> Result<(), Memory>
-    requires pad { IsShortPad conversation.now }
-    requires short { IsShort (Terminal terminal.now last_input next_output stopped conversation.now) }
+    requires pad { HasRoom conversation.now }
     ensures ok { OnOk result (out.new.items ≡ out.old.items ++ spelling (Terminal terminal.now last_input next_output stopped conversation.now)) }
     ensures valid { OnOk result (IsRecord (Terminal terminal.now last_input next_output stopped conversation.now)) }
 {

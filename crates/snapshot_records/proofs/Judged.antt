@@ -1,5 +1,5 @@
 -- The records of a snapshot of a state that keeps the rules break no rule.
-use Rattle.std.proofs.Common.{◌≡◌, ℕ, zero, suc, ◌+◌, ◌<◌, ◌≤◌, Bool, true, false, not, ◌&&◌, ◌||◌, List, [], ◌∷◌, ◌++◌, length, map, refl, sym, ◌∙◌, ap, subst, arith, Some, None, nat_le, append-nil, append_assoc, get_or}
+use Rattle.std.proofs.Common.{◌≡◌, ℕ, ◌≤◌, Bool, true, false, not, ◌&&◌, ◌||◌, List, [], ◌∷◌, ◌++◌, length, map, refl, sym, ◌∙◌, ap, arith, Some, None, nat_le}
 use Rattle.std.proofs.lemmas.List.Quantifiers.{position-Some}
 use Rattle.std.proofs.lemmas.List.Folds.{list_any_at}
 use Rattle.std.proofs.lemmas.List.{length-append}
@@ -10,7 +10,6 @@ use Rattle.std.proofs.lemmas.Slice.Eq.{bytes_eq-Decides}
 use Rattle.tm_types.specs.declared.message.Message.{Message}
 use Rattle.tm_types.specs.declared.message.Reply.{Reply}
 use Rattle.model_conversation.specs.declared.conversation.TerminalConversation.{TerminalConversation}
-use Rattle.model_conversation.specs.declared.conversation.Conversation.{Conversation}
 use Rattle.model_system.specs.System.{System}
 use Rattle.model_queues.specs.declared.replies.TerminalReplies.{TerminalReplies}
 use Rattle.model_machine.specs.declared.lasting.TerminalState.{TerminalState}
@@ -20,12 +19,12 @@ use Rattle.log_records.specs.declared.record.Record.{Record}
 use Rattle.log_records.specs.declared.record.Record.TheVariants.{Checkpoint, Terminal}
 use Rattle.restart_data.specs.Rules.{first_broken}
 use Rattle.model_image.specs.States.{is_terminal, is_small, is_next, wrong_values, wrong_ids, unknown_messages, wrong_replies, over_full, breaks_a_rule}
-use Rattle.model_image.specs.Snapshot.{is_of_no_unit, terminal_name, code_name, reply_terminal, are_same, are_others_in_order, has_name, ascend_places, follow, snapshot_state, snapshot_rules, out_of_order, missing_or_twice, wrong_record, reply_of_none, wrong_changes, begins_with_counts, ascend}
+use Rattle.model_image.specs.Snapshot.{is_of_no_unit, terminal_name, code_name, reply_terminal, are_same, are_others_in_order, has_name, ascend_places, follow, snapshot_rules, out_of_order, missing_or_twice, wrong_record, reply_of_none, wrong_changes, begins_with_counts, ascend}
 use Rattle.model_image.specs.Slots.{is_image_of}
 use Rattle.snapshot_records.specs.Records.{terminal_records, code_record, message_record, reply_record, reply_records, snapshot_records, code_names, AreApart, IsOfSystem}
-use Rattle.snapshot_records.proofs.Named.{map_among, regroup, place_among, position_map}
-use Rattle.snapshot_records.proofs.Told.{AreOne, one_names, without_rows, state_told}
-use Rattle.snapshot_records.proofs.Plain.{Sections, state_sections, ascend_more, le_is, are_both}
+use Rattle.snapshot_records.proofs.Named.{regroup, place_among, position_map}
+use Rattle.snapshot_records.proofs.Told.{AreOne, one_names, state_told}
+use Rattle.snapshot_records.proofs.Plain.{state_sections, ascend_more, le_is, are_both}
 
 -- ---- names
 
@@ -93,9 +92,6 @@ abbrev of_output : TerminalReplies → List ℕ
 of_output o = o.terminal
 
 module _ (names : List (List ℕ)) (apart : AreApart names) where
-
-
-
   placed : (done : List TerminalReplies) (o : TerminalReplies) (rest : List TerminalReplies) → map of_output (done ++ o ∷ rest) ≡ names → position (λ other. bytes_eq other o.terminal) names ≡ Some (length done)
   placed done o rest are =
       ap (λ (l : List (List ℕ)). position (λ other. bytes_eq other o.terminal) l) (sym are)

@@ -2,3 +2,4 @@ pub mod Named
 pub mod Told
 pub mod Plain
 pub mod Judged
+pub mod Adding

@@ -1,8 +1,6 @@
 -- What holds of each record of a snapshot by itself, and of their order.
-use Rattle.std.proofs.Common.{◌≡◌, ℕ, zero, suc, ◌+◌, ◌<◌, ◌≤◌, Bool, true, false, not, ◌&&◌, ◌||◌, List, [], ◌∷◌, ◌++◌, length, map, refl, sym, ◌∙◌, ap, subst, arith, Some, None, nat_le, nat_lt, append-nil}
+use Rattle.std.proofs.Common.{◌≡◌, ℕ, ◌<◌, ◌≤◌, Bool, true, false, ◌&&◌, ◌||◌, List, [], ◌∷◌, ◌++◌, map, refl, sym, subst, arith, nat_le, nat_lt, append-nil}
 use Rattle.std.proofs.lemmas.Bool.Decides.{nat_tests}
-use Rattle.std.proofs.lemmas.List.Elements.{filter_map-append}
-use Rattle.std.specs.Prelude.{Option, filter_map}
 use Rattle.std.specs.List.{list_all, list_any, AllByRecursion}
 use Rattle.tm_types.specs.declared.message.Message.{Message}
 use Rattle.tm_types.specs.declared.message.Reply.{Reply}
@@ -14,8 +12,8 @@ use Rattle.model_machine.specs.declared.lasting.CodeSetting.{CodeSetting}
 use Rattle.model_machine.specs.Machine.{LastingState}
 use Rattle.log_records.specs.declared.record.Record.{Record}
 use Rattle.model_image.specs.Slots.{is_image_of}
-use Rattle.model_image.specs.Snapshot.{rank, are_ranked, begins_with_counts, is_of_no_unit, is_before, ascend, wrong_record, terminal_name, code_name, reply_terminal}
-use Rattle.snapshot_records.specs.Records.{terminal_records, code_record, message_record, reply_record, reply_records, snapshot_records}
+use Rattle.model_image.specs.Snapshot.{rank, are_ranked, is_of_no_unit, is_before, ascend, wrong_record}
+use Rattle.snapshot_records.specs.Records.{terminal_records, code_record, message_record, reply_record, reply_records}
 
 -- ---- each record
 

@@ -1,0 +1,16 @@
+-- Records that are appended to bytes.
+use Rattle.std.specs.Prelude.{◌≡◌, ℕ, List, ◌++◌, slice_get, Some}
+use Rattle.std.specs.List.{flat_map, AllByRecursion}
+use Rattle.model_conversation.specs.declared.conversation.TerminalConversation.{TerminalConversation}
+use Rattle.log_records.specs.declared.record.Record.{Record}
+use Rattle.log_records.specs.Spelling.{spelling, IsRecord, HasRoom}
+
+-- The bytes have these records, one after another, behind what was there.
+pub record Adds (records : List Record) (before after : List ℕ) : Type 0 where
+  pub bytes : after ≡ before ++ flat_map spelling records
+  pub valid : AllByRecursion IsRecord records
+
+-- each pad has room in its terminal's record
+abbrev pub HaveRoom : List TerminalConversation → Type 0
+HaveRoom terminals =
+    (place : ℕ) (t : TerminalConversation) → slice_get terminals place ≡ Some t → HasRoom t.conversation
