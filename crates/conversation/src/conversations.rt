@@ -3,9 +3,9 @@ ghost use Rattle.std.specs.Prelude.{◌≡◌, None, Some, map, IsSomeAnd, IsSom
 ghost use Rattle.std.specs.Option.{option_copied};
 ghost use Rattle.model_queues.specs.Queue.{messages_of};
 ghost use Rattle.model_conversation.specs.Terminals.{without_conversation, conversation_at, pad_at, IsTerminal, with_terminal, with_conversation};
-ghost use Rattle.model_conversation.specs.Pads.{begun, with_pad, pad_fault};
+ghost use Rattle.model_conversation.specs.Pads.{begun};
 ghost use Rattle.conversation.specs.Changes.{with_new_pad};
-ghost use Rattle.conversation.specs.Refusals.{RefusesPad, input_answer};
+ghost use Rattle.conversation.specs.Refusals.{RefusesPad, input_answer, update_fault, updated};
 ghost use Rattle.model_conversation.specs.Input.{busy_id};
 
 use crate::pads::PadRefused;
@@ -81,24 +81,24 @@ impl Conversations {
     }
 
     /// The text becomes the pad of the terminal's conversation, padded with blanks or cut to the
-    /// pad's length. Code and length of the conversation stay.
+    /// pad's length. Code and length of the conversation stay. A text with blanks in the place of the
+    /// code ends the conversation.
     ///
     /// A text of fewer than 8 bytes is refused as `BadSpa(1)`, and one that begins with another code
-    /// as `BadSpa(2)`. Blanks in place of the code are another code; they are how a program asks for
-    /// the end, and the caller then calls `end`. After a refusal nothing has changed.
+    /// as `BadSpa(2)`. After a refusal nothing has changed.
     pub fn update(&mut self, terminal: &Name, pad: &[u8]) -> Result<(), PadRefused>
         requires terminal { IsTerminal terminal.now self.old }
         requires conversing { IsSome (conversation_at terminal.now self.old) }
-        ensures ok { OnOk result (IsSomeAnd (conversation_at terminal.now self.old) (λ c. self.new ≡ with_terminal terminal.now (with_conversation (Some (with_pad pad.now c))) self.old)) }
-        ensures good { OnOk result (IsSomeAnd (conversation_at terminal.now self.old) (λ c. pad_fault c.code pad.now ≡ None)) }
-        ensures refused { IfErr result (λ refused. IsSomeAnd (conversation_at terminal.now self.old) (λ c. RefusesPad (pad_fault c.code pad.now) refused)) }
+        ensures ok { OnOk result (IsSomeAnd (conversation_at terminal.now self.old) (λ c. self.new ≡ with_terminal terminal.now (with_conversation (updated pad.now c)) self.old)) }
+        ensures good { OnOk result (IsSomeAnd (conversation_at terminal.now self.old) (λ c. update_fault c.code pad.now ≡ None)) }
+        ensures refused { IfErr result (λ refused. IsSomeAnd (conversation_at terminal.now self.old) (λ c. RefusesPad (update_fault c.code pad.now) refused)) }
         ensures err { OnErr result (self.new ≡ self.old) }
     {
         let Some(conversation) = table::conversation_of(&self.terminals, terminal) else {
             unreachable!()
         };
         let updated = pads::updated(self.alloc, conversation, pad)?;
-        table::set(&mut self.terminals, terminal, Some(updated));
+        table::set(&mut self.terminals, terminal, updated);
         Ok(())
     }
 

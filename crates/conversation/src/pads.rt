@@ -1,8 +1,8 @@
 //! Scratch pads.
-ghost use Rattle.std.specs.Prelude.{◌≡◌, None, IfOk, IfErr, OnOk};
+ghost use Rattle.std.specs.Prelude.{◌≡◌, ◌≤◌, length, None, IfOk, IfErr, OnOk};
 ghost use Rattle.std.specs.Str.{bytes_eq};
-ghost use Rattle.model_conversation.specs.Pads.{fitted, code_field, begun, with_pad, pad_fault};
-ghost use Rattle.conversation.specs.Refusals.{RefusesPad};
+ghost use Rattle.model_conversation.specs.Pads.{fitted, code_field, begun, with_pad, ends, is_pad};
+ghost use Rattle.conversation.specs.Refusals.{RefusesPad, update_fault, updated};
 
 use model_conversation::Conversation;
 use std::alloc::Global;
@@ -15,7 +15,8 @@ const CODE_BYTES: usize = 8;
 /// Why a text doesn't become the pad of a conversation.
 #[derive(Clone, Copy, Debug, Error)]
 pub enum PadRefused {
-    /// 1: the text is shorter than 8 bytes; 2: its code isn't the conversation's.
+    /// 1: the text is shorter than 8 bytes; 2: it begins neither with the conversation's code nor with blanks in its
+    /// place.
     #[error("no scratch pad of the conversation ({0})")]
     BadSpa(u8),
     #[error("no memory")]
@@ -33,39 +34,65 @@ pub fn begun(alloc: Global, code: &Name, work: u16) -> Result<Conversation, Memo
     Ok(Conversation { code: *code, pad })
 }
 
-/// The conversation with this text as its pad.
+/// The conversation with this text as its pad; none where the text has blanks in the place of the code.
 pub fn updated(
     alloc: Global,
     conversation: &Conversation,
     text: &[u8],
-) -> Result<Conversation, PadRefused>
-    ensures ok { IfOk result (λ updated. updated ≡ with_pad text.now conversation.now) }
-    ensures good { OnOk result (pad_fault conversation.now.code text.now ≡ None) }
-    ensures refused { IfErr result (RefusesPad (pad_fault conversation.now.code text.now)) }
+) -> Result<Option<Conversation>, PadRefused>
+    ensures ok { IfOk result (λ left. left ≡ updated text.now conversation.now) }
+    ensures good { OnOk result (update_fault conversation.now.code text.now ≡ None) }
+    ensures refused { IfErr result (RefusesPad (update_fault conversation.now.code text.now)) }
 {
-    match pad_fault(&conversation.code, text) {
-        Some(fault) => Err(PadRefused::BadSpa(fault)),
-        None => match fitted(alloc, conversation.pad.len(), text) {
-            Ok(pad) => Ok(Conversation {
-                code: conversation.code,
-                pad,
-            }),
-            Err(_) => Err(PadRefused::Memory),
-        },
+    if let Some(fault) = update_fault(&conversation.code, text) {
+        return Err(PadRefused::BadSpa(fault));
+    }
+    if ends(text) {
+        return Ok(None);
+    }
+    match with_pad(alloc, conversation, text) {
+        Ok(padded) => Ok(Some(padded)),
+        Err(_) => Err(PadRefused::Memory),
     }
 }
 
-/// What is wrong with the text as a pad of a conversation of the code.
-fn pad_fault(code: &Name, text: &[u8]) -> Option<u8>
-    ensures { result ≡ pad_fault code.now text.now }
+fn with_pad(alloc: Global, conversation: &Conversation, text: &[u8]) -> Result<Conversation, Memory>
+    ensures { IfOk result (λ padded. padded ≡ with_pad text.now conversation.now) }
+{
+    let pad = fitted(alloc, conversation.pad.len(), text)?;
+    Ok(Conversation {
+        code: conversation.code,
+        pad,
+    })
+}
+
+/// What is wrong with the text as one that is given back as the pad of a conversation of the code.
+fn update_fault(code: &Name, text: &[u8]) -> Option<u8>
+    ensures { result ≡ update_fault code.now text.now }
 {
     if text.len() < CODE_BYTES {
         return Some(1);
     }
-    if is_field(&text[..CODE_BYTES], code) {
-        return None;
+    if is_pad(code, text) { None } else { Some(2) }
+}
+
+/// Whether the text begins with the code or with blanks in its place.
+fn is_pad(code: &Name, text: &[u8]) -> bool
+    requires { 8 ≤ length text.now }
+    ensures { result ≡ is_pad code.now text.now }
+{
+    if ends(text) {
+        return true;
     }
-    Some(2)
+    is_field(&text[..CODE_BYTES], code)
+}
+
+/// Whether the text begins with blanks in the place of a code.
+fn ends(text: &[u8]) -> bool
+    requires { 8 ≤ length text.now }
+    ensures { result ≡ ends text.now }
+{
+    &text[..CODE_BYTES] == b"        ".as_slice()
 }
 
 fn is_field(bytes: &[u8], code: &Name) -> bool
