@@ -5,3 +5,4 @@ pub mod Cutting
 pub mod Places
 pub mod Readings
 pub mod Unread
+pub mod Later
