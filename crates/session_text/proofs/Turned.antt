@@ -1,5 +1,5 @@
 -- A turn in which no region gave way has one line.
-use Rattle.std.proofs.Common.{◌≡◌, ℕ, List, ◌++◌, refl}
+use Rattle.std.proofs.Common.{◌≡◌, ℕ, List, refl}
 use Rattle.tm_types.specs.declared.dbd.Dbd.{Dbd}
 use Rattle.model_enqueue.specs.declared.victim.Victim.{Victim}
 use Rattle.model_machine.specs.declared.entry.Turned.{Turned}

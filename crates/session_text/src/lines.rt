@@ -42,6 +42,9 @@ pub fn input_line(
         Err(InputRefused::Expected(next)) => {
             add_refused_with_number(out, terminal, number, b" EXPECTED ", *next);
         }
+        Err(InputRefused::Conversation(id)) => {
+            add_refused_with_number(out, terminal, number, b" CONVERSATION ", *id);
+        }
         Err(InputRefused::Code) => add_refused_with_word(out, terminal, number, b" CODE ", word),
         Err(InputRefused::SegmentsOver(count, most)) => {
             let (count, most) = (u64::from(*count), u64::from(*most));
