@@ -5,6 +5,8 @@ ghost use Rattle.std.specs.Prelude.{◌≡◌};
 ghost use Rattle.tm_prog.specs.Status.{status_number};
 
 #[cfg(test)]
+mod conversation_tests;
+#[cfg(test)]
 mod database_tests;
 #[cfg(test)]
 mod isolation_tests;

@@ -130,6 +130,7 @@ fn is_input_fault(answer: &Result<Taken, InputRefused>) -> bool
         Err(InputRefused::Fault(_)) => true,
         Err(InputRefused::Terminal) => false,
         Err(InputRefused::Expected(_)) => false,
+        Err(InputRefused::Conversation(_)) => false,
         Err(InputRefused::Code) => false,
         Err(InputRefused::SegmentsOver(_, _)) => false,
         Err(InputRefused::QueueFull(_, _)) => false,

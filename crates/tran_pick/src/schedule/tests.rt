@@ -35,6 +35,7 @@ fn code(code: Name, class: u8, normal_priority: u8) -> Code {
         statement_limit: 65_535,
         segment_count: 32,
         segment_size: 2_000,
+        scratch_pad: 0,
         serial: false,
     };
     Code {
