@@ -1,5 +1,5 @@
 -- Records that were appended are cut out again; a front of them gives a front of the records, and a rest that is cut off.
-use Rattle.std.proofs.Common.{◌≡◌, ℕ, zero, suc, ◌+◌, ◌-◌, ◌<◌, ◌≤◌, List, [], ◌∷◌, ◌++◌, length, take, drop, refl, sym, ◌∙◌, ap, subst, ⊎_elim, arith, Ok, Err, append_assoc}
+use Rattle.std.proofs.Common.{◌≡◌, ℕ, zero, suc, ◌+◌, ◌-◌, ◌<◌, ◌≤◌, List, [], ◌∷◌, ◌++◌, length, take, drop, refl, sym, ◌∙◌, ap, subst, ⊎_elim, arith, Some, Ok, Err, append_assoc}
 use Rattle.std.specs.Prelude.{Result}
 use Rattle.std.specs.List.{flat_map, AllByRecursion}
 use Rattle.std.proofs.lemmas.Bool.{cases_lt}
@@ -13,7 +13,7 @@ use Rattle.log_records.specs.Reading.{record_at, number_at}
 use Rattle.log_records.proofs.Takes.{IsBytes, IsBytes-take, IsBytes-drop}
 use Rattle.log_records.proofs.Laws.{record_takes, record_again, one_spelling}
 use Rattle.log_records.proofs.FieldLaws.{number2_length}
-use Rattle.model_image.specs.Cut.{Cut, none_of, and_others, from_first, cut_by, cut_of, IsCutOff}
+use Rattle.model_image.specs.Cut.{Cut, none_of, and_others, from_first, cut_by, cut_of, where_none_left, records_of, IsCutOff}
 use Rattle.model_image.proofs.Answers.{nothing_cut_off}
 
 -- the bytes of records, one after another
@@ -144,3 +144,20 @@ cuts_by (r ∷ records) fuel count enough are bytes =
 pub cuts_front : (records : List Record) (count : ℕ) → AllByRecursion IsRecord records → IsBytes (spelled records) → CutsFront records count (cut_of (take count (spelled records)))
 unfolding cut_of
 cuts_front records count are bytes = cuts_by records (length (take count (spelled records))) count (omega arith) are bytes
+
+-- All bytes of records are cut into these.
+cuts_whole : (records : List Record) (fuel : ℕ) → length records ≤ fuel → AllByRecursion IsRecord records → cut_by fuel (spelled records) ≡ record { records = records; rest = [] }
+cuts_whole [] fuel enough are = stops fuel [] (λ x found. let both : Err (1, 0) ≡ Ok x = sym nothing_found ∙ found in cc)
+cuts_whole (r ∷ records) zero enough are = absurd (omega (arith, enough))
+cuts_whole (r ∷ records) (suc n) enough are =
+    ap (cut_by (suc n)) (spelled_more r records) ∙ goes_on n r (spelled records) are.0
+    ∙ ap (and_others r) (cuts_whole records n (omega (arith, enough)) are.1)
+
+fewer_records : (records : List Record) → length records ≤ length (spelled records)
+fewer_records [] = omega arith
+fewer_records (r ∷ records) =
+    omega (arith, fewer_records records, some_bytes r, ap (length {A = ℕ}) (spelled_more r records), length-append (spelling r) (spelled records))
+
+pub records_whole : (records : List Record) → AllByRecursion IsRecord records → records_of (spelled records) ≡ Some records
+unfolding cut_of
+records_whole records are = ap (λ (cut : Cut). where_none_left cut.rest cut.records) (cuts_whole records (length (spelled records)) (fewer_records records) are)

@@ -21,7 +21,6 @@ none_later (suc n) image at epoch each =
     ap (λ (b : Bool). if b then Some at else first_later n image (at + 1) epoch) (each at (omega arith) (omega arith))
     ∙ none_later n image (at + 1) epoch (λ k low high. each k (omega (arith, low)) (omega (arith, high)))
 
-
 neither : (b : Bool) (at : ℕ) (rest : Option ℕ) → (if b then Some at else rest) ≡ None → (b ≡ false) × (rest ≡ None)
 neither true at rest none = cc
 neither false at rest none = (refl, none)

@@ -3,3 +3,4 @@ pub mod Told
 pub mod Plain
 pub mod Judged
 pub mod Adding
+pub mod Begun

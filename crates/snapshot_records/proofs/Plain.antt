@@ -1,5 +1,6 @@
 -- What holds of each record of a snapshot by itself, and of their order.
-use Rattle.std.proofs.Common.{◌≡◌, ℕ, ◌<◌, ◌≤◌, Bool, true, false, ◌&&◌, ◌||◌, List, [], ◌∷◌, ◌++◌, map, refl, sym, subst, arith, nat_le, nat_lt, append-nil}
+use Rattle.std.proofs.Common.{◌≡◌, ℕ, ◌<◌, ◌≤◌, Bool, true, false, ◌&&◌, ◌||◌, List, [], ◌∷◌, ◌++◌, map, refl, sym, subst, arith, nat_le, nat_lt, append-nil, ap, ◌∙◌, filter}
+use Rattle.std.specs.Prelude.{if◌then◌else◌}
 use Rattle.std.proofs.lemmas.Bool.Decides.{nat_tests}
 use Rattle.std.specs.List.{list_all, list_any, AllByRecursion}
 use Rattle.tm_types.specs.declared.message.Message.{Message}
@@ -11,9 +12,9 @@ use Rattle.model_machine.specs.declared.lasting.TerminalState.{TerminalState}
 use Rattle.model_machine.specs.declared.lasting.CodeSetting.{CodeSetting}
 use Rattle.model_machine.specs.Machine.{LastingState}
 use Rattle.log_records.specs.declared.record.Record.{Record}
-use Rattle.model_image.specs.Slots.{is_image_of}
+use Rattle.model_image.specs.Slots.{is_image_of, is_change_of}
 use Rattle.model_image.specs.Snapshot.{rank, are_ranked, is_of_no_unit, is_before, ascend, wrong_record}
-use Rattle.snapshot_records.specs.Records.{terminal_records, code_record, message_record, reply_record, reply_records}
+use Rattle.snapshot_records.specs.Records.{terminal_records, code_record, message_record, reply_record, reply_records, snapshot_records}
 
 -- ---- each record
 
@@ -24,6 +25,7 @@ pub record Plain (system : System) (k : ℕ) (r : Record) : Type 0 where
   pub first : (next : Record) → is_before r next ≡ true
   pub image : is_image_of system r ≡ true
   pub counts : wrong_record r ≡ false
+  pub unnamed : (database slot : ℕ) → is_change_of database slot r ≡ false
 
 abbrev pub ArePlain : System → ℕ → List Record → Type 0
 ArePlain system k rs = AllByRecursion (Plain system k) rs
@@ -33,22 +35,22 @@ plain_terminals system [] os cs = tt
 plain_terminals system (t ∷ ts) [] cs = tt
 plain_terminals system (t ∷ ts) (o ∷ os) [] = tt
 plain_terminals system (t ∷ ts) (o ∷ os) (c ∷ cs) =
-    (record { ranked = refl; no_unit = refl; first = λ next. refl; image = refl; counts = refl }, plain_terminals system ts os cs)
+    (record { ranked = refl; no_unit = refl; first = λ next. refl; image = refl; counts = refl; unnamed = λ database slot. refl }, plain_terminals system ts os cs)
 
 plain_codes : (system : System) (cs : List CodeSetting) → ArePlain system 2 (map code_record cs)
 plain_codes system [] = tt
 plain_codes system (c ∷ cs) =
-    (record { ranked = refl; no_unit = refl; first = λ next. refl; image = refl; counts = refl }, plain_codes system cs)
+    (record { ranked = refl; no_unit = refl; first = λ next. refl; image = refl; counts = refl; unnamed = λ database slot. refl }, plain_codes system cs)
 
 plain_messages : (system : System) (ms : List Message) → ArePlain system 3 (map message_record ms)
 plain_messages system [] = tt
 plain_messages system (m ∷ ms) =
-    (record { ranked = refl; no_unit = refl; first = λ next. refl; image = refl; counts = refl }, plain_messages system ms)
+    (record { ranked = refl; no_unit = refl; first = λ next. refl; image = refl; counts = refl; unnamed = λ database slot. refl }, plain_messages system ms)
 
 plain_of : (system : System) (name : List ℕ) (rs : List Reply) (more : List Record) → ArePlain system 4 more → ArePlain system 4 (map (reply_record name) rs ++ more)
 plain_of system name [] more plain = plain
 plain_of system name (r ∷ rs) more plain =
-    (record { ranked = refl; no_unit = refl; first = λ next. refl; image = refl; counts = refl }, plain_of system name rs more plain)
+    (record { ranked = refl; no_unit = refl; first = λ next. refl; image = refl; counts = refl; unnamed = λ database slot. refl }, plain_of system name rs more plain)
 
 plain_replies : (system : System) (os : List TerminalReplies) → ArePlain system 4 (reply_records os)
 plain_replies system [] = tt
@@ -113,6 +115,12 @@ module _ (system : System) where
   counts_section k [] more plain are = are
   counts_section k (r ∷ rs) more plain are = neither (wrong_record r) (list_any wrong_record (rs ++ more)) plain.0.counts (counts_section k rs more plain.1 are)
 
+  unnamed_section : (k : ℕ) (rs more : List Record) → ArePlain system k rs → (database slot : ℕ) → filter (is_change_of database slot) more ≡ [] → filter (is_change_of database slot) (rs ++ more) ≡ []
+  unnamed_section k [] more plain database slot are = are
+  unnamed_section k (r ∷ rs) more plain database slot are =
+      ap (λ (b : Bool). if b then r ∷ filter (is_change_of database slot) (rs ++ more) else filter (is_change_of database slot) (rs ++ more)) (plain.0.unnamed database slot)
+      ∙ unnamed_section k rs more plain.1 database slot are
+
   -- four sections, one after another
   pub record Sections (one two three four : List Record) : Type 0 where
     pub ranked : are_ranked 1 (one ++ (two ++ (three ++ four))) ≡ true
@@ -134,3 +142,13 @@ module _ (system : System) where
   state_sections state =
       sections (terminal_records state.terminals state.outputs state.conversations) (map code_record state.codes) (map message_record state.messages) (reply_records state.outputs)
       (plain_terminals system state.terminals state.outputs state.conversations) (plain_codes system state.codes) (plain_messages system state.messages) (plain_replies system state.outputs)
+
+-- no record of a snapshot names a slot
+pub none_named : (system : System) (checkpoint unit : ℕ) (state : LastingState) (database slot : ℕ) → filter (is_change_of database slot) (snapshot_records checkpoint unit state ++ []) ≡ []
+none_named system checkpoint unit state database slot =
+    ap (filter (is_change_of database slot)) (append-nil (snapshot_records checkpoint unit state))
+    ∙ unnamed_section system 1 (terminal_records state.terminals state.outputs state.conversations) (map code_record state.codes ++ (map message_record state.messages ++ reply_records state.outputs)) (plain_terminals system state.terminals state.outputs state.conversations) database slot
+    (unnamed_section system 2 (map code_record state.codes) (map message_record state.messages ++ reply_records state.outputs) (plain_codes system state.codes) database slot
+    (unnamed_section system 3 (map message_record state.messages) (reply_records state.outputs) (plain_messages system state.messages) database slot
+    (ap (filter (is_change_of database slot)) (sym (append-nil (reply_records state.outputs)))
+    ∙ unnamed_section system 4 (reply_records state.outputs) [] (plain_replies system state.outputs) database slot refl)))
