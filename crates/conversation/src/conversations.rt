@@ -71,7 +71,6 @@ impl Conversations {
     /// with the message's id. A message is of the terminal's conversation where it came from the
     /// terminal and has the flag of conversations.
     pub fn input(&self, terminal: &Name, queues: &Queues) -> Result<Option<Name>, Busy>
-        requires { IsTerminal terminal.now self.now }
         ensures { result ≡ input_answer (conversation_at terminal.now self.now) (busy_id terminal.now (messages_of queues.now.queued)) }
     {
         match table::conversation_of(&self.terminals, terminal) {

@@ -1,3 +1,4 @@
+pub mod Cut
 mod Abended
 pub mod Sent
 pub mod Finished

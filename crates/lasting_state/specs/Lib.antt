@@ -2,3 +2,4 @@ pub mod Sending
 pub mod Tables
 pub mod Lending
 pub mod Showing
+pub mod Kept

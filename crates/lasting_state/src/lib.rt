@@ -5,7 +5,7 @@
 //! a message. After want of memory nothing has changed.
 #![tactic(auto)]
 
-pub use conversing::KeptInput;
+pub use conversing::{KeptInput, kept_first};
 pub use limits::COUNT_LIMIT;
 pub use shown::Shown;
 pub use tables::{Enqueued, Tables, empty_lasting};
