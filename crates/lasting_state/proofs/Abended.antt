@@ -13,7 +13,7 @@ use Rattle.model_machine.specs.Lasting.{abend_text}
 abbrev Printable : List ℕ → Type 0
 Printable text = list_all is_printable text ≡ true
 
-both : (xs ys : List ℕ) → Printable xs → Printable ys → Printable (xs ++ ys)
+pub both : (xs ys : List ℕ) → Printable xs → Printable ys → Printable (xs ++ ys)
 both [] ys a b = b
 both (x ∷ xs) ys a b = by (is_printable x) a (both xs ys)
   where
@@ -27,7 +27,7 @@ digit_prints n = search arith
 byte_prints : (b : ℕ) → is_name_byte b ≡ true → is_printable b ≡ true
 byte_prints b h = search arith
 
-name_prints : (name : List ℕ) → list_all is_name_byte name ≡ true → Printable name
+pub name_prints : (name : List ℕ) → list_all is_name_byte name ≡ true → Printable name
 name_prints [] h = refl
 name_prints (b ∷ name) h =
     let parts = and_parts (is_name_byte b) (list_all is_name_byte name) h in

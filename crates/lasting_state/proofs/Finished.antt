@@ -127,7 +127,7 @@ all_sent_is origin [] lasting =
 all_sent_is origin (output ∷ outputs) lasting =
     sent_first origin output outputs lasting (λ after. all_sent_is origin outputs after) (is_some (replies_at output.to lasting.outputs)) refl
 
-messages_both : (queued : List Queued) (messages : List Message) → messages_of (with_messages messages queued) ≡ messages_of queued ++ messages
+pub messages_both : (queued : List Queued) (messages : List Message) → messages_of (with_messages messages queued) ≡ messages_of queued ++ messages
 messages_both [] [] = refl
 messages_both [] (message ∷ messages) = ap (λ ms. message ∷ ms) (messages_both [] messages)
 messages_both (q ∷ queued) messages = ap (λ ms. q.message ∷ ms) (messages_both queued messages)

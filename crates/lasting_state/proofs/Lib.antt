@@ -1,5 +1,5 @@
 pub mod Cut
-mod Abended
+pub mod Abended
 pub mod Sent
 pub mod Finished
 mod Fresh

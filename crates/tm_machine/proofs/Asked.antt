@@ -1,11 +1,15 @@
 -- What an input and an acknowledgement are answered.
 use Rattle.std.proofs.Common.{◌≡◌, ℕ, ◌+◌, ◌<◌, ◌≤◌, Bool, true, false, not, List, [], ◌∷◌, map, length, refl, sym, ap, ◌∙◌, subst, arith}
-use Rattle.std.specs.Prelude.{Option, Some, None, IsSomeAnd, Result, Ok, Err, cond, if◌then◌else◌, nat_lt, nat_le, slice_get}
-use Rattle.std.specs.Option.{option_map_or, option_and_then, unwrap_or, is_some}
+use Rattle.std.specs.Prelude.{Option, Some, None, IsSomeAnd, Result, Ok, Err, cond, if◌then◌else◌, ◌==◌, nat_lt, nat_le, slice_get}
+use Rattle.std.specs.Option.{option_map, option_map_or, option_and_then, unwrap_or, is_some}
 use Rattle.std.specs.Str.{bytes_eq}
 use Rattle.std.specs.List.{position, prefix_len}
 use Rattle.std.proofs.lemmas.Bool.{lt-ltb, le-ltb}
-use Rattle.model_queues.specs.Queue.{free_count}
+use Rattle.model_queues.specs.Queue.{free_count, messages_of}
+use Rattle.conversation.specs.declared.conversations.Busy.{Busy as BusyMessage}
+use Rattle.conversation.specs.Refusals.{input_answer as conversation_answer}
+use Rattle.model_conversation.specs.declared.conversation.Conversation.{Conversation}
+use Rattle.model_system.specs.Codes.{code_at}
 use Rattle.model_system.specs.declared.code.Code.{Code}
 use Rattle.model_system.specs.declared.code_state.CodeState.{CodeState}
 use Rattle.model_system.specs.System.{System}
@@ -13,7 +17,7 @@ use Rattle.system_types.proofs.Indexed.{found_at}
 use Rattle.model_machine.specs.declared.entry.Taken.{Taken}
 use Rattle.model_machine.specs.declared.entry.Taken.TheVariants.{New, Already}
 use Rattle.model_machine.specs.declared.entry.InputRefused.{InputRefused}
-use Rattle.model_machine.specs.declared.entry.InputRefused.TheVariants.{Terminal as NoTerminal, Expected, Code as NoCode, SegmentsOver, QueueFull, Fault}
+use Rattle.model_machine.specs.declared.entry.InputRefused.TheVariants.{Terminal as NoTerminal, Expected, Conversation as Conversing, Code as NoCode, SegmentsOver, QueueFull, Fault}
 use Rattle.model_machine.specs.declared.entry.Acked.{Acked}
 use Rattle.model_machine.specs.declared.entry.Acked.TheVariants.{Removed, Already as AckAlready}
 use Rattle.model_machine.specs.declared.entry.AckRefused.{AckRefused}
@@ -21,14 +25,20 @@ use Rattle.model_machine.specs.declared.entry.AckRefused.TheVariants.{Unknown, A
 use Rattle.model_machine.specs.declared.entry.Entry.TheVariants.{Accept, Acked as AckedEntry}
 use Rattle.model_machine.specs.declared.lasting.TerminalState.{TerminalState}
 use Rattle.model_machine.specs.Machine.{Moment, terminal_at, terminal_place, output_at, moment_with}
-use Rattle.model_machine.specs.Lasting.{applied}
+use Rattle.model_machine.specs.Lasting.{KeptInput, applied, code_word, kept_alone, kept_by, kept_by_code, kept_first, kept_input, without_word}
 use Rattle.model_machine.specs.Lasting.LastingStep.{Acknowledges}
-use Rattle.model_machine.specs.Steps.{Refusal, first_of, by_number, by_count, most_segments, accepts, acknowledges, ack_by, input_answer}
+use Rattle.model_machine.specs.Steps.{Refusal, busy_by, first_of, by_number, by_count, most_segments, accepts, acknowledges, ack_by, input_answer, no_room}
 use Rattle.lasting_state.specs.Tables.{TablesState, lasting_of, IsAcknowledged}
 use Rattle.tm_machine.specs.declared.region.Busy.{Busy}
 use Rattle.tm_machine.specs.Answers.{IsAnswered, Answers}
-use Rattle.tm_machine.specs.Inputs.{IsRefusal}
+use Rattle.tm_machine.specs.Inputs.{IsNewInput, IsRefusal, code_for, kept_so, way_by}
+use Rattle.tm_machine.specs.declared.input.NewInput.{NewInput}
+use Rattle.tm_types.specs.Name.{IsName}
+use Rattle.model_conversation.specs.Input.{busy_id}
+use Rattle.model_conversation.specs.Terminals.{conversation_at}
+use Rattle.tm_machine.specs.declared.input.Way.TheVariants.{Alone, Begins}
 use Rattle.tm_machine.specs.Parts.{PartsState, slots_of, settings_of, flags_of, AreParts}
+use Rattle.tm_machine.proofs.Conversing.{no_both}
 use Rattle.tm_machine.proofs.Leaving.{moment_is, moment_stays}
 use Rattle.tm_machine.proofs.Raising.{followed_none}
 use Rattle.tm_machine.proofs.Started.{moment_refused}
@@ -52,19 +62,83 @@ place_is terminals names name e =
 pub at_place : (terminals : List TerminalState) (name : List ℕ) (place : Option ℕ) → terminal_place terminals name ≡ place → terminal_at terminals name ≡ option_and_then (slice_get terminals) place
 at_place terminals name place e = sym (found_at (λ (t : TerminalState). bytes_eq t.name name) terminals) ∙ ap (option_and_then (slice_get terminals)) e
 
+-- ---- how an input is kept, by its terminal's conversation
+abbrev code_of : Option Conversation → Option (List ℕ)
+code_of conversation = option_map (λ c. c.code) conversation
+
+kept_goes_by : (code : Option Code) (segments : List (List ℕ)) → (kept_by_code code segments).code ≡ code_word segments
+kept_goes_by None segments = refl
+kept_goes_by (Some code) segments = by (code.transaction.scratch_pad == 0)
+  where
+    by : (b : Bool) → (if b then kept_alone segments else kept_first code.transaction.scratch_pad segments).code ≡ code_word segments
+    by true = refl
+    by false = refl
+
+pub kept_goes : (system : System) (conversation : Option Conversation) (segments : List (List ℕ)) → (kept_by system conversation segments).code ≡ code_for (code_of conversation) segments
+kept_goes system (Some c) segments = refl
+kept_goes system None segments = kept_goes_by (code_at system.codes (code_word segments)) segments
+
+without_count : (segments : List (List ℕ)) → length (without_word segments) ≡ length segments
+without_count [] = refl
+without_count (s ∷ segments) = refl
+
+kept_count_by : (code : Option Code) (segments : List (List ℕ)) → length (kept_by_code code segments).segments ≡ length segments
+kept_count_by None segments = refl
+kept_count_by (Some code) segments = by (code.transaction.scratch_pad == 0)
+  where
+    by : (b : Bool) → length (if b then kept_alone segments else kept_first code.transaction.scratch_pad segments).segments ≡ length segments
+    by true = refl
+    by false = without_count segments
+
+pub kept_count : (system : System) (conversation : Option Conversation) (segments : List (List ℕ)) → length (kept_by system conversation segments).segments ≡ length segments
+kept_count system (Some c) segments = refl
+kept_count system None segments = kept_count_by (code_at system.codes (code_word segments)) segments
+
+-- the code that was found tells how the input is kept
+pub kept_is : (system : System) (conversation : Option Conversation) (segments : List (List ℕ)) (found : Code) → code_at system.codes (code_for (code_of conversation) segments) ≡ Some found
+    → kept_so (way_by (code_of conversation) found.transaction.scratch_pad) (code_for (code_of conversation) segments) segments ≡ kept_by system conversation segments
+kept_is system (Some c) segments found e = refl
+kept_is system None segments found e = by (found.transaction.scratch_pad == 0) ∙ sym (ap (λ o. kept_by_code o segments) e)
+  where
+    by : (b : Bool) → kept_so (if b then Alone else Begins found.transaction.scratch_pad) (code_word segments) segments
+        ≡ (if b then kept_alone segments else kept_first found.transaction.scratch_pad segments)
+    by true = refl
+    by false = refl
+
+-- what a terminal's conversation answers
+abbrev refuses : Result (Option (List ℕ)) BusyMessage → Bool
+refuses (Err busy) = true
+refuses (Ok code) = false
+
+pub busy_now : (conversation : Option Conversation) (o : Option ℕ) (id : ℕ) → Err (record { id = id }) ≡ conversation_answer conversation o → busy_by conversation o ≡ Some (Err (Conversing id))
+busy_now None o id e = absurd (no_both (ap refuses e))
+busy_now (Some c) None id e = absurd (no_both (ap refuses e))
+busy_now (Some c) (Some n) id e = ap (λ r. Some (Err (Conversing (id_in r)))) (sym e)
+  where
+    id_in : Result (Option (List ℕ)) BusyMessage → ℕ
+    id_in (Err busy) = busy.id
+    id_in (Ok code) = 0
+
+pub idle_now : (conversation : Option Conversation) (o : Option ℕ) (code : Option (List ℕ)) → Ok code ≡ conversation_answer conversation o
+    → (busy_by conversation o ≡ None) × (code ≡ code_of conversation)
+idle_now None o code e = (refl, let same : code ≡ None = cc in same)
+idle_now (Some c) None code e = (refl, let same : code ≡ Some c.code = cc in same)
+idle_now (Some c) (Some n) code e = cc
+
 -- ---- the answer of an input, by what was looked up
-abbrev pub answer_by : Option TerminalState → ℕ → Option Code → ℕ → Refusal → ℕ → Result Taken InputRefused
-answer_by terminal number code count room next =
+abbrev pub answer_by : Option TerminalState → ℕ → Refusal → Option Code → ℕ → Refusal → ℕ → Result Taken InputRefused
+answer_by terminal number busy code count room next =
     unwrap_or (first_of (
     (if is_some terminal then None else Some (Err NoTerminal))
     ∷ option_and_then (λ t. by_number t.last number) terminal
+    ∷ busy
     ∷ (if is_some code then None else Some (Err NoCode))
     ∷ option_and_then (λ c. by_count (most_segments c.transaction.segment_kind) count) code
     ∷ room
     ∷ [])) (Ok (New next))
 
-pub no_terminal : (t : Option TerminalState) (number : ℕ) (code : Option Code) (count : ℕ) (room : Refusal) (next : ℕ) → t ≡ None → Err NoTerminal ≡ answer_by t number code count room next
-no_terminal t number code count room next e = sym (ap (λ o. answer_by o number code count room next) e)
+pub no_terminal : (t : Option TerminalState) (number : ℕ) (busy : Refusal) (code : Option Code) (count : ℕ) (room : Refusal) (next : ℕ) → t ≡ None → Err NoTerminal ≡ answer_by t number busy code count room next
+no_terminal t number busy code count room next e = sym (ap (λ o. answer_by o number busy code count room next) e)
 
 not_new : (last number id : ℕ) → by_number last number ≡ Some (Ok (New id)) → ⊥
 not_new last number id e = by (nat_le number last) (nat_lt (last + 1) number) e
@@ -79,61 +153,77 @@ is_refusal right (Ok (New id)) e other = absurd (other id refl)
 is_refusal right (Ok Already) e other = e
 is_refusal right (Err NoTerminal) e other = e
 is_refusal right (Err (Expected next)) e other = e
+is_refusal right (Err (Conversing id)) e other = e
 is_refusal right (Err NoCode) e other = e
 is_refusal right (Err (SegmentsOver count most)) e other = e
 is_refusal right (Err (QueueFull need limit)) e other = e
 is_refusal right (Err (Fault fault)) e other = tt
 
-pub numbered : (t : Option TerminalState) (last number : ℕ) (code : Option Code) (count : ℕ) (room : Refusal) (next : ℕ) (answer : Result Taken InputRefused)
-    → IsSomeAnd t (λ s. last ≡ s.last) → Some answer ≡ by_number last number → IsRefusal (answer_by t number code count room next) answer
-numbered (Some s) last number code count room next answer same e =
+pub numbered : (t : Option TerminalState) (last number : ℕ) (busy : Refusal) (code : Option Code) (count : ℕ) (room : Refusal) (next : ℕ) (answer : Result Taken InputRefused)
+    → IsSomeAnd t (λ s. last ≡ s.last) → Some answer ≡ by_number last number → IsRefusal (answer_by t number busy code count room next) answer
+numbered (Some s) last number busy code count room next answer same e =
     let here : by_number s.last number ≡ Some answer = ap (λ n. by_number n number) (sym same) ∙ sym e in
-    is_refusal (answer_by (Some s) number code count room next) answer (sym (step here))
+    is_refusal (answer_by (Some s) number busy code count room next) answer (sym (step here))
     (λ id f. not_new last number id (sym e ∙ ap (λ a. Some a) f))
   where
-    step : by_number s.last number ≡ Some answer → answer_by (Some s) number code count room next ≡ answer
+    step : by_number s.last number ≡ Some answer → answer_by (Some s) number busy code count room next ≡ answer
     step h = rw h refl
-numbered None last number code count room next answer same e = absurd same
+numbered None last number busy code count room next answer same e = absurd same
 
 -- an input whose number is the next one
-pub past_number : (t : Option TerminalState) (last number : ℕ) (code : Option Code) (count : ℕ) (room : Refusal) (next : ℕ)
+past_number : (t : Option TerminalState) (last number : ℕ) (busy : Refusal) (code : Option Code) (count : ℕ) (room : Refusal) (next : ℕ)
     → IsSomeAnd t (λ s. last ≡ s.last) → None ≡ by_number last number
-    → answer_by t number code count room next
-    ≡ unwrap_or (first_of ((if is_some code then None else Some (Err NoCode)) ∷ option_and_then (λ c. by_count (most_segments c.transaction.segment_kind) count) code ∷ room ∷ [])) (Ok (New next))
-past_number (Some s) last number code count room next same e = step (ap (λ n. by_number n number) (sym same) ∙ sym e)
+    → answer_by t number busy code count room next
+    ≡ unwrap_or (first_of (busy ∷ (if is_some code then None else Some (Err NoCode)) ∷ option_and_then (λ c. by_count (most_segments c.transaction.segment_kind) count) code ∷ room ∷ [])) (Ok (New next))
+past_number (Some s) last number busy code count room next same e = step (ap (λ n. by_number n number) (sym same) ∙ sym e)
   where
-    step : by_number s.last number ≡ None → answer_by (Some s) number code count room next
-        ≡ unwrap_or (first_of ((if is_some code then None else Some (Err NoCode)) ∷ option_and_then (λ c. by_count (most_segments c.transaction.segment_kind) count) code ∷ room ∷ [])) (Ok (New next))
+    step : by_number s.last number ≡ None → answer_by (Some s) number busy code count room next
+        ≡ unwrap_or (first_of (busy ∷ (if is_some code then None else Some (Err NoCode)) ∷ option_and_then (λ c. by_count (most_segments c.transaction.segment_kind) count) code ∷ room ∷ [])) (Ok (New next))
     step h = rw h refl
-past_number None last number code count room next same e = absurd same
+past_number None last number busy code count room next same e = absurd same
 
-pub no_code : (t : Option TerminalState) (last number : ℕ) (code : Option Code) (count : ℕ) (room : Refusal) (next : ℕ)
-    → IsSomeAnd t (λ s. last ≡ s.last) → None ≡ by_number last number → code ≡ None → Err NoCode ≡ answer_by t number code count room next
-no_code t last number code count room next same e none =
-    sym (past_number t last number code count room next same e
+pub conversing_still : (t : Option TerminalState) (last number : ℕ) (busy : Refusal) (code : Option Code) (count : ℕ) (room : Refusal) (next id : ℕ)
+    → IsSomeAnd t (λ s. last ≡ s.last) → None ≡ by_number last number → busy ≡ Some (Err (Conversing id)) → Err (Conversing id) ≡ answer_by t number busy code count room next
+conversing_still t last number busy code count room next id same e now =
+    sym (past_number t last number busy code count room next same e
+    ∙ ap (λ b. unwrap_or (first_of (b ∷ (if is_some code then None else Some (Err NoCode)) ∷ option_and_then (λ c. by_count (most_segments c.transaction.segment_kind) count) code ∷ room ∷ [])) (Ok (New next))) now)
+
+-- and whose terminal's conversation isn't busy
+past_busy : (t : Option TerminalState) (last number : ℕ) (busy : Refusal) (code : Option Code) (count : ℕ) (room : Refusal) (next : ℕ)
+    → IsSomeAnd t (λ s. last ≡ s.last) → None ≡ by_number last number → busy ≡ None
+    → answer_by t number busy code count room next
+    ≡ unwrap_or (first_of ((if is_some code then None else Some (Err NoCode)) ∷ option_and_then (λ c. by_count (most_segments c.transaction.segment_kind) count) code ∷ room ∷ [])) (Ok (New next))
+past_busy t last number busy code count room next same e idle =
+    past_number t last number busy code count room next same e
+    ∙ ap (λ b. unwrap_or (first_of (b ∷ (if is_some code then None else Some (Err NoCode)) ∷ option_and_then (λ c. by_count (most_segments c.transaction.segment_kind) count) code ∷ room ∷ [])) (Ok (New next))) idle
+
+pub no_code : (t : Option TerminalState) (last number : ℕ) (busy : Refusal) (code : Option Code) (count : ℕ) (room : Refusal) (next : ℕ)
+    → IsSomeAnd t (λ s. last ≡ s.last) → None ≡ by_number last number → busy ≡ None → code ≡ None → Err NoCode ≡ answer_by t number busy code count room next
+no_code t last number busy code count room next same e idle none =
+    sym (past_busy t last number busy code count room next same e idle
     ∙ ap (λ c. unwrap_or (first_of ((if is_some c then None else Some (Err NoCode)) ∷ option_and_then (λ k. by_count (most_segments k.transaction.segment_kind) count) c ∷ room ∷ [])) (Ok (New next))) none)
 
-counted_by : (t : Option TerminalState) (last number : ℕ) (code : Option Code) (found : Code) (count : ℕ) (room : Refusal) (next : ℕ)
-    → IsSomeAnd t (λ s. last ≡ s.last) → None ≡ by_number last number → code ≡ Some found
-    → answer_by t number code count room next ≡ unwrap_or (first_of (by_count (most_segments found.transaction.segment_kind) count ∷ room ∷ [])) (Ok (New next))
-counted_by t last number code found count room next same e there =
-    past_number t last number code count room next same e
+counted_by : (t : Option TerminalState) (last number : ℕ) (busy : Refusal) (code : Option Code) (found : Code) (count : ℕ) (room : Refusal) (next : ℕ)
+    → IsSomeAnd t (λ s. last ≡ s.last) → None ≡ by_number last number → busy ≡ None → code ≡ Some found
+    → answer_by t number busy code count room next ≡ unwrap_or (first_of (by_count (most_segments found.transaction.segment_kind) count ∷ room ∷ [])) (Ok (New next))
+counted_by t last number busy code found count room next same e idle there =
+    past_busy t last number busy code count room next same e idle
     ∙ ap (λ c. unwrap_or (first_of ((if is_some c then None else Some (Err NoCode)) ∷ option_and_then (λ k. by_count (most_segments k.transaction.segment_kind) count) c ∷ room ∷ [])) (Ok (New next))) there
 
-pub many : (t : Option TerminalState) (last number : ℕ) (code : Option Code) (found : Code) (count : ℕ) (room : Refusal) (next most size : ℕ)
-    → IsSomeAnd t (λ s. last ≡ s.last) → None ≡ by_number last number → code ≡ Some found → most ≡ most_segments found.transaction.segment_kind → size ≡ count → most < size
-    → Err (SegmentsOver size most) ≡ answer_by t number code count room next
-many t last number code found count room next most size same e there m s over =
-    sym (counted_by t last number code found count room next same e there
+pub many : (t : Option TerminalState) (last number : ℕ) (busy : Refusal) (code : Option Code) (found : Code) (count : ℕ) (room : Refusal) (next most size : ℕ)
+    → IsSomeAnd t (λ s. last ≡ s.last) → None ≡ by_number last number → busy ≡ None → code ≡ Some found → most ≡ most_segments found.transaction.segment_kind → size ≡ count → most < size
+    → Err (SegmentsOver size most) ≡ answer_by t number busy code count room next
+many t last number busy code found count room next most size same e idle there m s over =
+    sym (counted_by t last number busy code found count room next same e idle there
     ∙ ap (λ n. unwrap_or (first_of (by_count n count ∷ room ∷ [])) (Ok (New next))) (sym m)
     ∙ ap (λ n. unwrap_or (first_of (by_count most n ∷ room ∷ [])) (Ok (New next))) (sym s)
     ∙ ap (λ b. unwrap_or (first_of ((if b then Some (Err (SegmentsOver size most)) else None) ∷ room ∷ [])) (Ok (New next))) (lt-ltb most size over)) ∙ refl
 
-pub room_left : (t : Option TerminalState) (last number : ℕ) (code : Option Code) (found : Code) (count : ℕ) (room : Refusal) (next most size : ℕ)
-    → IsSomeAnd t (λ s. last ≡ s.last) → None ≡ by_number last number → code ≡ Some found → most ≡ most_segments found.transaction.segment_kind → size ≡ count → size ≤ most
-    → answer_by t number code count room next ≡ unwrap_or room (Ok (New next))
-room_left t last number code found count room next most size same e there m s fits =
-    counted_by t last number code found count room next same e there
+pub room_left : (t : Option TerminalState) (last number : ℕ) (busy : Refusal) (code : Option Code) (found : Code) (count : ℕ) (room : Refusal) (next most size : ℕ)
+    → IsSomeAnd t (λ s. last ≡ s.last) → None ≡ by_number last number → busy ≡ None → code ≡ Some found → most ≡ most_segments found.transaction.segment_kind → size ≡ count → size ≤ most
+    → answer_by t number busy code count room next ≡ unwrap_or room (Ok (New next))
+room_left t last number busy code found count room next most size same e idle there m s fits =
+    counted_by t last number busy code found count room next same e idle there
     ∙ ap (λ n. unwrap_or (first_of (by_count n count ∷ room ∷ [])) (Ok (New next))) (sym m)
     ∙ ap (λ n. unwrap_or (first_of (by_count most n ∷ room ∷ [])) (Ok (New next))) (sym s)
     ∙ ap (λ b. unwrap_or (first_of ((if b then Some (Err (SegmentsOver size most)) else None) ∷ room ∷ [])) (Ok (New next))) (le-ltb most size fits)
@@ -152,7 +242,7 @@ module _ (system : System) (tables : TablesState) (states : List CodeState) (reg
   state_now = record { system = system; moment = moment_now }
 
   answered : (terminal : List ℕ) (number : ℕ) (segments : List (List ℕ)) (answer : Result Taken InputRefused) → 0 < length segments
-      → answer ≡ input_answer system moment_now terminal number segments → accepts terminal number segments answer ≡ None
+      → answer ≡ input_answer system moment_now terminal number segments → accepts terminal number (kept_input system moment_now.lasting terminal segments) answer ≡ None
       → IsAnswered state_now state_now (Accept terminal number segments answer)
   answered terminal number segments answer some says none = record {
     may = record { call = some; victims = refl; answer = ap (Accept terminal number segments) says };
@@ -167,6 +257,7 @@ module _ (system : System) (tables : TablesState) (states : List CodeState) (reg
   refused_input terminal number segments (Ok Already) some h = answered terminal number segments (Ok Already) some h refl
   refused_input terminal number segments (Err NoTerminal) some h = answered terminal number segments (Err NoTerminal) some h refl
   refused_input terminal number segments (Err (Expected next)) some h = answered terminal number segments (Err (Expected next)) some h refl
+  refused_input terminal number segments (Err (Conversing id)) some h = answered terminal number segments (Err (Conversing id)) some h refl
   refused_input terminal number segments (Err NoCode) some h = answered terminal number segments (Err NoCode) some h refl
   refused_input terminal number segments (Err (SegmentsOver count most)) some h = answered terminal number segments (Err (SegmentsOver count most)) some h refl
   refused_input terminal number segments (Err (QueueFull need limit)) some h = answered terminal number segments (Err (QueueFull need limit)) some h refl
@@ -217,8 +308,91 @@ module _ (system : System) (tables : TablesState) (states : List CodeState) (reg
     at_work = parts.at_work;
     databases = parts.databases;
     idle = parts.idle;
+    conversations = parts.conversations;
   })
   parts_acknowledged tables' terminal number (Ok AckAlready) h = parts_same tables' h.1
   parts_acknowledged tables' terminal number (Err Unknown) h = parts_same tables' h.1
   parts_acknowledged tables' terminal number (Err (Ahead first)) h = parts_same tables' h.1
   parts_acknowledged tables' terminal number (Err (AckFault fault)) h = parts_same tables' h
+
+-- ---- an input, as it is looked up step by step
+module _ (system : System) (tables : TablesState) (states : List CodeState) (regions : List (Option Busy)) (parts : AreParts system tables states regions)
+    (terminal : List ℕ) (number : ℕ) (segments : List (List ℕ)) where
+  abbrev moment_here : Moment
+  moment_here = record { lasting = lasting_of (settings_of states) tables; slots = slots_of regions; enqueues = tables.databases.table; raised = flags_of states }
+
+  abbrev conversation_here : Option Conversation
+  conversation_here = conversation_at terminal tables.conversations
+
+  abbrev busy_here : Option ℕ
+  busy_here = busy_id terminal (messages_of tables.queues.queued)
+
+  abbrev kept_here : KeptInput
+  kept_here = kept_by system conversation_here segments
+
+  abbrev room_here : Refusal
+  room_here = no_room system moment_here kept_here.segments
+
+  abbrev terminal_here : Option TerminalState
+  terminal_here = terminal_at tables.terminals terminal
+
+  abbrev place_here : Option ℕ
+  place_here = position (λ n. bytes_eq n terminal) system.terminals
+
+  pub unknown_input : None ≡ place_here → Err NoTerminal ≡ input_answer system moment_here terminal number segments
+  unknown_input none =
+      no_terminal terminal_here number (busy_by conversation_here busy_here) (code_at system.codes kept_here.code) (length kept_here.segments) room_here tables.next_id
+      (at_place tables.terminals terminal None (sym (place_is tables.terminals system.terminals terminal parts.names) ∙ sym none))
+
+  module _ (place : ℕ) (at : Some place ≡ place_here) (last : ℕ) (is : IsSomeAnd (slice_get tables.terminals place) (λ s. last ≡ s.last)) where
+    there : IsSomeAnd terminal_here (λ s. last ≡ s.last)
+    there = subst (λ o. IsSomeAnd o (λ s. last ≡ s.last)) (sym (at_place tables.terminals terminal (Some place) (sym (place_is tables.terminals system.terminals terminal parts.names) ∙ sym at))) is
+
+    pub numbered_input : (answer : Result Taken InputRefused) → Some answer ≡ by_number last number → IsRefusal (input_answer system moment_here terminal number segments) answer
+    numbered_input answer says =
+        numbered terminal_here last number (busy_by conversation_here busy_here) (code_at system.codes kept_here.code) (length kept_here.segments) room_here tables.next_id answer there says
+
+    module _ (next : None ≡ by_number last number) where
+      pub busy_input : (id : ℕ) → Err (record { id = id }) ≡ conversation_answer conversation_here busy_here → Err (Conversing id) ≡ input_answer system moment_here terminal number segments
+      busy_input id says =
+          conversing_still terminal_here last number (busy_by conversation_here busy_here) (code_at system.codes kept_here.code) (length kept_here.segments) room_here tables.next_id id there next
+          (busy_now conversation_here busy_here id says)
+
+      module _ (conversation : Option (List ℕ)) (says : Ok conversation ≡ conversation_answer conversation_here busy_here) where
+        idle : busy_by conversation_here busy_here ≡ None
+        idle = (idle_now conversation_here busy_here conversation says).0
+
+        code_is : conversation ≡ code_of conversation_here
+        code_is = (idle_now conversation_here busy_here conversation says).1
+
+        goes : kept_here.code ≡ code_for conversation segments
+        goes = kept_goes system conversation_here segments ∙ ap (λ o. code_for o segments) (sym code_is)
+
+        pub uncoded_input : None ≡ code_at system.codes (code_for conversation segments) → Err NoCode ≡ input_answer system moment_here terminal number segments
+        uncoded_input none =
+            no_code terminal_here last number (busy_by conversation_here busy_here) (code_at system.codes kept_here.code) (length kept_here.segments) room_here tables.next_id there next idle
+            (ap (code_at system.codes) goes ∙ sym none)
+
+        module _ (found : Code) (coded : Some found ≡ code_at system.codes (code_for conversation segments)) (most size : ℕ) (limit : most ≡ most_segments found.transaction.segment_kind)
+            (count : size ≡ length segments) where
+          pub many_input : most < size → Err (SegmentsOver size most) ≡ input_answer system moment_here terminal number segments
+          many_input over =
+              many terminal_here last number (busy_by conversation_here busy_here) (code_at system.codes kept_here.code) found (length kept_here.segments) room_here tables.next_id most size there next idle
+              (ap (code_at system.codes) goes ∙ sym coded) limit (count ∙ sym (kept_count system conversation_here segments)) over
+
+          pub new_input : size ≤ most → (input : NewInput) → input.place ≡ place → place < length system.terminals → input.way ≡ way_by conversation found.transaction.scratch_pad
+              → input.code ≡ found.transaction.code → found.transaction.code ≡ code_for conversation segments → IsName input.code
+              → IsNewInput (record { system = system; moment = moment_here }) terminal number segments input
+          new_input fits input placed within way code named name = record {
+            answer = room_left terminal_here last number (busy_by conversation_here busy_here) (code_at system.codes kept_here.code) found (length kept_here.segments) room_here tables.next_id most size there next idle
+                (ap (code_at system.codes) goes ∙ sym coded) limit (count ∙ sym (kept_count system conversation_here segments)) fits;
+            place = sym (place_is tables.terminals system.terminals terminal parts.names) ∙ sym at ∙ ap (λ p. Some p) (sym placed);
+            within = subst (λ p. p < length tables.terminals) (sym placed) (subst (λ n. place < n) (ap length (sym parts.names) ∙ length_map (λ (t : TerminalState). t.name) tables.terminals) within);
+            kept =
+                ap (λ w. kept_so w input.code segments) way
+                ∙ ap (λ k. kept_so (way_by conversation found.transaction.scratch_pad) k segments) (code ∙ named)
+                ∙ ap (λ o. kept_so (way_by o found.transaction.scratch_pad) (code_for o segments) segments) code_is
+                ∙ kept_is system conversation_here segments found (ap (λ o. code_at system.codes (code_for o segments)) (sym code_is) ∙ sym coded);
+            named = name;
+            free = idle;
+          }

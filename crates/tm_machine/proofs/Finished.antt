@@ -1,5 +1,5 @@
 -- A region's work on a message ends.
-use Rattle.std.proofs.Common.{◌≡◌, ℕ, zero, suc, ◌+◌, ◌-◌, ◌*◌, ◌≤◌, arith, Bool, true, false, ◌&&◌, ◌||◌, List, [], ◌∷◌, length, refl, sym, ap, ◌∙◌, subst}
+use Rattle.std.proofs.Common.{◌≡◌, ℕ, zero, suc, ◌+◌, ◌-◌, ◌*◌, ◌≤◌, arith, Bool, true, false, ◌&&◌, ◌||◌, List, [], ◌∷◌, ◌++◌, length, refl, sym, ap, ◌∙◌, subst}
 use Rattle.std.specs.Prelude.{Option, Some, None, IsSome, IsSomeAnd, if◌then◌else◌, nat_le, map, slice_get, slice_set}
 use Rattle.std.specs.Option.{option_map, option_and_then, is_some}
 use Rattle.std.specs.List.{count_by, list_any, AllByRecursion}
@@ -8,10 +8,14 @@ use Rattle.std.proofs.lemmas.Bool.{eq-eqb}
 use Rattle.tm_types.specs.declared.message.Message.{Message}
 use Rattle.tm_types.specs.declared.abend.AbendCode.{AbendCode}
 use Rattle.model_queues.specs.declared.queued.Queued.{Queued}
-use Rattle.model_queues.specs.Queue.{IsNewId, message_at, queued_at, without, free_count}
+use Rattle.model_queues.specs.Queue.{IsNewId, message_at, messages_of, queued_at, without, free_count}
 use Rattle.model_queues.specs.Room.{slot_room}
 use Rattle.model_queues.specs.Waiting.{first_waiting}
-use Rattle.model_queues.proofs.Laws.{found_behind, messages_held, new_id_without}
+use Rattle.model_queues.proofs.Laws.{found_behind, message_found, messages_held, messages_without, new_id_without}
+use Rattle.lasting_state.proofs.Finished.{messages_both}
+use Rattle.io_pcb.specs.Pads.{Suits}
+use Rattle.model_conversation.specs.declared.conversation.PadChange.{PadChange}
+use Rattle.model_conversation.specs.declared.conversation.TerminalConversation.{TerminalConversation}
 use Rattle.model_enqueue.specs.Table.{EnqueueTable}
 use Rattle.model_enqueue.specs.Ask.{released}
 use Rattle.model_system.specs.Codes.{code_at, code_place}
@@ -23,11 +27,11 @@ use Rattle.model_message.specs.declared.ended_message.EndedMessage.{EndedMessage
 use Rattle.model_machine.specs.declared.entry.ControlCall.TheVariants.{Turn}
 use Rattle.model_machine.specs.declared.entry.Turned.{Turned}
 use Rattle.model_machine.specs.declared.entry.Turned.TheVariants.{Done, Abended, Next, QC}
-use Rattle.model_machine.specs.Trial.{WorkEnd, outputs_of}
+use Rattle.model_machine.specs.Trial.{Given, WorkEnd, outputs_of, pad_of}
 use Rattle.model_machine.specs.Trial.WorkEnd.{Ends, Syncs, Abends}
 use Rattle.model_machine.specs.Trial.Advance.{Stops}
-use Rattle.model_machine.specs.Machine.{Moment, Slot, IsRegion, has_message, is_held, content, slot_at, raised_now, moment_with}
-use Rattle.model_machine.specs.Lasting.{LastingStep, abend_outputs, applied}
+use Rattle.model_machine.specs.Machine.{message_at as message_in, Moment, Slot, IsRegion, has_message, is_held, content, slot_at, raised_now, moment_with}
+use Rattle.model_machine.specs.Lasting.{LastingStep, abend_outputs, applied, discarded_pad, padded, without_message}
 use Rattle.model_machine.specs.Lasting.LastingStep.{Completes, Discards}
 use Rattle.model_machine.specs.Requests.{blocked_now, slot_requests, table_after, table_by}
 use Rattle.model_machine.specs.Steps.{AtWork, After, ending_step, may_go_on, next_among, next_message, slot_after, slot_work, step_in_turn, sync_answer, turn_answer, work_answer, work_by}
@@ -38,12 +42,13 @@ use Rattle.tran_pick.proofs.Found.{first_codes}
 use Rattle.program_rows.specs.State.{DatabasesState, AreRowsOf, IsRegionOf, committed_rows, dbds_of, region_at}
 use Rattle.program_rows.specs.Answering.{IsCommitted, IsGivenUp}
 use Rattle.lasting_state.specs.Sending.{switches, switched_messages, with_messages}
-use Rattle.lasting_state.specs.Tables.{TablesState, lasting_of, finished, held, with_databases, Applies, IsClosed}
+use Rattle.lasting_state.specs.Tables.{TablesState, lasting_of, closed, held, Applies, IsClosed}
 use Rattle.tm_machine.specs.declared.region.Busy.{Busy}
 use Rattle.tm_machine.specs.Ends.{EndsSo, SlotEnds, destinations, goes_on_with}
-use Rattle.tm_machine.specs.Region.{IsUnit, calls_made, outputs_by}
+use Rattle.tm_machine.specs.Region.{given_in, IsUnit, SuitsUnit, calls_made, outputs_by, pad_by}
 use Rattle.tm_machine.specs.Turns.{IsTurned}
-use Rattle.tm_machine.specs.Parts.{PartsState, slot_of, slots_of, settings_of, flags_of, IsTold, AreAtWork, AreParts, IsIdle}
+use Rattle.tm_machine.specs.Parts.{PartsState, slot_of, slots_of, settings_of, flags_of, IsTold, AreAtWork, AreConversations, AreParts, IsIdle, IsOfConversation}
+use Rattle.tm_machine.proofs.Conversing.{IsPlain, all_found, conversations_closed, discarded_fits, given_left}
 use Rattle.tm_machine.proofs.Tabled.{AreOwn, released_asks}
 use Rattle.tm_machine.proofs.Others.{IsKeptBeside, are_beside, beside_committed, beside_given_up, idle_committed, idle_ended, idle_given_up, own_requests, rows_stay, stay_at_work}
 use Rattle.tm_machine.proofs.Free.{count_held, count_sent, count_without, or_none}
@@ -63,9 +68,9 @@ told_more : (messages : List Message) (queued : List Queued) (slots : List (Opti
 told_more messages [] slots free told = told_new messages slots free
 told_more messages (q ∷ queued) slots free told = (told.0, told_more messages queued slots free told.1)
 
-at_work_more : (system : System) (databases : DatabasesState) (messages : List Message) (queued : List Queued) (regions : List (Option Busy))
-    → AreAtWork system databases queued regions → AreAtWork system databases (with_messages messages queued) regions
-at_work_more system databases messages queued regions at_work place busy e =
+at_work_more : (system : System) (databases : DatabasesState) (conversations : List TerminalConversation) (messages : List Message) (queued : List Queued) (regions : List (Option Busy))
+    → AreAtWork system databases conversations queued regions → AreAtWork system databases conversations (with_messages messages queued) regions
+at_work_more system databases conversations messages queued regions at_work place busy e =
     let was = at_work place busy e in
     record { message = was.message; found = found_behind busy.id queued (map (λ m. record { message = m; holder = None }) messages) _ was.found; work = was.work }
 
@@ -74,18 +79,22 @@ new_above next id [] h above = tt
 new_above next id (q ∷ queued) h above = (let here = above.0 in omega (arith, here, h), new_above next id queued h above.1)
 
 -- no region has a message whose id is new
-all_free : (system : System) (databases : DatabasesState) (next : ℕ) (queued : List Queued) (regions : List (Option Busy)) (messages : List Message)
-    → IsNewId next queued → AreAtWork system databases queued regions → AllByRecursion (λ m. next ≤ m.id) messages → AllByRecursion (λ m. is_held (slots_of regions) m.id ≡ false) messages
-all_free system databases next queued regions [] above at_work h = tt
-all_free system databases next queued regions (m ∷ messages) above at_work h = (
-  new_free system databases m.id queued regions (new_above next m.id queued h.0 above) at_work,
-  all_free system databases next queued regions messages above at_work h.1,
+all_free : (system : System) (databases : DatabasesState) (conversations : List TerminalConversation) (next : ℕ) (queued : List Queued) (regions : List (Option Busy)) (messages : List Message)
+    → IsNewId next queued → AreAtWork system databases conversations queued regions → AllByRecursion (λ m. next ≤ m.id) messages → AllByRecursion (λ m. is_held (slots_of regions) m.id ≡ false) messages
+all_free system databases conversations next queued regions [] above at_work h = tt
+all_free system databases conversations next queued regions (m ∷ messages) above at_work h = (
+  new_free system databases conversations m.id queued regions (new_above next m.id queued h.0 above) at_work,
+  all_free system databases conversations next queued regions messages above at_work h.1,
 )
 
 -- switched messages have ids from the next one on
 all_above : (low : ℕ) (origin : List ℕ) (outputs : List EndedMessage) (next : ℕ) → low ≤ next → AllByRecursion (λ m. low ≤ m.id) (switched_messages origin outputs next)
 all_above low origin [] next h = tt
 all_above low origin (output ∷ outputs) next h = (h, all_above low origin outputs (next + 1) (omega (arith, h)))
+
+all_plain : (origin : List ℕ) (outputs : List EndedMessage) (next : ℕ) → AllByRecursion IsPlain (switched_messages origin outputs next)
+all_plain origin [] next = tt
+all_plain origin (output ∷ outputs) next = (refl, all_plain origin outputs (next + 1))
 
 or_right : (a b : Bool) → b ≡ true → (a || b) ≡ true
 or_right true b h = refl
@@ -148,13 +157,16 @@ module _ (system : System) (tables : TablesState) (states : List CodeState) (reg
       by None h = cc
 
   -- what the work has come to
-  unit_here : IsUnit job_now message_now region tables.databases busy.unit
+  abbrev given_here : Given
+  given_here = given_in tables.conversations message_now
+
+  unit_here : IsUnit job_now given_here region tables.databases busy.unit
   unit_here =
       let back : region - 1 + 1 ≡ region = omega (arith, there.0) in
-      subst (λ n. IsUnit job_now message_now n tables.databases busy.unit) back (parts.at_work (region - 1) busy e).work.unit
+      subst (λ n. IsUnit job_now given_here n tables.databases busy.unit) back (parts.at_work (region - 1) busy e).work.unit
 
-  tried : IsTried job_now message_now region tables.databases busy.unit
-  tried = unit_trial job_now message_now region tables.databases busy.unit unit_here
+  tried : IsTried job_now given_here region tables.databases busy.unit
+  tried = unit_trial job_now given_here region tables.databases busy.unit unit_here
 
   abbrev work_now : AtWork
   work_now = work_by job_now moment_now.lasting tried.trial
@@ -196,14 +208,21 @@ module _ (system : System) (tables : TablesState) (states : List CodeState) (reg
   gone_here end h = released_asks region (slot_requests system moment_now.lasting region slot_now) tables.databases.table own_here (free_here end h)
 
   abbrev completes : LastingStep
-  completes = Completes busy.id (region_at region tables.databases).rows (outputs_by busy.unit)
+  completes = Completes busy.id (region_at region tables.databases).rows (outputs_by busy.unit) (pad_by busy.unit)
 
-  completes_is : Completes busy.id tried.trial.databases.rows (outputs_of tried.trial) ≡ completes
-  completes_is = ap (λ rows. Completes busy.id rows (outputs_of tried.trial)) tried.rows ∙ ap (Completes busy.id (region_at region tables.databases).rows) tried.outputs
+  completes_is : Completes busy.id tried.trial.databases.rows (outputs_of tried.trial) (pad_of tried.trial) ≡ completes
+  completes_is =
+      ap (λ rows. Completes busy.id rows (outputs_of tried.trial) (pad_of tried.trial)) tried.rows
+      ∙ ap (λ os. Completes busy.id (region_at region tables.databases).rows os (pad_of tried.trial)) tried.outputs
+      ∙ ap (Completes busy.id (region_at region tables.databases).rows (outputs_by busy.unit)) tried.pad
+
+  -- the message by the list of all messages
+  found_in : message_in (messages_of tables.queues.queued) busy.id ≡ Some message_now
+  found_in = message_found busy.id tables.queues.queued ∙ found_here
 
   -- The message is gone, and its outputs were sent; the region is idle then, and the others work on.
-  module _ (tables' : TablesState) (outputs : List EndedMessage) (above : IsNewId tables.next_id tables.queues.queued)
-      (is : tables' ≡ with_databases (finished tables message_now outputs) tables'.databases) (named : message_now.id ≡ busy.id)
+  module _ (tables' : TablesState) (outputs : List EndedMessage) (pad : PadChange) (above : IsNewId tables.next_id tables.queues.queued)
+      (is : tables' ≡ closed tables'.databases pad tables message_now outputs) (named : message_now.id ≡ busy.id) (fits : Suits given_here.conversation pad)
       (beside : IsKeptBeside region tables.databases tables'.databases) (own : IsIdle region tables'.databases) (dbds : dbds_of tables'.databases ≡ dbds_of tables.databases)
       (gone : tables'.databases.table ≡ released region tables.databases.table) (rows : AreRowsOf (dbds_of tables'.databases) (committed_rows tables'.databases)) where
     abbrev sent : List Message
@@ -215,9 +234,31 @@ module _ (system : System) (tables : TablesState) (states : List CodeState) (reg
     above_sent : AllByRecursion (λ m. tables.next_id ≤ m.id) sent
     above_sent = all_above tables.next_id message_now.origin (switches tables.outputs outputs) tables.next_id (omega arith)
 
-    others : AreAtWork system tables'.databases (without busy.id tables.queues.queued) left
-    others = end_at_work system tables.databases tables'.databases tables.queues.queued regions (region - 1) busy e
-        (stay_at_work system parts.valid tables.databases tables'.databases regions region beside count there.0) parts.at_work
+    abbrev conversations_left : List TerminalConversation
+    conversations_left = padded pad message_now.origin tables.conversations
+
+    conversations_are : tables'.conversations ≡ conversations_left
+    conversations_are = ap (λ t. t.conversations) is
+
+    messages_are : messages_of tables'.queues.queued ≡ without_message (messages_of tables.queues.queued) busy.id ++ sent
+    messages_are =
+        ap messages_of queued_is ∙ messages_both (without busy.id tables.queues.queued) sent
+        ∙ ap (λ ms. ms ++ sent) (messages_without busy.id tables.queues.queued)
+
+    conversations_here : AreConversations system tables'.conversations (messages_of tables'.queues.queued)
+    conversations_here =
+        subst (λ cs. AreConversations system cs (messages_of tables'.queues.queued)) (sym conversations_are)
+        (subst (AreConversations system conversations_left) (sym messages_are)
+        (conversations_closed system tables.conversations (messages_of tables.queues.queued) parts.conversations busy.id message_now found_in pad fits sent
+        (all_plain message_now.origin (switches tables.outputs outputs) tables.next_id)))
+
+    others : AreAtWork system tables'.databases conversations_left (without busy.id tables.queues.queued) left
+    others = end_at_work system tables.databases tables'.databases tables.conversations conversations_left tables.queues.queued regions (region - 1) busy e
+        (stay_at_work system parts.valid tables.databases tables'.databases regions region beside count there.0)
+        (λ other message here apart.
+        given_left system tables.conversations (messages_of tables.queues.queued) parts.conversations busy.id message_now found_in pad fits other message
+        (message_found other tables.queues.queued ∙ here) apart)
+        parts.at_work
 
     new_left : IsNewId tables.next_id (without busy.id tables.queues.queued)
     new_left = new_id_without tables.next_id busy.id tables.queues.queued above
@@ -225,7 +266,7 @@ module _ (system : System) (tables : TablesState) (states : List CodeState) (reg
     told_left : IsTold (slots_of left) tables'.queues.queued
     told_left = rw queued_is
         (told_more sent (without busy.id tables.queues.queued) (slots_of left)
-        (all_free system tables'.databases tables.next_id (without busy.id tables.queues.queued) left sent new_left others above_sent)
+        (all_free system tables'.databases conversations_left tables.next_id (without busy.id tables.queues.queued) left sent new_left others above_sent)
         (end_told tables.queues.queued regions (region - 1) busy e parts.told))
 
     -- as many messages wait of each code to which nothing was sent
@@ -245,7 +286,8 @@ module _ (system : System) (tables : TablesState) (states : List CodeState) (reg
       states_are = size ∙ parts.states_are;
       settled = settled;
       told = told_left;
-      at_work = rw queued_is (at_work_more system tables'.databases sent (without busy.id tables.queues.queued) left others);
+      at_work = rw (conversations_are, queued_is) (at_work_more system tables'.databases conversations_left sent (without busy.id tables.queues.queued) left others);
+      conversations = conversations_here;
       databases = are_beside system region tables.databases tables'.databases parts.databases beside dbds rows;
       idle = idle_ended system parts.valid tables.databases tables'.databases regions region beside count there.0 own parts.idle;
     }
@@ -254,7 +296,7 @@ module _ (system : System) (tables : TablesState) (states : List CodeState) (reg
     told_before : IsTold (slots_of regions) tables'.queues.queued
     told_before = rw queued_is
         (told_more sent (without busy.id tables.queues.queued) (slots_of regions)
-        (all_free system tables.databases tables.next_id tables.queues.queued regions sent above parts.at_work above_sent)
+        (all_free system tables.databases tables.conversations tables.next_id tables.queues.queued regions sent above parts.at_work above_sent)
         (told_without busy.id tables.queues.queued (slots_of regions) parts.told))
 
     -- the flags of the code and of the destinations followed
@@ -280,23 +322,27 @@ module _ (system : System) (tables : TablesState) (states : List CodeState) (reg
         ∙ sym (turn_leaves system moment_now region [] (Some slot_now) answer (Some step) (table_by system moment_now region (Some slot_now)) slot_here says does refl)
 
   -- what is closed, by the message that is there
-  closed_here : (databases : DatabasesState) (sends : Message → List EndedMessage) (tables' : TablesState) → IsClosed databases sends tables tables' busy.id
-      → (message_now.id ≡ busy.id) × (tables' ≡ with_databases (finished tables message_now (sends message_now)) databases)
-  closed_here databases sends tables' closed = by (message_at busy.id tables.queues.queued) found_here closed
+  closed_here : (databases : DatabasesState) (pads : Message → PadChange) (sends : Message → List EndedMessage) (tables' : TablesState) → IsClosed databases pads sends tables tables' busy.id
+      → (message_now.id ≡ busy.id) × (tables' ≡ closed databases (pads message_now) tables message_now (sends message_now))
+  closed_here databases pads sends tables' done = by (message_at busy.id tables.queues.queued) found_here done
     where
-      by : (found : Option Message) → found ≡ Some message_now → IsSomeAnd found (λ m. (m.id ≡ busy.id) × (tables' ≡ with_databases (finished tables m (sends m)) databases))
-          → (message_now.id ≡ busy.id) × (tables' ≡ with_databases (finished tables message_now (sends message_now)) databases)
-      by (Some m) f g = let here : m ≡ message_now = cc in subst (λ n. (n.id ≡ busy.id) × (tables' ≡ with_databases (finished tables n (sends n)) databases)) here g
+      by : (found : Option Message) → found ≡ Some message_now → IsSomeAnd found (λ m. (m.id ≡ busy.id) × (tables' ≡ closed databases (pads m) tables m (sends m)))
+          → (message_now.id ≡ busy.id) × (tables' ≡ closed databases (pads message_now) tables message_now (sends message_now))
+      by (Some m) f g = let here : m ≡ message_now = cc in subst (λ n. (n.id ≡ busy.id) × (tables' ≡ closed databases (pads n) tables n (sends n))) here g
       by None f g = absurd g
 
   -- The message is completed.
   module _ (tables' : TablesState) (above : IsNewId tables.next_id tables.queues.queued) (sends : List EndedMessage) (sent_is : sends ≡ outputs_by busy.unit)
-      (closed : IsClosed tables'.databases (λ _. sends) tables tables' busy.id)
-      (applies : Applies (Completes busy.id (region_at region tables.databases).rows sends) tables tables')
+      (pad : PadChange) (pad_is : pad ≡ pad_by busy.unit) (suits : SuitsUnit busy.unit (pad_by busy.unit))
+      (done : IsClosed tables'.databases (λ _. pad) (λ _. sends) tables tables' busy.id)
+      (applies : Applies (Completes busy.id (region_at region tables.databases).rows sends pad) tables tables')
       (stays : IsCommitted region tables.databases tables'.databases) (dbds : dbds_of tables'.databases ≡ dbds_of tables.databases)
       (rows : AreRowsOf (dbds_of tables'.databases) (committed_rows tables'.databases)) where
-    done_is : (message_now.id ≡ busy.id) × (tables' ≡ with_databases (finished tables message_now sends) tables'.databases)
-    done_is = closed_here tables'.databases (λ _. sends) tables' closed
+    done_is : (message_now.id ≡ busy.id) × (tables' ≡ closed tables'.databases pad tables message_now sends)
+    done_is = closed_here tables'.databases (λ _. pad) (λ _. sends) tables' done
+
+    fits_here : Suits given_here.conversation pad
+    fits_here = subst (Suits given_here.conversation) (sym pad_is) (tried.fits suits)
 
     beside_here : IsKeptBeside region tables.databases tables'.databases
     beside_here = beside_committed region tables.databases tables'.databases there.0 stays dbds parts.databases.rows rows
@@ -305,17 +351,19 @@ module _ (system : System) (tables : TablesState) (states : List CodeState) (reg
     own_idle = idle_committed region tables.databases tables'.databases stays
 
     applies_here : Applies completes tables tables'
-    applies_here = subst (λ os. Applies (Completes busy.id (region_at region tables.databases).rows os) tables tables') sent_is applies
+    applies_here =
+        subst (λ p. Applies (Completes busy.id (region_at region tables.databases).rows (outputs_by busy.unit) p) tables tables') pad_is
+        (subst (λ os. Applies (Completes busy.id (region_at region tables.databases).rows os pad) tables tables') sent_is applies)
 
     pub follows_completed : (states' : List CodeState) → states' ≡ all_followed system.codes (λ name. free_count name tables'.queues.queued) (busy.code ∷ destinations sends) states
         → IsFollowed system (λ name. free_count name tables'.queues.queued) states states'
     follows_completed states' follow =
-        follows_closed tables' sends above done_is.1 done_is.0 beside_here own_idle dbds stays.table rows (busy.code ∷ destinations sends) states'
+        follows_closed tables' sends pad above done_is.1 done_is.0 fits_here beside_here own_idle dbds stays.table rows (busy.code ∷ destinations sends) states'
         (λ name none. (or_none (bytes_eq name busy.code) (list_any (λ n. bytes_eq name n) (destinations sends)) none).1) follow
 
     pub parts_completed : (states' : List CodeState) → IsFollowed system (λ name. free_count name tables'.queues.queued) states states' → AreParts system tables' states' left
     parts_completed states' follows =
-        parts_closed tables' sends above done_is.1 done_is.0 beside_here own_idle dbds stays.table rows states' follows.size
+        parts_closed tables' sends pad above done_is.1 done_is.0 fits_here beside_here own_idle dbds stays.table rows states' follows.size
         (followed_settled system (λ name. free_count name tables'.queues.queued) states states' follows)
 
     pub done_turned : (states' : List CodeState) → IsFollowed system (λ name. free_count name tables'.queues.queued) states states'
@@ -324,7 +372,7 @@ module _ (system : System) (tables : TablesState) (states : List CodeState) (reg
     done_turned states' follows h = record {
       victims = nobody_breaks system moment_now region slot_now slot_here (free_here Ends h);
       answer = sym (answer_here Ends h);
-      after = turned_closed tables' sends above done_is.1 done_is.0 beside_here own_idle dbds stays.table rows states' (Done busy.code busy.id) completes Ends h follows
+      after = turned_closed tables' sends pad above done_is.1 done_is.0 fits_here beside_here own_idle dbds stays.table rows states' (Done busy.code busy.id) completes Ends h follows
           (answer_here Ends h) refl (step_here Ends h ∙ ap (λ s. Some s) completes_is) (λ table. refl) applies_here;
       system = refl;
     }
@@ -344,7 +392,7 @@ module _ (system : System) (tables : TablesState) (states : List CodeState) (reg
             then first_waiting (is_held (slots_of regions)) busy.code (lasting_of (settings_of states) tables').messages else None) (busy_is regions)
             ∙ ap (λ f. if may_go_on code.transaction state busy.taken && nat_le (content (lasting_of (settings_of states) tables') + slot_room * count_by is_some regions) system.qbytes
             then f else None) (first_free_is busy.code (slots_of regions) tables'.queues.queued
-            (told_before tables' sends above done_is.1 done_is.0 beside_here own_idle dbds stays.table rows))
+            (told_before tables' sends pad above done_is.1 done_is.0 fits_here beside_here own_idle dbds stays.table rows))
         by (Some code) None = refl
         by None state = refl
 
@@ -366,7 +414,7 @@ module _ (system : System) (tables : TablesState) (states : List CodeState) (reg
     none_turned states' follows says h = record {
       victims = nobody_breaks system moment_now region slot_now slot_here (free_here Syncs h);
       answer = sym says;
-      after = turned_closed tables' sends above done_is.1 done_is.0 beside_here own_idle dbds stays.table rows states' (QC busy.code busy.id) completes Syncs h follows
+      after = turned_closed tables' sends pad above done_is.1 done_is.0 fits_here beside_here own_idle dbds stays.table rows states' (QC busy.code busy.id) completes Syncs h follows
           says refl (step_here Syncs h ∙ ap (λ s. Some s) completes_is) (λ table. refl) applies_here;
       system = refl;
     }
@@ -399,7 +447,7 @@ module _ (system : System) (tables : TablesState) (states : List CodeState) (reg
           let both = or_none (bytes_eq name busy.code) (list_any (λ n. bytes_eq name n) (destinations sends)) none in
           ap (λ t. free_count name t.queues.queued) holds
           ∙ count_held name busy.code new.id (Some region) tables'.queues.queued both.0 (first_codes busy.code tables'.queues.queued new.id free.ordered free.first)
-          ∙ waits tables' sends above done_is.1 done_is.0 beside_here own_idle dbds stays.table rows name both.1) follow
+          ∙ waits tables' sends pad above done_is.1 done_is.0 fits_here beside_here own_idle dbds stays.table rows name both.1) follow
 
       pub next_turned : (middle states' : List CodeState) → IsFollowed system (λ name. free_count name tables'.queues.queued) states middle
           → IsFollowed system (λ name. free_count name tables''.queues.queued) states states' → new.taken ≡ busy.taken + 1
@@ -430,11 +478,15 @@ module _ (system : System) (tables : TablesState) (states : List CodeState) (reg
 
   -- The work has ended abnormally.
   module _ (tables' : TablesState) (above : IsNewId tables.next_id tables.queues.queued) (abend : AbendCode)
-      (closed : IsClosed tables'.databases (λ message. abend_outputs message abend) tables tables' busy.id)
+      (done : IsClosed tables'.databases discarded_pad (λ message. abend_outputs message abend) tables tables' busy.id)
       (applies : Applies (Discards busy.id abend) tables tables')
       (back : IsGivenUp region tables.databases tables'.databases) (dbds : dbds_of tables'.databases ≡ dbds_of tables.databases) where
-    gone_is : (message_now.id ≡ busy.id) × (tables' ≡ with_databases (finished tables message_now (abend_outputs message_now abend)) tables'.databases)
-    gone_is = closed_here tables'.databases (λ message. abend_outputs message abend) tables' closed
+    gone_is : (message_now.id ≡ busy.id) × (tables' ≡ closed tables'.databases (discarded_pad message_now) tables message_now (abend_outputs message_now abend))
+    gone_is = closed_here tables'.databases discarded_pad (λ message. abend_outputs message abend) tables' done
+
+    fits_gone : Suits given_here.conversation (discarded_pad message_now)
+    fits_gone = discarded_fits tables.conversations message_now
+        (all_found (IsOfConversation tables.conversations) (messages_of tables.queues.queued) busy.id message_now parts.conversations.belong found_in)
 
     beside_back : IsKeptBeside region tables.databases tables'.databases
     beside_back = beside_given_up region tables.databases tables'.databases there.0 back dbds
@@ -449,7 +501,7 @@ module _ (system : System) (tables : TablesState) (states : List CodeState) (reg
         → states' ≡ all_followed system.codes (λ name. free_count name tables'.queues.queued) (origin ∷ []) states
         → IsFollowed system (λ name. free_count name tables'.queues.queued) states states'
     follows_abended states' origin from follow =
-        follows_closed tables' (abend_outputs message_now abend) above gone_is.1 gone_is.0 beside_back back_idle dbds back.table back_rows (origin ∷ []) states'
+        follows_closed tables' (abend_outputs message_now abend) (discarded_pad message_now) above gone_is.1 gone_is.0 fits_gone beside_back back_idle dbds back.table back_rows (origin ∷ []) states'
         (λ name none. ap (λ o. bytes_eq name o || false) (sym (by (message_at busy.id tables.queues.queued) found_here from)) ∙ none) follow
       where
         by : (found : Option Message) → found ≡ Some message_now → IsSomeAnd found (λ message. origin ≡ message.origin) → origin ≡ message_now.origin
@@ -458,7 +510,7 @@ module _ (system : System) (tables : TablesState) (states : List CodeState) (reg
 
     pub parts_abended : (states' : List CodeState) → IsFollowed system (λ name. free_count name tables'.queues.queued) states states' → AreParts system tables' states' left
     parts_abended states' follows =
-        parts_closed tables' (abend_outputs message_now abend) above gone_is.1 gone_is.0 beside_back back_idle dbds back.table back_rows states' follows.size
+        parts_closed tables' (abend_outputs message_now abend) (discarded_pad message_now) above gone_is.1 gone_is.0 fits_gone beside_back back_idle dbds back.table back_rows states' follows.size
         (followed_settled system (λ name. free_count name tables'.queues.queued) states states' follows)
 
     pub abended_turned : (states' : List CodeState) → IsFollowed system (λ name. free_count name tables'.queues.queued) states states'
@@ -467,7 +519,7 @@ module _ (system : System) (tables : TablesState) (states : List CodeState) (reg
     abended_turned states' follows h = record {
       victims = nobody_breaks system moment_now region slot_now slot_here (free_here (Abends abend) h);
       answer = sym (answer_here (Abends abend) h);
-      after = turned_closed tables' (abend_outputs message_now abend) above gone_is.1 gone_is.0 beside_back back_idle dbds back.table back_rows states' (Abended busy.code busy.id abend) (Discards busy.id abend) (Abends abend) h follows
+      after = turned_closed tables' (abend_outputs message_now abend) (discarded_pad message_now) above gone_is.1 gone_is.0 fits_gone beside_back back_idle dbds back.table back_rows states' (Abended busy.code busy.id abend) (Discards busy.id abend) (Abends abend) h follows
           (answer_here (Abends abend) h) refl (step_here (Abends abend) h) (λ table. refl) applies;
       system = refl;
     }

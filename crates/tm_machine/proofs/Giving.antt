@@ -13,7 +13,7 @@ use Rattle.std.proofs.lemmas.Map.Keys.{sorted_head, sorted_tail}
 use Rattle.std.proofs.lemmas.Option.{get_or_from_slice_get}
 use Rattle.tm_types.specs.declared.message.Message.{Message}
 use Rattle.model_queues.specs.declared.queued.Queued.{Queued}
-use Rattle.model_queues.specs.Queue.{AreInOrder, has_id, ids_of, message_at, queued_at, with_holder, free_count}
+use Rattle.model_queues.specs.Queue.{AreInOrder, has_id, ids_of, message_at, messages_of, queued_at, with_holder, free_count}
 use Rattle.model_queues.proofs.Laws.{messages_held}
 use Rattle.msg_queues.proofs.Keys.{equal_from}
 use Rattle.model_enqueue.specs.Table.{blockers, wait_of, waits_for}
@@ -32,8 +32,8 @@ use Rattle.program_rows.specs.Answering.{IsGivenUp}
 use Rattle.lasting_state.specs.Tables.{TablesState, lasting_of, given_back, with_databases}
 use Rattle.deadlock_pick.specs.Weighed.{IsWeighed}
 use Rattle.tm_machine.specs.declared.region.Busy.{Busy}
-use Rattle.tm_machine.specs.Region.{calls_made}
-use Rattle.tm_machine.specs.Parts.{slot_of, slots_of, settings_of, flags_of, IsTold, AreParts}
+use Rattle.tm_machine.specs.Region.{given_in, calls_made}
+use Rattle.tm_machine.specs.Parts.{slot_of, slots_of, settings_of, flags_of, IsTold, AreConversations, AreParts}
 use Rattle.tm_machine.specs.Victims.{gave_way}
 use Rattle.tm_machine.proofs.Others.{IsKeptBeside, are_beside, beside_given_up, idle_ended, idle_given_up, rows_stay, stay_at_work}
 use Rattle.tm_machine.proofs.Free.{count_held, or_none}
@@ -95,7 +95,7 @@ module _ (system : System) (tables : TablesState) (states : List CodeState) (reg
     queued_is = ap (λ t. t.queues.queued) is
 
     told_left : IsTold (slots_of left) tables'.queues.queued
-    told_left = rw queued_is (back_told system tables.databases tables.queues.queued tables.queues.queued regions (region - 1) busy parts.at_work e parts.told)
+    told_left = rw queued_is (back_told system tables.databases tables.conversations tables.queues.queued tables.queues.queued regions (region - 1) busy parts.at_work e parts.told)
 
     pub parts_given : (states' : List CodeState) → IsFollowed system (λ name. free_count name tables'.queues.queued) states states' → AreParts system tables' states' left
     parts_given states' follows = record {
@@ -106,8 +106,10 @@ module _ (system : System) (tables : TablesState) (states : List CodeState) (reg
       states_are = follows.size ∙ parts.states_are;
       settled = followed_settled system (λ name. free_count name tables'.queues.queued) states states' follows;
       told = told_left;
-      at_work = rw queued_is (back_at_work system tables.databases tables'.databases tables.queues.queued regions (region - 1) busy e
+      at_work = rw (ap (λ t. t.conversations) is, queued_is) (back_at_work system tables.databases tables'.databases tables.conversations tables.queues.queued regions (region - 1) busy e
           (stay_at_work system parts.valid tables.databases tables'.databases regions region beside count there.0) parts.at_work);
+      conversations = subst (λ cs. AreConversations system cs (messages_of tables'.queues.queued)) (sym (ap (λ t. t.conversations) is))
+          (subst (AreConversations system tables.conversations) (sym (ap messages_of queued_is ∙ messages_held busy.id None tables.queues.queued)) parts.conversations);
       databases = are_beside system region tables.databases tables'.databases parts.databases beside dbds (rows_stay tables.databases tables'.databases back.committed dbds parts.databases.rows);
       idle = idle_ended system parts.valid tables.databases tables'.databases regions region beside count there.0
           (idle_given_up region tables.databases tables'.databases works_there back) parts.idle;
@@ -177,8 +179,8 @@ module _ (system : System) (tables : TablesState) (states : List CodeState) (reg
       message : Message
       message = (parts.at_work place busy e).message
 
-      tried : IsTried job message (place + 1) tables.databases busy.unit
-      tried = unit_trial job message (place + 1) tables.databases busy.unit (parts.at_work place busy e).work.unit
+      tried : IsTried job (given_in tables.conversations message) (place + 1) tables.databases busy.unit
+      tried = unit_trial job (given_in tables.conversations message) (place + 1) tables.databases busy.unit (parts.at_work place busy e).work.unit
 
       trial : slot_trial system (lasting_of (settings_of states) tables) (record { code = busy.code; taken = busy.taken; id = busy.id; calls = calls_made busy.unit }) ≡ Some tried.trial
       trial = trial_is system tables states regions (place + 1) parts (record { code = busy.code; taken = busy.taken; id = busy.id; calls = calls_made busy.unit }) message job tried.trial

@@ -21,7 +21,7 @@ use Rattle.program_rows.specs.State.{DatabasesState, rows_of}
 use Rattle.lasting_state.specs.Tables.{TablesState, lasting_of}
 use Rattle.message_run.specs.Ahead.{Advances, StayOthers, StaysUnlessCalled}
 use Rattle.tm_machine.specs.declared.region.Busy.{Busy}
-use Rattle.tm_machine.specs.Region.{SameMessage, StepsOn, Steps, SameWork, calls_made}
+use Rattle.tm_machine.specs.Region.{given_in, SameMessage, StepsOn, Steps, SameWork, calls_made}
 use Rattle.tm_machine.specs.Parts.{PartsState, slots_of, settings_of, flags_of, AreParts}
 use Rattle.tm_machine.specs.Victims.{IsSettled}
 use Rattle.tm_machine.specs.Turns.{Goes}
@@ -88,12 +88,12 @@ module _ (system : System) (tables : TablesState) (states : List CodeState) (reg
       ∙ parts.settled
 
   module _ (left : DatabasesState) (old new : Busy) (message : Message) (advanced : Advanced) (e : slice_get regions (region - 1) ≡ Some (Some old))
-      (found : message_at old.id tables.queues.queued ≡ Some message) (s : StepsOn system region tables.databases left message old new advanced) where
+      (found : message_at old.id tables.queues.queued ≡ Some message) (s : StepsOn system region tables.databases left (given_in tables.conversations message) old new advanced) where
     here_slot : slot_at (moment_of regions) region ≡ Some (slot_for old)
     here_slot = slot_is system tables states regions region parts (Some old) e
 
-    made_here : trial_of s.steps.job (rows_of tables.databases.committed) message (calls_made old.unit) ≡ Some s.steps.ahead.trial
-    made_here = subst (λ n. trial_of s.steps.job (rows_of tables.databases.committed) message n ≡ Some s.steps.ahead.trial) s.calls s.steps.ahead.made
+    made_here : trial_of s.steps.job (rows_of tables.databases.committed) (given_in tables.conversations message) (calls_made old.unit) ≡ Some s.steps.ahead.trial
+    made_here = subst (λ n. trial_of s.steps.job (rows_of tables.databases.committed) (given_in tables.conversations message) n ≡ Some s.steps.ahead.trial) s.calls s.steps.ahead.made
 
     abbrev work_here : AtWork
     work_here = work_by s.steps.job (moment_of regions).lasting s.steps.ahead.trial
@@ -114,7 +114,7 @@ module _ (system : System) (tables : TablesState) (states : List CodeState) (reg
     stays_here : new.unit ≡ Some s.after → s.after.calls ≡ s.before.calls → slots_of (slice_set regions (region - 1) (Some new)) ≡ slots_of regions
     stays_here is calls = same_slots old new e (slot_same old new (calls_made old.unit) s.same (ap calls_made is ∙ calls ∙ s.calls))
 
-    by : (a : Advanced) → StaysUnlessCalled tables.databases left a → Advances s.steps.job message region tables.databases left s.steps.ahead.trial s.before s.after a
+    by : (a : Advanced) → StaysUnlessCalled tables.databases left a → Advances s.steps.job (given_in tables.conversations message) region tables.databases left s.steps.ahead.trial s.before s.after a
         → Goes (record { system = system; moment = moment_of regions }) (state_of left (slice_set regions (region - 1) (Some new))) region (Some a)
     by (Called function pcb status) stays a = record {
       victims = nobody_breaks system (moment_of regions) region (slot_for old) here_slot free;
@@ -170,7 +170,7 @@ module _ (system : System) (tables : TablesState) (states : List CodeState) (reg
   goes_by left (Some old) (Some new) None e stays h = absurd h
   goes_by left (Some old) (Some new) (Some advanced) e stays h = by_found (message_at old.id tables.queues.queued) refl h
     where
-      by_found : (found : Option Message) → message_at old.id tables.queues.queued ≡ found → IsSomeAnd found (λ message. StepsOn system region tables.databases left message old new advanced)
+      by_found : (found : Option Message) → message_at old.id tables.queues.queued ≡ found → IsSomeAnd found (λ message. StepsOn system region tables.databases left (given_in tables.conversations message) old new advanced)
           → Goes (record { system = system; moment = moment_of regions }) (state_of left (slice_set regions (region - 1) (Some new))) region (Some advanced)
       by_found (Some message) f s = by left old new message advanced e f s advanced stays s.steps.advances
       by_found None f s = absurd s

@@ -1,3 +1,5 @@
+pub mod Conversing
+pub mod Joining
 mod Linked
 mod Tabled
 mod Others

@@ -3,20 +3,23 @@ use Rattle.std.proofs.Common.{◌≡◌, ◌≢◌, ℕ, zero, suc, ◌+◌, ◌
 use Rattle.std.specs.Prelude.{Option, Some, None, if◌then◌else◌, ◌==◌, slice_get, slice_set}
 use Rattle.std.specs.Option.{option_map, is_some, is_none}
 use Rattle.std.specs.Str.{bytes_eq}
-use Rattle.std.specs.List.{find, filter, count_by}
+use Rattle.std.specs.List.{AllByRecursion, find, filter, count_by}
 use Rattle.std.proofs.lemmas.List.Sums.{length-filter}
 use Rattle.std.proofs.lemmas.Bool.{eqb-true, eq-eqb, ne_eqb}
 use Rattle.tm_types.specs.declared.message.Message.{Message}
 use Rattle.model_queues.specs.declared.queued.Queued.{Queued}
 use Rattle.model_queues.specs.Queue.{IsNewId, has_id, is_free_of, queued_at, message_at, messages_of, with_message, with_holder, without, first_free, free_count}
 use Rattle.model_queues.specs.Waiting.{is_waiting, first_waiting, count_waiting}
-use Rattle.model_queues.proofs.Laws.{found_behind, found_without, found_held, found_own}
+use Rattle.model_queues.proofs.Laws.{message_found, found_behind, found_without, found_held, found_own}
+use Rattle.model_conversation.specs.declared.conversation.TerminalConversation.{TerminalConversation}
 use Rattle.model_system.specs.System.{System}
 use Rattle.program_rows.specs.State.{DatabasesState}
+use Rattle.model_machine.specs.Trial.{Given}
 use Rattle.model_machine.specs.Machine.{Slot, has_message, is_held}
 use Rattle.tm_machine.specs.declared.region.Busy.{Busy}
-use Rattle.tm_machine.specs.Region.{IsWork}
+use Rattle.tm_machine.specs.Region.{IsWork, given_in}
 use Rattle.tm_machine.specs.Parts.{slot_of, slots_of, IsAtWork, IsTold, AreAtWork}
+use Rattle.tm_machine.proofs.Conversing.{all_found}
 
 -- A message waits where no region has it, by the slots or by the queues.
 free_is : (code : List ℕ) (slots : List (Option Slot)) (q : Queued) → is_held slots q.message.id ≡ is_some q.holder
@@ -106,7 +109,8 @@ no-both : true ≡ false → ⊥
 no-both e = cc
 
 -- What a region works on is found in the queues under its number.
-module _ (system : System) (databases : DatabasesState) (queued : List Queued) (regions : List (Option Busy)) (at_work : AreAtWork system databases queued regions) where
+module _ (system : System) (databases : DatabasesState) (conversations : List TerminalConversation) (queued : List Queued) (regions : List (Option Busy))
+    (at_work : AreAtWork system databases conversations queued regions) where
   -- two regions never have one message
   pub one_each : (place other : ℕ) (a b : Busy) → slice_get regions place ≡ Some (Some a) → slice_get regions other ≡ Some (Some b) → place ≢ other → a.id ≢ b.id
   one_each place other a b ea eb apart same =
@@ -150,33 +154,38 @@ step_told (q ∷ qs) regions place old new e same told = (
 -- the work of the other regions stays as it was
 abbrev pub StayAtWork : System → DatabasesState → DatabasesState → List (Option Busy) → ℕ → Type 0
 StayAtWork system databases databases' regions place =
-    (other : ℕ) (busy : Busy) → place ≢ other → slice_get regions other ≡ Some (Some busy) → (message : Message)
-    → IsWork system databases (other + 1) message busy → IsWork system databases' (other + 1) message busy
+    (other : ℕ) (busy : Busy) → place ≢ other → slice_get regions other ≡ Some (Some busy) → (given : Given)
+    → IsWork system databases (other + 1) given busy → IsWork system databases' (other + 1) given busy
 
-pub step_at_work : (system : System) (databases databases' : DatabasesState) (queued : List Queued) (regions : List (Option Busy)) (place : ℕ) (old new : Busy) → slice_get regions place ≡ Some (Some old)
-    → new.id ≡ old.id → ((message : Message) → message_at old.id queued ≡ Some message → IsWork system databases' (place + 1) message new)
+-- other messages are given as they were
+abbrev pub StayGiven : ℕ → List Queued → List TerminalConversation → List TerminalConversation → Type 0
+StayGiven id queued conversations conversations' =
+    (other : ℕ) (message : Message) → message_at other queued ≡ Some message → (other ≡ id → ⊥) → given_in conversations' message ≡ given_in conversations message
+
+pub step_at_work : (system : System) (databases databases' : DatabasesState) (conversations : List TerminalConversation) (queued : List Queued) (regions : List (Option Busy)) (place : ℕ) (old new : Busy) → slice_get regions place ≡ Some (Some old)
+    → new.id ≡ old.id → ((message : Message) → message_at old.id queued ≡ Some message → IsWork system databases' (place + 1) (given_in conversations message) new)
     → StayAtWork system databases databases' regions place
-    → AreAtWork system databases queued regions → AreAtWork system databases' queued (slice_set regions place (Some new))
-step_at_work system databases databases' queued regions place old new e same works stay at_work other busy f =
+    → AreAtWork system databases conversations queued regions → AreAtWork system databases' conversations queued (slice_set regions place (Some new))
+step_at_work system databases databases' conversations queued regions place old new e same works stay at_work other busy f =
     ⊎_elim here there (set_get regions place other (Some new) busy f)
   where
     some-is : (a b : Busy) → Some a ≡ Some b → a ≡ b
     some-is a b e = cc
 
-    here : (place ≡ other) × (Some new ≡ Some busy) → IsAtWork system databases' queued (other + 1) busy
+    here : (place ≡ other) × (Some new ≡ Some busy) → IsAtWork system databases' conversations queued (other + 1) busy
     here h =
         let was = at_work place old e in
         let is : new ≡ busy = some-is new busy h.1 in
-        subst (λ b. IsAtWork system databases' queued (other + 1) b) is (record {
+        subst (λ b. IsAtWork system databases' conversations queued (other + 1) b) is (record {
           message = was.message;
           found = ap (λ id. queued_at id queued) same ∙ was.found ∙ ap (λ n. Some (record { message = was.message; holder = Some (n + 1) })) h.0;
-          work = subst (λ n. IsWork system databases' (n + 1) was.message new) h.0 (works was.message (ap (option_map (λ q. q.message)) was.found));
+          work = subst (λ n. IsWork system databases' (n + 1) (given_in conversations was.message) new) h.0 (works was.message (ap (option_map (λ q. q.message)) was.found));
         })
 
-    there : (place ≢ other) × (slice_get regions other ≡ Some (Some busy)) → IsAtWork system databases' queued (other + 1) busy
+    there : (place ≢ other) × (slice_get regions other ≡ Some (Some busy)) → IsAtWork system databases' conversations queued (other + 1) busy
     there h =
         let was = at_work other busy h.1 in
-        record { message = was.message; found = was.found; work = stay other busy h.0 h.1 was.message was.work }
+        record { message = was.message; found = was.found; work = stay other busy h.0 h.1 (given_in conversations was.message) was.work }
 
 -- an empty region takes a message that no region has
 pub take_told : (id holder : ℕ) (queued : List Queued) (regions : List (Option Busy)) (place : ℕ) (new : Busy) → slice_get regions place ≡ Some None → new.id ≡ id
@@ -193,25 +202,25 @@ take_told id holder (q ∷ qs) regions place new e same told =
         held_same q.message.id regions place None (Some new) e (ne_eqb new.id q.message.id (λ s. no-both (sym (eq-eqb q.message.id id (sym s ∙ same)) ∙ h)))
         ∙ told.0
 
-pub take_at_work : (system : System) (databases : DatabasesState) (id : ℕ) (queued : List Queued) (regions : List (Option Busy)) (place : ℕ) (new : Busy) (message : Message)
+pub take_at_work : (system : System) (databases : DatabasesState) (conversations : List TerminalConversation) (id : ℕ) (queued : List Queued) (regions : List (Option Busy)) (place : ℕ) (new : Busy) (message : Message)
     → slice_get regions place ≡ Some None → new.id ≡ id
-    → queued_at id queued ≡ Some (record { message = message; holder = None }) → IsWork system databases (place + 1) message new
-    → AreAtWork system databases queued regions → AreAtWork system databases (with_holder id (Some (place + 1)) queued) (slice_set regions place (Some new))
-take_at_work system databases id queued regions place new message e same free work at_work other busy f =
+    → queued_at id queued ≡ Some (record { message = message; holder = None }) → IsWork system databases (place + 1) (given_in conversations message) new
+    → AreAtWork system databases conversations queued regions → AreAtWork system databases conversations (with_holder id (Some (place + 1)) queued) (slice_set regions place (Some new))
+take_at_work system databases conversations id queued regions place new message e same free work at_work other busy f =
     ⊎_elim here there (set_get regions place other (Some new) busy f)
   where
     some-is : (a b : Busy) → Some a ≡ Some b → a ≡ b
     some-is a b e = cc
 
-    here : (place ≡ other) × (Some new ≡ Some busy) → IsAtWork system databases (with_holder id (Some (place + 1)) queued) (other + 1) busy
+    here : (place ≡ other) × (Some new ≡ Some busy) → IsAtWork system databases conversations (with_holder id (Some (place + 1)) queued) (other + 1) busy
     here h =
         let is : new ≡ busy = some-is new busy h.1 in
-        subst (λ b. IsAtWork system databases (with_holder id (Some (place + 1)) queued) (other + 1) b) is (record {
+        subst (λ b. IsAtWork system databases conversations (with_holder id (Some (place + 1)) queued) (other + 1) b) is (record {
           message = message;
           found = ap (λ n. queued_at n (with_holder id (Some (place + 1)) queued)) same
               ∙ found_own id (Some (place + 1)) queued (record { message = message; holder = None }) free
               ∙ ap (λ n. Some (record { message = message; holder = Some (n + 1) })) h.0;
-          work = subst (λ n. IsWork system databases (n + 1) message new) h.0 work;
+          work = subst (λ n. IsWork system databases (n + 1) (given_in conversations message) new) h.0 work;
         })
 
     holder-of : (p q : Queued) → Some p ≡ Some q → p.holder ≡ q.holder
@@ -223,7 +232,7 @@ take_at_work system databases id queued regions place new message e same free wo
     taken : (a : Message) (r : ℕ) → ◌≡◌ {A = Option Queued} (Some (record { message = a; holder = Some r })) (Some (record { message = message; holder = None })) → ⊥
     taken a r e = no-holder r (holder-of (record { message = a; holder = Some r }) (record { message = message; holder = None }) e)
 
-    there : (place ≢ other) × (slice_get regions other ≡ Some (Some busy)) → IsAtWork system databases (with_holder id (Some (place + 1)) queued) (other + 1) busy
+    there : (place ≢ other) × (slice_get regions other ≡ Some (Some busy)) → IsAtWork system databases conversations (with_holder id (Some (place + 1)) queued) (other + 1) busy
     there h =
         let was = at_work other busy h.1 in
         let apart : busy.id ≢ id = λ s. taken was.message (other + 1) (sym was.found ∙ ap (λ n. queued_at n queued) s ∙ free) in
@@ -243,31 +252,32 @@ end_told (q ∷ qs) regions place old e told = by (has_id old.id q) refl (end_to
       rest,
     )
 
-pub end_at_work : (system : System) (databases databases' : DatabasesState) (queued : List Queued) (regions : List (Option Busy)) (place : ℕ) (old : Busy)
-    → slice_get regions place ≡ Some (Some old) → StayAtWork system databases databases' regions place
-    → AreAtWork system databases queued regions → AreAtWork system databases' (without old.id queued) (slice_set regions place None)
-end_at_work system databases databases' queued regions place old e stay at_work other busy f =
+pub end_at_work : (system : System) (databases databases' : DatabasesState) (conversations conversations' : List TerminalConversation) (queued : List Queued) (regions : List (Option Busy)) (place : ℕ) (old : Busy)
+    → slice_get regions place ≡ Some (Some old) → StayAtWork system databases databases' regions place → StayGiven old.id queued conversations conversations'
+    → AreAtWork system databases conversations queued regions → AreAtWork system databases' conversations' (without old.id queued) (slice_set regions place None)
+end_at_work system databases databases' conversations conversations' queued regions place old e stay given at_work other busy f =
     ⊎_elim (λ h. absurd (none-is busy h.1)) there (set_get regions place other None busy f)
   where
     none-is : (b : Busy) → None ≡ Some b → ⊥
     none-is b e = cc
 
-    there : (place ≢ other) × (slice_get regions other ≡ Some (Some busy)) → IsAtWork system databases' (without old.id queued) (other + 1) busy
+    there : (place ≢ other) × (slice_get regions other ≡ Some (Some busy)) → IsAtWork system databases' conversations' (without old.id queued) (other + 1) busy
     there h =
         let was = at_work other busy h.1 in
-        let apart : busy.id ≢ old.id = one_each system databases queued regions at_work other place busy old h.1 e (λ s. h.0 (sym s)) in
+        let apart : busy.id ≢ old.id = one_each system databases conversations queued regions at_work other place busy old h.1 e (λ s. h.0 (sym s)) in
         record {
           message = was.message;
           found = found_without busy.id old.id queued apart ∙ was.found;
-          work = stay other busy h.0 h.1 was.message was.work;
+          work = subst (λ g. IsWork system databases' (other + 1) g busy) (sym (given busy.id was.message (ap (option_map (λ q. q.message)) was.found) apart))
+              (stay other busy h.0 h.1 (given_in conversations was.message) was.work);
         }
 
 -- a region gives its message back, which keeps its place
-pub back_told : (system : System) (databases : DatabasesState) (whole queued : List Queued) (regions : List (Option Busy)) (place : ℕ) (old : Busy) → AreAtWork system databases whole regions
+pub back_told : (system : System) (databases : DatabasesState) (conversations : List TerminalConversation) (whole queued : List Queued) (regions : List (Option Busy)) (place : ℕ) (old : Busy) → AreAtWork system databases conversations whole regions
     → slice_get regions place ≡ Some (Some old) → IsTold (slots_of regions) queued → IsTold (slots_of (slice_set regions place None)) (with_holder old.id None queued)
-back_told system databases whole [] regions place old at_work e told = tt
-back_told system databases whole (q ∷ qs) regions place old at_work e told =
-    (by (has_id old.id q) refl, back_told system databases whole qs regions place old at_work e told.1)
+back_told system databases conversations whole [] regions place old at_work e told = tt
+back_told system databases conversations whole (q ∷ qs) regions place old at_work e told =
+    (by (has_id old.id q) refl, back_told system databases conversations whole qs regions place old at_work e told.1)
   where
     none-is : (b : Busy) → None ≡ Some b → ⊥
     none-is b f = cc
@@ -275,7 +285,7 @@ back_told system databases whole (q ∷ qs) regions place old at_work e told =
     apart : (other : ℕ) (busy : Busy) → slice_get (slice_set regions place None) other ≡ Some (Some busy) → busy.id ≢ old.id
     apart other busy f =
         ⊎_elim (λ h. absurd (none-is busy h.1))
-        (λ h. one_each system databases whole regions at_work other place busy old h.1 e (λ s. h.0 (sym s)))
+        (λ h. one_each system databases conversations whole regions at_work other place busy old h.1 e (λ s. h.0 (sym s)))
         (set_get regions place other None busy f)
 
     by : (b : Bool) → has_id old.id q ≡ b
@@ -285,23 +295,23 @@ back_told system databases whole (q ∷ qs) regions place old at_work e told =
         not_held q.message.id (slice_set regions place None) (λ other busy f s. apart other busy f (s ∙ same))
     by false h = held_same q.message.id regions place (Some old) None e (sym (ne_eqb old.id q.message.id (λ s. no-both (sym (eq-eqb q.message.id old.id (sym s)) ∙ h)))) ∙ told.0
 
-pub back_at_work : (system : System) (databases databases' : DatabasesState) (queued : List Queued) (regions : List (Option Busy)) (place : ℕ) (old : Busy)
+pub back_at_work : (system : System) (databases databases' : DatabasesState) (conversations : List TerminalConversation) (queued : List Queued) (regions : List (Option Busy)) (place : ℕ) (old : Busy)
     → slice_get regions place ≡ Some (Some old) → StayAtWork system databases databases' regions place
-    → AreAtWork system databases queued regions → AreAtWork system databases' (with_holder old.id None queued) (slice_set regions place None)
-back_at_work system databases databases' queued regions place old e stay at_work other busy f =
+    → AreAtWork system databases conversations queued regions → AreAtWork system databases' conversations (with_holder old.id None queued) (slice_set regions place None)
+back_at_work system databases databases' conversations queued regions place old e stay at_work other busy f =
     ⊎_elim (λ h. absurd (none-is busy h.1)) there (set_get regions place other None busy f)
   where
     none-is : (b : Busy) → None ≡ Some b → ⊥
     none-is b e = cc
 
-    there : (place ≢ other) × (slice_get regions other ≡ Some (Some busy)) → IsAtWork system databases' (with_holder old.id None queued) (other + 1) busy
+    there : (place ≢ other) × (slice_get regions other ≡ Some (Some busy)) → IsAtWork system databases' conversations (with_holder old.id None queued) (other + 1) busy
     there h =
         let was = at_work other busy h.1 in
-        let apart : busy.id ≢ old.id = one_each system databases queued regions at_work other place busy old h.1 e (λ s. h.0 (sym s)) in
+        let apart : busy.id ≢ old.id = one_each system databases conversations queued regions at_work other place busy old h.1 e (λ s. h.0 (sym s)) in
         record {
           message = was.message;
           found = found_held busy.id old.id None queued apart ∙ was.found;
-          work = stay other busy h.0 h.1 was.message was.work;
+          work = stay other busy h.0 h.1 (given_in conversations was.message) was.work;
         }
 
 -- an input comes, which no region has
@@ -318,18 +328,25 @@ below_new id next (p ∷ qs) q above e = by (has_id id p) refl e (λ h. below_ne
     by true h f rest = subst (λ n. n < next) (eqb-true p.message.id id h) above.0
     by false h f rest = rest f
 
-pub new_free : (system : System) (databases : DatabasesState) (next : ℕ) (queued : List Queued) (regions : List (Option Busy)) → IsNewId next queued → AreAtWork system databases queued regions
+pub new_free : (system : System) (databases : DatabasesState) (conversations : List TerminalConversation) (next : ℕ) (queued : List Queued) (regions : List (Option Busy)) → IsNewId next queued → AreAtWork system databases conversations queued regions
     → is_held (slots_of regions) next ≡ false
-new_free system databases next queued regions above at_work =
+new_free system databases conversations next queued regions above at_work =
     not_held next regions (λ place busy e same.
     let small : busy.id < next = below_new busy.id next queued (record { message = (at_work place busy e).message; holder = Some (place + 1) }) above (at_work place busy e).found in
     absurd (omega (arith, small, same)))
 
-pub new_at_work : (system : System) (databases : DatabasesState) (queued : List Queued) (regions : List (Option Busy)) (message : Message)
-    → AreAtWork system databases queued regions → AreAtWork system databases (with_message message queued) regions
-new_at_work system databases queued regions message at_work place busy e =
+pub new_at_work : (system : System) (databases : DatabasesState) (conversations conversations' : List TerminalConversation) (queued : List Queued) (regions : List (Option Busy)) (message : Message)
+    → AllByRecursion (λ n. given_in conversations' n ≡ given_in conversations n) (messages_of queued)
+    → AreAtWork system databases conversations queued regions → AreAtWork system databases conversations' (with_message message queued) regions
+new_at_work system databases conversations conversations' queued regions message given at_work place busy e =
     let was = at_work place busy e in
-    record { message = was.message; found = found_behind busy.id queued (record { message = message; holder = None } ∷ []) _ was.found; work = was.work }
+    let same : given_in conversations' was.message ≡ given_in conversations was.message =
+    all_found (λ n. given_in conversations' n ≡ given_in conversations n) (messages_of queued) busy.id was.message given (message_found busy.id queued ∙ ap (option_map (λ q. q.message)) was.found) in
+    record {
+      message = was.message;
+      found = found_behind busy.id queued (record { message = message; holder = None } ∷ []) _ was.found;
+      work = subst (λ g. IsWork system databases (place + 1) g busy) (sym same) was.work;
+    }
 
 pub told_without : (id : ℕ) (queued : List Queued) (slots : List (Option Slot)) → IsTold slots queued → IsTold slots (without id queued)
 told_without id [] slots told = tt

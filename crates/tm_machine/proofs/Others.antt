@@ -5,7 +5,6 @@ use Rattle.std.specs.Option.{option_map, option_and_then}
 use Rattle.std.specs.Str.{bytes_eq}
 use Rattle.std.proofs.lemmas.List.{get_or-set_other, get_or-set_same}
 use Rattle.std.proofs.lemmas.List.Elements.{All-head, All-tail}
-use Rattle.tm_types.specs.declared.message.Message.{Message}
 use Rattle.model_dli.specs.declared.need.Need.{Need as RootNeed}
 use Rattle.model_dli.specs.Data.{Data}
 use Rattle.model_enqueue.specs.declared.request.Request.{Request}
@@ -15,7 +14,7 @@ use Rattle.model_script.specs.declared.need.CallText.{CallText}
 use Rattle.model_script.specs.declared.need.Need.{Need}
 use Rattle.model_script.specs.declared.need.Need.TheVariants.{Call, Ended, Abend}
 use Rattle.model_system.specs.Jobs.{Job, job_of, job_by, job_with, program_at}
-use Rattle.model_machine.specs.Trial.{Reached, Trial, reached, trial_need}
+use Rattle.model_machine.specs.Trial.{Given, Reached, Trial, reached, trial_need}
 use Rattle.model_machine.specs.Trial.Reached.{Messages, Rows, Nothing}
 use Rattle.model_machine.specs.Requests.{request_for, requests_at, requests_by, requests_of, asked_behind}
 use Rattle.program_rows.specs.State.{DatabasesState, RegionRows, AreRowsOf, IsClean, IsRegionOf, no_rows, region_at, committed_rows, dbds_of, rows_of, clean_region, with_records_from}
@@ -65,20 +64,20 @@ clean_same other old new committed sees h = record {
   changed = ap (λ r. r.changed) sees ∙ h.changed;
 }
 
-unit_same : (job : Job) (message : Message) (other : ℕ) (old new : DatabasesState) (unit : Option RunState)
+unit_same : (job : Job) (given : Given) (other : ℕ) (old new : DatabasesState) (unit : Option RunState)
     → new.committed ≡ old.committed → region_at other new ≡ region_at other old → dbds_of new ≡ dbds_of old
     → ((q : Request) → q.region ≡ other → IsHeld old.table q → IsHeld new.table q)
-    → IsUnit job message other old unit → IsUnit job message other new unit
-unit_same job message other old new None committed sees dbds holds h = clean_same other old new committed sees h
-unit_same job message other old new (Some unit) committed sees dbds holds h = kept job message other old new unit dbds holds h committed sees
+    → IsUnit job given other old unit → IsUnit job given other new unit
+unit_same job given other old new None committed sees dbds holds h = clean_same other old new committed sees h
+unit_same job given other old new (Some unit) committed sees dbds holds h = kept job given other old new unit dbds holds h committed sees
 
 -- ---- other regions
 -- A region's step, or the end of its work, leaves the work of the other regions as it was.
 pub record IsKeptBeside (region : ℕ) (old new : DatabasesState) : Type 0 where
   pub count : length new.regions ≡ length old.regions
   pub regions : new.table.regions ≡ old.table.regions
-  pub units : (other : ℕ) → (other ≡ region → ⊥) → IsRegionOf old other → (job : Job) (message : Message) (unit : Option RunState)
-      → IsServable job.system.databases job.pcbs job.lines → IsUnit job message other old unit → IsUnit job message other new unit
+  pub units : (other : ℕ) → (other ≡ region → ⊥) → IsRegionOf old other → (job : Job) (given : Given) (unit : Option RunState)
+      → IsServable job.system.databases job.pcbs job.lines → IsUnit job given other old unit → IsUnit job given other new unit
   pub idle : (other : ℕ) → (other ≡ region → ⊥) → IsRegionOf old other → IsIdle other old → IsIdle other new
 
 places_apart : (other region : ℕ) → (other ≡ region → ⊥) → 1 ≤ other → 1 ≤ region → other - 1 ≡ region - 1 → ⊥
@@ -101,8 +100,8 @@ pub beside_step : (region : ℕ) (old new : DatabasesState) (requests : List Req
 beside_step region old new requests positive stays own asked = record {
   count = ap length stays.regions ∙ set_count old.regions (region - 1) (region_at region new);
   regions = ap (λ t. t.regions) asked ∙ regions_asks region requests old.table;
-  units = λ other apart there job message unit servable.
-      unit_same job message other old new unit stays.committed
+  units = λ other apart there job given unit servable.
+      unit_same job given other old new unit stays.committed
       (sees_other region other old new (region_at region new) apart there.least positive stays.regions) stays.dbds
       (λ q same held. subst (λ t. IsHeld t q) (sym asked) (asks_keep region requests old.table q held));
   idle = λ other apart there was. record {
@@ -116,7 +115,7 @@ pub beside_same : (region : ℕ) (old new : DatabasesState) → new ≡ old → 
 beside_same region old new same = record {
   count = ap (λ d. length d.regions) same;
   regions = ap (λ d. d.table.regions) same;
-  units = λ other apart there job message unit servable was. subst (λ d. IsUnit job message other d unit) (sym same) was;
+  units = λ other apart there job given unit servable was. subst (λ d. IsUnit job given other d unit) (sym same) was;
   idle = λ other apart there was. subst (IsIdle other) (sym same) was;
 }
 
@@ -125,8 +124,8 @@ pub beside_given_up : (region : ℕ) (old new : DatabasesState) → 1 ≤ region
 beside_given_up region old new positive back dbds = record {
   count = ap length back.regions ∙ set_count old.regions (region - 1) (clean_region (committed_rows old));
   regions = ap (λ t. t.regions) back.table;
-  units = λ other apart there job message unit servable.
-      unit_same job message other old new unit back.committed
+  units = λ other apart there job given unit servable.
+      unit_same job given other old new unit back.committed
       (sees_other region other old new (clean_region (committed_rows old)) apart there.least positive back.regions) dbds
       (λ q same held. subst (λ t. IsHeld t q) (sym back.table) (held_released region old.table q (λ s. apart (sym same ∙ s)) held));
   idle = λ other apart there was. record {
@@ -138,8 +137,8 @@ beside_given_up region old new positive back dbds = record {
 -- The work in another region stays as it was where a region's changes are committed: what it holds is as before.
 abbrev BesideLaw : ℕ → DatabasesState → DatabasesState → Type 0
 BesideLaw region old new =
-    (other : ℕ) → (other ≡ region → ⊥) → IsRegionOf old other → (job : Job) (message : Message) (unit : RunState)
-    → IsServable job.system.databases job.pcbs job.lines → IsAhead job message other old unit → IsAhead job message other new unit
+    (other : ℕ) → (other ≡ region → ⊥) → IsRegionOf old other → (job : Job) (given : Given) (unit : RunState)
+    → IsServable job.system.databases job.pcbs job.lines → IsAhead job given other old unit → IsAhead job given other new unit
 
 beside_clean : (other : ℕ) (old new : DatabasesState) → IsBeside other old new → IsClean other old → IsClean other new
 beside_clean other old new beside was = record {
@@ -166,13 +165,13 @@ beside_committed region old new positive stays dbds rows_old rows_new = record {
 }
   where
     law : BesideLaw region old new
-    law other apart there job message unit servable ahead =
-        committed_law job message other region old new unit there.least positive apart dbds ahead servable rows_old rows_new there.most stays
+    law other apart there job given unit servable ahead =
+        committed_law job given other region old new unit there.least positive apart dbds ahead servable rows_old rows_new there.most stays
 
-    units : (other : ℕ) → (other ≡ region → ⊥) → IsRegionOf old other → (job : Job) (message : Message) (unit : Option RunState)
-        → IsServable job.system.databases job.pcbs job.lines → IsUnit job message other old unit → IsUnit job message other new unit
-    units other apart there job message None servable was = beside_clean other old new (stays.others other apart there.least there.most) was
-    units other apart there job message (Some unit) servable was = law other apart there job message unit servable was
+    units : (other : ℕ) → (other ≡ region → ⊥) → IsRegionOf old other → (job : Job) (given : Given) (unit : Option RunState)
+        → IsServable job.system.databases job.pcbs job.lines → IsUnit job given other old unit → IsUnit job given other new unit
+    units other apart there job given None servable was = beside_clean other old new (stays.others other apart there.least there.most) was
+    units other apart there job given (Some unit) servable was = law other apart there job given unit servable was
 
 pub are_beside : (system : System) (region : ℕ) (old new : DatabasesState) → AreDatabases system old → IsKeptBeside region old new → dbds_of new ≡ dbds_of old
     → AreRowsOf (dbds_of new) (committed_rows new) → AreDatabases system new
@@ -241,10 +240,10 @@ module _ (system : System) (valid : IsSystem system) (old new : DatabasesState) 
   there_for other r e = let below = within regions other r e in record { least = omega arith; most = omega (arith, below, count) }
 
   pub stay_at_work : StayAtWork system old new regions (region - 1)
-  stay_at_work other busy apart e message was = record {
+  stay_at_work other busy apart e given was = record {
     job = was.job;
     serves = was.serves;
-    unit = beside.units (other + 1) (apart_from other apart) (there_for other (Some busy) e) was.job message busy.unit (job_servable system busy.code was.job valid was.serves) was.unit;
+    unit = beside.units (other + 1) (apart_from other apart) (there_for other (Some busy) e) was.job given busy.unit (job_servable system busy.code was.job valid was.serves) was.unit;
   }
 
   idle_there : (other : ℕ) → (region - 1 ≡ other → ⊥) → slice_get regions other ≡ Some None → AreIdle old regions → IsIdle (other + 1) new

@@ -5,53 +5,59 @@ use Rattle.std.specs.Option.{unwrap_or, is_some}
 use Rattle.std.specs.List.{count_by}
 use Rattle.std.proofs.lemmas.Bool.{lt-ltb, le-ltb}
 use Rattle.tm_types.specs.Segment.{counted_bytes}
-use Rattle.model_queues.specs.Queue.{IsNewId, free_count}
+use Rattle.model_queues.specs.Queue.{IsNewId, free_count, messages_of}
 use Rattle.model_queues.specs.Room.{input_needs}
 use Rattle.model_system.specs.declared.code_state.CodeState.{CodeState}
 use Rattle.model_system.specs.System.{System}
 use Rattle.model_machine.specs.declared.entry.Taken.TheVariants.{New}
 use Rattle.model_machine.specs.declared.entry.InputRefused.TheVariants.{QueueFull}
 use Rattle.model_machine.specs.declared.entry.Entry.TheVariants.{Accept}
+use Rattle.model_machine.specs.Lasting.{KeptInput, input_message, kept_input, with_begun}
 use Rattle.model_machine.specs.Lasting.LastingStep.{Accepts}
 use Rattle.model_machine.specs.Steps.{no_room, input_answer}
 use Rattle.lasting_state.specs.Tables.{TablesState, lasting_of, content_of, needs, enqueued, Applies}
 use Rattle.tm_machine.specs.declared.region.Busy.{Busy}
 use Rattle.tm_machine.specs.declared.input.NewInput.{NewInput}
 use Rattle.tm_machine.specs.Answers.{IsAnswered}
-use Rattle.tm_machine.specs.Inputs.{IsNewInput}
+use Rattle.tm_types.specs.Name.{IsName}
+use Rattle.tm_machine.specs.declared.input.Way.{Way}
+use Rattle.tm_machine.specs.declared.input.Way.TheVariants.{Alone, GoesOn, Begins}
+use Rattle.tm_machine.proofs.Joining.{Joined, input_joined, terminal_there}
+use Rattle.tm_machine.specs.Inputs.{IsNewInput, kept_so}
 use Rattle.tm_machine.specs.Parts.{PartsState, slots_of, settings_of, flags_of, AreParts}
 use Rattle.tm_machine.proofs.Linked.{busy_is}
 use Rattle.tm_machine.proofs.Raising.{IsFollowed}
 use Rattle.tm_machine.proofs.Started.{moment_enqueued, moment_refused}
 
 module _ (system : System) (tables : TablesState) (states : List CodeState) (regions : List (Option Busy)) (parts : AreParts system tables states regions)
-    (terminal : List ℕ) (number : ℕ) (segments : List (List ℕ)) (input : NewInput) (some : 0 < length segments) (busy : ℕ) (counted : busy ≡ count_by is_some regions) where
+    (terminal : List ℕ) (number : ℕ) (segments : List (List ℕ)) (kept : KeptInput) (kept_is : kept ≡ kept_input system (lasting_of (settings_of states) tables) terminal segments) (input : NewInput) (some : 0 < length segments) (busy : ℕ) (counted : busy ≡ count_by is_some regions) where
   abbrev state_with : TablesState → List CodeState → PartsState
   state_with t ss = record { system = system; moment = record { lasting = lasting_of (settings_of ss) t; slots = slots_of regions; enqueues = t.databases.table; raised = flags_of ss } }
 
-  room_is : no_room system (state_with tables states).moment segments
-      ≡ (if nat_lt system.qbytes (needs tables segments busy) then Some (Err (QueueFull (needs tables segments busy) system.qbytes)) else None)
+  room_is : no_room system (state_with tables states).moment kept.segments
+      ≡ (if nat_lt system.qbytes (needs tables kept.segments busy) then Some (Err (QueueFull (needs tables kept.segments busy) system.qbytes)) else None)
   room_is =
-      ap (λ n. if nat_lt system.qbytes (input_needs (content_of tables) (counted_bytes segments) n) then Some (Err (QueueFull (input_needs (content_of tables) (counted_bytes segments) n) system.qbytes)) else None)
+      ap (λ n. if nat_lt system.qbytes (input_needs (content_of tables) (counted_bytes kept.segments) n) then Some (Err (QueueFull (input_needs (content_of tables) (counted_bytes kept.segments) n) system.qbytes)) else None)
       (busy_is regions ∙ sym counted)
 
   pub new_answer : IsNewInput (state_with tables states) terminal number segments input → IsNewId tables.next_id tables.queues.queued → (tables' : TablesState) (states' : List CodeState) (id : ℕ) → id ≡ tables.next_id
-      → needs tables segments busy ≤ tables.queues.limit → tables' ≡ enqueued tables terminal number segments → Applies (Accepts terminal number segments) tables tables'
+      → needs tables kept.segments busy ≤ tables.queues.limit → tables' ≡ enqueued tables terminal number kept → Applies (Accepts terminal number kept) tables tables'
       → IsFollowed system (λ n. free_count n tables'.queues.queued) states states'
       → IsAnswered (state_with tables states) (state_with tables' states') (Accept terminal number segments (Ok (New id)))
   new_answer new above tables' states' id same fits is applies follows = record {
     may = record { call = some; victims = refl; answer = ap (Accept terminal number segments) says };
-    after = moment_enqueued system tables states regions terminal number segments parts above tables' is states' id follows (applies (settings_of states)) says;
+    after = moment_enqueued system tables states regions terminal number kept parts above tables' is segments states' id kept_is follows (applies (settings_of states)) says;
     system = refl;
   }
     where
       says : Ok (New id) ≡ input_answer system (state_with tables states).moment terminal number segments
       says =
           ap (λ n. Ok (New n)) same
-          ∙ sym (new.answer ∙ ap (λ r. unwrap_or r (Ok (New tables.next_id))) (room_is
-          ∙ ap (λ b. if b then Some (Err (QueueFull (needs tables segments busy) system.qbytes)) else None) (le-ltb system.qbytes (needs tables segments busy) (subst (λ n. needs tables segments busy ≤ n) parts.limit fits))))
+          ∙ sym (new.answer ∙ ap (λ k. unwrap_or (no_room system (state_with tables states).moment k.segments) (Ok (New tables.next_id))) (sym kept_is)
+          ∙ ap (λ r. unwrap_or r (Ok (New tables.next_id))) (room_is
+          ∙ ap (λ b. if b then Some (Err (QueueFull (needs tables kept.segments busy) system.qbytes)) else None) (le-ltb system.qbytes (needs tables kept.segments busy) (subst (λ n. needs tables kept.segments busy ≤ n) parts.limit fits))))
 
-  pub full_answer : IsNewInput (state_with tables states) terminal number segments input → (tables' : TablesState) (need limit : ℕ) → need ≡ needs tables segments busy → limit ≡ tables.queues.limit
+  pub full_answer : IsNewInput (state_with tables states) terminal number segments input → (tables' : TablesState) (need limit : ℕ) → need ≡ needs tables kept.segments busy → limit ≡ tables.queues.limit
       → limit < need → tables' ≡ tables → IsAnswered (state_with tables states) (state_with tables' states) (Accept terminal number segments (Err (QueueFull need limit)))
   full_answer new tables' need limit n l less stays = record {
     may = record { call = some; victims = refl; answer = ap (Accept terminal number segments) says };
@@ -61,7 +67,30 @@ module _ (system : System) (tables : TablesState) (states : List CodeState) (reg
     where
       says : Err (QueueFull need limit) ≡ input_answer system (state_with tables states).moment terminal number segments
       says =
-          ap (λ k. Err (QueueFull k limit)) n ∙ ap (λ k. Err (QueueFull (needs tables segments busy) k)) (l ∙ parts.limit)
-          ∙ sym (new.answer ∙ ap (λ r. unwrap_or r (Ok (New tables.next_id))) (room_is
-          ∙ ap (λ b. if b then Some (Err (QueueFull (needs tables segments busy) system.qbytes)) else None)
-          (lt-ltb system.qbytes (needs tables segments busy) (subst (λ k. k < needs tables segments busy) (l ∙ parts.limit) (subst (λ k. limit < k) n less)))))
+          ap (λ k. Err (QueueFull k limit)) n ∙ ap (λ k. Err (QueueFull (needs tables kept.segments busy) k)) (l ∙ parts.limit)
+          ∙ sym (new.answer ∙ ap (λ k. unwrap_or (no_room system (state_with tables states).moment k.segments) (Ok (New tables.next_id))) (sym kept_is)
+          ∙ ap (λ r. unwrap_or r (Ok (New tables.next_id))) (room_is
+          ∙ ap (λ b. if b then Some (Err (QueueFull (needs tables kept.segments busy) system.qbytes)) else None)
+          (lt-ltb system.qbytes (needs tables kept.segments busy) (subst (λ k. k < needs tables kept.segments busy) (l ∙ parts.limit) (subst (λ k. limit < k) n less)))))
+
+-- ---- the conversations with a new input
+kept_code : (way : Way) (code : List ℕ) (segments : List (List ℕ)) → (kept_so way code segments).code ≡ code
+kept_code Alone code segments = refl
+kept_code GoesOn code segments = refl
+kept_code (Begins pad) code segments = refl
+
+module _ (system : System) (tables : TablesState) (states : List CodeState) (regions : List (Option Busy)) (parts : AreParts system tables states regions)
+    (terminal : List ℕ) (number : ℕ) (segments : List (List ℕ)) (input : NewInput) (kept : KeptInput)
+    (new : IsNewInput (record { system = system; moment = record { lasting = lasting_of (settings_of states) tables; slots = slots_of regions; enqueues = tables.databases.table; raised = flags_of states } }) terminal number segments input)
+    (is : kept ≡ kept_so input.way input.code segments) where
+  pub kept_here : kept ≡ kept_input system (lasting_of (settings_of states) tables) terminal segments
+  kept_here = is ∙ new.kept
+
+  pub code_here : kept.code ≡ input.code
+  code_here = ap (λ k. k.code) is ∙ kept_code input.way input.code segments
+
+  pub joined_here : Joined system tables.conversations (with_begun terminal kept.begins tables.conversations) (messages_of tables.queues.queued) (input_message tables.next_id terminal kept)
+  joined_here =
+      input_joined system parts.valid tables.conversations (messages_of tables.queues.queued) parts.conversations terminal tables.next_id
+      (terminal_there tables.terminals tables.conversations terminal input.place (parts.names ∙ sym parts.conversations.names) new.place new.within)
+      segments kept kept_here new.free (subst IsName (sym code_here) new.named)

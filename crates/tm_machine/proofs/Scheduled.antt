@@ -1,9 +1,8 @@
 -- An empty region takes a message.
-use Rattle.std.proofs.Common.{◌≡◌, ℕ, ◌+◌, ◌-◌, ◌≤◌, ◌<◌, Bool, true, false, List, [], ◌∷◌, map, length, refl, sym, ap, ◌∙◌, subst, arith}
+use Rattle.std.proofs.Common.{◌≡◌, ℕ, ◌+◌, ◌-◌, ◌≤◌, ◌<◌, false, List, [], ◌∷◌, map, length, refl, sym, ap, ◌∙◌, subst, arith}
 use Rattle.std.proofs.lemmas.Bool.{lt-ltb, le-ltb}
 use Rattle.std.specs.Str.{bytes_eq}
-use Rattle.std.proofs.lemmas.List.Elements.{All-head, All-tail}
-use Rattle.std.specs.Prelude.{Option, Some, None, IsSome, IsSomeAnd, All, find, if◌then◌else◌, nat_lt, slice_get, slice_set, unwrap_or}
+use Rattle.std.specs.Prelude.{Option, Some, None, IsSome, IsSomeAnd, if◌then◌else◌, nat_lt, slice_get, slice_set, unwrap_or}
 use Rattle.std.specs.Option.{option_map, option_and_then, IfSome}
 use Rattle.tm_types.specs.declared.message.Message.{Message}
 use Rattle.model_queues.specs.declared.queued.Queued.{Queued}
@@ -32,10 +31,11 @@ use Rattle.tran_pick.proofs.Found.{first_codes}
 use Rattle.tran_pick.specs.declared.picked.Pick.{Pick}
 use Rattle.lasting_state.specs.Tables.{TablesState, lasting_of, held}
 use Rattle.tm_machine.specs.declared.region.Busy.{Busy}
-use Rattle.tm_machine.specs.Region.{IsWork, calls_made}
-use Rattle.tm_machine.specs.Parts.{slot_of, slots_of, settings_of, flags_of, IsTold, AreAtWork, AreParts}
+use Rattle.tm_machine.specs.Region.{given_in, IsWork, calls_made}
+use Rattle.tm_machine.specs.Parts.{slot_of, slots_of, settings_of, flags_of, IsTold, AreAtWork, AreConversations, AreParts}
 use Rattle.tm_machine.proofs.Linked.{first_free_is, take_told, take_at_work, set_length, set_slots, get_slots}
 use Rattle.tm_machine.proofs.Free.{count_held, or_none}
+use Rattle.tm_machine.proofs.Conversing.{found_holds}
 use Rattle.tm_machine.proofs.Leaving.{moment_is, moment_stays, turn_leaves}
 use Rattle.tm_machine.proofs.Raising.{IsFollowed, followed_all}
 use Rattle.tm_machine.proofs.Stepped.{slot_is, set_same}
@@ -51,15 +51,6 @@ none_map (Some c) e = cc
 some_map : (o : Option Candidate) (p : Pick) → Some p ≡ option_map pick_with o → IsSomeAnd o (λ c. (c.code ≡ p.code) × (c.id ≡ p.id))
 some_map None p e = cc
 some_map (Some c) p e = let same : pick_with c ≡ p = cc in (ap (λ q. q.code) same, ap (λ q. q.id) same)
-
--- what holds of each code holds of the one that is found
-found_holds : (P : Code → Type 0) (p : Code → Bool) (codes : List Code) → All P codes → IfSome (find p codes) P
-found_holds P p [] h = tt
-found_holds P p (code ∷ codes) h = by (p code) (All-head P code codes h) (found_holds P p codes (All-tail P code codes h))
-  where
-    by : (b : Bool) → P code → IfSome (find p codes) P → IfSome (if b then Some code else find p codes) P
-    by true here rest = here
-    by false here rest = rest
 
 -- a code with a program has a job
 job_there : (system : System) (code : Option Code) → IsSome code → IfSome code (λ c. IsSome (program_at system.programs c.psb)) → IsSome (option_and_then (job_by system) code)
@@ -183,6 +174,7 @@ module _ (system : System) (tables : TablesState) (states : List CodeState) (reg
       settled = settled;
       told = rw is told_taken;
       at_work = rw is (by (queued_at busy.id tables.queues.queued) (job_of system busy.code) refl refl free (is_served_by known));
+      conversations = rw is (subst (AreConversations system tables.conversations) (sym (messages_held busy.id (Some region) tables.queues.queued)) parts.conversations);
       databases = rw is parts.databases;
       idle = rw is (idle_taken tables.databases regions (region - 1) busy parts.idle);
     }
@@ -193,13 +185,13 @@ module _ (system : System) (tables : TablesState) (states : List CodeState) (reg
 
         by : (found : Option Queued) (job : Option Job) → queued_at busy.id tables.queues.queued ≡ found → job_of system busy.code ≡ job
             → IsSomeAnd found (λ q. q.holder ≡ None) → IsSome job
-            → AreAtWork system tables.databases (with_holder busy.id (Some region) tables.queues.queued) (slice_set regions (region - 1) (Some busy))
+            → AreAtWork system tables.databases tables.conversations (with_holder busy.id (Some region) tables.queues.queued) (slice_set regions (region - 1) (Some busy))
         by (Some q) (Some job) f g none k =
             let here : queued_at busy.id tables.queues.queued ≡ Some (record { message = q.message; holder = None }) = f ∙ ap (λ h. Some (record { message = q.message; holder = h })) none in
-            let work : IsWork system tables.databases (region - 1 + 1) q.message busy
+            let work : IsWork system tables.databases (region - 1 + 1) (given_in tables.conversations q.message) busy
             = record { job = job; serves = g; unit = rw fresh (parts.idle (region - 1) empty).clean } in
-            subst (λ n. AreAtWork system tables.databases (with_holder busy.id (Some n) tables.queues.queued) (slice_set regions (region - 1) (Some busy))) back
-            (take_at_work system tables.databases busy.id tables.queues.queued regions (region - 1) busy q.message empty refl here work parts.at_work)
+            subst (λ n. AreAtWork system tables.databases tables.conversations (with_holder busy.id (Some n) tables.queues.queued) (slice_set regions (region - 1) (Some busy))) back
+            (take_at_work system tables.databases tables.conversations busy.id tables.queues.queued regions (region - 1) busy q.message empty refl here work parts.at_work)
         by (Some q) None f g none k = cc
         by None job f g none k = absurd none
 

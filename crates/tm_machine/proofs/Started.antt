@@ -1,10 +1,13 @@
 -- An empty control region, and an input that comes.
-use Rattle.std.proofs.Common.{◌≡◌, ℕ, zero, suc, ◌+◌, ◌-◌, ◌<◌, false, List, [], ◌∷◌, map, length, replicate, get_or, refl, sym, ap, ◌∙◌, arith}
-use Rattle.std.specs.Prelude.{Option, Some, None, Result, Ok, slice_get, slice_set}
+use Rattle.std.proofs.Common.{◌≡◌, ℕ, zero, suc, ◌+◌, ◌-◌, ◌<◌, false, List, [], ◌∷◌, map, length, replicate, get_or, refl, sym, ap, ◌∙◌, arith, subst}
+use Rattle.std.specs.Prelude.{Option, Some, None, IfSome, Result, Ok, slice_get, slice_set}
+use Rattle.std.specs.List.{AllByRecursion}
 use Rattle.std.specs.Option.{option_map_or}
 use Rattle.std.specs.Str.{bytes_eq}
 use Rattle.tm_types.specs.declared.message.Message.{Message}
-use Rattle.model_queues.specs.Queue.{IsNewId, free_count}
+use Rattle.model_queues.specs.Queue.{IsNewId, free_count, messages_of}
+use Rattle.model_conversation.specs.declared.conversation.TerminalConversation.{TerminalConversation}
+use Rattle.model_conversation.specs.Terminals.{without_conversation}
 use Rattle.model_system.specs.declared.code.Code.{Code}
 use Rattle.model_system.specs.declared.code_state.CodeState.{CodeState}
 use Rattle.model_system.specs.Lists.{change_at}
@@ -16,8 +19,8 @@ use Rattle.model_machine.specs.declared.entry.Taken.TheVariants.{New}
 use Rattle.model_machine.specs.declared.entry.InputRefused.{InputRefused}
 use Rattle.model_machine.specs.declared.entry.ControlCall.TheVariants.{Input}
 use Rattle.model_machine.specs.declared.lasting.TerminalState.{TerminalState}
-use Rattle.model_machine.specs.Machine.{terminal_place, fresh_terminal_state, first_setting, raised_now, moment_with, empty_state, start_of}
-use Rattle.model_machine.specs.Lasting.{code_word, with_last, applied}
+use Rattle.model_machine.specs.Machine.{LastingState, Moment, terminal_place, fresh_terminal_state, first_setting, raised_now, moment_with, empty_state, start_of}
+use Rattle.model_machine.specs.Lasting.{KeptInput, input_message, kept_input, with_begun, with_last, applied}
 use Rattle.model_machine.specs.Lasting.LastingStep.{Accepts}
 use Rattle.model_machine.specs.Steps.{accepts, input_answer, After}
 use Rattle.model_machine.specs.Flags.{all_followed}
@@ -25,7 +28,9 @@ use Rattle.model_enqueue.specs.Table.{empty_table, wait_of}
 use Rattle.program_rows.specs.State.{DatabasesState, RegionRows, AreRowsOf, IsClean, clean_region, committed_rows, dbds_of, no_rows, region_at}
 use Rattle.lasting_state.specs.Tables.{TablesState, lasting_of, enqueued}
 use Rattle.tm_machine.specs.declared.region.Busy.{Busy}
-use Rattle.tm_machine.specs.Parts.{slots_of, settings_of, flags_of, IsTold, AreParts}
+use Rattle.tm_machine.specs.Parts.{slots_of, settings_of, flags_of, IsTold, AreConversations, AreParts, IsConversation}
+use Rattle.tm_machine.proofs.Joining.{Joined}
+use Rattle.lasting_state.proofs.Finished.{messages_both}
 use Rattle.tm_machine.proofs.Free.{count_added, or_none}
 use Rattle.tm_machine.proofs.Leaving.{moment_is, moment_stays}
 use Rattle.tm_machine.proofs.Linked.{new_told, new_free, new_at_work}
@@ -89,6 +94,14 @@ fresh_names : (terminals : List (List ℕ)) → map (λ t. t.name) (map fresh_te
 fresh_names [] = refl
 fresh_names (name ∷ terminals) = ap (λ ns. name ∷ ns) (fresh_names terminals)
 
+conversing_names : (terminals : List (List ℕ)) → map (λ t. t.terminal) (map without_conversation terminals) ≡ terminals
+conversing_names [] = refl
+conversing_names (name ∷ terminals) = ap (λ ns. name ∷ ns) (conversing_names terminals)
+
+no_pads : (system : System) (terminals : List (List ℕ)) → AllByRecursion (λ t. IfSome t.conversation (IsConversation system)) (map without_conversation terminals)
+no_pads system [] = tt
+no_pads system (name ∷ terminals) = (tt, no_pads system terminals)
+
 pub parts_start : (system : System) (tables : TablesState) (states : List CodeState) (regions : List (Option Busy))
     → IsSystem system → tables.queues ≡ record { limit = system.qbytes; queued = [] } → lasting_of (map first_setting system.codes) tables ≡ empty_state system
     → regions ≡ replicate (length system.regions) None → states ≡ map codes.first_state system.codes
@@ -104,6 +117,12 @@ parts_start system tables states regions valid queues lasting empty first dbds c
   settled = rw first (rw (ap (λ q. q.queued) queues) (rw (first_flags system.codes) (none_raised system.codes)));
   told = rw (ap (λ q. q.queued) queues) tt;
   at_work = λ place busy e. absurd (none_busy (length system.regions) place busy (sym (ap (λ rs. slice_get rs place) empty) ∙ e));
+  conversations = record {
+    names = ap (λ l. map (λ t. t.terminal) l.conversations) lasting ∙ conversing_names system.terminals;
+    pads = subst (AllByRecursion (λ t. IfSome t.conversation (IsConversation system))) (sym (ap (λ l. l.conversations) lasting)) (no_pads system system.terminals);
+    belong = rw (ap (λ q. q.queued) queues) tt;
+    alone = rw (ap (λ q. q.queued) queues) tt;
+  };
   databases = record { stores = dbds; rows = rows; regions = ap length clean ∙ rows_length (length system.regions) (clean_region (committed_rows tables.databases)); table = ap (λ t. t.regions) table };
   idle = λ place e. record {
     clean = clean_first tables.databases (length system.regions) place clean (below_none (length system.regions) place (sym (ap (λ rs. slice_get rs place) empty) ∙ e));
@@ -137,24 +156,30 @@ names_kept terminals (Some place) number = at terminals place
         by (Some f) rest = ap (λ ns. t.name ∷ ns) rest
         by None rest = refl
 
-module _ (system : System) (tables : TablesState) (states : List CodeState) (regions : List (Option Busy)) (terminal : List ℕ) (number : ℕ) (segments : List (List ℕ))
+module _ (system : System) (tables : TablesState) (states : List CodeState) (regions : List (Option Busy)) (terminal : List ℕ) (number : ℕ) (kept : KeptInput)
     (parts : AreParts system tables states regions) (above : IsNewId tables.next_id tables.queues.queued)
-    (tables' : TablesState) (is : tables' ≡ enqueued tables terminal number segments) where
+    (tables' : TablesState) (is : tables' ≡ enqueued tables terminal number kept) where
   abbrev message_of : Message
-  message_of = record { id = tables.next_id; origin = terminal; code = code_word segments; conversation = false; segments = segments }
+  message_of = input_message tables.next_id terminal kept
+
+  abbrev conversations_then : List TerminalConversation
+  conversations_then = with_begun terminal kept.begins tables.conversations
+
+  abbrev pub IsJoined : Type 0
+  IsJoined = Joined system tables.conversations conversations_then (messages_of tables.queues.queued) message_of
 
   told_after : IsTold (slots_of regions) tables'.queues.queued
-  told_after = rw is (new_told tables.queues.queued (slots_of regions) message_of (new_free system tables.databases tables.next_id tables.queues.queued regions above parts.at_work) parts.told)
+  told_after = rw is (new_told tables.queues.queued (slots_of regions) message_of (new_free system tables.databases tables.conversations tables.next_id tables.queues.queued regions above parts.at_work) parts.told)
 
-  pub follows_enqueued : (states' : List CodeState) (name : List ℕ) → name ≡ code_word segments
+  pub follows_enqueued : (states' : List CodeState) (name : List ℕ) → name ≡ kept.code
       → states' ≡ all_followed system.codes (λ n. free_count n tables'.queues.queued) (name ∷ []) states → IsFollowed system (λ n. free_count n tables'.queues.queued) states states'
   follows_enqueued states' name named follow =
       followed_all system (λ n. free_count n tables.queues.queued) (λ n. free_count n tables'.queues.queued) (name ∷ []) states states' parts.valid parts.states_are parts.settled
       (λ n none. ap (λ t. free_count n t.queues.queued) is
       ∙ count_added n message_of tables.queues.queued (ap (bytes_eq n) (sym named) ∙ (or_none (bytes_eq n name) false none).0)) follow
 
-  pub parts_enqueued : (states' : List CodeState) → IsFollowed system (λ n. free_count n tables'.queues.queued) states states' → AreParts system tables' states' regions
-  parts_enqueued states' follows = record {
+  pub parts_enqueued : IsJoined → (states' : List CodeState) → IsFollowed system (λ n. free_count n tables'.queues.queued) states states' → AreParts system tables' states' regions
+  parts_enqueued joined states' follows = record {
     valid = parts.valid;
     limit = ap (λ t. t.queues.limit) is ∙ parts.limit;
     names = ap (λ t. map (λ n. n.name) t.terminals) is ∙ names_kept tables.terminals (terminal_place tables.terminals terminal) number ∙ parts.names;
@@ -162,27 +187,36 @@ module _ (system : System) (tables : TablesState) (states : List CodeState) (reg
     states_are = follows.size ∙ parts.states_are;
     settled = followed_settled system (λ n. free_count n tables'.queues.queued) states states' follows;
     told = told_after;
-    at_work = rw is (new_at_work system tables.databases tables.queues.queued regions message_of parts.at_work);
+    at_work = rw is (new_at_work system tables.databases tables.conversations conversations_then tables.queues.queued regions message_of joined.given parts.at_work);
+    conversations = rw is (subst (AreConversations system conversations_then) (sym (messages_both tables.queues.queued (message_of ∷ []))) joined.are);
     databases = rw is parts.databases;
     idle = rw is parts.idle;
   }
 
-  pub moment_enqueued : (states' : List CodeState) (id : ℕ) → IsFollowed system (λ n. free_count n tables'.queues.queued) states states'
-      → lasting_of (settings_of states) tables' ≡ applied (Accepts terminal number segments) (lasting_of (settings_of states) tables)
-      → Ok (New id) ≡ input_answer system (record { lasting = lasting_of (settings_of states) tables; slots = slots_of regions; enqueues = tables.databases.table; raised = flags_of states }) terminal number segments
+  abbrev lasting_now : LastingState
+  lasting_now = lasting_of (settings_of states) tables
+
+  abbrev now : Moment
+  now = record { lasting = lasting_now; slots = slots_of regions; enqueues = tables.databases.table; raised = flags_of states }
+
+  pub moment_enqueued : (segments : List (List ℕ)) (states' : List CodeState) (id : ℕ) → kept ≡ kept_input system lasting_now terminal segments
+      → IsFollowed system (λ n. free_count n tables'.queues.queued) states states'
+      → lasting_of (settings_of states) tables' ≡ applied (Accepts terminal number kept) lasting_now
+      → Ok (New id) ≡ input_answer system now terminal number segments
       → record { lasting = lasting_of (settings_of states') tables'; slots = slots_of regions; enqueues = tables'.databases.table; raised = flags_of states' }
-      ≡ After system (record { lasting = lasting_of (settings_of states) tables; slots = slots_of regions; enqueues = tables.databases.table; raised = flags_of states }) (Input terminal number segments) []
-  moment_enqueued states' id follows applies answer =
-      moment_is system (applied (Accepts terminal number segments) (lasting_of (settings_of states) tables)) (slots_of regions) tables' states states' regions tables.databases.table follows told_after applies refl (ap (λ t. t.databases.table) is)
-      ∙ ap (λ a. moment_with system (option_map_or (λ s. applied s (lasting_of (settings_of states) tables)) (accepts terminal number segments a) (lasting_of (settings_of states) tables)) (slots_of regions) tables.databases.table (flags_of states)) answer
+      ≡ After system now (Input terminal number segments) []
+  moment_enqueued segments states' id kept_is follows applies answer =
+      moment_is system (applied (Accepts terminal number kept) lasting_now) (slots_of regions) tables' states states' regions tables.databases.table follows told_after applies refl (ap (λ t. t.databases.table) is)
+      ∙ ap (λ a. moment_with system (option_map_or (λ s. applied s lasting_now) (accepts terminal number kept a) lasting_now) (slots_of regions) tables.databases.table (flags_of states)) answer
+      ∙ ap (λ k. moment_with system (option_map_or (λ s. applied s lasting_now) (accepts terminal number k (input_answer system now terminal number segments)) lasting_now) (slots_of regions) tables.databases.table (flags_of states)) kept_is
 
 -- an input that isn't new leaves the moment
 pub moment_refused : (system : System) (tables : TablesState) (states : List CodeState) (regions : List (Option Busy)) (terminal : List ℕ) (number : ℕ) (segments : List (List ℕ))
-    (answer : Result Taken InputRefused) → AreParts system tables states regions → accepts terminal number segments answer ≡ None
+    (answer : Result Taken InputRefused) → AreParts system tables states regions → accepts terminal number (kept_input system (lasting_of (settings_of states) tables) terminal segments) answer ≡ None
     → answer ≡ input_answer system (record { lasting = lasting_of (settings_of states) tables; slots = slots_of regions; enqueues = tables.databases.table; raised = flags_of states }) terminal number segments
     → record { lasting = lasting_of (settings_of states) tables; slots = slots_of regions; enqueues = tables.databases.table; raised = flags_of states }
     ≡ After system (record { lasting = lasting_of (settings_of states) tables; slots = slots_of regions; enqueues = tables.databases.table; raised = flags_of states }) (Input terminal number segments) []
 moment_refused system tables states regions terminal number segments answer parts none says =
     moment_stays system tables states regions parts
     ∙ ap (λ o. moment_with system (option_map_or (λ s. applied s (lasting_of (settings_of states) tables)) o (lasting_of (settings_of states) tables)) (slots_of regions) tables.databases.table (flags_of states))
-    (sym none ∙ ap (accepts terminal number segments) says)
+    (sym none ∙ ap (accepts terminal number (kept_input system (lasting_of (settings_of states) tables) terminal segments)) says)

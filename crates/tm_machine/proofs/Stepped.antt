@@ -8,7 +8,7 @@ use Rattle.model_queues.proofs.Laws.{message_found}
 use Rattle.model_system.specs.declared.code_state.CodeState.{CodeState}
 use Rattle.model_system.specs.System.{System}
 use Rattle.model_system.specs.Jobs.{Job, job_of}
-use Rattle.model_machine.specs.Trial.{Trial, trial_of}
+use Rattle.model_machine.specs.Trial.{Given, Trial, trial_of}
 use Rattle.model_machine.specs.Machine.{message_at as message_in, Moment, Slot}
 use Rattle.model_machine.specs.Requests.{requests_of}
 use Rattle.model_machine.specs.Work.{slot_trial}
@@ -19,7 +19,7 @@ use Rattle.message_run.specs.Ahead.{IsAhead, Advances, StayOthers, StaysUnlessCa
 use Rattle.program_rows.specs.State.{DatabasesState, dbds_of, rows_of}
 use Rattle.lasting_state.specs.Tables.{TablesState, lasting_of}
 use Rattle.tm_machine.specs.declared.region.Busy.{Busy}
-use Rattle.tm_machine.specs.Region.{IsWork, IsQueuedWork, SameMessage, StepsOn, Steps, SameWork}
+use Rattle.tm_machine.specs.Region.{given_in, IsWork, IsQueuedWork, SameMessage, StepsOn, Steps, SameWork}
 use Rattle.tm_machine.specs.Parts.{slot_of, slots_of, settings_of, flags_of, AreParts}
 use Rattle.tm_machine.proofs.Linked.{step_told, step_at_work, set_length, get_slots}
 use Rattle.tm_machine.proofs.Others.{IsKeptBeside, are_beside, beside_same, beside_step, idle_at_work, own_requests, rows_stay, stay_at_work}
@@ -34,23 +34,23 @@ found_all P None h m e = cc
 abbrev pub Keeps : System → ℕ → TablesState → DatabasesState → Option Busy → Option Busy → Type 0
 Keeps system region tables left None new = (new ≡ None) × (left ≡ tables.databases)
 Keeps system region tables left (Some old) (Some new) =
-    SameMessage old new × ((message : Message) → message_at old.id tables.queues.queued ≡ Some message → IsWork system left region message new)
+    SameMessage old new × ((message : Message) → message_at old.id tables.queues.queued ≡ Some message → IsWork system left region (given_in tables.conversations message) new)
     × IsKeptBeside region tables.databases left
 Keeps system region tables left (Some old) None = ⊥
 
-advanced_ahead : (job : Job) (message : Message) (region : ℕ) (databases left : DatabasesState) (trial : Trial) (old new : RunState) (advanced : Advanced)
-    → Advances job message region databases left trial old new advanced → IsAhead job message region left new
-advanced_ahead job message region databases left trial old new (Called function pcb status) h = h.ahead
-advanced_ahead job message region databases left trial old new (Ended ending) h = h.ahead
-advanced_ahead job message region databases left trial old new (Waits resource by) h = h.ahead
+advanced_ahead : (job : Job) (given : Given) (region : ℕ) (databases left : DatabasesState) (trial : Trial) (old new : RunState) (advanced : Advanced)
+    → Advances job given region databases left trial old new advanced → IsAhead job given region left new
+advanced_ahead job given region databases left trial old new (Called function pcb status) h = h.ahead
+advanced_ahead job given region databases left trial old new (Ended ending) h = h.ahead
+advanced_ahead job given region databases left trial old new (Waits resource by) h = h.ahead
 
-advanced_beside : (job : Job) (message : Message) (region : ℕ) (databases left : DatabasesState) (trial : Trial) (old new : RunState) (advanced : Advanced) → 1 ≤ region
+advanced_beside : (job : Job) (given : Given) (region : ℕ) (databases left : DatabasesState) (trial : Trial) (old new : RunState) (advanced : Advanced) → 1 ≤ region
     → StayOthers region databases left → StaysUnlessCalled databases left advanced
-    → Advances job message region databases left trial old new advanced → IsKeptBeside region databases left
-advanced_beside job message region databases left trial old new (Called function pcb status) positive others stays h =
+    → Advances job given region databases left trial old new advanced → IsKeptBeside region databases left
+advanced_beside job given region databases left trial old new (Called function pcb status) positive others stays h =
     beside_step region databases left (requests_of region job trial) positive others (own_requests region job trial) h.free.asked
-advanced_beside job message region databases left trial old new (Ended ending) positive others stays h = beside_same region databases left stays
-advanced_beside job message region databases left trial old new (Waits resource by) positive others stays h =
+advanced_beside job given region databases left trial old new (Ended ending) positive others stays h = beside_same region databases left stays
+advanced_beside job given region databases left trial old new (Waits resource by) positive others stays h =
     beside_step region databases left (requests_of region job trial) positive others (own_requests region job trial) h.asked
 
 pub steps_keep : (system : System) (region : ℕ) (tables : TablesState) (left : DatabasesState) (old new : Option Busy) (advanced : Option Advanced) → 1 ≤ region
@@ -64,19 +64,19 @@ steps_keep system region tables left (Some old) (Some new) None positive others 
 steps_keep system region tables left (Some old) (Some new) (Some advanced) positive others stays h =
     by (message_at old.id tables.queues.queued) h
   where
-    work : (message : Message) → StepsOn system region tables.databases left message old new advanced → IsWork system left region message new
-    work message s = record {
+    work : (given : Given) → StepsOn system region tables.databases left given old new advanced → IsWork system left region given new
+    work given s = record {
       job = s.steps.job;
       serves = ap (job_of system) s.same.code ∙ s.steps.serves;
-      unit = rw s.is (advanced_ahead s.steps.job message region tables.databases left s.steps.ahead.trial s.before s.after advanced s.steps.advances);
+      unit = rw s.is (advanced_ahead s.steps.job given region tables.databases left s.steps.ahead.trial s.before s.after advanced s.steps.advances);
     }
 
-    by : (found : Option Message) → IsSomeAnd found (λ message. StepsOn system region tables.databases left message old new advanced)
-        → SameMessage old new × ((message : Message) → found ≡ Some message → IsWork system left region message new) × IsKeptBeside region tables.databases left
+    by : (found : Option Message) → IsSomeAnd found (λ message. StepsOn system region tables.databases left (given_in tables.conversations message) old new advanced)
+        → SameMessage old new × ((message : Message) → found ≡ Some message → IsWork system left region (given_in tables.conversations message) new) × IsKeptBeside region tables.databases left
     by (Some m) s = (
       s.same,
-      λ message e. let here : m ≡ message = cc in subst (λ n. IsWork system left region n new) here (work m s),
-      advanced_beside s.steps.job m region tables.databases left s.steps.ahead.trial s.before s.after advanced positive others stays s.steps.advances,
+      λ message e. let here : m ≡ message = cc in subst (λ n. IsWork system left region (given_in tables.conversations n) new) here (work (given_in tables.conversations m) s),
+      advanced_beside s.steps.job (given_in tables.conversations m) region tables.databases left s.steps.ahead.trial s.before s.after advanced positive others stays s.steps.advances,
     )
     by None s = absurd s
 
@@ -85,7 +85,7 @@ same_keep system region tables left None new is h = absurd h
 same_keep system region tables left (Some old) None is h = absurd h
 same_keep system region tables left (Some old) (Some new) is h = (
   h.0,
-  λ message e. subst (λ d. IsWork system d region message new) (sym is) (found_all (λ m. IsWork system tables.databases region m new) (message_at new.id tables.queues.queued) h.2 message (ap (λ id. message_at id tables.queues.queued) h.0.id ∙ e)),
+  λ message e. subst (λ d. IsWork system d region (given_in tables.conversations message) new) (sym is) (found_all (λ m. IsWork system tables.databases region (given_in tables.conversations m) new) (message_at new.id tables.queues.queued) h.2 message (ap (λ id. message_at id tables.queues.queued) h.0.id ∙ e)),
   beside_same region tables.databases left is,
 )
 
@@ -101,7 +101,7 @@ module _ (system : System) (tables : TablesState) (states : List CodeState) (reg
   queued_work positive (Some busy) e =
       let work = parts.at_work (region - 1) busy e in
       let here : region - 1 + 1 ≡ region = omega (arith, positive) in
-      rw (ap (option_map (λ q. q.message)) work.found) (subst (λ n. IsWork system tables.databases n work.message busy) here work.work)
+      rw (ap (option_map (λ q. q.message)) work.found) (subst (λ n. IsWork system tables.databases n (given_in tables.conversations work.message) busy) here work.work)
 
   pub parts_step : 1 ≤ region → (old new : Option Busy) (tables' : TablesState) → slice_get regions (region - 1) ≡ Some old
       → tables' ≡ record tables { databases = tables'.databases } → tables'.databases.committed ≡ tables.databases.committed → dbds_of tables'.databases ≡ dbds_of tables.databases → Keeps system region tables tables'.databases old new
@@ -118,10 +118,11 @@ module _ (system : System) (tables : TablesState) (states : List CodeState) (reg
         states_are = parts.states_are;
         settled = parts.settled;
         told = step_told tables.queues.queued regions (region - 1) old new e h.0.id parts.told;
-        at_work = step_at_work system tables.databases tables'.databases tables.queues.queued regions (region - 1) old new e h.0.id
-            (λ message found. subst (λ n. IsWork system tables'.databases n message new) (sym here) (h.1 message found))
+        at_work = step_at_work system tables.databases tables'.databases tables.conversations tables.queues.queued regions (region - 1) old new e h.0.id
+            (λ message found. subst (λ n. IsWork system tables'.databases n (given_in tables.conversations message) new) (sym here) (h.1 message found))
             (stay_at_work system parts.valid tables.databases tables'.databases regions region h.2 count positive)
             parts.at_work;
+        conversations = parts.conversations;
         databases = are_beside system region tables.databases tables'.databases parts.databases h.2 dbds (rows_stay tables.databases tables'.databases committed dbds parts.databases.rows);
         idle = idle_at_work system parts.valid tables.databases tables'.databases regions region h.2 count positive new parts.idle;
       })
@@ -140,15 +141,15 @@ module _ (system : System) (tables : TablesState) (states : List CodeState) (reg
 
   -- what a region's calls give, by its message, and what comes behind them
   pub trial_is : (slot : Slot) (message : Message) (job : Job) (trial : Trial) → message_at slot.id tables.queues.queued ≡ Some message → job_of system slot.code ≡ Some job
-      → trial_of job (rows_of tables.databases.committed) message slot.calls ≡ Some trial
+      → trial_of job (rows_of tables.databases.committed) (given_in tables.conversations message) slot.calls ≡ Some trial
       → slot_trial system (lasting_of (settings_of states) tables) slot ≡ Some trial
   trial_is slot message job trial found serves made =
-      ap (option_and_then (λ j. option_and_then (λ m. trial_of j (rows_of tables.databases.committed) m slot.calls) (message_in (messages_of tables.queues.queued) slot.id))) serves
-      ∙ ap (option_and_then (λ m. trial_of job (rows_of tables.databases.committed) m slot.calls)) (message_found slot.id tables.queues.queued ∙ found)
+      ap (option_and_then (λ j. option_and_then (λ m. trial_of j (rows_of tables.databases.committed) (given_in tables.conversations m) slot.calls) (message_in (messages_of tables.queues.queued) slot.id))) serves
+      ∙ ap (option_and_then (λ m. trial_of job (rows_of tables.databases.committed) (given_in tables.conversations m) slot.calls)) (message_found slot.id tables.queues.queued ∙ found)
       ∙ made
 
   pub work_is : (slot : Slot) (message : Message) (job : Job) (trial : Trial) → message_at slot.id tables.queues.queued ≡ Some message → job_of system slot.code ≡ Some job
-      → trial_of job (rows_of tables.databases.committed) message slot.calls ≡ Some trial
+      → trial_of job (rows_of tables.databases.committed) (given_in tables.conversations message) slot.calls ≡ Some trial
       → slot_work system (lasting_of (settings_of states) tables) slot ≡ Some (work_by job (lasting_of (settings_of states) tables) trial)
   work_is slot message job trial found serves made =
       ap (option_and_then (λ j. option_and_then (λ t. Some (work_by j (lasting_of (settings_of states) tables) t)) (slot_trial system (lasting_of (settings_of states) tables) slot))) serves

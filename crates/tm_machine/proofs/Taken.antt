@@ -2,24 +2,29 @@
 use Rattle.std.proofs.Common.{◌≡◌, sym, ap, ◌∙◌, subst, List, ℕ}
 use Rattle.std.specs.Prelude.{Option, Some, None, IsSomeAnd, Result, Ok, Err, IfOk}
 use Rattle.tm_types.specs.declared.message.Message.{Message}
-use Rattle.model_queues.specs.Queue.{message_at}
+use Rattle.model_conversation.specs.declared.conversation.TerminalConversation.{TerminalConversation}
+use Rattle.model_queues.specs.declared.queued.Queued.{Queued}
+use Rattle.model_queues.specs.Queue.{message_at, messages_of}
+use Rattle.model_queues.proofs.Laws.{message_found}
 use Rattle.model_system.specs.Jobs.{Job, job_of}
 use Rattle.model_system.specs.System.{System}
 use Rattle.system_types.specs.declared.job.Job.{Job as Lent}
 use Rattle.system_types.specs.Jobs.{lent_job}
+use Rattle.model_machine.specs.Trial.{Given}
 use Rattle.program_rows.specs.State.{DatabasesState}
 use Rattle.message_run.specs.declared.run.Advanced.{Advanced}
 use Rattle.message_run.specs.Ahead.{IsStart, GoesOn}
 use Rattle.message_run.specs.RunState.{RunState}
 use Rattle.lasting_state.specs.Tables.{TablesState}
 use Rattle.tm_machine.specs.declared.region.Busy.{Busy}
-use Rattle.tm_machine.specs.Region.{GoesSo, IsTakenOn, IsTaken, StepsOn, Steps}
+use Rattle.tm_machine.proofs.Conversing.{all_found}
+use Rattle.tm_machine.specs.Region.{given_in, HasPad, HavePads, GoesSo, IsTakenOn, IsTaken, StepsOn, Steps}
 
 -- a work that is started serves the code's job
-pub starts : {E : Type 0} (system : System) (code : List ℕ) (message : Message) (lent : Lent) (made : Result RunState E) → job_of system code ≡ Some (lent_job system lent)
-    → IfOk made (λ run. (other : System) → IsStart (lent_job other lent) message run) → IfOk made (λ run. IsSomeAnd (job_of system code) (λ job. IsStart job message run))
-starts system code message lent (Ok run) e h = rw e (h system)
-starts system code message lent (Err error) e h = tt
+pub starts : {E : Type 0} (system : System) (code : List ℕ) (given : Given) (lent : Lent) (made : Result RunState E) → job_of system code ≡ Some (lent_job system lent)
+    → IfOk made (λ run. (other : System) → IsStart (lent_job other lent) given run) → IfOk made (λ run. IsSomeAnd (job_of system code) (λ job. IsStart job given run))
+starts system code given lent (Ok run) e h = rw e (h system)
+starts system code given lent (Err error) e h = tt
 
 some_same : (a b : Job) → Some a ≡ Some b → a ≡ b
 some_same a b e = cc
@@ -27,11 +32,11 @@ some_same a b e = cc
 -- what goes on by the job that is lent goes on by the code's
 pub goes_so : {E : Type 0} (system : System) (region : ℕ) (code : List ℕ) (lent : Lent) (before after : DatabasesState) (old new : RunState) (made : Result Advanced E)
     → job_of system code ≡ Some (lent_job system lent) → IfOk made (GoesOn (lent_job system lent) region before after old new) → IfOk made (GoesSo system region code before after old new)
-goes_so system region code lent before after old new (Ok advanced) e h = λ message job serves ahead. record {
+goes_so system region code lent before after old new (Ok advanced) e h = λ given job serves ahead. record {
   job = job;
   serves = serves;
   ahead = ahead;
-  advances = subst (λ j. GoesOn j region before after old new advanced) (some_same (lent_job system lent) job (sym e ∙ serves)) h message ahead;
+  advances = subst (λ j. GoesOn j region before after old new advanced) (some_same (lent_job system lent) job (sym e ∙ serves)) h given ahead;
 }
 goes_so system region code lent before after old new (Err error) e h = tt
 
@@ -45,18 +50,24 @@ steps_from system region tables left databases old middle new before after advan
     new_is : new ≡ record old { unit = Some after }
     new_is = is ∙ ap (λ (b : Busy). record b { unit = Some after }) out
 
-    one : (message : Message) → IsTakenOn system tables.databases region message old before → StepsOn system region tables.databases left message old new advanced
-    one message t = record {
+    one : (given : Given) → IsTakenOn system tables.databases region given old before → StepsOn system region tables.databases left given old new advanced
+    one given t = record {
       same = record { code = ap (λ b. b.code) new_is; taken = ap (λ b. b.taken) new_is; id = ap (λ b. b.id) new_is };
       before = before;
       calls = t.calls;
       after = after;
       is = ap (λ b. b.unit) new_is;
       steps = subst (λ d. GoesSo system region old.code d left before after advanced) same (subst (λ c. GoesSo system region c databases left before after advanced) (ap (λ b. b.code) out) goes)
-          message t.job t.serves t.ahead;
+          given t.job t.serves t.ahead;
     }
 
-    by : (found : Option Message) → IsSomeAnd found (λ message. IsTakenOn system tables.databases region message old before)
-        → IsSomeAnd found (λ message. StepsOn system region tables.databases left message old new advanced)
-    by (Some message) t = one message t
+    by : (found : Option Message) → IsSomeAnd found (λ message. IsTakenOn system tables.databases region (given_in tables.conversations message) old before)
+        → IsSomeAnd found (λ message. StepsOn system region tables.databases left (given_in tables.conversations message) old new advanced)
+    by (Some message) t = one (given_in tables.conversations message) t
     by None t = absurd t
+
+-- the message of a work is given as it may be
+pub pad_found : (conversations : List TerminalConversation) (queued : List Queued) (id : ℕ) (message : Message) → HavePads conversations (messages_of queued) → Some message ≡ message_at id queued
+    → HasPad conversations message
+pad_found conversations queued id message have e =
+    all_found (HasPad conversations) (messages_of queued) id message have (message_found id queued ∙ sym e)

@@ -1,23 +1,28 @@
 -- What a region's work has come to is a trial's.
-use Rattle.std.proofs.Common.{◌≡◌, ℕ, List, [], ◌∷◌, ◌++◌, map, refl, sym, ap, ◌∙◌}
+use Rattle.std.proofs.Common.{◌≡◌, ℕ, List, [], ◌∷◌, ◌++◌, map, refl, sym, ap, ◌∙◌, subst}
 use Rattle.std.specs.Prelude.{Option, Some, None}
 use Rattle.std.specs.List.{flat_map}
-use Rattle.tm_types.specs.declared.message.Message.{Message}
+use Rattle.model_conversation.specs.declared.conversation.Conversation.{Conversation}
+use Rattle.model_conversation.specs.declared.conversation.PadChange.TheVariants.{Stays}
+use Rattle.io_pcb.specs.Pads.{Suits}
 use Rattle.model_system.specs.declared.pcb.Pcb.{Pcb}
 use Rattle.model_system.specs.declared.pcb.Pcb.TheVariants.{Destination}
 use Rattle.model_message.specs.Work.{fresh_pcb, ended_by, ended_to, destination_of}
-use Rattle.model_message.specs.Calls.{finish_work}
+use Rattle.model_message.specs.Calls.{finish_work, pad_change}
 use Rattle.model_system.specs.Jobs.{Job}
-use Rattle.model_machine.specs.Trial.{Trial, trial_of, trial_start, outputs_of}
+use Rattle.model_machine.specs.Trial.{Given, Trial, trial_of, trial_start, outputs_of, pad_of}
 use Rattle.program_rows.specs.State.{DatabasesState, region_at, rows_of}
 use Rattle.message_run.specs.RunState.{RunState}
-use Rattle.tm_machine.specs.Region.{IsUnit, calls_made, outputs_by}
+use Rattle.message_run.proofs.Conversing.{same_conversation}
+use Rattle.tm_machine.specs.Region.{IsUnit, SuitsUnit, calls_made, outputs_by, pad_by}
 
 -- the trial of as many calls, with the work's outputs, and with what its region sees and has changed
-pub record IsTried (job : Job) (message : Message) (region : ℕ) (databases : DatabasesState) (unit : Option RunState) : Type 0 where
+pub record IsTried (job : Job) (given : Given) (region : ℕ) (databases : DatabasesState) (unit : Option RunState) : Type 0 where
   pub trial : Trial
-  pub made : trial_of job (rows_of databases.committed) message (calls_made unit) ≡ Some trial
+  pub made : trial_of job (rows_of databases.committed) given (calls_made unit) ≡ Some trial
   pub outputs : outputs_of trial ≡ outputs_by unit
+  pub pad : pad_of trial ≡ pad_by unit
+  pub fits : SuitsUnit unit (pad_by unit) → Suits given.conversation (pad_by unit)
   pub rows : trial.databases.rows ≡ (region_at region databases).rows
   pub changed : trial.databases.changed ≡ (region_at region databases).changed
 
@@ -30,18 +35,26 @@ none_ended (pcb ∷ pcbs) = ap (λ xs. xs ++ flat_map ended_by (map fresh_pcb pc
     by (Some name) = refl
     by None = refl
 
-pub unit_trial : (job : Job) (message : Message) (region : ℕ) (databases : DatabasesState) (unit : Option RunState) → IsUnit job message region databases unit → IsTried job message region databases unit
-unit_trial job message region databases None h = record {
-  trial = trial_start job (rows_of databases.committed) message;
+stays : (c : Option Conversation) → Suits c Stays
+stays (Some c) = tt
+stays None = tt
+
+pub unit_trial : (job : Job) (given : Given) (region : ℕ) (databases : DatabasesState) (unit : Option RunState) → IsUnit job given region databases unit → IsTried job given region databases unit
+unit_trial job given region databases None h = record {
+  trial = trial_start job (rows_of databases.committed) given;
   made = refl;
-  outputs = none_ended (Destination message.origin ∷ job.pcbs);
+  outputs = none_ended (Destination given.message.origin ∷ job.pcbs);
+  pad = refl;
+  fits = λ suits. stays given.conversation;
   rows = sym h.sees;
   changed = sym h.changed;
 }
-unit_trial job message region databases (Some unit) h = record {
+unit_trial job given region databases (Some unit) h = record {
   trial = h.trial;
   made = h.made;
   outputs = ap (λ w. (finish_work w).ended) h.work;
+  pad = ap pad_change h.work;
+  fits = λ suits. subst (λ c. Suits c (pad_change unit.work)) (ap (λ w. w.conversation) (sym h.work) ∙ same_conversation job (rows_of databases.committed) given unit.calls h.trial h.made) suits;
   rows = ap (λ d. d.rows) h.seen;
   changed = ap (λ d. d.changed) h.seen;
 }

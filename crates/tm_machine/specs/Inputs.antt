@@ -1,23 +1,46 @@
 -- Inputs, but for the room that they want.
-use Rattle.std.specs.Prelude.{◌≡◌, ⊤, ℕ, ◌<◌, List, Some, Result, Ok, Err, length}
+use Rattle.std.specs.Prelude.{◌≡◌, ⊤, ℕ, ◌<◌, ◌-◌, ◌==◌, true, false, if◌then◌else◌, List, Option, Some, None, Result, Ok, Err, length}
 use Rattle.std.specs.Option.{unwrap_or}
 use Rattle.model_machine.specs.declared.entry.Taken.{Taken}
 use Rattle.model_machine.specs.declared.entry.Taken.TheVariants.{New, Already}
 use Rattle.model_machine.specs.declared.entry.InputRefused.{InputRefused}
-use Rattle.model_machine.specs.declared.entry.InputRefused.TheVariants.{Terminal, Expected, Code, SegmentsOver, QueueFull, Fault}
+use Rattle.model_machine.specs.declared.entry.InputRefused.TheVariants.{Terminal, Expected, Conversation, Code, SegmentsOver, QueueFull, Fault}
 use Rattle.model_machine.specs.Machine.{terminal_place}
-use Rattle.model_machine.specs.Lasting.{code_word}
-use Rattle.model_machine.specs.Steps.{no_room, input_answer}
+use Rattle.tm_types.specs.Name.{IsName}
+use Rattle.model_conversation.specs.Pads.{begun}
+use Rattle.model_machine.specs.Lasting.{KeptInput, code_word, kept_input, without_word}
+use Rattle.lasting_state.specs.Kept.{kept_as}
+use Rattle.model_machine.specs.Steps.{busy_conversation, no_room, input_answer}
 use Rattle.tm_machine.specs.declared.input.NewInput.{NewInput}
+use Rattle.tm_machine.specs.declared.input.Way.{Way}
+use Rattle.tm_machine.specs.declared.input.Way.TheVariants.{Alone, GoesOn, Begins}
 use Rattle.tm_machine.specs.Parts.{PartsState}
 
--- the input is new if there is room for it: its terminal has this place, and its first word is the code
+-- the code that an input goes to: that of the terminal's conversation, or else the first word
+abbrev pub code_for : Option (List ℕ) → List (List ℕ) → List ℕ
+code_for (Some code) segments = code
+code_for None segments = code_word segments
+
+-- how an input to a code with a pad of this length is kept
+abbrev pub way_by : Option (List ℕ) → ℕ → Way
+way_by (Some code) pad = GoesOn
+way_by None pad = if pad == 0 then Alone else Begins pad
+
+-- the input as it is kept so
+abbrev pub kept_so : Way → List ℕ → List (List ℕ) → KeptInput
+kept_so Alone code segments = kept_as code false segments None
+kept_so GoesOn code segments = kept_as code true segments None
+kept_so (Begins pad) code segments = kept_as code true (without_word segments) (Some (begun code (pad - 14)))
+
+-- The input is new if there is room for it: its terminal has this place, and it is kept so.
 pub record IsNewInput (parts : PartsState) (terminal : List ℕ) (number : ℕ) (segments : List (List ℕ)) (input : NewInput) : Type 0 where
   pub answer : input_answer parts.system parts.moment terminal number segments
-      ≡ unwrap_or (no_room parts.system parts.moment segments) (Ok (New parts.moment.lasting.next_id))
+      ≡ unwrap_or (no_room parts.system parts.moment (kept_input parts.system parts.moment.lasting terminal segments).segments) (Ok (New parts.moment.lasting.next_id))
   pub place : terminal_place parts.moment.lasting.terminals terminal ≡ Some input.place
   pub within : input.place < length parts.moment.lasting.terminals
-  pub code : input.code ≡ code_word segments
+  pub kept : kept_so input.way input.code segments ≡ kept_input parts.system parts.moment.lasting terminal segments
+  pub named : IsName input.code
+  pub free : busy_conversation parts.moment.lasting terminal ≡ None
 
 -- the right answer, which isn't that the input is new; or a fault
 abbrev pub IsRefusal : Result Taken InputRefused → Result Taken InputRefused → Type 0
@@ -25,6 +48,7 @@ IsRefusal right (Ok (New id)) = ⊥
 IsRefusal right (Ok Already) = Ok Already ≡ right
 IsRefusal right (Err Terminal) = Err Terminal ≡ right
 IsRefusal right (Err (Expected next)) = Err (Expected next) ≡ right
+IsRefusal right (Err (Conversation id)) = Err (Conversation id) ≡ right
 IsRefusal right (Err Code) = Err Code ≡ right
 IsRefusal right (Err (SegmentsOver count most)) = Err (SegmentsOver count most) ≡ right
 IsRefusal right (Err (QueueFull need limit)) = Err (QueueFull need limit) ≡ right

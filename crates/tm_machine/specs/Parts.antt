@@ -1,10 +1,15 @@
 -- The parts of a control region as its calls see them, and what holds among them.
-use Rattle.std.specs.Prelude.{◌≡◌, ℕ, ◌+◌, Bool, Option, Some, None, List, length, map, slice_get}
+use Rattle.std.specs.Prelude.{◌≡◌, ⊤, ℕ, ◌+◌, ◌≤◌, Bool, true, Option, Some, None, IfSome, IsSomeAnd, IsTrue, List, [], ◌∷◌, length, map, take, slice_get}
 use Rattle.std.specs.Option.{is_some}
-use Rattle.std.specs.List.{AllByRecursion}
+use Rattle.std.specs.List.{AllByRecursion, list_all}
+use Rattle.tm_types.specs.Segment.{is_printable}
+use Rattle.model_conversation.specs.declared.conversation.Conversation.{Conversation}
+use Rattle.model_conversation.specs.declared.conversation.TerminalConversation.{TerminalConversation}
+use Rattle.model_conversation.specs.Pads.{code_field}
+use Rattle.model_system.specs.Codes.{code_at}
 use Rattle.tm_types.specs.declared.message.Message.{Message}
 use Rattle.model_queues.specs.declared.queued.Queued.{Queued}
-use Rattle.model_queues.specs.Queue.{queued_at, free_count}
+use Rattle.model_queues.specs.Queue.{queued_at, free_count, messages_of}
 use Rattle.model_system.specs.declared.code_state.CodeState.{CodeState}
 use Rattle.model_system.specs.System.{System}
 use Rattle.model_machine.specs.declared.lasting.CodeSetting.{CodeSetting}
@@ -14,7 +19,7 @@ use Rattle.model_enqueue.specs.Table.{wait_of}
 use Rattle.program_rows.specs.State.{DatabasesState, AreRowsOf, IsClean, committed_rows, dbds_of}
 use Rattle.lasting_state.specs.Tables.{TablesState}
 use Rattle.tm_machine.specs.declared.region.Busy.{Busy}
-use Rattle.tm_machine.specs.Region.{IsWork, calls_made}
+use Rattle.tm_machine.specs.Region.{IsWork, calls_made, given_in}
 
 -- the system, and the moment that its machine has come to
 pub record PartsState : Type 0 where
@@ -38,19 +43,46 @@ flags_of states = map (λ state. state.raised) states
 
 -- A region works on a message that the queues keep for it. Its work, made from the start on the rows
 -- that are committed, leads to what it has, and to the rows that it sees, whatever other regions do.
-pub record IsAtWork (system : System) (databases : DatabasesState) (queued : List Queued) (region : ℕ) (busy : Busy) : Type 0 where
+pub record IsAtWork (system : System) (databases : DatabasesState) (conversations : List TerminalConversation) (queued : List Queued) (region : ℕ) (busy : Busy) : Type 0 where
   pub message : Message
   pub found : queued_at busy.id queued ≡ Some (record { message = message; holder = Some region })
-  pub work : IsWork system databases region message busy
+  pub work : IsWork system databases region (given_in conversations message) busy
 
 -- a message has a holder exactly where a slot has it
 abbrev pub IsTold : List (Option Slot) → List Queued → Type 0
 IsTold slots queued = AllByRecursion (λ q. is_held slots q.message.id ≡ is_some q.holder) queued
 
 -- each region that has a message is at work on it; regions are numbered from 1
-abbrev pub AreAtWork : System → DatabasesState → List Queued → List (Option Busy) → Type 0
-AreAtWork system databases queued regions =
-    (place : ℕ) (busy : Busy) → slice_get regions place ≡ Some (Some busy) → IsAtWork system databases queued (place + 1) busy
+abbrev pub AreAtWork : System → DatabasesState → List TerminalConversation → List Queued → List (Option Busy) → Type 0
+AreAtWork system databases conversations queued regions =
+    (place : ℕ) (busy : Busy) → slice_get regions place ≡ Some (Some busy) → IsAtWork system databases conversations queued (place + 1) busy
+
+-- A conversation is of a code that has them. Its pad has the length of the code's, less 6, begins with the code, and
+-- has printable bytes alone.
+pub record IsConversation (system : System) (c : Conversation) : Type 0 where
+  pub size : IsSomeAnd (code_at system.codes c.code) (λ code. (1 ≤ code.transaction.scratch_pad) × (length c.pad + 6 ≡ code.transaction.scratch_pad))
+  pub front : take 8 c.pad ≡ code_field c.code
+  pub prints : IsTrue (list_all is_printable c.pad)
+
+-- a message that belongs to a conversation goes to the code of its origin's
+abbrev pub IsOfConversation : List TerminalConversation → Message → Type 0
+IsOfConversation conversations message = message.conversation ≡ true → IsSomeAnd (given_in conversations message).conversation (λ c. c.code ≡ message.code)
+
+-- two messages don't both belong to a conversation of one terminal
+abbrev pub AreApart : Message → Message → Type 0
+AreApart a b = a.conversation ≡ true → b.conversation ≡ true → b.origin ≡ a.origin → ⊥
+
+-- at each terminal at most one message belongs to the conversation
+abbrev pub AreAlone : List Message → Type 0
+AreAlone [] = ⊤
+AreAlone (message ∷ messages) = AllByRecursion (AreApart message) messages × AreAlone messages
+
+-- The conversations of the system's terminals, with the messages that belong to them.
+pub record AreConversations (system : System) (conversations : List TerminalConversation) (messages : List Message) : Type 0 where
+  pub names : map (λ t. t.terminal) conversations ≡ system.terminals
+  pub pads : AllByRecursion (λ t. IfSome t.conversation (IsConversation system)) conversations
+  pub belong : AllByRecursion (IsOfConversation conversations) messages
+  pub alone : AreAlone messages
 
 -- These are the system's databases, with rows of them, and its regions work on them.
 pub record AreDatabases (system : System) (databases : DatabasesState) : Type 0 where
@@ -77,6 +109,7 @@ pub record AreParts (system : System) (tables : TablesState) (states : List Code
   pub states_are : length states ≡ length system.codes
   pub settled : raised_now (λ name. free_count name tables.queues.queued) system.codes (flags_of states) ≡ flags_of states
   pub told : IsTold (slots_of regions) tables.queues.queued
-  pub at_work : AreAtWork system tables.databases tables.queues.queued regions
+  pub at_work : AreAtWork system tables.databases tables.conversations tables.queues.queued regions
+  pub conversations : AreConversations system tables.conversations (messages_of tables.queues.queued)
   pub databases : AreDatabases system tables.databases
   pub idle : AreIdle tables.databases regions

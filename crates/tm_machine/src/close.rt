@@ -1,7 +1,7 @@
 //! The end of a region's work on a message.
 ghost use Rattle.std.specs.Prelude.{◌≡◌, ◌≤◌, ◌-◌, ◌∷◌, None, Some, length, slice_get, slice_set, IfOk, OnOk, OnErr, IsSome, IsSomeAnd};
 ghost use Rattle.model_queues.specs.Queue.{AreInOrder, IsNewId, message_at, queued_at};
-ghost use Rattle.model_machine.specs.Lasting.{abend_outputs};
+ghost use Rattle.model_machine.specs.Lasting.{abend_outputs, discarded_pad};
 ghost use Rattle.model_machine.specs.Lasting.LastingStep.{Completes, Discards};
 ghost use Rattle.program_rows.specs.State.{committed_rows, dbds_of, region_at, AreRowsOf, IsRegionOf};
 ghost use Rattle.program_rows.specs.Answering.{IsCommitted, IsGivenUp};
@@ -10,6 +10,7 @@ ghost use Rattle.tm_machine.specs.Ends.{destinations};
 
 use crate::region::Busy;
 use lasting_state::Tables;
+use model_conversation::PadChange;
 use model_message::EndedMessage;
 use std::alloc::Global;
 use std::collections::VecDeque;
@@ -31,21 +32,23 @@ pub fn names_moved(
     Ok(names)
 }
 
-/// Completes the message of this id, and empties its region. Want of memory changes nothing.
+/// Completes the message of this id, and empties its region; this becomes of the pad of its origin. Want
+/// of memory changes nothing.
 pub fn complete(
     regions: &mut Vec<Option<Busy>>,
     region: u32,
     tables: &mut Tables,
     id: u64,
     outputs: VecDeque<EndedMessage>,
+    pad: PadChange,
 ) -> Result<(), Memory>
     requires positive { 1 ≤ region }
     requires defined { region ≤ length regions.old.items }
     requires works { IsRegionOf tables.old.databases region }
     requires found { IsSome (queued_at id tables.old.queues.queued) }
     ensures regions { OnOk result (regions.new.items ≡ slice_set regions.old.items (region - 1) None) }
-    ensures step { OnOk result (Applies (Completes id (region_at region tables.old.databases).rows outputs.items) tables.old tables.new) }
-    ensures closed { OnOk result (IsClosed tables.new.databases (λ _. outputs.items) tables.old tables.new id) }
+    ensures step { OnOk result (Applies (Completes id (region_at region tables.old.databases).rows outputs.items pad) tables.old tables.new) }
+    ensures closed { OnOk result (IsClosed tables.new.databases (λ _. pad) (λ _. outputs.items) tables.old tables.new id) }
     ensures databases { OnOk result (IsCommitted region tables.old.databases tables.new.databases) }
     ensures rows { OnOk result (AreRowsOf (dbds_of tables.new.databases) (committed_rows tables.new.databases)) }
     ensures dbds { dbds_of tables.new.databases ≡ dbds_of tables.old.databases }
@@ -53,7 +56,7 @@ pub fn complete(
     ensures err { OnErr result (tables.new ≡ tables.old) }
     ensures above { IsNewId tables.old.next_id tables.old.queues.queued }
 {
-    match tables.complete(region, id, outputs) {
+    match tables.complete(region, id, outputs, pad) {
         Ok(()) => {
             empty(&mut regions[region as usize - 1]);
             Ok(())
@@ -78,7 +81,7 @@ pub fn discard(
     requires found { IsSome (queued_at id tables.old.queues.queued) }
     ensures regions { OnOk result (regions.new.items ≡ slice_set regions.old.items (region - 1) None) }
     ensures step { OnOk result (Applies (Discards id abend) tables.old tables.new) }
-    ensures closed { OnOk result (IsClosed tables.new.databases (λ message. abend_outputs message abend) tables.old tables.new id) }
+    ensures closed { OnOk result (IsClosed tables.new.databases discarded_pad (λ message. abend_outputs message abend) tables.old tables.new id) }
     ensures databases { OnOk result (IsGivenUp region tables.old.databases tables.new.databases) }
     ensures dbds { dbds_of tables.new.databases ≡ dbds_of tables.old.databases }
     ensures same { OnErr result (regions.new ≡ regions.old) }

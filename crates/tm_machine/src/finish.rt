@@ -11,7 +11,7 @@ use crate::close::{busy_at, complete, discard, names_moved};
 use crate::flags::{follow, follow_all};
 use crate::next::next_message;
 use crate::parts::Parts;
-use crate::region::{Busy, count_busy, outputs_by, take};
+use crate::region::{Busy, count_busy, outputs_by, pad_by, take};
 use lasting_state::{COUNT_LIMIT, Tables};
 use message_run::Ending;
 use model_machine::Turned;
@@ -46,10 +46,20 @@ impl Parts {
         let Ok(outputs) = outputs_by(self.alloc, busy) else {
             return Err(Memory);
         };
+        let Ok(pad) = pad_by(self.alloc, busy) else {
+            return Err(Memory);
+        };
         let Ok(names) = names_moved(self.alloc, &code, &outputs) else {
             return Err(Memory);
         };
-        let Ok(()) = complete(&mut self.regions, region, &mut self.tables, id, outputs) else {
+        let Ok(()) = complete(
+            &mut self.regions,
+            region,
+            &mut self.tables,
+            id,
+            outputs,
+            pad,
+        ) else {
             return Err(Memory);
         };
         follow_all(&mut self.codes, &self.system, self.tables.queues(), &names);
@@ -74,11 +84,21 @@ impl Parts {
         let Ok(outputs) = outputs_by(self.alloc, busy) else {
             return Err(Memory);
         };
+        let Ok(pad) = pad_by(self.alloc, busy) else {
+            return Err(Memory);
+        };
         let Ok(names) = names_moved(self.alloc, &code, &outputs) else {
             return Err(Memory);
         };
         let count = count_busy(&self.regions);
-        let Ok(()) = complete(&mut self.regions, region, &mut self.tables, id, outputs) else {
+        let Ok(()) = complete(
+            &mut self.regions,
+            region,
+            &mut self.tables,
+            id,
+            outputs,
+            pad,
+        ) else {
             return Err(Memory);
         };
         let Some(next) = next_message(&self.system, &self.codes, &self.tables, &code, taken, count)

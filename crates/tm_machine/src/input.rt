@@ -1,19 +1,34 @@
 //! Inputs of terminals.
 ghost use Rattle.std.specs.Prelude.{◌≡◌, ◌<◌, length, IfOk, IfErr, IfSome, Some};
-ghost use Rattle.std.specs.Option.{is_some};
+ghost use Rattle.std.specs.Option.{option_copied};
+ghost use Rattle.tm_types.specs.Name.{IsName};
+ghost use Rattle.model_system.specs.Codes.{code_at};
 ghost use Rattle.model_machine.specs.declared.entry.Entry.TheVariants.{Accept};
 ghost use Rattle.model_machine.specs.Steps.{by_number, most_segments, input_answer};
 ghost use Rattle.tm_machine.specs.Answers.{Answers};
-ghost use Rattle.tm_machine.specs.Inputs.{IsNewInput, IsRefusal};
+ghost use Rattle.tm_machine.specs.Inputs.{IsNewInput, IsRefusal, code_for, way_by, kept_so};
 
 use crate::flags::follow;
 use crate::lookup::{code_word, find_code};
 use crate::parts::Parts;
 use crate::region::count_busy;
-use lasting_state::Enqueued;
+use conversation::Busy;
+use lasting_state::{Enqueued, KeptInput, kept_first};
 use model_machine::{ControlFault, InputRefused, Taken};
-use model_system::SegmentKind;
-use tm_types::{Name, Segments};
+use model_system::{Code, SegmentKind};
+use std::alloc::Global;
+use tm_types::{Memory, Name, Segments};
+
+/// How an input is kept.
+#[derive(Clone, Copy, Debug)]
+pub enum Way {
+    /// It belongs to no conversation.
+    Alone,
+    /// It belongs to the conversation that its terminal has.
+    GoesOn,
+    /// It begins a conversation, with a pad of this length.
+    Begins(u16),
+}
 
 /// Where an input that is new goes, but for the room.
 #[derive(Clone, Copy, Debug)]
@@ -21,6 +36,70 @@ pub struct NewInput {
     /// The place of its terminal.
     pub place: usize,
     pub code: Name,
+    pub way: Way,
+}
+
+/// The code that an input goes to: that of the terminal's conversation, or else the one that its first
+/// word names.
+fn code_for<'a>(
+    codes: &'a [Code],
+    conversation: &Option<Name>,
+    segments: &Segments,
+) -> Option<&'a Code>
+    requires { 0 < length segments.now }
+    ensures value { option_copied result ≡ code_at codes.now (code_for conversation.now segments.now) }
+    ensures named { IfSome result (λ code. code.now.transaction.code ≡ code_for conversation.now segments.now) }
+{
+    match conversation {
+        Some(code) => find_code(codes, code.as_bytes()),
+        None => find_code(codes, code_word(segments)),
+    }
+}
+
+/// How an input to a code with a pad of this length is kept; the length is 0 where it has none.
+fn way_by(conversation: &Option<Name>, pad: u16) -> Way
+    ensures { result ≡ way_by conversation.now pad }
+{
+    match conversation {
+        Some(_) => Way::GoesOn,
+        None => {
+            if pad == 0 {
+                Way::Alone
+            } else {
+                Way::Begins(pad)
+            }
+        }
+    }
+}
+
+/// The input as it is kept.
+fn kept_so(alloc: Global, input: &NewInput, segments: Segments) -> Result<KeptInput, Memory>
+    ensures { IfOk result (λ kept. kept ≡ kept_so input.now.way input.now.code segments) }
+{
+    match input.way {
+        Way::Alone => Ok(KeptInput {
+            code: input.code,
+            conversation: false,
+            segments,
+            begins: None,
+        }),
+        Way::GoesOn => Ok(KeptInput {
+            code: input.code,
+            conversation: true,
+            segments,
+            begins: None,
+        }),
+        Way::Begins(pad) => kept_first(alloc, &input.code, pad, &segments),
+    }
+}
+
+fn named(code: &Code) -> Name
+    ensures value { result ≡ code.now.transaction.code }
+    ensures name { IsName result }
+{
+    let code = code.transaction.code;
+    let _bytes = code.as_bytes();
+    code
 }
 
 /// How many segments an input may have.
@@ -81,7 +160,15 @@ impl Parts {
         if let Some(answer) = by_number(self.tables.last_input(place), number) {
             return Err(answer);
         }
-        let Some(code) = find_code(self.system.codes(), code_word(segments)) else {
+        let conversation = match self
+            .tables
+            .conversations()
+            .input(terminal, self.tables.queues())
+        {
+            Ok(conversation) => conversation,
+            Err(Busy { id }) => return Err(Err(InputRefused::Conversation(id))),
+        };
+        let Some(code) = code_for(self.system.codes(), &conversation, segments) else {
             return Err(Err(InputRefused::Code));
         };
         let most = most_segments(code.transaction.segment_kind);
@@ -91,8 +178,9 @@ impl Parts {
         if count > most {
             return Err(Err(InputRefused::SegmentsOver(count, most)));
         }
-        let code = code.transaction.code;
-        Ok(NewInput { place, code })
+        let way = way_by(&conversation, code.transaction.scratch_pad);
+        let code = named(code);
+        Ok(NewInput { place, code, way })
     }
 
     /// Adds a new input to the queues, if they have the room.
@@ -107,11 +195,14 @@ impl Parts {
         requires segment { 0 < length segments }
         ensures { Answers self.old self.new (Accept terminal.now number segments result) }
     {
+        let Ok(kept) = kept_so(self.alloc, &input, segments) else {
+            return Err(InputRefused::Fault(ControlFault::Memory));
+        };
         let busy = count_busy(&self.regions);
         let code = input.code;
         match self
             .tables
-            .enqueue(input.place, terminal, number, &code, segments, busy)
+            .enqueue(input.place, terminal, number, kept, busy)
         {
             Ok(Enqueued::New(id)) => {
                 let waiting = self.tables.queues().waiting(&code);

@@ -1,6 +1,8 @@
 //! What a region works on.
 ghost use Rattle.std.specs.Prelude.{◌≡◌, ◌≤◌, ◌-◌, None, slice_set, ◌<◌, ◌^◌, length, count_by, is_some, IfOk, OnErr, OnOk, IfSome, Some, IsSome, IsSomeAnd};
-ghost use Rattle.model_queues.specs.Queue.{queued_at};
+ghost use Rattle.std.specs.Option.{option_copied};
+ghost use Rattle.io_pcb.specs.Pads.{lent_pad};
+ghost use Rattle.model_queues.specs.Queue.{messages_of, queued_at};
 ghost use Rattle.model_system.specs.Jobs.{job_of};
 ghost use Rattle.system_types.specs.Jobs.{lent_job};
 ghost use Rattle.system_types.specs.Valid.{IsServable};
@@ -8,16 +10,18 @@ ghost use Rattle.lasting_state.specs.Tables.{held};
 ghost use Rattle.program_rows.specs.State.{dbds_of, IsRegionOf};
 ghost use Rattle.message_run.specs.RunState.{AreStanding};
 ghost use Rattle.message_run.specs.Ahead.{IsStart, StaysAhead, StaysUnlessCalled, StayOthers};
-ghost use Rattle.tm_machine.specs.Region.{IsQueuedWork, IsTaken, GoesSo, Steps, SameWork, outputs_by};
+ghost use Rattle.tm_machine.specs.Region.{given_in, HasPad, HavePads, IsQueuedWork, IsTaken, GoesSo, Steps, SameWork, SuitsUnit, outputs_by, pad_by, pad_in};
 
+use io_pcb::LentPad;
 use lasting_state::Tables;
 use message_run::{Advanced, Run};
+use model_conversation::PadChange;
 use model_message::EndedMessage;
 use program_rows::Databases;
 use std::alloc::Global;
 use std::collections::VecDeque;
 use system_types::{Job, System};
-use tm_types::{Memory, Message, Name};
+use tm_types::{Bytes, Memory, Message, Name};
 
 /// The work of a region on a message.
 #[derive(Debug, Drop)]
@@ -45,11 +49,30 @@ fn job_of<'a>(system: &'a System, code: &Name) -> Job<'a>
 }
 
 /// The work on a message of a code, whose script has made no call yet.
-fn start_unit(alloc: Global, system: &System, code: &Name, message: &Message) -> Result<Run, Memory>
-    requires { IsSome (job_of system.now code.now) }
-    ensures { IfOk result (λ unit. IsSomeAnd (job_of system.now code.now) (λ job. IsStart job message.now unit)) }
+fn start_unit(
+    alloc: Global,
+    system: &System,
+    tables: &Tables,
+    code: &Name,
+    message: &Message,
+) -> Result<Run, Memory>
+    requires job { IsSome (job_of system.now code.now) }
+    requires pad { HasPad tables.now.conversations message.now }
+    ensures { IfOk result (λ unit. IsSomeAnd (job_of system.now code.now) (λ job. IsStart job (given_in tables.now.conversations message.now) unit)) }
 {
-    Run::start(alloc, &job_of(system, code), message)
+    let pad = pad_of(tables, message);
+    Run::start(alloc, &job_of(system, code), message, pad)
+}
+
+/// The pad of the conversation that a message belongs to, where it belongs to one.
+fn pad_of<'a>(tables: &'a Tables, message: &Message) -> Option<&'a [u8]>
+    ensures { option_copied result ≡ pad_in tables.now.conversations message.now }
+{
+    if message.conversation {
+        tables.conversations().pad(&message.origin)
+    } else {
+        None
+    }
 }
 
 /// The work of a region as it has come so far, taken out of it; it is started where it wasn't. Want of
@@ -62,6 +85,7 @@ fn take_unit(
     busy: &mut Busy,
 ) -> Result<Run, Memory>
     requires work { IsQueuedWork system.now tables.now _region busy.old }
+    requires pads { HavePads tables.now.conversations (messages_of tables.now.queues.queued) }
     requires databases { dbds_of tables.now.databases ≡ system.now.databases }
     ensures ahead { IfOk result (IsTaken system.now tables.now _region busy.old) }
     ensures taken { OnOk result (busy.new ≡ record busy.old { unit = None }) }
@@ -73,7 +97,7 @@ fn take_unit(
             let Some(message) = tables.queues().find(busy.id) else {
                 unreachable!()
             };
-            start_unit(alloc, system, &busy.code, message)
+            start_unit(alloc, system, tables, &busy.code, message)
         }
     }
 }
@@ -111,6 +135,7 @@ fn advance_busy(
 ) -> Result<Advanced, Memory>
     requires region { IsRegionOf tables.old.databases region }
     requires work { IsQueuedWork system.now tables.old region busy.old }
+    requires pads { HavePads tables.old.conversations (messages_of tables.old.queues.queued) }
     requires databases { dbds_of tables.old.databases ≡ system.now.databases }
     ensures steps { IfOk result (λ advanced. Steps system.now region tables.old tables.new.databases (Some busy.old) (Some busy.new) (Some advanced)) }
     ensures tables { tables.new ≡ record tables.old { databases = tables.new.databases } }
@@ -145,6 +170,7 @@ pub fn advance(
 ) -> Result<Option<Advanced>, Memory>
     requires region { IsRegionOf tables.old.databases region }
     requires work { IfSome work.old (IsQueuedWork system.now tables.old region) }
+    requires pads { HavePads tables.old.conversations (messages_of tables.old.queues.queued) }
     requires databases { dbds_of tables.old.databases ≡ system.now.databases }
     ensures steps { IfOk result (Steps system.now region tables.old tables.new.databases work.old work.new) }
     ensures tables { tables.new ≡ record tables.old { databases = tables.new.databases } }
@@ -169,6 +195,28 @@ pub fn outputs_by(alloc: Global, busy: &Busy) -> Result<VecDeque<EndedMessage>, 
     match &busy.unit {
         Some(unit) => unit.outputs(),
         None => Ok(VecDeque::new(alloc)),
+    }
+}
+
+/// What a region's work leaves of the pad at its end; one that wasn't started leaves it as it was.
+pub fn pad_by(alloc: Global, busy: &Busy) -> Result<PadChange, Memory>
+    ensures value { IfOk result (λ pad. pad ≡ pad_by busy.now.unit) }
+    ensures suits { SuitsUnit busy.now.unit (pad_by busy.now.unit) }
+{
+    match &busy.unit {
+        Some(unit) => copied(alloc, unit.pad_change()),
+        None => Ok(PadChange::Stays),
+    }
+}
+
+/// A copy of what is lent.
+fn copied(alloc: Global, lent: LentPad<'_>) -> Result<PadChange, Memory>
+    ensures { IfOk result (λ pad. pad ≡ lent_pad lent.entry) }
+{
+    match lent {
+        LentPad::Stays => Ok(PadChange::Stays),
+        LentPad::New(text) => Ok(PadChange::New(Bytes::copied(alloc, text)?)),
+        LentPad::Ends => Ok(PadChange::Ends),
     }
 }
 

@@ -3,6 +3,8 @@ use Rattle.std.specs.Prelude.{Some, slice_get, slice_set}
 use Rattle.std.proofs.lemmas.Option.{slice_get-get_or}
 use Rattle.lasting_state.specs.Tables.{lasting_of}
 use Rattle.tm_machine.specs.Parts.{slots_of, settings_of, flags_of}
+use Rattle.model_queues.specs.Queue.{messages_of}
+use Rattle.tm_machine.proofs.Conversing.{have_pads}
 use Rattle.tm_machine.proofs.Stepped.{queued_work, parts_step}
 use Rattle.tm_machine.proofs.Going.{goes_is, same_moment, ok_both, keeps_by, err_map_2}
 use Rattle.tm_machine.proofs.parts.Parts.advance.Goals as goal
@@ -18,6 +20,10 @@ advance-requires-clause-work c =
     let within : c.args.region - 1 < length c.self.inside.regions.items = omega (arith, region.0, region.1, c.self.invariant.regions_are) in
     queued_work c.self.inside.system c.self.inside.tables c.self.inside.codes c.self.inside.regions.items c.args.region c.self.invariant region.0
     c.index_mut.result.now (slice_get-get_or c.self.inside.regions.items (c.args.region - 1) _ within ∙ ap Some (sym c.index_mut.ensures.value))
+
+pub advance-requires-clause-pads : goal.advance-requires-clause-pads
+advance-requires-clause-pads c =
+    have_pads c.self.inside.system c.self.inside.tables.conversations (messages_of c.self.inside.tables.queues.queued) c.self.invariant.valid c.self.invariant.conversations
 
 pub invariant_of-self : goal.invariant_of-self
 invariant_of-self c =

@@ -27,7 +27,7 @@ invariant_of-self-2 c =
     c.in-Ok-names_moved.names.items c.in-Ok.outputs.items c.in-Ok.outputs.items
     c.follow_all.ensures c.queues.ensures c.deref-2.ensures.value c.in-Ok-names_moved.ensures refl in
     rw c.in-Ok-complete.ensures.regions
-    (parts_completed c.self.inside.system c.self.inside.tables c.self.inside.codes c.self.inside.regions.items c.args.region c.self.invariant c.busy_at-busy.result.now e region c.complete.new.tables c.in-Ok-complete.ensures.above c.in-Ok.outputs.items c.in-Ok.ensures c.in-Ok-complete.ensures.closed c.in-Ok-complete.ensures.step c.in-Ok-complete.ensures.databases c.in-Ok-complete.ensures.dbds c.in-Ok-complete.ensures.rows c.follow_all.new.codes (follows_completed c.self.inside.system c.self.inside.tables c.self.inside.codes c.self.inside.regions.items c.args.region c.self.invariant c.busy_at-busy.result.now e region c.complete.new.tables c.in-Ok-complete.ensures.above c.in-Ok.outputs.items c.in-Ok.ensures c.in-Ok-complete.ensures.closed c.in-Ok-complete.ensures.step c.in-Ok-complete.ensures.databases c.in-Ok-complete.ensures.dbds c.in-Ok-complete.ensures.rows c.follow_all.new.codes follow))
+    (parts_completed c.self.inside.system c.self.inside.tables c.self.inside.codes c.self.inside.regions.items c.args.region c.self.invariant c.busy_at-busy.result.now e region c.complete.new.tables c.in-Ok-complete.ensures.above c.in-Ok.outputs.items c.in-Ok.ensures c.in-Ok-pad_by.pad c.in-Ok-pad_by.ensures.value c.in-Ok-pad_by.ensures.suits c.in-Ok-complete.ensures.closed c.in-Ok-complete.ensures.step c.in-Ok-complete.ensures.databases c.in-Ok-complete.ensures.dbds c.in-Ok-complete.ensures.rows c.follow_all.new.codes (follows_completed c.self.inside.system c.self.inside.tables c.self.inside.codes c.self.inside.regions.items c.args.region c.self.invariant c.busy_at-busy.result.now e region c.complete.new.tables c.in-Ok-complete.ensures.above c.in-Ok.outputs.items c.in-Ok.ensures c.in-Ok-pad_by.pad c.in-Ok-pad_by.ensures.value c.in-Ok-pad_by.ensures.suits c.in-Ok-complete.ensures.closed c.in-Ok-complete.ensures.step c.in-Ok-complete.ensures.databases c.in-Ok-complete.ensures.dbds c.in-Ok-complete.ensures.rows c.follow_all.new.codes follow))
 
 pub returns-clause-turned : goal.returns-clause-turned
 returns-clause-turned c =
@@ -37,5 +37,5 @@ returns-clause-turned c =
     let follow = follow_is c.self.inside.system.codes c.busy_at-busy.result.now.code c.self.inside.codes c.follow_all.new.codes c.queues.result.now c.complete.new.tables.queues c.deref-2.result.now
     c.in-Ok-names_moved.names.items c.in-Ok.outputs.items c.in-Ok.outputs.items
     c.follow_all.ensures c.queues.ensures c.deref-2.ensures.value c.in-Ok-names_moved.ensures refl in
-    let turned = done_turned c.self.inside.system c.self.inside.tables c.self.inside.codes c.self.inside.regions.items c.args.region c.self.invariant c.busy_at-busy.result.now e region c.complete.new.tables c.in-Ok-complete.ensures.above c.in-Ok.outputs.items c.in-Ok.ensures c.in-Ok-complete.ensures.closed c.in-Ok-complete.ensures.step c.in-Ok-complete.ensures.databases c.in-Ok-complete.ensures.dbds c.in-Ok-complete.ensures.rows c.follow_all.new.codes (follows_completed c.self.inside.system c.self.inside.tables c.self.inside.codes c.self.inside.regions.items c.args.region c.self.invariant c.busy_at-busy.result.now e region c.complete.new.tables c.in-Ok-complete.ensures.above c.in-Ok.outputs.items c.in-Ok.ensures c.in-Ok-complete.ensures.closed c.in-Ok-complete.ensures.step c.in-Ok-complete.ensures.databases c.in-Ok-complete.ensures.dbds c.in-Ok-complete.ensures.rows c.follow_all.new.codes follow) (rw (← c.self.view_is) at c.requires.ends) in
+    let turned = done_turned c.self.inside.system c.self.inside.tables c.self.inside.codes c.self.inside.regions.items c.args.region c.self.invariant c.busy_at-busy.result.now e region c.complete.new.tables c.in-Ok-complete.ensures.above c.in-Ok.outputs.items c.in-Ok.ensures c.in-Ok-pad_by.pad c.in-Ok-pad_by.ensures.value c.in-Ok-pad_by.ensures.suits c.in-Ok-complete.ensures.closed c.in-Ok-complete.ensures.step c.in-Ok-complete.ensures.databases c.in-Ok-complete.ensures.dbds c.in-Ok-complete.ensures.rows c.follow_all.new.codes (follows_completed c.self.inside.system c.self.inside.tables c.self.inside.codes c.self.inside.regions.items c.args.region c.self.invariant c.busy_at-busy.result.now e region c.complete.new.tables c.in-Ok-complete.ensures.above c.in-Ok.outputs.items c.in-Ok.ensures c.in-Ok-pad_by.pad c.in-Ok-pad_by.ensures.value c.in-Ok-pad_by.ensures.suits c.in-Ok-complete.ensures.closed c.in-Ok-complete.ensures.step c.in-Ok-complete.ensures.databases c.in-Ok-complete.ensures.dbds c.in-Ok-complete.ensures.rows c.follow_all.new.codes follow) (rw (← c.self.view_is) at c.requires.ends) in
     rw (sym c.self.view_is) (rw c.in-Ok-complete.ensures.regions turned)

@@ -3,28 +3,36 @@ use Rattle.std.specs.List.{count_by}
 use Rattle.std.specs.Option.{is_some}
 use Rattle.tm_machine.proofs.Raising.{follow_one}
 use Rattle.tm_machine.proofs.Started.{follows_enqueued, parts_enqueued}
-use Rattle.tm_machine.proofs.Roomed.{new_answer, full_answer}
+use Rattle.tm_machine.proofs.Roomed.{code_here, full_answer, joined_here, kept_here, new_answer}
 use Rattle.tm_machine.proofs.parts.Parts.enqueue.Goals as goal
 
 pub invariant_of-self : goal.invariant_of-self
 invariant_of-self c =
     let ok = (rw c.in-Ok-New.field-0-is at c.in-Ok-New.ensures.ok) in
+    let new = (rw (← c.self.view_is) at c.requires.new) in
+    let code = code_here c.self.inside.system c.self.inside.tables c.self.inside.codes c.self.inside.regions.items c.self.invariant c.args.terminal.now c.args.number c.args.segments c.args.input c.in-Ok.kept new c.in-Ok.ensures in
+    let joined = joined_here c.self.inside.system c.self.inside.tables c.self.inside.codes c.self.inside.regions.items c.self.invariant c.args.terminal.now c.args.number c.args.segments c.args.input c.in-Ok.kept new c.in-Ok.ensures in
     let follow = follow_one c.self.inside.system.codes c.args.input.code c.waiting-waiting.result c.self.inside.codes c.follow.new.codes c.queues.result.now c.enqueue.new.self.queues
     c.follow.ensures c.waiting-waiting.ensures c.queues.ensures in
-    let follows = follows_enqueued c.self.inside.system c.self.inside.tables c.self.inside.codes c.self.inside.regions.items c.args.terminal.now c.args.number c.args.segments c.self.invariant c.in-Ok-New.ensures.above c.enqueue.new.self ok.2 c.follow.new.codes c.args.input.code c.requires.new.code follow in
-    parts_enqueued c.self.inside.system c.self.inside.tables c.self.inside.codes c.self.inside.regions.items c.args.terminal.now c.args.number c.args.segments c.self.invariant c.in-Ok-New.ensures.above c.enqueue.new.self ok.2 c.follow.new.codes follows
+    let follows = follows_enqueued c.self.inside.system c.self.inside.tables c.self.inside.codes c.self.inside.regions.items c.args.terminal.now c.args.number c.in-Ok.kept c.self.invariant c.in-Ok-New.ensures.above c.enqueue.new.self ok.2 c.follow.new.codes c.args.input.code (sym code) follow in
+    parts_enqueued c.self.inside.system c.self.inside.tables c.self.inside.codes c.self.inside.regions.items c.args.terminal.now c.args.number c.in-Ok.kept c.self.invariant c.in-Ok-New.ensures.above c.enqueue.new.self ok.2 joined c.follow.new.codes follows
 
 pub returns-in-Ok-New : goal.returns-in-Ok-New
 returns-in-Ok-New c =
     let ok = (rw c.in-Ok-New.field-0-is at c.in-Ok-New.ensures.ok) in
+    let new = (rw (← c.self.view_is) at c.requires.new) in
+    let code = code_here c.self.inside.system c.self.inside.tables c.self.inside.codes c.self.inside.regions.items c.self.invariant c.args.terminal.now c.args.number c.args.segments c.args.input c.in-Ok.kept new c.in-Ok.ensures in
+    let kept = kept_here c.self.inside.system c.self.inside.tables c.self.inside.codes c.self.inside.regions.items c.self.invariant c.args.terminal.now c.args.number c.args.segments c.args.input c.in-Ok.kept new c.in-Ok.ensures in
     let follow = follow_one c.self.inside.system.codes c.args.input.code c.waiting-waiting.result c.self.inside.codes c.follow.new.codes c.queues.result.now c.enqueue.new.self.queues
     c.follow.ensures c.waiting-waiting.ensures c.queues.ensures in
-    let follows = follows_enqueued c.self.inside.system c.self.inside.tables c.self.inside.codes c.self.inside.regions.items c.args.terminal.now c.args.number c.args.segments c.self.invariant c.in-Ok-New.ensures.above c.enqueue.new.self ok.2 c.follow.new.codes c.args.input.code c.requires.new.code follow in
-    rw (sym c.self.view_is) (new_answer c.self.inside.system c.self.inside.tables c.self.inside.codes c.self.inside.regions.items c.self.invariant c.args.terminal.now c.args.number c.args.segments c.args.input c.requires.segment c.count_busy-busy.result (c.count_busy-busy.ensures ∙ ap (count_by is_some) c.deref.ensures.value)
-    (rw (← c.self.view_is) at c.requires.new) c.in-Ok-New.ensures.above c.enqueue.new.self c.follow.new.codes c.in-Ok-New.id ok.0 ok.1 ok.2 ok.3 follows)
+    let follows = follows_enqueued c.self.inside.system c.self.inside.tables c.self.inside.codes c.self.inside.regions.items c.args.terminal.now c.args.number c.in-Ok.kept c.self.invariant c.in-Ok-New.ensures.above c.enqueue.new.self ok.2 c.follow.new.codes c.args.input.code (sym code) follow in
+    rw (sym c.self.view_is) (new_answer c.self.inside.system c.self.inside.tables c.self.inside.codes c.self.inside.regions.items c.self.invariant c.args.terminal.now c.args.number c.args.segments c.in-Ok.kept kept c.args.input c.requires.segment c.count_busy-busy.result (c.count_busy-busy.ensures ∙ ap (count_by is_some) c.deref.ensures.value)
+    new c.in-Ok-New.ensures.above c.enqueue.new.self c.follow.new.codes c.in-Ok-New.id ok.0 ok.1 ok.2 ok.3 follows)
 
 pub returns-in-Ok-Full : goal.returns-in-Ok-Full
 returns-in-Ok-Full c =
     let ok = (rw c.in-Ok-Full.field-0-is at c.in-Ok-Full.ensures.ok) in
-    rw (sym c.self.view_is) (full_answer c.self.inside.system c.self.inside.tables c.self.inside.codes c.self.inside.regions.items c.self.invariant c.args.terminal.now c.args.number c.args.segments c.args.input c.requires.segment c.count_busy-busy.result (c.count_busy-busy.ensures ∙ ap (count_by is_some) c.deref.ensures.value)
-    (rw (← c.self.view_is) at c.requires.new) c.enqueue.new.self c.in-Ok-Full.need c.in-Ok-Full.limit ok.0 ok.1 ok.2 ok.3)
+    let new = (rw (← c.self.view_is) at c.requires.new) in
+    let kept = kept_here c.self.inside.system c.self.inside.tables c.self.inside.codes c.self.inside.regions.items c.self.invariant c.args.terminal.now c.args.number c.args.segments c.args.input c.in-Ok.kept new c.in-Ok.ensures in
+    rw (sym c.self.view_is) (full_answer c.self.inside.system c.self.inside.tables c.self.inside.codes c.self.inside.regions.items c.self.invariant c.args.terminal.now c.args.number c.args.segments c.in-Ok.kept kept c.args.input c.requires.segment c.count_busy-busy.result (c.count_busy-busy.ensures ∙ ap (count_by is_some) c.deref.ensures.value)
+    new c.enqueue.new.self c.in-Ok-Full.need c.in-Ok-Full.limit ok.0 ok.1 ok.2 ok.3)

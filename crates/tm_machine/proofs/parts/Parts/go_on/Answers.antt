@@ -32,7 +32,7 @@ invariant_of-self-in_default-next_message c =
     c.in-Ok-names_moved.names.items c.in-Ok.outputs.items c.in-Ok.outputs.items
     c.follow_all.ensures c.queues.ensures c.deref-in_default-next_message.ensures.value c.in-Ok-names_moved.ensures refl in
     rw c.in-Ok-complete.ensures.regions
-    (parts_completed c.self.inside.system c.self.inside.tables c.self.inside.codes c.self.inside.regions.items c.args.region c.self.invariant c.busy_at-busy.result.now e region c.complete.new.tables c.in-Ok-complete.ensures.above c.in-Ok.outputs.items c.in-Ok.ensures c.in-Ok-complete.ensures.closed c.in-Ok-complete.ensures.step c.in-Ok-complete.ensures.databases c.in-Ok-complete.ensures.dbds c.in-Ok-complete.ensures.rows c.follow_all.new.codes (follows_completed c.self.inside.system c.self.inside.tables c.self.inside.codes c.self.inside.regions.items c.args.region c.self.invariant c.busy_at-busy.result.now e region c.complete.new.tables c.in-Ok-complete.ensures.above c.in-Ok.outputs.items c.in-Ok.ensures c.in-Ok-complete.ensures.closed c.in-Ok-complete.ensures.step c.in-Ok-complete.ensures.databases c.in-Ok-complete.ensures.dbds c.in-Ok-complete.ensures.rows c.follow_all.new.codes follow))
+    (parts_completed c.self.inside.system c.self.inside.tables c.self.inside.codes c.self.inside.regions.items c.args.region c.self.invariant c.busy_at-busy.result.now e region c.complete.new.tables c.in-Ok-complete.ensures.above c.in-Ok.outputs.items c.in-Ok.ensures c.in-Ok-pad_by.pad c.in-Ok-pad_by.ensures.value c.in-Ok-pad_by.ensures.suits c.in-Ok-complete.ensures.closed c.in-Ok-complete.ensures.step c.in-Ok-complete.ensures.databases c.in-Ok-complete.ensures.dbds c.in-Ok-complete.ensures.rows c.follow_all.new.codes (follows_completed c.self.inside.system c.self.inside.tables c.self.inside.codes c.self.inside.regions.items c.args.region c.self.invariant c.busy_at-busy.result.now e region c.complete.new.tables c.in-Ok-complete.ensures.above c.in-Ok.outputs.items c.in-Ok.ensures c.in-Ok-pad_by.pad c.in-Ok-pad_by.ensures.value c.in-Ok-pad_by.ensures.suits c.in-Ok-complete.ensures.closed c.in-Ok-complete.ensures.step c.in-Ok-complete.ensures.databases c.in-Ok-complete.ensures.dbds c.in-Ok-complete.ensures.rows c.follow_all.new.codes follow))
 
 pub returns-in_default-next_message-clause-turned : goal.returns-in_default-next_message-clause-turned
 returns-in_default-next_message-clause-turned c =
@@ -42,7 +42,7 @@ returns-in_default-next_message-clause-turned c =
     let follow = follow_is c.self.inside.system.codes c.busy_at-busy.result.now.code c.self.inside.codes c.follow_all.new.codes c.queues.result.now c.complete.new.tables.queues c.deref-in_default-next_message.result.now
     c.in-Ok-names_moved.names.items c.in-Ok.outputs.items c.in-Ok.outputs.items
     c.follow_all.ensures c.queues.ensures c.deref-in_default-next_message.ensures.value c.in-Ok-names_moved.ensures refl in
-    let turned = none_turned c.self.inside.system c.self.inside.tables c.self.inside.codes c.self.inside.regions.items c.args.region c.self.invariant c.busy_at-busy.result.now e region c.complete.new.tables c.in-Ok-complete.ensures.above c.in-Ok.outputs.items c.in-Ok.ensures c.in-Ok-complete.ensures.closed c.in-Ok-complete.ensures.step c.in-Ok-complete.ensures.databases c.in-Ok-complete.ensures.dbds c.in-Ok-complete.ensures.rows c.follow_all.new.codes (follows_completed c.self.inside.system c.self.inside.tables c.self.inside.codes c.self.inside.regions.items c.args.region c.self.invariant c.busy_at-busy.result.now e region c.complete.new.tables c.in-Ok-complete.ensures.above c.in-Ok.outputs.items c.in-Ok.ensures c.in-Ok-complete.ensures.closed c.in-Ok-complete.ensures.step c.in-Ok-complete.ensures.databases c.in-Ok-complete.ensures.dbds c.in-Ok-complete.ensures.rows c.follow_all.new.codes follow) (sync_is c.self.inside.system c.self.inside.tables c.self.inside.codes c.self.inside.regions.items c.args.region c.self.invariant c.busy_at-busy.result.now e region c.complete.new.tables c.in-Ok-complete.ensures.above c.in-Ok.outputs.items c.in-Ok.ensures c.in-Ok-complete.ensures.closed c.in-Ok-complete.ensures.step c.in-Ok-complete.ensures.databases c.in-Ok-complete.ensures.dbds c.in-Ok-complete.ensures.rows c.count_busy-count.result None (c.count_busy-count.ensures ∙ ap (count_by is_some) c.deref-2.ensures.value) (sym c.in_default-next_message.is ∙ c.next_message.ensures.value) (rw (← c.self.view_is) at c.requires.ends)) (rw (← c.self.view_is) at c.requires.ends) in
+    let turned = none_turned c.self.inside.system c.self.inside.tables c.self.inside.codes c.self.inside.regions.items c.args.region c.self.invariant c.busy_at-busy.result.now e region c.complete.new.tables c.in-Ok-complete.ensures.above c.in-Ok.outputs.items c.in-Ok.ensures c.in-Ok-pad_by.pad c.in-Ok-pad_by.ensures.value c.in-Ok-pad_by.ensures.suits c.in-Ok-complete.ensures.closed c.in-Ok-complete.ensures.step c.in-Ok-complete.ensures.databases c.in-Ok-complete.ensures.dbds c.in-Ok-complete.ensures.rows c.follow_all.new.codes (follows_completed c.self.inside.system c.self.inside.tables c.self.inside.codes c.self.inside.regions.items c.args.region c.self.invariant c.busy_at-busy.result.now e region c.complete.new.tables c.in-Ok-complete.ensures.above c.in-Ok.outputs.items c.in-Ok.ensures c.in-Ok-pad_by.pad c.in-Ok-pad_by.ensures.value c.in-Ok-pad_by.ensures.suits c.in-Ok-complete.ensures.closed c.in-Ok-complete.ensures.step c.in-Ok-complete.ensures.databases c.in-Ok-complete.ensures.dbds c.in-Ok-complete.ensures.rows c.follow_all.new.codes follow) (sync_is c.self.inside.system c.self.inside.tables c.self.inside.codes c.self.inside.regions.items c.args.region c.self.invariant c.busy_at-busy.result.now e region c.complete.new.tables c.in-Ok-complete.ensures.above c.in-Ok.outputs.items c.in-Ok.ensures c.in-Ok-pad_by.pad c.in-Ok-pad_by.ensures.value c.in-Ok-pad_by.ensures.suits c.in-Ok-complete.ensures.closed c.in-Ok-complete.ensures.step c.in-Ok-complete.ensures.databases c.in-Ok-complete.ensures.dbds c.in-Ok-complete.ensures.rows c.count_busy-count.result None (c.count_busy-count.ensures ∙ ap (count_by is_some) c.deref-2.ensures.value) (sym c.in_default-next_message.is ∙ c.next_message.ensures.value) (rw (← c.self.view_is) at c.requires.ends)) (rw (← c.self.view_is) at c.requires.ends) in
     rw (sym c.self.view_is) (rw c.in-Ok-complete.ensures.regions turned)
 
 pub invariant_of-self-2 : goal.invariant_of-self-2
@@ -53,9 +53,9 @@ invariant_of-self-2 c =
     let follow = follow_is c.self.inside.system.codes c.busy_at-busy.result.now.code c.self.inside.codes c.follow_all-2.new.codes c.queues-2.result.now c.take.new.tables.queues c.deref-3.result.now
     c.in-Ok-names_moved.names.items c.in-Ok.outputs.items c.in-Ok.outputs.items
     c.follow_all-2.ensures c.queues-2.ensures c.deref-3.ensures.value c.in-Ok-names_moved.ensures refl in
-    let follows = follows_next c.self.inside.system c.self.inside.tables c.self.inside.codes c.self.inside.regions.items c.args.region c.self.invariant c.busy_at-busy.result.now e region c.complete.new.tables c.in-Ok-complete.ensures.above c.in-Ok.outputs.items c.in-Ok.ensures c.in-Ok-complete.ensures.closed c.in-Ok-complete.ensures.step c.in-Ok-complete.ensures.databases c.in-Ok-complete.ensures.dbds c.in-Ok-complete.ensures.rows c.take.new.tables (record { code = c.busy_at-busy.result.now.code; taken = c.busy_at-busy.result.now.taken + 1; id = c.in-Some.next; unit = None }) c.take.ensures.tables refl refl c.in-Some.ensures.free c.follow_all-2.new.codes follow in
+    let follows = follows_next c.self.inside.system c.self.inside.tables c.self.inside.codes c.self.inside.regions.items c.args.region c.self.invariant c.busy_at-busy.result.now e region c.complete.new.tables c.in-Ok-complete.ensures.above c.in-Ok.outputs.items c.in-Ok.ensures c.in-Ok-pad_by.pad c.in-Ok-pad_by.ensures.value c.in-Ok-pad_by.ensures.suits c.in-Ok-complete.ensures.closed c.in-Ok-complete.ensures.step c.in-Ok-complete.ensures.databases c.in-Ok-complete.ensures.dbds c.in-Ok-complete.ensures.rows c.take.new.tables (record { code = c.busy_at-busy.result.now.code; taken = c.busy_at-busy.result.now.taken + 1; id = c.in-Some.next; unit = None }) c.take.ensures.tables refl refl c.in-Some.ensures.free c.follow_all-2.new.codes follow in
     rw (c.take.ensures.regions ∙ ap (λ rs. slice_set rs (c.args.region - 1) (Some (record { code = c.busy_at-busy.result.now.code; taken = c.busy_at-busy.result.now.taken + 1; id = c.in-Some.next; unit = None }))) c.in-Ok-complete.ensures.regions)
-    (parts_next c.self.inside.system c.self.inside.tables c.self.inside.codes c.self.inside.regions.items c.args.region c.self.invariant c.busy_at-busy.result.now e region c.complete.new.tables c.in-Ok-complete.ensures.above c.in-Ok.outputs.items c.in-Ok.ensures c.in-Ok-complete.ensures.closed c.in-Ok-complete.ensures.step c.in-Ok-complete.ensures.databases c.in-Ok-complete.ensures.dbds c.in-Ok-complete.ensures.rows c.take.new.tables (record { code = c.busy_at-busy.result.now.code; taken = c.busy_at-busy.result.now.taken + 1; id = c.in-Some.next; unit = None }) c.take.ensures.tables refl refl c.in-Some.ensures.free (all_followed c.self.inside.system.codes (λ name. free_count name c.complete.new.tables.queues.queued) (c.busy_at-busy.result.now.code ∷ destinations c.in-Ok.outputs.items) c.self.inside.codes) (follows_completed c.self.inside.system c.self.inside.tables c.self.inside.codes c.self.inside.regions.items c.args.region c.self.invariant c.busy_at-busy.result.now e region c.complete.new.tables c.in-Ok-complete.ensures.above c.in-Ok.outputs.items c.in-Ok.ensures c.in-Ok-complete.ensures.closed c.in-Ok-complete.ensures.step c.in-Ok-complete.ensures.databases c.in-Ok-complete.ensures.dbds c.in-Ok-complete.ensures.rows (all_followed c.self.inside.system.codes (λ name. free_count name c.complete.new.tables.queues.queued) (c.busy_at-busy.result.now.code ∷ destinations c.in-Ok.outputs.items) c.self.inside.codes) refl) c.follow_all-2.new.codes follows.size
+    (parts_next c.self.inside.system c.self.inside.tables c.self.inside.codes c.self.inside.regions.items c.args.region c.self.invariant c.busy_at-busy.result.now e region c.complete.new.tables c.in-Ok-complete.ensures.above c.in-Ok.outputs.items c.in-Ok.ensures c.in-Ok-pad_by.pad c.in-Ok-pad_by.ensures.value c.in-Ok-pad_by.ensures.suits c.in-Ok-complete.ensures.closed c.in-Ok-complete.ensures.step c.in-Ok-complete.ensures.databases c.in-Ok-complete.ensures.dbds c.in-Ok-complete.ensures.rows c.take.new.tables (record { code = c.busy_at-busy.result.now.code; taken = c.busy_at-busy.result.now.taken + 1; id = c.in-Some.next; unit = None }) c.take.ensures.tables refl refl c.in-Some.ensures.free (all_followed c.self.inside.system.codes (λ name. free_count name c.complete.new.tables.queues.queued) (c.busy_at-busy.result.now.code ∷ destinations c.in-Ok.outputs.items) c.self.inside.codes) (follows_completed c.self.inside.system c.self.inside.tables c.self.inside.codes c.self.inside.regions.items c.args.region c.self.invariant c.busy_at-busy.result.now e region c.complete.new.tables c.in-Ok-complete.ensures.above c.in-Ok.outputs.items c.in-Ok.ensures c.in-Ok-pad_by.pad c.in-Ok-pad_by.ensures.value c.in-Ok-pad_by.ensures.suits c.in-Ok-complete.ensures.closed c.in-Ok-complete.ensures.step c.in-Ok-complete.ensures.databases c.in-Ok-complete.ensures.dbds c.in-Ok-complete.ensures.rows (all_followed c.self.inside.system.codes (λ name. free_count name c.complete.new.tables.queues.queued) (c.busy_at-busy.result.now.code ∷ destinations c.in-Ok.outputs.items) c.self.inside.codes) refl) c.follow_all-2.new.codes follows.size
     (followed_settled c.self.inside.system (λ name. free_count name c.take.new.tables.queues.queued) c.self.inside.codes c.follow_all-2.new.codes follows))
 
 pub returns-clause-turned : goal.returns-clause-turned
@@ -66,6 +66,6 @@ returns-clause-turned c =
     let follow = follow_is c.self.inside.system.codes c.busy_at-busy.result.now.code c.self.inside.codes c.follow_all-2.new.codes c.queues-2.result.now c.take.new.tables.queues c.deref-3.result.now
     c.in-Ok-names_moved.names.items c.in-Ok.outputs.items c.in-Ok.outputs.items
     c.follow_all-2.ensures c.queues-2.ensures c.deref-3.ensures.value c.in-Ok-names_moved.ensures refl in
-    let follows = follows_next c.self.inside.system c.self.inside.tables c.self.inside.codes c.self.inside.regions.items c.args.region c.self.invariant c.busy_at-busy.result.now e region c.complete.new.tables c.in-Ok-complete.ensures.above c.in-Ok.outputs.items c.in-Ok.ensures c.in-Ok-complete.ensures.closed c.in-Ok-complete.ensures.step c.in-Ok-complete.ensures.databases c.in-Ok-complete.ensures.dbds c.in-Ok-complete.ensures.rows c.take.new.tables (record { code = c.busy_at-busy.result.now.code; taken = c.busy_at-busy.result.now.taken + 1; id = c.in-Some.next; unit = None }) c.take.ensures.tables refl refl c.in-Some.ensures.free c.follow_all-2.new.codes follow in
-    let turned = next_turned c.self.inside.system c.self.inside.tables c.self.inside.codes c.self.inside.regions.items c.args.region c.self.invariant c.busy_at-busy.result.now e region c.complete.new.tables c.in-Ok-complete.ensures.above c.in-Ok.outputs.items c.in-Ok.ensures c.in-Ok-complete.ensures.closed c.in-Ok-complete.ensures.step c.in-Ok-complete.ensures.databases c.in-Ok-complete.ensures.dbds c.in-Ok-complete.ensures.rows c.take.new.tables (record { code = c.busy_at-busy.result.now.code; taken = c.busy_at-busy.result.now.taken + 1; id = c.in-Some.next; unit = None }) c.take.ensures.tables refl refl c.in-Some.ensures.free (all_followed c.self.inside.system.codes (λ name. free_count name c.complete.new.tables.queues.queued) (c.busy_at-busy.result.now.code ∷ destinations c.in-Ok.outputs.items) c.self.inside.codes) c.follow_all-2.new.codes (follows_completed c.self.inside.system c.self.inside.tables c.self.inside.codes c.self.inside.regions.items c.args.region c.self.invariant c.busy_at-busy.result.now e region c.complete.new.tables c.in-Ok-complete.ensures.above c.in-Ok.outputs.items c.in-Ok.ensures c.in-Ok-complete.ensures.closed c.in-Ok-complete.ensures.step c.in-Ok-complete.ensures.databases c.in-Ok-complete.ensures.dbds c.in-Ok-complete.ensures.rows (all_followed c.self.inside.system.codes (λ name. free_count name c.complete.new.tables.queues.queued) (c.busy_at-busy.result.now.code ∷ destinations c.in-Ok.outputs.items) c.self.inside.codes) refl) follows refl (sync_is c.self.inside.system c.self.inside.tables c.self.inside.codes c.self.inside.regions.items c.args.region c.self.invariant c.busy_at-busy.result.now e region c.complete.new.tables c.in-Ok-complete.ensures.above c.in-Ok.outputs.items c.in-Ok.ensures c.in-Ok-complete.ensures.closed c.in-Ok-complete.ensures.step c.in-Ok-complete.ensures.databases c.in-Ok-complete.ensures.dbds c.in-Ok-complete.ensures.rows c.count_busy-count.result (Some c.in-Some.next) (c.count_busy-count.ensures ∙ ap (count_by is_some) c.deref-2.ensures.value) (sym c.in-Some.is ∙ c.next_message.ensures.value) (rw (← c.self.view_is) at c.requires.ends)) (rw (← c.self.view_is) at c.requires.ends) in
+    let follows = follows_next c.self.inside.system c.self.inside.tables c.self.inside.codes c.self.inside.regions.items c.args.region c.self.invariant c.busy_at-busy.result.now e region c.complete.new.tables c.in-Ok-complete.ensures.above c.in-Ok.outputs.items c.in-Ok.ensures c.in-Ok-pad_by.pad c.in-Ok-pad_by.ensures.value c.in-Ok-pad_by.ensures.suits c.in-Ok-complete.ensures.closed c.in-Ok-complete.ensures.step c.in-Ok-complete.ensures.databases c.in-Ok-complete.ensures.dbds c.in-Ok-complete.ensures.rows c.take.new.tables (record { code = c.busy_at-busy.result.now.code; taken = c.busy_at-busy.result.now.taken + 1; id = c.in-Some.next; unit = None }) c.take.ensures.tables refl refl c.in-Some.ensures.free c.follow_all-2.new.codes follow in
+    let turned = next_turned c.self.inside.system c.self.inside.tables c.self.inside.codes c.self.inside.regions.items c.args.region c.self.invariant c.busy_at-busy.result.now e region c.complete.new.tables c.in-Ok-complete.ensures.above c.in-Ok.outputs.items c.in-Ok.ensures c.in-Ok-pad_by.pad c.in-Ok-pad_by.ensures.value c.in-Ok-pad_by.ensures.suits c.in-Ok-complete.ensures.closed c.in-Ok-complete.ensures.step c.in-Ok-complete.ensures.databases c.in-Ok-complete.ensures.dbds c.in-Ok-complete.ensures.rows c.take.new.tables (record { code = c.busy_at-busy.result.now.code; taken = c.busy_at-busy.result.now.taken + 1; id = c.in-Some.next; unit = None }) c.take.ensures.tables refl refl c.in-Some.ensures.free (all_followed c.self.inside.system.codes (λ name. free_count name c.complete.new.tables.queues.queued) (c.busy_at-busy.result.now.code ∷ destinations c.in-Ok.outputs.items) c.self.inside.codes) c.follow_all-2.new.codes (follows_completed c.self.inside.system c.self.inside.tables c.self.inside.codes c.self.inside.regions.items c.args.region c.self.invariant c.busy_at-busy.result.now e region c.complete.new.tables c.in-Ok-complete.ensures.above c.in-Ok.outputs.items c.in-Ok.ensures c.in-Ok-pad_by.pad c.in-Ok-pad_by.ensures.value c.in-Ok-pad_by.ensures.suits c.in-Ok-complete.ensures.closed c.in-Ok-complete.ensures.step c.in-Ok-complete.ensures.databases c.in-Ok-complete.ensures.dbds c.in-Ok-complete.ensures.rows (all_followed c.self.inside.system.codes (λ name. free_count name c.complete.new.tables.queues.queued) (c.busy_at-busy.result.now.code ∷ destinations c.in-Ok.outputs.items) c.self.inside.codes) refl) follows refl (sync_is c.self.inside.system c.self.inside.tables c.self.inside.codes c.self.inside.regions.items c.args.region c.self.invariant c.busy_at-busy.result.now e region c.complete.new.tables c.in-Ok-complete.ensures.above c.in-Ok.outputs.items c.in-Ok.ensures c.in-Ok-pad_by.pad c.in-Ok-pad_by.ensures.value c.in-Ok-pad_by.ensures.suits c.in-Ok-complete.ensures.closed c.in-Ok-complete.ensures.step c.in-Ok-complete.ensures.databases c.in-Ok-complete.ensures.dbds c.in-Ok-complete.ensures.rows c.count_busy-count.result (Some c.in-Some.next) (c.count_busy-count.ensures ∙ ap (count_by is_some) c.deref-2.ensures.value) (sym c.in-Some.is ∙ c.next_message.ensures.value) (rw (← c.self.view_is) at c.requires.ends)) (rw (← c.self.view_is) at c.requires.ends) in
     rw (sym c.self.view_is) (rw (c.take.ensures.regions ∙ ap (λ rs. slice_set rs (c.args.region - 1) (Some (record { code = c.busy_at-busy.result.now.code; taken = c.busy_at-busy.result.now.taken + 1; id = c.in-Some.next; unit = None }))) c.in-Ok-complete.ensures.regions) turned)
