@@ -1,3 +1,4 @@
 pub mod Kept
+pub mod Cutting
 pub mod NamedSlots
 pub mod Answers

@@ -11,6 +11,7 @@ pub use replay::{Replayed, replay_log};
 pub use slots::NamedSlot;
 pub use snapshot::{Snapshot, read_records};
 
+mod cutting;
 mod fault;
 mod kept;
 mod replay;
