@@ -14,6 +14,8 @@ pub use snapshot::{Snapshot, read_records};
 mod cutting;
 mod fault;
 mod kept;
+mod order;
+mod rules;
 mod replay;
 mod slots;
 mod snapshot;
