@@ -1,10 +1,14 @@
 -- Lists of names and of records that are compared from the front.
-use Rattle.std.proofs.Common.{◌≡◌, Bool, true, false, List, [], ◌∷◌, ℕ, ◌≤◌, ◌+◌, length, cond, refl, sym, ◌∙◌, ap, arith, Some, None}
-use Rattle.std.specs.Prelude.{◌&&◌, ◌||◌, not, nat_lt, Option, position}
+use Rattle.std.proofs.Common.{◌≡◌, Bool, true, false, List, [], ◌∷◌, ℕ, zero, suc, ◌≤◌, ◌<◌, ◌+◌, length, drop, get_or, slice_get, cond, refl, sym, ◌∙◌, ap, arith, Some, None}
+use Rattle.std.specs.Prelude.{◌&&◌, ◌||◌, not, nat_lt, position}
 use Rattle.std.specs.List.{prefix_len}
 use Rattle.std.proofs.lemmas.Bool.{lt-ltb, ltb-true}
 use Rattle.std.specs.List.{list_any}
-use Rattle.std.specs.Option.{is_some}
+use Rattle.std.specs.Option.{is_some, option_map_or}
+use Rattle.std.proofs.Math.Bool.{and-true}
+use Rattle.std.proofs.lemmas.Option.{slice_get-get_or}
+use Rattle.tm_types.specs.declared.message.Message.{Message}
+use Rattle.model_image.specs.States.{ascend_below}
 use Rattle.std.specs.Str.{bytes_eq}
 use Rattle.log_records.specs.declared.record.Record.{Record}
 use Rattle.model_image.specs.Snapshot.{are_same, ascend}
@@ -49,3 +53,23 @@ short_where p (x ∷ xs) = by_first (p x) (short_where p xs) where
 pub place_is_there : {X : Type 0} (p : X → Bool) (xs : List X) → is_some (position p xs) ≡ list_any p xs
 place_is_there p xs =
     some_where (nat_lt (prefix_len (λ x. not (p x)) xs) (length xs)) (prefix_len (λ x. not (p x)) xs) ∙ short_where p xs
+
+-- ---- ids that ascend
+
+ids_step : (next : ℕ) (messages : List Message) (place : ℕ) (m : Message) (bound : ℕ) → slice_get messages place ≡ Some m → option_map_or (λ x. x.id) (slice_get messages (suc place)) next ≡ bound →
+    ascend_below next (drop place messages) ≡ nat_lt m.id bound && ascend_below next (drop (suc place) messages)
+ids_step next [] place m bound at is = cc
+ids_step next (x ∷ []) zero m bound at is =
+    let e : x ≡ m = cc in
+    ap (λ (y : Message). nat_lt y.id next) e ∙ ap (λ k. nat_lt m.id k) is ∙ sym (and-true (nat_lt m.id bound))
+ids_step next (x ∷ y ∷ messages) zero m bound at is =
+    let e : x ≡ m = cc in
+    ap (λ (z : Message). nat_lt z.id y.id && ascend_below next (y ∷ messages)) e ∙ ap (λ k. nat_lt m.id k && ascend_below next (y ∷ messages)) is
+ids_step next (x ∷ messages) (suc place) m bound at is = ids_step next messages place m bound at is
+
+pub ids_after : (next : ℕ) (messages : List Message) (place : ℕ) (m : Message) (bound : ℕ) → place < length messages → m ≡ get_or messages place m → bound ≡ option_map_or (λ x. x.id) (slice_get messages (place + 1)) next →
+    ascend_below next (drop place messages) ≡ nat_lt m.id bound && ascend_below next (drop (place + 1) messages)
+ids_after next messages place m bound within at is =
+    let one : suc place ≡ place + 1 = omega arith in
+    ids_step next messages place m bound (slice_get-get_or messages place m within ∙ ap (λ (x : Message). Some x) (sym at)) (ap (λ k. option_map_or (λ x. x.id) (slice_get messages k) next) one ∙ sym is)
+    ∙ ap (λ k. nat_lt m.id bound && ascend_below next (drop k messages)) one

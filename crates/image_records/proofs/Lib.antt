@@ -1,3 +1,4 @@
 pub mod Judged
 pub mod Cuts
 pub mod Fronts
+pub mod Pads

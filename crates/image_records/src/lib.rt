@@ -13,6 +13,7 @@ pub use snapshot::{Snapshot, read_records};
 
 mod cutting;
 mod fault;
+mod judging;
 mod kept;
 mod order;
 mod rules;

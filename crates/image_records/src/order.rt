@@ -13,10 +13,10 @@ use tm_types::{Memory, Name};
 const NUMBER_LIMIT: u64 = 2_000_000_000_000_000_000;
 
 /// The place of a kind of record among the kinds; 6 for those that no snapshot has.
-fn rank(record: &Record) -> u8
-    ensures { result ≡ rank record.now }
+fn rank(r: &Record) -> u8
+    ensures { result ≡ rank r.now }
 {
-    match record {
+    match r {
         Record::Checkpoint { .. } => 0,
         Record::Terminal { .. } => 1,
         Record::Code { .. } => 2,
@@ -58,10 +58,10 @@ pub fn are_of_no_unit(records: &[Record]) -> bool
     records.iter().all(|record| is_of_no_unit(record))
 }
 
-fn is_of_no_unit(record: &Record) -> bool
-    ensures { result ≡ is_of_no_unit record.now }
+fn is_of_no_unit(r: &Record) -> bool
+    ensures { result ≡ is_of_no_unit r.now }
 {
-    match record {
+    match r {
         Record::Input { unit, number, .. } => *unit == 0 && *number == 0,
         Record::Reply { unit, .. } => *unit == 0,
         _ => true,
@@ -78,10 +78,10 @@ pub fn terminal_names(alloc: Global, records: &[Record]) -> Result<Vec<Name>, Me
         .collect(alloc)
 }
 
-fn terminal_name(record: &Record) -> Option<Name>
-    ensures { result ≡ terminal_name record.now }
+fn terminal_name(r: &Record) -> Option<Name>
+    ensures { result ≡ terminal_name r.now }
 {
-    match record {
+    match r {
         Record::Terminal { terminal, .. } => Some(*terminal),
         _ => None,
     }
@@ -97,10 +97,10 @@ pub fn code_names(alloc: Global, records: &[Record]) -> Result<Vec<Name>, Memory
         .collect(alloc)
 }
 
-fn code_name(record: &Record) -> Option<Name>
-    ensures { result ≡ code_name record.now }
+fn code_name(r: &Record) -> Option<Name>
+    ensures { result ≡ code_name r.now }
 {
-    match record {
+    match r {
         Record::Code { code, .. } => Some(*code),
         _ => None,
     }
@@ -116,10 +116,10 @@ pub fn reply_terminals(alloc: Global, records: &[Record]) -> Result<Vec<Name>, M
         .collect(alloc)
 }
 
-fn reply_terminal(record: &Record) -> Option<Name>
-    ensures { result ≡ reply_terminal record.now }
+fn reply_terminal(r: &Record) -> Option<Name>
+    ensures { result ≡ reply_terminal r.now }
 {
-    match record {
+    match r {
         Record::Reply { terminal, .. } => Some(*terminal),
         _ => None,
     }
@@ -177,10 +177,10 @@ pub fn ascend(records: &[Record]) -> bool
     true
 }
 
-fn is_before(record: &Record, other: &Record) -> bool
-    ensures { result ≡ is_before record.now other.now }
+fn is_before(r: &Record, other: &Record) -> bool
+    ensures { result ≡ is_before r.now other.now }
 {
-    match (record, other) {
+    match (r, other) {
         (
             Record::Change {
                 unit,
@@ -225,10 +225,10 @@ pub fn has_wrong_record(records: &[Record]) -> bool
     records.iter().any(|record| is_wrong_record(record))
 }
 
-fn is_wrong_record(record: &Record) -> bool
-    ensures { result ≡ wrong_record record.now }
+fn is_wrong_record(r: &Record) -> bool
+    ensures { result ≡ wrong_record r.now }
 {
-    match record {
+    match r {
         Record::Checkpoint {
             checkpoint,
             next_unit,

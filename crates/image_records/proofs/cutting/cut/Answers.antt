@@ -1,4 +1,3 @@
-use Rattle.std.proofs.Common.{arith}
 use Rattle.image_records.proofs.Cuts.{cut_ends}
 use Rattle.image_records.proofs.cutting.cut.Goals as goal
 
