@@ -1,5 +1,6 @@
 -- What the records of a snapshot and of a log come to.
-use Rattle.std.specs.Prelude.{◌≡◌, ℕ, Bool, true, false, if◌then◌else◌, List, Option, Some, None, filter, Result, Ok, Err, Decides}
+use Rattle.std.specs.Prelude.{◌≡◌, ℕ, ◌+◌, Bool, true, false, if◌then◌else◌, List, Option, Some, None, filter, Result, Ok, Err, Decides}
+use Rattle.std.specs.List.{list_all}
 use Rattle.model_system.specs.System.{System}
 use Rattle.model_machine.specs.Machine.{LastingState}
 use Rattle.log_records.specs.declared.record.Record.{Record}
@@ -13,7 +14,7 @@ use Rattle.image_records.specs.declared.fault.RecordsFault.{RecordsFault}
 use Rattle.image_records.specs.declared.fault.RecordsFault.TheVariants.{Bad, Memory}
 use Rattle.image_records.specs.declared.slots.NamedSlot.{NamedSlot}
 use Rattle.image_records.specs.Kept.{KeptState, Keeps}
-use Rattle.image_records.specs.NamedSlots.{AreNamed}
+use Rattle.image_records.specs.NamedSlots.{is_slot_of, AreNamed}
 
 -- ---- a snapshot
 
@@ -59,17 +60,18 @@ abbrev pub log_of : System → Bool → List ℕ → LastingState → Result Las
 log_of system is_cut_off bytes lasting =
     if is_cut_off then replayed_to (replay_of system (cut_of bytes).records lasting) else Err 18
 
--- what lasts, which slots records name, and the next unit
+-- what lasts, which slots records name, and the last unit: the next one may have no number any more
 pub record ReplayedState : Type 0 where
   pub kept : KeptState
   pub slots : List NamedSlot
-  pub next_unit : ℕ
+  pub last_unit : ℕ
 
 -- these come from the records of a snapshot and of a log, which leave this state
 pub record IsBehind (system : System) (snapshot log : List Record) (lasting : LastingState) (replayed : ReplayedState) : Type 0 where
   pub kept : Keeps system lasting replayed.kept
   pub slots : AreNamed snapshot log replayed.slots
-  pub unit : replayed.next_unit ≡ next_unit snapshot log
+  pub images : list_all (is_slot_of system) replayed.slots ≡ true
+  pub unit : replayed.last_unit + 1 ≡ next_unit snapshot log
 
 -- The log of these bytes was done again, or refused by the lower rule that it breaks.
 abbrev pub Comes : System → List Record → List ℕ → Result LastingState ℕ → Result ReplayedState RecordsFault → Type 0

@@ -15,10 +15,11 @@ use system_types::System;
 #[derive(Debug, Drop)]
 pub struct Replayed {
     pub kept: Kept,
-    /// The slots that a record names, by database and slot; the bytes of all other slots stand in their sectors.
+    /// The slots that a record names, by database and slot, each with the bytes of a record or of none; those of all other
+    /// slots stand in their sectors.
     pub slots: Vec<NamedSlot>,
-    /// Above each unit of the snapshot and of the log.
-    pub next_unit: u64,
+    /// The next unit is the one behind it: no lower than each unit of the log, and the one before the snapshot's next.
+    pub last_unit: u64,
 }
 
 impl Model for Replayed {
@@ -26,7 +27,7 @@ impl Model for Replayed {
 
     ghost Value = { ReplayedState };
 
-    ghost view = { λ r. record { kept = r.kept; slots = r.slots.items; next_unit = r.next_unit } };
+    ghost view = { λ r. record { kept = r.kept; slots = r.slots.items; last_unit = r.last_unit } };
 }
 
 /// Does the records of a log again, from its bytes, on the state of the snapshot before it.
