@@ -4,6 +4,8 @@
 #![tactic(auto)]
 
 #[cfg(test)]
+mod conversations;
+#[cfg(test)]
 mod disk_images;
 #[cfg(test)]
 mod edge_lines;
@@ -13,6 +15,8 @@ mod enqueue_rings;
 mod forced_logs;
 #[cfg(test)]
 mod message_calls;
+#[cfg(test)]
+mod operator_commands;
 #[cfg(test)]
 mod queue_room;
 #[cfg(test)]

@@ -13,6 +13,3 @@ mod snapshot_sector;
 
 pub use restart::{RestartFault, RestartSector, read_restart, write_restart};
 pub use snapshot::{SnapshotFault, read_snapshot, write_snapshot};
-
-#[cfg(test)]
-mod tests;

@@ -10,6 +10,3 @@ mod unit_records;
 
 pub use forcing::{SyncFault, abend, commit};
 pub use unit_records::{Abended, Finished, OutputRecords};
-
-#[cfg(test)]
-mod tests;

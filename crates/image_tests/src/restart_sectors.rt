@@ -1,5 +1,5 @@
-//! What is written is read, and anything else is refused by its lowest rule.
-use crate::{
+//! `restart_data`: what is written is read, and anything else is refused by its lowest rule.
+use restart_data::{
     RestartFault, RestartSector, SnapshotFault, read_restart, read_snapshot, write_restart,
     write_snapshot,
 };

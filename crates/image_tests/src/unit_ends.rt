@@ -1,10 +1,10 @@
-//! What the end of a unit leaves in the log.
-use crate::{Abended, Finished, OutputRecords, abend, commit};
+//! `sync_point`: what the end of a unit leaves in the log.
 use log_records::PadChange;
 use log_sectors::read_chain;
 use log_writer::LogWriter;
 use std::alloc::Global;
 use std::test::Fail;
+use sync_point::{Abended, Finished, OutputRecords, abend, commit};
 use tm_disk::{Disk, MemDisk};
 use tm_types::{AbendCode, Name, Segment, Segments};
 

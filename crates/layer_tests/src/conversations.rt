@@ -1,0 +1,86 @@
+//! `conversation`: a conversation that begins, goes on and ends.
+use conversation::{Busy, Conversations, PadRefused};
+use msg_queues::Queues;
+use std::alloc::Global;
+use std::test::Fail;
+use tm_types::{Message, Name, Segment, Segments};
+
+/// A message of T1's conversation.
+fn message(alloc: Global, terminal: Name, code: Name) -> Result<Message, Fail> {
+    let mut segments = Segments::new(alloc);
+    segments.push(Segment::make(alloc, b"HI")?)?;
+    Ok(Message {
+        id: 7,
+        origin: terminal,
+        code,
+        conversation: true,
+        segments,
+    })
+}
+
+/// Whether the terminal's next input goes to this code.
+fn goes_to(table: &Conversations, terminal: &Name, queues: &Queues, code: &[u8]) -> bool {
+    match table.input(terminal, queues) {
+        Ok(Some(name)) => name.as_bytes() == code,
+        _ => false,
+    }
+}
+
+/// The message for which the terminal's next input is refused.
+fn busy(table: &Conversations, terminal: &Name, queues: &Queues) -> Option<u64> {
+    match table.input(terminal, queues) {
+        Err(Busy { id }) => Some(id),
+        _ => None,
+    }
+}
+
+/// Whether this is the terminal's pad.
+fn has_pad(table: &Conversations, terminal: &Name, text: &[u8]) -> bool {
+    match table.pad(terminal) {
+        Some(pad) => pad == text,
+        None => false,
+    }
+}
+
+/// The rule by which a text is refused as the terminal's pad; 0 where it is taken.
+fn updated(table: &mut Conversations, terminal: &Name, text: &[u8]) -> u8 {
+    match table.update(terminal, text) {
+        Ok(()) => 0,
+        Err(PadRefused::BadSpa(rule)) => rule,
+        Err(PadRefused::Memory) => 9,
+    }
+}
+
+#[test]
+fn a_conversation_from_its_beginning_to_its_end(rt: HostRuntime) -> Result<(), Fail> {
+    let alloc = rt.alloc();
+    let first = Name::read(b"T1").ok_or("no name")?;
+    let second = Name::read(b"T2").ok_or("no name")?;
+    let code = Name::read(b"CONV").ok_or("no name")?;
+    let mut queues = Queues::new(alloc, 131_072);
+    let mut table = Conversations::none(alloc, &[first, second])?;
+    assert!(rt; table.pad(&first).is_none());
+    table.begin(&first, &code, 6)?;
+    assert!(rt; has_pad(&table, &first, b"CONV          "));
+    assert!(rt; table.pad(&second).is_none());
+    assert!(rt; goes_to(&table, &first, &queues, b"CONV"));
+    assert!(rt; matches!(table.input(&second, &queues), Ok(None)));
+    let texts: [(&[u8], u8, &[u8]); 5] = [
+        (b"CONV    AB", 0, b"CONV    AB    "),
+        (b"CONV   ", 1, b"CONV    AB    "),
+        (b"        ", 2, b"CONV    AB    "),
+        (b"CONVS   CD", 2, b"CONV    AB    "),
+        (b"CONV    ABCDEFGH", 0, b"CONV    ABCDEF"),
+    ];
+    for (text, rule, pad) in texts {
+        assert_eq!(rt; updated(&mut table, &first, text), rule);
+        assert!(rt; has_pad(&table, &first, pad));
+    }
+    queues.add(message(alloc, first, code)?)?;
+    assert_eq!(rt; busy(&table, &first, &queues), Some(7));
+    assert!(rt; matches!(table.input(&second, &queues), Ok(None)));
+    table.end(&first);
+    assert!(rt; table.pad(&first).is_none());
+    assert!(rt; matches!(table.input(&first, &queues), Ok(None)));
+    Ok(())
+}
