@@ -1,3 +1,5 @@
 pub mod Slots
 pub mod Store
 pub mod Stores
+pub mod DataSectors
+pub mod Changed
