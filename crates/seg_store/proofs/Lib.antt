@@ -8,3 +8,4 @@ mod Changes
 mod Sealing
 pub mod Putting
 mod AllStores
+pub mod WritingBack

@@ -3,3 +3,4 @@ pub mod Store
 pub mod Stores
 pub mod DataSectors
 pub mod Changed
+pub mod WriteBack

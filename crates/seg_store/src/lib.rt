@@ -17,3 +17,4 @@ mod store;
 mod stores;
 #[cfg(test)]
 mod tests;
+mod write_back;

@@ -64,6 +64,13 @@ impl Store {
         })
     }
 
+    /// How many slots there are.
+    pub(crate) fn roots(&self) -> u16
+        ensures { result ≡ self.now.dbd.roots }
+    {
+        self.dbd.roots
+    }
+
     /// How many slots are changed.
     pub fn dirty(&self) -> u32
         ensures count { result ≡ length self.now.changed }
@@ -86,6 +93,7 @@ impl Store {
         // Then each of them is read, and a sync makes it last.
         ensures shown { OnOk result (IsTrue (D.state disk.old).tells → HasPut first (bytes_of self.old.slots self.old.changed) (D.state disk.old).shown (D.state disk.new).shown) }
         ensures count { IfOk result (λ n. n ≡ length self.old.changed) }
+        ensures few { length self.old.changed ≤ self.old.dbd.roots }
         ensures written { OnOk result (self.new ≡ record self.old { changed = [] }) }
         ensures kept { OnErr result (self.new ≡ self.old) }
         ensures writes { WritesAtMost (length self.old.changed) (D.state disk.old) (D.state disk.new) }

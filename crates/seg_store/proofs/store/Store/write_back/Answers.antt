@@ -1,6 +1,7 @@
-use Rattle.seg_store.proofs.Changes.{changed_none}
+use Rattle.seg_store.specs.Changed.{Kept}
+use Rattle.seg_store.proofs.Changes.{changed_none, changed_few}
 use Rattle.seg_store.proofs.store.Store.write_back.Goals as goal
-use Rattle.std.proofs.Common.{arith}
+use Rattle.std.proofs.Common.{◌≤◌, length, arith, subst}
 
 pub invariant_of-self : goal.invariant_of-self
 invariant_of-self g c =
@@ -9,3 +10,11 @@ invariant_of-self g c =
       changes = changed_none c.self.inside.dbd.roots c.clear.new.self.items c.clear.ensures.items;
       changed_enough = omega (arith, c.self.invariant.changed_enough, c.clear.ensures.capacity);
     }
+
+pub returns-then-is_err-clause-few : goal.returns-then-is_err-clause-few
+returns-then-is_err-clause-few g c =
+    subst (λ (s : Kept). length s.changed ≤ s.dbd.roots) c.self.view_is (changed_few c.self.inside.dbd.roots c.self.inside.changed.items c.self.invariant.changes)
+
+pub returns-clause-few : goal.returns-clause-few
+returns-clause-few g c =
+    subst (λ (s : Kept). length s.changed ≤ s.dbd.roots) c.self.view_is (changed_few c.self.inside.dbd.roots c.self.inside.changed.items c.self.invariant.changes)
