@@ -74,8 +74,8 @@ need_asked : (region number : ℕ) (need : Need) (needs : List Need) → IsNeede
 need_asked region number need [] h = absurd h
 need_asked region number need (first ∷ needs) h = ⊎_elim (λ e. inl (ap (request_of region number) e)) (λ later. inr (need_asked region number need needs later)) h
 
-module _ (o : Opened) (h : AreUnits (records_of o.units.items) o.stores o.table) (region number : ℕ) (first : 1 ≤ region) (last : region ≤ length (records_of o.units.items)) (least : 1 ≤ number)
-    (dbd : Dbd) (call : DbCall) (at : Position) (position : IsPosition dbd.types at) (ok : IsDbCall dbd.types call) (s : Stored) (there : slice_get o.stores (number - 1) ≡ Some s) (same_dbd : s.dbd ≡ dbd) where
+module _ (o : Opened) (h : AreUnits (records_of o.units.items) o.stores.stores o.table) (region number : ℕ) (first : 1 ≤ region) (last : region ≤ length (records_of o.units.items)) (least : 1 ≤ number)
+    (dbd : Dbd) (call : DbCall) (at : Position) (position : IsPosition dbd.types at) (ok : IsDbCall dbd.types call) (s : Stored) (there : slice_get o.stores.stores (number - 1) ≡ Some s) (same_dbd : s.dbd ≡ dbd) where
   abbrev pub place : ℕ
   place = region - 1
 
@@ -83,10 +83,10 @@ module _ (o : Opened) (h : AreUnits (records_of o.units.items) o.stores o.table)
   units = records_of o.units.items
 
   abbrev pub mine : List Row
-  mine = rows_in number (rows_of (seen_by place units o.stores))
+  mine = rows_in number (rows_of (seen_by place units o.stores.stores))
 
   abbrev pub stored : List Row
-  stored = rows_in number (rows_of o.stores)
+  stored = rows_in number (rows_of o.stores.stores)
 
   up : suc (region - 1) ≡ region
   up = omega (arith, first)
@@ -94,25 +94,25 @@ module _ (o : Opened) (h : AreUnits (records_of o.units.items) o.stores o.table)
   within : place < length (records_of o.units.items)
   within = omega (arith, first, last)
 
-  pub sees : region_at region (seen o) ≡ record { rows = rows_of (seen_by place units o.stores); changed = roots_of (get_or units place []) }
-  sees = region_is place units o.stores within
+  pub sees : region_at region (seen o) ≡ record { rows = rows_of (seen_by place units o.stores.stores); changed = roots_of (get_or units place []) }
+  sees = region_is place units o.stores.stores within
 
   numbered_is : rows_numbered region number (seen o) ≡ mine
   numbered_is = ap (λ (r : RegionRows). rows_in number r.rows) sees
 
   store_valid : AreSlots s.dbd s.slots
-  store_valid = all_there (λ (x : Stored). AreSlots x.dbd x.slots) o.stores (number - 1) s h.valid there
+  store_valid = all_there (λ (x : Stored). AreSlots x.dbd x.slots) o.stores.stores (number - 1) s h.valid there
 
   pub types : IsHierarchy dbd.types
   types = subst (λ d. IsHierarchy d.types) same_dbd store_valid.types
 
   pub stored_rows : AreRows dbd stored
-  stored_rows = subst (λ d. AreRows d stored) same_dbd (store_rows o.stores number s h.valid there)
+  stored_rows = subst (λ d. AreRows d stored) same_dbd (store_rows o.stores.stores number s h.valid there)
 
   pub mine_rows : AreRows dbd mine
   mine_rows =
-      let found = same_there o.stores (seen_by place units o.stores) (number - 1) s (dbds_all o.stores (set units place [])) there in
-      subst (λ d. AreRows d mine) (found.2 ∙ same_dbd) (store_rows (seen_by place units o.stores) number found.0 (seen_valid units o.stores o.table h place) found.1)
+      let found = same_there o.stores.stores (seen_by place units o.stores.stores) (number - 1) s (dbds_all o.stores.stores (set units place [])) there in
+      subst (λ d. AreRows d mine) (found.2 ∙ same_dbd) (store_rows (seen_by place units o.stores.stores) number found.0 (seen_valid units o.stores.stores o.table h place) found.1)
 
   -- what other holders are against
   abbrev pub contested : Need → Bool
@@ -120,7 +120,7 @@ module _ (o : Opened) (h : AreUnits (records_of o.units.items) o.stores o.table)
 
   agree_free : (need : Need) → contested need ≡ false → AgreeAt need.root stored mine
   agree_free need free =
-      agree units o.stores o.table h place number least need
+      agree units o.stores.stores o.table h place number least need
       (ap (λ r. is_contested (request_of r number need) o.table.holds) up ∙ free)
 
   front : up_to_blocked contested (footprint dbd call at stored) ≡ up_to_blocked contested (footprint dbd call at mine)
@@ -138,15 +138,15 @@ module _ (o : Opened) (h : AreUnits (records_of o.units.items) o.stores o.table)
         both.1 ∙ ap (λ rows. after_asks region (map (request_of region number) (footprint dbd call at rows)) o.table) (sym numbered_is),
       )
 
-  same_regions : (new : Opened) → records_of new.units.items ≡ records_of o.units.items → new.stores ≡ o.stores → (seen new).regions ≡ (seen o).regions
+  same_regions : (new : Opened) → records_of new.units.items ≡ records_of o.units.items → new.stores.stores ≡ o.stores.stores → (seen new).regions ≡ (seen o).regions
   same_regions new u st = λ t. regions_from 0 (u t) (u t) (st t)
 
-  same_committed : (new : Opened) → records_of new.units.items ≡ records_of o.units.items → new.stores ≡ o.stores → (seen new).committed ≡ (seen o).committed
+  same_committed : (new : Opened) → records_of new.units.items ≡ records_of o.units.items → new.stores.stores ≡ o.stores.stores → (seen new).committed ≡ (seen o).committed
   same_committed new u st = λ t. Rattle.program_rows.specs.Open.backed_all (u t) (st t)
 
   -- a call that waits
   pub waits : (a : DataAnswer) (new : Opened) → WaitsAt (map (request_of region number) (footprint dbd call at stored)) o.table a → records_of new.units.items ≡ records_of o.units.items
-      → new.stores ≡ o.stores → new.table ≡ after_asks region (map (request_of region number) (footprint dbd call at stored)) o.table → Called region number dbd call at (seen o) (seen new) a
+      → new.stores.stores ≡ o.stores.stores → new.table ≡ after_asks region (map (request_of region number) (footprint dbd call at stored)) o.table → Called region number dbd call at (seen o) (seen new) a
   waits (Answered a) new w u st t = absurd w
   waits (Abend code) new w u st t = absurd w
   waits (Blocked b) new w u st t =
@@ -191,7 +191,7 @@ module _ (o : Opened) (h : AreUnits (records_of o.units.items) o.stores o.table)
 
     -- a call that changes no record
     module _ (p : Planned) (a : answer.Answered) (new : Opened) (text : IfSome p.area IsSegmentText) (st : a.status ≡ p.status) (ar : a.area ≡ p.area) (po : a.position ≡ p.position) where
-      pub reads : PlansTo dbd stored (dli dbd call at stored) p None → records_of new.units.items ≡ records_of o.units.items → new.stores ≡ o.stores
+      pub reads : PlansTo dbd stored (dli dbd call at stored) p None → records_of new.units.items ≡ records_of o.units.items → new.stores.stores ≡ o.stores.stores
           → new.table ≡ after_asks region (map (request_of region number) (footprint dbd call at stored)) o.table → Called region number dbd call at (seen o) (seen new) (Answered a)
       reads plans u s_same t =
           let unchanged : (dli dbd call at mine).changed ≡ None = sym alike.changed ∙ plans.changed in
@@ -224,7 +224,7 @@ module _ (o : Opened) (h : AreUnits (records_of o.units.items) o.stores o.table)
 
     -- a call that sets a record
     module _ (p : Planned) (e : Edit) (new : Opened) (plans : PlansEdit dbd stored (dli dbd call at stored) p e) (exists : IsThere stored (Some e))
-        (limits : abend_by number (roots_of (get_or units place [])) (Some e.root) (limit_of (set_refusal dbd e.root e.image stored)) ≡ None) (slot : ℕ) (put : IsPut number e o.stores new.stores)
+        (limits : abend_by number (roots_of (get_or units place [])) (Some e.root) (limit_of (set_refusal dbd e.root e.image stored)) ≡ None) (slot : ℕ) (put : IsPut number e o.stores.stores new.stores.stores)
         (takes : TakesSlot put.s e slot) (room : is_full number e.root (get_or units place []) ≡ false)
         (u : records_of new.units.items ≡ set units place (with_change (kept_of number slot e put.s) (get_or units place [])))
         (t : new.table ≡ after_asks region (map (request_of region number) (footprint dbd call at stored)) o.table) (kept : IsKept new.table) where
@@ -257,7 +257,7 @@ module _ (o : Opened) (h : AreUnits (records_of o.units.items) o.stores o.table)
       same_store = let both : Some put.s ≡ Some s = sym put.at ∙ there in cc
 
       stored_is : stored ≡ rows_of_slots put.s.slots
-      stored_is = rows_at_is number o.stores put.s put.at
+      stored_is = rows_at_is number o.stores.stores put.s put.at
 
       holds_alone : (need : Need) → IsNeeded need (footprint dbd call at stored) → need.mode ≡ Exclusive → HoldsAlone new.table (suc place) (record { db = number; root = need.root })
       holds_alone need needed mode =
@@ -276,7 +276,7 @@ module _ (o : Opened) (h : AreUnits (records_of o.units.items) o.stores o.table)
           exists gone absent)
           (λ gone. exists gone (roots_tell dbd types (dli dbd call at stored).rows stored stored_rows same e.root (image_left ∙ gone))) way
 
-      set_in : IsSetIn new.table (suc place) change o.stores put.s put.t e.image
+      set_in : IsSetIn new.table (suc place) change o.stores.stores put.s put.t e.image
       set_in =
           record {
             least = least;
@@ -295,11 +295,11 @@ module _ (o : Opened) (h : AreUnits (records_of o.units.items) o.stores o.table)
       after_units = follows region number (footprint dbd call at stored) o.table new.table least h.numbered t kept
 
       -- the units are open again
-      pub set_open : AreUnits (records_of new.units.items) new.stores new.table
+      pub set_open : AreUnits (records_of new.units.items) new.stores.stores new.table
       set_open =
-          subst (λ us. AreUnits us new.stores new.table) (sym u)
+          subst (λ us. AreUnits us new.stores.stores new.table) (sym u)
           (subst (λ ss. AreUnits (set units place (with_change (kept_of number slot e put.s) (get_or units place []))) ss new.table) (sym put.stores)
-          (set_units units o.stores o.table new.table h after_units place within change put.s put.t e.image set_in room))
+          (set_units units o.stores.stores o.table new.table h after_units place within change put.s put.t e.image set_in room))
 
       whole : (IsRecord put.s.dbd e.root e.image) ⊎ (e.image ≡ [])
       whole = ⊎_elim (λ none. inr none) (λ long. ⊎_elim (λ none. inr none) (λ r. inl (record_of_slot r long)) in_slot) takes.image
@@ -323,7 +323,7 @@ module _ (o : Opened) (h : AreUnits (records_of o.units.items) o.stores o.table)
           (λ i. regions_from 0 (u i) (u i) (put.stores i))
           ∙ same_list no_rows (regions_from 0 us us now) (set (seen o).regions (region - 1) (region_after number (dli dbd call at mine) (region_at region (seen o))))
           (regions_length 0 us us now ∙ (length-set units place (with_change change (get_or units place []))
-          ∙ sym (length-set (seen o).regions (region - 1) (region_after number (dli dbd call at mine) (region_at region (seen o))) ∙ regions_length 0 units units o.stores)))
+          ∙ sym (length-set (seen o).regions (region - 1) (region_after number (dli dbd call at mine) (region_at region (seen o))) ∙ regions_length 0 units units o.stores.stores)))
           (λ k lt.
           let inside : k < length units = omega (arith, lt, regions_length 0 us us now, length-set units place (with_change change (get_or units place []))) in
           ⊎_elim (λ same. own k same inside) (λ other. others k other inside) (cases_eq k place))
@@ -332,7 +332,7 @@ module _ (o : Opened) (h : AreUnits (records_of o.units.items) o.stores o.table)
           us = set units place (with_change change (get_or units place []))
 
           now : List Stored
-          now = set o.stores (number - 1) put.t
+          now = set o.stores.stores (number - 1) put.t
 
           sizes : (k : ℕ) → k < length units → k < length us
           sizes k inside = omega (arith, inside, length-set units place (with_change change (get_or units place [])))
@@ -344,11 +344,11 @@ module _ (o : Opened) (h : AreUnits (records_of o.units.items) o.stores o.table)
               ∙ (region_is place us now (sizes place within)
               ∙ ((λ i. record { rows = rows i; changed = changed i })
               ∙ sym (ap (λ n. get_or (set (seen o).regions (region - 1) (region_after number (dli dbd call at mine) (region_at region (seen o)))) n no_rows) same
-              ∙ get_put (seen o).regions place (region_after number (dli dbd call at mine) (region_at region (seen o))) no_rows (omega (arith, within, regions_length 0 units units o.stores)))))
+              ∙ get_put (seen o).regions place (region_after number (dli dbd call at mine) (region_at region (seen o))) no_rows (omega (arith, within, regions_length 0 units units o.stores.stores)))))
             where
               rows : rows_of (seen_by place us now) ≡ set (region_at region (seen o)).rows (number - 1) (dli dbd call at mine).rows
               rows =
-                  set_seen units o.stores o.table new.table h after_units place within change put.s put.t e.image set_in room whole
+                  set_seen units o.stores.stores o.table new.table h after_units place within change put.s put.t e.image set_in room whole
                   (λ none gone. exists gone (ap (record_of e.root) stored_is ∙ none))
                   ∙ (λ i. set (ap (λ (r : RegionRows). r.rows) (sym sees) i) (number - 1) (sym mine_left i))
 
@@ -363,11 +363,11 @@ module _ (o : Opened) (h : AreUnits (records_of o.units.items) o.stores o.table)
           others k other inside =
               region_is k us now (sizes k inside)
               ∙ ((λ i. record {
-                rows = rows_of (set_others units o.stores o.table new.table h after_units place within change put.s put.t e.image set_in room k other i);
+                rows = rows_of (set_others units o.stores.stores o.table new.table h after_units place within change put.s put.t e.image set_in room k other i);
                 changed = roots_of (get_put_else units place k (with_change change (get_or units place [])) [] other i);
               })
               ∙ sym (get_put_else (seen o).regions place k (region_after number (dli dbd call at mine) (region_at region (seen o))) no_rows other
-              ∙ region_is k units o.stores inside))
+              ∙ region_is k units o.stores.stores inside))
 
       pub sets : (a : answer.Answered) → IfSome p.area IsSegmentText → a.status ≡ p.status → a.area ≡ p.area → a.position ≡ p.position → Called region number dbd call at (seen o) (seen new) (Answered a)
       sets a text st ar po =
@@ -379,8 +379,8 @@ module _ (o : Opened) (h : AreUnits (records_of o.units.items) o.stores o.table)
             asks = t ∙ same_asks.1;
             stays = tt;
             committed = (λ i. Rattle.program_rows.specs.Open.backed_all (u i) (put.stores i))
-                ∙ set_committed units o.stores o.table new.table h after_units place within change put.s put.t e.image set_in room;
-            dbds = ap (map (λ (x : Stored). x.dbd)) put.stores ∙ dbds_stay o.stores (number - 1) put.s put.t put.at put.dbd;
+                ∙ set_committed units o.stores.stores o.table new.table h after_units place within change put.s put.t e.image set_in room;
+            dbds = ap (map (λ (x : Stored). x.dbd)) put.stores ∙ dbds_stay o.stores.stores (number - 1) put.s put.t put.at put.dbd;
           }
         where
           without : data_abend number (data_of region (seen o) []) (dli dbd call at mine) ≡ None

@@ -32,31 +32,31 @@ use Rattle.program_rows.proofs.Called.{waits, reads, sets, set_open, leads}
 use Rattle.program_rows.proofs.Followed.{follows, follow_units}
 use Rattle.program_rows.proofs.Setting.{rows_at_is}
 
-module _ (o : Opened) (h : AreUnits (records_of o.units.items) o.stores o.table) (region number : ℕ) (first : 1 ≤ region) (last : region ≤ length (records_of o.units.items)) (least : 1 ≤ number)
-    (dbd : Dbd) (call : DbCall) (at : Position) (position : IsPosition dbd.types at) (ok : IsDbCall dbd.types call) (s : Stored) (there : slice_get o.stores (number - 1) ≡ Some s) (same_dbd : s.dbd ≡ dbd)
+module _ (o : Opened) (h : AreUnits (records_of o.units.items) o.stores.stores o.table) (region number : ℕ) (first : 1 ≤ region) (last : region ≤ length (records_of o.units.items)) (least : 1 ≤ number)
+    (dbd : Dbd) (call : DbCall) (at : Position) (position : IsPosition dbd.types at) (ok : IsDbCall dbd.types call) (s : Stored) (there : slice_get o.stores.stores (number - 1) ≡ Some s) (same_dbd : s.dbd ≡ dbd)
     (new : Opened) where
   stored : List Row
-  stored = rows_in number (rows_of o.stores)
+  stored = rows_in number (rows_of o.stores.stores)
 
-  stored_is : rows_in number (rows_of o.stores) ≡ rows_of_slots s.slots
-  stored_is = rows_at_is number o.stores s there
+  stored_is : rows_in number (rows_of o.stores.stores) ≡ rows_of_slots s.slots
+  stored_is = rows_at_is number o.stores.stores s there
 
   requests_are : (requests : List Request) → requests ≡ map (request_of region number) (footprint dbd call at (rows_of_slots s.slots))
-      → requests ≡ map (request_of region number) (footprint dbd call at (rows_in number (rows_of o.stores)))
+      → requests ≡ map (request_of region number) (footprint dbd call at (rows_in number (rows_of o.stores.stores)))
   requests_are requests e = e ∙ ap (λ rows. map (request_of region number) (footprint dbd call at rows)) (sym stored_is)
 
   asked_units : (requests : List Request) → requests ≡ map (request_of region number) (footprint dbd call at (rows_of_slots s.slots)) → records_of new.units.items ≡ records_of o.units.items
-      → new.stores ≡ o.stores → new.table ≡ after_asks region requests o.table → IsKept new.table → AreUnits (records_of new.units.items) new.stores new.table
+      → new.stores.stores ≡ o.stores.stores → new.table ≡ after_asks region requests o.table → IsKept new.table → AreUnits (records_of new.units.items) new.stores.stores new.table
   asked_units requests e u st t kept =
-      subst (λ us. AreUnits us new.stores new.table) (sym u)
+      subst (λ us. AreUnits us new.stores.stores new.table) (sym u)
       (subst (λ ss. AreUnits (records_of o.units.items) ss new.table) (sym st)
-      (follow_units (records_of o.units.items) o.stores o.table new.table h
+      (follow_units (records_of o.units.items) o.stores.stores o.table new.table h
       (follows region number (footprint dbd call at (rows_of_slots s.slots)) o.table new.table least h.numbered (t ∙ ap (λ qs. after_asks region qs o.table) e) kept)))
 
   module _ {E : Type 0} where
     -- a call that waits
     pub waited : (r : Result DataAnswer E) (requests : List Request) → requests ≡ map (request_of region number) (footprint dbd call at (rows_of_slots s.slots))
-        → records_of new.units.items ≡ records_of o.units.items → new.stores ≡ o.stores → IfOk r (WaitsAt requests o.table) → OnOk r (new.table ≡ after_asks region requests o.table) → IsKept new.table
+        → records_of new.units.items ≡ records_of o.units.items → new.stores.stores ≡ o.stores.stores → IfOk r (WaitsAt requests o.table) → OnOk r (new.table ≡ after_asks region requests o.table) → IsKept new.table
         → IfOk r (IsDone region number dbd call at o new)
     waited (Err x) requests e u st w t kept = tt
     waited (Ok (Answered a)) requests e u st w t kept = absurd w
@@ -79,19 +79,19 @@ module _ (o : Opened) (h : AreUnits (records_of o.units.items) o.stores o.table)
         by a (subst (λ (q : Asked). Makes q dbd p o new a) (λ i. record asked { region = er i; number = en i }) m)
       where
         requests : List Request
-        requests = map (request_of region number) (footprint dbd call at (rows_in number (rows_of o.stores)))
+        requests = map (request_of region number) (footprint dbd call at (rows_in number (rows_of o.stores.stores)))
 
-        unblocked : first_blocked (map (request_of region number) (footprint dbd call at (rows_in number (rows_of o.stores)))) o.table ≡ None
+        unblocked : first_blocked (map (request_of region number) (footprint dbd call at (rows_in number (rows_of o.stores.stores)))) o.table ≡ None
         unblocked = sym (ap (λ qs. first_blocked qs o.table) (requests_are asked.requests.items eq)) ∙ free
 
-        planned : Plans dbd (rows_in number (rows_of o.stores)) (dli dbd call at (rows_in number (rows_of o.stores))) p
+        planned : Plans dbd (rows_in number (rows_of o.stores.stores)) (dli dbd call at (rows_in number (rows_of o.stores.stores))) p
         planned = subst (λ rows. Plans dbd rows (dli dbd call at rows) p) (sym stored_is) plans
 
-        is_there : IsThere (rows_in number (rows_of o.stores)) p.edit
+        is_there : IsThere (rows_in number (rows_of o.stores.stores)) p.edit
         is_there = subst (λ rows. IsThere rows p.edit) (sym stored_is) exists
 
         answered : (b : answer.Answered) → b.status ≡ p.status → b.area ≡ p.area → b.position ≡ p.position → (oe : Option Edit)
-            → PlansTo dbd (rows_in number (rows_of o.stores)) (dli dbd call at (rows_in number (rows_of o.stores))) p oe → IsThere (rows_in number (rows_of o.stores)) oe
+            → PlansTo dbd (rows_in number (rows_of o.stores.stores)) (dli dbd call at (rows_in number (rows_of o.stores.stores))) p oe → IsThere (rows_in number (rows_of o.stores.stores)) oe
             → IsEdited (record asked { region = region; number = number }) dbd o new oe → IsDone region number dbd call at o new (Answered b)
         answered b st ar po None pl ex edited =
             record {
@@ -102,7 +102,7 @@ module _ (o : Opened) (h : AreUnits (records_of o.units.items) o.stores o.table)
             }
         answered b st ar po (Some e) pl ex edited =
             let set = edited.1 in
-            let table : new.table ≡ after_asks region (map (request_of region number) (footprint dbd call at (rows_in number (rows_of o.stores)))) o.table =
+            let table : new.table ≡ after_asks region (map (request_of region number) (footprint dbd call at (rows_in number (rows_of o.stores.stores)))) o.table =
             edited.1.asks.table ∙ ap (λ qs. after_asks region qs o.table) (requests_are asked.requests.items eq) in
             record {
               called = sets o h region number first last least dbd call at position ok s there same_dbd unblocked p e new pl ex edited.0 edited.1.slot edited.1.put edited.1.takes edited.1.room edited.1.units table
@@ -112,16 +112,16 @@ module _ (o : Opened) (h : AreUnits (records_of o.units.items) o.stores o.table)
                   edited.1.asks.kept;
             }
 
-        led : (code : _) (oe : Option Edit) → PlansTo dbd (rows_in number (rows_of o.stores)) (dli dbd call at (rows_in number (rows_of o.stores))) p oe
+        led : (code : _) (oe : Option Edit) → PlansTo dbd (rows_in number (rows_of o.stores.stores)) (dli dbd call at (rows_in number (rows_of o.stores.stores))) p oe
             → LeadsTo (record asked { region = region; number = number }) dbd o code oe → IsSame o new → IsDone region number dbd call at o new (Abend code)
         led code None pl leads_to same = absurd leads_to
         led code (Some e) pl leads_to same =
             record {
               called = leads o h region number first last least dbd call at position ok s there same_dbd unblocked p e code new pl leads_to same;
               stands = tt;
-              units = subst (λ us. AreUnits us new.stores new.table) (sym same.units)
+              units = subst (λ us. AreUnits us new.stores.stores new.table) (sym same.units)
                   (subst (λ ss. AreUnits (records_of o.units.items) ss new.table) (sym same.stores)
-                  (subst (λ (table : EnqueueTable). AreUnits (records_of o.units.items) o.stores table) (sym same.table) h));
+                  (subst (λ (table : EnqueueTable). AreUnits (records_of o.units.items) o.stores.stores table) (sym same.table) h));
             }
 
         by : (b : DataAnswer) → Makes (record asked { region = region; number = number }) dbd p o new b → IsDone region number dbd call at o new b

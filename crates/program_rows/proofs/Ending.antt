@@ -45,7 +45,7 @@ has_unit o d region h view r = by (subst (λ e. IsRegionOf e region) (sym view) 
   where
     by : IsRegionOf (seen o) region → HasUnit o region
     by s =
-        let count : length (seen o).regions ≡ length (records_of o.units.items) = regions_length 0 (records_of o.units.items) (records_of o.units.items) o.stores in
+        let count : length (seen o).regions ≡ length (records_of o.units.items) = regions_length 0 (records_of o.units.items) (records_of o.units.items) o.stores.stores in
         let units : length (records_of o.units.items) ≡ length o.units.items = length-map o.units.items (λ (u : Changes). u.records) in
         record {
           least = s.least;
@@ -55,7 +55,7 @@ has_unit o d region h view r = by (subst (λ e. IsRegionOf e region) (sym view) 
           up = omega (arith, s.least);
         }
 
-pub can_back_out : (o : Opened) (region : ℕ) → IsOpen o → HasUnit o region → CanBackOut (changed_in region o) o.stores
+pub can_back_out : (o : Opened) (region : ℕ) → IsOpen o → HasUnit o region → CanBackOut (changed_in region o) o.stores.stores
 can_back_out o region h u = (h.each (region - 1) u.within).can
 
 -- how many records a unit has changed, and what its region sees where there are none
@@ -67,7 +67,7 @@ changes_are o d region us u n h view r same at e =
     e
     ∙ (ap length (sym own)
     ∙ (sym (length-map {B = ℕ × List ℕ} (get_or (records_of o.units.items) (region - 1) []) (λ (c : Change). (c.db, c.root)))
-    ∙ (ap (λ (x : RegionRows). length x.changed) (sym (region_is (region - 1) (records_of o.units.items) o.stores has.within)) ∙ ap (λ (e : DatabasesState). length (region_at region e).changed) view)))
+    ∙ (ap (λ (x : RegionRows). length x.changed) (sym (region_is (region - 1) (records_of o.units.items) o.stores.stores has.within)) ∙ ap (λ (e : DatabasesState). length (region_at region e).changed) view)))
 
 pub clean_so : (o : Opened) (d : DatabasesState) (region n : ℕ) → IsOpen o → seen o ≡ d → IsRegionOf d region → n ≡ length (region_at region d).changed → n ≡ 0 → IsClean region d
 clean_so o d region n h view r count none = subst (IsClean region) view (by (get_or (records_of o.units.items) (region - 1) []) refl)
@@ -75,8 +75,8 @@ clean_so o d region n h view r count none = subst (IsClean region) view (by (get
     has : HasUnit o region
     has = has_unit o d region h view r
 
-    sees : region_at region (seen o) ≡ record { rows = rows_of (seen_by (region - 1) (records_of o.units.items) o.stores); changed = roots_of (get_or (records_of o.units.items) (region - 1) []) }
-    sees = region_is (region - 1) (records_of o.units.items) o.stores has.within
+    sees : region_at region (seen o) ≡ record { rows = rows_of (seen_by (region - 1) (records_of o.units.items) o.stores.stores); changed = roots_of (get_or (records_of o.units.items) (region - 1) []) }
+    sees = region_is (region - 1) (records_of o.units.items) o.stores.stores has.within
 
     set_same : (us : List (List Change)) (i : ℕ) → get_or us i [] ≡ [] → set us i [] ≡ us
     set_same [] i e = refl
@@ -89,7 +89,7 @@ clean_so o d region n h view r count none = subst (IsClean region) view (by (get
     by : (records : List Change) → get_or (records_of o.units.items) (region - 1) [] ≡ records → IsClean region (seen o)
     by [] e =
         record {
-          sees = ap (λ (x : RegionRows). x.rows) sees ∙ ap (λ us. rows_of (backed_all us o.stores)) (set_same (records_of o.units.items) (region - 1) e);
+          sees = ap (λ (x : RegionRows). x.rows) sees ∙ ap (λ us. rows_of (backed_all us o.stores.stores)) (set_same (records_of o.units.items) (region - 1) e);
           changed = ap (λ (x : RegionRows). x.changed) sees ∙ ap roots_of e;
         }
     by (c ∷ records) e =
@@ -116,28 +116,28 @@ valid_rows stores dbds valid e =
 
 pub committed_are_rows : (o : Opened) → IsOpen o → AreRowsOf (dbds_of (seen o)) (committed_rows (seen o))
 committed_are_rows o h =
-    valid_rows (backed_all (records_of o.units.items) o.stores) (dbds_of (seen o))
-    (valid_all o.stores (records_of o.units.items) h.valid (all_good (records_of o.units.items) o.stores o.table h) (all_beside (records_of o.units.items) o.stores o.table h))
-    (dbds_all o.stores (records_of o.units.items))
+    valid_rows (backed_all (records_of o.units.items) o.stores.stores) (dbds_of (seen o))
+    (valid_all o.stores.stores (records_of o.units.items) h.valid (all_good (records_of o.units.items) o.stores.stores o.table h) (all_beside (records_of o.units.items) o.stores.stores o.table h))
+    (dbds_all o.stores.stores (records_of o.units.items))
 
 module _ (o new : Opened) (h : IsOpen o) (region : ℕ) (u : HasUnit o region) (units : records_of new.units.items ≡ set (records_of o.units.items) (region - 1) []) where
   us : List (List Change)
   us = records_of o.units.items
 
   -- the changes are taken back
-  module _ (stores : new.stores ≡ backed_out (changed_in region o) o.stores) where
-    pub taken_back_units : (table : EnqueueTable) → table ≡ o.table → AreUnits (records_of new.units.items) new.stores table
+  module _ (stores : new.stores.stores ≡ backed_out (changed_in region o) o.stores.stores) where
+    pub taken_back_units : (table : EnqueueTable) → table ≡ o.table → AreUnits (records_of new.units.items) new.stores.stores table
     taken_back_units table same =
-        subst (λ t. AreUnits (records_of new.units.items) new.stores t) (sym same)
-        (subst (λ xs. AreUnits xs new.stores o.table) (sym units)
+        subst (λ t. AreUnits (records_of new.units.items) new.stores.stores t) (sym same)
+        (subst (λ xs. AreUnits xs new.stores.stores o.table) (sym units)
         (subst (λ ss. AreUnits (set (records_of o.units.items) (region - 1) []) ss o.table) (sym stores)
-        (back_units (records_of o.units.items) o.stores o.table h (region - 1) u.within)))
+        (back_units (records_of o.units.items) o.stores.stores o.table h (region - 1) u.within)))
 
     pub taken_back_committed : (seen new).committed ≡ (seen o).committed
-    taken_back_committed = (λ i. backed_all (units i) (stores i)) ∙ back_committed (records_of o.units.items) o.stores o.table h (region - 1) u.within
+    taken_back_committed = (λ i. backed_all (units i) (stores i)) ∙ back_committed (records_of o.units.items) o.stores.stores o.table h (region - 1) u.within
 
     pub taken_back_dbds : dbds_of (seen new) ≡ dbds_of (seen o)
-    taken_back_dbds = ap (map (λ (s : Stored). s.dbd)) stores ∙ backed_dbds (changed_in region o) o.stores
+    taken_back_dbds = ap (map (λ (s : Stored). s.dbd)) stores ∙ backed_dbds (changed_in region o) o.stores.stores
 
     pub taken_back_regions : (seen new).regions ≡ regions_backed region (seen o)
     taken_back_regions =
@@ -145,7 +145,7 @@ module _ (o new : Opened) (h : IsOpen o) (region : ℕ) (u : HasUnit o region) (
         ∙ same_list no_rows (regions_from 0 left left now) (regions_backed region (seen o))
         (regions_length 0 left left now
         ∙ (length-set (records_of o.units.items) (region - 1) []
-        ∙ sym (length-set (seen o).regions (region - 1) (clean_region (committed_rows (seen o))) ∙ regions_length 0 (records_of o.units.items) (records_of o.units.items) o.stores)))
+        ∙ sym (length-set (seen o).regions (region - 1) (clean_region (committed_rows (seen o))) ∙ regions_length 0 (records_of o.units.items) (records_of o.units.items) o.stores.stores)))
         (λ k lt.
         let inside : k < length (records_of o.units.items) = omega (arith, lt, regions_length 0 left left now, length-set (records_of o.units.items) (region - 1) []) in
         ⊎_elim (λ same. own k same) (λ other. others k other inside) (cases_eq k (region - 1)))
@@ -154,28 +154,28 @@ module _ (o new : Opened) (h : IsOpen o) (region : ℕ) (u : HasUnit o region) (
         left = set (records_of o.units.items) (region - 1) []
 
         now : List Stored
-        now = backed_out (changed_in region o) o.stores
+        now = backed_out (changed_in region o) o.stores.stores
 
         own : (k : ℕ) → k ≡ region - 1 → get_or (regions_from 0 left left now) k no_rows ≡ get_or (regions_backed region (seen o)) k no_rows
         own k same =
             ap (λ n. get_or (regions_from 0 left left now) n no_rows) same
             ∙ (region_is (region - 1) left now (omega (arith, u.within, length-set (records_of o.units.items) (region - 1) []))
             ∙ ((λ i. record {
-              rows = rows_of (back_own (records_of o.units.items) o.stores o.table h (region - 1) u.within i);
+              rows = rows_of (back_own (records_of o.units.items) o.stores.stores o.table h (region - 1) u.within i);
               changed = roots_of (get_set (records_of o.units.items) (region - 1) [] u.within i);
             })
             ∙ sym (ap (λ n. get_or (regions_backed region (seen o)) n no_rows) same
             ∙ get_put (seen o).regions (region - 1) (clean_region (committed_rows (seen o))) no_rows
-            (omega (arith, u.within, regions_length 0 (records_of o.units.items) (records_of o.units.items) o.stores)))))
+            (omega (arith, u.within, regions_length 0 (records_of o.units.items) (records_of o.units.items) o.stores.stores)))))
 
         others : (k : ℕ) → k ≢ region - 1 → k < length (records_of o.units.items) → get_or (regions_from 0 left left now) k no_rows ≡ get_or (regions_backed region (seen o)) k no_rows
         others k other inside =
             region_is k left now (omega (arith, inside, length-set (records_of o.units.items) (region - 1) []))
             ∙ ((λ i. record {
-              rows = rows_of (back_others (records_of o.units.items) o.stores o.table h (region - 1) u.within k other i);
+              rows = rows_of (back_others (records_of o.units.items) o.stores.stores o.table h (region - 1) u.within k other i);
               changed = roots_of (get_set_else (records_of o.units.items) (region - 1) k [] other i);
             })
-            ∙ sym (get_put_else (seen o).regions (region - 1) k (clean_region (committed_rows (seen o))) no_rows other ∙ region_is k (records_of o.units.items) o.stores inside))
+            ∙ sym (get_put_else (seen o).regions (region - 1) k (clean_region (committed_rows (seen o))) no_rows other ∙ region_is k (records_of o.units.items) o.stores.stores inside))
 
   -- what the region holds is given up, once its unit has no changes
   pub given_up_units : (stores : List Stored) (old table : EnqueueTable) → AreUnits (records_of new.units.items) stores old → table ≡ released region old → IsKept table → AreUnits (records_of new.units.items) stores table
@@ -186,60 +186,60 @@ module _ (o new : Opened) (h : IsOpen o) (region : ℕ) (u : HasUnit o region) (
       (ap (λ xs. get_or xs (region - 1) []) units ∙ get_set (records_of o.units.items) (region - 1) [] u.within) (subst IsKept is kept))
 
   -- the changes stay
-  module _ (stores : new.stores ≡ o.stores) where
-    pub kept_units : AreUnits (records_of new.units.items) new.stores o.table
+  module _ (stores : new.stores.stores ≡ o.stores.stores) where
+    pub kept_units : AreUnits (records_of new.units.items) new.stores.stores o.table
     kept_units =
-        subst (λ xs. AreUnits xs new.stores o.table) (sym units)
+        subst (λ xs. AreUnits xs new.stores.stores o.table) (sym units)
         (subst (λ ss. AreUnits (set (records_of o.units.items) (region - 1) []) ss o.table) (sym stores)
-        (keep_units (records_of o.units.items) o.stores o.table h (region - 1) u.within))
+        (keep_units (records_of o.units.items) o.stores.stores o.table h (region - 1) u.within))
 
     pub is_committed : new.table ≡ released region o.table → IsCommitted region (seen o) (seen new)
     is_committed table =
         record {
           stores = stores;
-          rows = ap rows_of committed_is ∙ ap (λ (x : RegionRows). x.rows) (sym (region_is (region - 1) (records_of o.units.items) o.stores u.within));
+          rows = ap rows_of committed_is ∙ ap (λ (x : RegionRows). x.rows) (sym (region_is (region - 1) (records_of o.units.items) o.stores.stores u.within));
           own = new_region (region - 1) (omega (arith, u.within, length-set (records_of o.units.items) (region - 1) []))
               ∙ ((λ i. record {
-                rows = rows_of (backed_all (set_twice (records_of o.units.items) (region - 1) [] [] i) o.stores);
+                rows = rows_of (backed_all (set_twice (records_of o.units.items) (region - 1) [] [] i) o.stores.stores);
                 changed = roots_of (get_set (records_of o.units.items) (region - 1) [] u.within i);
               })
               ∙ ap (λ ss. clean_region (rows_of ss)) (sym committed_is));
-          count = regions_length 0 (records_of new.units.items) (records_of new.units.items) new.stores
-              ∙ (ap length units ∙ (length-set (records_of o.units.items) (region - 1) [] ∙ sym (regions_length 0 (records_of o.units.items) (records_of o.units.items) o.stores)));
-          others = λ other apart least most. beside other apart least (omega (arith, least, most, regions_length 0 (records_of o.units.items) (records_of o.units.items) o.stores));
+          count = regions_length 0 (records_of new.units.items) (records_of new.units.items) new.stores.stores
+              ∙ (ap length units ∙ (length-set (records_of o.units.items) (region - 1) [] ∙ sym (regions_length 0 (records_of o.units.items) (records_of o.units.items) o.stores.stores)));
+          others = λ other apart least most. beside other apart least (omega (arith, least, most, regions_length 0 (records_of o.units.items) (records_of o.units.items) o.stores.stores));
           table = table;
         }
       where
         left : List (List Change)
         left = set (records_of o.units.items) (region - 1) []
 
-        committed_is : (seen new).committed ≡ backed_all (set (records_of o.units.items) (region - 1) []) o.stores
+        committed_is : (seen new).committed ≡ backed_all (set (records_of o.units.items) (region - 1) []) o.stores.stores
         committed_is = λ i. backed_all (units i) (stores i)
 
         new_region : (k : ℕ) → k < length (set (records_of o.units.items) (region - 1) [])
-            → get_or (seen new).regions k no_rows ≡ record { rows = rows_of (seen_by k (set (records_of o.units.items) (region - 1) []) o.stores); changed = roots_of (get_or (set (records_of o.units.items) (region - 1) []) k []) }
-        new_region k lt = (λ i. get_or (regions_from 0 (units i) (units i) (stores i)) k no_rows) ∙ region_is k (set (records_of o.units.items) (region - 1) []) o.stores lt
+            → get_or (seen new).regions k no_rows ≡ record { rows = rows_of (seen_by k (set (records_of o.units.items) (region - 1) []) o.stores.stores); changed = roots_of (get_or (set (records_of o.units.items) (region - 1) []) k []) }
+        new_region k lt = (λ i. get_or (regions_from 0 (units i) (units i) (stores i)) k no_rows) ∙ region_is k (set (records_of o.units.items) (region - 1) []) o.stores.stores lt
 
         beside : (other : ℕ) → (other ≡ region → ⊥) → 1 ≤ other → other - 1 < length (records_of o.units.items) → IsBeside other (seen o) (seen new)
         beside other apart least inside =
             let k_apart : other - 1 ≢ region - 1 = λ e. apart (omega (arith, e, least, u.least)) in
             let number : suc (other - 1) ≡ other = omega (arith, least) in
             let was : region_at other (seen o)
-            ≡ record { rows = rows_of (seen_by (other - 1) (records_of o.units.items) o.stores); changed = roots_of (get_or (records_of o.units.items) (other - 1) []) } =
-            region_is (other - 1) (records_of o.units.items) o.stores inside in
+            ≡ record { rows = rows_of (seen_by (other - 1) (records_of o.units.items) o.stores.stores); changed = roots_of (get_or (records_of o.units.items) (other - 1) []) } =
+            region_is (other - 1) (records_of o.units.items) o.stores.stores inside in
             record {
               sees = new_region (other - 1) (omega (arith, inside, length-set (records_of o.units.items) (region - 1) []))
                   ∙ ((λ i. record {
-                    rows = sees_then (records_of o.units.items) o.stores o.table h (region - 1) u.within (other - 1) inside k_apart i;
+                    rows = sees_then (records_of o.units.items) o.stores.stores o.table h (region - 1) u.within (other - 1) inside k_apart i;
                     changed = roots_of (get_set_else (records_of o.units.items) (region - 1) (other - 1) [] k_apart i);
                   })
                   ∙ (λ i. record {
                     rows = Rattle.program_rows.specs.State.with_records_from (sym was i).changed (sym was i).rows (rows_of (sym committed_is i));
                     changed = (sym was i).changed;
                   }));
-              held = subst (λ r. AgreeOnHeld o.table r (rows_of (backed_all (records_of o.units.items) o.stores)) (committed_rows (seen new))) number
-                  (subst (λ ss. AgreeOnHeld o.table (suc (other - 1)) (rows_of (backed_all (records_of o.units.items) o.stores)) (rows_of ss)) (sym committed_is)
-                  (held_then (records_of o.units.items) o.stores o.table h (region - 1) u.within (other - 1) inside k_apart));
+              held = subst (λ r. AgreeOnHeld o.table r (rows_of (backed_all (records_of o.units.items) o.stores.stores)) (committed_rows (seen new))) number
+                  (subst (λ ss. AgreeOnHeld o.table (suc (other - 1)) (rows_of (backed_all (records_of o.units.items) o.stores.stores)) (rows_of ss)) (sym committed_is)
+                  (held_then (records_of o.units.items) o.stores.stores o.table h (region - 1) u.within (other - 1) inside k_apart));
             }
 
 -- at the beginning nothing is open
@@ -281,7 +281,7 @@ module _ (dbds : List Dbd) (regions : ℕ) where
         once = tt;
       }
 
-  module _ (o : Opened) (types : AllByRecursion (λ dbd. IsHierarchy dbd.types) dbds) (units : o.units.items ≡ replicate regions no_changes) (stores : o.stores ≡ empty_stores dbds)
+  module _ (o : Opened) (types : AllByRecursion (λ dbd. IsHierarchy dbd.types) dbds) (units : o.units.items ≡ replicate regions no_changes) (stores : o.stores.stores ≡ empty_stores dbds)
       (table : o.table ≡ empty_table regions) where
     us_are : records_of o.units.items ≡ replicate regions []
     us_are = ap records_of units ∙ records_none regions
@@ -295,7 +295,7 @@ module _ (dbds : List Dbd) (regions : ℕ) where
 
     pub begins : IsOpen o
     begins =
-        subst (λ us. AreUnits us o.stores o.table) (sym us_are)
+        subst (λ us. AreUnits us o.stores.stores o.table) (sym us_are)
         (subst (λ ss. AreUnits (replicate regions []) ss o.table) (sym stores)
         (subst (λ (t : EnqueueTable). AreUnits (replicate regions []) (empty_stores dbds) t) (sym table)
         (record {

@@ -22,10 +22,10 @@ left_records old taken_out new i u v at out back = back ∙ (ap (λ us. set us i
 
 module _ {R E : Type 0} where
   pub set_done : (r : Result R E) (asked : Asked) (e : Edit) (slot : ℕ) (old new : Opened) (u : Changes) (s : Stored) (units : List Changes) (p : Touching)
-      → slice_get old.units.items (asked.region - 1) ≡ Some u → units ≡ set old.units.items (asked.region - 1) no_changes → slice_get old.stores (asked.number - 1) ≡ Some s
-      → IfSome (slice_get old.stores (asked.number - 1)) (λ s. TakesSlot s e slot) → is_full asked.number e.root (changed_in asked.region old) ≡ false
+      → slice_get old.units.items (asked.region - 1) ≡ Some u → units ≡ set old.units.items (asked.region - 1) no_changes → slice_get old.stores.stores (asked.number - 1) ≡ Some s
+      → IfSome (slice_get old.stores.stores (asked.number - 1)) (λ s. TakesSlot s e slot) → is_full asked.number e.root (changed_in asked.region old) ≡ false
       → p.touched ≡ with_touch (kept_of asked.number slot e s) u
-      → OnOk r (IsPut asked.number e old.stores new.stores) → OnOk r (new.units.items ≡ set units (asked.region - 1) p.touched) → OnOk r (HasAskedIn asked old.table new.table)
+      → OnOk r (IsPut asked.number e old.stores.stores new.stores.stores) → OnOk r (new.units.items ≡ set units (asked.region - 1) p.touched) → OnOk r (HasAskedIn asked old.table new.table)
       → OnOk r (IsSet asked e old new)
   set_done (Err x) asked e slot old new u s units p at out there takes room touched put kept asks = tt
   set_done (Ok x) asked e slot old new u s units p at out there takes room touched put kept asks =
@@ -34,7 +34,7 @@ module _ {R E : Type 0} where
       record {
         slot = slot;
         put = put;
-        takes = taken (λ s. TakesSlot s e slot) (slice_get old.stores (asked.number - 1)) put.s put.at takes;
+        takes = taken (λ s. TakesSlot s e slot) (slice_get old.stores.stores (asked.number - 1)) put.s put.at takes;
         room = room;
         units = ap records_of (kept ∙ (ap (λ us. set us (asked.region - 1) p.touched) out ∙ put_twice old.units.items (asked.region - 1) p.touched no_changes))
             ∙ (records_put old.units.items (asked.region - 1) p.touched
@@ -45,7 +45,7 @@ module _ {R E : Type 0} where
       }
 
   pub set_left : (r : Result R E) (region : ℕ) (old new : Opened) (u : Changes) (units : List Changes) (p : Touching) → slice_get old.units.items (region - 1) ≡ Some u
-      → units ≡ set old.units.items (region - 1) no_changes → p.unit ≡ u → OnErr r (new.units.items ≡ set units (region - 1) p.unit) → OnErr r (new.stores ≡ old.stores) → OnErr r (new.table ≡ old.table)
+      → units ≡ set old.units.items (region - 1) no_changes → p.unit ≡ u → OnErr r (new.units.items ≡ set units (region - 1) p.unit) → OnErr r (new.stores.stores ≡ old.stores.stores) → OnErr r (new.table ≡ old.table)
       → OnErr r (IsSame old new)
   set_left (Ok x) region old new u units p at out same left stores table = tt
   set_left (Err x) region old new u units p at out same left stores table =
@@ -57,7 +57,7 @@ module _ {R E : Type 0} where
 
 -- a unit for which there was no memory goes back
 pub put_left : (region : ℕ) (old new : Opened) (u v : Changes) (units : List Changes) → slice_get old.units.items (region - 1) ≡ Some u
-    → units ≡ set old.units.items (region - 1) no_changes → v ≡ u → new.units.items ≡ set units (region - 1) v → new.stores ≡ old.stores → new.table ≡ old.table → IsSame old new
+    → units ≡ set old.units.items (region - 1) no_changes → v ≡ u → new.units.items ≡ set units (region - 1) v → new.stores.stores ≡ old.stores.stores → new.table ≡ old.table → IsSame old new
 put_left region old new u v units at out same back stores table =
     record {
       units = ap records_of (left_records old.units.items units new.units.items (region - 1) u no_changes at out (back ∙ ap (set units (region - 1)) same));

@@ -26,10 +26,10 @@ use Rattle.program_rows.specs.declared.opened.Opened.{Opened}
 
 -- the databases with what is open, as they are seen
 abbrev pub seen : Opened → DatabasesState
-seen o = opened (records_of o.units.items) o.stores o.table
+seen o = opened (records_of o.units.items) o.stores.stores o.table
 
 abbrev pub IsOpen : Opened → Type 0
-IsOpen o = AreUnits (records_of o.units.items) o.stores o.table
+IsOpen o = AreUnits (records_of o.units.items) o.stores.stores o.table
 
 -- the records that a region has changed
 abbrev pub changed_in : ℕ → Opened → List Change
@@ -38,7 +38,7 @@ changed_in region o = slice_index_or (records_of o.units.items) (region - 1) []
 -- nothing has changed
 pub record IsSame (old new : Opened) : Type 0 where
   pub units : records_of new.units.items ≡ records_of old.units.items
-  pub stores : new.stores ≡ old.stores
+  pub stores : new.stores.stores ≡ old.stores.stores
   pub table : new.table ≡ old.table
 
 -- the region waits at the first of these requests that is blocked
@@ -76,7 +76,7 @@ pub record HasAskedIn (asked : Asked) (old new : EnqueueTable) : Type 0 where
 -- a record is set, and its image before kept; the region has asked for what that needs
 pub record IsSet (asked : Asked) (e : Edit) (old new : Opened) : Type 0 where
   pub slot : ℕ
-  pub put : IsPut asked.number e old.stores new.stores
+  pub put : IsPut asked.number e old.stores.stores new.stores.stores
   pub takes : TakesSlot put.s e slot
   pub room : is_full asked.number e.root (changed_in asked.region old) ≡ false
   pub units : records_of new.units.items
@@ -86,13 +86,13 @@ pub record IsSet (asked : Asked) (e : Edit) (old new : Opened) : Type 0 where
 -- no record is set; the region has asked for what the call needs
 pub record HasAsked (asked : Asked) (old new : Opened) : Type 0 where
   pub units : records_of new.units.items ≡ records_of old.units.items
-  pub stores : new.stores ≡ old.stores
+  pub stores : new.stores.stores ≡ old.stores.stores
   pub asks : HasAskedIn asked old.table new.table
 
 -- the abend to which an edit leads, if it leads to one
 abbrev pub edit_abend : Asked → Dbd → Edit → Opened → Option AbendCode
 edit_abend asked dbd e o =
-    abend_by asked.number (roots_of (changed_in asked.region o)) (Some e.root) (limit_of (set_refusal dbd e.root e.image (rows_in asked.number (rows_of o.stores))))
+    abend_by asked.number (roots_of (changed_in asked.region o)) (Some e.root) (limit_of (set_refusal dbd e.root e.image (rows_in asked.number (rows_of o.stores.stores))))
 
 -- what an answered plan leaves
 abbrev pub IsEdited : Asked → Dbd → Opened → Opened → Option Edit → Type 0

@@ -31,7 +31,7 @@ pub fn call(
     requires first { 1 ≤ region }
     requires last { region ≤ length opened.old.units.items }
     requires number { 1 ≤ number }
-    requires database { slice_get (map (λ s. s.dbd) opened.old.stores) (number - 1) ≡ Some dbd.now }
+    requires database { slice_get (map (λ s. s.dbd) opened.old.stores.stores) (number - 1) ≡ Some dbd.now }
     requires few { length dbd.now.types ≤ 255 }
     requires short { All (λ type. type.bytes ≤ 1996) dbd.now.types }
     requires position { IsPosition dbd.now.types at.now }

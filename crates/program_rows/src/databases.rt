@@ -74,7 +74,7 @@ impl Databases {
 
     /// The stores, as they are.
     pub fn stores(&self) -> &Stores
-        ensures { result.now ≡ self.now.stores }
+        ensures { result.now.stores ≡ self.now.stores }
     {
         &self.opened.stores
     }
@@ -189,9 +189,9 @@ fn types_of(dbds: &[Dbd])
 fn take_back(alloc: Global, region: u32, opened: &mut Opened)
     requires least { 1 ≤ region }
     requires most { region ≤ length opened.old.units.items }
-    requires can { CanBackOut (changed_in region opened.old) opened.old.stores }
+    requires can { CanBackOut (changed_in region opened.old) opened.old.stores.stores }
     ensures units { records_of opened.new.units.items ≡ slice_set (records_of opened.old.units.items) (region - 1) [] }
-    ensures stores { opened.new.stores ≡ backed_out (changed_in region opened.old) opened.old.stores }
+    ensures stores { opened.new.stores.stores ≡ backed_out (changed_in region opened.old) opened.old.stores.stores }
     ensures table { opened.new.table ≡ opened.old.table }
 {
     let mut unit = take_unit(alloc, &mut opened.units, region);

@@ -39,9 +39,9 @@ pub fn make(
     requires own { AllByRecursion (λ request. request.region ≡ asked.now.region) asked.now.requests.items }
     requires free { first_blocked asked.now.requests.items opened.old.table ≡ None }
     requires number { 1 ≤ asked.now.number }
-    requires database { slice_get (map (λ s. s.dbd) opened.old.stores) (asked.now.number - 1) ≡ Some dbd.now }
+    requires database { slice_get (map (λ s. s.dbd) opened.old.stores.stores) (asked.now.number - 1) ≡ Some dbd.now }
     requires image { IfSome planned.edit (λ e. IsImage dbd.now e.root e.image) }
-    requires there { IsThere (rows_in asked.now.number (rows_of opened.old.stores)) planned.edit }
+    requires there { IsThere (rows_in asked.now.number (rows_of opened.old.stores.stores)) planned.edit }
     ensures made { IfOk result (Makes asked.now dbd.now planned opened.old opened.new) }
     ensures kept { OnErr result (IsSame opened.old opened.new) }
 {
@@ -78,9 +78,9 @@ fn change(
     requires own { AllByRecursion (λ request. request.region ≡ asked.now.region) asked.now.requests.items }
     requires free { first_blocked asked.now.requests.items opened.old.table ≡ None }
     requires number { 1 ≤ asked.now.number }
-    requires database { slice_get (map (λ s. s.dbd) opened.old.stores) (asked.now.number - 1) ≡ Some dbd.now }
+    requires database { slice_get (map (λ s. s.dbd) opened.old.stores.stores) (asked.now.number - 1) ≡ Some dbd.now }
     requires image { IsImage dbd.now edit.root edit.image }
-    requires there { IsThere (rows_in asked.now.number (rows_of opened.old.stores)) (Some edit) }
+    requires there { IsThere (rows_in asked.now.number (rows_of opened.old.stores.stores)) (Some edit) }
     ensures abend { IfOk result (λ o. o ≡ edit_abend asked.now dbd.now edit opened.old) }
     ensures made { IfOk result (EditMade asked.now edit opened.old opened.new) }
     ensures kept { OnErr result (IsSame opened.old opened.new) }
@@ -141,8 +141,8 @@ fn set(
     requires own { AllByRecursion (λ request. request.region ≡ asked.now.region) asked.now.requests.items }
     requires free { first_blocked asked.now.requests.items opened.old.table ≡ None }
     requires first { 1 ≤ asked.now.number }
-    requires last { asked.now.number ≤ length opened.old.stores }
-    requires takes { IfSome (slice_get opened.old.stores (asked.now.number - 1)) (λ s. TakesSlot s edit slot) }
+    requires last { asked.now.number ≤ length opened.old.stores.stores }
+    requires takes { IfSome (slice_get opened.old.stores.stores (asked.now.number - 1)) (λ s. TakesSlot s edit slot) }
     requires room { is_full asked.now.number edit.root (changed_in asked.now.region opened.old) ≡ false }
     ensures set { OnOk result (IsSet asked.now edit opened.old opened.new) }
     ensures kept { OnErr result (IsSame opened.old opened.new) }
@@ -186,14 +186,14 @@ fn keep(asked: &Asked, edit: Edit, prepared: Prepared, opened: &mut Opened) -> R
     requires own { AllByRecursion (λ request. request.region ≡ asked.now.region) asked.now.requests.items }
     requires free { first_blocked asked.now.requests.items opened.old.table ≡ None }
     requires first { 1 ≤ asked.now.number }
-    requires last { asked.now.number ≤ length opened.old.stores }
-    requires accepted { IfSome (slice_get opened.old.stores (asked.now.number - 1)) (λ s. set_refusal s.dbd edit.root edit.image (rows_of_slots s.slots) ≡ None) }
-    requires image { IfSome (slice_get opened.old.stores (asked.now.number - 1)) (λ s. IsImage s.dbd edit.root edit.image) }
-    ensures put { OnOk result (IsPut asked.now.number edit opened.old.stores opened.new.stores) }
+    requires last { asked.now.number ≤ length opened.old.stores.stores }
+    requires accepted { IfSome (slice_get opened.old.stores.stores (asked.now.number - 1)) (λ s. set_refusal s.dbd edit.root edit.image (rows_of_slots s.slots) ≡ None) }
+    requires image { IfSome (slice_get opened.old.stores.stores (asked.now.number - 1)) (λ s. IsImage s.dbd edit.root edit.image) }
+    ensures put { OnOk result (IsPut asked.now.number edit opened.old.stores.stores opened.new.stores.stores) }
     ensures units { OnOk result (opened.new.units.items ≡ slice_set opened.old.units.items (asked.now.region - 1) prepared.touched) }
     ensures asked { OnOk result (HasAskedIn asked.now opened.old.table opened.new.table) }
     ensures left { OnErr result (opened.new.units.items ≡ slice_set opened.old.units.items (asked.now.region - 1) prepared.unit) }
-    ensures stores { OnErr result (opened.new.stores ≡ opened.old.stores) }
+    ensures stores { OnErr result (opened.new.stores.stores ≡ opened.old.stores.stores) }
     ensures table { OnErr result (opened.new.table ≡ opened.old.table) }
 {
     match ask(asked, &mut opened.table) {
@@ -211,10 +211,10 @@ fn keep(asked: &Asked, edit: Edit, prepared: Prepared, opened: &mut Opened) -> R
 
 fn put_record(number: u8, edit: Edit, stores: &mut Stores)
     requires least { 1 ≤ number }
-    requires most { number ≤ length stores.old }
-    requires accepted { IfSome (slice_get stores.old (number - 1)) (λ s. set_refusal s.dbd edit.root edit.image (rows_of_slots s.slots) ≡ None) }
-    requires image { IfSome (slice_get stores.old (number - 1)) (λ s. IsImage s.dbd edit.root edit.image) }
-    ensures { IsPut number edit stores.old stores.new }
+    requires most { number ≤ length stores.old.stores }
+    requires accepted { IfSome (slice_get stores.old.stores (number - 1)) (λ s. set_refusal s.dbd edit.root edit.image (rows_of_slots s.slots) ≡ None) }
+    requires image { IfSome (slice_get stores.old.stores (number - 1)) (λ s. IsImage s.dbd edit.root edit.image) }
+    ensures { IsPut number edit stores.old.stores stores.new.stores }
 {
     let root = edit.root;
     match stores.store_mut(number).set(&root, edit.image) {

@@ -4,3 +4,8 @@ pub mod SlotRows
 pub mod Numbers
 pub mod Indexed
 mod Nexts
+mod Changes
+mod Sealing
+pub mod Putting
+mod AllStores
+pub mod WritingBack

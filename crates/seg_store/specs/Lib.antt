@@ -1,3 +1,6 @@
 pub mod Slots
 pub mod Store
 pub mod Stores
+pub mod DataSectors
+pub mod Changed
+pub mod WriteBack

@@ -9,6 +9,7 @@ use Rattle.tm_types.specs.declared.dbd.Dbd.{Dbd}
 use Rattle.model_rows.specs.declared.row.Row.{Row}
 use Rattle.model_rows.specs.Path.{key_cmp}
 use Rattle.seg_store.specs.Slots.{AreSlots, slot_of}
+use Rattle.seg_store.specs.Changed.{AreChanged}
 
 -- the numbers of the free slots, the first slot having this number
 abbrev pub free_numbers : ℕ → List (List Row) → List ℕ
@@ -33,3 +34,9 @@ pub record AreIndexed (dbd : Dbd) (slots : List (List Row)) (index : List (List 
 abbrev pub next_entry : List (List ℕ × ℕ) → Option (List ℕ) → Option (List ℕ × ℕ)
 next_entry index None = slice_get index 0
 next_entry index (Some root) = find (λ entry. is_lt (key_cmp root entry.0)) index
+
+-- and the changed slots are known, with room for all
+pub record IsKept (dbd : Dbd) (slots : List (List Row)) (index : List (List ℕ × ℕ)) (index_room : ℕ) (free : List ℕ) (free_room : ℕ) (changed : List ℕ) (changed_room : ℕ) : Type 0 where
+  pub indexed : AreIndexed dbd slots index index_room free free_room
+  pub changes : AreChanged dbd.roots changed
+  pub changed_enough : dbd.roots ≤ changed_room

@@ -53,8 +53,8 @@ pub fn add_slot(free: &mut Vec<u16>, slot: u16)
     }
 }
 
-// How many free slots are lower.
-fn place_among(free: &[u16], slot: u16) -> usize
+/// How many of these rising numbers are lower.
+pub fn place_among(free: &[u16], slot: u16) -> usize
     requires { IsStrictlySortedBy nat_cmp free.now }
     ensures { result ≡ count_below slot free.now }
 {

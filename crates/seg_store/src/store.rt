@@ -1,21 +1,28 @@
 //! The store of one database.
-ghost use Rattle.std.specs.Prelude.{◌≡◌, ◌↔◌, ◌*◌, ◌≤◌, ◌<◌, ◌≢◌, ℕ, [], IfOk, IfErr, OnOk, OnErr, IsOk, None, Some, slice_get, slice_set, length};
+ghost use Rattle.std.specs.Prelude.{◌≡◌, ◌↔◌, ◌*◌, ◌+◌, ◌≤◌, ◌<◌, ◌≢◌, ℕ, [], IfOk, IfErr, OnOk, OnErr, IsOk, IsTrue, None, Some, slice_get, slice_set, length};
 ghost use Rattle.std.specs.Vec.{vec_len};
 ghost use Rattle.model_rows.specs.Record.{IsRecord, IsLongRecord, record_limit};
 ghost use Rattle.model_rows.specs.Rows.{record_of, with_record, IsImage, AreRows};
 ghost use Rattle.seg_rows.specs.StoreRefused.{set_refusal};
+ghost use Rattle.model_disk.specs.Disk.{Stays, Within, Follows, WritesAtMost, FailedSince};
+ghost use Rattle.seg_store.specs.Changed.{stored, with_number, with_changed, slot_changed, AreChanged};
+ghost use Rattle.seg_store.specs.DataSectors.{bytes_of, MayPut, HasPut};
 ghost use Rattle.seg_store.specs.Slots.{image_root, slot_of, lowest_free, slot_for, with_root, rows_of_slots, AreSlots, free_slots, without_root};
 
+use crate::changed::add_changed;
+use crate::data_sectors::put_slots;
 use crate::free::{add_slot, all_free, lowest, take_slot};
 use crate::index::{add_root, next_entry, slot_of, take_root};
 use seg_rows::{RecordImage, Rows, StoreRefused};
 use std::alloc::Global;
 use std::marker::Model;
+use tm_disk::{Disk, DiskFault};
 use tm_types::{Dbd, Key, Memory};
 
 /// The rows of one database, the image of each record in a slot of its own.
 ///
-/// There are as many slots as the database may have roots. A slot without rows is free.
+/// There are as many slots as the database may have roots. A slot without rows is free. A slot counts as changed from
+/// when a record was set, put back or taken out there until it is written, also where it then has the same again.
 #[derive(Debug, Drop)]
 pub struct Store {
     alloc: Global,
@@ -23,18 +30,19 @@ pub struct Store {
     slots: Vec<RecordImage>,
     index: Vec<(Key, u16)>,
     free: Vec<u16>,
+    changed: Vec<u16>,
 }
 
 impl Model for Store {
     ghost use Rattle.std.specs.Vec.{vec_capacity};
-    ghost use Rattle.seg_store.specs.Slots.{Stored};
-    ghost use Rattle.seg_store.specs.Store.{AreIndexed};
+    ghost use Rattle.seg_store.specs.Changed.{Kept, AreChanged};
+    ghost use Rattle.seg_store.specs.Store.{AreIndexed, IsKept};
 
-    ghost Value = { Stored };
+    ghost Value = { Kept };
 
-    ghost view = { λ s. record { dbd = s.dbd; slots = s.slots.items } };
+    ghost view = { λ s. record { dbd = s.dbd; slots = s.slots.items; changed = s.changed.items } };
 
-    ghost invariant = { λ s. AreIndexed s.dbd s.slots.items s.index.items (vec_capacity s.index) s.free.items (vec_capacity s.free) };
+    ghost invariant = { λ s. IsKept s.dbd s.slots.items s.index.items (vec_capacity s.index) s.free.items (vec_capacity s.free) s.changed.items (vec_capacity s.changed) };
 }
 
 impl Store {
@@ -43,6 +51,7 @@ impl Store {
         ensures database { IfOk result (λ s. s.dbd ≡ dbd.now) }
         ensures free { IfOk result (λ s. s.slots ≡ free_slots dbd.now.roots) }
         ensures rows { IfOk result (λ s. rows_of_slots s.slots ≡ []) }
+        ensures changed { IfOk result (λ s. s.changed ≡ []) }
     {
         let _types = dbd.types.as_slice();
         Ok(Store {
@@ -51,7 +60,52 @@ impl Store {
             slots: no_records(alloc, dbd.roots)?,
             index: Vec::with_capacity(alloc, dbd.roots as usize)?,
             free: all_free(alloc, dbd.roots)?,
+            changed: Vec::with_capacity(alloc, dbd.roots as usize)?,
         })
+    }
+
+    /// How many slots there are.
+    pub(crate) fn roots(&self) -> u16
+        ensures { result ≡ self.now.dbd.roots }
+    {
+        self.dbd.roots
+    }
+
+    /// How many slots are changed.
+    pub fn dirty(&self) -> u32
+        ensures count { result ≡ length self.now.changed }
+        ensures valid { AreChanged self.now.dbd.roots self.now.changed }
+    {
+        let _roots = self.dbd.roots;
+        self.changed.len() as u32
+    }
+
+    /// Writes the records of the changed slots into their sectors, in ascending order, where slot 0 has the sector
+    /// `first`; the answer is how many they are, and none is changed then. Nothing is synced. `Disk` comes exactly where
+    /// the disk failed in the call; then all of them still count as changed. The records and slots stay in any case.
+    pub fn write_back<D: Disk>(&mut self, disk: &mut D, first: u32) -> Result<u32, DiskFault>
+        requires area { first + self.old.dbd.roots ≤ (D.state disk.old).size }
+        requires sectors { self.old.dbd.sectors ≤ 1 }
+        ensures stays { Stays (D.state disk.old) (D.state disk.new) }
+        // Whenever a crash comes, each sector is as it was or has the record of its changed slot.
+        ensures any_moment { Within (MayPut first (bytes_of self.old.slots self.old.changed)) (D.state disk.old) (D.state disk.new) }
+        ensures follows { Follows (MayPut first (bytes_of self.old.slots self.old.changed)) (D.state disk.old) (D.state disk.new) }
+        // Then each of them is read, and a sync makes it last.
+        ensures shown { OnOk result (IsTrue (D.state disk.old).tells → HasPut first (bytes_of self.old.slots self.old.changed) (D.state disk.old).shown (D.state disk.new).shown) }
+        ensures count { IfOk result (λ n. n ≡ length self.old.changed) }
+        ensures few { length self.old.changed ≤ self.old.dbd.roots }
+        ensures written { OnOk result (self.new ≡ record self.old { changed = [] }) }
+        ensures kept { OnErr result (self.new ≡ self.old) }
+        ensures writes { WritesAtMost (length self.old.changed) (D.state disk.old) (D.state disk.new) }
+        ensures no_fault { OnOk result ((D.state disk.new).faults ≡ (D.state disk.old).faults) }
+        ensures cause { OnErr result (FailedSince (D.state disk.old) (D.state disk.new)) }
+    {
+        if put_slots(disk, first, &self.slots, &self.changed).is_err() {
+            return Err(DiskFault::Disk);
+        }
+        let count = self.dirty();
+        self.changed.clear();
+        Ok(count)
     }
 
     /// The slot of the record with this root, or else the lowest free slot, which the next `set` of
@@ -72,6 +126,7 @@ impl Store {
         ensures slots { self.new.slots ≡ with_root root.now [] self.old.slots }
         ensures freed { self.new.slots ≡ without_root root.now self.old.slots }
         ensures rows { rows_of_slots self.new.slots ≡ with_record root.now [] (rows_of_slots self.old.slots) }
+        ensures changed { self.new.changed ≡ with_changed (slot_of root.now self.old.slots) self.old.changed }
         ensures database { self.new.dbd ≡ self.old.dbd }
         ensures valid { AreSlots self.new.dbd self.new.slots }
     {
@@ -80,6 +135,7 @@ impl Store {
         };
         put(&mut self.slots, slot, RecordImage::new(self.alloc));
         add_slot(&mut self.free, slot);
+        add_changed(&mut self.changed, slot);
     }
 
     /// Puts a record into its slot. All other slots stay. This takes no memory.
@@ -89,6 +145,7 @@ impl Store {
         requires new { slot_of (image_root image) self.old.slots ≡ None }
         ensures slots { self.new.slots ≡ slice_set self.old.slots slot image }
         ensures rows { rows_of_slots self.new.slots ≡ with_record (image_root image) image (rows_of_slots self.old.slots) }
+        ensures changed { self.new.changed ≡ with_number slot self.old.changed }
         ensures database { self.new.dbd ≡ self.old.dbd }
         ensures valid { AreSlots self.new.dbd self.new.slots }
     {
@@ -105,12 +162,14 @@ impl Store {
         requires new { slot_of root.now self.old.slots ≡ None }
         ensures slots { self.new.slots ≡ slice_set self.old.slots slot image }
         ensures rows { rows_of_slots self.new.slots ≡ with_record root.now image (rows_of_slots self.old.slots) }
+        ensures changed { self.new.changed ≡ with_number slot self.old.changed }
         ensures database { self.new.dbd ≡ self.old.dbd }
         ensures valid { AreSlots self.new.dbd self.new.slots }
     {
         add_root(&mut self.index, root, slot);
         take_slot(&mut self.free, slot);
         put(&mut self.slots, slot, image);
+        add_changed(&mut self.changed, slot);
     }
 
     // Adds a record in the lowest free slot.
@@ -119,6 +178,7 @@ impl Store {
         requires new { slot_of root.now self.old.slots ≡ None }
         ensures slots { OnOk result (self.new.slots ≡ with_root root.now image self.old.slots) }
         ensures rows { OnOk result (rows_of_slots self.new.slots ≡ with_record root.now image (rows_of_slots self.old.slots)) }
+        ensures changed { OnOk result (self.new.changed ≡ with_changed (slot_for root.now self.old.slots) self.old.changed) }
         ensures kept { OnErr result (self.new ≡ self.old) }
         ensures accepted { OnOk result (set_refusal self.old.dbd root.now image (rows_of_slots self.old.slots) ≡ None) }
         ensures refused { IfErr result (λ refusal. set_refusal self.old.dbd root.now image (rows_of_slots self.old.slots) ≡ Some refusal) }
@@ -141,6 +201,7 @@ impl Store {
         requires there { slot_of root.now self.old.slots ≡ Some slot }
         ensures slots { OnOk result (self.new.slots ≡ with_root root.now image self.old.slots) }
         ensures rows { OnOk result (rows_of_slots self.new.slots ≡ with_record root.now image (rows_of_slots self.old.slots)) }
+        ensures changed { OnOk result (self.new.changed ≡ with_number slot self.old.changed) }
         ensures kept { OnErr result (self.new ≡ self.old) }
         ensures accepted { OnOk result (set_refusal self.old.dbd root.now image (rows_of_slots self.old.slots) ≡ None) }
         ensures refused { IfErr result (λ refusal. set_refusal self.old.dbd root.now image (rows_of_slots self.old.slots) ≡ Some refusal) }
@@ -151,6 +212,7 @@ impl Store {
             return Err(StoreRefused::RecordTooLong);
         }
         put(&mut self.slots, slot, image);
+        add_changed(&mut self.changed, slot);
         Ok(())
     }
 }
@@ -193,6 +255,7 @@ impl Rows for Store {
         ensures valid { AreRows self.new.dbd (rows_of_slots self.new.slots) }
         // What it leaves in the slots.
         ensures slots { OnOk result (self.new.slots ≡ with_root root.now image self.old.slots) }
+        ensures changed { OnOk result (self.new.changed ≡ with_changed (slot_changed root.now image self.old.slots) self.old.changed) }
         ensures valid_slots { AreSlots self.new.dbd self.new.slots }
         // A record is removed in any case.
         ensures removed { image ≡ [] → IsOk result }

@@ -1,10 +1,16 @@
 //! The stores of a system.
-ghost use Rattle.std.specs.Prelude.{◌≡◌, ◌≤◌, ◌-◌, IfOk, Some, length, slice_get, IsTrue, ◌↔◌, []};
+ghost use Rattle.std.specs.Prelude.{◌≡◌, ◌+◌, ◌≤◌, ◌-◌, IfOk, OnOk, OnErr, Some, length, slice_get, IsTrue, ◌↔◌, []};
 ghost use Rattle.std.specs.Borrow.{sem};
+ghost use Rattle.std.specs.List.{AllByRecursion};
+ghost use Rattle.model_disk.specs.Disk.{Stays, Within, Follows, WritesAtMost, FailedSince};
+ghost use Rattle.seg_store.specs.DataSectors.{MayPut, HasPut};
+ghost use Rattle.seg_store.specs.WriteBack.{slot_count, changed_count, changed_bytes, all_written};
 
 use crate::Store;
+use crate::write_back::write_all;
 use std::alloc::Global;
 use std::marker::Model;
+use tm_disk::{Disk, DiskFault};
 use tm_types::{Dbd, Memory};
 
 /// The stores of a system's databases, in their order.
@@ -14,20 +20,20 @@ pub struct Stores {
 }
 
 impl Model for Stores {
-    ghost use Rattle.std.specs.Prelude.{List};
-    ghost use Rattle.seg_store.specs.Slots.{Stored};
+    ghost use Rattle.seg_store.specs.Changed.{AllStores, all_stores};
 
-    ghost Value = { List Stored };
+    ghost Value = { AllStores };
 
-    ghost view = { λ s. s.items.items };
+    ghost view = { λ s. all_stores s.items.items };
 }
 
 impl Stores {
-    ghost use Rattle.seg_store.specs.Stores.{empty_stores, LendsStore};
+    ghost use Rattle.seg_store.specs.Stores.{empty_stores, no_changed, IsStoreOf, LendsStore};
 
     /// A store without rows for each of these databases.
     pub fn empty(alloc: Global, dbds: &[Dbd]) -> Result<Stores, Memory>
-        ensures { IfOk result (λ stores. stores ≡ empty_stores dbds.now) }
+        ensures stores { IfOk result (λ s. s.stores ≡ empty_stores dbds.now) }
+        ensures changed { IfOk result (λ s. s.changed ≡ no_changed dbds.now) }
     {
         let mut items = Vec::with_capacity(alloc, dbds.len())?;
         for dbd in dbds {
@@ -36,15 +42,38 @@ impl Stores {
         Ok(Stores { items })
     }
 
+    /// Writes the records of the changed slots of all databases into their sectors, in ascending order, where the
+    /// databases' slots stand one behind the other from the sector `first` on; the answer is how many they are, and none is
+    /// changed then. Nothing is synced. `Disk` comes exactly where the disk failed in the call. The records and slots stay
+    /// in any case.
+    pub fn write_back<D: Disk>(&mut self, disk: &mut D, first: u32) -> Result<u32, DiskFault>
+        requires area { first + slot_count self.old.stores ≤ (D.state disk.old).size }
+        requires sectors { AllByRecursion (λ s. s.dbd.sectors ≤ 1) self.old.stores }
+        ensures stays { Stays (D.state disk.old) (D.state disk.new) }
+        // Whenever a crash comes, each sector is as it was or has the record of its changed slot.
+        ensures any_moment { Within (MayPut first (changed_bytes self.old)) (D.state disk.old) (D.state disk.new) }
+        ensures follows { Follows (MayPut first (changed_bytes self.old)) (D.state disk.old) (D.state disk.new) }
+        // Then each of them is read, and a sync makes it last.
+        ensures shown { OnOk result (IsTrue (D.state disk.old).tells → HasPut first (changed_bytes self.old) (D.state disk.old).shown (D.state disk.new).shown) }
+        ensures count { IfOk result (λ n. n ≡ changed_count self.old.changed) }
+        ensures written { OnOk result (self.new ≡ all_written self.old) }
+        ensures kept { self.new.stores ≡ self.old.stores }
+        ensures writes { WritesAtMost (changed_count self.old.changed) (D.state disk.old) (D.state disk.new) }
+        ensures no_fault { OnOk result ((D.state disk.new).faults ≡ (D.state disk.old).faults) }
+        ensures cause { OnErr result (FailedSince (D.state disk.old) (D.state disk.new)) }
+    {
+        write_all(disk, first, &mut self.items)
+    }
+
     /// How many stores these are.
     pub fn len(&self) -> usize
-        ensures { result ≡ length self.now }
+        ensures { result ≡ length self.now.stores }
     {
         self.items.len()
     }
 
     pub fn is_empty(&self) -> bool
-        ensures { IsTrue result ↔ (self.now ≡ []) }
+        ensures { IsTrue result ↔ (self.now.stores ≡ []) }
     {
         self.items.is_empty()
     }
@@ -52,8 +81,8 @@ impl Stores {
     /// The store of the database with this number, counted from 1.
     pub fn store(&self, db: u8) -> &Store
         requires least { 1 ≤ db }
-        requires most { db ≤ length self.now }
-        ensures { slice_get self.now (db - 1) ≡ Some result.now }
+        requires most { db ≤ length self.now.stores }
+        ensures { IsStoreOf self.now db result.now }
     {
         &self.items[db as usize - 1]
     }
@@ -61,8 +90,8 @@ impl Stores {
     /// The store of the database with this number, counted from 1, to change it.
     pub fn store_mut(&mut self, db: u8) -> &mut Store
         requires least { 1 ≤ db }
-        requires most { db ≤ length self.old }
-        ensures value { slice_get self.old (db - 1) ≡ Some result.now }
+        requires most { db ≤ length self.old.stores }
+        ensures value { IsStoreOf self.old db result.now }
         ensures* writes_back { sem 𝓛 (LendsStore self.entry db result) }
     {
         &mut self.items[db as usize - 1]

@@ -213,9 +213,9 @@ impl Unit {
     /// was there back into the slot that it had. No other record or slot changes, and the unit has
     /// changed nothing then. This takes no memory.
     pub fn back_out(&mut self, stores: &mut Stores)
-        requires { CanBackOut self.old.records stores.old }
+        requires { CanBackOut self.old.records stores.old.stores }
         ensures unit { self.new ≡ no_changes }
-        ensures stores { stores.new ≡ backed_out self.old.records stores.old }
+        ensures stores { stores.new.stores ≡ backed_out self.old.records stores.old.stores }
     {
         remove_all(&self.records, stores);
         put_all(&mut self.records, stores);
@@ -234,8 +234,8 @@ fn is_full(records: &[Change], db: u8, root: &Key) -> bool
 }
 
 fn remove_all(records: &[Change], stores: &mut Stores)
-    requires { AllByRecursion (IsStored stores.old) records.now }
-    ensures { stores.new ≡ cleared records.now stores.old }
+    requires { AllByRecursion (IsStored stores.old.stores) records.now }
+    ensures { stores.new.stores ≡ cleared records.now stores.old.stores }
 {
     for change in records {
         stores.store_mut(change.db).remove(&change.root);
@@ -244,12 +244,12 @@ fn remove_all(records: &[Change], stores: &mut Stores)
 
 // Puts each record that was there back into its slot.
 fn put_all(records: &mut Vec<Change>, stores: &mut Stores)
-    requires stored { AllByRecursion (IsStored stores.old) records.old.items }
-    requires fits { AllByRecursion (CanGoBack stores.old) records.old.items }
+    requires stored { AllByRecursion (IsStored stores.old.stores) records.old.items }
+    requires fits { AllByRecursion (CanGoBack stores.old.stores) records.old.items }
     requires apart { Pairs AreApart records.old.items }
     requires once { AreOnce records.old.items }
     ensures records { records.new.items ≡ [] }
-    ensures stores { stores.new ≡ backed_from records.old.items 1 stores.old }
+    ensures stores { stores.new.stores ≡ backed_from records.old.items 1 stores.old.stores }
 {
     while let Some(change) = records.pop() {
         put_one(change, stores);
@@ -257,9 +257,9 @@ fn put_all(records: &mut Vec<Change>, stores: &mut Stores)
 }
 
 fn put_one(change: Change, stores: &mut Stores)
-    requires stored { IsStored stores.old change }
-    requires fits { CanGoBack stores.old change }
-    ensures { stores.new ≡ with_record_back change stores.old }
+    requires stored { IsStored stores.old.stores change }
+    requires fits { CanGoBack stores.old.stores change }
+    ensures { stores.new.stores ≡ with_record_back change stores.old.stores }
 {
     if change.before.is_empty() {
         return;

@@ -9,6 +9,7 @@ use Rattle.model_enqueue.specs.Ask.{first_blocked}
 use Rattle.seg_store.specs.Slots.{rows_of_slots}
 use Rattle.unit_work.specs.Changes.{Changes}
 use Rattle.dli_calls.specs.Plans.{IsThere}
+use Rattle.seg_store.specs.Changed.{stored}
 use Rattle.program_rows.specs.State.{rows_of}
 use Rattle.program_rows.specs.Isolation.{request_of}
 use Rattle.program_rows.specs.Open.{records_of}
@@ -18,10 +19,10 @@ use Rattle.program_rows.proofs.Setting.{is_stored, dbd_there, rows_at_is}
 use Rattle.program_rows.proofs.calling.call.Goals as goal
 
 pub store-requires-clause-most : goal.store-requires-clause-most
-store-requires-clause-most c = is_stored c.args.number c.args.opened.now.stores c.args.dbd.now c.requires.number c.requires.database
+store-requires-clause-most c = is_stored c.args.number c.args.opened.now.stores.stores c.args.dbd.now c.requires.number c.requires.database
 
 pub plan-requires-clause-rows : goal.plan-requires-clause-rows
-plan-requires-clause-rows c = dbd_there c.args.opened.now.stores (c.args.number - 1) c.store.result.now c.args.dbd.now c.store.ensures c.requires.database
+plan-requires-clause-rows c = dbd_there c.args.opened.now.stores.stores (c.args.number - 1) (stored c.store.result.now) c.args.dbd.now c.store.ensures.stored_is c.requires.database
 
 pub make-requires-clause-own : goal.make-requires-clause-own
 make-requires-clause-own c =
@@ -29,8 +30,8 @@ make-requires-clause-own c =
 
 pub make-requires-clause-there : goal.make-requires-clause-there
 make-requires-clause-there c =
-    let rows = rows_at_is c.args.number c.args.opened.now.stores c.store.result.now c.store.ensures in
-    subst (λ n. IsThere (Rattle.program_rows.specs.State.rows_in n (rows_of c.args.opened.now.stores)) c.in_ok-planned.planned.edit) (sym c.in_ok-asked.ensures.number)
+    let rows = rows_at_is c.args.number c.args.opened.now.stores.stores (stored c.store.result.now) c.store.ensures.stored_is in
+    subst (λ n. IsThere (Rattle.program_rows.specs.State.rows_in n (rows_of c.args.opened.now.stores.stores)) c.in_ok-planned.planned.edit) (sym c.in_ok-asked.ensures.number)
     (subst (λ (rs : List Row). IsThere rs c.in_ok-planned.planned.edit) (sym rows) c.in_ok-planned.ensures.there)
 
 pub returns-then-is_some-clause-done : goal.returns-then-is_some-clause-done
@@ -39,7 +40,7 @@ returns-then-is_some-clause-done c =
     let requests : c.in_ok-asked.asked.requests.items ≡ map (request_of c.args.region c.args.number) (footprint c.args.dbd.now c.args.call.now c.args.at.now (rows_of_slots c.store-store.result.now.slots)) =
     c.in_ok-asked.ensures.requests ∙ ap (map (request_of c.args.region c.args.number)) (c.as_slice.ensures ∙ c.in_ok-needs.ensures) in
     waited c.args.opened.now c.requires.open c.args.region c.args.number c.requires.first last c.requires.number c.args.dbd.now c.args.call.now c.args.at.now c.requires.position c.requires.call
-    c.store-store.result.now c.store-store.ensures (dbd_there c.args.opened.now.stores (c.args.number - 1) c.store-store.result.now c.args.dbd.now c.store-store.ensures c.requires.database)
+    (stored c.store-store.result.now) c.store-store.ensures.stored_is (dbd_there c.args.opened.now.stores.stores (c.args.number - 1) (stored c.store-store.result.now) c.args.dbd.now c.store-store.ensures.stored_is c.requires.database)
     (record { units = c.args.opened.now.units; stores = c.args.opened.now.stores; table = c.wait.new.table }) c.wait.result c.in_ok-asked.asked.requests.items requests refl refl
     c.wait.ensures.waits (subst (λ n. Rattle.std.specs.Prelude.OnOk c.wait.result (c.wait.new.table ≡ Rattle.model_enqueue.specs.Ask.after_asks n c.in_ok-asked.asked.requests.items c.args.opened.now.table)) c.in_ok-asked.ensures.region c.wait.ensures.table)
     c.wait.ensures.held
@@ -47,8 +48,8 @@ returns-then-is_some-clause-done c =
 pub returns-clause-done : goal.returns-clause-done
 returns-clause-done c =
     let last : c.args.region ≤ length (records_of c.args.opened.now.units.items) = omega (arith, c.requires.last, length-map c.args.opened.now.units.items (λ (u : Changes). u.records)) in
-    let both : Some c.store-store.result.now ≡ Some c.store.result.now = sym c.store-store.ensures ∙ c.store.ensures in
-    let same : c.store-store.result.now ≡ c.store.result.now = cc in
+    let both : Some (stored c.store-store.result.now) ≡ Some (stored c.store.result.now) = sym c.store-store.ensures.stored_is ∙ c.store.ensures.stored_is in
+    let same : (stored c.store-store.result.now) ≡ (stored c.store.result.now) = cc in
     let requests : c.in_ok-asked.asked.requests.items ≡ map (request_of c.args.region c.args.number) (footprint c.args.dbd.now c.args.call.now c.args.at.now (rows_of_slots c.store.result.now.slots)) =
     c.in_ok-asked.ensures.requests
     ∙ (ap (map (request_of c.args.region c.args.number)) (c.as_slice.ensures ∙ c.in_ok-needs.ensures)
@@ -56,6 +57,6 @@ returns-clause-done c =
     let free : first_blocked c.in_ok-asked.asked.requests.items c.args.opened.now.table ≡ None =
     ap (λ qs. first_blocked qs c.args.opened.now.table) (sym c.deref.ensures.value) ∙ none_told c.first_blocked.result c.is_some.result (first_blocked c.deref.result.now c.args.opened.now.table) c.first_blocked.ensures c.is_some.ensures c.if-is_some.false in
     made c.args.opened.now c.requires.open c.args.region c.args.number c.requires.first last c.requires.number c.args.dbd.now c.args.call.now c.args.at.now c.requires.position c.requires.call
-    c.store.result.now c.store.ensures (dbd_there c.args.opened.now.stores (c.args.number - 1) c.store.result.now c.args.dbd.now c.store.ensures c.requires.database)
+    (stored c.store.result.now) c.store.ensures.stored_is (dbd_there c.args.opened.now.stores.stores (c.args.number - 1) (stored c.store.result.now) c.args.dbd.now c.store.ensures.stored_is c.requires.database)
     c.make.new.opened c.make.result c.in_ok-asked.asked c.in_ok-planned.planned c.in_ok-asked.ensures.region c.in_ok-asked.ensures.number requests free
     c.in_ok-planned.ensures.planned (c.in_ok-planned.ensures.text c.requires.short) c.in_ok-planned.ensures.there c.in_ok-planned.ensures.position c.make.ensures.made

@@ -11,4 +11,4 @@ returns-clause-units c = ap records_of c.take_unit-unit.ensures.left ∙ records
 pub returns-clause-stores : goal.returns-clause-stores
 returns-clause-stores c =
     c.back_out.ensures.stores
-    ∙ ap (λ rs. backed_out rs c.args.opened.now.stores) (sym (unit_records c.args.opened.now.units.items (c.args.region - 1) c.take_unit-unit.result c.take_unit-unit.ensures.taken))
+    ∙ ap (λ rs. backed_out rs c.args.opened.now.stores.stores) (sym (unit_records c.args.opened.now.units.items (c.args.region - 1) c.take_unit-unit.result c.take_unit-unit.ensures.taken))

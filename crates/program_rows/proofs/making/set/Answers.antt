@@ -1,11 +1,12 @@
 use Rattle.std.proofs.Common.{refl}
+use Rattle.seg_store.specs.Changed.{stored}
 use Rattle.program_rows.proofs.Makings.{set_done, set_left, put_left}
 use Rattle.program_rows.proofs.making.set.Goals as goal
 
 pub returns-in-Ok-clause-set : goal.returns-in-Ok-clause-set
 returns-in-Ok-clause-set c =
-    set_done c.keep.result c.args.asked.now c.args.edit c.args.slot c.args.opened.now c.keep.new.opened c.take_unit-unit.result c.store-store.result.now c.take_unit-unit.new.units.items c.in-Ok.prepared
-    c.take_unit-unit.ensures.taken c.take_unit-unit.ensures.left c.store-store.ensures c.requires.takes c.requires.room c.in-Ok.ensures.touched
+    set_done c.keep.result c.args.asked.now c.args.edit c.args.slot c.args.opened.now c.keep.new.opened c.take_unit-unit.result (stored c.store-store.result.now) c.take_unit-unit.new.units.items c.in-Ok.prepared
+    c.take_unit-unit.ensures.taken c.take_unit-unit.ensures.left c.store-store.ensures.stored_is c.requires.takes c.requires.room c.in-Ok.ensures.touched
     c.keep.ensures.put c.keep.ensures.units c.keep.ensures.asked
 
 pub returns-in-Ok-clause-kept : goal.returns-in-Ok-clause-kept

@@ -6,16 +6,16 @@ use Rattle.unit_work.proofs.unit.put_all.Goals as goal
 pub loop-change-preserved : goal.loop-change-preserved
 loop-change-preserved c =
     let is : c.loop-change.records.items ≡ c.pop.new.self.items ++ c.in-Some.change ∷ [] = c.in-Some.ensures.items in
-    let can : CanPut (c.pop.new.self.items ++ c.in-Some.change ∷ []) c.loop-change.stores = subst (λ xs. CanPut xs c.loop-change.stores) is c.loop-change.invariant.can in
+    let can : CanPut (c.pop.new.self.items ++ c.in-Some.change ∷ []) c.loop-change.stores.stores = subst (λ xs. CanPut xs c.loop-change.stores.stores) is c.loop-change.invariant.can in
     record {
-      can = subst (CanPut c.pop.new.self.items) (sym c.put_one.ensures) (put_next c.pop.new.self.items c.in-Some.change c.loop-change.stores can);
+      can = subst (CanPut c.pop.new.self.items) (sym c.put_one.ensures) (put_next c.pop.new.self.items c.in-Some.change c.loop-change.stores.stores can);
       ahead = ap (backed_from c.pop.new.self.items 1) c.put_one.ensures
-          ∙ (sym (put_ahead c.pop.new.self.items c.in-Some.change c.loop-change.stores can)
-          ∙ (ap (λ xs. backed_from xs 1 c.loop-change.stores) (sym is) ∙ c.loop-change.invariant.ahead));
+          ∙ (sym (put_ahead c.pop.new.self.items c.in-Some.change c.loop-change.stores.stores can)
+          ∙ (ap (λ xs. backed_from xs 1 c.loop-change.stores.stores) (sym is) ∙ c.loop-change.invariant.ahead));
     }
 
 pub returns-clause-stores : goal.returns-clause-stores
 returns-clause-stores c =
     let none : c.loop-change.records.items ≡ [] = empty_list c.loop-change.records.items (omega (arith, c.loop-change.records.ok, c.in_default.ensures.cases)) in
-    sym (none_backed 1 c.loop-change.stores)
-    ∙ (ap (λ xs. backed_from xs 1 c.loop-change.stores) (sym none) ∙ c.loop-change.invariant.ahead)
+    sym (none_backed 1 c.loop-change.stores.stores)
+    ∙ (ap (λ xs. backed_from xs 1 c.loop-change.stores.stores) (sym none) ∙ c.loop-change.invariant.ahead)

@@ -6,8 +6,8 @@ use Rattle.unit_work.proofs.unit.put_all.Given as goal
 abbrev pub invariant-loop-change : goal.invariant-loop-change
 invariant-loop-change l =
     record {
-      can : CanPut l.records.items l.stores;
-      ahead : backed_from l.records.items 1 l.stores ≡ backed_from l.initial.records.items 1 l.initial.stores;
+      can : CanPut l.records.items l.stores.stores;
+      ahead : backed_from l.records.items 1 l.stores.stores ≡ backed_from l.initial.records.items 1 l.initial.stores.stores;
     }
 
 abbrev pub decreases-loop-change : goal.decreases-loop-change

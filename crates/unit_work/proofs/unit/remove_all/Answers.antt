@@ -1,26 +1,27 @@
 use Rattle.std.proofs.Common.{◌≡◌, ◌+◌, ◌-◌, ◌∷◌, sym, ap, ◌∙◌, subst, arith, drop}
 use Rattle.std.proofs.lemmas.List.{length-set, drop_more}
 use Rattle.unit_work.specs.declared.change.Change.{Change}
+use Rattle.seg_store.specs.Changed.{stored}
 use Rattle.unit_work.specs.BackOut.{cleared, IsStored}
 use Rattle.unit_work.proofs.Backing.{step_cleared, none_cleared, all_at, drop_past}
 use Rattle.unit_work.proofs.unit.remove_all.Goals as goal
 
 pub loop-change-preserved : goal.loop-change-preserved
 loop-change-preserved c =
-    let stored : IsStored c.args.stores.now c.change-item.result =
-    subst (IsStored c.args.stores.now) (sym c.change-item.is) (all_at (IsStored c.args.stores.now) c.args.records.now c.loop-change.change-index c.change-item.result c.requires c.loop-change-test.true) in
-    let at : c.change-item.result.db ≡ 1 + (c.change-item.result.db - 1) = omega (arith, stored.least) in
+    let there : IsStored c.args.stores.now.stores c.change-item.result =
+    subst (IsStored c.args.stores.now.stores) (sym c.change-item.is) (all_at (IsStored c.args.stores.now.stores) c.args.records.now c.loop-change.change-index c.change-item.result c.requires c.loop-change-test.true) in
+    let at : c.change-item.result.db ≡ 1 + (c.change-item.result.db - 1) = omega (arith, there.least) in
     let rest : drop c.loop-change.change-index c.args.records.now ≡ c.change-item.result ∷ drop (c.loop-change.change-index + 1) c.args.records.now =
     drop_more c.args.records.now c.loop-change.change-index c.change-item.result c.loop-change-test.true
     ∙ ap (λ (x : Change). x ∷ drop (c.loop-change.change-index + 1) c.args.records.now) (sym c.change-item.is) in
     record {
-      count = length-set c.loop-change.stores (c.change-item.result.db - 1) c.remove.new.self ∙ c.loop-change.invariant.count;
-      ahead = step_cleared c.change-item.result (drop (c.loop-change.change-index + 1) c.args.records.now) 1 (c.change-item.result.db - 1) c.loop-change.stores c.store_mut.result.now c.remove.new.self
-          at c.store_mut.ensures.value c.remove.ensures.database c.remove.ensures.freed
-          ∙ (ap (λ xs. cleared xs c.loop-change.stores) (sym rest) ∙ c.loop-change.invariant.ahead);
+      count = length-set c.loop-change.stores.stores (c.change-item.result.db - 1) (stored c.remove.new.self) ∙ c.loop-change.invariant.count;
+      ahead = step_cleared c.change-item.result (drop (c.loop-change.change-index + 1) c.args.records.now) 1 (c.change-item.result.db - 1) c.loop-change.stores.stores (stored c.store_mut.result.now) (stored c.remove.new.self)
+          at c.store_mut.ensures.value.stored_is c.remove.ensures.database c.remove.ensures.freed
+          ∙ (ap (λ xs. cleared xs c.loop-change.stores.stores) (sym rest) ∙ c.loop-change.invariant.ahead);
     }
 
 pub returns : goal.returns
 returns c =
-    sym (none_cleared 1 c.loop-change.stores)
-    ∙ (ap (λ xs. cleared xs c.loop-change.stores) (sym (drop_past c.args.records.now c.loop-change.change-index c.loop-change-test.false)) ∙ c.loop-change.invariant.ahead)
+    sym (none_cleared 1 c.loop-change.stores.stores)
+    ∙ (ap (λ xs. cleared xs c.loop-change.stores.stores) (sym (drop_past c.args.records.now c.loop-change.change-index c.loop-change-test.false)) ∙ c.loop-change.invariant.ahead)

@@ -19,7 +19,7 @@ invariant_of-self c =
     let units : records_of c.put_unit.new.units.items ≡ set (records_of c.self.inside.opened.units.items) (c.args.region - 1) [] =
     ap records_of c.put_unit.ensures ∙ (records_put c.self.inside.opened.units.items (c.args.region - 1) c.new.result ∙ ap (λ (u : Changes). set (records_of c.self.inside.opened.units.items) (c.args.region - 1) u.records) c.new.ensures) in
     given_up_units c.self.inside.opened (record { units = c.put_unit.new.units; stores = c.self.inside.opened.stores; table = c.release.new.table }) c.self.invariant c.args.region
-    (has_unit c.self.inside.opened c.args.self.now c.args.region c.self.invariant c.self.view_is c.requires) units c.self.inside.opened.stores c.self.inside.opened.table c.release.new.table
+    (has_unit c.self.inside.opened c.args.self.now c.args.region c.self.invariant c.self.view_is c.requires) units c.self.inside.opened.stores.stores c.self.inside.opened.table c.release.new.table
     (kept_units c.self.inside.opened (record { units = c.put_unit.new.units; stores = c.self.inside.opened.stores; table = c.release.new.table }) c.self.invariant c.args.region
     (has_unit c.self.inside.opened c.args.self.now c.args.region c.self.invariant c.self.view_is c.requires) units refl)
     c.release.ensures.table c.release.ensures.kept
@@ -38,7 +38,7 @@ returns-clause-rows c =
     ap records_of c.put_unit.ensures ∙ (records_put c.self.inside.opened.units.items (c.args.region - 1) c.new.result ∙ ap (λ (u : Changes). set (records_of c.self.inside.opened.units.items) (c.args.region - 1) u.records) c.new.ensures) in
     committed_are_rows (record { units = c.put_unit.new.units; stores = c.self.inside.opened.stores; table = c.release.new.table })
     (given_up_units c.self.inside.opened (record { units = c.put_unit.new.units; stores = c.self.inside.opened.stores; table = c.release.new.table }) c.self.invariant c.args.region
-    (has_unit c.self.inside.opened c.args.self.now c.args.region c.self.invariant c.self.view_is c.requires) units c.self.inside.opened.stores c.self.inside.opened.table c.release.new.table
+    (has_unit c.self.inside.opened c.args.self.now c.args.region c.self.invariant c.self.view_is c.requires) units c.self.inside.opened.stores.stores c.self.inside.opened.table c.release.new.table
     (kept_units c.self.inside.opened (record { units = c.put_unit.new.units; stores = c.self.inside.opened.stores; table = c.release.new.table }) c.self.invariant c.args.region
     (has_unit c.self.inside.opened c.args.self.now c.args.region c.self.invariant c.self.view_is c.requires) units refl)
     c.release.ensures.table c.release.ensures.kept)

@@ -4,20 +4,20 @@ use Rattle.program_rows.proofs.databases.Databases.empty.Goals as goal
 pub invariant_of-result : goal.invariant_of-result
 invariant_of-result c =
     begins c.args.dbds.now c.args.regions (record { units = c.in_ok-units.units; stores = c.in_ok-stores.stores; table = c.in_ok-table.table }) c.types_of.ensures c.in_ok-units.ensures
-    c.in_ok-stores.ensures c.in_ok-table.ensures
+    c.in_ok-stores.ensures.stores c.in_ok-table.ensures
 
 pub returns-clause-committed : goal.returns-clause-committed
 returns-clause-committed c =
     begins_committed c.args.dbds.now c.args.regions (record { units = c.in_ok-units.units; stores = c.in_ok-stores.stores; table = c.in_ok-table.table }) c.types_of.ensures c.in_ok-units.ensures
-    c.in_ok-stores.ensures c.in_ok-table.ensures
+    c.in_ok-stores.ensures.stores c.in_ok-table.ensures
 
 pub returns-clause-regions : goal.returns-clause-regions
 returns-clause-regions c =
     begins_regions c.args.dbds.now c.args.regions (record { units = c.in_ok-units.units; stores = c.in_ok-stores.stores; table = c.in_ok-table.table }) c.types_of.ensures c.in_ok-units.ensures
-    c.in_ok-stores.ensures c.in_ok-table.ensures
+    c.in_ok-stores.ensures.stores c.in_ok-table.ensures
 
 pub returns-clause-rows : goal.returns-clause-rows
 returns-clause-rows c =
     committed_are_rows (record { units = c.in_ok-units.units; stores = c.in_ok-stores.stores; table = c.in_ok-table.table })
     (begins c.args.dbds.now c.args.regions (record { units = c.in_ok-units.units; stores = c.in_ok-stores.stores; table = c.in_ok-table.table }) c.types_of.ensures c.in_ok-units.ensures
-    c.in_ok-stores.ensures c.in_ok-table.ensures)
+    c.in_ok-stores.ensures.stores c.in_ok-table.ensures)

@@ -22,7 +22,7 @@ pub invariant_of-self : goal.invariant_of-self
 invariant_of-self c =
     let u = has_unit c.self.inside.opened c.args.self.now c.args.region c.self.invariant c.self.view_is c.requires in
     given_up_units c.self.inside.opened c.take_back.new.opened c.self.invariant c.args.region (has_unit c.self.inside.opened c.args.self.now c.args.region c.self.invariant c.self.view_is c.requires)
-    c.take_back.ensures.units c.take_back.new.opened.stores c.take_back.new.opened.table c.release.new.table
+    c.take_back.ensures.units c.take_back.new.opened.stores.stores c.take_back.new.opened.table c.release.new.table
     (taken_back_units c.self.inside.opened c.take_back.new.opened c.self.invariant c.args.region (has_unit c.self.inside.opened c.args.self.now c.args.region c.self.invariant c.self.view_is c.requires)
     c.take_back.ensures.units c.take_back.ensures.stores c.take_back.new.opened.table c.take_back.ensures.table)
     c.release.ensures.table c.release.ensures.kept

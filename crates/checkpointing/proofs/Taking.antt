@@ -1,0 +1,133 @@
+-- The whole of a checkpoint on a disk.
+use Rattle.std.proofs.Common.{◌≡◌, ℕ, ◌+◌, ◌*◌, ◌<◌, ◌≤◌, ◌^◌, [], refl, ap, length, ⊎_elim, inl, inr, ◌∙◌, arith, sym, subst}
+use Rattle.model_disk.specs.Disk.{Image, DiskState, IsDisk, Follows, Within, MayWrite}
+use Rattle.model_disk.proofs.Words.{follows_on, follows_where, within_where}
+use Rattle.restart_data.specs.declared.restart.RestartSector.{RestartSector}
+use Rattle.restart_data.specs.Restart.{IsRestart, restart_sector}
+use Rattle.restart_data.specs.Snapshot as snapshot
+use Rattle.restart_data.specs.Images.{ChangesOnly, Restarts}
+use Rattle.restart_data.proofs.ImageLaws.{restart_either}
+use Rattle.log_sectors.specs.Chain.{joined}
+use Rattle.log_writer.specs.Writer.{Writer}
+use Rattle.log_writer.proofs.Gaining.{chain-ended}
+use Rattle.log_writer.specs.Log.{log_of, sectors_of, IsAtEnd, IsReady}
+use Rattle.checkpointing.specs.Parts.{Parts, AreFree, IsOver, sequence_behind, forced_writer, next_restart, next_writer}
+use Rattle.seg_store.specs.Changed.{AllStores}
+use Rattle.checkpointing.specs.Written.{AreOf}
+use Rattle.checkpointing.specs.Checkpoint.{RecoversAlike, IsCheckpointed}
+use Rattle.checkpointing.specs.Conditions.{HasRestart, AreNamed, ForceKeeps, SnapshotKeeps}
+use Rattle.checkpointing.specs.Steps.{WritesSnapshot, WritesRestart, Prepares, Takes}
+use Rattle.checkpointing.proofs.Calls.{within_then}
+use Rattle.checkpointing.proofs.Preparing.{sectors_fit, snapshot_prepares}
+use Rattle.model_image.specs.Areas.{data_first}
+use Rattle.checkpointing.proofs.Keeping.{Stands, prepares_keep, is_checkpointed, next_restart_in, next_at_end}
+
+-- What is known before the checkpoint.
+pub record Asked (parts : Parts) (log : Writer) (stores : AllStores) (disk : DiskState) : Type 0 where
+  pub areas : data_first parts.system (length parts.system.databases) ≤ disk.size
+  pub now : HasRestart parts.system parts.now disk
+  pub free : AreFree parts
+  pub over : IsOver parts log
+  pub room : log.place + sectors_of (length log.appended) ≤ log.count
+  pub of_ : AreOf parts.system stores
+  pub fits : snapshot.sectors_of (length parts.snapshot) ≤ parts.snapshot_sectors
+  pub next : IsRestart (next_restart parts log)
+  pub named : AreNamed parts log stores disk
+  pub unused : IsReady (next_writer parts log) disk
+  pub force : ForceKeeps parts log disk
+  pub snapshot_keeps : SnapshotKeeps parts log stores disk
+
+module _ (parts : Parts) (log : Writer) (stores : AllStores) (old : DiskState) (disk : IsDisk old) (asked : Asked parts log stores old) where
+  stands : (image : Image) → old.may_leave image → Stands parts log stores image
+  stands image left = record {
+    now = asked.now image left;
+    free = asked.free;
+    over = asked.over;
+    room = asked.room;
+    of_ = asked.of_;
+    fits = asked.fits;
+    named = asked.named image left;
+  }
+
+  prepares_recover : (a e : Image) → old.may_leave a → Prepares parts log stores a e → RecoversAlike parts.system a e
+  prepares_recover a e left prepares =
+      prepares_keep parts log stores a (stands a left) (λ c front. asked.force a c left front) e prepares
+
+  pub checkpointed : (a e : Image) → old.may_leave a → WritesRestart parts log stores a e → IsCheckpointed parts log stores a e
+  checkpointed a e left whole = is_checkpointed parts log stores a (stands a left) e whole
+
+  takes_recover : (a e : Image) → old.may_leave a → Takes parts log stores a e → RecoversAlike parts.system a e
+  takes_recover a e left takes =
+      ⊎_elim (λ prepares. prepares_recover a e left prepares)
+      (λ whole. asked.snapshot_keeps a e left (checkpointed a e left whole))
+      takes
+
+  some_size : 0 < old.size
+  some_size = omega (arith, asked.areas)
+
+  small : snapshot.sectors_of (length parts.snapshot) < 2 ^ 32
+  small = omega (arith, asked.areas, asked.fits, asked.free.snapshot_sectors, disk.size_fits)
+
+  -- while the restart sector is written
+  restart_takes : (a b c : Image) → old.may_leave a → WritesSnapshot parts log stores a b → MayWrite 0 (restart_sector (next_restart parts log)) b c → Takes parts log stores a c
+  restart_takes a b c left saved may =
+      let image_size : length a ≡ old.size = disk.image_size old.clock a (disk.now_counts old.clock a (omega arith) left) in
+      let some : 0 < length b = omega (arith, image_size, some_size, saved.two.changes.size, saved.one.two.size, saved.one.one.changes.size) in
+      ⊎_elim
+      (λ (same : c ≡ b). inl (snapshot_prepares parts log stores asked.of_ (snapshot.sectors_of (length parts.snapshot)) a saved.middle c asked.fits saved.one (subst (λ (i : Image). ChangesOnly parts.snapshot_at (snapshot.sectors_of (length parts.snapshot)) saved.middle i) (sym same) saved.two.changes)))
+      (λ (new : Restarts (next_restart parts log) b c). inr (record { middle = b; one = saved; two = new }))
+      (restart_either (next_restart parts log) asked.next small b c some may)
+
+  -- ---- at each exit
+  pub prepared_within : (new : DiskState) → Within (Prepares parts log stores) old new → Within (RecoversAlike parts.system) old new
+  prepared_within new within = within_where (Prepares parts log stores) (RecoversAlike parts.system) old new prepares_recover within
+
+  pub taken_within : (mid new : DiskState) → Within (Prepares parts log stores) old mid → Follows (WritesSnapshot parts log stores) old mid → Within (MayWrite 0 (restart_sector (next_restart parts log))) mid new → Within (RecoversAlike parts.system) old new
+  taken_within mid new before saved may =
+      within_where (Takes parts log stores) (RecoversAlike parts.system) old new takes_recover
+      (within_then (Prepares parts log stores) (WritesSnapshot parts log stores) (MayWrite 0 (restart_sector (next_restart parts log))) (Takes parts log stores) old mid new (λ a c prepares. inl prepares) restart_takes before saved may)
+
+  pub taken_follows : (mid new : DiskState) → Follows (WritesSnapshot parts log stores) old mid → Follows (Restarts (next_restart parts log)) mid new → Follows (IsCheckpointed parts log stores) old new
+  taken_follows mid new saved restarts =
+      follows_where (WritesRestart parts log stores) (IsCheckpointed parts log stores) old new checkpointed
+      (follows_on (WritesSnapshot parts log stores) (Restarts (next_restart parts log)) (WritesRestart parts log stores) old mid new (λ a b c one two. record { middle = b; one = one; two = two }) saved restarts)
+
+  pub taken_restart : (new : DiskState) → Follows (IsCheckpointed parts log stores) old new → HasRestart parts.system (next_restart parts log) new
+  taken_restart new follows image left =
+      let w = follows.from image left in next_restart_in parts log stores w.before (stands w.before w.left) image w.by
+
+  pub taken_ready : (new : DiskState) → Follows (IsCheckpointed parts log stores) old new → IsReady (next_writer parts log) new
+  taken_ready new follows image left =
+      let w = follows.from image left in next_at_end parts log stores w.before (stands w.before w.left) image w.by (asked.unused w.before w.left)
+
+pub all_asked : (parts : Parts) (log : Writer) (stores : AllStores) (disk : DiskState) → data_first parts.system (length parts.system.databases) ≤ disk.size → HasRestart parts.system parts.now disk → AreFree parts → IsOver parts log → log.place + sectors_of (length log.appended) ≤ log.count → AreOf parts.system stores → length parts.snapshot ≤ parts.snapshot_sectors * 4064 → IsRestart (next_restart parts log) → AreNamed parts log stores disk → IsReady (next_writer parts log) disk → ForceKeeps parts log disk → SnapshotKeeps parts log stores disk → Asked parts log stores disk
+all_asked parts log stores disk areas now free over room of_ fits next named unused force snapshot_keeps = record {
+  areas = areas;
+  now = now;
+  free = free;
+  over = over;
+  room = room;
+  of_ = of_;
+  fits = sectors_fit (length parts.snapshot) parts.snapshot_sectors fits;
+  next = next;
+  named = named;
+  unused = unused;
+  force = force;
+  snapshot_keeps = snapshot_keeps;
+}
+
+-- ---- the code's own values
+
+pub next_of_forced : (forced log : Writer) → forced ≡ forced_writer log → forced.sequence + forced.place ≡ sequence_behind log
+next_of_forced forced log is = ap (λ (w : Writer). w.sequence + w.place) is ∙ omega arith
+
+abbrev pub writer_at : ℕ → ℕ → RestartSector → Writer
+writer_at first count r = record { first = first; count = count; sequence = r.sequence; epoch = r.epoch; place = 0; appended = [] }
+
+pub same_writer : (first count : ℕ) (r next : RestartSector) → r ≡ next → writer_at first count r ≡ writer_at first count next
+same_writer first count r next same = subst (λ (n : RestartSector). writer_at first count r ≡ writer_at first count n) same refl
+
+-- a writer at the start of an area has no log
+pub begins_empty : (w : Writer) (image : Image) → IsAtEnd w image → w.place ≡ 0 → log_of w image ≡ []
+begins_empty w image end none =
+    ap joined (chain-ended w.count image w.first w.sequence w.epoch (λ some. end.free 0 (omega (arith, none)) some))

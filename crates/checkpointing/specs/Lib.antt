@@ -1,0 +1,5 @@
+pub mod Parts
+pub mod Written
+pub mod Checkpoint
+pub mod Conditions
+pub mod Steps

@@ -1,0 +1,106 @@
+//! The parts of a checkpoint, each with the sync that makes it last.
+ghost use Rattle.std.specs.Prelude.{◌≡◌, ◌+◌, ◌*◌, ◌<◌, ◌≤◌, ◌^◌, length, IfOk, OnOk, OnErr};
+ghost use Rattle.std.specs.List.{AllByRecursion};
+ghost use Rattle.model_disk.specs.Disk.{Stays, Within, Follows, Only, WritesAtMost, FailedSince};
+ghost use Rattle.restart_data.specs.Snapshot as snapshot;
+ghost use Rattle.restart_data.specs.Images.{ChangesOnly, Saves};
+ghost use Rattle.log_writer.specs.Log.{sectors_of, IsReady};
+ghost use Rattle.seg_store.specs.DataSectors.{MayPut, HasPut};
+ghost use Rattle.seg_store.specs.WriteBack.{slot_count, changed_count, changed_bytes, all_written};
+ghost use Rattle.model_image.specs.Areas.{data_first};
+ghost use Rattle.checkpointing.specs.Parts.{parts_of, forced_writer};
+ghost use Rattle.checkpointing.specs.Written.{AreOf};
+ghost use Rattle.checkpointing.specs.Steps.{WritesSnapshot, Prepares};
+
+use crate::PartsView;
+use log_writer::LogWriter;
+use restart_data::write_snapshot;
+use seg_store::Stores;
+use tm_disk::{Disk, DiskFault};
+
+// Writes the slots that were changed, where the slots stand from the sector `first` on.
+fn write_slots<D: Disk>(disk: &mut D, stores: &mut Stores, first: u32) -> Result<(), DiskFault>
+    requires area { first + slot_count stores.old.stores ≤ (D.state disk.old).size }
+    requires sectors { AllByRecursion (λ s. s.dbd.sectors ≤ 1) stores.old.stores }
+    ensures stays { Stays (D.state disk.old) (D.state disk.new) }
+    ensures any_moment { Within (MayPut first (changed_bytes stores.old)) (D.state disk.old) (D.state disk.new) }
+    ensures done { OnOk result (Follows (HasPut first (changed_bytes stores.old)) (D.state disk.old) (D.state disk.new)) }
+    ensures written { OnOk result (stores.new ≡ all_written stores.old) }
+    ensures writes { WritesAtMost (changed_count stores.old.changed) (D.state disk.old) (D.state disk.new) }
+    ensures no_fault { OnOk result ((D.state disk.new).faults ≡ (D.state disk.old).faults) }
+    ensures cause { OnErr result (FailedSince (D.state disk.old) (D.state disk.new)) }
+{
+    stores.write_back(disk, first)?;
+    disk.sync()?;
+    Ok(())
+}
+
+// Writes bytes as the snapshot of a checkpoint into an area. The answer is how many sectors they take.
+fn save_snapshot<D: Disk>(
+    disk: &mut D,
+    first: u32,
+    count: u32,
+    number: u64,
+    bytes: &[u8],
+) -> Result<u32, DiskFault>
+    requires within { first + count ≤ (D.state disk.old).size }
+    requires some { 0 < length bytes.now }
+    requires fits { length bytes.now ≤ count * 4064 }
+    ensures stays { Stays (D.state disk.old) (D.state disk.new) }
+    ensures any_moment { Within (ChangesOnly first (snapshot.sectors_of (length bytes.now))) (D.state disk.old) (D.state disk.new) }
+    ensures done { OnOk result (Follows (Saves first number bytes.now) (D.state disk.old) (D.state disk.new)) }
+    ensures sectors { IfOk result (λ n. n ≡ snapshot.sectors_of (length bytes.now)) }
+    ensures writes { WritesAtMost (snapshot.sectors_of (length bytes.now)) (D.state disk.old) (D.state disk.new) }
+    ensures no_fault { OnOk result ((D.state disk.new).faults ≡ (D.state disk.old).faults) }
+    ensures cause { OnErr result (FailedSince (D.state disk.old) (D.state disk.new)) }
+{
+    let sectors = write_snapshot(disk, first, count, number, bytes)?;
+    match disk.sync() {
+        Ok(()) => Ok(sectors),
+        Err(_) => Err(DiskFault::Disk),
+    }
+}
+
+/// All but the restart sector: forces the log, writes the slots that were changed, and then the snapshot. The
+/// answer is how many sectors the snapshot takes.
+pub(crate) fn prepare<D: Disk>(
+    disk: &mut D,
+    log: &mut LogWriter,
+    stores: &mut Stores,
+    first: u32,
+    parts: &PartsView,
+) -> Result<u32, DiskFault>
+    requires log_area { log.old.first + log.old.count ≤ (D.state disk.old).size }
+    requires sequences { log.old.sequence + log.old.count < 2 ^ 64 }
+    requires ready { IsReady log.old (D.state disk.old) }
+    requires area { first + slot_count stores.old.stores ≤ (D.state disk.old).size }
+    requires first { first ≡ data_first parts.now.system.now 0 }
+    requires stores { AreOf parts.now.system.now stores.old }
+    requires within { parts.now.snapshot_at + parts.now.snapshot_sectors ≤ (D.state disk.old).size }
+    requires some { 0 < length parts.now.snapshot.now }
+    requires fits { length parts.now.snapshot.now ≤ parts.now.snapshot_sectors * 4064 }
+    requires number { parts.now.now.now.checkpoint + 1 < 2 ^ 64 }
+    ensures stays { Stays (D.state disk.old) (D.state disk.new) }
+    ensures any_moment { Within (Prepares (parts_of parts.entry.now) log.old stores.old) (D.state disk.old) (D.state disk.new) }
+    ensures done { OnOk result (Follows (WritesSnapshot (parts_of parts.entry.now) log.old stores.old) (D.state disk.old) (D.state disk.new)) }
+    ensures sectors { IfOk result (λ n. n ≡ snapshot.sectors_of (length parts.entry.now.snapshot.now)) }
+    ensures forced { OnOk result (log.new ≡ forced_writer log.old) }
+    ensures written { OnOk result (stores.new ≡ all_written stores.old) }
+    ensures writes { WritesAtMost (sectors_of (length log.old.appended) + changed_count stores.old.changed + snapshot.sectors_of (length parts.entry.now.snapshot.now)) (D.state disk.old) (D.state disk.new) }
+    ensures no_fault { OnOk result ((D.state disk.new).faults ≡ (D.state disk.old).faults) }
+    ensures cause { OnErr result (FailedSince (D.state disk.old) (D.state disk.new)) }
+{
+    if log.force(disk).is_err() {
+        return Err(DiskFault::Disk);
+    }
+    if write_slots(disk, stores, first).is_err() {
+        return Err(DiskFault::Disk);
+    }
+    save_snapshot(
+        disk,
+        parts.snapshot_at,
+        parts.snapshot_sectors,
+        parts.now.checkpoint + 1,
+        parts.snapshot,
+    )
+}

@@ -1,0 +1,243 @@
+-- One store after another is written.
+use Rattle.std.proofs.Common.{◌≡◌, ◌⊎◌, ℕ, ◌+◌, ◌<◌, ◌≤◌, zero, suc, List, [], ◌∷◌, ◌++◌, length, get_or, take, drop, refl, sym, ◌∙◌, ap, subst, inl, inr, ⊎_elim, arith, None, Some, eqb, append_assoc, IsTrue}
+use Rattle.std.specs.Prelude.{Option, Result, Ok, Err, OnOk, map, sum_by, slice_index_or, slice_set, if◌then◌else◌}
+use Rattle.std.specs.List.{slice_get, AllByRecursion}
+use Rattle.std.specs.Option.{option_or, unwrap_or}
+use Rattle.std.proofs.lemmas.List.Sums.{sum_by-cons, sum_by-take-le}
+use Rattle.std.proofs.lemmas.List.{append-nil}
+use Rattle.model_rows.specs.declared.row.Row.{Row}
+use Rattle.model_rows.specs.Record.{spelling}
+use Rattle.model_disk.specs.Disk.{Image, DiskState, sector_at, Follows, Within}
+use Rattle.model_disk.proofs.Words.{follows_on, follows_more, within_more, within_within}
+use Rattle.seg_store.specs.Slots.{Stored}
+use Rattle.seg_store.specs.Changed.{Kept, AllStores, stored, all_stores}
+use Rattle.seg_store.specs.DataSectors.{data_sector, IsGivenAt, given_at, MayPut, HasPut, bytes_of}
+use Rattle.seg_store.specs.WriteBack.{slot_count, changed_count, bytes_behind, all_bytes, all_written, kept_bytes, kept_slots, kept_count, written_kept}
+
+-- ---- lists of slots, one behind another
+
+pub given_append : (first : ℕ) (xs ys : List (ℕ × List ℕ)) (at : ℕ) → given_at first (xs ++ ys) at ≡ option_or (given_at first ys at) (given_at first xs at)
+given_append first [] ys at = by (given_at first ys at) where
+  by : (o : Option (List ℕ)) → o ≡ option_or o None
+  by None = refl
+  by (Some x) = refl
+given_append first (x ∷ xs) ys at =
+    ap (λ o. option_or o (if eqb (first + x.0) at then Some (data_sector x.1) else None)) (given_append first xs ys at)
+    ∙ by (given_at first ys at) (given_at first xs at) (if eqb (first + x.0) at then Some (data_sector x.1) else None)
+  where
+    by : (a b c : Option (List ℕ)) → option_or (option_or a b) c ≡ option_or a (option_or b c)
+    by None b c = refl
+    by (Some a) b c = refl
+
+pub is_given_front : (first : ℕ) (xs ys : List (ℕ × List ℕ)) (at : ℕ) (sector : List ℕ) → IsGivenAt first xs at sector → IsGivenAt first (xs ++ ys) at sector
+is_given_front first [] ys at sector given = absurd given
+is_given_front first (x ∷ xs) ys at sector given = ⊎_elim (λ here. inl here) (λ later. inr (is_given_front first xs ys at sector later)) given
+
+pub is_given_back : (first : ℕ) (xs ys : List (ℕ × List ℕ)) (at : ℕ) (sector : List ℕ) → IsGivenAt first ys at sector → IsGivenAt first (xs ++ ys) at sector
+is_given_back first [] ys at sector given = given
+is_given_back first (x ∷ xs) ys at sector given = inr (is_given_back first xs ys at sector given)
+
+-- the slots of a database behind others, by their own first sector
+pub given_behind : (first others : ℕ) (images : List (List Row)) (numbers : List ℕ) (at : ℕ) → given_at (first + others) (bytes_of images numbers) at ≡ given_at first (bytes_behind others images numbers) at
+given_behind first others images [] at = refl
+given_behind first others images (n ∷ numbers) at =
+    let place : (first + others) + n ≡ first + (others + n) = omega arith in
+    ap (λ o. option_or o (if eqb ((first + others) + n) at then Some (data_sector (spelling (slice_index_or images n []))) else None)) (given_behind first others images numbers at)
+    ∙ ap (λ k. option_or (given_at first (bytes_behind others images numbers) at) (if eqb k at then Some (data_sector (spelling (slice_index_or images n []))) else None)) place
+
+pub is_given_behind : (first others : ℕ) (images : List (List Row)) (numbers : List ℕ) (at : ℕ) (sector : List ℕ) → IsGivenAt (first + others) (bytes_of images numbers) at sector → IsGivenAt first (bytes_behind others images numbers) at sector
+is_given_behind first others images [] at sector given = given
+is_given_behind first others images (n ∷ numbers) at sector given =
+    let place : (first + others) + n ≡ first + (others + n) = omega arith in
+    ⊎_elim (λ here. inl (sym place ∙ here.0, here.1)) (λ later. inr (is_given_behind first others images numbers at sector later)) given
+
+-- ---- what is put, one after another
+
+pub may_both : (first : ℕ) (slots : List (ℕ × List ℕ)) (a b c : Image) → MayPut first slots a b → MayPut first slots b c → MayPut first slots a c
+may_both first slots a b c one two = record {
+  size = two.size ∙ one.size;
+  each = λ at.
+      ⊎_elim
+      (λ same. ⊎_elim (λ stays. inl (same ∙ stays)) (λ given. inr (subst (IsGivenAt first slots at) (sym same) given)) (one.each at))
+      (λ given. inr given)
+      (two.each at);
+}
+
+pub may_more : (first other : ℕ) (slots more : List (ℕ × List ℕ)) (a b : Image) → ((at : ℕ) (sector : List ℕ) → IsGivenAt other slots at sector → IsGivenAt first more at sector) → MayPut other slots a b → MayPut first more a b
+may_more first other slots more a b given may = record { size = may.size; each = λ at. ⊎_elim (λ same. inl same) (λ is. inr (given at (sector_at b at) is)) (may.each at) }
+
+pub has_both : (first : ℕ) (xs ys : List (ℕ × List ℕ)) (a b c : Image) → HasPut first xs a b → HasPut first ys b c → HasPut first (xs ++ ys) a c
+has_both first xs ys a b c one two = record {
+  size = two.size ∙ one.size;
+  each = λ at.
+      two.each at
+      ∙ ap (λ (s : List ℕ). unwrap_or (given_at first ys at) s) (one.each at)
+      ∙ by (given_at first ys at) (given_at first xs at) (sector_at a at)
+      ∙ ap (λ o. unwrap_or o (sector_at a at)) (sym (given_append first xs ys at));
+} where
+  by : (o p : Option (List ℕ)) (s : List ℕ) → unwrap_or o (unwrap_or p s) ≡ unwrap_or (option_or o p) s
+  by None p s = refl
+  by (Some x) p s = refl
+
+pub has_behind : (first others : ℕ) (images : List (List Row)) (numbers : List ℕ) (a b : Image) → HasPut (first + others) (bytes_of images numbers) a b → HasPut first (bytes_behind others images numbers) a b
+has_behind first others images numbers a b has = record { size = has.size; each = λ at. has.each at ∙ ap (λ o. unwrap_or o (sector_at a at)) (given_behind first others images numbers at) }
+
+-- ---- the stores up to a place
+
+one_more : (others : ℕ) (kept : List Kept) (i : ℕ) (one : Kept) → slice_get kept i ≡ Some one → kept_bytes others (take (i + 1) kept) ≡ kept_bytes others (take i kept) ++ bytes_behind (others + kept_slots (take i kept)) one.slots one.changed
+one_more others [] i one found = absurd (none_of i found) where
+  none_of : (n : ℕ) → slice_get {X = Kept} [] n ≡ Some one → ⊥
+  none_of n e = cc
+one_more others (k ∷ kept) zero one found =
+    let same : k ≡ one = cc in
+    let none : others + kept_slots (take zero (k ∷ kept)) ≡ others = omega arith in
+    append-nil (bytes_behind others k.slots k.changed)
+    ∙ ap (λ (x : Kept). bytes_behind others x.slots x.changed) same
+    ∙ ap (λ n. bytes_behind n one.slots one.changed) (sym none)
+one_more others (k ∷ kept) (suc i) one found =
+    let more : suc i + 1 ≡ suc (i + 1) = omega arith in
+    let sum : (others + k.dbd.roots) + kept_slots (take i kept) ≡ others + kept_slots (take (suc i) (k ∷ kept)) = omega (arith, sum_by-cons (λ (x : Kept). x.dbd.roots) k (take i kept)) in
+    ap (λ n. kept_bytes others (take n (k ∷ kept))) more
+    ∙ ap (λ (l : List (ℕ × List ℕ)). bytes_behind others k.slots k.changed ++ l) (one_more (others + k.dbd.roots) kept i one found)
+    ∙ ap (λ n. bytes_behind others k.slots k.changed ++ (kept_bytes (others + k.dbd.roots) (take i kept) ++ bytes_behind n one.slots one.changed)) sum
+    ∙ sym (append_assoc (bytes_behind others k.slots k.changed) (kept_bytes (others + k.dbd.roots) (take i kept)) (bytes_behind (others + kept_slots (take (suc i) (k ∷ kept))) one.slots one.changed))
+
+behind_all : (first : ℕ) (xs some all : List (ℕ × List ℕ)) (at : ℕ) (sector : List ℕ) → (IsGivenAt first some at sector → IsGivenAt first all at sector) → IsGivenAt first (xs ++ some) at sector → IsGivenAt first (xs ++ all) at sector
+behind_all first [] some all at sector more given = more given
+behind_all first (x ∷ xs) some all at sector more given = ⊎_elim (λ here. inl here) (λ later. inr (behind_all first xs some all at sector more later)) given
+
+in_front : (first others : ℕ) (kept : List Kept) (i : ℕ) (at : ℕ) (sector : List ℕ) → IsGivenAt first (kept_bytes others (take i kept)) at sector → IsGivenAt first (kept_bytes others kept) at sector
+in_front first others [] i at sector given = absurd (nothing i given) where
+  nothing : (n : ℕ) → IsGivenAt first (kept_bytes others (take n [])) at sector → ⊥
+  nothing zero e = e
+  nothing (suc n) e = e
+in_front first others (k ∷ kept) zero at sector given = absurd given
+in_front first others (k ∷ kept) (suc i) at sector given =
+    behind_all first (bytes_behind others k.slots k.changed) (kept_bytes (others + k.dbd.roots) (take i kept)) (kept_bytes (others + k.dbd.roots) kept) at sector (λ e. in_front first (others + k.dbd.roots) kept i at sector e) given
+
+-- the slots of one store are among those of all
+pub one_is_given : (first : ℕ) (kept : List Kept) (i : ℕ) (one : Kept) → slice_get kept i ≡ Some one → (at : ℕ) (sector : List ℕ) → IsGivenAt (first + kept_slots (take i kept)) (bytes_of one.slots one.changed) at sector → IsGivenAt first (kept_bytes 0 kept) at sector
+one_is_given first kept i one found at sector given =
+    in_front first 0 kept (i + 1) at sector
+    (subst (λ (l : List (ℕ × List ℕ)). IsGivenAt first l at sector) (sym (one_more 0 kept i one found))
+    (is_given_back first (kept_bytes 0 (take i kept)) (bytes_behind (0 + kept_slots (take i kept)) one.slots one.changed) at sector
+    (subst (λ n. IsGivenAt first (bytes_behind n one.slots one.changed) at sector) (omega arith)
+    (is_given_behind first (kept_slots (take i kept)) one.slots one.changed at sector given))))
+
+module _ (first : ℕ) (kept : List Kept) (i : ℕ) (one : Kept) (found : slice_get kept i ≡ Some one) (at : ℕ) (is : at ≡ first + kept_slots (take i kept)) where
+  may_one : (a b : Image) → MayPut at (bytes_of one.slots one.changed) a b → MayPut first (kept_bytes 0 kept) a b
+  may_one a b may = may_more first at (bytes_of one.slots one.changed) (kept_bytes 0 kept) a b (λ k sector given. one_is_given first kept i one found k sector (subst (λ n. IsGivenAt n (bytes_of one.slots one.changed) k sector) is given)) may
+
+  pub next_within : (old mid new : DiskState) → Within (MayPut first (kept_bytes 0 kept)) old mid → Follows (MayPut first (kept_bytes 0 kept)) old mid → Within (MayPut at (bytes_of one.slots one.changed)) mid new → Within (MayPut first (kept_bytes 0 kept)) old new
+  next_within old mid new before follows after =
+      within_within (MayPut first (kept_bytes 0 kept)) (MayPut first (kept_bytes 0 kept)) (MayPut first (kept_bytes 0 kept)) old mid new (λ a c may. may) (may_both first (kept_bytes 0 kept))
+      before follows (within_more (MayPut at (bytes_of one.slots one.changed)) (MayPut first (kept_bytes 0 kept)) mid new may_one after)
+
+  pub next_follows : (old mid new : DiskState) → Follows (MayPut first (kept_bytes 0 kept)) old mid → Follows (MayPut at (bytes_of one.slots one.changed)) mid new → Follows (MayPut first (kept_bytes 0 kept)) old new
+  next_follows old mid new before after =
+      follows_on (MayPut first (kept_bytes 0 kept)) (MayPut first (kept_bytes 0 kept)) (MayPut first (kept_bytes 0 kept)) old mid new (may_both first (kept_bytes 0 kept)) before
+      (follows_more (MayPut at (bytes_of one.slots one.changed)) (MayPut first (kept_bytes 0 kept)) mid new may_one after)
+
+  pub next_has : (a b c : Image) → HasPut first (kept_bytes 0 (take i kept)) a b → HasPut at (bytes_of one.slots one.changed) b c → HasPut first (kept_bytes 0 (take (i + 1) kept)) a c
+  next_has a b c before after =
+      let here : HasPut (first + kept_slots (take i kept)) (bytes_of one.slots one.changed) b c = subst (λ n. HasPut n (bytes_of one.slots one.changed) b c) is after in
+      let behind : HasPut first (bytes_behind (0 + kept_slots (take i kept)) one.slots one.changed) b c = subst (λ n. HasPut first (bytes_behind n one.slots one.changed) b c) (omega arith) (has_behind first (kept_slots (take i kept)) one.slots one.changed b c here) in
+      subst (λ (l : List (ℕ × List ℕ)). HasPut first l a c) (sym (one_more 0 kept i one found)) (has_both first (kept_bytes 0 (take i kept)) (bytes_behind (0 + kept_slots (take i kept)) one.slots one.changed) a b c before behind)
+
+-- ---- sums and lists up to a place
+
+pub sum_more : (f : Kept → ℕ) (kept : List Kept) (i : ℕ) (one : Kept) → slice_get kept i ≡ Some one → sum_by f (take (i + 1) kept) ≡ sum_by f (take i kept) + f one
+sum_more f [] i one found = absurd (none_of i found) where
+  none_of : (n : ℕ) → slice_get {X = Kept} [] n ≡ Some one → ⊥
+  none_of n e = cc
+sum_more f (k ∷ kept) zero one found = let same : k ≡ one = cc in omega (arith, ap f same)
+sum_more f (k ∷ kept) (suc i) one found =
+    let more : suc i + 1 ≡ suc (i + 1) = omega arith in
+    ap (λ n. sum_by f (take n (k ∷ kept))) more
+    ∙ omega (arith, sum_by-cons f k (take (i + 1) kept), sum_by-cons f k (take i kept), sum_more f kept i one found)
+
+-- the stores of which the first ones are written
+abbrev pub partly : List Kept → ℕ → List Kept
+partly kept i = map written_kept (take i kept) ++ drop i kept
+
+pub partly_get : (kept : List Kept) (i : ℕ) → i < length kept → slice_get (partly kept i) i ≡ slice_get kept i
+partly_get [] i lt = absurd (omega (arith, lt))
+partly_get (k ∷ kept) zero lt = refl
+partly_get (k ∷ kept) (suc i) lt = partly_get kept i (omega (arith, lt))
+
+pub partly_set : (kept : List Kept) (i : ℕ) (one : Kept) → slice_get kept i ≡ Some one → slice_set (partly kept i) i (written_kept one) ≡ partly kept (i + 1)
+partly_set [] i one found = absurd (none_of i found) where
+  none_of : (n : ℕ) → slice_get {X = Kept} [] n ≡ Some one → ⊥
+  none_of n e = cc
+partly_set (k ∷ kept) zero one found = let same : k ≡ one = cc in ap (λ (x : Kept). written_kept x ∷ kept) (sym same)
+partly_set (k ∷ kept) (suc i) one found =
+    let more : suc i + 1 ≡ suc (i + 1) = omega arith in
+    ap (λ (l : List Kept). written_kept k ∷ l) (partly_set kept i one found) ∙ sym (ap (λ n. partly (k ∷ kept) n) more)
+
+-- a store that is there
+pub record Found (kept : List Kept) (i : ℕ) : Type 0 where
+  pub one : Kept
+  pub is : slice_get kept i ≡ Some one
+
+pub found_at : (kept : List Kept) (i : ℕ) → i < length kept → Found kept i
+found_at [] i lt = absurd (omega (arith, lt))
+found_at (k ∷ kept) zero lt = record { one = k; is = refl }
+found_at (k ∷ kept) (suc i) lt = let f = found_at kept i (omega (arith, lt)) in record { one = f.one; is = f.is }
+
+pub all_at : (P : Kept → Type 0) (kept : List Kept) (i : ℕ) (one : Kept) → AllByRecursion P kept → slice_get kept i ≡ Some one → P one
+all_at P [] i one all found = absurd (none_of i found) where
+  none_of : (n : ℕ) → slice_get {X = Kept} [] n ≡ Some one → ⊥
+  none_of n e = cc
+all_at P (k ∷ kept) zero one all found = let same : k ≡ one = cc in subst P same all.0
+all_at P (k ∷ kept) (suc i) one all found = all_at P kept i one all.1 found
+
+-- the slots up to the end of a store are among all
+pub slots_within : (kept : List Kept) (i : ℕ) (one : Kept) → slice_get kept i ≡ Some one → kept_slots (take i kept) + one.dbd.roots ≤ kept_slots kept
+slots_within kept i one found =
+    omega (arith, sum_more (λ (k : Kept). k.dbd.roots) kept i one found, sum_by-take-le (λ (k : Kept). k.dbd.roots) kept (i + 1))
+
+pub count_within : (kept : List Kept) (i : ℕ) (one : Kept) → slice_get kept i ≡ Some one → kept_count (take i kept) + length one.changed ≤ kept_count kept
+count_within kept i one found =
+    omega (arith, sum_more (λ (k : Kept). length k.changed) kept i one found, sum_by-take-le (λ (k : Kept). length k.changed) kept (i + 1))
+
+-- ---- as the stores of a system are seen
+
+-- what is stored stays while the first ones are written
+pub partly_stored : (kept : List Kept) (i : ℕ) → map stored (partly kept i) ≡ map stored kept
+partly_stored [] zero = refl
+partly_stored [] (suc i) = refl
+partly_stored (k ∷ kept) zero = refl
+partly_stored (k ∷ kept) (suc i) = ap (λ (l : List Stored). stored k ∷ l) (partly_stored kept i)
+
+pub bytes_seen : (others : ℕ) (kept : List Kept) → kept_bytes others kept ≡ all_bytes others (map stored kept) (map (λ (k : Kept). k.changed) kept)
+bytes_seen others [] = refl
+bytes_seen others (k ∷ kept) = ap (λ (l : List (ℕ × List ℕ)). bytes_behind others k.slots k.changed ++ l) (bytes_seen (others + k.dbd.roots) kept)
+
+pub slots_seen : (kept : List Kept) → kept_slots kept ≡ slot_count (map stored kept)
+slots_seen [] = refl
+slots_seen (k ∷ kept) = omega (arith, slots_seen kept, sum_by-cons (λ (x : Kept). x.dbd.roots) k kept, sum_by-cons (λ (x : Stored). x.dbd.roots) (stored k) (map stored kept))
+
+pub count_seen : (kept : List Kept) → kept_count kept ≡ changed_count (map (λ (k : Kept). k.changed) kept)
+count_seen [] = refl
+count_seen (k ∷ kept) = omega (arith, count_seen kept, sum_by-cons (λ (x : Kept). length x.changed) k kept, sum_by-cons (λ (x : List ℕ). length x) k.changed (map (λ (k : Kept). k.changed) kept))
+
+pub sectors_seen : (kept : List Kept) → AllByRecursion (λ (s : Stored). s.dbd.sectors ≤ 1) (map stored kept) → AllByRecursion (λ (k : Kept). k.dbd.sectors ≤ 1) kept
+sectors_seen [] all = tt
+sectors_seen (k ∷ kept) all = (all.0, sectors_seen kept all.1)
+
+changed_gone : (kept : List Kept) → map (λ (k : Kept). k.changed) (map written_kept kept) ≡ map (λ numbers. []) (map (λ (k : Kept). k.changed) kept)
+changed_gone [] = refl
+changed_gone (k ∷ kept) = ap (λ (l : List (List ℕ)). [] ∷ l) (changed_gone kept)
+
+stored_stays : (kept : List Kept) → map stored (map written_kept kept) ≡ map stored kept
+stored_stays [] = refl
+stored_stays (k ∷ kept) = ap (λ (l : List Stored). stored k ∷ l) (stored_stays kept)
+
+pub written_seen : (kept : List Kept) → all_stores (map written_kept kept) ≡ all_written (all_stores kept)
+written_seen kept =
+    ap (λ (l : List Stored). record { stores = l; changed = map (λ (k : Kept). k.changed) (map written_kept kept) }) (stored_stays kept)
+    ∙ ap (λ (l : List (List ℕ)). record { stores = map stored kept; changed = l }) (changed_gone kept)
+
+pub on_ok : {A B : Type 0} (r : Result A B) (P Q : Type 0) → (P → Q) → OnOk r P → OnOk r Q
+on_ok (Ok x) P Q f p = f p
+on_ok (Err e) P Q f p = p
