@@ -5,7 +5,11 @@
 //! has written nothing.
 #![tactic(auto)]
 
+mod beginning;
+mod clearing;
 mod cold_start;
+mod filling;
+mod laying_cold;
 mod parts;
 mod restarting;
 
