@@ -23,6 +23,18 @@ const RECORDS: [&[u8]; 11] = [
     b"\0\x1f\x50\0\0\0\0\0\0\0\x03\x01\0\0\0\0\0\x0d\x01000100001000",
 ];
 
+// A new disk on which these bytes were appended to a log of 4 sectors from 2 on, and forced; and whether that was done.
+fn forced(alloc: Global, fail_at: Vec<u64>, bytes: &[u8]) -> Result<(MemDisk, bool), Fail> {
+    let mut disk = MemDisk::new(alloc, 8, fail_at)?;
+    let mut log = LogWriter::new(alloc, 2, 4, 11, 4);
+    if bytes.len() > 16_256 {
+        return Err("a long log".into());
+    }
+    log.append(bytes)?;
+    let done = log.force(&mut disk).is_ok();
+    Ok((disk, done))
+}
+
 fn read(alloc: Global, disk: &mut MemDisk) -> Result<Vec<u8>, Fail> {
     if disk.sectors() != 8 {
         return Err("another disk".into());
@@ -40,16 +52,18 @@ fn each_kind_is_read_again(rt: HostRuntime) -> Result<(), Fail> {
         let mut spelled = Vec::new(alloc);
         encode(alloc, &record, &mut spelled)?;
         assert_eq!(rt; spelled.as_slice(), bytes);
-        let mut disk = MemDisk::new(alloc, 8, Vec::new(alloc))?;
-        let mut log = LogWriter::new(alloc, 2, 4, 11, 4);
-        if bytes.len() > 4064 {
-            return Err("a long record".into());
-        }
-        log.append(bytes)?;
-        log.force(&mut disk)?;
+        let (mut disk, done) = forced(alloc, Vec::new(alloc), bytes)?;
+        assert_eq!(rt; done, true);
         for pick in [0, 1, u64::MAX] {
             disk.cut(pick);
             assert_eq!(rt; read(alloc, &mut disk)?.as_slice(), bytes);
+        }
+        // A stop at its write leaves nothing of it, or all.
+        for (pick, left) in [(0, b"".as_slice()), (1, bytes)] {
+            let (mut disk, done) = forced(alloc, vec![in alloc; 1; 1]?, bytes)?;
+            assert_eq!(rt; done, false);
+            disk.cut(pick);
+            assert_eq!(rt; read(alloc, &mut disk)?.as_slice(), left);
         }
     }
     Ok(())
@@ -62,12 +76,12 @@ fn long_log(alloc: Global) -> Result<Vec<u8>, Fail> {
     joined(alloc, &[&long, &records])
 }
 
-// How many sectors are written, and are all whole, before the first that a pick leaves out.
-fn kept_sectors(pick: u64) -> usize {
-    match pick {
-        3 => 2,
-        7 => 3,
-        1 | 5 => 1,
+// How many bytes the sectors have that stand before the first that isn't written.
+fn kept_bytes(written: u64) -> usize {
+    match written {
+        7 => 12_192,
+        3 => 8128,
+        1 | 5 => 4064,
         _ => 0,
     }
 }
@@ -78,21 +92,14 @@ fn a_front_is_read_after_a_stop(rt: HostRuntime) -> Result<(), Fail> {
     let alloc = rt.alloc();
     let bytes = long_log(alloc)?;
     assert_eq!(rt; bytes.len() > 8128 && bytes.len() < 12_192, true);
-    for call in 1..5u64 {
+    // The writes up to the one that failed were made.
+    for (call, made) in [(1, 1), (2, 3), (3, 7), (4, 7u64)] {
         for pick in 0..8u64 {
-            let mut disk = MemDisk::new(alloc, 8, vec![in alloc; call; 1]?)?;
-            let mut log = LogWriter::new(alloc, 2, 4, 11, 4);
-            if bytes.len() > 12_192 {
-                return Err("a long log".into());
-            }
-            log.append(&bytes)?;
-            assert_eq!(rt; log.force(&mut disk).is_err(), true);
+            let (mut disk, done) = forced(alloc, vec![in alloc; call; 1]?, &bytes)?;
+            assert_eq!(rt; done, false);
             disk.cut(pick);
             let got = read(alloc, &mut disk)?;
-            // The writes up to the one that failed were made.
-            let made = (call as usize).min(3);
-            let kept = kept_sectors(pick & ((1 << made) - 1));
-            let length = (kept * 4064).min(bytes.len());
+            let length = kept_bytes(pick & made).min(bytes.len());
             assert_eq!(rt; got.as_slice(), &bytes[..length], "{call} {pick}");
         }
     }
@@ -104,13 +111,8 @@ fn all_is_read_once_it_was_forced(rt: HostRuntime) -> Result<(), Fail> {
     let alloc = rt.alloc();
     let bytes = long_log(alloc)?;
     for pick in 0..8u64 {
-        let mut disk = MemDisk::new(alloc, 8, Vec::new(alloc))?;
-        let mut log = LogWriter::new(alloc, 2, 4, 11, 4);
-        if bytes.len() > 12_192 {
-            return Err("a long log".into());
-        }
-        log.append(&bytes)?;
-        assert_eq!(rt; log.force(&mut disk)?, 3);
+        let (mut disk, done) = forced(alloc, Vec::new(alloc), &bytes)?;
+        assert_eq!(rt; done, true);
         disk.cut(pick);
         assert_eq!(rt; read(alloc, &mut disk)?.as_slice(), bytes.as_slice());
     }
