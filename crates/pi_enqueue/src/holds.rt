@@ -172,10 +172,7 @@ fn is_more(before: Option<Mode>, mode: Mode) -> bool
 
 // The region holds what it asks for too, and the mode in which it held that is told. Only a new holder
 // may want memory.
-fn strengthen(
-    holds: &mut BTreeMap<Holder, Mode>,
-    request: &Request,
-) -> Result<Option<Mode>, Memory>
+fn strengthen(holds: &mut BTreeMap<Holder, Mode>, request: &Request) -> Result<Option<Mode>, Memory>
     ensures ok { OnOk result (holds.new.entries ≡ with_hold request.now holds.old.entries) }
     ensures told { IfOk result (λ before. before ≡ mode_held request.now holds.old.entries) }
     ensures err { OnErr result (holds.new.entries ≡ holds.old.entries) }
