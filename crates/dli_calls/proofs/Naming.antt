@@ -1,9 +1,9 @@
 -- What a search needs, from one key to the next.
-use Rattle.std.proofs.Common.{◌≡◌, ℕ, ◌++◌, ◌∷◌, [], List, refl, sym, ◌∙◌, ap, subst, true, false, cond, Option, None, Some, append_assoc}
+use Rattle.std.proofs.Common.{◌≡◌, ℕ, ◌++◌, ◌∷◌, [], List, refl, sym, ◌∙◌, ap, subst, true, false, cond, Option, None, Some, Result, Ok, Err, append_assoc}
 use Rattle.std.specs.List.{AllByRecursion, slice_get}
 use Rattle.std.specs.List.Sorted.{IsStrictlySortedBy}
 use Rattle.std.specs.Option.{option_map_or}
-use Rattle.std.specs.Prelude.{is_some}
+use Rattle.std.specs.Prelude.{is_some, IfOk}
 use Rattle.std.proofs.lemmas.Bool.{false≢true}
 use Rattle.std.specs.Ordering.{is_lt}
 use Rattle.std.specs.declared.cmp.Ordering.TheVariants.{Less}
@@ -23,8 +23,9 @@ use Rattle.model_rows.proofs.Records.{is_lt-true}
 use Rattle.model_dli.specs.declared.need.Need.{Need}
 use Rattle.model_dli.specs.Search.{first_after}
 use Rattle.model_dli.specs.Footprint.{record_need, behind, along, onward}
+use Rattle.row_search.proofs.Finding.{find_front, find_back}
 use Rattle.row_search.proofs.Keys.{roots_ascending, by_records}
-use Rattle.row_search.proofs.Needing.{walk, next_fits, walk_head, onward_is}
+use Rattle.row_search.proofs.Needing.{walk, next_fits, walk_head, onward_is, found_here, found_behind}
 use Rattle.dli_calls.specs.Along.{keys_behind, keys_from, records_of}
 
 -- a key and those behind it are in order
@@ -80,6 +81,19 @@ module _ (dbd : Dbd) (all : IsHierarchy dbd.types) (rows : List Row) (valid : Ar
         by None f = absurd (false≢true f)
         by (Some row) f = refl
 
+    -- and the row is found in it
+    pub records_end : (row : Row) → first_after dbd.types ssas place (record_of key rows) ≡ Some row
+        → first_after dbd.types ssas place (records_of (keys_from (Some key) (roots rows)) rows) ≡ Some row
+    records_end row e = find_front (next_fits dbd ssas place) (record_of key rows) (records_of (behind key (roots rows)) rows) row e
+
+    -- else it is found among those from the next root on
+    pub records_go : first_after dbd.types ssas place (record_of key rows) ≡ None
+        → first_after dbd.types ssas place (records_of (keys_from (next_root rows (Some key)) (roots rows)) rows)
+        ≡ first_after dbd.types ssas place (records_of (keys_from (Some key) (roots rows)) rows)
+    records_go e =
+        ap (λ keys. first_after dbd.types ssas place (records_of keys rows)) (next_keys (Some key))
+        ∙ sym (find_back (next_fits dbd ssas place) (record_of key rows) (records_of (behind key (roots rows)) rows) e)
+
     -- else those from the next root on are needed too
     pub walk_goes : is_some (first_after dbd.types ssas place (record_of key rows)) ≡ false
         → walk (next_fits dbd ssas place) mode rows (keys_from (Some key) (roots rows))
@@ -103,7 +117,25 @@ module _ (dbd : Dbd) (all : IsHierarchy dbd.types) (rows : List Row) (valid : Ar
       ∙ (ap (λ rs. along mode (first_after dbd.types ssas place rs) (roots rows)) (sym (by_records dbd all rows valid))
       ∙ ap (λ o. onward mode o (first_after dbd.types ssas place rows) (roots rows)) (sym none)))
 
+  -- and finds the row there
+  pub found_all : (place : Option (List (ℕ × List ℕ))) → first_after dbd.types ssas place (records_of (roots rows) rows) ≡ first_after dbd.types ssas place rows
+  found_all place = ap (first_after dbd.types ssas place) (sym (by_records dbd all rows valid))
+
   module _ (place : Option (List (ℕ × List ℕ))) (path : List (ℕ × List ℕ)) (root : List ℕ) (at : place ≡ Some path) (whole : IsPath dbd.types path) (same : root ≡ root_of path) where
+    -- from a place the row is that of its record
+    pub found_there : (row : Row) → first_after dbd.types ssas place (record_of root rows) ≡ Some row → first_after dbd.types ssas place rows ≡ Some row
+    found_there row e =
+        ap (λ o. first_after dbd.types ssas o rows) at
+        ∙ found_here dbd all rows valid ssas path whole row ((λ i. first_after dbd.types ssas (sym at i) (record_of (sym same i) rows)) ∙ e)
+
+    -- or else of those behind it
+    pub found_later : first_after dbd.types ssas place (record_of root rows) ≡ None
+        → first_after dbd.types ssas place (records_of (behind root (roots rows)) rows) ≡ first_after dbd.types ssas place rows
+    found_later e =
+        (λ i. first_after dbd.types ssas (at i) (records_of (behind (same i) (roots rows)) rows))
+        ∙ (sym (found_behind dbd all rows valid ssas path whole ((λ i. first_after dbd.types ssas (sym at i) (record_of (sym same i) rows)) ∙ e))
+        ∙ ap (λ o. first_after dbd.types ssas o rows) (sym at))
+
     from : onward mode place (first_after dbd.types ssas place rows) (roots rows)
         ≡ record_need mode root
         ∷ option_map_or (λ row. []) (first_after dbd.types ssas place (record_of root rows)) (along mode (first_after dbd.types ssas place (records_of (behind root (roots rows)) rows)) (behind root (roots rows)))
@@ -154,3 +186,8 @@ closes needs pushed rest whole need is all last = is ∙ (ap (λ r. needs ++ r) 
 pub goes : (needs pushed rest later whole : List Need) (need : Need) → pushed ≡ needs ++ need ∷ [] → needs ++ rest ≡ whole → rest ≡ need ∷ later → pushed ++ later ≡ whole
 goes needs pushed rest later whole need is all next =
     ap (λ r. r ++ later) is ∙ (append_assoc needs (need ∷ []) later ∙ (ap (λ r. needs ++ r) (sym next) ∙ all))
+
+-- two facts of a value, if there is one
+pub ok_both : {T E : Type 0} (r : Result T E) (P Q R : T → Type 0) → ((x : T) → P x → Q x → R x) → IfOk r P → IfOk r Q → IfOk r R
+ok_both (Ok x) P Q R f p q = f x p q
+ok_both (Err e) P Q R f p q = tt

@@ -1,5 +1,7 @@
 -- How the records that a search needs are named, key by key.
-use Rattle.std.specs.Prelude.{ℕ, List, [], ◌∷◌, Option, None, Some, flat_map}
+use Rattle.std.specs.Prelude.{ℕ, Bool, if◌then◌else◌, List, [], ◌∷◌, Option, None, Some, flat_map}
+use Rattle.tm_types.specs.declared.resource.Mode.{Mode}
+use Rattle.tm_types.specs.declared.resource.Mode.TheVariants.{Shared, Exclusive}
 use Rattle.model_rows.specs.declared.row.Row.{Row}
 use Rattle.model_rows.specs.Rows.{record_of}
 use Rattle.model_dli.specs.Footprint.{behind}
@@ -17,3 +19,7 @@ keys_from (Some root) keys = root ∷ behind root keys
 -- the rows of the records of these roots
 abbrev pub records_of : List (List ℕ) → List Row → List Row
 records_of keys rows = flat_map (λ key. record_of key rows) keys
+
+-- the mode in which a get has the records that it needs
+abbrev pub mode_of : Bool → Mode
+mode_of hold = if hold then Exclusive else Shared

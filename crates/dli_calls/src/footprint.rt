@@ -14,11 +14,11 @@ use crate::change::keeps_key;
 use crate::inserting::insert_root;
 use crate::need_list::{Needs, record_need, sequence_need};
 use model_dli::{DbCall, Position};
-use model_rows::Path;
+use model_rows::{Path, Row};
 use row_search::{asked_root, first_in_record};
 use seg_rows::Rows;
 use std::alloc::Global;
-use tm_types::{Dbd, Function, Key, Memory, Mode, SegTypes, Ssa};
+use tm_types::{Dbd, Function, Key, Memory, Mode, Ssa};
 
 /// What a call needs before it is made on the rows of a database, by a PCB that stands at `position`, in
 /// the order in which it asks: the records that it looks at or changes, and where it looks for a root, or
@@ -74,72 +74,88 @@ fn search_needs<R: Rows>(
     requires place { IfSome (option_copied place) (IsPath dbd.now.types) }
     ensures { IfOk result (λ needs. needs ≡ search_needs mode dbd.now call.now (option_copied place.entry) (R.rows rows.now)) }
 {
+    let mut needs = Needs::new(alloc);
+    match needed_row(mode, dbd, call, place, rows, &mut needs) {
+        Ok(_) => Ok(needs),
+        Err(error) => Err(error),
+    }
+}
+
+/// The row that GU and GN find after a place, and what they need to find it: the one record for whose
+/// root the first argument asks, or what a search needs.
+pub fn needed_row<'a, R: Rows>(
+    mode: Mode,
+    dbd: &Dbd,
+    call: &DbCall,
+    place: Option<&Path>,
+    rows: &'a R,
+    needs: &mut Needs,
+) -> Result<Option<&'a Row>, Memory>
+    requires types { length dbd.now.types ≤ 255 }
+    requires rows { R.database rows.now ≡ dbd.now }
+    requires place { IfSome (option_copied place) (IsPath dbd.now.types) }
+    requires empty { needs.old ≡ [] }
+    ensures needs { OnOk result (needs.new ≡ search_needs mode dbd.now call.now (option_copied place.entry) (R.rows rows.now)) }
+    ensures found { IfOk result (λ row. option_copied row ≡ first_after dbd.now.types call.now.ssas (option_copied place.entry) (R.rows rows.now)) }
+    ensures valid { OnOk result (AreRows dbd.now (R.rows rows.now)) }
+{
     let ssas = call.ssas.as_slice();
+    let _hierarchy = dbd.types.as_slice();
     match asked_root(&dbd.types, ssas) {
-        Some(root) => Needs::of(alloc, &[record_need(mode, root)]),
-        None => onward(alloc, mode, dbd, ssas, place, rows),
+        Some(root) => {
+            needs.push(record_need(mode, root))?;
+            Ok(first_in_record(&dbd.types, ssas, place, rows, &root))
+        }
+        None => onward(mode, dbd, ssas, place, rows, needs),
     }
 }
 
 /// A search: the record of the place, and where that doesn't have the row, those behind it.
-fn onward<R: Rows>(
-    alloc: Global,
+fn onward<'a, R: Rows>(
     mode: Mode,
     dbd: &Dbd,
     ssas: &[Ssa],
     place: Option<&Path>,
-    rows: &R,
-) -> Result<Needs, Memory>
+    rows: &'a R,
+    needs: &mut Needs,
+) -> Result<Option<&'a Row>, Memory>
     requires types { length dbd.now.types ≤ 255 }
     requires rows { R.database rows.now ≡ dbd.now }
     requires place { IfSome (option_copied place) (IsPath dbd.now.types) }
-    ensures { IfOk result (λ needs. needs ≡ onward mode (option_copied place.entry) (first_after dbd.now.types ssas.now (option_copied place.entry) (R.rows rows.now)) (roots (R.rows rows.now))) }
+    requires empty { needs.old ≡ [] }
+    ensures needs { OnOk result (needs.new ≡ onward mode (option_copied place.entry) (first_after dbd.now.types ssas.now (option_copied place.entry) (R.rows rows.now)) (roots (R.rows rows.now))) }
+    ensures found { IfOk result (λ row. option_copied row ≡ first_after dbd.now.types ssas.now (option_copied place.entry) (R.rows rows.now)) }
+    ensures valid { OnOk result (AreRows dbd.now (R.rows rows.now)) }
 {
     let _hierarchy = dbd.types.as_slice();
-    let mut needs = Needs::new(alloc);
     let Some(path) = place else {
-        along(mode, dbd, ssas, place, None, rows, &mut needs)?;
-        return Ok(needs);
+        return along(mode, dbd, ssas, place, None, rows, needs);
     };
     let Some(root) = path.root() else {
         unreachable!()
     };
     needs.push(record_need(mode, root))?;
-    if has_next(&dbd.types, ssas, place, rows, &root) {
-        return Ok(needs);
+    match first_in_record(&dbd.types, ssas, place, rows, &root) {
+        Some(row) => Ok(Some(row)),
+        None => along(mode, dbd, ssas, place, Some(&root), rows, needs),
     }
-    along(mode, dbd, ssas, place, Some(&root), rows, &mut needs)?;
-    Ok(needs)
 }
 
-/// Whether the record of this root has a row after the place that fits.
-fn has_next<R: Rows>(
-    types: &SegTypes,
-    ssas: &[Ssa],
-    place: Option<&Path>,
-    rows: &R,
-    root: &Key,
-) -> bool
-    requires { length types.now ≤ 255 }
-    ensures value { result ≡ is_some (first_after types.now ssas.now (option_copied place.entry) (record_of root.now (R.rows rows.now))) }
-    ensures valid { AreRows (R.database rows.now) (R.rows rows.now) }
-{
-    first_in_record(types, ssas, place, rows, root).is_some()
-}
-
-/// Adds the sequence, and the records behind a root, or from the first, up to the one that has the row.
-fn along<R: Rows>(
+/// The first row after the place that fits, among the records behind a root, or from the first; adds the
+/// sequence, and those records up to the one that has the row.
+fn along<'a, R: Rows>(
     mode: Mode,
     dbd: &Dbd,
     ssas: &[Ssa],
     place: Option<&Path>,
     after: Option<&Key>,
-    rows: &R,
+    rows: &'a R,
     needs: &mut Needs,
-) -> Result<(), Memory>
+) -> Result<Option<&'a Row>, Memory>
     requires types { length dbd.now.types ≤ 255 }
     requires rows { R.database rows.now ≡ dbd.now }
     ensures named { OnOk result (needs.new ≡ needs.old ++ along mode (first_after dbd.now.types ssas.now (option_copied place.entry) (records_of (keys_behind (option_copied after.entry) (roots (R.rows rows.now))) (R.rows rows.now))) (keys_behind (option_copied after.entry) (roots (R.rows rows.now)))) }
+    ensures found { IfOk result (λ row. option_copied row ≡ first_after dbd.now.types ssas.now (option_copied place.entry) (records_of (keys_behind (option_copied after.entry) (roots (R.rows rows.now))) (R.rows rows.now))) }
     ensures valid { OnOk result (AreRows dbd.now (R.rows rows.now)) }
 {
     let _hierarchy = dbd.types.as_slice();
@@ -147,12 +163,12 @@ fn along<R: Rows>(
     let mut next = rows.next_root(after);
     while let Some(root) = next {
         needs.push(record_need(mode, root))?;
-        if has_next(&dbd.types, ssas, place, rows, &root) {
-            return Ok(());
+        if let Some(row) = first_in_record(&dbd.types, ssas, place, rows, &root) {
+            return Ok(Some(row));
         }
         next = rows.next_root(Some(&root));
     }
-    Ok(())
+    Ok(None)
 }
 
 /// GNP: the record of the parentage.

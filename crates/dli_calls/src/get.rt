@@ -37,8 +37,34 @@ pub fn get<R: Rows>(
     // A get that reaches no row, by a PCB that stands nowhere, takes no memory.
     ensures memory { OnErr result (IsSome (reached reach dbd.now.types call.now.ssas at.now (R.rows rows.now)) ⊎ StandsSomewhere at.now) }
 {
+    let row = reached(reach, dbd, call.ssas.as_slice(), at, rows);
+    get_found(reach, hold, dbd, call, at, row, rows)
+}
+
+/// What a get comes to that reaches this row, or none.
+pub fn get_found<R: Rows>(
+    reach: Reach,
+    hold: bool,
+    dbd: &Dbd,
+    call: &DbCall,
+    at: &Position,
+    row: Option<&Row>,
+    rows: &R,
+) -> Result<Planned, Memory>
+    requires types { length dbd.now.types ≤ 255 }
+    requires rows { R.database rows.now ≡ dbd.now }
+    requires position { IsPosition dbd.now.types at.now }
+    requires row { option_copied row ≡ reached reach dbd.now.types call.now.ssas at.now (R.rows rows.now) }
+    requires valid { OnSome row (AreRows (R.database rows.now) (R.rows rows.now)) }
+    ensures planned { IfOk result (Plans dbd.now (R.rows rows.now) (get reach hold dbd.now call.now at.now (R.rows rows.now))) }
+    ensures valid { IfOk result (λ p. IsPosition dbd.now.types p.position) }
+    ensures text { All (λ type. type.bytes ≤ 1996) dbd.now.types → IfOk result (λ p. IfSome p.area IsSegmentText) }
+    ensures no_edit { IfOk result (λ p. p.edit ≡ None) }
+    // A get that reaches no row, by a PCB that stands nowhere, takes no memory.
+    ensures memory { OnErr result (IsSome (reached reach dbd.now.types call.now.ssas at.now (R.rows rows.now)) ⊎ StandsSomewhere at.now) }
+{
     let ssas = call.ssas.as_slice();
-    match reached(reach, dbd, ssas, at, rows) {
+    match row {
         Some(row) => get_reached(reach, hold, ssas, at, row),
         None => get_missed(reach, missed_status(reach, dbd, ssas, at, rows), at),
     }

@@ -10,6 +10,7 @@ pub use calls::{perform, plan, would_change};
 pub use footprint::needs;
 pub use model_dli::{DbCall, Need, Performed, Position};
 pub use need_list::Needs;
+pub use needed::{NeededPlan, plan_needed};
 pub use planned::{Edit, Planned};
 
 mod calls;
@@ -19,6 +20,7 @@ mod footprint;
 mod get;
 mod inserting;
 mod need_list;
+mod needed;
 mod planned;
 #[cfg(test)]
 mod tests;

@@ -20,7 +20,7 @@ use Rattle.model_enqueue.specs.Modes.{same_resource, serves, stronger, holder_cm
 use Rattle.model_enqueue.specs.Table.{mode_held, is_served}
 use Rattle.model_enqueue.specs.Ask.{asker, granted_mode, with_hold}
 use Rattle.pi_enqueue.specs.declared.holds.Change.{Change}
-use Rattle.pi_enqueue.specs.Lists.{IsUpTo, is_on, is_listed, AreListed, StayListed, with_mode, before_all}
+use Rattle.pi_enqueue.specs.Lists.{IsUpTo, is_on, is_listed, AreListed, StayListed, with_mode, before_all, is_more}
 use Rattle.pi_enqueue.proofs.Keys.{holder_total, held_is, holder_exact, holder_ties, resource_same}
 use Rattle.pi_enqueue.proofs.Ascending.{all_map, all_keys_inserted, insert_same, reset_inserted, remove_inserted, remove_absent, filter_removed, none_removed}
 
@@ -51,9 +51,6 @@ unserved_mode q es h = by (mode_held q es) h
     by None g = refl
     by (Some mode) g = unserved_takes mode q.mode g
 
-pub unserved_is : (q : Request) (k : Holder) (es : List (Holder × Mode)) → k ≡ asker q → is_served q es ≡ false → insert_entry holder_cmp es k q.mode ≡ with_hold q es
-unserved_is q k es e h = (λ i. insert_entry holder_cmp es (e i) (sym (unserved_mode q es h) i))
-
 -- ---- changes taken back
 pub last_back : (cs : List Change) (c : Change) (es : List (Holder × Mode)) → before_all (cs ++ c ∷ []) es ≡ before_all cs (with_mode c.mode c.holder es)
 last_back [] c es = refl
@@ -68,20 +65,44 @@ inserted_back : (o : Option Mode) (k : Holder) (mode : Mode) (es : List (Holder 
 inserted_back None k mode es s e = remove_inserted holder_total k mode es e
 inserted_back (Some m) k mode es s e = reset_inserted holder_total k mode m es s e
 
-absent_back : (o : Option Mode) (k : Holder) (es : List (Holder × Mode)) → lookup (is_at (holder_cmp k)) es ≡ o → lookup (is_at (holder_cmp k)) es ≡ None → with_mode o k es ≡ es
-absent_back None k es e g = remove_absent (is_at (holder_cmp k)) es g
-absent_back (Some m) k es e g = let clash : None ≡ Some m = sym g ∙ e in absurd (cc)
+-- the mode before is given back
+pub hold_back : (q : Request) (k : Holder) (o : Option Mode) (es fs : List (Holder × Mode)) → k ≡ asker q → IsStrictlySortedBy holder_cmp (keys_of es) → o ≡ mode_held q es → fs ≡ with_hold q es
+    → with_mode o k fs ≡ es
+hold_back q k o es fs e s held made =
+    ap (with_mode o k) (made ∙ ap (λ x. insert_entry holder_cmp es x (granted_mode q es)) (sym e))
+    ∙ inserted_back o k (granted_mode q es) es s (ap (λ x. lookup (is_at (holder_cmp x)) es) e ∙ (held_is q es ∙ sym held))
 
-module _ (cs ds : List Change) (o : Option Mode) (k : Holder) (mode : Mode) (es fs : List (Holder × Mode))
-    (noted : ds ≡ cs ++ (record { holder = k; mode = o }) ∷ []) (s : IsStrictlySortedBy holder_cmp (keys_of es)) (e : lookup (is_at (holder_cmp k)) es ≡ o) where
-  pub noted_back : (r : Result (Unit {0}) AllocError) → OnOk r (fs ≡ insert_entry holder_cmp es k mode) → OnErr r (fs ≡ es) → OnErr r (lookup (is_at (holder_cmp k)) es ≡ None)
-      → before_all ds fs ≡ before_all cs es
-  noted_back (Ok u) ok err absent =
-      ap (λ l. before_all l fs) noted
-      ∙ (last_back cs (record { holder = k; mode = o }) fs ∙ ap (before_all cs) (ap (with_mode o k) ok ∙ inserted_back o k mode es s e))
-  noted_back (Err u) ok err absent =
-      ap (λ l. before_all l fs) noted
-      ∙ (last_back cs (record { holder = k; mode = o }) fs ∙ ap (before_all cs) (ap (with_mode o k) err ∙ absent_back o k es e absent))
+-- a change that is noted behind the others is taken back first
+pub noted_back : (q : Request) (k : Holder) (o : Option Mode) (cs ds : List Change) (es fs : List (Holder × Mode)) → k ≡ asker q → IsStrictlySortedBy holder_cmp (keys_of es) → o ≡ mode_held q es
+    → fs ≡ with_hold q es → ds ≡ cs ++ (record { holder = k; mode = o }) ∷ [] → before_all ds fs ≡ before_all cs es
+noted_back q k o cs ds es fs e s held made noted =
+    ap (λ l. before_all l fs) noted
+    ∙ (last_back cs (record { holder = k; mode = o }) fs ∙ ap (before_all cs) (hold_back q k o es fs e s held made))
+
+-- ---- a mode that was set, and the stronger one given back
+more_mode : (o : Option Mode) (mode : Mode) → is_more o mode ≡ false → option_map_or (λ m. stronger m mode) o mode ≡ mode
+more_mode None mode h = refl
+more_mode (Some Shared) mode h = refl
+more_mode (Some Exclusive) Shared h = absurd (cc)
+more_mode (Some Exclusive) Exclusive h = refl
+
+more_serves : (o : Option Mode) (mode : Mode) → is_more o mode ≡ true → option_map_or (λ m. serves m mode) o false ≡ true
+more_serves None mode h = absurd (cc)
+more_serves (Some Shared) mode h = absurd (cc)
+more_serves (Some Exclusive) Shared h = refl
+more_serves (Some Exclusive) Exclusive h = absurd (cc)
+
+module _ (q : Request) (k : Holder) (o : Option Mode) (es : List (Holder × Mode)) (e : k ≡ asker q) (held : o ≡ lookup (is_at (holder_cmp k)) es) where
+  pub told_held : o ≡ mode_held q es
+  told_held = held ∙ (ap (λ x. lookup (is_at (holder_cmp x)) es) e ∙ held_is q es)
+
+  pub set_new : is_more o q.mode ≡ false → insert_entry holder_cmp es k q.mode ≡ with_hold q es
+  set_new h = λ i. insert_entry holder_cmp es (e i) (sym (ap (λ x. option_map_or (λ m. stronger m q.mode) x q.mode) (sym told_held) ∙ more_mode o q.mode h) i)
+
+  pub set_back : is_more o q.mode ≡ true → IsStrictlySortedBy holder_cmp (keys_of es) → with_mode o k (insert_entry holder_cmp es k q.mode) ≡ with_hold q es
+  set_back h s =
+      inserted_back o k q.mode es s (sym held)
+      ∙ served_same q es s (ap (λ x. option_map_or (λ m. serves m q.mode) x false) (sym told_held) ∙ more_serves o q.mode h)
 
 pub reset_absent : (test : Holder → Bool) (mode : Mode) (es : List (Holder × Mode)) → lookup test es ≡ None → set_value test es mode ≡ es
 reset_absent test mode [] h = refl
@@ -119,8 +140,14 @@ module _ (old new : List (List Resource)) (o : Option Mode) (k : Holder) (mode :
   now_listed None g = fresh g
   now_listed (Some m) g = stay k (listed_found old k m es h (e ∙ g))
 
-  pub inserted_listed : fs ≡ insert_entry holder_cmp es k mode → AreListed new fs
+  inserted_listed : fs ≡ insert_entry holder_cmp es k mode → AreListed new fs
   inserted_listed ok = subst (AreListed new) (sym ok) (all_keys_inserted holder_cmp (λ x. is_listed new x ≡ true) k mode es (now_listed o refl) (still_listed old new es stay h))
+
+pub hold_listed : (old new : List (List Resource)) (q : Request) (k : Holder) (o : Option Mode) (es fs : List (Holder × Mode)) → StayListed old new → AreListed old es
+    → (o ≡ None → is_listed new k ≡ true) → k ≡ asker q → o ≡ mode_held q es → fs ≡ with_hold q es → AreListed new fs
+hold_listed old new q k o es fs stay h fresh e held made =
+    inserted_listed old new o k (granted_mode q es) es fs stay h fresh (ap (λ x. lookup (is_at (holder_cmp x)) es) e ∙ (held_is q es ∙ sym held))
+    (made ∙ ap (λ x. insert_entry holder_cmp es x (granted_mode q es)) (sym e))
 
 -- ---- a release
 abbrev pub is_elsewhere : ℕ → Holder × Mode → Bool

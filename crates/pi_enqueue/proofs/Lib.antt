@@ -6,3 +6,4 @@ pub mod Granting
 pub mod Keeping
 pub mod Asking
 pub mod Laws
+pub mod Alone

@@ -1,11 +1,12 @@
 -- How an enqueue table is kept in lists.
-use Rattle.std.specs.Prelude.{◌≡◌, ℕ, ◌-◌, ◌<◌, ◌≤◌, Bool, true, List, [], ◌∷◌, Option, None, Some, length, slice_index_or}
+use Rattle.std.specs.Prelude.{◌≡◌, ℕ, ◌-◌, ◌<◌, ◌≤◌, Bool, true, false, List, [], ◌∷◌, Option, None, Some, length, slice_index_or}
 use Rattle.std.specs.List.{AllByRecursion, list_any}
 use Rattle.std.specs.BTreeMap.{is_at}
 use Rattle.std.specs.Map.{keys_of, set_value, remove_entry}
 use Rattle.std.specs.Vec.{vec_len, vec_capacity}
 use Rattle.tm_types.specs.declared.resource.Resource.{Resource}
 use Rattle.tm_types.specs.declared.resource.Mode.{Mode}
+use Rattle.tm_types.specs.declared.resource.Mode.TheVariants.{Shared, Exclusive}
 use Rattle.model_enqueue.specs.declared.request.Holder.{Holder}
 use Rattle.model_enqueue.specs.Modes.{same_resource, holder_cmp}
 use Rattle.model_enqueue.specs.Table.{EnqueueTable}
@@ -33,6 +34,10 @@ is_listed index holder = is_on (slice_index_or index (holder.region - 1) []) hol
 abbrev pub AreListed : List (List Resource) → List (Holder × Mode) → Type 0
 AreListed index holds = AllByRecursion (λ holder. is_listed index holder ≡ true) (keys_of holds)
 
+-- nothing is on these lists
+abbrev pub AreEmpty : List (List Resource) → Type 0
+AreEmpty index = AllByRecursion (λ list. list ≡ []) index
+
 -- what is listed stays so
 abbrev pub StayListed : List (List Resource) → List (List Resource) → Type 0
 StayListed old new = (holder : Holder) → is_listed old holder ≡ true → is_listed new holder ≡ true
@@ -56,3 +61,10 @@ with_mode (Some mode) holder holds = set_value (is_at (holder_cmp holder)) holds
 abbrev pub before_all : List Change → List (Holder × Mode) → List (Holder × Mode)
 before_all [] holds = holds
 before_all (change ∷ changes) holds = with_mode change.mode change.holder (before_all changes holds)
+
+-- whether a holder had a stronger mode than this one
+abbrev pub is_more : Option Mode → Mode → Bool
+is_more (Some Exclusive) Shared = true
+is_more (Some Exclusive) Exclusive = false
+is_more (Some Shared) mode = false
+is_more None mode = false

@@ -1,6 +1,6 @@
 //! The lists of what each region holds.
-ghost use Rattle.std.specs.Prelude.{◌≡◌, ◌≤◌, ◌∷◌, [], ◌++◌, true, length, OnOk, OnErr, IfOk, IfSome, IfNone, replicate};
-ghost use Rattle.pi_enqueue.specs.Lists.{is_listed, StayListed};
+ghost use Rattle.std.specs.Prelude.{◌≡◌, ◌≤◌, ◌<◌, ◌+◌, take, drop, ◌∷◌, [], ◌++◌, true, length, OnOk, OnErr, IfOk, IfSome, IfNone, replicate};
+ghost use Rattle.pi_enqueue.specs.Lists.{AreEmpty, is_listed, StayListed};
 
 use model_enqueue::Holder;
 use std::alloc::Global;
@@ -51,6 +51,27 @@ impl Held {
     {
         self.resources.pop()
     }
+
+    /// Whether there is none.
+    pub fn is_empty(&self) -> bool
+        ensures { result ≡ true → self.now ≡ [] }
+    {
+        self.resources.is_empty()
+    }
+
+    /// How many resources these are.
+    pub fn len(&self) -> usize
+        ensures { result ≡ length self.now }
+    {
+        self.resources.len()
+    }
+
+    /// Takes all out. This takes no memory.
+    pub fn clear(&mut self)
+        ensures { self.new ≡ [] }
+    {
+        self.resources.clear();
+    }
 }
 
 /// A list for each region, with nothing on it.
@@ -74,4 +95,26 @@ pub fn list(lists: &mut Vec<Held>, holder: &Holder) -> Result<(), Memory>
 {
     let place = (holder.region - 1) as usize;
     lists[place].push(holder.resource)
+}
+
+/// Whether all lists but the one at this place are empty.
+pub fn are_others_empty(lists: &[Held], own: usize) -> bool
+    requires { own < length lists.now }
+    ensures { result ≡ true → AreEmpty (take own lists.now) × AreEmpty (drop (own + 1) lists.now) }
+{
+    if !are_empty(&lists[..own]) {
+        return false;
+    }
+    are_empty(&lists[own + 1..])
+}
+
+fn are_empty(lists: &[Held]) -> bool
+    ensures { result ≡ true → AreEmpty lists.now }
+{
+    for list in lists {
+        if !list.is_empty() {
+            return false;
+        }
+    }
+    true
 }

@@ -1,15 +1,16 @@
 //! Holders with the modes in which they hold.
-ghost use Rattle.std.specs.Prelude.{◌≡◌, ◌==◌, ◌&&◌, ◌≤◌, ◌++◌, ◌∷◌, [], None, true, false, not, length, filter, map, slice_get, OnOk, OnErr};
+ghost use Rattle.std.specs.Prelude.{◌≡◌, ◌==◌, ◌&&◌, ◌≤◌, ◌++◌, ◌∷◌, [], None, true, false, not, length, filter, map, slice_get, IfOk, OnOk, OnErr, ◌<◌};
 ghost use Rattle.std.specs.Option.{option_map_or};
 ghost use Rattle.std.specs.List.{AllByRecursion, list_any};
 ghost use Rattle.std.specs.List.Sorted.{IsStrictlySortedBy};
 ghost use Rattle.std.specs.BTreeMap.{insert_entry, is_at};
+ghost use Rattle.std.specs.Vec.{vec_len, vec_capacity};
 ghost use Rattle.std.specs.Map.{keys_of, lookup, remove_entry, set_value};
 ghost use Rattle.model_enqueue.specs.Modes.{excludes, serves, holder_cmp};
 ghost use Rattle.model_enqueue.specs.Table.{mode_held, holders_against, holds_of};
 ghost use Rattle.model_enqueue.specs.Ask.{asker, with_hold};
 ghost use Rattle.pi_enqueue.specs.Grant.{with_holds};
-ghost use Rattle.pi_enqueue.specs.Lists.{IsUpTo, is_on, is_listed, AreListed, StayListed, with_mode, before_all};
+ghost use Rattle.pi_enqueue.specs.Lists.{IsUpTo, is_on, is_listed, AreListed, StayListed, with_mode, before_all, is_more};
 
 use crate::held::{Held, list};
 use model_enqueue::{Holder, Request};
@@ -136,24 +137,54 @@ pub fn lowest(holds: &BTreeMap<Holder, Mode>, last: u32, resource: &Resource) ->
     }
 }
 
-/// The holder has this mode. Only a new holder may want memory.
-pub fn set_mode(
+// The holder has this mode, and the one that it had is told. Only a new holder may want memory.
+fn set_mode(
     holds: &mut BTreeMap<Holder, Mode>,
     holder: Holder,
     mode: Mode,
-) -> Result<(), Memory>
+) -> Result<Option<Mode>, Memory>
     ensures ok { OnOk result (holds.new.entries ≡ insert_entry holder_cmp holds.old.entries holder mode) }
+    ensures told { IfOk result (λ before. before ≡ lookup (is_at (holder_cmp holder)) holds.old.entries) }
     ensures err { OnErr result (holds.new.entries ≡ holds.old.entries) }
-    ensures absent { OnErr result (lookup (is_at (holder_cmp holder)) holds.old.entries ≡ None) }
-    ensures ordered { IsStrictlySortedBy holder_cmp (keys_of holds.new.entries) }
+    ensures was_ordered { IsStrictlySortedBy holder_cmp (keys_of holds.old.entries) }
 {
     let Holder { resource, region } = holder;
     let Resource { db, root } = resource;
     let resource = Resource { db, root };
+    let _count = holds.len();
     match holds.insert(Holder { resource, region }, mode) {
-        Ok(_) => Ok(()),
+        Ok(before) => Ok(before),
         Err(_) => Err(Memory),
     }
+}
+
+// Whether a holder had a stronger mode than this one.
+fn is_more(before: Option<Mode>, mode: Mode) -> bool
+    ensures { result ≡ is_more before mode }
+{
+    match (before, mode) {
+        (Some(Mode::Exclusive), Mode::Shared) => true,
+        (Some(Mode::Exclusive), Mode::Exclusive) => false,
+        (Some(Mode::Shared), _) => false,
+        (None, _) => false,
+    }
+}
+
+// The region holds what it asks for too, and the mode in which it held that is told. Only a new holder
+// may want memory.
+fn strengthen(holds: &mut BTreeMap<Holder, Mode>, request: &Request) -> Result<Option<Mode>, Memory>
+    ensures ok { OnOk result (holds.new.entries ≡ with_hold request.now holds.old.entries) }
+    ensures told { IfOk result (λ before. before ≡ mode_held request.now holds.old.entries) }
+    ensures err { OnErr result (holds.new.entries ≡ holds.old.entries) }
+    ensures was_ordered { IsStrictlySortedBy holder_cmp (keys_of holds.old.entries) }
+{
+    let holder = asker(request);
+    let before = set_mode(holds, asker(request), request.mode)?;
+    if is_more(before, request.mode) {
+        give_mode(holds, &holder, before);
+        return Ok(before);
+    }
+    Ok(before)
 }
 
 /// Whether this is the same mode as the one asked for, or a stronger one.
@@ -234,14 +265,19 @@ fn hold(
     ensures stay { StayListed lists.old.items lists.new.items }
     ensures all { length lists.new.items ≡ length lists.old.items }
 {
-    let mode = mode_held(holds, request);
-    if is_served(mode, request.mode) {
-        return Ok(());
-    }
+    changes.reserve(1)?;
+    let before = strengthen(holds, request)?;
     let holder = asker(request);
-    list_new(lists, &holder, mode)?;
-    note(changes, &holder, mode)?;
-    set_mode(holds, holder, request.mode)
+    match list_new(lists, &holder, before) {
+        Ok(()) => {
+            note(changes, &holder, before);
+            Ok(())
+        }
+        Err(error) => {
+            give_mode(holds, &holder, before);
+            Err(error)
+        }
+    }
 }
 
 // Puts a holder that had no mode before on the list of its region.
@@ -258,20 +294,18 @@ fn list_new(lists: &mut Vec<Held>, holder: &Holder, mode: Option<Mode>) -> Resul
     }
 }
 
-// Adds a change behind the others.
-fn note(changes: &mut Vec<Change>, holder: &Holder, mode: Option<Mode>) -> Result<(), Memory>
-    ensures ok { OnOk result (changes.new.items ≡ changes.old.items ++ (record { holder = holder.now; mode = mode }) ∷ []) }
-    ensures err { OnErr result (changes.new.items ≡ changes.old.items) }
+// Adds a change behind the others, where there is room.
+fn note(changes: &mut Vec<Change>, holder: &Holder, mode: Option<Mode>)
+    requires { vec_len changes.old < vec_capacity changes.old }
+    ensures { changes.new.items ≡ changes.old.items ++ (record { holder = holder.now; mode = mode }) ∷ [] }
 {
     let Holder { resource, region } = *holder;
     let Resource { db, root } = resource;
     let resource = Resource { db, root };
-    changes.reserve(1)?;
     changes.push_reserved(Change {
         holder: Holder { resource, region },
         mode,
     });
-    Ok(())
 }
 
 /// Takes these changes back, the last one first.
@@ -279,17 +313,17 @@ pub fn take_back(holds: &mut BTreeMap<Holder, Mode>, changes: &mut Vec<Change>)
     ensures { holds.new.entries ≡ before_all changes.old.items holds.old.entries }
 {
     while let Some(change) = changes.pop() {
-        give_mode(holds, &change);
+        give_mode(holds, &change.holder, change.mode);
     }
 }
 
-// The holder has the mode that it had before the change.
-fn give_mode(holds: &mut BTreeMap<Holder, Mode>, change: &Change)
-    ensures { holds.new.entries ≡ with_mode change.now.mode change.now.holder holds.old.entries }
+// The holder has the mode that it had before, or none.
+fn give_mode(holds: &mut BTreeMap<Holder, Mode>, holder: &Holder, before: Option<Mode>)
+    ensures { holds.new.entries ≡ with_mode before holder.now holds.old.entries }
 {
-    match change.mode {
-        Some(mode) => reset(holds, &change.holder, mode),
-        None => remove(holds, &change.holder),
+    match before {
+        Some(mode) => reset(holds, holder, mode),
+        None => remove(holds, holder),
     }
 }
 
@@ -309,9 +343,21 @@ pub fn release(holds: &mut BTreeMap<Holder, Mode>, list: &mut Held, region: u32)
     ensures holds { holds.new.entries ≡ filter (λ hold. not (hold.0.region == region)) holds.old.entries }
     ensures list { list.new ≡ [] }
 {
+    if list.len() >= holds.len() / 8 {
+        leave_others(holds, region);
+        list.clear();
+        return;
+    }
     while let Some(resource) = list.pop() {
         remove(holds, &Holder { resource, region });
     }
+}
+
+// Just the holds of other regions stay.
+fn leave_others(holds: &mut BTreeMap<Holder, Mode>, region: u32)
+    ensures { holds.new.entries ≡ filter (λ hold. not (hold.0.region == region)) holds.old.entries }
+{
+    holds.retain(|holder, _mode| holder.region != region);
 }
 
 fn remove(holds: &mut BTreeMap<Holder, Mode>, holder: &Holder)

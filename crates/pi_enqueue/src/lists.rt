@@ -5,11 +5,12 @@ ghost use Rattle.std.specs.Option.{option_and_then, option_copied, option_map};
 ghost use Rattle.std.specs.Map.{keys_of};
 ghost use Rattle.model_enqueue.specs.Table.{empty_table, ahead, blockers, blocked_by, wait_of};
 ghost use Rattle.model_enqueue.specs.Ask.{waiting, waits_only_for, waits_for_nothing, released, after_asks, first_blocked};
+ghost use Rattle.model_enqueue.specs.declared.request.Request.{Request};
 ghost use Rattle.model_enqueue.specs.Cycle.{IsRegion};
 ghost use Rattle.pi_enqueue.specs.Lists.{seen, IsUpTo, AreKept, AreListed, HasRoom};
 ghost use Rattle.pi_enqueue.specs.Grant.{AreFree, granted_all, told};
 
-use crate::held::{Held, empty_lists};
+use crate::held::{Held, are_others_empty, empty_lists};
 use crate::holds::{first_against, hold_all, is_against, is_served, mode_held, release};
 use crate::queue::{self, end_each, end_others, end_waits, first_ahead, is_ahead, place};
 use crate::table::Blocked;
@@ -123,13 +124,38 @@ impl Lists {
         }
     }
 
-    /// Where these requests stop.
-    pub fn stop_of(&self, requests: &[Request]) -> Option<Stop>
-        requires { AllByRecursion (IsUpTo self.now.regions) (keys_of self.now.holds.entries) }
+    // Whether nobody waits, and no other region holds anything: then nothing that the region asks for is
+    // blocked.
+    fn is_alone(&self, region: u32) -> bool
+        requires first { 1 ≤ region }
+        requires last { region ≤ length self.now.held.items }
+        requires small { AllByRecursion (IsUpTo self.now.regions) (keys_of self.now.holds.entries) }
+        requires listed { AreListed self.now.held.items self.now.holds.entries }
+        ensures { result ≡ true → (request : Request) → request.region ≡ region → blocked_by request (seen self.now) ≡ None }
+    {
+        if !self.upgrades.is_empty() {
+            return false;
+        }
+        if !self.waits.is_empty() {
+            return false;
+        }
+        are_others_empty(&self.held, region as usize - 1)
+    }
+
+    /// Where these requests of the region stop.
+    pub fn stop_of(&self, region: u32, requests: &[Request]) -> Option<Stop>
+        requires first { 1 ≤ region }
+        requires last { region ≤ length self.now.held.items }
+        requires own { AllByRecursion (λ request. request.region ≡ region) requests.now }
+        requires small { AllByRecursion (IsUpTo self.now.regions) (keys_of self.now.holds.entries) }
+        requires listed { AreListed self.now.held.items self.now.holds.entries }
         ensures before { IfSome result (λ stop. AreFree (take stop.place requests.now) (seen self.now)) }
         ensures here { IfSome result (λ stop. option_and_then (λ request. blocked_by request (seen self.now)) (slice_get requests.now stop.place) ≡ Some stop.by) }
         ensures none { IfNone result (AreFree requests.now (seen self.now)) }
     {
+        if self.is_alone(region) {
+            return None;
+        }
         for (place, request) in requests.iter().enumerate() {
             match self.blocked_by(request) {
                 Some(by) => return Some(Stop { place, by }),
@@ -229,7 +255,7 @@ impl Lists {
         ensures listed { AreListed self.new.held.items self.new.holds.entries }
         ensures all { length self.new.held.items ≡ length self.old.held.items }
     {
-        match self.stop_of(requests) {
+        match self.stop_of(region, requests) {
             Some(stop) => self.ask_up_to(region, requests, stop),
             None => {
                 self.grant_all(region, requests)?;

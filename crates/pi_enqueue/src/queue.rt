@@ -77,6 +77,9 @@ pub fn end_each(waiters: &mut Vec<Request>, requests: &[Request])
     ensures room { vec_capacity waiters.new ≡ vec_capacity waiters.old }
     ensures bound { vec_len waiters.new ≤ vec_len waiters.old }
 {
+    if waiters.is_empty() {
+        return;
+    }
     for request in requests {
         end_wait(waiters, request);
     }

@@ -112,7 +112,7 @@ impl Table {
         requires own { AllByRecursion (λ request. request.region ≡ region) requests.now }
         ensures { result ≡ option_map told (first_blocked requests.now self.now) }
     {
-        match self.lists.stop_of(requests) {
+        match self.lists.stop_of(region, requests) {
             Some(stop) => Some(told(&requests[stop.place], stop.by)),
             None => None,
         }

@@ -1,7 +1,7 @@
 -- What was made, or waits, is done.
-use Rattle.std.proofs.Common.{◌≡◌, ℕ, ◌-◌, ◌≤◌, List, sym, ◌∙◌, ap, subst, map, length, Option, None, Some, Result, Ok, Err}
+use Rattle.std.proofs.Common.{◌≡◌, ℕ, ◌-◌, ◌≤◌, List, refl, sym, ◌∙◌, ap, subst, map, length, Option, None, Some, Result, Ok, Err}
 use Rattle.std.specs.List.{slice_get}
-use Rattle.std.specs.Prelude.{IfSome, IfOk, OnOk}
+use Rattle.std.specs.Prelude.{IfSome, IfOk, OnOk, is_some, not, Bool, true, false}
 use Rattle.tm_types.specs.declared.dbd.Dbd.{Dbd}
 use Rattle.tm_types.specs.Segment.{IsSegmentText}
 use Rattle.model_rows.specs.declared.row.Row.{Row}
@@ -22,7 +22,7 @@ use Rattle.program_rows.specs.State.{rows_in, rows_of}
 use Rattle.program_rows.specs.Isolation.{request_of}
 use Rattle.program_rows.specs.Calling.{IsDone}
 use Rattle.program_rows.specs.Open.{records_of, AreUnits}
-use Rattle.program_rows.specs.Making.{IsSame, WaitsAt, IsEdited, LeadsTo, Makes}
+use Rattle.program_rows.specs.Making.{IsSame, Reads, WaitsAt, IsEdited, LeadsTo, Makes}
 use Rattle.program_rows.specs.declared.answer.Answered as answer
 use Rattle.program_rows.specs.declared.answer.DataAnswer.{DataAnswer}
 use Rattle.program_rows.specs.declared.answer.DataAnswer.TheVariants.{Answered, Abend, Blocked}
@@ -31,6 +31,11 @@ use Rattle.program_rows.specs.declared.opened.Opened.{Opened}
 use Rattle.program_rows.proofs.Called.{waits, reads, sets, set_open, leads}
 use Rattle.program_rows.proofs.Followed.{follows, follow_units}
 use Rattle.program_rows.proofs.Setting.{rows_at_is}
+
+-- where there is no value there is none
+pub is_none_is : {A : Type 0} (o : Option A) (b : Bool) → is_some o ≡ not b → b ≡ true → o ≡ None
+is_none_is None b e h = refl
+is_none_is (Some x) b e h = let clash : true ≡ false = e ∙ ap not h in absurd (cc)
 
 module _ (o : Opened) (h : AreUnits (records_of o.units.items) o.stores.stores o.table) (region number : ℕ) (first : 1 ≤ region) (last : region ≤ length (records_of o.units.items)) (least : 1 ≤ number)
     (dbd : Dbd) (call : DbCall) (at : Position) (position : IsPosition dbd.types at) (ok : IsDbCall dbd.types call) (s : Stored) (there : slice_get o.stores.stores (number - 1) ≡ Some s) (same_dbd : s.dbd ≡ dbd)
@@ -128,3 +133,18 @@ module _ (o : Opened) (h : AreUnits (records_of o.units.items) o.stores.stores o
         by (Answered b) k = answered b k.status k.area k.position p.edit planned is_there k.edited
         by (Abend code) k = led code p.edit planned k.0 k.1
         by (Blocked b) k = absurd k
+
+    -- a call that changes no record, and was answered or waits
+    pub read_done : (r : Result DataAnswer E) (asked : Asked) (p : Planned) → asked.region ≡ region → asked.number ≡ number
+        → asked.requests.items ≡ map (request_of region number) (footprint dbd call at (rows_of_slots s.slots))
+        → Plans dbd (rows_of_slots s.slots) (dli dbd call at (rows_of_slots s.slots)) p → IfSome p.area IsSegmentText → IsThere (rows_of_slots s.slots) p.edit → IsPosition dbd.types p.position
+        → p.edit ≡ None → records_of new.units.items ≡ records_of o.units.items → new.stores.stores ≡ o.stores.stores → IfOk r (Reads asked.requests.items o.table p)
+        → OnOk r (new.table ≡ after_asks asked.region asked.requests.items o.table) → IsKept new.table
+        → IfOk r (IsDone region number dbd call at o new)
+    read_done (Err x) asked p er en eq plans text exists stands none u st w t kept = tt
+    read_done (Ok (Abend code)) asked p er en eq plans text exists stands none u st w t kept = absurd w
+    read_done (Ok (Blocked b)) asked p er en eq plans text exists stands none u st w t kept =
+        waited (Ok (Blocked b)) asked.requests.items eq u st w (t ∙ ap (λ n. after_asks n asked.requests.items o.table) er) kept
+    read_done (Ok (Answered a)) asked p er en eq plans text exists stands none u st w t kept =
+        made (Ok (Answered a)) asked p er en eq w.free plans text exists stands
+        (record { status = w.status; area = w.area; position = w.position; edited = subst (IsEdited asked dbd o new) (sym none) (record { units = u; stores = st; asks = record { table = t; kept = kept } }) })

@@ -47,6 +47,19 @@ WaitsAt requests table (Answered a) = ⊥
 WaitsAt requests table (Abend code) = ⊥
 WaitsAt requests table (Blocked b) = told_blocked (first_blocked requests table) ≡ Some (b.resource, b.by)
 
+-- nothing of these requests is blocked, and the plan is answered
+pub record ReadsAs (requests : List Request) (table : EnqueueTable) (p : Planned) (a : answer.Answered) : Type 0 where
+  pub free : first_blocked requests table ≡ None
+  pub status : a.status ≡ p.status
+  pub area : a.area ≡ p.area
+  pub position : a.position ≡ p.position
+
+-- or the region waits
+abbrev pub Reads : List Request → EnqueueTable → Planned → DataAnswer → Type 0
+Reads requests table p (Answered a) = ReadsAs requests table p a
+Reads requests table p (Abend code) = ⊥
+Reads requests table p (Blocked b) = told_blocked (first_blocked requests table) ≡ Some (b.resource, b.by)
+
 -- the record of an edit takes this slot, within the limits of the database
 pub record TakesSlot (s : Stored) (e : Edit) (slot : ℕ) : Type 0 where
   pub valid : AreSlots s.dbd s.slots

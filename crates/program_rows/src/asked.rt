@@ -5,9 +5,10 @@ ghost use Rattle.model_enqueue.specs.Ask.{after_asks, first_blocked};
 ghost use Rattle.model_enqueue.specs.Cycle.{IsRegion};
 ghost use Rattle.pi_enqueue.specs.Kept.{IsKept};
 ghost use Rattle.program_rows.specs.Isolation.{request_of};
-ghost use Rattle.program_rows.specs.Making.{WaitsAt};
+ghost use Rattle.program_rows.specs.Making.{Reads, WaitsAt};
 
-use crate::{Blocked, DataAnswer};
+use crate::{Answered, Blocked, DataAnswer};
+use dli_calls::Planned;
 use model_dli::Need;
 use pi_enqueue::{Request, Table};
 use std::alloc::Global;
@@ -61,6 +62,32 @@ fn request_of(region: u32, number: u8, need: &Need) -> Request
             root: need.root,
         },
         mode: need.mode,
+    }
+}
+
+/// A call that changes no record is answered as planned; where what it asks for is blocked, the region
+/// waits.
+pub fn read(asked: &Asked, planned: Planned, table: &mut Table) -> Result<DataAnswer, Memory>
+    requires region { IsRegion table.old asked.now.region }
+    requires own { AllByRecursion (λ request. request.region ≡ asked.now.region) asked.now.requests.items }
+    ensures reads { IfOk result (Reads asked.now.requests.items table.old planned) }
+    ensures table { OnOk result (table.new ≡ after_asks asked.now.region asked.now.requests.items table.old) }
+    ensures held { IsKept table.new }
+    ensures kept { OnErr result (table.new ≡ table.old) }
+{
+    let waited = table.ask_all(asked.region, &asked.requests);
+    let _regions = table.regions();
+    match waited {
+        Ok(Some(blocked)) => Ok(DataAnswer::Blocked(Blocked {
+            resource: blocked.resource,
+            by: blocked.by,
+        })),
+        Ok(None) => Ok(DataAnswer::Answered(Answered {
+            status: planned.status,
+            area: planned.area,
+            position: planned.position,
+        })),
+        Err(error) => Err(error),
     }
 }
 

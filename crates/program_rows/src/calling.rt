@@ -5,10 +5,10 @@ ghost use Rattle.program_rows.specs.Calling.{IsDone};
 ghost use Rattle.program_rows.specs.Making.{IsOpen, IsSame};
 
 use crate::DataAnswer;
-use crate::asked::{asked_for, wait};
+use crate::asked::{asked_for, read, wait};
 use crate::making::make;
 use crate::opened::Opened;
-use dli_calls::{needs, plan};
+use dli_calls::plan_needed;
 use model_dli::{DbCall, Position};
 use std::alloc::Global;
 use tm_types::{Dbd, Memory};
@@ -39,9 +39,12 @@ pub fn call(
     ensures done { IfOk result (IsDone region number dbd.now call.now at.now opened.old opened.new) }
     ensures kept { OnErr result (IsSame opened.old opened.new) }
 {
-    let store = opened.stores.store(number);
-    let needs = needs(alloc, dbd, call, at, store)?;
-    let asked = asked_for(alloc, region, number, needs.as_slice())?;
+    let needed = plan_needed(alloc, dbd, call, at, opened.stores.store(number))?;
+    let asked = asked_for(alloc, region, number, needed.needs.as_slice())?;
+    let planned = needed.planned;
+    if planned.edit.is_none() {
+        return read(&asked, planned, &mut opened.table);
+    }
     if opened
         .table
         .first_blocked(region, &asked.requests)
@@ -49,6 +52,5 @@ pub fn call(
     {
         return wait(&asked, &mut opened.table);
     }
-    let planned = plan(alloc, dbd, call, at, opened.stores.store(number))?;
     make(alloc, dbd, &asked, planned, opened)
 }

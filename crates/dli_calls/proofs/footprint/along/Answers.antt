@@ -1,14 +1,16 @@
 use Rattle.std.proofs.Common.{◌<◌, ◌++◌, ◌∷◌, [], Some, sym, subst, ap, ◌∙◌, append_assoc}
 use Rattle.std.specs.Option.{option_copied}
+use Rattle.std.specs.Prelude.{is_some}
 use Rattle.std.proofs.lemmas.List.{append-nil}
 use Rattle.tm_types.specs.declared.resource.Mode.TheVariants.{Shared}
 use Rattle.model_rows.specs.Rows.{roots, AreRows}
 use Rattle.model_dli.specs.Footprint.{record_need, sequence_need}
+use Rattle.model_dli.specs.Search.{first_after}
 use Rattle.row_search.specs.Walk.{roots_left}
 use Rattle.row_search.proofs.Needing.{walk, next_fits}
 use Rattle.row_search.proofs.Walking.{fewer_left}
-use Rattle.dli_calls.specs.Along.{keys_behind, keys_from}
-use Rattle.dli_calls.proofs.Naming.{next_keys, walk_ends, walk_goes, closes, goes}
+use Rattle.dli_calls.specs.Along.{keys_behind, keys_from, records_of}
+use Rattle.dli_calls.proofs.Naming.{next_keys, walk_ends, walk_goes, records_end, records_go, closes, goes}
 use Rattle.dli_calls.proofs.footprint.along.Goals as goal
 
 pub loop-next-init : goal.loop-next-init
@@ -20,10 +22,13 @@ loop-next-init g c =
       named = ap (λ keys. c.push.new.self ++ walk (next_fits c.args.dbd.now c.args.ssas.now (option_copied c.args.place)) c.args.mode rows keys)
           (ap (λ o. keys_from o (roots rows)) c.next_root-next.ensures.value
           ∙ next_keys c.args.dbd.now c.as_slice-hierarchy.ensures.valid rows valid (option_copied c.args.after));
+      found = ap (λ keys. first_after c.args.dbd.now.types c.args.ssas.now (option_copied c.args.place) (records_of keys rows))
+          (ap (λ o. keys_from o (roots rows)) c.next_root-next.ensures.value
+          ∙ next_keys c.args.dbd.now c.as_slice-hierarchy.ensures.valid rows valid (option_copied c.args.after));
     }
 
-pub returns-then-has_next-clause-named : goal.returns-then-has_next-clause-named
-returns-then-has_next-clause-named g c =
+pub returns-in-Some-first_in_record-clause-named : goal.returns-in-Some-first_in_record-clause-named
+returns-in-Some-first_in_record-clause-named g c =
     let rows = g.R.Rows.rows c.args.rows.now in
     let test = next_fits c.args.dbd.now c.args.ssas.now (option_copied c.args.place) in
     closes c.loop-next.needs c.push-in-Some.new.self (walk test c.args.mode rows (keys_from c.loop-next.next (roots rows))) _ (record_need c.args.mode c.in-Some.root)
@@ -33,7 +38,21 @@ returns-then-has_next-clause-named g c =
     ∙ append_assoc c.args.needs.now (sequence_need Shared ∷ []) (walk test c.args.mode rows (keys_behind (option_copied c.args.after) (roots rows)))))
     (ap (λ o. walk test c.args.mode rows (keys_from o (roots rows))) c.in-Some.is
     ∙ walk_ends c.args.dbd.now c.as_slice-hierarchy.ensures.valid rows c.loop-next.invariant.valid c.args.ssas.now (option_copied c.args.place) c.args.mode c.in-Some.root
-    (sym c.has_next.ensures.value ∙ c.if-has_next.true))
+    (ap is_some (sym c.in-Some-first_in_record.ensures.value)))
+
+pub returns-in-Some-first_in_record-clause-found : goal.returns-in-Some-first_in_record-clause-found
+returns-in-Some-first_in_record-clause-found g c =
+    let rows = g.R.Rows.rows c.args.rows.now in
+    sym (records_end c.args.dbd.now c.as_slice-hierarchy.ensures.valid rows c.loop-next.invariant.valid c.args.ssas.now (option_copied c.args.place) c.args.mode c.in-Some.root
+    c.in-Some-first_in_record.row.now (sym c.in-Some-first_in_record.ensures.value))
+    ∙ (ap (λ o. first_after c.args.dbd.now.types c.args.ssas.now (option_copied c.args.place) (records_of (keys_from o (roots rows)) rows)) (sym c.in-Some.is)
+    ∙ c.loop-next.invariant.found)
+
+pub returns-clause-found : goal.returns-clause-found
+returns-clause-found g c =
+    let rows = g.R.Rows.rows c.args.rows.now in
+    sym (ap (λ o. first_after c.args.dbd.now.types c.args.ssas.now (option_copied c.args.place) (records_of (keys_from o (roots rows)) rows)) c.in_default.is)
+    ∙ c.loop-next.invariant.found
 
 pub loop-next-smaller : goal.loop-next-smaller
 loop-next-smaller g c =
@@ -56,8 +75,14 @@ loop-next-preserved g c =
           c.loop-next.invariant.named
           (ap (λ o. walk test c.args.mode rows (keys_from o (roots rows))) c.in-Some.is
           ∙ (walk_goes c.args.dbd.now c.as_slice-hierarchy.ensures.valid rows c.loop-next.invariant.valid c.args.ssas.now (option_copied c.args.place) c.args.mode c.in-Some.root
-          (sym c.has_next.ensures.value ∙ c.if-has_next.false)
+          (ap is_some (sym c.in_default-first_in_record.ensures.value))
           ∙ ap (λ o. record_need c.args.mode c.in-Some.root ∷ walk test c.args.mode rows (keys_from o (roots rows))) (sym c.next_root-next-in-Some.ensures.value)));
+      found =
+          ap (λ o. first_after c.args.dbd.now.types c.args.ssas.now (option_copied c.args.place) (records_of (keys_from o (roots rows)) rows)) c.next_root-next-in-Some.ensures.value
+          ∙ (records_go c.args.dbd.now c.as_slice-hierarchy.ensures.valid rows c.loop-next.invariant.valid c.args.ssas.now (option_copied c.args.place) c.args.mode c.in-Some.root
+          (sym c.in_default-first_in_record.ensures.value)
+          ∙ (ap (λ o. first_after c.args.dbd.now.types c.args.ssas.now (option_copied c.args.place) (records_of (keys_from o (roots rows)) rows)) (sym c.in-Some.is)
+          ∙ c.loop-next.invariant.found));
     }
 
 pub returns-clause-named : goal.returns-clause-named

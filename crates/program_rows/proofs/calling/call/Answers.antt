@@ -13,7 +13,7 @@ use Rattle.seg_store.specs.Changed.{stored}
 use Rattle.program_rows.specs.State.{rows_of}
 use Rattle.program_rows.specs.Isolation.{request_of}
 use Rattle.program_rows.specs.Open.{records_of}
-use Rattle.program_rows.proofs.Doing.{waited, made}
+use Rattle.program_rows.proofs.Doing.{waited, made, read_done, is_none_is}
 use Rattle.program_rows.proofs.Makings.{none_told}
 use Rattle.program_rows.proofs.Setting.{is_stored, dbd_there, rows_at_is}
 use Rattle.program_rows.proofs.calling.call.Goals as goal
@@ -21,26 +21,49 @@ use Rattle.program_rows.proofs.calling.call.Goals as goal
 pub store-requires-clause-most : goal.store-requires-clause-most
 store-requires-clause-most c = is_stored c.args.number c.args.opened.now.stores.stores c.args.dbd.now c.requires.number c.requires.database
 
-pub plan-requires-clause-rows : goal.plan-requires-clause-rows
-plan-requires-clause-rows c = dbd_there c.args.opened.now.stores.stores (c.args.number - 1) (stored c.store.result.now) c.args.dbd.now c.store.ensures.stored_is c.requires.database
+pub plan_needed-requires-clause-rows : goal.plan_needed-requires-clause-rows
+plan_needed-requires-clause-rows c = dbd_there c.args.opened.now.stores.stores (c.args.number - 1) (stored c.store.result.now) c.args.dbd.now c.store.ensures.stored_is c.requires.database
+
+pub read-requires-clause-own : goal.read-requires-clause-own
+read-requires-clause-own c =
+    subst (λ n. AllByRecursion (λ (q : Request). q.region ≡ n) c.in_ok-asked.asked.requests.items) (sym c.in_ok-asked.ensures.region) c.in_ok-asked.ensures.own
+
+pub wait-requires-clause-own : goal.wait-requires-clause-own
+wait-requires-clause-own c =
+    subst (λ n. AllByRecursion (λ (q : Request). q.region ≡ n) c.in_ok-asked.asked.requests.items) (sym c.in_ok-asked.ensures.region) c.in_ok-asked.ensures.own
 
 pub make-requires-clause-own : goal.make-requires-clause-own
 make-requires-clause-own c =
     subst (λ n. AllByRecursion (λ (q : Request). q.region ≡ n) c.in_ok-asked.asked.requests.items) (sym c.in_ok-asked.ensures.region) c.in_ok-asked.ensures.own
 
+pub first_blocked-requires-clause-own : goal.first_blocked-requires-clause-own
+first_blocked-requires-clause-own c =
+    subst (λ qs. AllByRecursion (λ (q : Request). q.region ≡ c.args.region) qs) (sym c.deref.ensures.value) c.in_ok-asked.ensures.own
+
 pub make-requires-clause-there : goal.make-requires-clause-there
 make-requires-clause-there c =
     let rows = rows_at_is c.args.number c.args.opened.now.stores.stores (stored c.store.result.now) c.store.ensures.stored_is in
-    subst (λ n. IsThere (Rattle.program_rows.specs.State.rows_in n (rows_of c.args.opened.now.stores.stores)) c.in_ok-planned.planned.edit) (sym c.in_ok-asked.ensures.number)
-    (subst (λ (rs : List Row). IsThere rs c.in_ok-planned.planned.edit) (sym rows) c.in_ok-planned.ensures.there)
+    subst (λ n. IsThere (Rattle.program_rows.specs.State.rows_in n (rows_of c.args.opened.now.stores.stores)) c.in_ok-needed.needed.planned.edit) (sym c.in_ok-asked.ensures.number)
+    (subst (λ (rs : List Row). IsThere rs c.in_ok-needed.needed.planned.edit) (sym rows) c.in_ok-needed.ensures.there)
+
+pub returns-then-is_none-clause-done : goal.returns-then-is_none-clause-done
+returns-then-is_none-clause-done c =
+    let last : c.args.region ≤ length (records_of c.args.opened.now.units.items) = omega (arith, c.requires.last, length-map c.args.opened.now.units.items (λ (u : Changes). u.records)) in
+    let requests : c.in_ok-asked.asked.requests.items ≡ map (request_of c.args.region c.args.number) (footprint c.args.dbd.now c.args.call.now c.args.at.now (rows_of_slots c.store.result.now.slots)) =
+    c.in_ok-asked.ensures.requests ∙ ap (map (request_of c.args.region c.args.number)) (c.as_slice.ensures ∙ c.in_ok-needed.ensures.needs) in
+    read_done c.args.opened.now c.requires.open c.args.region c.args.number c.requires.first last c.requires.number c.args.dbd.now c.args.call.now c.args.at.now c.requires.position c.requires.call
+    (stored c.store.result.now) c.store.ensures.stored_is (dbd_there c.args.opened.now.stores.stores (c.args.number - 1) (stored c.store.result.now) c.args.dbd.now c.store.ensures.stored_is c.requires.database)
+    (record { units = c.args.opened.now.units; stores = c.args.opened.now.stores; table = c.read.new.table }) c.read.result c.in_ok-asked.asked c.in_ok-needed.needed.planned
+    c.in_ok-asked.ensures.region c.in_ok-asked.ensures.number requests c.in_ok-needed.ensures.planned (c.in_ok-needed.ensures.text c.requires.short) c.in_ok-needed.ensures.there
+    c.in_ok-needed.ensures.position (is_none_is c.in_ok-needed.needed.planned.edit c.is_none.result c.is_none.ensures c.if-is_none.true) refl refl c.read.ensures.reads c.read.ensures.table c.read.ensures.held
 
 pub returns-then-is_some-clause-done : goal.returns-then-is_some-clause-done
 returns-then-is_some-clause-done c =
     let last : c.args.region ≤ length (records_of c.args.opened.now.units.items) = omega (arith, c.requires.last, length-map c.args.opened.now.units.items (λ (u : Changes). u.records)) in
-    let requests : c.in_ok-asked.asked.requests.items ≡ map (request_of c.args.region c.args.number) (footprint c.args.dbd.now c.args.call.now c.args.at.now (rows_of_slots c.store-store.result.now.slots)) =
-    c.in_ok-asked.ensures.requests ∙ ap (map (request_of c.args.region c.args.number)) (c.as_slice.ensures ∙ c.in_ok-needs.ensures) in
+    let requests : c.in_ok-asked.asked.requests.items ≡ map (request_of c.args.region c.args.number) (footprint c.args.dbd.now c.args.call.now c.args.at.now (rows_of_slots c.store.result.now.slots)) =
+    c.in_ok-asked.ensures.requests ∙ ap (map (request_of c.args.region c.args.number)) (c.as_slice.ensures ∙ c.in_ok-needed.ensures.needs) in
     waited c.args.opened.now c.requires.open c.args.region c.args.number c.requires.first last c.requires.number c.args.dbd.now c.args.call.now c.args.at.now c.requires.position c.requires.call
-    (stored c.store-store.result.now) c.store-store.ensures.stored_is (dbd_there c.args.opened.now.stores.stores (c.args.number - 1) (stored c.store-store.result.now) c.args.dbd.now c.store-store.ensures.stored_is c.requires.database)
+    (stored c.store.result.now) c.store.ensures.stored_is (dbd_there c.args.opened.now.stores.stores (c.args.number - 1) (stored c.store.result.now) c.args.dbd.now c.store.ensures.stored_is c.requires.database)
     (record { units = c.args.opened.now.units; stores = c.args.opened.now.stores; table = c.wait.new.table }) c.wait.result c.in_ok-asked.asked.requests.items requests refl refl
     c.wait.ensures.waits (subst (λ n. Rattle.std.specs.Prelude.OnOk c.wait.result (c.wait.new.table ≡ Rattle.model_enqueue.specs.Ask.after_asks n c.in_ok-asked.asked.requests.items c.args.opened.now.table)) c.in_ok-asked.ensures.region c.wait.ensures.table)
     c.wait.ensures.held
@@ -48,15 +71,11 @@ returns-then-is_some-clause-done c =
 pub returns-clause-done : goal.returns-clause-done
 returns-clause-done c =
     let last : c.args.region ≤ length (records_of c.args.opened.now.units.items) = omega (arith, c.requires.last, length-map c.args.opened.now.units.items (λ (u : Changes). u.records)) in
-    let both : Some (stored c.store-store.result.now) ≡ Some (stored c.store.result.now) = sym c.store-store.ensures.stored_is ∙ c.store.ensures.stored_is in
-    let same : (stored c.store-store.result.now) ≡ (stored c.store.result.now) = cc in
     let requests : c.in_ok-asked.asked.requests.items ≡ map (request_of c.args.region c.args.number) (footprint c.args.dbd.now c.args.call.now c.args.at.now (rows_of_slots c.store.result.now.slots)) =
-    c.in_ok-asked.ensures.requests
-    ∙ (ap (map (request_of c.args.region c.args.number)) (c.as_slice.ensures ∙ c.in_ok-needs.ensures)
-    ∙ ap (λ (s : Rattle.seg_store.specs.Slots.Stored). map (request_of c.args.region c.args.number) (footprint c.args.dbd.now c.args.call.now c.args.at.now (rows_of_slots s.slots))) same) in
+    c.in_ok-asked.ensures.requests ∙ ap (map (request_of c.args.region c.args.number)) (c.as_slice.ensures ∙ c.in_ok-needed.ensures.needs) in
     let free : first_blocked c.in_ok-asked.asked.requests.items c.args.opened.now.table ≡ None =
     ap (λ qs. first_blocked qs c.args.opened.now.table) (sym c.deref.ensures.value) ∙ none_told c.first_blocked.result c.is_some.result (first_blocked c.deref.result.now c.args.opened.now.table) c.first_blocked.ensures c.is_some.ensures c.if-is_some.false in
     made c.args.opened.now c.requires.open c.args.region c.args.number c.requires.first last c.requires.number c.args.dbd.now c.args.call.now c.args.at.now c.requires.position c.requires.call
     (stored c.store.result.now) c.store.ensures.stored_is (dbd_there c.args.opened.now.stores.stores (c.args.number - 1) (stored c.store.result.now) c.args.dbd.now c.store.ensures.stored_is c.requires.database)
-    c.make.new.opened c.make.result c.in_ok-asked.asked c.in_ok-planned.planned c.in_ok-asked.ensures.region c.in_ok-asked.ensures.number requests free
-    c.in_ok-planned.ensures.planned (c.in_ok-planned.ensures.text c.requires.short) c.in_ok-planned.ensures.there c.in_ok-planned.ensures.position c.make.ensures.made
+    c.make.new.opened c.make.result c.in_ok-asked.asked c.in_ok-needed.needed.planned c.in_ok-asked.ensures.region c.in_ok-asked.ensures.number requests free
+    c.in_ok-needed.ensures.planned (c.in_ok-needed.ensures.text c.requires.short) c.in_ok-needed.ensures.there c.in_ok-needed.ensures.position c.make.ensures.made
