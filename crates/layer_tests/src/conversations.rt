@@ -65,10 +65,9 @@ fn a_conversation_from_its_beginning_to_its_end(rt: HostRuntime) -> Result<(), F
     assert!(rt; table.pad(&second).is_none());
     assert!(rt; goes_to(&table, &first, &queues, b"CONV"));
     assert!(rt; matches!(table.input(&second, &queues), Ok(None)));
-    let texts: [(&[u8], u8, &[u8]); 5] = [
+    let texts: [(&[u8], u8, &[u8]); 4] = [
         (b"CONV    AB", 0, b"CONV    AB    "),
         (b"CONV   ", 1, b"CONV    AB    "),
-        (b"        ", 2, b"CONV    AB    "),
         (b"CONVS   CD", 2, b"CONV    AB    "),
         (b"CONV    ABCDEFGH", 0, b"CONV    ABCDEF"),
     ];
@@ -82,5 +81,10 @@ fn a_conversation_from_its_beginning_to_its_end(rt: HostRuntime) -> Result<(), F
     table.end(&first);
     assert!(rt; table.pad(&first).is_none());
     assert!(rt; matches!(table.input(&first, &queues), Ok(None)));
+    // Blanks in the place of the code end a conversation.
+    table.begin(&second, &code, 6)?;
+    assert!(rt; has_pad(&table, &second, b"CONV          "));
+    assert_eq!(rt; updated(&mut table, &second, b"        AB"), 0);
+    assert!(rt; table.pad(&second).is_none());
     Ok(())
 }

@@ -1,12 +1,13 @@
 -- The text of a definition on a disk, and what a disk needs for its system.
-use Rattle.std.specs.Prelude.{◌≡◌, ℕ, zero, suc, ◌+◌, List, [], ◌∷◌, ◌++◌, All, length, take, slice_get, position, ◌==◌, if◌then◌else◌, Option, Some, None, IsTrue}
+use Rattle.std.specs.Prelude.{ℕ, zero, suc, ◌+◌, List, [], ◌∷◌, ◌++◌, length, map, take, ◌==◌, if◌then◌else◌, Option, Some, None, IsTrue}
 use Rattle.std.specs.Option.{option_map}
-use Rattle.std.specs.Str.{bytes_eq}
+use Rattle.std.specs.List.{list_all}
 use Rattle.model_disk.specs.Disk.{Image, sector_at}
 use Rattle.model_system.specs.System.{System}
 use Rattle.model_machine.specs.Machine.{first_setting}
 use Rattle.model_image.specs.Areas.{data_first}
 use Rattle.model_image.specs.States.{is_setting}
+use Rattle.snapshot_records.specs.Records.{AreApart}
 
 -- how many sectors a disk of the system has at least
 abbrev pub sectors_needed : System → ℕ
@@ -31,5 +32,5 @@ first_difference (a ∷ more) (b ∷ bs) = if a == b then option_map (λ n. suc 
 -- What the rules on a definition give besides: each terminal has a name of its own, and the classes and priorities of the
 -- codes lie in their ranges.
 pub record IsDefined (system : System) : Type 0 where
-  pub apart : (place : ℕ) (name : List ℕ) → slice_get system.terminals place ≡ Some name → position (λ other. bytes_eq other name) system.terminals ≡ Some place
-  pub settings : All (λ code. IsTrue (is_setting (first_setting code))) system.codes
+  pub apart : AreApart system.terminals
+  pub settings : IsTrue (list_all is_setting (map first_setting system.codes))
