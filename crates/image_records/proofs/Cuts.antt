@@ -37,15 +37,15 @@ same_fuel (suc f) zero [] are few more = empty (suc f)
 same_fuel (suc f) zero (b ∷ bytes) are few more = absurd (omega (arith, more))
 same_fuel (suc f) (suc g) bytes are few more =
     by_read (record_at bytes) refl (λ rest are_rest short shorter. same_fuel f g rest are_rest short shorter) where
-  by_read : (read : Result (Record × ℕ) (ℕ × ℕ)) → record_at bytes ≡ read →
-      ((rest : List ℕ) → IsBytes rest → length rest ≤ f → length rest ≤ g → cut_by f rest ≡ cut_by g rest) → from_first (cut_by f) bytes read ≡ from_first (cut_by g) bytes read
-  by_read (Err e) is later = refl
-  by_read (Ok x) is later =
-      let takes = record_takes bytes x are is in
-      let size = sizes bytes x.0 x.1 takes.0 takes.1 in
-      ap (and_others x.0)
-      (later (drop x.1 bytes) (IsBytes-drop x.1 bytes are)
-      (omega (arith, few, takes.0, size, length-drop x.1 bytes)) (omega (arith, more, takes.0, size, length-drop x.1 bytes)))
+      by_read : (read : Result (Record × ℕ) (ℕ × ℕ)) → record_at bytes ≡ read →
+          ((rest : List ℕ) → IsBytes rest → length rest ≤ f → length rest ≤ g → cut_by f rest ≡ cut_by g rest) → from_first (cut_by f) bytes read ≡ from_first (cut_by g) bytes read
+      by_read (Err e) is later = refl
+      by_read (Ok x) is later =
+          let takes = record_takes bytes x are is in
+          let size = sizes bytes x.0 x.1 takes.0 takes.1 in
+          ap (and_others x.0)
+          (later (drop x.1 bytes) (IsBytes-drop x.1 bytes are)
+          (omega (arith, few, takes.0, size, length-drop x.1 bytes)) (omega (arith, more, takes.0, size, length-drop x.1 bytes)))
 
 -- what is read is cut off first
 pub begins : (bytes : List ℕ) (x : Record × ℕ) → IsBytes bytes → (x.1 ≤ length bytes) × Spells (take x.1 bytes) x.0 → Begins bytes (Some x)
@@ -58,11 +58,13 @@ begins bytes x are takes =
     let read : record_at bytes ≡ Ok (x.0, record_length x.0) =
     ap record_at (sym (take-append-drop x.1 bytes)) ∙ ap (λ (front : List ℕ). record_at (front ++ rest)) takes.1.same ∙ record_again x.0 rest takes.1.is_record in
     let first : cut_by (length bytes) bytes ≡ and_others x.0 (cut_by n (drop (record_length x.0) bytes)) =
-    ap (λ k. cut_by k bytes) (sym one) ∙ ap (from_first (cut_by n) bytes) read in
-    (omega (arith, size), takes.0,
-    first
-    ∙ ap (λ k. and_others x.0 (cut_by n (drop k bytes))) (sym size)
-    ∙ ap (and_others x.0) (same_fuel n (length rest) rest (IsBytes-drop x.1 bytes are) (omega (arith, takes.0, size, length-drop x.1 bytes)) (omega arith)))
+    ap (λ k. cut_by k bytes) (sym one) ∙ ap (from_first (cut_by n) bytes) read in (
+      omega (arith, size),
+      takes.0,
+      first
+          ∙ ap (λ k. and_others x.0 (cut_by n (drop k bytes))) (sym size)
+          ∙ ap (and_others x.0) (same_fuel n (length rest) rest (IsBytes-drop x.1 bytes are) (omega (arith, takes.0, size, length-drop x.1 bytes)) (omega arith)),
+    )
 
 pub begins_none : (bytes : List ℕ) (fault : ℕ × ℕ) → record_at bytes ≡ Err fault → Begins bytes None
 unfolding cut_of

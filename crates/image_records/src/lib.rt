@@ -16,7 +16,7 @@ mod fault;
 mod judging;
 mod kept;
 mod order;
-mod rules;
 mod replay;
+mod rules;
 mod slots;
 mod snapshot;

@@ -194,7 +194,14 @@ fn is_before(r: &Record, other: &Record) -> bool
                 slot: other_slot,
                 ..
             },
-        ) => is_place_before(*unit, *database, *slot, *other_unit, *other_database, *other_slot),
+        ) => is_place_before(
+            *unit,
+            *database,
+            *slot,
+            *other_unit,
+            *other_database,
+            *other_slot,
+        ),
         _ => true,
     }
 }

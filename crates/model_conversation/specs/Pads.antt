@@ -1,6 +1,5 @@
 -- Scratch pads.
 use Rattle.std.specs.Prelude.{ℕ, ◌-◌, nat_lt, Bool, true, false, if◌then◌else◌, List, ◌++◌, Option, None, Some, length, take, replicate}
-
 use Rattle.std.specs.Str.{bytes_eq}
 use Rattle.model_conversation.specs.declared.conversation.Conversation.{Conversation}
 use Rattle.model_conversation.specs.declared.conversation.PadChange.{PadChange}

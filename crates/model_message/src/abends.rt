@@ -7,4 +7,5 @@ pub const ROLLED_BACK: u16 = 778;
 pub const WRONG_PAD: u16 = 904;
 
 const _: () = prove!(ROLLED_BACK == 778);
+
 const _: () = prove!(WRONG_PAD == 904);
