@@ -96,11 +96,15 @@ pub fn image(
     }
     put_restart(alloc, &mut disk, sectors)?;
     for (payload, place) in log.iter().zip(0..64u32) {
-        let spelled = log_sector(alloc, 4, 11 + place as u64, payload)?;
-        put(&mut disk, LOG_B + place, &spelled)?;
+        let spelled = log_sector(alloc, 4, (place as u64).saturating_add(11), payload)?;
+        put(&mut disk, LOG_B.saturating_add(place), &spelled)?;
     }
     for (bytes, place) in slots.iter().zip(0..2u32) {
-        put(&mut disk, DATA + place, &data_sector(alloc, bytes)?)?;
+        put(
+            &mut disk,
+            DATA.saturating_add(place),
+            &data_sector(alloc, bytes)?,
+        )?;
     }
     disk.sync()?;
     Ok(disk)

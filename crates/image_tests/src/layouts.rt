@@ -4,7 +4,13 @@ use log_sectors::{seal, unseal};
 use log_writer::LogWriter;
 use restart_data::{RestartSector, read_restart, write_restart, write_snapshot};
 use std::test::Fail;
-use tm_disk::{Disk, MemDisk};
+use tm_disk::{Disk, MemDisk, SECTOR_BYTES};
+
+// A log sector begins so, in epoch 1.
+const LOG_FRONT: &[u8] = b"IMSL\0\0\0\0\0\0\0\0\0\0\0\x01";
+
+// A snapshot's sector begins so, at checkpoint 258.
+const SNAPSHOT_FRONT: &[u8] = b"IMSS\0\0\0\0\0\0\0\0\0\0\x01\x02";
 
 #[test]
 fn the_restart_sector_of_a_cold_start(rt: HostRuntime) -> Result<(), Fail> {
@@ -50,7 +56,6 @@ fn the_first_sectors_of_a_log(rt: HostRuntime) -> Result<(), Fail> {
     assert_eq!(rt; log.force(&mut disk)?, 2);
     log.append(b"\0\x0f\x36\x01\x02T1\0\0\0\0\0\0\0\x01")?;
     assert_eq!(rt; log.force(&mut disk)?, 1);
-    let front = b"IMSL\0\0\0\0\0\0\0\0\0\0\0\x01";
     let rows: [(u32, &[u8], &[u8], &[u8]); 3] = [
         (2, b"\x01", b"\x0f\xe0", &long[..4064]),
         (3, b"\x02", b"\0\x01", b"x"),
@@ -63,7 +68,7 @@ fn the_first_sectors_of_a_log(rt: HostRuntime) -> Result<(), Fail> {
     ];
     for (at, sequence, used, payload) in rows {
         let fields: [&[u8]; 6] = [
-            front,
+            LOG_FRONT,
             b"\0\0\0\0\0\0\0",
             sequence,
             used,
@@ -86,14 +91,17 @@ fn the_sectors_of_a_snapshot(rt: HostRuntime) -> Result<(), Fail> {
         return Err("another snapshot".into());
     }
     assert_eq!(rt; write_snapshot(&mut disk, 2, 3, 0x0102, &bytes)?, 2);
-    let front = b"IMSS\0\0\0\0\0\0\0\0\0\0\x01\x02";
     let first: [&[u8]; 3] = [
-        front,
+        SNAPSHOT_FRONT,
         b"\0\0\0\0\0\0\0\0\x0f\xe0\0\0\0\0\0\0",
         &bytes[..4064],
     ];
     assert_eq!(rt; has(alloc, &mut disk, 2, &first)?, true);
-    let second: [&[u8]; 3] = [front, b"\0\0\0\0\0\0\0\x01\0\x02\0\0\0\0\0\0", b"yy"];
+    let second: [&[u8]; 3] = [
+        SNAPSHOT_FRONT,
+        b"\0\0\0\0\0\0\0\x01\0\x02\0\0\0\0\0\0",
+        b"yy",
+    ];
     assert_eq!(rt; has(alloc, &mut disk, 3, &second)?, true);
     assert_eq!(rt; has(alloc, &mut disk, 4, &[])?, true);
     Ok(())
@@ -113,6 +121,9 @@ fn log_sectors_with_a_byte_changed(rt: HostRuntime) -> Result<(), Fail> {
     assert_eq!(rt; whole == sector(alloc, &fields)?, true);
     // With one byte of payload fewer there are bytes behind it that aren't zeros.
     for place in [0, 3, 4, 7, 15, 23, 25, 26, 31, 34, 4095usize] {
+        if place >= SECTOR_BYTES {
+            return Err("no such place".into());
+        }
         let mut other = whole;
         other.set(place, b"\x01");
         assert_eq!(rt; unseal(&other, 4, 11).is_none(), true, "{place}");
