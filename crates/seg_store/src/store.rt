@@ -1,6 +1,7 @@
 //! The store of one database.
 ghost use Rattle.std.specs.Prelude.{◌≡◌, ◌↔◌, ◌*◌, ◌+◌, ◌≤◌, ◌<◌, ◌≢◌, ℕ, [], IfOk, IfErr, OnOk, OnErr, IsOk, IsTrue, None, Some, slice_get, slice_set, length};
 ghost use Rattle.std.specs.Vec.{vec_len};
+ghost use Rattle.std.specs.Option.{is_some};
 ghost use Rattle.model_rows.specs.Record.{IsRecord, IsLongRecord, record_limit};
 ghost use Rattle.model_rows.specs.Rows.{record_of, with_record, IsImage, AreRows};
 ghost use Rattle.seg_rows.specs.StoreRefused.{set_refusal};
@@ -69,6 +70,20 @@ impl Store {
         ensures { result ≡ self.now.dbd.roots }
     {
         self.dbd.roots
+    }
+
+    /// Whether there is a record with this root.
+    pub fn has_record(&self, root: &Key) -> bool
+        ensures { result ≡ is_some (slot_of root.now self.now.slots) }
+    {
+        slot_of(&self.index, root).is_some()
+    }
+
+    /// No slot counts as changed any more: what stands in the sectors is the caller's.
+    pub fn settle(&mut self)
+        ensures { self.new ≡ record self.old { changed = [] } }
+    {
+        self.changed.clear();
     }
 
     /// How many slots are changed.

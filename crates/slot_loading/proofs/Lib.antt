@@ -1,2 +1,5 @@
 pub mod Spelled
 mod Slotted
+mod SlotsRead
+mod Built
+mod Loaded

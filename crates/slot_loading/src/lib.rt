@@ -4,10 +4,16 @@
 //! sector spells, and which rules it may break, stands in `model_image`.
 #![tactic(auto)]
 
+pub use fault::LoadFault;
 pub use judging::{bytes_in, image_of};
+pub use loading::load;
 pub use slots::Slots;
 pub use writing::write_slots;
 
+mod building;
+mod fault;
 mod judging;
+mod loading;
+mod reading;
 mod slots;
 mod writing;
