@@ -1,15 +1,16 @@
-//! The records of an image: what a snapshot tells of what lasts, and what the log behind it then does.
+//! The records of an image, judged by the rules of an image.
 //!
-//! `read_records` reads a snapshot, `replay_log` the log. Each answers what the definition of an image (specs of `model_image`)
-//! says, or the lowest rule that is broken; how long they take goes by the bytes.
+//! Bytes are cut into records; their order, the terminals and codes of a snapshot, and the numbers, messages and replies of
+//! what lasts are judged as the definition of an image says (specs of `model_image`). What reading a snapshot and doing
+//! the log again are to answer stands in specs/Answers; these two calls aren't there yet.
 #![tactic(auto)]
 
 pub use fault::RecordsFault;
 pub use kept::Kept;
 pub use log_records::Record;
-pub use replay::{Replayed, replay_log};
+pub use replay::Replayed;
 pub use slots::NamedSlot;
-pub use snapshot::{Snapshot, read_records};
+pub use snapshot::Snapshot;
 
 mod cutting;
 mod fault;

@@ -1,15 +1,8 @@
-//! The records of a log, done again.
-ghost use Rattle.std.specs.Prelude.{List};
-ghost use Rattle.log_records.specs.declared.record.Record.{Record};
-ghost use Rattle.image_records.specs.Answers.{IsOf, TellsLog};
+//! What a snapshot and the log behind it come to.
 
-use crate::fault::RecordsFault;
 use crate::kept::Kept;
 use crate::slots::NamedSlot;
-use crate::snapshot::Snapshot;
-use std::alloc::Global;
 use std::marker::Model;
-use system_types::System;
 
 /// What a snapshot and the log behind it come to.
 #[derive(Debug, Drop)]
@@ -28,21 +21,4 @@ impl Model for Replayed {
     ghost Value = { ReplayedState };
 
     ghost view = { λ r. record { kept = r.kept; slots = r.slots.items; last_unit = r.last_unit } };
-}
-
-/// Does the records of a log again, from its bytes, on the state of the snapshot before it.
-///
-/// It is refused as `Bad(18)` exactly where the bytes end with anything but records and the front of one, and else as
-/// `Bad(19)` exactly where a record isn't of the log, is about what isn't there, has a number that isn't the next one, or
-/// leaves a state that breaks a rule. `Memory` comes from a refused growth alone.
-pub fn replay_log(
-    alloc: Global,
-    system: &System,
-    snapshot: Snapshot,
-    bytes: &[u8],
-) -> Result<Replayed, RecordsFault>
-    // This holds whatever records the snapshot was read from.
-    ensures { (records : List Record) → IsOf system.now records snapshot → TellsLog system.now records bytes.now result }
-{
-    Err(RecordsFault::Memory)
 }
