@@ -1,0 +1,5 @@
+pub mod Ranges
+pub mod Fronts
+pub mod Shapes
+pub mod CutOff
+pub mod Walk
