@@ -1,4 +1,8 @@
 //! `conversation`: a conversation that begins, goes on and ends.
+ghost use Rattle.std.specs.Prelude.{◌≡◌, ◌<◌, IfOk, is_some};
+ghost use Rattle.model_queues.specs.Room.{message_bytes};
+ghost use Rattle.model_conversation.specs.Terminals.{conversation_at};
+
 use conversation::{Busy, Conversations, PadRefused};
 use msg_queues::Queues;
 use std::alloc::Global;
@@ -6,7 +10,9 @@ use std::test::Fail;
 use tm_types::{Message, Name, Segment, Segments};
 
 /// A message of T1's conversation.
-fn message(alloc: Global, terminal: Name, code: Name) -> Result<Message, Fail> {
+fn message(alloc: Global, terminal: Name, code: Name) -> Result<Message, Fail>
+    ensures bytes { IfOk result (λ m. message_bytes m < 4096) }
+{
     let mut segments = Segments::new(alloc);
     segments.push(Segment::make(alloc, b"HI")?)?;
     Ok(Message {
@@ -42,8 +48,28 @@ fn has_pad(table: &Conversations, terminal: &Name, text: &[u8]) -> bool {
     }
 }
 
-/// The rule by which a text is refused as the terminal's pad; 0 where it is taken.
+/// A table in which the terminal has begun a conversation of the code, with 6 blanks, and another terminal has none.
+#[tactic(auto, using(crate::proofs::FirstTerminal::first_terminal, crate::proofs::FirstTerminal::first_without))]
+fn begun(alloc: Global, terminal: &Name, other: &Name, code: &Name) -> Result<Conversations, Fail> {
+    let mut table = Conversations::none(alloc, &[*terminal, *other])?;
+    table.begin(terminal, code, 6)?;
+    Ok(table)
+}
+
+/// Whether the terminal has a conversation.
+fn converses(table: &Conversations, terminal: &Name) -> bool
+    ensures { result ≡ is_some (conversation_at terminal.now table.now) }
+{
+    table.conversation(terminal).is_some()
+}
+
+/// The rule by which a text is refused as the terminal's pad; 0 where it is taken, and 8 where the terminal has no
+/// conversation.
+#[tactic(auto, using(crate::proofs::FirstTerminal::conversing_terminal))]
 fn updated(table: &mut Conversations, terminal: &Name, text: &[u8]) -> u8 {
+    if !converses(table, terminal) {
+        return 8;
+    }
     match table.update(terminal, text) {
         Ok(()) => 0,
         Err(PadRefused::BadSpa(rule)) => rule,
@@ -58,9 +84,9 @@ fn a_conversation_from_its_beginning_to_its_end(rt: HostRuntime) -> Result<(), F
     let second = Name::read(b"T2").ok_or("no name")?;
     let code = Name::read(b"CONV").ok_or("no name")?;
     let mut queues = Queues::new(alloc, 131_072);
-    let mut table = Conversations::none(alloc, &[first, second])?;
-    assert!(rt; table.pad(&first).is_none());
-    table.begin(&first, &code, 6)?;
+    let before = Conversations::none(alloc, &[first, second])?;
+    assert!(rt; before.pad(&first).is_none());
+    let mut table = begun(alloc, &first, &second, &code)?;
     assert!(rt; has_pad(&table, &first, b"CONV          "));
     assert!(rt; table.pad(&second).is_none());
     assert!(rt; goes_to(&table, &first, &queues, b"CONV"));
@@ -81,8 +107,17 @@ fn a_conversation_from_its_beginning_to_its_end(rt: HostRuntime) -> Result<(), F
     table.end(&first);
     assert!(rt; table.pad(&first).is_none());
     assert!(rt; matches!(table.input(&first, &queues), Ok(None)));
-    // Blanks in the place of the code end a conversation.
-    table.begin(&second, &code, 6)?;
+    Ok(())
+}
+
+// Blanks in the place of the code end a conversation.
+#[test]
+fn a_conversation_that_blanks_end(rt: HostRuntime) -> Result<(), Fail> {
+    let alloc = rt.alloc();
+    let first = Name::read(b"T1").ok_or("no name")?;
+    let second = Name::read(b"T2").ok_or("no name")?;
+    let code = Name::read(b"CONV").ok_or("no name")?;
+    let mut table = begun(alloc, &second, &first, &code)?;
     assert!(rt; has_pad(&table, &second, b"CONV          "));
     assert_eq!(rt; updated(&mut table, &second, b"        AB"), 0);
     assert!(rt; table.pad(&second).is_none());

@@ -62,6 +62,9 @@ fn start_conversation(alloc: Global) -> Result<Work, Fail> {
     let message = message(alloc, code, true, b"A")?;
     let pcbs = pcbs(alloc)?;
     let pad = Segment::make(alloc, b"CONV    COUNT1")?;
+    if pad.text().len() < 8 {
+        return Err("a short pad".into());
+    }
     Ok(Work::served_by(alloc, &transaction, &message, Some(pad.text()), &pcbs)?)
 }
 
