@@ -1,0 +1,63 @@
+-- What a life finds on the disk when it begins, and what a stop before that leaves.
+use Rattle.std.specs.Prelude.{◌≡◌, ◌⊎◌, ℕ, ◌+◌, ◌-◌, List, [], length, Result, Some, Ok}
+use Rattle.model_disk.specs.Disk.{Image}
+use Rattle.model_system.specs.System.{System}
+use Rattle.model_machine.specs.Machine.{LastingState, empty_state}
+use Rattle.restart_data.specs.declared.restart.RestartSector.{RestartSector}
+use Rattle.restart_data.specs.Restart.{restart_in}
+use Rattle.log_writer.specs.Writer.{Writer}
+use Rattle.log_writer.specs.Log.{IsAtEnd}
+use Rattle.model_image.specs.Areas.{snapshot_area, log_first}
+use Rattle.model_image.specs.Counters.{next_sequence}
+use Rattle.model_image.specs.Faults.{Fault}
+use Rattle.model_image.specs.Recovered.{Recovers}
+use Rattle.tm_restart.specs.Definition.{text_in}
+
+-- the log's writer at the start of the area that a restart sector names
+abbrev pub first_writer : System → RestartSector → Writer
+first_writer system now = record {
+  first = log_first system now.log;
+  count = system.logs;
+  sequence = now.sequence;
+  epoch = now.epoch;
+  place = 0;
+  appended = [];
+}
+
+-- The image has this restart sector and this text, no log behind its snapshot, and recovers to this state.
+pub record IsRenewed (system : System) (text : List ℕ) (now : RestartSector) (state : LastingState) (image : Image) : Type 0 where
+  pub restart : restart_in (snapshot_area system) image ≡ Ok (Some now)
+  pub text_size : now.text ≡ length text
+  pub has_text : text_in image now.text ≡ text
+  pub recovers : Recovers system image (Ok state)
+  pub log : IsAtEnd (first_writer system now) image
+
+-- The other image is renewed, and recovers to what the one recovered to.
+abbrev pub Renews : System → List ℕ → RestartSector → Image → Image → Type 0
+Renews system text now before after = (state : LastingState) → Recovers system before (Ok state) → IsRenewed system text now state after
+
+-- Whatever one image recovers to, the other does.
+abbrev pub RecoversAlike : System → Image → Image → Type 0
+RecoversAlike system before after = (answer : Result LastingState Fault) → Recovers system before answer → Recovers system after answer
+
+-- The image is the one before, or recovers to the empty state.
+abbrev pub KeepsOrEmpties : System → Image → Image → Type 0
+KeepsOrEmpties system before after = (after ≡ before) ⊎ Recovers system after (Ok (empty_state system))
+
+-- ---- restart sectors
+
+-- a cold start begins to count at 1, with the first areas
+pub record IsFirst (now : RestartSector) : Type 0 where
+  pub epoch : now.epoch ≡ 1
+  pub checkpoint : now.checkpoint ≡ 1
+  pub sequence : now.sequence ≡ 1
+  pub snapshot : now.snapshot ≡ 0
+  pub log : now.log ≡ 0
+
+-- a restart takes the next epoch, the next checkpoint, the other areas, and the sequence behind the log
+pub record IsNext (system : System) (image : Image) (before now : RestartSector) : Type 0 where
+  pub epoch : now.epoch ≡ before.epoch + 1
+  pub checkpoint : now.checkpoint ≡ before.checkpoint + 1
+  pub sequence : now.sequence ≡ next_sequence system image before
+  pub snapshot : now.snapshot ≡ 1 - before.snapshot
+  pub log : now.log ≡ 1 - before.log

@@ -1,0 +1,19 @@
+//! The beginning of a life: an image is begun cold, or recovered.
+//!
+//! Whenever a stop comes, each image recovers to what it recovered to before, or, where it is begun cold, to the empty
+//! state (specs/Opening). Once a call has answered, the restart sector names a new snapshot and an empty log. A refusal
+//! has written nothing.
+#![tactic(auto)]
+
+mod beginning;
+mod clearing;
+mod cold_start;
+mod filling;
+mod laying_cold;
+mod parts;
+mod restarting;
+
+pub use cold_start::cold;
+pub use model_machine::Lasting;
+pub use parts::{Counter, OpenError, Parts};
+pub use restarting::recover;

@@ -1,0 +1,5 @@
+pub mod Parts
+pub mod Definition
+pub mod Renewal
+pub mod Opening
+pub mod Filling

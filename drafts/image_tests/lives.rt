@@ -1,0 +1,98 @@
+//! What a life finds on an image of the small system's disk.
+use crate::small_system::{TEXT, small_system};
+use crate::spelled::joined;
+use crate::told::told;
+use std::alloc::Global;
+use std::test::Fail;
+use tm_disk::{Disk, MemDisk};
+use tm_restart::{OpenError, Parts, cold, recover};
+
+/// What the snapshot of these records tells behind its first line, but for rows.
+pub const SNAPSHOT_TOLD: &[u8] =
+    b"T1 2 2 \nOUT 1 HI\nT2 0 1 \nECHO 1 5 \nCONV 1 1 \nIN 3 T1 ECHO ECHO A\n";
+/// The system as a cold start begins it.
+pub const EMPTY_TOLD: &[u8] = b"NEXT 1 STEPS 0 \nT1 0 1 \nT2 0 1 \nECHO 1 5 \nCONV 1 1 \n";
+
+/// What is told of that snapshot where so many lasting steps were done and one slot has this record, or none.
+pub fn told_with(alloc: Global, steps: u8, account: &[u8]) -> Result<Vec<u8>, Fail> {
+    let first = format!(in alloc; "NEXT 5 STEPS {steps} \n")?;
+    match account.get(1..) {
+        Some(row) => joined(
+            alloc,
+            &[first.as_bytes(), SNAPSHOT_TOLD, b"ROW ", row, b"\n"],
+        ),
+        None => joined(alloc, &[first.as_bytes(), SNAPSHOT_TOLD]),
+    }
+}
+
+/// A life that was begun, and what lasts told in lines; or the rule and the sector of a bad image; or nothing.
+#[derive(Drop)]
+pub enum Opened {
+    Life(Parts, Vec<u8>),
+    Bad(u8, u32),
+    Refused(OpenError),
+}
+
+/// Cuts the disk off by this pick, and recovers what it leaves.
+pub fn recovered(alloc: Global, disk: &mut MemDisk, pick: u64) -> Result<Opened, Fail> {
+    let system = small_system(alloc)?;
+    disk.cut(pick);
+    match recover(alloc, disk, &system, TEXT) {
+        Ok((parts, state)) => Ok(Opened::Life(parts, told(alloc, &state)?)),
+        Err(OpenError::BadImage(rule, sector)) => Ok(Opened::Bad(rule, sector)),
+        Err(error) => Ok(Opened::Refused(error)),
+    }
+}
+
+/// The parts and the lines of an image that recovers.
+pub fn life(alloc: Global, disk: &mut MemDisk, pick: u64) -> Result<(Parts, Vec<u8>), Fail> {
+    match recovered(alloc, disk, pick)? {
+        Opened::Life(parts, lines) => Ok((parts, lines)),
+        Opened::Bad(..) => Err("a bad image".into()),
+        Opened::Refused(_) => Err("refused".into()),
+    }
+}
+
+/// The lines of an image that recovers.
+pub fn lines(alloc: Global, disk: &mut MemDisk, pick: u64) -> Result<Vec<u8>, Fail> {
+    let (_, lines) = life(alloc, disk, pick)?;
+    Ok(lines)
+}
+
+/// Cuts the disk off by pick 0, arms it for its n-th write, and recovers. Whether the disk stopped it.
+pub fn stops(alloc: Global, disk: &mut MemDisk, n: u64) -> Result<bool, Fail> {
+    let system = small_system(alloc)?;
+    disk.cut(0);
+    if n == 0 || !disk.arm(n) {
+        return Err("not armed".into());
+    }
+    match recover(alloc, disk, &system, TEXT) {
+        Ok(_) => Ok(false),
+        Err(OpenError::Disk) => Ok(true),
+        Err(_) => Err("refused".into()),
+    }
+}
+
+/// Cuts the disk off by pick 0, and begins it cold. Whether that was done; no memory is no answer.
+pub fn begins(alloc: Global, disk: &mut MemDisk) -> Result<bool, Fail> {
+    let system = small_system(alloc)?;
+    disk.cut(0);
+    match cold(alloc, disk, &system, TEXT) {
+        Ok((_, state)) => Ok(told(alloc, &state)?.as_slice() == EMPTY_TOLD),
+        Err(_) => Err("refused".into()),
+    }
+}
+
+/// Cuts the disk off by pick 0, arms it for its n-th write, and begins it cold. Whether the disk stopped it.
+pub fn stops_cold(alloc: Global, disk: &mut MemDisk, n: u64) -> Result<bool, Fail> {
+    let system = small_system(alloc)?;
+    disk.cut(0);
+    if n == 0 || !disk.arm(n) {
+        return Err("not armed".into());
+    }
+    match cold(alloc, disk, &system, TEXT) {
+        Ok(_) => Ok(false),
+        Err(OpenError::Disk) => Ok(true),
+        Err(_) => Err("refused".into()),
+    }
+}
