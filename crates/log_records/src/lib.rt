@@ -14,6 +14,7 @@ pub use encoding::encode;
 pub use fault::DecodeFault;
 pub use model_conversation::{Conversation, PadChange};
 pub use record::Record;
+pub use untold::Untold;
 
 mod appending;
 mod decoding;
@@ -22,4 +23,5 @@ mod fault;
 mod fields;
 mod layouts;
 mod record;
+mod untold;
 mod wrong_bytes;
