@@ -41,6 +41,8 @@ pub fn read_chain<D: Disk>(
     requires sequences { sequence + count < 2 ^ 64 }
     ensures payload { IfOk result (λ read. IsTrue (D.state disk.old).tells → read.payload ≡ joined (chain count (D.state disk.old).shown first sequence epoch)) }
     ensures sectors { IfOk result (λ read. IsTrue (D.state disk.old).tells → read.sectors ≡ length (chain count (D.state disk.old).shown first sequence epoch)) }
+    // No more sectors than the area has, on each disk.
+    ensures few { IfOk result (λ read. read.sectors ≤ count) }
     ensures keeps { Keeps (D.state disk.old) (D.state disk.new) }
     ensures until_stop { (D.state disk.new).until_stop ≡ (D.state disk.old).until_stop }
     // The disk failed in the call exactly where that is told.

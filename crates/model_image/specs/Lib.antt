@@ -8,3 +8,6 @@ pub mod Steps
 pub mod Slots
 pub mod Recovered
 pub mod Counters
+pub mod Alike
+pub mod Ahead
+pub mod Holding

@@ -8,3 +8,4 @@ pub mod Judging
 pub mod Gathering
 pub mod Laying
 pub mod ImageLaws
+pub mod Valid

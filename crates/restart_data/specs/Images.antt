@@ -6,7 +6,7 @@ use Rattle.restart_data.specs.declared.restart.RestartFault.{RestartFault}
 use Rattle.restart_data.specs.declared.restart.RestartFault.TheVariants as restart_faults
 use Rattle.restart_data.specs.declared.snapshot.SnapshotFault.{SnapshotFault}
 use Rattle.restart_data.specs.declared.snapshot.SnapshotFault.TheVariants as snapshot_faults
-use Rattle.restart_data.specs.Restart.{restart_sector, restart_in}
+use Rattle.restart_data.specs.Restart.{IsRestart, restart_sector, restart_in}
 use Rattle.restart_data.specs.Snapshot.{Fault, sectors_of, snapshot_in}
 
 -- The sectors from a place on may be others, so many of them, and all the rest stay.
@@ -30,6 +30,11 @@ abbrev pub TellsRestart : Result (Option RestartSector) RestartFault → Result 
 TellsRestart (Ok found) read = read ≡ Ok found
 TellsRestart (Err (restart_faults.Bad rule)) read = read ≡ Err rule
 TellsRestart (Err restart_faults.Disk) read = Unit {0}
+
+-- A restart sector that breaks none of its rules, where a snapshot has at most so many sectors.
+pub record IsValid (most : ℕ) (restart : RestartSector) : Type 0 where
+  pub is : IsRestart restart
+  pub fits : restart.sectors ≤ most
 
 -- The disk failed in the call exactly where that is told.
 abbrev pub RestartCause : Result (Option RestartSector) RestartFault → DiskState → DiskState → Type 0

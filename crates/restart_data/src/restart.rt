@@ -1,8 +1,8 @@
 //! The restart sector on a disk.
-ghost use Rattle.std.specs.Prelude.{◌≡◌, ◌<◌, IsTrue, OnOk, OnErr};
+ghost use Rattle.std.specs.Prelude.{◌≡◌, ◌<◌, IsTrue, IfOk, IfSome, OnOk, OnErr};
 ghost use Rattle.model_disk.specs.Disk.{Stays, Within, Follows, Only, Keeps, MayWrite, WritesAtMost, FailedSince};
 ghost use Rattle.restart_data.specs.Restart.{IsRestart, restart_sector, restart_in};
-ghost use Rattle.restart_data.specs.Images.{Restarts, TellsRestart, RestartCause};
+ghost use Rattle.restart_data.specs.Images.{IsValid, Restarts, TellsRestart, RestartCause};
 
 use crate::restart_sector::{seal, unseal};
 use thiserror::Error;
@@ -65,9 +65,12 @@ pub fn write_restart<D: Disk>(disk: &mut D, value: &RestartSector) -> Result<(),
 
 /// Reads the restart sector of a disk whose snapshot areas have `most` sectors each, as the disk reads. It is nothing
 /// exactly where sector 0 is all zeros. Nothing is written.
+#[tactic(auto, using(crate::proofs::Valid::found_valid))]
 pub fn read_restart<D: Disk>(disk: &mut D, most: u32) -> Result<Option<RestartSector>, RestartFault>
     requires has_a_sector { 0 < (D.state disk.old).size }
     ensures value { IsTrue (D.state disk.old).tells → TellsRestart result (restart_in most (D.state disk.old).shown) }
+    // It is judged on each disk, also on one that doesn't tell its contents.
+    ensures valid { IfOk result (λ found. IfSome found (IsValid most)) }
     ensures keeps { Keeps (D.state disk.old) (D.state disk.new) }
     ensures until_stop { (D.state disk.new).until_stop ≡ (D.state disk.old).until_stop }
     ensures cause { RestartCause result (D.state disk.old) (D.state disk.new) }

@@ -1,3 +1,5 @@
 pub mod Definition
+pub mod Parts
 pub mod Renewal
+pub mod Opening
 pub mod Filling

@@ -1,10 +1,19 @@
-//! The writes of a cold start.
+//! The beginning of a life: an image is begun cold, or recovered.
 //!
-//! At any moment of them the image is the one before, or recovers to the empty state; and once they are done it recovers to
-//! the empty state, with an empty log (proofs/Emptied).
+//! Whenever a stop comes, each image recovers to what it recovered to before, or, where it is begun cold, to the empty
+//! state (specs/Opening). Once a call has answered, the restart sector names a new snapshot and an empty log. A refusal
+//! has written nothing. Both calls look at the size alone so far, and answer want of memory behind it.
 #![tactic(auto)]
 
 mod beginning;
 mod clearing;
 mod filling;
 mod laying_cold;
+mod parts;
+mod restarting;
+mod starting;
+
+pub use model_machine::Lasting;
+pub use parts::{Counter, OpenError, Parts};
+pub use restarting::recover;
+pub use starting::cold;

@@ -1,0 +1,47 @@
+//! Cold starts.
+ghost use Rattle.std.specs.Prelude.{◌≤◌, length, IfOk, OnOk};
+ghost use Rattle.model_disk.specs.Disk.{Image, Stays, Within, Only};
+ghost use Rattle.model_image.specs.Holding.{HoldsStores};
+ghost use Rattle.tm_restart.specs.Parts.{AreOpeningParts};
+ghost use Rattle.tm_restart.specs.Renewal.{KeepsOrEmpties, IsRenewed};
+ghost use Rattle.tm_restart.specs.Opening.{SizeFirst, TellsCold, MayBegin, OpeningCause};
+
+use crate::parts::{OpenError, Parts};
+use image_areas::sectors_needed;
+use model_machine::Lasting;
+use std::alloc::Global;
+use system_types::System;
+use tm_disk::Disk;
+
+/// Begins an empty machine on the disk, whatever stands there: it zeroes the restart sector, and then writes the text, the
+/// zeros of the log areas and of the data, the first snapshot, and the first restart sector. The size is looked at first.
+/// `TooSmall` and `Memory` come before any write; `Disk` comes exactly where the disk failed in the call.
+pub fn cold<D: Disk>(
+    alloc: Global,
+    disk: &mut D,
+    system: &System,
+    text: &[u8],
+) -> Result<(Parts, Lasting), OpenError>
+    requires text { length text.now ≤ 262144 }
+    requires only { Only (D.state disk.old).shown (D.state disk.old) }
+    ensures size { SizeFirst system.now (D.state disk.old).size result }
+    ensures value { TellsCold system.now result }
+    ensures parts { IfOk result (λ opened. AreOpeningParts system.now opened.1 opened.0) }
+    ensures begins { IfOk result (λ opened. MayBegin system.now text.now opened.0 opened.1) }
+    ensures stays { Stays (D.state disk.old) (D.state disk.new) }
+    // Whenever a crash comes, it leaves the image before, or one that recovers to the empty state.
+    ensures any_moment { Within (KeepsOrEmpties system.now) (D.state disk.old) (D.state disk.new) }
+    // Then each image recovers to the empty state, with the restart sector that is answered and an empty log.
+    ensures done { IfOk result (λ opened. (image : Image) → (D.state disk.new).may_leave image → IsRenewed system.now text.now opened.0.now opened.0.next_unit opened.1 image) }
+    // The databases that are answered stand in their sectors, slot by slot.
+    ensures stored { IfOk result (λ opened. (image : Image) → (D.state disk.new).may_leave image → HoldsStores system.now opened.0.stores.stores image) }
+    ensures synced { OnOk result (Only (D.state disk.new).shown (D.state disk.new)) }
+    ensures cause { OpeningCause result (D.state disk.old) (D.state disk.new) }
+{
+    let needed = sectors_needed(system);
+    let has = disk.sectors();
+    if has < needed {
+        return Err(OpenError::TooSmall(needed, has));
+    }
+    Err(OpenError::Memory)
+}
