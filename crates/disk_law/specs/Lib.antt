@@ -1,0 +1,3 @@
+pub mod Life
+pub mod Text
+pub mod Kept

@@ -1,0 +1,90 @@
+-- What a life has beside its disk.
+use Rattle.std.specs.Prelude.{◌≡◌, ℕ, ◌+◌, ◌<◌, ◌≤◌, Bool, true, List, [], map, slice_get, slice_index_or, Some, None}
+use Rattle.std.specs.List.{list_all, flat_map, AllByRecursion}
+use Rattle.std.specs.Option.{option_map_or}
+use Rattle.tm_types.specs.declared.dbd.Dbd.{Dbd}
+use Rattle.model_rows.specs.declared.row.Row.{Row}
+use Rattle.model_rows.specs.Record as rows
+use Rattle.model_system.specs.System.{System}
+use Rattle.model_machine.specs.Machine.{LastingState, empty_state}
+use Rattle.log_records.specs.declared.record.Record.{Record}
+use Rattle.log_records.specs.Spelling.{spelling, IsRecord}
+use Rattle.log_writer.specs.Writer.{Writer}
+use Rattle.restart_data.specs.declared.restart.RestartSector.{RestartSector}
+use Rattle.seg_store.specs.Slots.{Stored, AreSlots, rows_of_slots}
+use Rattle.model_image.specs.Areas.{log_first}
+use Rattle.model_image.specs.Slots.{is_image_of}
+use Rattle.model_image.specs.States.{breaks_a_rule}
+use Rattle.replay_law.specs.Records.{without_changes}
+use Rattle.slot_law.specs.Committed.{Bytes, Touches, Touch}
+
+pub record LifeOnDisk : Type 0 where
+  pub system : System
+  -- the definition's text, and the restart sector that holds
+  pub text : List ℕ
+  pub now : RestartSector
+  -- the log's writer, and the records that were appended to it and aren't forced yet
+  pub log : Writer
+  pub appended : List Record
+  -- what lasts
+  pub lasting : LastingState
+  -- of each slot, by database from 1 on and number: its committed bytes, those that it has in the stores, with what
+  -- open units did, and whether it was changed since its sector was written
+  pub committed : Bytes
+  pub present : Bytes
+  pub changed : ℕ → ℕ → Bool
+  -- what open units did to the slots, and which units may still reach a sync point, those to come among them
+  pub touches : Touches
+  pub may_sync : ℕ → Bool
+
+-- so for each slot of the databases of a system: the place of its database, from 0 on, and its number
+abbrev pub EachSlot : System → (ℕ → ℕ → Type 0) → Type 0
+EachSlot system holds =
+    (place number : ℕ) (dbd : Dbd) → slice_get system.databases place ≡ Some dbd → number < dbd.roots → holds place number
+
+-- the bytes of a slot of these stores
+abbrev pub slots_at : List Stored → ℕ → List (List Row)
+slots_at stores place = option_map_or (λ s. s.slots) (slice_get stores place) []
+
+abbrev pub bytes_at : List Stored → ℕ → ℕ → List ℕ
+bytes_at stores place number = rows.spelling (slice_index_or (slots_at stores place) number [])
+
+-- The committed bytes spell these rows: they are those of slots of the databases, and the rows are those of the slots.
+pub record SpellRows (system : System) (committed : Bytes) (lines : List (List Row)) : Type 0 where
+  pub stores : List Stored
+  pub databases : map (λ s. s.dbd) stores ≡ system.databases
+  pub valid : AllByRecursion (λ s. AreSlots s.dbd s.slots) stores
+  pub one_sector : AllByRecursion (λ s. s.dbd.sectors ≤ 1) stores
+  pub bytes : EachSlot system (λ place number. committed (place + 1) number ≡ bytes_at stores place number)
+  pub are : map (λ s. rows_of_slots s.slots) stores ≡ lines
+
+-- The writer is over the log area that the restart sector names, with its epoch and its first sequence.
+pub record IsWriterOf (system : System) (now : RestartSector) (log : Writer) : Type 0 where
+  pub first : log.first ≡ log_first system now.log
+  pub count : log.count ≡ system.logs
+  pub sequence : log.sequence ≡ now.sequence
+  pub epoch : log.epoch ≡ now.epoch
+
+-- Records that wait for a force between two steps: changes of slots, spelled one after another.
+pub record AreAppended (system : System) (log : Writer) (appended : List Record) : Type 0 where
+  pub spelled : log.appended ≡ flat_map spelling appended
+  pub records : AllByRecursion IsRecord appended
+  pub changes : without_changes appended ≡ []
+  pub images : list_all (is_image_of system) appended ≡ true
+
+-- What a unit touched stands in the stores as it left it, and what none touched as it is committed.
+pub record AreBeside (system : System) (touches : Touches) (committed present : Bytes) : Type 0 where
+  pub touched : (unit database slot : ℕ) (t : Touch) → touches unit database slot ≡ Some t → t.present ≡ present database slot
+  pub untouched : EachSlot system (λ place number. ((unit : ℕ) → touches unit (place + 1) number ≡ None) → committed (place + 1) number ≡ present (place + 1) number)
+
+-- What holds of a life beside its images: what lasts breaks no rule, and its parts agree.
+pub record IsLife (life : LifeOnDisk) : Type 0 where
+  pub writer : IsWriterOf life.system life.now life.log
+  pub appended : AreAppended life.system life.log life.appended
+  pub sound : breaks_a_rule life.system life.lasting ≡ false
+  pub rows : SpellRows life.system life.committed life.lasting.rows
+  pub slots : AreBeside life.system life.touches life.committed life.present
+
+-- what lasts, but for its rows
+abbrev pub but_rows : System → LastingState → LastingState
+but_rows system lasting = record lasting { rows = (empty_state system).rows }
