@@ -8,7 +8,6 @@ use Rattle.log_records.specs.Spelling.{spelling, IsRecord}
 use Rattle.log_records.proofs.Takes.{IsBytes}
 use Rattle.log_writer.specs.Log.{log_of}
 use Rattle.restart_data.specs.Restart.{restart_in}
-use Rattle.seg_store.specs.DataSectors.{data_sector}
 use Rattle.model_image.specs.Areas.{snapshot_area, log_first, data_first}
 use Rattle.model_image.specs.Snapshot.{snapshot_state}
 use Rattle.model_image.specs.Slots.{named_by, is_synced}
@@ -16,11 +15,11 @@ use Rattle.model_image.specs.Replay.{Replay, replay_all}
 use Rattle.model_image.specs.Recovered.{snapshot_from, first_later}
 use Rattle.slot_law.specs.Committed.{AreCommitted}
 use Rattle.disk_law.specs.Life.{LifeOnDisk, EachSlot, but_rows}
-use Rattle.disk_law.specs.Text.{text_in, NoneAhead}
+use Rattle.disk_law.specs.Text.{text_in, HoldsBytes, NoneAhead}
 
 -- these bytes stand in the sector of a slot
 abbrev pub StandsAt : System → Image → ℕ → ℕ → List ℕ → Type 0
-StandsAt system image place number bytes = sector_at image (data_first system place + number) ≡ data_sector bytes
+StandsAt system image place number bytes = HoldsBytes bytes (sector_at image (data_first system place + number))
 
 -- the state of a snapshot, from which its log is done again
 abbrev pub beginning : System → List Record → Replay

@@ -1,5 +1,5 @@
 -- What a life has beside its disk.
-use Rattle.std.specs.Prelude.{◌≡◌, ℕ, ◌+◌, ◌<◌, ◌≤◌, Bool, true, List, [], map, slice_get, slice_index_or, Some, None}
+use Rattle.std.specs.Prelude.{◌≡◌, ℕ, ◌+◌, ◌^◌, ◌<◌, ◌≤◌, Bool, true, false, List, [], length, map, slice_get, slice_index_or, Some, None}
 use Rattle.std.specs.List.{list_all, flat_map, AllByRecursion}
 use Rattle.std.specs.Option.{option_map_or}
 use Rattle.tm_types.specs.declared.dbd.Dbd.{Dbd}
@@ -10,7 +10,9 @@ use Rattle.model_machine.specs.Machine.{LastingState, empty_state}
 use Rattle.log_records.specs.declared.record.Record.{Record}
 use Rattle.log_records.specs.Spelling.{spelling, IsRecord}
 use Rattle.log_writer.specs.Writer.{Writer}
+use Rattle.log_writer.specs.Log.{sectors_of}
 use Rattle.restart_data.specs.declared.restart.RestartSector.{RestartSector}
+use Rattle.restart_data.specs.Restart.{IsRestart}
 use Rattle.seg_store.specs.Slots.{Stored, AreSlots, rows_of_slots}
 use Rattle.model_image.specs.Areas.{log_first}
 use Rattle.model_image.specs.Slots.{is_image_of}
@@ -65,20 +67,25 @@ pub record IsWriterOf (system : System) (now : RestartSector) (log : Writer) : T
   pub sequence : log.sequence ≡ now.sequence
   pub epoch : log.epoch ≡ now.epoch
 
--- Records that wait for a force between two steps: changes of slots, spelled one after another.
+-- Records that wait for a force between two steps: changes of slots, spelled one after another. There is room for them.
 pub record AreAppended (system : System) (log : Writer) (appended : List Record) : Type 0 where
+  pub fits : log.place + sectors_of (length log.appended) ≤ log.count
   pub spelled : log.appended ≡ flat_map spelling appended
   pub records : AllByRecursion IsRecord appended
   pub changes : without_changes appended ≡ []
   pub images : list_all (is_image_of system) appended ≡ true
 
--- What a unit touched stands in the stores as it left it, and what none touched as it is committed.
+-- A slot is touched by one unit at most. What a unit touched stands in the stores as it left it, and what none touched as
+-- it is committed.
 pub record AreBeside (system : System) (touches : Touches) (committed present : Bytes) : Type 0 where
+  pub apart : (unit other database slot : ℕ) (t u : Touch) → touches unit database slot ≡ Some t → touches other database slot ≡ Some u → unit ≡ other
   pub touched : (unit database slot : ℕ) (t : Touch) → touches unit database slot ≡ Some t → t.present ≡ present database slot
   pub untouched : EachSlot system (λ place number. ((unit : ℕ) → touches unit (place + 1) number ≡ None) → committed (place + 1) number ≡ present (place + 1) number)
 
 -- What holds of a life beside its images: what lasts breaks no rule, and its parts agree.
 pub record IsLife (life : LifeOnDisk) : Type 0 where
+  pub in_range : IsRestart life.now
+  pub sequences : life.now.sequence + life.system.logs < 2 ^ 64
   pub writer : IsWriterOf life.system life.now life.log
   pub appended : AreAppended life.system life.log life.appended
   pub sound : breaks_a_rule life.system life.lasting ≡ false
