@@ -6,3 +6,4 @@ pub mod Places
 pub mod Readings
 pub mod Unread
 pub mod Later
+pub mod Ahead
