@@ -10,12 +10,12 @@ use Rattle.model_image.specs.Recovered.{is_later, first_later, Recovers}
 use Rattle.model_image.proofs.Places.{snapshot_below, both_logs}
 use Rattle.model_image.proofs.Readings.{opened_not_later}
 use Rattle.model_image.proofs.Later.{none_later, each_not_later, not_later}
-use Rattle.checkpointing.specs.Parts.{Parts, next_restart}
+use Rattle.checkpointing.specs.Parts.{CheckpointParts, next_restart}
 use Rattle.seg_store.specs.Changed.{AllStores}
 use Rattle.checkpointing.specs.Checkpoint.{InArea, IsWritten, IsCheckpointed}
 use Rattle.checkpointing.proofs.Keeping.{Stands, dirty_above}
 
-module _ (parts : Parts) (log : Writer) (stores : AllStores) (a e : Image) (s : Stands parts log stores a) (done : IsCheckpointed parts log stores a e) where
+module _ (parts : CheckpointParts) (log : Writer) (stores : AllStores) (a e : Image) (s : Stands parts log stores a) (done : IsCheckpointed parts log stores a e) where
   -- a sector of the logs that is written is one of the writer's
   written_log : (k : ℕ) → log_first parts.system 0 ≤ k → k < log_first parts.system 2 → IsWritten parts log stores k → InArea (log.first + log.place) (sectors_of (length log.appended)) k
   written_log k low high written =

@@ -1,5 +1,5 @@
 -- What the steps of a checkpoint leave of an image, and what it recovers to.
-use Rattle.std.proofs.Common.{◌≡◌, ◌⊎◌, ℕ, zero, suc, ◌+◌, ◌-◌, ◌<◌, ◌≤◌, List, [], ◌++◌, length, refl, sym, ◌∙◌, ap, subst, inl, inr, ⊎_elim, arith, Some, Ok, IsSome}
+use Rattle.std.proofs.Common.{◌≡◌, ◌⊎◌, ℕ, zero, suc, ◌+◌, ◌-◌, ◌<◌, ◌≤◌, ◌^◌, List, [], ◌++◌, length, refl, sym, ◌∙◌, ap, subst, inl, inr, ⊎_elim, arith, Some, None, Ok, IsSome}
 use Rattle.std.specs.Prelude.{slice_index_or}
 use Rattle.std.proofs.lemmas.Bool.{cases_lt}
 use Rattle.std.proofs.lemmas.List.{length-set, take_all}
@@ -14,26 +14,28 @@ use Rattle.restart_data.specs.Restart.{restart_of, restart_in, restart_sector}
 use Rattle.restart_data.specs.Snapshot as snapshot
 use Rattle.restart_data.specs.Images.{Saves, Restarts}
 use Rattle.restart_data.proofs.ImageLaws.{others_stay, restart_keeps_snapshots}
+use Rattle.model_image.specs.Ahead.{NoneAhead}
 use Rattle.model_image.specs.Areas.{snapshot_area, log_first, data_first}
 use Rattle.model_image.specs.Cut.{cut_of}
 use Rattle.model_image.specs.Slots.{named_by}
 use Rattle.model_image.specs.Recovered.{snapshot_from, log_in}
+use Rattle.model_image.proofs.Ahead.{opened_one, ahead_free}
 use Rattle.model_image.proofs.Alike.{ImagesAlike, recovers_alike, snapshot_same}
-use Rattle.model_image.proofs.Places.{snapshot_below, log_above, log_below, logs_apart, slot_above}
+use Rattle.model_image.proofs.Places.{snapshot_below, log_above, log_below, both_logs, slot_above}
 use Rattle.model_image.proofs.Readings.{IsKept, restart_kept}
 use Rattle.model_image.proofs.Unread.{InFreeSnapshot, OfNamedSlot, unread_alike}
-use Rattle.checkpointing.specs.Parts.{Parts, AreFree, IsOver, next_restart, next_writer}
+use Rattle.checkpointing.specs.Parts.{CheckpointParts, AreFree, IsOver, sequence_behind, next_restart, next_writer}
 use Rattle.model_rows.specs.Record.{spelling}
 use Rattle.seg_store.specs.Changed.{AllStores}
 use Rattle.seg_store.specs.DataSectors.{data_sector, HasPut}
 use Rattle.seg_store.specs.WriteBack.{changed_bytes}
 use Rattle.checkpointing.specs.Written.{DirtySlot, DirtyAt, AreOf}
 use Rattle.checkpointing.proofs.Slots.{dirty_slot, put_dirty, put_holds}
-use Rattle.checkpointing.specs.Checkpoint.{RecoversAlike, InArea, IsWritten, IsCheckpointed}
+use Rattle.checkpointing.specs.Checkpoint.{KeepsRecovery, InArea, IsWritten, IsCheckpointed}
 use Rattle.checkpointing.specs.Steps.{Then, WritesRestart, ChangesUnread, Prepares}
 
 -- What is known of one image before the checkpoint.
-pub record Stands (parts : Parts) (log : Writer) (stores : AllStores) (image : Image) : Type 0 where
+pub record Stands (parts : CheckpointParts) (log : Writer) (stores : AllStores) (image : Image) : Type 0 where
   pub now : restart_in (snapshot_area parts.system) image ≡ Ok (Some parts.now)
   pub free : AreFree parts
   pub over : IsOver parts log
@@ -42,10 +44,10 @@ pub record Stands (parts : Parts) (log : Writer) (stores : AllStores) (image : I
   pub fits : snapshot.sectors_of (length parts.snapshot) ≤ parts.snapshot_sectors
   pub named : (snapshot : List Record) → snapshot_from parts.system image parts.now ≡ Ok snapshot → (place number : ℕ) → DirtySlot stores place number → IsSome (named_by snapshot (cut_of (log_of log image ++ log.appended)).records (place + 1) number)
 
-same_log : (parts : Parts) (log : Writer) (image : Image) → IsOver parts log → log_of log image ≡ joined (chain parts.system.logs image (log_first parts.system parts.now.log) parts.now.sequence parts.now.epoch)
+same_log : (parts : CheckpointParts) (log : Writer) (image : Image) → IsOver parts log → log_of log image ≡ joined (chain parts.system.logs image (log_first parts.system parts.now.log) parts.now.sequence parts.now.epoch)
 same_log parts log image over = rw (over.first, over.count, over.sequence, over.epoch) refl
 
-module _ (parts : Parts) (log : Writer) (stores : AllStores) (a : Image) (s : Stands parts log stores a) where
+module _ (parts : CheckpointParts) (log : Writer) (stores : AllStores) (a : Image) (s : Stands parts log stores a) where
   kept : IsKept (snapshot_area parts.system) parts.now
   kept = restart_kept (snapshot_area parts.system) (sector_at a 0) parts.now s.now
 
@@ -104,7 +106,7 @@ module _ (parts : Parts) (log : Writer) (stores : AllStores) (a : Image) (s : St
   }
 
   -- Before the restart sector is written the image recovers as the one before.
-  pub prepares_keep : ((c : Image) → AddsFront log a c → RecoversAlike parts.system a c) → (e : Image) → Prepares parts log stores a e → RecoversAlike parts.system a e
+  pub prepares_keep : ((c : Image) → AddsFront log a c → KeepsRecovery parts.system a c) → (e : Image) → Prepares parts log stores a e → KeepsRecovery parts.system a e
   prepares_keep force e prepares =
       ⊎_elim (λ front. force e front)
       (λ (later : Then (AddsAll log) (ChangesUnread parts stores) a e). λ state recovers.
@@ -205,32 +207,55 @@ module _ (parts : Parts) (log : Writer) (stores : AllStores) (a : Image) (s : St
     pub next_restart_in : restart_in (snapshot_area parts.system) e ≡ Ok (Some (next_restart parts log))
     next_restart_in = done.restart (snapshot_area parts.system) (omega (arith, s.fits, s.free.snapshot_sectors))
 
-    -- the other log area stays
-    other_stays : (x : ℕ) → x < parts.log_sectors → sector_at e (parts.log_at + x) ≡ sector_at a (parts.log_at + x)
-    other_stays x lt =
-        let k = parts.log_at + x in
-        let low : log_first parts.system 0 ≤ k = omega (arith, s.free.log_at, log_above parts.system (1 - parts.now.log)) in
-        let high : k < log_first parts.system 2 = omega (arith, lt, s.free.log_at, s.free.log_sectors, log_below parts.system (1 - parts.now.log) (omega arith)) in
-        ⊎_elim (λ same. same)
+    -- a sector of a log area stays, or is a new one of the log
+    log_stays : (k : ℕ) → log_first parts.system 0 ≤ k → k < log_first parts.system 2 → (sector_at e k ≡ sector_at a k) ⊎ InArea (log.first + log.place) (sectors_of (length log.appended)) k
+    log_stays k low high =
+        ⊎_elim (λ same. inl same)
         (λ written.
         ⊎_elim (λ (zero : k ≡ 0). absurd (omega (arith, zero, low)))
         (λ others.
         ⊎_elim (λ (in_ : InArea parts.snapshot_at parts.snapshot_sectors k). absurd (omega (arith, in_.high, low, s.free.snapshot_at, s.free.snapshot_sectors, snapshot_below parts.system (1 - parts.now.snapshot) (omega arith))))
         (λ more.
-        ⊎_elim
-        (λ (in_ : InArea (log.first + log.place) (sectors_of (length log.appended)) k).
-        ⊎_elim
-        (λ (before : log_first parts.system parts.now.log + parts.system.logs ≤ log_first parts.system (1 - parts.now.log)). absurd (omega (arith, before, in_.high, s.room, s.over.first, s.over.count, s.free.log_at)))
-        (λ (behind : log_first parts.system (1 - parts.now.log) + parts.system.logs ≤ log_first parts.system parts.now.log). absurd (omega (arith, behind, in_.low, lt, s.over.first, s.free.log_at, s.free.log_sectors)))
-        (logs_apart parts.system parts.now.log kept.log))
+        ⊎_elim (λ (in_ : InArea (log.first + log.place) (sectors_of (length log.appended)) k). inr in_)
         (λ dirty. absurd (omega (arith, high, dirty_above k dirty)))
         more)
         others)
         written)
         (done.elsewhere k)
 
-    pub next_at_end : IsAtEnd (next_writer parts log) a → IsAtEnd (next_writer parts log) e
-    next_at_end end = record {
-      written = λ x lt. absurd (omega (arith, lt));
-      free = λ x far lt. ap (λ (v : List ℕ). opened parts.now.epoch ((next_writer parts log).sequence + x) v) (other_stays x lt) ∙ end.free x far lt;
+    -- a new sector of the log has a sequence before the next one
+    new_sector : (k n : ℕ) → InArea (log.first + log.place) (sectors_of (length log.appended)) k → sequence_behind log ≤ n → n < 2 ^ 64 → (opened parts.now.epoch n (sector_at a k) ≡ None) → opened parts.now.epoch n (sector_at e k) ≡ None
+    new_sector k n in_ from fits none =
+        let y : ℕ = k - log.first in
+        let is : log.first + y ≡ k = omega (arith, in_.low) in
+        let before : y < log.place + sectors_of (length log.appended) = omega (arith, is, in_.high) in
+        ⊎_elim
+        (λ (same : sector_at e (log.first + y) ≡ sector_at a (log.first + y)).
+        ap (λ (v : List ℕ). opened parts.now.epoch n v) (subst (λ j. sector_at e j ≡ sector_at a j) is same) ∙ none)
+        (λ (logs : IsSome (opened log.epoch (log.sequence + y) (sector_at e (log.first + y)))).
+        opened_one parts.now.epoch (log.sequence + y) n (sector_at e k) (omega (arith, before, from, fits)) fits
+        (subst (λ j. IsSome (opened parts.now.epoch (log.sequence + y) (sector_at e j))) is
+        (subst (λ epoch. IsSome (opened epoch (log.sequence + y) (sector_at e (log.first + y)))) s.over.epoch logs))
+        (λ same. omega (arith, same, before, from)))
+        (done.log_each y (omega (arith, before, s.room)))
+
+    pub next_ahead : NoneAhead parts.system a parts.now.epoch (sequence_behind log) → NoneAhead parts.system e parts.now.epoch (sequence_behind log)
+    next_ahead ahead = record {
+      none = λ x n below from fits.
+          let k = log_first parts.system 0 + x in
+          let none = ahead.none x n below from fits in
+          ⊎_elim
+          (λ (same : sector_at e k ≡ sector_at a k). ap (λ (v : List ℕ). opened parts.now.epoch n v) same ∙ none)
+          (λ (in_ : InArea (log.first + log.place) (sectors_of (length log.appended)) k). new_sector k n in_ from fits none)
+          (log_stays k (omega arith) (omega (arith, below, both_logs parts.system)));
     }
+
+-- The next writer's area has nothing of its log.
+pub next_at_end : (parts : CheckpointParts) (log : Writer) → AreFree parts → (e : Image) → sequence_behind log + parts.system.logs < 2 ^ 64 → NoneAhead parts.system e parts.now.epoch (sequence_behind log) → IsAtEnd (next_writer parts log) e
+next_at_end parts log free e small ahead = record {
+  written = λ x lt. absurd (omega (arith, lt));
+  free = λ x far lt.
+      let below : x < parts.system.logs = omega (arith, lt, free.log_sectors) in
+      ap (λ k. opened parts.now.epoch (sequence_behind log + x) (sector_at e (k + x))) free.log_at
+      ∙ ahead_free parts.system e parts.now.epoch (sequence_behind log) (1 - parts.now.log) x ahead (omega arith) below (omega (arith, below, small));
+}

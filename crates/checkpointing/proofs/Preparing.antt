@@ -7,7 +7,7 @@ use Rattle.restart_data.specs.Images.{ChangesOnly}
 use Rattle.restart_data.specs.Snapshot as snapshot
 use Rattle.log_writer.specs.Writer.{Writer}
 use Rattle.log_writer.specs.Log.{AddsFront, AddsAll}
-use Rattle.checkpointing.specs.Parts.{Parts}
+use Rattle.checkpointing.specs.Parts.{CheckpointParts}
 use Rattle.seg_store.specs.Changed.{AllStores}
 use Rattle.seg_store.specs.DataSectors.{MayPut, HasPut}
 use Rattle.seg_store.specs.WriteBack.{changed_bytes}
@@ -21,7 +21,7 @@ use Rattle.checkpointing.proofs.Calls.{within_then}
 pub sectors_fit : (n k : ℕ) → n ≤ k * 4064 → snapshot.sectors_of n ≤ k
 sectors_fit n k le = omega (arith, le)
 
-module _ (parts : Parts) (log : Writer) (stores : AllStores) (of_ : AreOf parts.system stores) where
+module _ (parts : CheckpointParts) (log : Writer) (stores : AllStores) (of_ : AreOf parts.system stores) where
   -- changed slots are written
   slots_prepare : (a b c : Image) → AddsAll log a b → MayPut (data_first parts.system 0) (changed_bytes stores) b c → Prepares parts log stores a c
   slots_prepare a b c forced writes = inr (record {

@@ -103,7 +103,7 @@ by_given first x slots at sector (Some s) b others test e = inr (others e)
 by_given first x slots at sector None true others test e = let same : data_sector x.1 ≡ sector = cc in inl (eqb-true (first + x.0) at test, sym same)
 by_given first x slots at sector None false others test e = cc
 
-given_is : (first : ℕ) (slots : List (ℕ × List ℕ)) (at : ℕ) (sector : List ℕ) → given_at first slots at ≡ Some sector → IsGivenAt first slots at sector
+pub given_is : (first : ℕ) (slots : List (ℕ × List ℕ)) (at : ℕ) (sector : List ℕ) → given_at first slots at ≡ Some sector → IsGivenAt first slots at sector
 given_is first [] at sector e = cc
 given_is first (x ∷ slots) at sector e = by_given first x slots at sector (given_at first slots at) (eqb (first + x.0) at) (given_is first slots at sector) refl e
 

@@ -11,19 +11,20 @@ use Rattle.log_sectors.specs.Chain.{joined}
 use Rattle.log_writer.specs.Writer.{Writer}
 use Rattle.log_writer.proofs.Gaining.{chain-ended}
 use Rattle.log_writer.specs.Log.{log_of, sectors_of, IsAtEnd, IsReady}
-use Rattle.checkpointing.specs.Parts.{Parts, AreFree, IsOver, sequence_behind, forced_writer, next_restart, next_writer}
+use Rattle.checkpointing.specs.Parts.{CheckpointParts, AreFree, IsOver, sequence_behind, forced_writer, next_restart, next_writer}
 use Rattle.seg_store.specs.Changed.{AllStores}
 use Rattle.checkpointing.specs.Written.{AreOf}
-use Rattle.checkpointing.specs.Checkpoint.{RecoversAlike, IsCheckpointed}
-use Rattle.checkpointing.specs.Conditions.{HasRestart, AreNamed, ForceKeeps, SnapshotKeeps}
+use Rattle.checkpointing.specs.Checkpoint.{KeepsRecovery, IsCheckpointed}
+use Rattle.checkpointing.specs.Conditions.{HasRestart, NoneIsAhead, ChangedAreNamed, ForceKeeps, SnapshotKeeps}
 use Rattle.checkpointing.specs.Steps.{WritesSnapshot, WritesRestart, Prepares, Takes}
 use Rattle.checkpointing.proofs.Calls.{within_then}
 use Rattle.checkpointing.proofs.Preparing.{sectors_fit, snapshot_prepares}
-use Rattle.model_image.specs.Areas.{data_first}
-use Rattle.checkpointing.proofs.Keeping.{Stands, prepares_keep, is_checkpointed, next_restart_in, next_at_end}
+use Rattle.model_image.specs.Areas.{log_first, data_first}
+use Rattle.model_image.proofs.Places.{slot_above, both_logs}
+use Rattle.checkpointing.proofs.Keeping.{Stands, prepares_keep, is_checkpointed, next_restart_in, next_ahead, next_at_end}
 
 -- What is known before the checkpoint.
-pub record Asked (parts : Parts) (log : Writer) (stores : AllStores) (disk : DiskState) : Type 0 where
+pub record Asked (parts : CheckpointParts) (log : Writer) (stores : AllStores) (disk : DiskState) : Type 0 where
   pub areas : data_first parts.system (length parts.system.databases) ≤ disk.size
   pub now : HasRestart parts.system parts.now disk
   pub free : AreFree parts
@@ -32,12 +33,12 @@ pub record Asked (parts : Parts) (log : Writer) (stores : AllStores) (disk : Dis
   pub of_ : AreOf parts.system stores
   pub fits : snapshot.sectors_of (length parts.snapshot) ≤ parts.snapshot_sectors
   pub next : IsRestart (next_restart parts log)
-  pub named : AreNamed parts log stores disk
-  pub unused : IsReady (next_writer parts log) disk
+  pub named : ChangedAreNamed parts log stores disk
+  pub ahead : NoneIsAhead parts.system parts.now.epoch (sequence_behind log) disk
   pub force : ForceKeeps parts log disk
   pub snapshot_keeps : SnapshotKeeps parts log stores disk
 
-module _ (parts : Parts) (log : Writer) (stores : AllStores) (old : DiskState) (disk : IsDisk old) (asked : Asked parts log stores old) where
+module _ (parts : CheckpointParts) (log : Writer) (stores : AllStores) (old : DiskState) (disk : IsDisk old) (asked : Asked parts log stores old) where
   stands : (image : Image) → old.may_leave image → Stands parts log stores image
   stands image left = record {
     now = asked.now image left;
@@ -49,14 +50,14 @@ module _ (parts : Parts) (log : Writer) (stores : AllStores) (old : DiskState) (
     named = asked.named image left;
   }
 
-  prepares_recover : (a e : Image) → old.may_leave a → Prepares parts log stores a e → RecoversAlike parts.system a e
+  prepares_recover : (a e : Image) → old.may_leave a → Prepares parts log stores a e → KeepsRecovery parts.system a e
   prepares_recover a e left prepares =
       prepares_keep parts log stores a (stands a left) (λ c front. asked.force a c left front) e prepares
 
   pub checkpointed : (a e : Image) → old.may_leave a → WritesRestart parts log stores a e → IsCheckpointed parts log stores a e
   checkpointed a e left whole = is_checkpointed parts log stores a (stands a left) e whole
 
-  takes_recover : (a e : Image) → old.may_leave a → Takes parts log stores a e → RecoversAlike parts.system a e
+  takes_recover : (a e : Image) → old.may_leave a → Takes parts log stores a e → KeepsRecovery parts.system a e
   takes_recover a e left takes =
       ⊎_elim (λ prepares. prepares_recover a e left prepares)
       (λ whole. asked.snapshot_keeps a e left (checkpointed a e left whole))
@@ -79,12 +80,12 @@ module _ (parts : Parts) (log : Writer) (stores : AllStores) (old : DiskState) (
       (restart_either (next_restart parts log) asked.next small b c some may)
 
   -- ---- at each exit
-  pub prepared_within : (new : DiskState) → Within (Prepares parts log stores) old new → Within (RecoversAlike parts.system) old new
-  prepared_within new within = within_where (Prepares parts log stores) (RecoversAlike parts.system) old new prepares_recover within
+  pub prepared_within : (new : DiskState) → Within (Prepares parts log stores) old new → Within (KeepsRecovery parts.system) old new
+  prepared_within new within = within_where (Prepares parts log stores) (KeepsRecovery parts.system) old new prepares_recover within
 
-  pub taken_within : (mid new : DiskState) → Within (Prepares parts log stores) old mid → Follows (WritesSnapshot parts log stores) old mid → Within (MayWrite 0 (restart_sector (next_restart parts log))) mid new → Within (RecoversAlike parts.system) old new
+  pub taken_within : (mid new : DiskState) → Within (Prepares parts log stores) old mid → Follows (WritesSnapshot parts log stores) old mid → Within (MayWrite 0 (restart_sector (next_restart parts log))) mid new → Within (KeepsRecovery parts.system) old new
   taken_within mid new before saved may =
-      within_where (Takes parts log stores) (RecoversAlike parts.system) old new takes_recover
+      within_where (Takes parts log stores) (KeepsRecovery parts.system) old new takes_recover
       (within_then (Prepares parts log stores) (WritesSnapshot parts log stores) (MayWrite 0 (restart_sector (next_restart parts log))) (Takes parts log stores) old mid new (λ a c prepares. inl prepares) restart_takes before saved may)
 
   pub taken_follows : (mid new : DiskState) → Follows (WritesSnapshot parts log stores) old mid → Follows (Restarts (next_restart parts log)) mid new → Follows (IsCheckpointed parts log stores) old new
@@ -96,12 +97,19 @@ module _ (parts : Parts) (log : Writer) (stores : AllStores) (old : DiskState) (
   taken_restart new follows image left =
       let w = follows.from image left in next_restart_in parts log stores w.before (stands w.before w.left) image w.by
 
+  small_logs : log_first parts.system 2 < 2 ^ 32
+  small_logs = omega (arith, asked.areas, disk.size_fits, slot_above parts.system (length parts.system.databases) 0)
+
+  pub taken_ahead : (new : DiskState) → Follows (IsCheckpointed parts log stores) old new → NoneIsAhead parts.system parts.now.epoch (sequence_behind log) new
+  taken_ahead new follows image left =
+      let w = follows.from image left in next_ahead parts log stores w.before (stands w.before w.left) image w.by (asked.ahead w.before w.left)
+
   pub taken_ready : (new : DiskState) → Follows (IsCheckpointed parts log stores) old new → IsReady (next_writer parts log) new
   taken_ready new follows image left =
-      let w = follows.from image left in next_at_end parts log stores w.before (stands w.before w.left) image w.by (asked.unused w.before w.left)
+      next_at_end parts log asked.free image (omega (arith, asked.next.sequence.1, small_logs, both_logs parts.system)) (taken_ahead new follows image left)
 
-pub all_asked : (parts : Parts) (log : Writer) (stores : AllStores) (disk : DiskState) → data_first parts.system (length parts.system.databases) ≤ disk.size → HasRestart parts.system parts.now disk → AreFree parts → IsOver parts log → log.place + sectors_of (length log.appended) ≤ log.count → AreOf parts.system stores → length parts.snapshot ≤ parts.snapshot_sectors * 4064 → IsRestart (next_restart parts log) → AreNamed parts log stores disk → IsReady (next_writer parts log) disk → ForceKeeps parts log disk → SnapshotKeeps parts log stores disk → Asked parts log stores disk
-all_asked parts log stores disk areas now free over room of_ fits next named unused force snapshot_keeps = record {
+pub all_asked : (parts : CheckpointParts) (log : Writer) (stores : AllStores) (disk : DiskState) → data_first parts.system (length parts.system.databases) ≤ disk.size → HasRestart parts.system parts.now disk → AreFree parts → IsOver parts log → log.place + sectors_of (length log.appended) ≤ log.count → AreOf parts.system stores → length parts.snapshot ≤ parts.snapshot_sectors * 4064 → IsRestart (next_restart parts log) → ChangedAreNamed parts log stores disk → NoneIsAhead parts.system parts.now.epoch (sequence_behind log) disk → ForceKeeps parts log disk → SnapshotKeeps parts log stores disk → Asked parts log stores disk
+all_asked parts log stores disk areas now free over room of_ fits next named ahead force snapshot_keeps = record {
   areas = areas;
   now = now;
   free = free;
@@ -111,7 +119,7 @@ all_asked parts log stores disk areas now free over room of_ fits next named unu
   fits = sectors_fit (length parts.snapshot) parts.snapshot_sectors fits;
   next = next;
   named = named;
-  unused = unused;
+  ahead = ahead;
   force = force;
   snapshot_keeps = snapshot_keeps;
 }

@@ -8,7 +8,7 @@ use Rattle.restart_data.specs.Snapshot.{snapshot_in}
 use Rattle.log_writer.specs.Writer.{Writer}
 use Rattle.log_writer.specs.Log.{log_of, sectors_of, StaysOrLogs}
 use Rattle.model_image.specs.Recovered.{Recovers}
-use Rattle.checkpointing.specs.Parts.{Parts, next_restart}
+use Rattle.checkpointing.specs.Parts.{CheckpointParts, next_restart}
 use Rattle.model_rows.specs.Record.{spelling}
 use Rattle.seg_store.specs.Changed.{AllStores}
 use Rattle.seg_store.specs.DataSectors.{data_sector}
@@ -16,8 +16,8 @@ use Rattle.model_image.specs.Areas.{data_first}
 use Rattle.checkpointing.specs.Written.{DirtySlot, DirtyAt}
 
 -- What lasts by the image before, lasts by the one after.
-abbrev pub RecoversAlike : System → Image → Image → Type 0
-RecoversAlike system before after = (state : LastingState) → Recovers system before (Ok state) → Recovers system after (Ok state)
+abbrev pub KeepsRecovery : System → Image → Image → Type 0
+KeepsRecovery system before after = (state : LastingState) → Recovers system before (Ok state) → Recovers system after (Ok state)
 
 -- one of so many sectors from a place on
 pub record InArea (first count k : ℕ) : Type 0 where
@@ -26,7 +26,7 @@ pub record InArea (first count k : ℕ) : Type 0 where
 
 -- The sectors that a checkpoint writes: the restart sector, the free snapshot area, the log's next sectors, and those of
 -- the slots that were changed.
-abbrev pub IsWritten : Parts → Writer → AllStores → ℕ → Type 0
+abbrev pub IsWritten : CheckpointParts → Writer → AllStores → ℕ → Type 0
 IsWritten parts log stores k =
     (k ≡ 0)
     ⊎ (InArea parts.snapshot_at parts.snapshot_sectors k
@@ -35,7 +35,7 @@ IsWritten parts log stores k =
 -- The image after a checkpoint, by the one before: the log has what was appended; each slot that was changed stands in
 -- its sector; the new snapshot stands in the area that was free; and the restart sector names it and the other log
 -- area. All other sectors stay.
-pub record IsCheckpointed (parts : Parts) (log : Writer) (stores : AllStores) (before after : Image) : Type 0 where
+pub record IsCheckpointed (parts : CheckpointParts) (log : Writer) (stores : AllStores) (before after : Image) : Type 0 where
   pub restart : (most : ℕ) → (next_restart parts log).sectors ≤ most → restart_in most after ≡ Ok (Some (next_restart parts log))
   pub snapshot : snapshot_in (next_restart parts log).sectors after parts.snapshot_at (next_restart parts log).checkpoint ≡ Ok parts.snapshot
   pub log_has : log_of log after ≡ log_of log before ++ log.appended

@@ -7,23 +7,28 @@ use Rattle.restart_data.specs.declared.restart.RestartSector.{RestartSector}
 use Rattle.restart_data.specs.Restart.{restart_in}
 use Rattle.log_writer.specs.Writer.{Writer}
 use Rattle.log_writer.specs.Log.{log_of, AddsFront}
+use Rattle.model_image.specs.Ahead.{NoneAhead}
 use Rattle.model_image.specs.Areas.{snapshot_area}
 use Rattle.model_image.specs.Cut.{cut_of}
 use Rattle.model_image.specs.Slots.{named_by}
 use Rattle.model_image.specs.Recovered.{snapshot_from}
-use Rattle.checkpointing.specs.Parts.{Parts}
+use Rattle.checkpointing.specs.Parts.{CheckpointParts}
 use Rattle.seg_store.specs.Changed.{AllStores}
 use Rattle.checkpointing.specs.Written.{DirtySlot}
-use Rattle.checkpointing.specs.Checkpoint.{RecoversAlike, IsCheckpointed}
+use Rattle.checkpointing.specs.Checkpoint.{KeepsRecovery, IsCheckpointed}
 
 -- Each image that a crash may leave has this restart sector.
 abbrev pub HasRestart : System → RestartSector → DiskState → Type 0
 HasRestart system restart disk = (image : Image) → disk.may_leave image → restart_in (snapshot_area system) image ≡ Ok (Some restart)
 
+-- In each of them no log sector of this epoch has this sequence or a later one.
+abbrev pub NoneIsAhead : System → ℕ → ℕ → DiskState → Type 0
+NoneIsAhead system epoch sequence disk = (image : Image) → disk.may_leave image → NoneAhead system image epoch sequence
+
 -- In each of them a record of the snapshot that holds, or of the log with what is appended, names each slot that was
 -- changed since it was written.
-abbrev pub AreNamed : Parts → Writer → AllStores → DiskState → Type 0
-AreNamed parts log stores disk =
+abbrev pub ChangedAreNamed : CheckpointParts → Writer → AllStores → DiskState → Type 0
+ChangedAreNamed parts log stores disk =
     (image : Image) → disk.may_leave image
     → (snapshot : List Record) → snapshot_from parts.system image parts.now ≡ Ok snapshot
     → (place number : ℕ) → DirtySlot stores place number
@@ -31,11 +36,11 @@ AreNamed parts log stores disk =
 
 -- Until what is appended is forced, and once it is, what lasts stays the same: each image that a crash may leave within the
 -- force recovers as the one before it.
-abbrev pub ForceKeeps : Parts → Writer → DiskState → Type 0
+abbrev pub ForceKeeps : CheckpointParts → Writer → DiskState → Type 0
 ForceKeeps parts log disk =
-    (before after : Image) → disk.may_leave before → AddsFront log before after → RecoversAlike parts.system before after
+    (before after : Image) → disk.may_leave before → AddsFront log before after → KeepsRecovery parts.system before after
 
 -- The new snapshot with no log behind it, and the slots as the stores have them, recover to the same.
-abbrev pub SnapshotKeeps : Parts → Writer → AllStores → DiskState → Type 0
+abbrev pub SnapshotKeeps : CheckpointParts → Writer → AllStores → DiskState → Type 0
 SnapshotKeeps parts log stores disk =
-    (before after : Image) → disk.may_leave before → IsCheckpointed parts log stores before after → RecoversAlike parts.system before after
+    (before after : Image) → disk.may_leave before → IsCheckpointed parts log stores before after → KeepsRecovery parts.system before after

@@ -10,7 +10,7 @@ use Rattle.checkpointing.specs.declared.checkpoint.PartsView.{PartsView}
 
 -- the system, the restart sector that holds, where the snapshot and the log behind it are to stand, and the snapshot's
 -- bytes
-pub record Parts : Type 0 where
+pub record CheckpointParts : Type 0 where
   pub system : System
   pub now : RestartSector
   pub snapshot_at : ℕ
@@ -19,7 +19,7 @@ pub record Parts : Type 0 where
   pub log_sectors : ℕ
   pub snapshot : List ℕ
 
-abbrev pub parts_of : PartsView → Parts
+abbrev pub parts_of : PartsView → CheckpointParts
 parts_of view = record {
   system = view.system.now;
   now = view.now.now;
@@ -40,7 +40,7 @@ sequence_behind log = log.sequence + log.place + sectors_of (length log.appended
 
 -- The restart sector that a checkpoint writes: it names the new snapshot and the other log area, whose first sequence is
 -- the next one.
-abbrev pub restart_behind : Parts → ℕ → RestartSector
+abbrev pub restart_behind : CheckpointParts → ℕ → RestartSector
 restart_behind parts sequence = record {
   epoch = parts.now.epoch;
   snapshot = other_area parts.now.snapshot;
@@ -51,7 +51,7 @@ restart_behind parts sequence = record {
   text = parts.now.text;
 }
 
-abbrev pub next_restart : Parts → Writer → RestartSector
+abbrev pub next_restart : CheckpointParts → Writer → RestartSector
 next_restart parts log = restart_behind parts (sequence_behind log)
 
 -- the log's writer once all is forced
@@ -59,7 +59,7 @@ abbrev pub forced_writer : Writer → Writer
 forced_writer log = record log { place = log.place + sectors_of (length log.appended); appended = [] }
 
 -- The log's writer behind a checkpoint, at the start of the other log area.
-abbrev pub next_writer : Parts → Writer → Writer
+abbrev pub next_writer : CheckpointParts → Writer → Writer
 next_writer parts log = record {
   first = parts.log_at;
   count = parts.log_sectors;
@@ -70,14 +70,14 @@ next_writer parts log = record {
 }
 
 -- The areas are those that the restart sector doesn't name.
-pub record AreFree (parts : Parts) : Type 0 where
+pub record AreFree (parts : CheckpointParts) : Type 0 where
   pub snapshot_at : parts.snapshot_at ≡ snapshot_first parts.system (other_area parts.now.snapshot)
   pub snapshot_sectors : parts.snapshot_sectors ≡ snapshot_area parts.system
   pub log_at : parts.log_at ≡ log_first parts.system (other_area parts.now.log)
   pub log_sectors : parts.log_sectors ≡ parts.system.logs
 
 -- The writer is over the log area that the restart sector names, with its epoch and its first sequence.
-pub record IsOver (parts : Parts) (log : Writer) : Type 0 where
+pub record IsOver (parts : CheckpointParts) (log : Writer) : Type 0 where
   pub first : log.first ≡ log_first parts.system parts.now.log
   pub count : log.count ≡ parts.system.logs
   pub sequence : log.sequence ≡ parts.now.sequence

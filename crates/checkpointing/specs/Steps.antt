@@ -4,7 +4,7 @@ use Rattle.model_disk.specs.Disk.{Image, sector_at}
 use Rattle.restart_data.specs.Images.{Saves, Restarts}
 use Rattle.log_writer.specs.Writer.{Writer}
 use Rattle.log_writer.specs.Log.{AddsFront, AddsAll}
-use Rattle.checkpointing.specs.Parts.{Parts, next_restart}
+use Rattle.checkpointing.specs.Parts.{CheckpointParts, next_restart}
 use Rattle.seg_store.specs.Changed.{AllStores}
 use Rattle.seg_store.specs.DataSectors.{HasPut}
 use Rattle.seg_store.specs.WriteBack.{changed_bytes}
@@ -19,26 +19,26 @@ pub record Then (first second : Image → Image → Type 0) (before after : Imag
   pub two : second middle after
 
 -- The log is forced, then the slots that were changed are written, then the snapshot, and then the restart sector.
-abbrev pub WritesSlots : Parts → Writer → AllStores → Image → Image → Type 0
+abbrev pub WritesSlots : CheckpointParts → Writer → AllStores → Image → Image → Type 0
 WritesSlots parts log stores = Then (AddsAll log) (HasPut (data_first parts.system 0) (changed_bytes stores))
 
-abbrev pub WritesSnapshot : Parts → Writer → AllStores → Image → Image → Type 0
+abbrev pub WritesSnapshot : CheckpointParts → Writer → AllStores → Image → Image → Type 0
 WritesSnapshot parts log stores = Then (WritesSlots parts log stores) (Saves parts.snapshot_at (parts.now.checkpoint + 1) parts.snapshot)
 
-abbrev pub WritesRestart : Parts → Writer → AllStores → Image → Image → Type 0
+abbrev pub WritesRestart : CheckpointParts → Writer → AllStores → Image → Image → Type 0
 WritesRestart parts log stores = Then (WritesSnapshot parts log stores) (Restarts (next_restart parts log))
 
 -- The sectors that the restart sector before the checkpoint leads nobody to: those of changed slots, which a record
 -- names, and the free snapshot area.
-pub record ChangesUnread (parts : Parts) (stores : AllStores) (before after : Image) : Type 0 where
+pub record ChangesUnread (parts : CheckpointParts) (stores : AllStores) (before after : Image) : Type 0 where
   pub size : length after ≡ length before
   pub each : (k : ℕ) → (sector_at after k ≡ sector_at before k) ⊎ (DirtyAt parts.system stores k ⊎ InArea parts.snapshot_at parts.snapshot_sectors k)
 
 -- At any moment until the restart sector is written a front of what was appended was forced; or all of it, and only such
 -- sectors are others since.
-abbrev pub Prepares : Parts → Writer → AllStores → Image → Image → Type 0
+abbrev pub Prepares : CheckpointParts → Writer → AllStores → Image → Image → Type 0
 Prepares parts log stores before after = AddsFront log before after ⊎ Then (AddsAll log) (ChangesUnread parts stores) before after
 
 -- And then the restart sector was written, too.
-abbrev pub Takes : Parts → Writer → AllStores → Image → Image → Type 0
+abbrev pub Takes : CheckpointParts → Writer → AllStores → Image → Image → Type 0
 Takes parts log stores before after = Prepares parts log stores before after ⊎ WritesRestart parts log stores before after

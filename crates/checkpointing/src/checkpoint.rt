@@ -6,10 +6,10 @@ ghost use Rattle.restart_data.specs.Snapshot as snapshot;
 ghost use Rattle.log_writer.specs.Log.{sectors_of, log_of, IsReady};
 ghost use Rattle.model_image.specs.Areas.{data_first};
 ghost use Rattle.seg_store.specs.WriteBack.{changed_count, all_written};
-ghost use Rattle.checkpointing.specs.Parts.{parts_of, other_area, restart_behind, next_restart, next_writer, AreFree, IsOver};
+ghost use Rattle.checkpointing.specs.Parts.{parts_of, other_area, restart_behind, sequence_behind, next_restart, next_writer, AreFree, IsOver};
 ghost use Rattle.checkpointing.specs.Written.{AreOf};
-ghost use Rattle.checkpointing.specs.Checkpoint.{RecoversAlike, IsCheckpointed};
-ghost use Rattle.checkpointing.specs.Conditions.{HasRestart, AreNamed, ForceKeeps, SnapshotKeeps};
+ghost use Rattle.checkpointing.specs.Checkpoint.{KeepsRecovery, IsCheckpointed};
+ghost use Rattle.checkpointing.specs.Conditions.{HasRestart, NoneIsAhead, ChangedAreNamed, ForceKeeps, SnapshotKeeps};
 
 use crate::steps::prepare;
 use log_writer::LogWriter;
@@ -69,19 +69,19 @@ pub fn take<D: Disk>(
     requires next { IsRestart (next_restart (parts_of parts.now) log.old) }
     // The stores are those of the system, and each slot that was changed is named by a record.
     requires stores { AreOf parts.now.system.now stores.old }
-    requires named { AreNamed (parts_of parts.now) log.old stores.old (D.state disk.old) }
-    // The writer is over the log area that holds, and the other has no sector of what is to come.
+    requires named { ChangedAreNamed (parts_of parts.now) log.old stores.old (D.state disk.old) }
+    // The writer is over the log area that holds, and neither area has a sector of what is to come.
     requires over { IsOver (parts_of parts.now) log.old }
     requires log_area { log.old.first + log.old.count ≤ (D.state disk.old).size }
     requires ready { IsReady log.old (D.state disk.old) }
-    requires unused { IsReady (next_writer (parts_of parts.now) log.old) (D.state disk.old) }
+    requires ahead { NoneIsAhead parts.now.system.now parts.now.now.now.epoch (sequence_behind log.old) (D.state disk.old) }
     // What lasts is the same within the force, and by the new snapshot.
     requires force_keeps { ForceKeeps (parts_of parts.now) log.old (D.state disk.old) }
     requires snapshot_keeps { SnapshotKeeps (parts_of parts.now) log.old stores.old (D.state disk.old) }
 
     ensures stays { Stays (D.state disk.old) (D.state disk.new) }
     // Whenever a crash comes, the image recovers to what lasted before.
-    ensures any_moment { Within (RecoversAlike parts.entry.now.system.now) (D.state disk.old) (D.state disk.new) }
+    ensures any_moment { Within (KeepsRecovery parts.entry.now.system.now) (D.state disk.old) (D.state disk.new) }
     // Then each image is that of the checkpoint, and no other is left.
     ensures answer { IfOk result (λ restart. restart ≡ next_restart (parts_of parts.entry.now) log.old) }
     ensures done { OnOk result (Follows (IsCheckpointed (parts_of parts.entry.now) log.old stores.old) (D.state disk.old) (D.state disk.new)) }
@@ -90,6 +90,7 @@ pub fn take<D: Disk>(
     // The writer begins the other log area, which has nothing of its log.
     ensures writer { OnOk result (log.new ≡ next_writer (parts_of parts.entry.now) log.old) }
     ensures ready { OnOk result (IsReady log.new (D.state disk.new)) }
+    ensures ahead { OnOk result (NoneIsAhead parts.entry.now.system.now parts.entry.now.now.now.epoch (sequence_behind log.old) (D.state disk.new)) }
     ensures empty { OnOk result ((image : Image) → (D.state disk.new).may_leave image → log_of log.new image ≡ []) }
     // Each slot is written.
     ensures written { OnOk result (stores.new ≡ all_written stores.old) }

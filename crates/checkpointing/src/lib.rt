@@ -9,3 +9,4 @@ mod checkpoint;
 mod steps;
 
 pub use checkpoint::{CheckFault, PartsView, take};
+pub use steps::save_snapshot;

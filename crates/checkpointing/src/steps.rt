@@ -35,8 +35,9 @@ fn write_slots<D: Disk>(disk: &mut D, stores: &mut Stores, first: u32) -> Result
     Ok(())
 }
 
-// Writes bytes as the snapshot of a checkpoint into an area. The answer is how many sectors they take.
-fn save_snapshot<D: Disk>(
+/// Writes bytes as the snapshot of a checkpoint into the area of `count` sectors that begins at `first`, and syncs. The
+/// answer is how many sectors they take. `Disk` comes exactly where the disk failed in the call.
+pub fn save_snapshot<D: Disk>(
     disk: &mut D,
     first: u32,
     count: u32,
