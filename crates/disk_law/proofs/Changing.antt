@@ -1,30 +1,28 @@
 -- A unit changes slots, or ends without a sync point: each image of the life is one of the life that this leaves.
-use Rattle.std.proofs.Common.{◌≡◌, ℕ, zero, suc, ◌+◌, ◌-◌, ◌<◌, ◌≤◌, Bool, true, false, not, ◌&&◌, ◌||◌, List, [], ◌∷◌, ◌++◌, length, get_or, refl, sym, ◌∙◌, ap, subst, ⊎_elim, arith, Some, None, IsSome, append_assoc, append-nil, nat_lt}
+use Rattle.std.proofs.Common.{◌≡◌, ℕ, zero, suc, ◌+◌, ◌-◌, ◌<◌, Bool, true, false, not, ◌&&◌, ◌||◌, List, [], ◌∷◌, ◌++◌, refl, sym, ◌∙◌, ap, subst, arith, Some, None, IsSome, append_assoc, append-nil, nat_lt}
 use Rattle.std.specs.Prelude.{Option, if◌then◌else◌, ◌==◌, slice_get, reverse}
-use Rattle.std.specs.List.{list_all, list_any, flat_map, AllByRecursion}
+use Rattle.std.specs.List.{list_any, flat_map}
 use Rattle.std.specs.Option.{option_map_or}
-use Rattle.std.proofs.Math.ListN.{get_or-append}
-use Rattle.std.proofs.lemmas.Bool.{eq-eqb, eqb-true, eqb-false, ne_eqb, ltb-true, cases_lt}
+use Rattle.std.proofs.lemmas.Bool.{eq-eqb, eqb-true, ltb-true}
 use Rattle.std.proofs.lemmas.Grind.{flat_map-append}
 use Rattle.std.proofs.lemmas.List.Concat.{flat_map-cons}
 use Rattle.std.proofs.lemmas.List.Elements.{filter-append}
 use Rattle.std.proofs.lemmas.List.Folds.{list_any-append}
-use Rattle.std.proofs.Math.Seq.{of_parts}
 use Rattle.tm_types.specs.declared.dbd.Dbd.{Dbd}
 use Rattle.model_disk.specs.Disk.{Image}
 use Rattle.model_system.specs.System.{System}
 use Rattle.log_records.specs.declared.record.Record.{Record}
 use Rattle.log_records.specs.Spelling.{spelling, IsRecord}
 use Rattle.log_records.proofs.Takes.{IsBytes}
-use Rattle.model_image.specs.Slots.{is_change_of, is_sync_point_of, is_synced, is_image, are_images, dbd_at, is_image_of, named_by}
-use Rattle.replay_law.specs.Records.{is_change, without_changes}
+use Rattle.model_image.specs.Slots.{is_change_of, is_sync_point_of, is_synced, is_image, are_images, is_image_of, named_by}
+use Rattle.replay_law.specs.Records.{is_change}
 use Rattle.replay_law.proofs.Bools.{first_of, second_of, neither_first}
 use Rattle.replay_law.proofs.Lists.{all_more}
-use Rattle.slot_law.specs.Committed.{Touch, Touches, Bytes, changes_of, last_change, IsLast, AreCommitted, is_place, touched, with_touch, without_touches, without_sync}
+use Rattle.slot_law.specs.Committed.{Touch, Touches, Bytes, changes_of, IsLast, AreCommitted, is_place, touched}
 use Rattle.slot_law.proofs.Slots.{change_keeps, ended_keeps}
-use Rattle.disk_law.specs.Life.{LifeOnDisk, IsLife, IsWriterOf, AreAppended, AreBeside, EachSlot}
+use Rattle.disk_law.specs.Life.{LifeOnDisk, IsLife, AreBeside}
 use Rattle.disk_law.specs.Kept.{IsKept, StandsAt}
-use Rattle.disk_law.specs.Changes.{SlotChange, change_record, put_at, with_bytes, with_slot_change, MayChange, with_slot_changes, MayChangeAll, put_back, without_unit, MarksBack}
+use Rattle.disk_law.specs.Changes.{SlotChange, change_record, with_slot_change, MayChange, with_slot_changes, MayChangeAll, without_unit, MarksBack}
 use Rattle.disk_law.proofs.Naming.{all_behind, unnamed_changes, named_stays}
 use Rattle.disk_law.proofs.Front.{all_both}
 

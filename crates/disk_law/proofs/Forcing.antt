@@ -1,5 +1,5 @@
 -- What is read of an image once a front of what was appended was forced, or all of it.
-use Rattle.std.proofs.Common.{◌≡◌, ℕ, zero, suc, ◌+◌, ◌-◌, ◌*◌, ◌<◌, ◌≤◌, ◌^◌, false, List, [], ◌∷◌, ◌++◌, length, take, refl, sym, ◌∙◌, ap, subst, ⊎_elim, arith, Some, None, Ok, IsSome}
+use Rattle.std.proofs.Common.{◌≡◌, ℕ, zero, suc, ◌+◌, ◌-◌, ◌*◌, ◌<◌, ◌≤◌, false, List, ◌++◌, length, take, refl, sym, ◌∙◌, ap, subst, ⊎_elim, arith, Some, None, Ok, IsSome}
 use Rattle.std.specs.List.{flat_map, AllByRecursion}
 use Rattle.std.proofs.lemmas.Bool.{cases_lt}
 use Rattle.std.proofs.lemmas.Grind.{flat_map-append}
@@ -11,7 +11,6 @@ use Rattle.log_records.specs.declared.record.Record.{Record}
 use Rattle.log_records.specs.Spelling.{spelling, IsRecord}
 use Rattle.log_records.proofs.Takes.{IsBytes}
 use Rattle.log_sectors.specs.Sealed.{opened}
-use Rattle.log_sectors.specs.Chain.{chain, joined}
 use Rattle.log_writer.specs.Writer.{Writer}
 use Rattle.log_writer.specs.Log.{log_of, sectors_of, StaysOrLogs, ChangesOnly}
 use Rattle.restart_data.specs.declared.restart.RestartSector.{RestartSector}
@@ -22,7 +21,7 @@ use Rattle.model_image.specs.Recovered.{snapshot_from, log_in, is_later, first_l
 use Rattle.model_image.proofs.Alike.{snapshot_same}
 use Rattle.model_image.proofs.Cutting.{CutsFront, cuts_front}
 use Rattle.model_image.proofs.Later.{none_later, each_not_later}
-use Rattle.model_image.proofs.Places.{snapshot_below, log_above, log_below, slot_above, both_logs}
+use Rattle.model_image.proofs.Places.{snapshot_below, log_above, log_below, slot_above}
 use Rattle.model_image.proofs.Readings as readings
 use Rattle.disk_law.specs.Life.{EachSlot, IsWriterOf}
 use Rattle.disk_law.specs.Text.{bytes_from, text_in}

@@ -1,10 +1,9 @@
 -- An image of a life recovers to what lasts, and so does one that has a front of what was appended.
-use Rattle.std.proofs.Common.{◌≡◌, ℕ, zero, suc, ◌+◌, ◌*◌, ◌≤◌, Bool, true, false, not, ◌||◌, List, [], ◌∷◌, ◌++◌, length, take, drop, refl, sym, ◌∙◌, ap, subst, arith, inl, Some, None, Ok, take-append-drop, append-nil}
-use Rattle.std.specs.Prelude.{Option, if◌then◌else◌}
-use Rattle.std.specs.List.{list_all, list_any, flat_map, AllByRecursion}
+use Rattle.std.proofs.Common.{◌≡◌, ℕ, ◌+◌, ◌≤◌, Bool, true, false, not, ◌||◌, List, [], ◌∷◌, ◌++◌, length, take, drop, refl, sym, ◌∙◌, ap, subst, inl, Some, None, Ok, take-append-drop, append-nil}
+use Rattle.std.specs.Prelude.{if◌then◌else◌}
+use Rattle.std.specs.List.{list_any, flat_map, AllByRecursion}
 use Rattle.std.proofs.lemmas.List.Elements.{filter-append}
-use Rattle.model_disk.specs.Disk.{Image, sector_at}
-use Rattle.model_system.specs.System.{System}
+use Rattle.model_disk.specs.Disk.{Image}
 use Rattle.model_machine.specs.Machine.{LastingState}
 use Rattle.log_records.specs.declared.record.Record.{Record}
 use Rattle.log_records.specs.declared.record.Record.TheVariants.{Input, Command, Reply, Discarded, Completed, Acknowledged, SyncPoint, Checkpoint, Terminal, Code, Change}
@@ -12,18 +11,18 @@ use Rattle.log_records.specs.Spelling.{spelling, IsRecord}
 use Rattle.log_records.proofs.Takes.{IsBytes}
 use Rattle.log_writer.specs.Writer.{Writer}
 use Rattle.log_writer.specs.Log.{log_of, sectors_of, AddsFront}
-use Rattle.model_image.specs.Cut.{Cut, cut_of}
+use Rattle.model_image.specs.Cut.{cut_of}
 use Rattle.model_image.specs.Slots.{is_sync_point_of, is_image_of, named_by}
 use Rattle.model_image.specs.Replay.{Replay, replay_all}
 use Rattle.model_image.specs.Recovered.{log_in, Recovers}
 use Rattle.replay_law.specs.Records.{is_change, without_changes}
 use Rattle.replay_law.proofs.Replayed.{all_take, appended}
 use Rattle.slot_law.specs.Committed.{Bytes}
-use Rattle.disk_law.specs.Life.{LifeOnDisk, IsLife, IsWriterOf, EachSlot, SpellRows, but_rows}
+use Rattle.disk_law.specs.Life.{LifeOnDisk, IsLife, IsWriterOf, SpellRows, but_rows}
 use Rattle.disk_law.specs.Kept.{IsKept, StandsAt, beginning}
-use Rattle.disk_law.specs.Text.{HoldsBytes}
+use Rattle.model_image.specs.Holding.{HoldsBytes}
 use Rattle.disk_law.proofs.Naming.{NamedAs, front_empty, unnamed_before, named_front}
-use Rattle.disk_law.proofs.Recovering.{IsReadAs, read_recovers}
+use Rattle.disk_law.proofs.Recovering.{read_recovers}
 use Rattle.disk_law.proofs.Forcing.{CutsBehind, cuts_behind, log_is, restart_stays, snapshot_stays, slots_stay, none_later_after}
 
 -- ---- lists

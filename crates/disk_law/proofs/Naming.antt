@@ -1,5 +1,5 @@
 -- What records that are appended behind a log say of the slots.
-use Rattle.std.proofs.Common.{◌≡◌, ◌⊎◌, inl, inr, Bool, true, false, not, ◌&&◌, ◌||◌, List, [], ◌∷◌, ◌++◌, ℕ, zero, suc, take, refl, sym, ◌∙◌, ap, subst, Some, None, IsSome, append_assoc}
+use Rattle.std.proofs.Common.{◌≡◌, ◌⊎◌, inl, inr, Bool, true, false, ◌||◌, List, [], ◌∷◌, ◌++◌, ℕ, zero, suc, take, refl, sym, ◌∙◌, ap, subst, Some, None, IsSome, append_assoc}
 use Rattle.std.specs.Prelude.{if◌then◌else◌, filter, find, reverse, slice_get, Option, IfSome}
 use Rattle.std.specs.List.{list_all, list_any}
 use Rattle.std.specs.Option.{option_or, option_map}

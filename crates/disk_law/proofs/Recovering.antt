@@ -1,5 +1,5 @@
 -- An image whose records are done again to what lasts, and whose slots have the committed bytes, recovers to it.
-use Rattle.std.proofs.Common.{◌≡◌, ℕ, zero, suc, ◌+◌, ◌*◌, ◌<◌, ◌≤◌, true, List, [], ◌∷◌, length, map, refl, sym, ◌∙◌, ap, subst, arith, Some, None, Ok}
+use Rattle.std.proofs.Common.{◌≡◌, ℕ, zero, suc, ◌+◌, ◌*◌, ◌<◌, true, List, [], ◌∷◌, map, refl, sym, ◌∙◌, ap, subst, arith, Some, None, Ok}
 use Rattle.std.specs.Prelude.{Option, Result, slice_get, slice_index_or}
 use Rattle.std.specs.Option.{option_map, option_map_or}
 use Rattle.std.specs.List.{AllByRecursion}
@@ -14,18 +14,18 @@ use Rattle.log_records.specs.declared.record.Record.{Record}
 use Rattle.log_records.specs.Reading.{◌>>=◌}
 use Rattle.restart_data.specs.declared.restart.RestartSector.{RestartSector}
 use Rattle.restart_data.specs.Restart.{restart_in}
-use Rattle.seg_store.specs.Slots.{Stored, AreSlots, IsSlot, rows_of_slots}
+use Rattle.seg_store.specs.Slots.{Stored, AreSlots, IsSlot}
 use Rattle.model_image.specs.Areas.{snapshot_area, log_first, data_first}
-use Rattle.model_image.specs.Cut.{Cut, IsCutOff}
+use Rattle.model_image.specs.Cut.{IsCutOff}
 use Rattle.model_image.specs.Faults.{Fault, in_sector, or_fault, unless_fault}
 use Rattle.model_image.specs.Slots.{slot_in, slots_by, named_by, rows_from}
 use Rattle.model_image.specs.Replay.{Replay, replay_all}
 use Rattle.model_image.specs.Recovered.{snapshot_from, log_in, log_from, state_from, first_later, later_sector, state_with, state_by, rest_by, log_rest, Recovers}
 use Rattle.slot_law.specs.Committed.{Bytes}
-use Rattle.disk_law.specs.Life.{EachSlot, slots_at, bytes_at, SpellRows, but_rows}
+use Rattle.disk_law.specs.Life.{EachSlot, SpellRows, but_rows}
 use Rattle.disk_law.specs.Kept.{StandsAt, beginning}
 use Rattle.disk_law.proofs.Naming.{NamedAs}
-use Rattle.disk_law.proofs.SlotsRead.{IsRight, AreRight, slot_right, right_by, IsGood, of_store, rows_read}
+use Rattle.disk_law.proofs.SlotsRead.{IsRight, AreRight, slot_right, right_by, IsGood, rows_read}
 
 -- What is read of an image, so that it recovers to this state.
 pub record IsReadAs (system : System) (now : RestartSector) (snapshot records : List Record) (lasting : LastingState) (committed : Bytes) (image : Image) : Type 0 where
@@ -78,16 +78,16 @@ module _ (system : System) (image : Image) (snapshot records : List Record) (com
 
   good : (place : ℕ) (s : Stored) → slice_get spell.stores place ≡ Some s → IsGood system image snapshot records place s
   good place s found =
-      let valid : AreSlots s.dbd s.slots = all_at (λ (s : Stored). AreSlots s.dbd s.slots) spell.stores place s spell.valid found in
-      (
+      let valid : AreSlots s.dbd s.slots = all_at (λ (s : Stored). AreSlots s.dbd s.slots) spell.stores place s spell.valid found in (
         subst (λ n. AreRight (slots_by (slot_in image snapshot records s.dbd (data_first system place) (place + 1)) n 0) s.slots) valid.count
-        (right_by (slot_in image snapshot records s.dbd (data_first system place) (place + 1)) s.slots 0 (λ k slot_image there. one_right place s found valid k slot_image there)),
+            (right_by (slot_in image snapshot records s.dbd (data_first system place) (place + 1)) s.slots 0 (λ k slot_image there.
+            subst (λ n. IsRight (slot_in image snapshot records s.dbd (data_first system place) (place + 1) n) slot_image) (omega arith) (one_right place s found valid k slot_image there))),
         valid.apart,
       )
 
   pub rows_there : rows_from system image snapshot records ≡ Ok lines
   rows_there =
-      rows_read system image snapshot records spell.stores spell.databases (λ j s found. good j s found)
+      rows_read system image snapshot records spell.stores spell.databases (λ j s found. subst (λ k. IsGood system image snapshot records k s) (omega arith) (good j s found))
       ∙ ap (λ (l : List (List Row)). Ok l) spell.are
 
 -- ---- the whole

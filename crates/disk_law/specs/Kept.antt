@@ -1,5 +1,5 @@
 -- What each image that a stop may leave has of a life.
-use Rattle.std.specs.Prelude.{◌≡◌, ℕ, ◌+◌, ◌*◌, Bool, true, false, List, [], ◌++◌, IsSome, Some, None, Ok}
+use Rattle.std.specs.Prelude.{◌≡◌, ℕ, ◌+◌, ◌*◌, true, false, List, [], ◌++◌, IsSome, Some, None, Ok}
 use Rattle.std.specs.List.{list_any, flat_map, AllByRecursion}
 use Rattle.model_disk.specs.Disk.{Image, sector_at}
 use Rattle.model_system.specs.System.{System}
@@ -8,6 +8,8 @@ use Rattle.log_records.specs.Spelling.{spelling, IsRecord}
 use Rattle.log_records.proofs.Takes.{IsBytes}
 use Rattle.log_writer.specs.Log.{log_of}
 use Rattle.restart_data.specs.Restart.{restart_in}
+use Rattle.model_image.specs.Ahead.{NoneAhead}
+use Rattle.model_image.specs.Holding.{HoldsBytes}
 use Rattle.model_image.specs.Areas.{snapshot_area, log_first, data_first}
 use Rattle.model_image.specs.Snapshot.{snapshot_state}
 use Rattle.model_image.specs.Slots.{named_by, is_synced}
@@ -15,7 +17,7 @@ use Rattle.model_image.specs.Replay.{Replay, replay_all}
 use Rattle.model_image.specs.Recovered.{snapshot_from, first_later}
 use Rattle.slot_law.specs.Committed.{AreCommitted}
 use Rattle.disk_law.specs.Life.{LifeOnDisk, EachSlot, but_rows}
-use Rattle.disk_law.specs.Text.{text_in, HoldsBytes, NoneAhead}
+use Rattle.disk_law.specs.Text.{text_in}
 
 -- these bytes stand in the sector of a slot
 abbrev pub StandsAt : System → Image → ℕ → ℕ → List ℕ → Type 0
