@@ -1,17 +1,12 @@
--- The text of a definition on a disk, and what a disk needs for its system.
+-- The text of a definition on a disk.
 use Rattle.std.specs.Prelude.{ℕ, zero, suc, ◌+◌, List, [], ◌∷◌, ◌++◌, length, map, take, ◌==◌, if◌then◌else◌, Option, Some, None, IsTrue}
 use Rattle.std.specs.Option.{option_map}
 use Rattle.std.specs.List.{list_all}
 use Rattle.model_disk.specs.Disk.{Image, sector_at}
 use Rattle.model_system.specs.System.{System}
 use Rattle.model_machine.specs.Machine.{first_setting}
-use Rattle.model_image.specs.Areas.{data_first}
 use Rattle.model_image.specs.States.{is_setting}
 use Rattle.snapshot_records.specs.Records.{AreApart}
-
--- how many sectors a disk of the system has at least
-abbrev pub sectors_needed : System → ℕ
-sectors_needed system = data_first system (length system.databases)
 
 -- the bytes of so many sectors from a place on
 abbrev pub bytes_from : ℕ → Image → ℕ → List ℕ

@@ -2,4 +2,3 @@ pub mod Definition
 pub mod Parts
 pub mod Renewal
 pub mod Opening
-pub mod Filling

@@ -17,8 +17,9 @@ use Rattle.tm_restart.specs.declared.parts.Counter.TheVariants as counter
 use Rattle.tm_restart.specs.declared.parts.OpenError.{OpenError}
 use Rattle.tm_restart.specs.declared.parts.OpenError.TheVariants.{BadImage, WrongDefinition, TooSmall, Spent, Disk, Memory}
 use Rattle.tm_restart.specs.Parts.{OpeningParts}
-use Rattle.tm_restart.specs.Definition.{sectors_needed, text_in, first_difference}
-use Rattle.tm_restart.specs.Renewal.{IsFirst, IsNext}
+use Rattle.cold_start.specs.FirstImage.{IsFirst, sectors_needed}
+use Rattle.tm_restart.specs.Definition.{text_in, first_difference}
+use Rattle.tm_restart.specs.Renewal.{IsNext}
 
 -- ---- counters
 

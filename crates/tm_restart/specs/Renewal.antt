@@ -1,8 +1,8 @@
 -- What a life finds on the disk when it begins, and what a stop before that leaves.
-use Rattle.std.specs.Prelude.{◌≡◌, ◌⊎◌, ℕ, ◌+◌, ◌-◌, List, [], length, Some, Ok}
+use Rattle.std.specs.Prelude.{◌≡◌, ℕ, ◌+◌, ◌-◌, List, [], length, Some, Ok}
 use Rattle.model_disk.specs.Disk.{Image}
 use Rattle.model_system.specs.System.{System}
-use Rattle.model_machine.specs.Machine.{LastingState, empty_state}
+use Rattle.model_machine.specs.Machine.{LastingState}
 use Rattle.restart_data.specs.declared.restart.RestartSector.{RestartSector}
 use Rattle.restart_data.specs.Restart.{restart_in}
 use Rattle.log_writer.specs.Writer.{Writer}
@@ -34,19 +34,7 @@ pub record IsRenewed (system : System) (text : List ℕ) (now : RestartSector) (
   pub recovers : Recovers system image (Ok state)
   pub none_ahead : NoneAhead system image now.epoch now.sequence
 
--- The image is the one before, or recovers to the empty state.
-abbrev pub KeepsOrEmpties : System → Image → Image → Type 0
-KeepsOrEmpties system before after = (after ≡ before) ⊎ Recovers system after (Ok (empty_state system))
-
 -- ---- restart sectors
-
--- a cold start begins to count at 1, with the first areas
-pub record IsFirst (now : RestartSector) : Type 0 where
-  pub epoch : now.epoch ≡ 1
-  pub checkpoint : now.checkpoint ≡ 1
-  pub sequence : now.sequence ≡ 1
-  pub snapshot : now.snapshot ≡ 0
-  pub log : now.log ≡ 0
 
 -- a restart takes the next epoch, the next checkpoint, the other areas, and the sequence behind the log
 pub record IsNext (system : System) (image : Image) (before now : RestartSector) : Type 0 where

@@ -5,10 +5,6 @@
 //! has written nothing. Both calls look at the size alone so far, and answer want of memory behind it.
 #![tactic(auto)]
 
-mod beginning;
-mod clearing;
-mod filling;
-mod laying_cold;
 mod parts;
 mod restarting;
 mod starting;

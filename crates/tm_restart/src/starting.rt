@@ -2,8 +2,9 @@
 ghost use Rattle.std.specs.Prelude.{◌≤◌, length, IfOk, OnOk};
 ghost use Rattle.model_disk.specs.Disk.{Image, Stays, Within, Only};
 ghost use Rattle.model_image.specs.Holding.{HoldsStores};
+ghost use Rattle.cold_start.specs.FirstImage.{KeepsOrEmpties};
 ghost use Rattle.tm_restart.specs.Parts.{AreOpeningParts};
-ghost use Rattle.tm_restart.specs.Renewal.{KeepsOrEmpties, IsRenewed};
+ghost use Rattle.tm_restart.specs.Renewal.{IsRenewed};
 ghost use Rattle.tm_restart.specs.Opening.{SizeFirst, TellsCold, MayBegin, OpeningCause};
 
 use crate::parts::{OpenError, Parts};

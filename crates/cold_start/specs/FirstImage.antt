@@ -1,0 +1,50 @@
+-- The first image of a system's disk.
+use Rattle.std.specs.Prelude.{◌≡◌, ◌⊎◌, ℕ, ◌+◌, ◌<◌, ◌≤◌, List, length, map, IsTrue, Some, Ok}
+use Rattle.std.specs.List.{list_all}
+use Rattle.model_disk.specs.Disk.{Image, sector_at}
+use Rattle.tm_disk.specs.Sector.{blank}
+use Rattle.model_system.specs.System.{System}
+use Rattle.model_machine.specs.Machine.{empty_state, first_setting}
+use Rattle.log_records.specs.declared.record.Record.{Record}
+use Rattle.restart_data.specs.declared.restart.RestartSector.{RestartSector}
+use Rattle.restart_data.specs.Restart.{restart_in}
+use Rattle.restart_data.specs.Snapshot.{snapshot_in}
+use Rattle.model_image.specs.Areas.{snapshot_area, snapshot_first, log_first, data_first}
+use Rattle.model_image.specs.States.{is_setting}
+use Rattle.model_image.specs.Recovered.{Recovers}
+use Rattle.snapshot_records.specs.Records.{AreApart, snapshot_records}
+use Rattle.cold_start.specs.Filling.{text_sectors, text_sector}
+
+-- What the rules on a definition give besides: each terminal has a name of its own, and the classes and priorities of the
+-- codes lie in their ranges.
+pub record IsDefined (system : System) : Type 0 where
+  pub apart : AreApart system.terminals
+  pub settings : IsTrue (list_all is_setting (map first_setting system.codes))
+
+-- how many sectors a disk of the system has at least
+abbrev pub sectors_needed : System → ℕ
+sectors_needed system = data_first system (length system.databases)
+
+-- the records of the first snapshot: checkpoint 1 of the empty machine, whose next unit is 1
+abbrev pub first_records : System → List Record
+first_records system = snapshot_records 1 1 (empty_state system)
+
+-- a cold start begins to count at 1, with the first areas
+pub record IsFirst (now : RestartSector) : Type 0 where
+  pub epoch : now.epoch ≡ 1
+  pub checkpoint : now.checkpoint ≡ 1
+  pub sequence : now.sequence ≡ 1
+  pub snapshot : now.snapshot ≡ 0
+  pub log : now.log ≡ 0
+
+-- The image has this restart sector, the text in its sectors, and these bytes as its snapshot. Both log areas and the data
+-- are zeros.
+pub record IsFirstImage (system : System) (text bytes : List ℕ) (now : RestartSector) (image : Image) : Type 0 where
+  pub restart : restart_in (snapshot_area system) image ≡ Ok (Some now)
+  pub has_text : (x : ℕ) → x < text_sectors (length text) → sector_at image (1 + x) ≡ text_sector text x
+  pub snapshot : snapshot_in now.sectors image (snapshot_first system now.snapshot) now.checkpoint ≡ Ok bytes
+  pub blanks : (k : ℕ) → log_first system 0 ≤ k → k < sectors_needed system → sector_at image k ≡ blank
+
+-- The image is the one before, or recovers to the empty state.
+abbrev pub KeepsOrEmpties : System → Image → Image → Type 0
+KeepsOrEmpties system before after = (after ≡ before) ⊎ Recovers system after (Ok (empty_state system))

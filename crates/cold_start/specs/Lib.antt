@@ -1,0 +1,2 @@
+pub mod FirstImage
+pub mod Filling

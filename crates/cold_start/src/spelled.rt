@@ -1,0 +1,65 @@
+//! The first snapshot.
+ghost use Rattle.std.specs.Prelude.{◌≡◌, ◌<◌, ◌≤◌, [], length, map, IfOk};
+ghost use Rattle.model_conversation.specs.Terminals.{without_conversation};
+ghost use Rattle.model_queues.specs.Outputs.{fresh_terminal};
+ghost use Rattle.model_machine.specs.Machine.{empty_state, fresh_terminal_state};
+ghost use Rattle.snapshot_records.specs.Spelled.{Adds};
+ghost use Rattle.system_types.specs.Codes.{first_state};
+ghost use Rattle.cold_start.specs.FirstImage.{first_records};
+
+use log_records::append_checkpoint;
+use model_conversation::TerminalConversation;
+use model_machine::{Lasting, TerminalState};
+use model_queues::TerminalReplies;
+use model_system::CodeState;
+use snapshot_records::{append_codes, append_terminals};
+use std::alloc::Global;
+use system_types::System;
+use tm_types::Memory;
+
+// The records of the empty machine of this system, with these terminals and codes.
+fn spelled(
+    alloc: Global,
+    system: &System,
+    terminals: &[TerminalState],
+    outputs: &[TerminalReplies],
+    conversations: &[TerminalConversation],
+    codes: &[CodeState],
+) -> Result<Vec<u8>, Memory>
+    requires terminals { terminals.now ≡ map fresh_terminal_state system.now.terminals }
+    requires outputs { outputs.now ≡ map fresh_terminal system.now.terminals }
+    requires conversations { conversations.now ≡ map without_conversation system.now.terminals }
+    requires codes { codes.now ≡ map first_state system.now.codes }
+    ensures { IfOk result (λ bytes. Adds (first_records system.now) [] bytes.items) }
+{
+    let mut bytes = Vec::new(alloc);
+    append_checkpoint(&mut bytes, 1, 1, 1, 0)?;
+    append_terminals(&mut bytes, terminals, outputs, conversations)?;
+    append_codes(&mut bytes, codes)?;
+    Ok(bytes)
+}
+
+/// The bytes of the first snapshot: the records of the empty machine of this system, with these codes.
+#[tactic(auto, using(crate::proofs::FirstSnapshot::short_first, crate::proofs::FirstSnapshot::some_first))]
+pub fn first_snapshot(
+    alloc: Global,
+    system: &System,
+    lasting: &Lasting,
+    codes: &[CodeState],
+) -> Result<Vec<u8>, Memory>
+    requires lasting { lasting.now ≡ empty_state system.now }
+    requires codes { codes.now ≡ map first_state system.now.codes }
+    ensures records { IfOk result (λ bytes. Adds (first_records system.now) [] bytes.items) }
+    ensures some { IfOk result (λ bytes. 0 < length bytes.items) }
+    ensures few { IfOk result (λ bytes. length bytes.items ≤ 8192) }
+{
+    let _terminals = system.terminals();
+    spelled(
+        alloc,
+        system,
+        &lasting.terminals,
+        &lasting.outputs,
+        &lasting.conversations,
+        codes,
+    )
+}
