@@ -1,0 +1,4 @@
+pub mod Finding
+pub mod AllPut
+pub mod Unreading
+pub mod Rewriting
