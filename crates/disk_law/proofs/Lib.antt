@@ -4,3 +4,4 @@ pub mod Recovering
 pub mod Forcing
 pub mod Front
 pub mod Changing
+pub mod Stepping

@@ -3,3 +3,4 @@ pub mod Text
 pub mod Quiet
 pub mod Kept
 pub mod Changes
+pub mod Steps
