@@ -139,6 +139,29 @@ module _ (unit : ℕ) (c : SlotChange) (life : LifeOnDisk) (l : IsLife life) (ma
   of_one one other d s t u false is_one true is_other false here first second = l.slots.apart one other d s t u first second
   of_one one other d s t u false is_one false is_other h here first second = l.slots.apart one other d s t u first second
 
+  was_committed : life.touches unit c.database c.slot ≡ None → c.before ≡ life.committed c.database c.slot
+  was_committed none =
+      let slot = known_slot life.system unit c may.image in
+      let all : (one : ℕ) → life.touches one c.database c.slot ≡ None = λ one. by_unit one (one == unit) refl in
+      may.stood
+      ∙ ap (λ d. life.present d c.slot) slot.is
+      ∙ sym (l.slots.untouched slot.place c.slot slot.dbd slot.found slot.below (λ one. ap (λ d. life.touches one d c.slot) (sym slot.is) ∙ all one))
+      ∙ ap (λ d. life.committed d c.slot) (sym slot.is) where
+        by_unit : (one : ℕ) (b : Bool) → one == unit ≡ b → life.touches one c.database c.slot ≡ None
+        by_unit one true is = ap (λ u. life.touches u c.database c.slot) (eqb-true one unit is) ∙ none
+        by_unit one false is = may.alone one is
+
+  its_first : (o : Option Touch) → life.touches unit c.database c.slot ≡ o → (touched o c.before c.after).first ≡ life.committed c.database c.slot
+  its_first None is = was_committed is
+  its_first (Some t) is = l.slots.firsts unit c.database c.slot t is
+
+  first_now : (one d s : ℕ) (t : Touch) (b : Bool) → one == unit ≡ b → (h : Bool) → is_here d s ≡ h → (if b && h then Some its_touch else life.touches one d s) ≡ Some t → t.first ≡ life.committed d s
+  first_now one d s t true is_one true here is =
+      let e : its_touch ≡ t = cc in
+      ap (λ (x : Touch). x.first) (sym e) ∙ its_first (life.touches unit c.database c.slot) refl ∙ sym (at_same life.committed c.database c.slot d s here)
+  first_now one d s t true is_one false here is = l.slots.firsts one d s t is
+  first_now one d s t false is_one h here is = l.slots.firsts one d s t is
+
   stands_now : (one d s : ℕ) (t : Touch) (b : Bool) → one == unit ≡ b → (h : Bool) → is_here d s ≡ h →
       (if b && h then Some its_touch else life.touches one d s) ≡ Some t → t.present ≡ (if h then c.after else life.present d s)
   stands_now one d s t true is_one true here is = let e : its_touch ≡ t = cc in ap (λ (x : Touch). x.present) (sym e) ∙ its_present (life.touches unit c.database c.slot)
@@ -158,6 +181,7 @@ module _ (unit : ℕ) (c : SlotChange) (life : LifeOnDisk) (l : IsLife life) (ma
 
   beside_after : AreBeside life.system life_after.touches life.committed life_after.present
   beside_after = record {
+    firsts = λ one d s t is. first_now one d s t (one == unit) refl (is_here d s) refl is;
     apart = λ one other d s t u first second. of_one one other d s t u (one == unit) refl (other == unit) refl (is_here d s) refl first second;
     touched = λ one d s t is. stands_now one d s t (one == unit) refl (is_here d s) refl is;
     untouched = λ place number dbd found below none.
@@ -193,18 +217,6 @@ module _ (unit : ℕ) (c : SlotChange) (life : LifeOnDisk) (l : IsLife life) (ma
     unsynced =
         neither_first (list_any (is_sync_point_of unit) k.log) (list_any (is_sync_point_of unit) life.appended)
         (sym (list_any-append (is_sync_point_of unit) k.log life.appended) ∙ k.slots.open_yet unit may.may)
-
-    was_committed : life.touches unit c.database c.slot ≡ None → c.before ≡ life.committed c.database c.slot
-    was_committed none =
-        let slot = known_slot life.system unit c may.image in
-        let all : (one : ℕ) → life.touches one c.database c.slot ≡ None = λ one. by_unit one (one == unit) refl in
-        may.stood
-        ∙ ap (λ d. life.present d c.slot) slot.is
-        ∙ sym (l.slots.untouched slot.place c.slot slot.dbd slot.found slot.below (λ one. ap (λ d. life.touches one d c.slot) (sym slot.is) ∙ all one))
-        ∙ ap (λ d. life.committed d c.slot) (sym slot.is) where
-          by_unit : (one : ℕ) (b : Bool) → one == unit ≡ b → life.touches one c.database c.slot ≡ None
-          by_unit one true is = ap (λ u. life.touches u c.database c.slot) (eqb-true one unit is) ∙ none
-          by_unit one false is = may.alone one is
 
     slots_after : AreCommitted k.snapshot (k.log ++ life_after.appended) life.may_sync life_after.touches life.committed
     slots_after =
@@ -268,8 +280,7 @@ changes_kept unit (c ∷ changes) life l may a k =
 
 -- ---- the end of a unit without a sync point
 
-module _ (unit : ℕ) (changed : ℕ → ℕ → Bool) (life : LifeOnDisk) (l : IsLife life) (marks : MarksBack unit changed life)
-    (firsts : (d s : ℕ) (t : Touch) → life.touches unit d s ≡ Some t → t.first ≡ life.committed d s) where
+module _ (unit : ℕ) (changed : ℕ → ℕ → Bool) (life : LifeOnDisk) (l : IsLife life) (marks : MarksBack unit changed life) where
   abbrev pub life_without : LifeOnDisk
   life_without = without_unit unit changed life
 
@@ -296,7 +307,7 @@ module _ (unit : ℕ) (changed : ℕ → ℕ → Bool) (life : LifeOnDisk) (l : 
 
   put_is : (place number : ℕ) (dbd : Dbd) → slice_get life.system.databases place ≡ Some dbd → number < dbd.roots → ((one : ℕ) → (if one == unit then None else life.touches one (place + 1) number) ≡ None) →
       (o : Option Touch) → life.touches unit (place + 1) number ≡ o → life.committed (place + 1) number ≡ option_map_or (λ t. t.first) o (life.present (place + 1) number)
-  put_is place number dbd found below none (Some t) is = sym (firsts (place + 1) number t is)
+  put_is place number dbd found below none (Some t) is = sym (l.slots.firsts unit (place + 1) number t is)
   put_is place number dbd found below none None is = l.slots.untouched place number dbd found below (all_none (place + 1) number none is)
 
   pub without_life : IsLife life_without
@@ -308,6 +319,7 @@ module _ (unit : ℕ) (changed : ℕ → ℕ → Bool) (life : LifeOnDisk) (l : 
     sound = l.sound;
     rows = l.rows;
     slots = record {
+      firsts = λ one d s t is. l.slots.firsts one d s t (still one d s t (one == unit) is);
       apart = λ one other d s t u first second. l.slots.apart one other d s t u (still one d s t (one == unit) first) (still other d s u (other == unit) second);
       touched = λ one d s t is.
           let was = still one d s t (one == unit) is in

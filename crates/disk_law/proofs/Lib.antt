@@ -5,3 +5,4 @@ pub mod Forcing
 pub mod Front
 pub mod Changing
 pub mod Stepping
+pub mod LastingSteps

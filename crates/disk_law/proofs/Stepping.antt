@@ -1,14 +1,13 @@
 -- A lasting step, whichever of its sectors a stop kept: the image recovers to what lasted or to what lasts with it. Once all is
 -- forced, it is one of the life behind the step.
-use Rattle.std.proofs.Common.{◌≡◌, ◌⊎◌, inl, inr, ℕ, zero, suc, ◌+◌, ◌-◌, ◌*◌, ◌<◌, ◌≤◌, ◌^◌, Bool, true, false, not, ◌&&◌, List, [], ◌∷◌, ◌++◌, length, take, refl, sym, ◌∙◌, ap, subst, ⊎_elim, arith, Some, None, Ok, IsSome, append_assoc, append-nil}
-use Rattle.std.specs.Prelude.{Option, filter, slice_get}
+use Rattle.std.proofs.Common.{◌≡◌, ◌⊎◌, inl, inr, ℕ, ◌+◌, ◌-◌, ◌*◌, ◌<◌, ◌≤◌, ◌^◌, Bool, true, false, not, List, [], ◌∷◌, ◌++◌, length, take, refl, sym, ◌∙◌, ap, subst, ⊎_elim, arith, Some, None, Ok, IsSome, append_assoc, append-nil}
+use Rattle.std.specs.Prelude.{Option}
 use Rattle.std.specs.List.{list_all, list_any, flat_map, AllByRecursion}
 use Rattle.std.proofs.lemmas.Bool.{cases_lt}
 use Rattle.std.proofs.lemmas.Grind.{flat_map-append}
 use Rattle.std.proofs.lemmas.List.{length-append, take-append-le, take_all}
 use Rattle.std.proofs.lemmas.List.Elements.{filter-append}
 use Rattle.std.proofs.Math.Seq.{take-append-add}
-use Rattle.tm_types.specs.declared.dbd.Dbd.{Dbd}
 use Rattle.model_disk.specs.Disk.{Image, sector_at}
 use Rattle.model_system.specs.System.{System}
 use Rattle.model_machine.specs.Machine.{LastingState}
@@ -31,11 +30,10 @@ use Rattle.replay_law.specs.Records.{is_change, without_changes}
 use Rattle.replay_law.proofs.Bools.{both, first_of, second_of}
 use Rattle.replay_law.proofs.Lists.{all_imply}
 use Rattle.replay_law.proofs.Replayed.{all_take, keeps_all, leaves_sound, appended}
-use Rattle.slot_law.specs.Committed.{Bytes, Touches, AreCommitted}
+use Rattle.slot_law.specs.Committed.{Bytes, AreCommitted}
 use Rattle.disk_law.specs.Life.{LifeOnDisk, IsLife, IsWriterOf, EachSlot, SpellRows, but_rows}
 use Rattle.disk_law.specs.Kept.{IsKept, StandsAt, beginning}
-use Rattle.disk_law.specs.Quiet.{is_quiet}
-use Rattle.disk_law.specs.Steps.{StepOnDisk, with_records, forced, after_step, done_to, Wait, IsTouched, IsStep}
+use Rattle.disk_law.specs.Steps.{StepOnDisk, with_records, forced, after_step, done_to, IsTouched, IsStep}
 use Rattle.disk_law.proofs.Naming.{NamedAs, unnamed_before, named_stays, all_quiet_keep}
 use Rattle.disk_law.proofs.Forcing.{restart_stays, snapshot_stays, text_stays, slots_stay, none_later_after}
 use Rattle.disk_law.proofs.Front.{all_both, cut, front_read, changes_last, changes_named}

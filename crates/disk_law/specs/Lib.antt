@@ -4,3 +4,4 @@ pub mod Quiet
 pub mod Kept
 pub mod Changes
 pub mod Steps
+pub mod Lasting

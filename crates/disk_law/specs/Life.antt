@@ -75,9 +75,10 @@ pub record AreAppended (system : System) (log : Writer) (appended : List Record)
   pub changes : without_changes appended ≡ []
   pub images : list_all (is_image_of system) appended ≡ true
 
--- A slot is touched by one unit at most. What a unit touched stands in the stores as it left it, and what none touched as
--- it is committed.
+-- A slot is touched by one unit at most. Before it stood there what is committed, and it stands in the stores as the unit left
+-- it; a slot that none touched stands there as it is committed.
 pub record AreBeside (system : System) (touches : Touches) (committed present : Bytes) : Type 0 where
+  pub firsts : (unit database slot : ℕ) (t : Touch) → touches unit database slot ≡ Some t → t.first ≡ committed database slot
   pub apart : (unit other database slot : ℕ) (t u : Touch) → touches unit database slot ≡ Some t → touches other database slot ≡ Some u → unit ≡ other
   pub touched : (unit database slot : ℕ) (t : Touch) → touches unit database slot ≡ Some t → t.present ≡ present database slot
   pub untouched : EachSlot system (λ place number. ((unit : ℕ) → touches unit (place + 1) number ≡ None) → committed (place + 1) number ≡ present (place + 1) number)
