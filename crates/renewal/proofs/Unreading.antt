@@ -30,7 +30,7 @@ there (x ∷ xs) (suc place) lt = let w = there xs place (omega (arith, lt)) in 
 
 module _ (system : System) (r : RestartSector) (snapshot : List Record) (given : Given) (now : RestartSector) (image : Image) (is : IsBefore system r snapshot given now image) where
   -- a sector that is given is that of a slot that a record names
-  named_slot : (k : ℕ) (sector : List ℕ) → IsGiven system given k sector → OfNamedSlot system r image k
+  pub named_slot : (k : ℕ) (sector : List ℕ) → IsGiven system given k sector → OfNamedSlot system r image k
   named_slot k sector w =
       let dbd = there system.databases w.place (omega (arith, slice_get_within given w.place w.slots w.found, is.are.count)) in
       let slot = at_slot (data_first system w.place) dbd.element.roots w.slots k sector (is.are.each w.place dbd.element w.slots dbd.found w.found).within w.is in

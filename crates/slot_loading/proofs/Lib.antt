@@ -3,3 +3,4 @@ mod Slotted
 mod SlotsRead
 mod Built
 mod Loaded
+pub mod Held
