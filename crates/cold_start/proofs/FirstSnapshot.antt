@@ -36,7 +36,7 @@ no_pads [] place t found = absurd (none-some t found)
 no_pads (n ∷ names) zero t found = subst (λ (c : TerminalConversation). HasRoom c.conversation) (same_Some (without_conversation n) t found) tt
 no_pads (n ∷ names) (suc place) t found = no_pads names place t found
 
-none_replied : (names : List (List ℕ)) → reply_records (map fresh_terminal names) ≡ []
+none_replied : (names : List (List ℕ)) → reply_records (map fresh_terminal names) ++ [] ≡ []
 none_replied [] = refl
 none_replied (n ∷ names) = none_replied names
 
@@ -53,12 +53,12 @@ pub spelled_first : (system : System) (states : List CodeState) (b0 b1 b2 b3 : L
     → Adds (map code_record (map setting_of states)) b2 b3 → Adds (first_records system) b0 b3
 spelled_first system states b0 b1 b2 b3 are is valid terminals codes =
     let settings : map setting_of states ≡ map first_setting system.codes = ap (map setting_of) are ∙ settings_first system.codes in
-    let tail : Adds (reply_records (map fresh_terminal system.terminals)) b3 b3 = subst (λ (rs : List Record). Adds rs b3 b3) (sym (none_replied system.terminals)) (adds_none b3) in
-    let last : Adds (map code_record (map first_setting system.codes) ++ reply_records (map fresh_terminal system.terminals)) b2 b3 =
-    adds_both (map code_record (map first_setting system.codes)) (reply_records (map fresh_terminal system.terminals)) b2 b3 b3 (subst (λ (cs : List _). Adds (map code_record cs) b2 b3) settings codes) tail in
-    adds_both (Checkpoint 1 1 1 0 ∷ []) (terminal_records (map fresh_terminal_state system.terminals) (map fresh_terminal system.terminals) (map without_conversation system.terminals) ++ (map code_record (map first_setting system.codes) ++ reply_records (map fresh_terminal system.terminals))) b0 b1 b3
+    let tail : Adds (reply_records (map fresh_terminal system.terminals) ++ []) b3 b3 = subst (λ (rs : List Record). Adds rs b3 b3) (sym (none_replied system.terminals)) (adds_none b3) in
+    let last : Adds (map code_record (map first_setting system.codes) ++ (reply_records (map fresh_terminal system.terminals) ++ [])) b2 b3 =
+    adds_both (map code_record (map first_setting system.codes)) (reply_records (map fresh_terminal system.terminals) ++ []) b2 b3 b3 (subst (λ (cs : List _). Adds (map code_record cs) b2 b3) settings codes) tail in
+    adds_both (Checkpoint 1 1 1 0 ∷ []) (terminal_records (map fresh_terminal_state system.terminals) (map fresh_terminal system.terminals) (map without_conversation system.terminals) ++ (map code_record (map first_setting system.codes) ++ (reply_records (map fresh_terminal system.terminals) ++ []))) b0 b1 b3
     (adds_one (Checkpoint 1 1 1 0) b0 b1 is valid)
-    (adds_both (terminal_records (map fresh_terminal_state system.terminals) (map fresh_terminal system.terminals) (map without_conversation system.terminals)) (map code_record (map first_setting system.codes) ++ reply_records (map fresh_terminal system.terminals)) b1 b2 b3 terminals last)
+    (adds_both (terminal_records (map fresh_terminal_state system.terminals) (map fresh_terminal system.terminals) (map without_conversation system.terminals)) (map code_record (map first_setting system.codes) ++ (reply_records (map fresh_terminal system.terminals) ++ [])) b1 b2 b3 terminals last)
 
 -- ---- how long it is
 
@@ -105,7 +105,7 @@ codes_before (code ∷ codes) more valid =
 
 pub short_first : (system : System) (bytes : List ℕ) → IsSystem system → Adds (first_records system) [] bytes → length bytes ≤ 8192
 short_first system bytes valid adds =
-    let replies : List Record = reply_records (map fresh_terminal system.terminals) in
+    let replies : List Record = (reply_records (map fresh_terminal system.terminals) ++ []) in
     let settings : List Record = map code_record (map first_setting system.codes) ++ replies in
     let states : List Record = terminal_records (map fresh_terminal_state system.terminals) (map fresh_terminal system.terminals) (map without_conversation system.terminals) ++ settings in
     let one = terminals_before system.terminals settings adds.valid.1 in
@@ -115,5 +115,5 @@ short_first system bytes valid adds =
 
 pub some_first : (system : System) (bytes : List ℕ) → Adds (first_records system) [] bytes → 0 < length bytes
 some_first system bytes adds =
-    let states : List Record = terminal_records (map fresh_terminal_state system.terminals) (map fresh_terminal system.terminals) (map without_conversation system.terminals) ++ (map code_record (map first_setting system.codes) ++ reply_records (map fresh_terminal system.terminals)) in
+    let states : List Record = terminal_records (map fresh_terminal_state system.terminals) (map fresh_terminal system.terminals) (map without_conversation system.terminals) ++ (map code_record (map first_setting system.codes) ++ (reply_records (map fresh_terminal system.terminals) ++ [])) in
     omega (arith, ap (length {A = ℕ}) adds.bytes, more_length (Checkpoint 1 1 1 0) states)

@@ -1,5 +1,5 @@
 -- The first image of a system's disk.
-use Rattle.std.specs.Prelude.{◌≡◌, ◌⊎◌, ℕ, ◌+◌, ◌<◌, ◌≤◌, List, length, map, IsTrue, Some, Ok}
+use Rattle.std.specs.Prelude.{◌≡◌, ◌⊎◌, ℕ, ◌+◌, ◌<◌, ◌≤◌, List, [], length, map, IsTrue, Some, Ok}
 use Rattle.std.specs.List.{list_all}
 use Rattle.model_disk.specs.Disk.{Image, sector_at}
 use Rattle.tm_disk.specs.Sector.{blank}
@@ -27,7 +27,7 @@ sectors_needed system = data_first system (length system.databases)
 
 -- the records of the first snapshot: checkpoint 1 of the empty machine, whose next unit is 1
 abbrev pub first_records : System → List Record
-first_records system = snapshot_records 1 1 (empty_state system)
+first_records system = snapshot_records 1 1 (empty_state system) []
 
 -- a cold start begins to count at 1, with the first areas
 pub record IsFirst (now : RestartSector) : Type 0 where

@@ -51,6 +51,13 @@ impl Conversations {
         })
     }
 
+    /// The terminals with their conversations, in the order of the definition.
+    pub fn terminals(&self) -> &[TerminalConversation]
+        ensures { result.now ≡ self.now }
+    {
+        &self.terminals
+    }
+
     /// The terminal begins a conversation of the code. Its pad is the code, padded with blanks to 8
     /// bytes, and `work` blanks. Where it answers `Memory`, nothing has changed.
     pub fn begin(&mut self, terminal: &Name, code: &Name, work: u16) -> Result<(), Memory>

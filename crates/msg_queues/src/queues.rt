@@ -1,6 +1,7 @@
 //! The queues of all messages.
 ghost use Rattle.std.specs.Prelude.{◌≡◌, ◌+◌, ◌<◌, ◌≤◌, ◌^◌, [], Some, None, OnOk, OnErr, IfErr, IfOk, slice_get, find, nat_lt, IsSomeAnd, IsSome};
 ghost use Rattle.std.specs.Option.{option_copied, option_and_then};
+ghost use Rattle.std.specs.Map.{values_of};
 ghost use Rattle.model_queues.specs.Room.{message_bytes, messages_bytes, input_needs};
 ghost use Rattle.model_queues.specs.Queue.{IsNewId, AreInOrder, messages_of, queued_at, message_at, with_message, with_holder, without, first_free, free_count};
 ghost use Rattle.msg_queues.specs.Refused.{RefusesInput};
@@ -211,6 +212,13 @@ impl Queues {
             Some(queued) => Some(&queued.message),
             None => None,
         }
+    }
+
+    /// The messages by their ids, each with the region that has it.
+    pub fn by_id(&self) -> &BTreeMap<u64, Queued>
+        ensures { values_of result.now.entries ≡ self.now.queued }
+    {
+        &self.messages
     }
 
     /// The first message whose id is above this one. To go over all messages, begin with 0.

@@ -69,6 +69,13 @@ impl Outputs {
         self.content
     }
 
+    /// The terminals with their replies, in the order of the definition.
+    pub fn terminals(&self) -> &[TerminalReplies]
+        ensures { result.now ≡ self.now }
+    {
+        &self.terminals
+    }
+
     /// The terminal of this name with its replies, or None where there is no such terminal.
     pub fn terminal(&self, name: &Name) -> Option<&TerminalReplies>
         ensures { option_copied result ≡ replies_at name.now self.now }

@@ -1,7 +1,7 @@
 //! The store of one database.
 ghost use Rattle.std.specs.Prelude.{◌≡◌, ◌↔◌, ◌*◌, ◌+◌, ◌≤◌, ◌<◌, ◌≢◌, ℕ, [], IfOk, IfErr, OnOk, OnErr, IsOk, IsTrue, None, Some, slice_get, slice_set, length};
 ghost use Rattle.std.specs.Vec.{vec_len};
-ghost use Rattle.std.specs.Option.{is_some};
+ghost use Rattle.std.specs.Option.{is_some, option_copied};
 ghost use Rattle.model_rows.specs.Record.{IsRecord, IsLongRecord, record_limit};
 ghost use Rattle.model_rows.specs.Rows.{record_of, with_record, IsImage, AreRows};
 ghost use Rattle.seg_rows.specs.StoreRefused.{set_refusal};
@@ -77,6 +77,14 @@ impl Store {
         ensures { result ≡ is_some (slot_of root.now self.now.slots) }
     {
         slot_of(&self.index, root).is_some()
+    }
+
+    /// The image in this slot, without rows where it is free; None exactly past the last slot.
+    pub fn image(&self, slot: u16) -> Option<&RecordImage>
+        ensures value { option_copied result ≡ slice_get self.now.slots slot }
+        ensures valid { AreSlots self.now.dbd self.now.slots }
+    {
+        image_at(&self.slots, slot)
     }
 
     /// No slot counts as changed any more: what stands in the sectors is the caller's.
@@ -302,6 +310,12 @@ fn record_limit(dbd: &Dbd) -> usize
     ensures { result ≡ record_limit dbd.now }
 {
     4000 * dbd.sectors as usize
+}
+
+fn image_at(slots: &[RecordImage], slot: u16) -> Option<&RecordImage>
+    ensures { option_copied result ≡ slice_get slots.now slot }
+{
+    slots.get(slot as usize)
 }
 
 fn put(slots: &mut Vec<RecordImage>, slot: u16, image: RecordImage)

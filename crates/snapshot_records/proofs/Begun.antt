@@ -42,7 +42,8 @@ use Rattle.seg_store.specs.Slots.{rows_of_slots, with_rows}
 use Rattle.snapshot_records.specs.Records.{snapshot_records, code_names, AreApart, IsOfSystem}
 use Rattle.snapshot_records.proofs.Told.{without_rows, state_told}
 use Rattle.snapshot_records.proofs.Plain.{none_named}
-use Rattle.snapshot_records.proofs.Judged.{AreCounts, no_rule_broken}
+use Rattle.snapshot_records.proofs.Judged.{AreCounts}
+use Rattle.snapshot_records.proofs.Read.{no_changes, read_from}
 
 -- ---- a blank sector
 
@@ -232,14 +233,9 @@ pub record HasSnapshot (system : System) (now : RestartSector) (records : List R
   pub valid : AllByRecursion IsRecord records
   pub blanks : AreBlank system image
 
-module _ (system : System) (state : LastingState) (checkpoint unit : ℕ) (terminals_apart : AreApart system.terminals) (codes_apart : AreApart (code_names system)) (is : IsOfSystem system state) (counts : AreCounts checkpoint unit) (sound : breaks_a_rule system state ≡ false) (now : RestartSector) (image : Image) (has : HasSnapshot system now (snapshot_records checkpoint unit state) image) where
-  snapshot_is : snapshot_from system image now ≡ Ok (snapshot_records checkpoint unit state)
-  snapshot_is =
-      let records : List Record = snapshot_records checkpoint unit state in
-      let first : ℕ = snapshot_first system now.snapshot in
-      ap (λ (read : Result (List ℕ) Fault). read >>= λ bytes. or_fault (10, first) (records_of bytes) >>= λ found. unless_any first (snapshot_rules system found) found) has.read
-      ∙ ap (λ (found : Option (List Record)). or_fault (10, first) found >>= λ found. unless_any first (snapshot_rules system found) found) (records_whole records has.valid)
-      ∙ ap (λ (broken : Option ℕ). in_sector first (unless_broken broken records)) (no_rule_broken system state checkpoint unit terminals_apart codes_apart is counts sound)
+module _ (system : System) (state : LastingState) (checkpoint unit : ℕ) (terminals_apart : AreApart system.terminals) (codes_apart : AreApart (code_names system)) (is : IsOfSystem system state) (counts : AreCounts checkpoint unit) (sound : breaks_a_rule system state ≡ false) (now : RestartSector) (image : Image) (has : HasSnapshot system now (snapshot_records checkpoint unit state []) image) where
+  snapshot_is : snapshot_from system image now ≡ Ok (snapshot_records checkpoint unit state [])
+  snapshot_is = read_from system state checkpoint unit terminals_apart codes_apart is counts sound [] (no_changes system) has.valid now image has.read
 
   log_is : log_in system image now ≡ record { records = []; rest = [] }
   log_is =
@@ -256,10 +252,10 @@ module _ (system : System) (state : LastingState) (checkpoint unit : ℕ) (termi
 
   state_is : state_with system image true now ≡ Ok (without_rows system state)
   state_is =
-      let records : List Record = snapshot_records checkpoint unit state in
+      let records : List Record = snapshot_records checkpoint unit state [] in
       bind_is (snapshot_from system image now) (of_snapshot system image now) records snapshot_is
       ∙ bind_is (log_from system image now true) (of_log system image now records) [] (ap (λ (cut : Cut). Ok cut.records) log_is)
-      ∙ ap (of_state system image now records []) (state_told system state terminals_apart codes_apart is checkpoint unit)
+      ∙ ap (of_state system image now records []) (state_told system state terminals_apart codes_apart is checkpoint unit [] tt)
       ∙ bind_is (rows_from system image records []) (of_rows system image now (without_rows system state)) (map (λ _. []) system.databases) (no_rows_there system image records (none_named system checkpoint unit state) has.blanks)
       ∙ ap (λ (fault : Option Fault). unless_fault fault (without_rows system state)) none_is_later
 

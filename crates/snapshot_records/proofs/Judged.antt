@@ -4,7 +4,7 @@ use Rattle.std.proofs.lemmas.List.Quantifiers.{position-Some}
 use Rattle.std.proofs.lemmas.List.Folds.{list_any_at}
 use Rattle.std.proofs.lemmas.List.{length-append}
 use Rattle.std.specs.Prelude.{Option, filter_map, position, ◌==◌}
-use Rattle.std.specs.List.{list_all, list_any, cons_option}
+use Rattle.std.specs.List.{list_all, list_any, cons_option, AllByRecursion}
 use Rattle.std.specs.Str.{bytes_eq}
 use Rattle.std.proofs.lemmas.Slice.Eq.{bytes_eq-Decides}
 use Rattle.tm_types.specs.declared.message.Message.{Message}
@@ -22,6 +22,8 @@ use Rattle.model_image.specs.States.{is_terminal, is_small, is_next, wrong_value
 use Rattle.model_image.specs.Snapshot.{is_of_no_unit, terminal_name, code_name, reply_terminal, are_same, are_others_in_order, has_name, ascend_places, follow, snapshot_rules, out_of_order, missing_or_twice, wrong_record, reply_of_none, wrong_changes, begins_with_counts, ascend}
 use Rattle.model_image.specs.Slots.{is_image_of}
 use Rattle.snapshot_records.specs.Records.{terminal_records, code_record, message_record, reply_record, reply_records, snapshot_records, code_names, AreApart, IsOfSystem}
+use Rattle.snapshot_records.specs.Changes.{IsChange, AreChanges}
+use Rattle.snapshot_records.proofs.Changed.{changes_no_terminal, changes_no_code, changes_no_reply, named_before}
 use Rattle.snapshot_records.proofs.Named.{regroup, place_among, position_map}
 use Rattle.snapshot_records.proofs.Told.{AreOne, one_names, state_told}
 use Rattle.snapshot_records.proofs.Plain.{state_sections, ascend_more, le_is, are_both}
@@ -62,25 +64,29 @@ codes_named : (cs : List CodeSetting) (more : List Record) → filter_map code_n
 codes_named [] more none = none
 codes_named (c ∷ cs) more none = ap (λ (l : List (List ℕ)). c.code ∷ l) (codes_named cs more none)
 
-module _ (checkpoint unit : ℕ) (state : LastingState) where
-  terminal_names : AreOne state.terminals state.outputs state.conversations → filter_map terminal_name (snapshot_records checkpoint unit state) ≡ map (λ t. t.name) state.terminals
+module _ (checkpoint unit : ℕ) (state : LastingState) (changes : List Record) (are : AllByRecursion IsChange changes) where
+  terminal_names : AreOne state.terminals state.outputs state.conversations → filter_map terminal_name (snapshot_records checkpoint unit state changes) ≡ map (λ t. t.name) state.terminals
   terminal_names one =
-      terminals_named state.terminals state.outputs state.conversations (map code_record state.codes ++ (map message_record state.messages ++ reply_records state.outputs)) one
-      (past_codes terminal_name (λ c. refl) state.codes (map message_record state.messages ++ reply_records state.outputs)
-      ∙ past_messages terminal_name (λ m. refl) state.messages (reply_records state.outputs)
+      terminals_named state.terminals state.outputs state.conversations (map code_record state.codes ++ (map message_record state.messages ++ (reply_records state.outputs ++ changes))) one
+      (past_codes terminal_name (λ c. refl) state.codes (map message_record state.messages ++ (reply_records state.outputs ++ changes))
+      ∙ past_messages terminal_name (λ m. refl) state.messages (reply_records state.outputs ++ changes)
+      ∙ named_before terminal_name (reply_records state.outputs) changes (changes_no_terminal changes are)
       ∙ past_replies terminal_name (λ n r. refl) state.outputs)
 
-  names_of_codes : filter_map code_name (snapshot_records checkpoint unit state) ≡ map (λ c. c.code) state.codes
+  names_of_codes : filter_map code_name (snapshot_records checkpoint unit state changes) ≡ map (λ c. c.code) state.codes
   names_of_codes =
-      past_terminals code_name (λ t o c. refl) state.terminals state.outputs state.conversations (map code_record state.codes ++ (map message_record state.messages ++ reply_records state.outputs))
-      ∙ codes_named state.codes (map message_record state.messages ++ reply_records state.outputs)
-      (past_messages code_name (λ m. refl) state.messages (reply_records state.outputs) ∙ past_replies code_name (λ n r. refl) state.outputs)
+      past_terminals code_name (λ t o c. refl) state.terminals state.outputs state.conversations (map code_record state.codes ++ (map message_record state.messages ++ (reply_records state.outputs ++ changes)))
+      ∙ codes_named state.codes (map message_record state.messages ++ (reply_records state.outputs ++ changes))
+      (past_messages code_name (λ m. refl) state.messages (reply_records state.outputs ++ changes)
+      ∙ named_before code_name (reply_records state.outputs) changes (changes_no_code changes are)
+      ∙ past_replies code_name (λ n r. refl) state.outputs)
 
-  names_of_replies : filter_map reply_terminal (snapshot_records checkpoint unit state) ≡ filter_map reply_terminal (reply_records state.outputs)
+  names_of_replies : filter_map reply_terminal (snapshot_records checkpoint unit state changes) ≡ filter_map reply_terminal (reply_records state.outputs)
   names_of_replies =
-      past_terminals reply_terminal (λ t o c. refl) state.terminals state.outputs state.conversations (map code_record state.codes ++ (map message_record state.messages ++ reply_records state.outputs))
-      ∙ past_codes reply_terminal (λ c. refl) state.codes (map message_record state.messages ++ reply_records state.outputs)
-      ∙ past_messages reply_terminal (λ m. refl) state.messages (reply_records state.outputs)
+      past_terminals reply_terminal (λ t o c. refl) state.terminals state.outputs state.conversations (map code_record state.codes ++ (map message_record state.messages ++ (reply_records state.outputs ++ changes)))
+      ∙ past_codes reply_terminal (λ c. refl) state.codes (map message_record state.messages ++ (reply_records state.outputs ++ changes))
+      ∙ past_messages reply_terminal (λ m. refl) state.messages (reply_records state.outputs ++ changes)
+      ∙ named_before reply_terminal (reply_records state.outputs) changes (changes_no_reply changes are)
 
 same_is : (names : List (List ℕ)) → are_same names names ≡ true
 same_is [] = refl
@@ -169,9 +175,9 @@ pub record AreCounts (checkpoint unit : ℕ) : Type 0 where
   pub unit_next : is_next unit ≡ true
 
 -- what stands behind the counts
-abbrev rest_of : LastingState → List Record
-rest_of state =
-    terminal_records state.terminals state.outputs state.conversations ++ (map code_record state.codes ++ (map message_record state.messages ++ reply_records state.outputs))
+abbrev rest_of : LastingState → List Record → List Record
+rest_of state changes =
+    terminal_records state.terminals state.outputs state.conversations ++ (map code_record state.codes ++ (map message_record state.messages ++ (reply_records state.outputs ++ changes)))
 
 abbrev rules_with : System → List Record → LastingState → List (ℕ × Bool)
 rules_with system records lasting =
@@ -184,36 +190,36 @@ rules_with system records lasting =
     ∷ (17, wrong_changes system records)
     ∷ []
 
-module _ (system : System) (state : LastingState) (checkpoint unit : ℕ) (terminals_apart : AreApart system.terminals) (codes_apart : AreApart (code_names system)) (is : IsOfSystem system state) (counts : AreCounts checkpoint unit) (sound : breaks_a_rule system state ≡ false) where
-  terminals_same : are_same (filter_map terminal_name (snapshot_records checkpoint unit state)) system.terminals ≡ true
-  terminals_same = ap (λ (l : List (List ℕ)). are_same l system.terminals) (terminal_names checkpoint unit state (one_names state.terminals state.outputs state.conversations (is.outputs ∙ sym is.terminals) (is.conversations ∙ sym is.terminals)) ∙ is.terminals) ∙ same_is system.terminals
+module _ (system : System) (state : LastingState) (checkpoint unit : ℕ) (terminals_apart : AreApart system.terminals) (codes_apart : AreApart (code_names system)) (is : IsOfSystem system state) (counts : AreCounts checkpoint unit) (sound : breaks_a_rule system state ≡ false) (changes : List Record) (changed : AreChanges system changes) where
+  terminals_same : are_same (filter_map terminal_name (snapshot_records checkpoint unit state changes)) system.terminals ≡ true
+  terminals_same = ap (λ (l : List (List ℕ)). are_same l system.terminals) (terminal_names checkpoint unit state changes changed.each (one_names state.terminals state.outputs state.conversations (is.outputs ∙ sym is.terminals) (is.conversations ∙ sym is.terminals)) ∙ is.terminals) ∙ same_is system.terminals
 
-  codes_same : are_same (filter_map code_name (snapshot_records checkpoint unit state)) (code_names system) ≡ true
-  codes_same = ap (λ (l : List (List ℕ)). are_same l (code_names system)) (names_of_codes checkpoint unit state ∙ is.codes) ∙ same_is (code_names system)
+  codes_same : are_same (filter_map code_name (snapshot_records checkpoint unit state changes)) (code_names system) ≡ true
+  codes_same = ap (λ (l : List (List ℕ)). are_same l (code_names system)) (names_of_codes checkpoint unit state changes changed.each ∙ is.codes) ∙ same_is (code_names system)
 
-  follows : follow system.terminals (filter_map reply_terminal (snapshot_records checkpoint unit state)) ≡ true
+  follows : follow system.terminals (filter_map reply_terminal (snapshot_records checkpoint unit state changes)) ≡ true
   follows =
-      ap (λ (l : List (List ℕ)). follow system.terminals l) (names_of_replies checkpoint unit state)
+      ap (λ (l : List (List ℕ)). follow system.terminals l) (names_of_replies checkpoint unit state changes changed.each)
       ∙ follow_all system.terminals terminals_apart state.outputs [] 0 is.outputs (omega arith)
 
-  known : list_all (is_terminal system) (filter_map reply_terminal (snapshot_records checkpoint unit state)) ≡ true
+  known : list_all (is_terminal system) (filter_map reply_terminal (snapshot_records checkpoint unit state changes)) ≡ true
   known =
-      ap (λ (l : List (List ℕ)). list_all (is_terminal system) l) (names_of_replies checkpoint unit state)
+      ap (λ (l : List (List ℕ)). list_all (is_terminal system) l) (names_of_replies checkpoint unit state changes changed.each)
       ∙ known_all system.terminals terminals_apart state.outputs [] is.outputs
 
-  pub no_rule_broken : first_broken (snapshot_rules system (snapshot_records checkpoint unit state)) ≡ None
+  pub no_rule_broken : first_broken (snapshot_rules system (snapshot_records checkpoint unit state changes)) ≡ None
   no_rule_broken =
-      let records : List Record = snapshot_records checkpoint unit state in
-      let parts = state_sections system state in
+      let records : List Record = snapshot_records checkpoint unit state changes in
+      let parts = state_sections system state changes changed in
       let first = neither_is (wrong_values system state || wrong_ids state || unknown_messages system state || wrong_replies state) (over_full system state) sound in
       let second = neither_is (wrong_values system state || wrong_ids state || unknown_messages system state) (wrong_replies state) first.0 in
       let third = neither_is (wrong_values system state || wrong_ids state) (unknown_messages system state) second.0 in
       let fourth = neither_is (wrong_values system state) (wrong_ids state) third.0 in
-      ap (λ (lasting : LastingState). first_broken (rules_with system records lasting)) (state_told system state terminals_apart codes_apart is checkpoint unit)
+      ap (λ (lasting : LastingState). first_broken (rules_with system records lasting)) (state_told system state terminals_apart codes_apart is checkpoint unit changes changed.each)
       ∙ none_broken (out_of_order system records) (missing_or_twice system records || wrong_values system state) (wrong_ids state) (unknown_messages system state) (wrong_replies state || reply_of_none system records) (over_full system state) (wrong_changes system records)
       (in_order (begins_with_counts records) (list_all is_of_no_unit records) (follow system.terminals (filter_map reply_terminal records)) (ascend records)
       (are_others_in_order (filter_map terminal_name records) system.terminals) (are_others_in_order (filter_map code_name records) (code_names system))
-      parts.ranked parts.no_unit (follows) (ascend_more system (Checkpoint checkpoint state.next_id unit state.steps) (rest_of state) (λ next. refl) parts.ascending) (others_not (filter_map terminal_name records) system.terminals terminals_same) (others_not (filter_map code_name records) (code_names system) codes_same))
+      parts.ranked parts.no_unit (follows) (ascend_more system (Checkpoint checkpoint state.next_id unit state.steps) (rest_of state changes) (λ next. refl) parts.ascending) (others_not (filter_map terminal_name records) system.terminals terminals_same) (others_not (filter_map code_name records) (code_names system) codes_same))
       (all_there (are_same (filter_map terminal_name records) system.terminals) (are_same (filter_map code_name records) (code_names system)) (list_any wrong_record records) (wrong_values system state)
-      (terminals_same) (codes_same) (right_counts (is_small checkpoint) (is_next unit) (list_any wrong_record (rest_of state)) counts.checkpoint_small counts.unit_next parts.counts) fourth.0)
+      (terminals_same) (codes_same) (right_counts (is_small checkpoint) (is_next unit) (list_any wrong_record (rest_of state changes)) counts.checkpoint_small counts.unit_next parts.counts) fourth.0)
       fourth.1 third.1 (one_of_two (wrong_replies state) (list_all (is_terminal system) (filter_map reply_terminal records)) second.1 (known)) first.1 (not_true (list_all (is_image_of system) records) parts.images)

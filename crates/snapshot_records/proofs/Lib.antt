@@ -1,6 +1,12 @@
+pub mod Changed
 pub mod Named
 pub mod Told
 pub mod Plain
 pub mod Judged
+pub mod Read
 pub mod Adding
+pub mod Present
+pub mod Shown
+pub mod Sizes
+pub mod Fits
 pub mod Begun

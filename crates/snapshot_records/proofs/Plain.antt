@@ -14,6 +14,8 @@ use Rattle.model_machine.specs.Machine.{LastingState}
 use Rattle.log_records.specs.declared.record.Record.{Record}
 use Rattle.model_image.specs.Slots.{is_image_of, is_change_of}
 use Rattle.model_image.specs.Snapshot.{rank, are_ranked, is_of_no_unit, is_before, ascend, wrong_record}
+use Rattle.snapshot_records.specs.Changes.{AreChanges}
+use Rattle.snapshot_records.proofs.Changed.{changes_ranked, changes_no_unit, changes_count}
 use Rattle.snapshot_records.specs.Records.{terminal_records, code_record, message_record, reply_record, reply_records, snapshot_records}
 
 -- ---- each record
@@ -121,34 +123,45 @@ module _ (system : System) where
       ap (λ (b : Bool). if b then r ∷ filter (is_change_of database slot) (rs ++ more) else filter (is_change_of database slot) (rs ++ more)) (plain.0.unnamed database slot)
       ∙ unnamed_section k rs more plain.1 database slot are
 
-  -- four sections, one after another
-  pub record Sections (one two three four : List Record) : Type 0 where
-    pub ranked : are_ranked 1 (one ++ (two ++ (three ++ four))) ≡ true
-    pub ascending : ascend (one ++ (two ++ (three ++ four))) ≡ true
-    pub no_unit : list_all is_of_no_unit (one ++ (two ++ (three ++ four))) ≡ true
-    pub images : list_all (is_image_of system) (one ++ (two ++ (three ++ four))) ≡ true
-    pub counts : list_any wrong_record (one ++ (two ++ (three ++ four))) ≡ false
+  -- four sections and the changes, one after another
+  pub record Sections (one two three four changes : List Record) : Type 0 where
+    pub ranked : are_ranked 1 (one ++ (two ++ (three ++ (four ++ changes)))) ≡ true
+    pub ascending : ascend (one ++ (two ++ (three ++ (four ++ changes)))) ≡ true
+    pub no_unit : list_all is_of_no_unit (one ++ (two ++ (three ++ (four ++ changes)))) ≡ true
+    pub images : list_all (is_image_of system) (one ++ (two ++ (three ++ (four ++ changes)))) ≡ true
+    pub counts : list_any wrong_record (one ++ (two ++ (three ++ (four ++ changes)))) ≡ false
 
-  pub sections : (one two three four : List Record) → ArePlain system 1 one → ArePlain system 2 two → ArePlain system 3 three → ArePlain system 4 four → Sections one two three four
-  sections one two three four a b c d = record {
-    ranked = ranked_section 1 1 one (two ++ (three ++ four)) (omega arith) (omega arith) a (ranked_section 1 2 two (three ++ four) (omega arith) (omega arith) b (ranked_section 2 3 three four (omega arith) (omega arith) c (subst (λ (l : List Record). are_ranked 3 l ≡ true) (append-nil four) (ranked_section 3 4 four [] (omega arith) (omega arith) d refl))));
-    ascending = ascend_section 1 one (two ++ (three ++ four)) a (ascend_section 2 two (three ++ four) b (ascend_section 3 three four c (subst (λ (l : List Record). ascend l ≡ true) (append-nil four) (ascend_section 4 four [] d refl))));
-    no_unit = no_unit_section 1 one (two ++ (three ++ four)) a (no_unit_section 2 two (three ++ four) b (no_unit_section 3 three four c (subst (λ (l : List Record). list_all is_of_no_unit l ≡ true) (append-nil four) (no_unit_section 4 four [] d refl))));
-    images = image_section 1 one (two ++ (three ++ four)) a (image_section 2 two (three ++ four) b (image_section 3 three four c (subst (λ (l : List Record). list_all (is_image_of system) l ≡ true) (append-nil four) (image_section 4 four [] d refl))));
-    counts = counts_section 1 one (two ++ (three ++ four)) a (counts_section 2 two (three ++ four) b (counts_section 3 three four c (subst (λ (l : List Record). list_any wrong_record l ≡ false) (append-nil four) (counts_section 4 four [] d refl))));
+  pub sections : (one two three four changes : List Record) → ArePlain system 1 one → ArePlain system 2 two → ArePlain system 3 three → ArePlain system 4 four → AreChanges system changes → Sections one two three four changes
+  sections one two three four changes a b c d are = record {
+    ranked =
+        ranked_section 1 1 one (two ++ (three ++ (four ++ changes))) (omega arith) (omega arith) a
+        (ranked_section 1 2 two (three ++ (four ++ changes)) (omega arith) (omega arith) b
+        (ranked_section 2 3 three (four ++ changes) (omega arith) (omega arith) c
+        (ranked_section 3 4 four changes (omega arith) (omega arith) d (changes_ranked 4 changes (omega arith) are.each))));
+    ascending =
+        ascend_section 1 one (two ++ (three ++ (four ++ changes))) a
+        (ascend_section 2 two (three ++ (four ++ changes)) b (ascend_section 3 three (four ++ changes) c (ascend_section 4 four changes d are.ascending)));
+    no_unit =
+        no_unit_section 1 one (two ++ (three ++ (four ++ changes))) a
+        (no_unit_section 2 two (three ++ (four ++ changes)) b (no_unit_section 3 three (four ++ changes) c (no_unit_section 4 four changes d (changes_no_unit changes are.each))));
+    images =
+        image_section 1 one (two ++ (three ++ (four ++ changes))) a
+        (image_section 2 two (three ++ (four ++ changes)) b (image_section 3 three (four ++ changes) c (image_section 4 four changes d are.images)));
+    counts =
+        counts_section 1 one (two ++ (three ++ (four ++ changes))) a
+        (counts_section 2 two (three ++ (four ++ changes)) b (counts_section 3 three (four ++ changes) c (counts_section 4 four changes d (changes_count changes are.each))));
   }
 
-  pub state_sections : (state : LastingState) → Sections (terminal_records state.terminals state.outputs state.conversations) (map code_record state.codes) (map message_record state.messages) (reply_records state.outputs)
-  state_sections state =
-      sections (terminal_records state.terminals state.outputs state.conversations) (map code_record state.codes) (map message_record state.messages) (reply_records state.outputs)
-      (plain_terminals system state.terminals state.outputs state.conversations) (plain_codes system state.codes) (plain_messages system state.messages) (plain_replies system state.outputs)
+  pub state_sections : (state : LastingState) (changes : List Record) → AreChanges system changes → Sections (terminal_records state.terminals state.outputs state.conversations) (map code_record state.codes) (map message_record state.messages) (reply_records state.outputs) changes
+  state_sections state changes are =
+      sections (terminal_records state.terminals state.outputs state.conversations) (map code_record state.codes) (map message_record state.messages) (reply_records state.outputs) changes
+      (plain_terminals system state.terminals state.outputs state.conversations) (plain_codes system state.codes) (plain_messages system state.messages) (plain_replies system state.outputs) are
 
--- no record of a snapshot names a slot
-pub none_named : (system : System) (checkpoint unit : ℕ) (state : LastingState) (database slot : ℕ) → filter (is_change_of database slot) (snapshot_records checkpoint unit state ++ []) ≡ []
+-- no record of a snapshot without changes names a slot
+pub none_named : (system : System) (checkpoint unit : ℕ) (state : LastingState) (database slot : ℕ) → filter (is_change_of database slot) (snapshot_records checkpoint unit state [] ++ []) ≡ []
 none_named system checkpoint unit state database slot =
-    ap (filter (is_change_of database slot)) (append-nil (snapshot_records checkpoint unit state))
-    ∙ unnamed_section system 1 (terminal_records state.terminals state.outputs state.conversations) (map code_record state.codes ++ (map message_record state.messages ++ reply_records state.outputs)) (plain_terminals system state.terminals state.outputs state.conversations) database slot
-    (unnamed_section system 2 (map code_record state.codes) (map message_record state.messages ++ reply_records state.outputs) (plain_codes system state.codes) database slot
-    (unnamed_section system 3 (map message_record state.messages) (reply_records state.outputs) (plain_messages system state.messages) database slot
-    (ap (filter (is_change_of database slot)) (sym (append-nil (reply_records state.outputs)))
-    ∙ unnamed_section system 4 (reply_records state.outputs) [] (plain_replies system state.outputs) database slot refl)))
+    ap (filter (is_change_of database slot)) (append-nil (snapshot_records checkpoint unit state []))
+    ∙ unnamed_section system 1 (terminal_records state.terminals state.outputs state.conversations) (map code_record state.codes ++ (map message_record state.messages ++ (reply_records state.outputs ++ []))) (plain_terminals system state.terminals state.outputs state.conversations) database slot
+    (unnamed_section system 2 (map code_record state.codes) (map message_record state.messages ++ (reply_records state.outputs ++ [])) (plain_codes system state.codes) database slot
+    (unnamed_section system 3 (map message_record state.messages) (reply_records state.outputs ++ []) (plain_messages system state.messages) database slot
+    (unnamed_section system 4 (reply_records state.outputs) [] (plain_replies system state.outputs) database slot refl)))

@@ -2,6 +2,7 @@
 use Rattle.std.proofs.Common.{◌≡◌, ℕ, suc, Bool, true, false, List, [], ◌∷◌, ◌++◌, map, refl, sym, ◌∙◌, ap, subst, Some, None, append_assoc, append-nil}
 use Rattle.std.specs.Prelude.{Option, position, slice_get, slice_set, slice_index_or, drop, if◌then◌else◌}
 use Rattle.std.specs.Option.{option_map, option_map_or}
+use Rattle.std.specs.List.{AllByRecursion}
 use Rattle.std.specs.Str.{bytes_eq}
 use Rattle.tm_types.specs.declared.message.Message.{Message}
 use Rattle.tm_types.specs.declared.message.Reply.{Reply}
@@ -19,6 +20,8 @@ use Rattle.log_records.specs.declared.record.Record.{Record}
 use Rattle.log_records.specs.declared.record.Record.TheVariants.{Terminal}
 use Rattle.model_image.specs.Snapshot.{told, told_by, snapshot_state, with_kept}
 use Rattle.snapshot_records.specs.Records.{terminal_records, code_record, message_record, reply_record, reply_records, snapshot_records, code_names, AreApart, IsOfSystem}
+use Rattle.snapshot_records.specs.Changes.{IsChange}
+use Rattle.snapshot_records.proofs.Changed.{changes_told}
 use Rattle.snapshot_records.proofs.Named.{position_more, change_among, place_among, map_among, change_named, put_all, Pairs, Puts, put_each, regroup}
 
 -- ---- records one after another
@@ -290,16 +293,18 @@ module _ (system : System) (state : LastingState) (terminals_apart : AreApart sy
       ∙ ap (λ (l : List TerminalConversation). with_lists base state.terminals (map without_replies state.outputs) l) all_conversations
 
   -- the state is told again
-  pub state_told : (checkpoint unit : ℕ) → snapshot_state system (snapshot_records checkpoint unit state) ≡ without_rows system state
-  state_told checkpoint unit =
+  pub state_told : (checkpoint unit : ℕ) (changes : List Record) → AllByRecursion IsChange changes → snapshot_state system (snapshot_records checkpoint unit state changes) ≡ without_rows system state
+  state_told checkpoint unit changes are =
       let base : LastingState = record (empty_state system) { next_id = state.next_id; steps = state.steps } in
       let one : LastingState = with_lists base state.terminals (map without_replies state.outputs) state.conversations in
       let two : LastingState = record one { codes = state.codes } in
       let three : LastingState = record two { messages = state.messages } in
-      told_both (terminal_records state.terminals state.outputs state.conversations) (map code_record state.codes ++ (map message_record state.messages ++ reply_records state.outputs)) base
-      ∙ ap (told_by (map code_record state.codes ++ (map message_record state.messages ++ reply_records state.outputs))) of_terminals
-      ∙ told_both (map code_record state.codes) (map message_record state.messages ++ reply_records state.outputs) one
-      ∙ ap (told_by (map message_record state.messages ++ reply_records state.outputs)) (codes_told state.codes one ∙ ap (λ (l : List CodeSetting). record one { codes = l }) all_codes)
-      ∙ told_both (map message_record state.messages) (reply_records state.outputs) two
-      ∙ ap (told_by (reply_records state.outputs)) (messages_told state.messages two)
-      ∙ all_replies_told system.terminals terminals_apart state.outputs [] three is.outputs
+      told_both (terminal_records state.terminals state.outputs state.conversations) (map code_record state.codes ++ (map message_record state.messages ++ (reply_records state.outputs ++ changes))) base
+      ∙ ap (told_by (map code_record state.codes ++ (map message_record state.messages ++ (reply_records state.outputs ++ changes)))) of_terminals
+      ∙ told_both (map code_record state.codes) (map message_record state.messages ++ (reply_records state.outputs ++ changes)) one
+      ∙ ap (told_by (map message_record state.messages ++ (reply_records state.outputs ++ changes))) (codes_told state.codes one ∙ ap (λ (l : List CodeSetting). record one { codes = l }) all_codes)
+      ∙ told_both (map message_record state.messages) (reply_records state.outputs ++ changes) two
+      ∙ ap (told_by (reply_records state.outputs ++ changes)) (messages_told state.messages two)
+      ∙ told_both (reply_records state.outputs) changes (with_outputs three (map without_replies state.outputs))
+      ∙ ap (told_by changes) (all_replies_told system.terminals terminals_apart state.outputs [] three is.outputs)
+      ∙ changes_told changes (without_rows system state) are

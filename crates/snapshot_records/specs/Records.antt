@@ -33,14 +33,16 @@ abbrev pub reply_records : List TerminalReplies → List Record
 reply_records [] = []
 reply_records (o ∷ os) = map (reply_record o.terminal) o.replies ++ reply_records os
 
--- The counts, the terminals, the codes, the messages in the order of their ids, and the replies.
-abbrev pub snapshot_records : ℕ → ℕ → LastingState → List Record
-snapshot_records checkpoint unit state =
+-- The counts, the terminals, the codes, the messages in the order of their ids, the replies, and the changes of open
+-- units. A life begins without such changes.
+abbrev pub snapshot_records : (checkpoint unit : ℕ) → LastingState → (changes : List Record) → List Record
+snapshot_records checkpoint unit state changes =
     record_of.Checkpoint checkpoint state.next_id unit state.steps
     ∷ (terminal_records state.terminals state.outputs state.conversations
     ++ (map code_record state.codes
     ++ (map message_record state.messages
-    ++ reply_records state.outputs)))
+    ++ (reply_records state.outputs
+    ++ changes))))
 
 -- each of these names is there once
 abbrev pub AreApart : List (List ℕ) → Type 0

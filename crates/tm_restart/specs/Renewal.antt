@@ -30,7 +30,7 @@ pub record IsRenewed (system : System) (text : List ℕ) (now : RestartSector) (
   pub restart : restart_in (snapshot_area system) image ≡ Ok (Some now)
   pub text_size : now.text ≡ length text
   pub has_text : text_in image now.text ≡ text
-  pub has_snapshot : snapshot_from system image now ≡ Ok (snapshot_records now.checkpoint unit state)
+  pub has_snapshot : snapshot_from system image now ≡ Ok (snapshot_records now.checkpoint unit state [])
   pub recovers : Recovers system image (Ok state)
   pub none_ahead : NoneAhead system image now.epoch now.sequence
 

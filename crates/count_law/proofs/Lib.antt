@@ -1,0 +1,4 @@
+pub mod Cut
+pub mod Kept
+pub mod Told
+pub mod Replayed

@@ -1,0 +1,84 @@
+//! A snapshot, whole.
+ghost use Rattle.std.specs.Prelude.{◌≡◌, [], IfOk, OnOk};
+ghost use Rattle.std.specs.List.{AllByRecursion};
+ghost use Rattle.snapshot_records.specs.Records.{snapshot_records};
+ghost use Rattle.snapshot_records.specs.Spelled.{Adds, IsWritable};
+ghost use Rattle.snapshot_records.specs.Touches.{changes_of, HasOneSector, AreAllSpelled};
+ghost use Rattle.snapshot_records.specs.View.{state_of};
+
+use crate::codes::append_codes;
+use crate::messages::append_messages;
+use crate::replies::append_replies;
+use crate::terminals::append_terminals;
+use crate::touches::{OpenUnit, append_touches};
+use conversation::Conversations;
+use log_records::append_checkpoint;
+use model_machine::TerminalState;
+use model_system::CodeState;
+use msg_queues::Queues;
+use out_queues::Outputs;
+use seg_store::Stores;
+use std::alloc::Global;
+use tm_types::Memory;
+
+/// What a snapshot is made of.
+#[derive(Clone, Copy, Debug)]
+pub struct SnapshotView<'a> {
+    /// The number of the checkpoint.
+    pub checkpoint: u64,
+    /// The number of the next unit of work.
+    pub next_unit: u64,
+    /// The id of the next message.
+    pub next_id: u64,
+    /// How many lasting steps were done.
+    pub steps: u64,
+    /// The terminals, in the order of the definition.
+    pub terminals: &'a [TerminalState],
+    pub outputs: &'a Outputs,
+    pub conversations: &'a Conversations,
+    /// The codes, in the order of the definition.
+    pub codes: &'a [CodeState],
+    pub queues: &'a Queues,
+    /// The units that aren't done, by their numbers; a life begins with none.
+    pub units: &'a [OpenUnit<'a>],
+    pub stores: &'a Stores,
+}
+
+/// Appends the records of a snapshot: the counts, the terminals, the codes, the messages by their ids, the replies by terminal
+/// and number, and the slots that open units changed. After `Memory` a part of them may be appended.
+pub fn append_snapshot(alloc: Global, out: &mut Vec<u8>, view: &SnapshotView) -> Result<(), Memory>
+    requires state { IsWritable (state_of view.now) }
+    requires units { AreAllSpelled view.now.stores.now.stores view.now.units.now }
+    requires one_sector { AllByRecursion HasOneSector view.now.stores.now.stores }
+    ensures { OnOk result (Adds (snapshot_records view.entry.now.checkpoint view.entry.now.next_unit (state_of view.entry.now) (changes_of view.entry.now.stores.now.stores view.entry.now.units.now)) out.old.items out.new.items) }
+{
+    append_checkpoint(
+        out,
+        view.checkpoint,
+        view.next_id,
+        view.next_unit,
+        view.steps,
+    )?;
+    append_terminals(
+        out,
+        view.terminals,
+        view.outputs.terminals(),
+        view.conversations.terminals(),
+    )?;
+    append_codes(out, view.codes)?;
+    append_messages(out, view.queues)?;
+    append_replies(out, view.outputs.terminals())?;
+    append_touches(alloc, out, view.units, view.stores)
+}
+
+/// The bytes of a snapshot.
+pub fn write(alloc: Global, view: &SnapshotView) -> Result<Vec<u8>, Memory>
+    requires state { IsWritable (state_of view.now) }
+    requires units { AreAllSpelled view.now.stores.now.stores view.now.units.now }
+    requires one_sector { AllByRecursion HasOneSector view.now.stores.now.stores }
+    ensures { IfOk result (λ bytes. Adds (snapshot_records view.entry.now.checkpoint view.entry.now.next_unit (state_of view.entry.now) (changes_of view.entry.now.stores.now.stores view.entry.now.units.now)) [] bytes.items) }
+{
+    let mut bytes = Vec::new(alloc);
+    append_snapshot(alloc, &mut bytes, view)?;
+    Ok(bytes)
+}
