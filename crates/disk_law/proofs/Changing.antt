@@ -192,7 +192,7 @@ module _ (unit : ℕ) (c : SlotChange) (life : LifeOnDisk) (l : IsLife life) (ma
   pub change_life : IsLife life_after
   change_life = record {
     in_range = l.in_range;
-    sequences = l.sequences;
+    few = l.few;
     writer = record { first = l.writer.first; count = l.writer.count; sequence = l.writer.sequence; epoch = l.writer.epoch };
     appended = record {
       fits = may.fits;
@@ -313,7 +313,7 @@ module _ (unit : ℕ) (changed : ℕ → ℕ → Bool) (life : LifeOnDisk) (l : 
   pub without_life : IsLife life_without
   without_life = record {
     in_range = l.in_range;
-    sequences = l.sequences;
+    few = l.few;
     writer = l.writer;
     appended = l.appended;
     sound = l.sound;

@@ -4,5 +4,3 @@ pub mod Recovering
 pub mod Forcing
 pub mod Front
 pub mod Changing
-pub mod Stepping
-pub mod LastingSteps

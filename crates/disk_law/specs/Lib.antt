@@ -3,5 +3,3 @@ pub mod Text
 pub mod Quiet
 pub mod Kept
 pub mod Changes
-pub mod Steps
-pub mod Lasting

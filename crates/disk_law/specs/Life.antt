@@ -86,7 +86,7 @@ pub record AreBeside (system : System) (touches : Touches) (committed present : 
 -- What holds of a life beside its images: what lasts breaks no rule, and its parts agree.
 pub record IsLife (life : LifeOnDisk) : Type 0 where
   pub in_range : IsRestart life.now
-  pub sequences : life.now.sequence + life.system.logs < 2 ^ 64
+  pub few : life.system.logs < 2 ^ 32
   pub writer : IsWriterOf life.system life.now life.log
   pub appended : AreAppended life.system life.log life.appended
   pub sound : breaks_a_rule life.system life.lasting ≡ false

@@ -33,8 +33,8 @@ use Rattle.slot_law.specs.Committed.{Touch, AreCommitted, without_touches, witho
 use Rattle.slot_law.proofs.Slots.{ended_keeps, sync_keeps}
 use Rattle.disk_law.specs.Life.{LifeOnDisk, IsLife, AreBeside, SpellRows, but_rows}
 use Rattle.disk_law.specs.Quiet.{is_quiet}
-use Rattle.disk_law.specs.Steps.{done_to, Wait, IsTouched, IsStep}
-use Rattle.disk_law.specs.Lasting.{input_of, input_record, accepting, MayAccept, acknowledging, MayAcknowledge, discarding, MayDiscard, completing, MayComplete}
+use Rattle.step_law.specs.Steps.{done_to, Wait, IsTouched, IsStep}
+use Rattle.step_law.specs.Lasting.{input_of, input_record, accepting, MayAccept, acknowledging, MayAcknowledge, discarding, MayDiscard, completing, MayComplete}
 use Rattle.disk_law.proofs.Naming.{all_quiet_keep, named_stays}
 use Rattle.disk_law.proofs.Changing.{touched_named, without_life}
 

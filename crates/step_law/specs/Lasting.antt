@@ -22,7 +22,7 @@ use Rattle.replay_law.specs.Steps.{HasPads, IsFree, PadFits, has_receiver}
 use Rattle.slot_law.specs.Committed.{without_touches, without_sync, synced}
 use Rattle.disk_law.specs.Life.{LifeOnDisk, SpellRows}
 use Rattle.disk_law.specs.Changes.{put_back, MarksBack}
-use Rattle.disk_law.specs.Steps.{StepOnDisk, HasRoomFor}
+use Rattle.step_law.specs.Steps.{StepOnDisk, HasRoomFor}
 
 -- a step that leaves slots and units as they are
 abbrev pub beside_slots : List Record → LastingState → LifeOnDisk → StepOnDisk

@@ -33,7 +33,7 @@ use Rattle.replay_law.proofs.Replayed.{all_take, keeps_all, leaves_sound, append
 use Rattle.slot_law.specs.Committed.{Bytes, AreCommitted}
 use Rattle.disk_law.specs.Life.{LifeOnDisk, IsLife, IsWriterOf, EachSlot, SpellRows, but_rows}
 use Rattle.disk_law.specs.Kept.{IsKept, StandsAt, beginning}
-use Rattle.disk_law.specs.Steps.{StepOnDisk, with_records, forced, after_step, done_to, IsTouched, IsStep}
+use Rattle.step_law.specs.Steps.{StepOnDisk, with_records, forced, after_step, done_to, IsTouched, IsStep}
 use Rattle.disk_law.proofs.Naming.{NamedAs, unnamed_before, named_stays, all_quiet_keep}
 use Rattle.disk_law.proofs.Forcing.{restart_stays, snapshot_stays, text_stays, slots_stay, none_later_after}
 use Rattle.disk_law.proofs.Front.{all_both, cut, front_read, changes_last, changes_named}
@@ -194,7 +194,7 @@ module _ (life : LifeOnDisk) (l : IsLife life) (step : StepOnDisk) (s : IsStep l
           (λ stays. ap (λ (v : List ℕ). opened life.now.epoch i v) stays ∙ subst (λ j. opened life.now.epoch i (sector_at a j) ≡ None) (sym is) before)
           (λ (logs : IsSome (opened w.epoch (w.sequence + y) (sector_at b (w.first + y)))).
           opened_one life.now.epoch (w.sequence + y) i (sector_at b (w.first + y))
-          (omega (arith, is, inside, s.room.fits, over.count, over.sequence, l.sequences)) small
+          (omega (arith, is, inside, s.room.fits, over.count, over.sequence, l.few, l.in_range.sequence.1)) small
           (subst (λ e. IsSome (opened e (w.sequence + y) (sector_at b (w.first + y)))) over.epoch logs)
           (λ same. omega (arith, same, is, inside, from)))
           (all.each y)))
@@ -243,7 +243,7 @@ module _ (life : LifeOnDisk) (l : IsLife life) (step : StepOnDisk) (s : IsStep l
   pub step_life : IsLife (after_step step life)
   step_life = record {
     in_range = l.in_range;
-    sequences = l.sequences;
+    few = l.few;
     writer = over_after;
     appended = record { fits = omega (arith, s.room.fits); spelled = refl; records = tt; changes = refl; images = refl };
     sound = sound_after;

@@ -1,0 +1,4 @@
+pub mod Stored
+pub mod Anew
+pub mod Checkpointed
+pub mod Opened

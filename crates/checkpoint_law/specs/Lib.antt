@@ -1,0 +1,2 @@
+pub mod Checkpointing
+pub mod Opening
