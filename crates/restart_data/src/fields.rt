@@ -24,7 +24,7 @@ pub(crate) fn number4(bytes: &[u8], at: usize) -> u32
 
 /// The number of eight bytes at a place.
 #[tactic(auto, unfolding(crate::specs::Fields::number8_at))]
-pub(crate) fn number8(bytes: &[u8], at: usize) -> u64
+pub fn number8(bytes: &[u8], at: usize) -> u64
     requires { at + 8 ≤ length bytes.now }
     ensures { result ≡ number8_at at bytes.now }
 {
