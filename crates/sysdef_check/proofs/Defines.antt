@@ -1,5 +1,5 @@
 -- A definition that keeps the rules defines a system.
-use Rattle.std.proofs.Common.{◌≡◌, ◌≤◌, List, [], ◌∷◌, Ok, IsTrue, All, refl}
+use Rattle.std.proofs.Common.{◌≡◌, ◌≤◌, List, [], ◌∷◌, None, Ok, IsTrue, All, refl}
 use Rattle.std.proofs.lemmas.Bool.{false≢true}
 use Rattle.std.proofs.lemmas.List.Elements.{All-head}
 use Rattle.system_types.specs.declared.definition.MacroLine.{MacroLine}
@@ -7,7 +7,7 @@ use Rattle.system_types.specs.declared.definition.Macro.{Macro}
 use Rattle.system_types.specs.declared.definition.Macro.TheVariants.{Control}
 use Rattle.system_types.specs.Definitions.{IsDefinition, IsInRange, begins_well, is_control}
 use Rattle.system_types.specs.Valid.{IsSystem}
-use Rattle.sysdef_rules.specs.declared.cross.CrossRule.TheVariants.{CodeTwice, DatabaseUnknown, DestinationUnknown, OfCalls, OfFormats, OfSegments, ProgramMissing, WrongCount, WrongPad}
+use Rattle.sysdef_rules.specs.declared.cross.CrossRule.TheVariants.{CodeTwice, TerminalTwice, DatabaseUnknown, DestinationUnknown, OfCalls, OfFormats, OfSegments, ProgramMissing, WrongCount, WrongPad}
 use Rattle.sysdef_rules.specs.declared.calls.CallRule.TheVariants.{PcbMissing, SsaAstray, NoInsertPath}
 use Rattle.sysdef_rules.specs.declared.segments.SegmentRule.TheVariants.{ParentAstray}
 use Rattle.sysdef_rules.specs.Cross.{cross_rules}
@@ -19,6 +19,9 @@ use Rattle.sysdef_check.proofs.Limits.{few_codes, few_databases, few_formats, fe
 use Rattle.sysdef_check.proofs.Pads.{destinations_kept, pads_kept}
 use Rattle.sysdef_check.proofs.Servable.{programs_serve}
 use Rattle.sysdef_check.proofs.Served.{codes_apart, codes_served}
+use Rattle.sysdef_check.proofs.Receivers.{receivers_known}
+use Rattle.sysdef_check.proofs.Terminals.{terminals_apart}
+use Rattle.sysdef_check.proofs.Transactions.{transactions_in_range}
 
 -- the numbers of IMSCTRL
 control_by : (content : Macro) → IsTrue (is_control content) → IsInRange content
@@ -48,12 +51,15 @@ defines_system lines definition kept =
       programs = programs_serve lines parents counts (rule_kept lines 6 DatabaseUnknown kept refl) (rule_kept lines 12 (OfCalls PcbMissing) kept refl)
           (rule_kept lines 13 (OfCalls SsaAstray) kept refl) (rule_kept lines 14 (OfCalls NoInsertPath) kept refl);
       destinations = destinations_kept (databases_in lines) lines (rule_kept lines 7 DestinationUnknown kept refl);
+      receivers = receivers_known (databases_in lines) lines definition.applied (rule_kept lines 7 DestinationUnknown kept refl);
       few_codes = few_codes lines counts;
       pads = pads_kept lines (rule_kept lines 17 WrongPad kept refl);
+      transactions = transactions_in_range lines None definition.in_range;
       served = codes_served (databases_in lines) lines (rule_kept lines 10 ProgramMissing kept refl);
       apart = codes_apart lines (rule_kept lines 8 CodeTwice kept refl);
       some_terminal = some.0;
       few_terminals = few_terminals lines counts;
+      terminals_apart = terminals_apart lines (rule_kept lines 9 TerminalTwice kept refl);
       few_formats = few_formats lines counts;
       formats = formats_kept lines (rule_kept lines 15 OfFormats kept refl);
       some_region = some.1;

@@ -8,4 +8,7 @@ pub mod Kept
 pub mod Limits
 pub mod Formats
 pub mod Pads
+pub mod Terminals
+pub mod Receivers
+pub mod Transactions
 pub mod Defines

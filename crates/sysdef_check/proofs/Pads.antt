@@ -73,14 +73,14 @@ no_pad name (line ∷ lines) psb h =
     no_pad_by name psb line.content (codes_in (psb_after psb line.content) lines) both.0 (no_pad name lines (psb_after psb line.content) both.1)
 
 -- no PCB sends to such a code
-abbrev KeepsDestination : List MacroLine → MacroLine → Type 0
+abbrev pub KeepsDestination : List MacroLine → MacroLine → Type 0
 KeepsDestination all line = breaks_destination all line.content ≡ false
 
 kept_destination : (all before : List MacroLine) (line : MacroLine) (behind : List MacroLine) → broken_line DestinationUnknown all before line behind ≡ None → KeepsDestination all line
 unfolding broken_line
 kept_destination all before line behind h = not_broken line (breaks_destination all line.content) h
 
-keeps_in : (all lines before : List MacroLine) → first_line DestinationUnknown all before lines ≡ None → All (KeepsDestination all) lines
+pub keeps_in : (all lines before : List MacroLine) → first_line DestinationUnknown all before lines ≡ None → All (KeepsDestination all) lines
 keeps_in all [] before h = none_holds (KeepsDestination all)
 keeps_in all (line ∷ lines) before h =
     let both = neither (broken_line DestinationUnknown all before line lines) (first_line DestinationUnknown all (before ++ line ∷ []) lines) h in

@@ -22,7 +22,7 @@ use Rattle.sysdef_check.specs.Systems.{and_then, code_in, codes_in, psb_after, p
 use Rattle.sysdef_check.proofs.Kept.{neither, not_broken}
 use Rattle.sysdef_check.proofs.Made.{either_false, made_holds, none_holds}
 
-not_false : (b : Bool) → not b ≡ false → b ≡ true
+pub not_false : (b : Bool) → not b ≡ false → b ≡ true
 not_false true h = refl
 not_false false h = absurd (false≢true (sym h))
 
@@ -103,7 +103,7 @@ fresh all (line ∷ lines) before psb place code kept e =
     (sym (list_any-append (λ l. is_code code.transaction.code l.content) before (line ∷ [])) ∙ fresh all lines (before ++ line ∷ []) (psb_after psb line.content) n code both.1 at)).0)
     e
 
-same_code : (code : List ℕ) → bytes_eq code code ≡ true
+pub same_code : (code : List ℕ) → bytes_eq code code ≡ true
 same_code code = (bytes_eq-Decides code code).1 refl
 
 -- a code is found at its place, the first of the codes having a place
@@ -122,7 +122,7 @@ apart_by (Some name) (Transaction transaction) rest start (suc n) code other mor
     rw (other n e) (more (start + 1) n e ∙ ap Some at)
 apart_by (Some name) _ rest start place code other more e = more start place e
 
-last_passes : (test : MacroLine → Bool) (line : MacroLine) → list_any test (line ∷ []) ≡ false → test line ≡ false
+pub last_passes : (test : MacroLine → Bool) (line : MacroLine) → list_any test (line ∷ []) ≡ false → test line ≡ false
 last_passes test line h = (either_false (test line) false h).0
 
 apart_from : (all lines before : List MacroLine) (psb : Option (List ℕ)) (start place : ℕ) (code : Code) → first_line CodeTwice all before lines ≡ None → slice_get (codes_in psb lines) place ≡ Some code

@@ -1,0 +1,13 @@
+pub mod Changes
+pub mod Ended
+pub mod Calls
+pub mod Trials
+pub mod Jobs
+pub mod Contents
+pub mod Slots
+pub mod Refused
+pub mod Rooms
+pub mod Pads
+pub mod Works
+pub mod Turns
+pub mod Steps

@@ -1,0 +1,59 @@
+-- Each step of the machine keeps its room.
+use Rattle.std.proofs.Common.{◌≡◌, ℕ, zero, suc, ◌+◌, ◌-◌, ◌*◌, ◌≤◌, nat_le, nat_lt, not, Bool, true, false, ◌&&◌, ◌||◌, List, [], ◌∷◌, length, find, Option, Some, None, Result, Ok, Err, IsSome, refl, sym, ◌∙◌, ap, subst, arith}
+use Rattle.std.specs.Prelude.{if◌then◌else◌, max, slice_get, slice_set, ◌==◌, sum_by}
+use Rattle.std.specs.List.{list_all}
+use Rattle.std.specs.Option.{is_some, option_and_then, option_map_or, unwrap_or}
+use Rattle.std.proofs.lemmas.Bool.{ltb-false}
+use Rattle.std.proofs.lemmas.Bool.Decides.{nat_tests}
+use Rattle.std.proofs.lemmas.List.Sums.{sum_by_push}
+use Rattle.tm_types.specs.declared.abend.AbendCode.{AbendCode}
+use Rattle.tm_types.specs.declared.message.Message.{Message}
+use Rattle.model_conversation.specs.declared.conversation.PadChange.{PadChange}
+use Rattle.model_enqueue.specs.declared.request.Request.{Request}
+use Rattle.model_enqueue.specs.declared.victim.Victim.{Victim}
+use Rattle.model_rows.specs.declared.row.Row.{Row}
+use Rattle.model_system.specs.declared.code.Code.{Code}
+use Rattle.model_system.specs.declared.code_state.CodeState.{CodeState}
+use Rattle.model_system.specs.Jobs.{Job, job_of}
+use Rattle.model_system.specs.System.{System}
+use Rattle.model_queues.specs.Room.{input_needs, message_bytes, slot_needs, slot_room}
+use Rattle.model_queues.specs.Waiting.{first_waiting}
+use Rattle.model_message.specs.declared.ended_message.EndedMessage.{EndedMessage}
+use Rattle.model_machine.specs.declared.entry.Turned.{Turned}
+use Rattle.model_machine.specs.Lasting.{LastingStep, abend_outputs, accepted, applied, changed, finished, finished_by, input_message, kept_input, with_pad_by}
+use Rattle.model_machine.specs.Lasting.LastingStep.{Accepts, Acknowledges, Completes, Discards}
+use Rattle.model_machine.specs.Machine.{LastingState, Moment, Slot, busy_slots, content, is_held, message_at}
+use Rattle.model_machine.specs.Steps.{need_now, no_room}
+use Rattle.sound_law.specs.Rooms.{HasRoom}
+use Rattle.sound_law.specs.Sending.{sent_bytes}
+use Rattle.sound_law.proofs.Contents.{acknowledged_bytes, finished_content}
+use Rattle.sound_law.proofs.Refused.{IsNew, has_room}
+
+-- what a message leaves that is there, or nothing
+finished_within : (found : Option Message) (outputs : Message → List EndedMessage) (change : Message → PadChange) (lasting : LastingState) (bytes : ℕ)
+    → ((message : Message) → found ≡ Some message → sent_bytes (outputs message) ≤ bytes) → content (finished_by found outputs (with_pad_by found change lasting)) ≤ content lasting + bytes
+finished_within None outputs change lasting bytes each = omega arith
+finished_within (Some message) outputs change lasting bytes each =
+    omega (arith, finished_content message (outputs message) (with_pad_by (Some message) change lasting), each message refl)
+
+-- a completion adds no more than a slot's room
+pub completed_content : (id : ℕ) (rows : List (List Row)) (outputs : List EndedMessage) (pad : PadChange) (lasting : LastingState) → sent_bytes outputs ≤ 65536
+    → content (applied (Completes id rows outputs pad) lasting) ≤ content lasting + 65536
+completed_content id rows outputs pad lasting few = finished_within (message_at lasting.messages id) (λ _. outputs) (λ _. pad) (record lasting { rows = rows }) 65536 (λ message e. few)
+
+-- nor does an abend
+pub discarded_content : (id : ℕ) (abend : AbendCode) (lasting : LastingState) → ((message : Message) → message_at lasting.messages id ≡ Some message → sent_bytes (abend_outputs message abend) ≤ 65536)
+    → content (applied (Discards id abend) lasting) ≤ content lasting + 65536
+discarded_content id abend lasting few = finished_within (message_at lasting.messages id) (λ message. abend_outputs message abend) _ lasting 65536 few
+
+-- an accepted input had its room
+pub accepted_room : (system : System) (moment : Moment) (terminal : List ℕ) (number : ℕ) (segments : List (List ℕ)) → IsNew system moment terminal number segments
+    → content (applied (Accepts terminal number (kept_input system moment.lasting terminal segments)) moment.lasting) + slot_room * busy_slots moment.slots ≤ system.qbytes
+accepted_room system moment terminal number segments new =
+    let kept = kept_input system moment.lasting terminal segments in
+    let m : Message = input_message moment.lasting.next_id terminal kept in
+    let need = input_needs (content moment.lasting) (message_bytes m) (busy_slots moment.slots) in
+    omega (arith, has_room need system.qbytes new.room, sum_by_push message_bytes moment.lasting.messages m)
+
+pub acknowledged_content : (terminal : List ℕ) (lasting : LastingState) → content (applied (Acknowledges terminal) lasting) ≤ content lasting
+acknowledged_content terminal lasting = omega (arith, acknowledged_bytes terminal lasting.outputs)
