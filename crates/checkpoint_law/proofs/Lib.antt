@@ -2,3 +2,4 @@ pub mod Stored
 pub mod Anew
 pub mod Checkpointed
 pub mod Opened
+pub mod OnDisk

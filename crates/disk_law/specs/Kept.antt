@@ -1,8 +1,9 @@
 -- What each image that a stop may leave has of a life.
-use Rattle.std.specs.Prelude.{◌≡◌, ℕ, ◌+◌, ◌*◌, true, false, List, [], ◌++◌, IsSome, Some, None, Ok}
+use Rattle.std.specs.Prelude.{◌≡◌, ◌⊎◌, ℕ, ◌+◌, ◌*◌, true, false, List, [], ◌++◌, IsSome, Some, None, Ok}
 use Rattle.std.specs.List.{list_any, flat_map, AllByRecursion}
-use Rattle.model_disk.specs.Disk.{Image, sector_at}
+use Rattle.model_disk.specs.Disk.{Image, DiskState, sector_at}
 use Rattle.model_system.specs.System.{System}
+use Rattle.model_machine.specs.Machine.{LastingState}
 use Rattle.log_records.specs.declared.record.Record.{Record}
 use Rattle.log_records.specs.Spelling.{spelling, IsRecord}
 use Rattle.log_records.proofs.Takes.{IsBytes}
@@ -14,7 +15,7 @@ use Rattle.model_image.specs.Areas.{snapshot_area, log_first, data_first}
 use Rattle.model_image.specs.Snapshot.{snapshot_state}
 use Rattle.model_image.specs.Slots.{named_by, is_synced}
 use Rattle.model_image.specs.Replay.{Replay, replay_all}
-use Rattle.model_image.specs.Recovered.{snapshot_from, first_later}
+use Rattle.model_image.specs.Recovered.{snapshot_from, first_later, Recovers}
 use Rattle.slot_law.specs.Committed.{AreCommitted}
 use Rattle.disk_law.specs.Life.{LifeOnDisk, EachSlot, but_rows}
 use Rattle.disk_law.specs.Text.{text_in}
@@ -56,3 +57,11 @@ pub record IsKept (life : LifeOnDisk) (image : Image) : Type 0 where
   -- the sectors of the logs
   pub not_later : first_later (2 * life.system.logs) image (log_first life.system 0) life.now.epoch ≡ None
   pub none_ahead : NoneAhead life.system image life.now.epoch (life.log.sequence + life.log.place)
+
+-- Each image that a crash may leave is one of the life.
+abbrev pub AreKept : LifeOnDisk → DiskState → Type 0
+AreKept life disk = (image : Image) → disk.may_leave image → IsKept life image
+
+-- It recovers to one state, or to another.
+abbrev pub RecoversEither : System → LastingState → LastingState → Image → Type 0
+RecoversEither system before after image = Recovers system image (Ok before) ⊎ Recovers system image (Ok after)
