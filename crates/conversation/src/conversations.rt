@@ -58,6 +58,13 @@ impl Conversations {
         &self.terminals
     }
 
+    /// These terminals, each with its conversation or none. This takes no memory.
+    pub fn of(alloc: Global, terminals: Vec<TerminalConversation>) -> Conversations
+        ensures { result ≡ terminals.items }
+    {
+        Conversations { terminals, alloc }
+    }
+
     /// The terminal begins a conversation of the code. Its pad is the code, padded with blanks to 8
     /// bytes, and `work` blanks. Where it answers `Memory`, nothing has changed.
     pub fn begin(&mut self, terminal: &Name, code: &Name, work: u16) -> Result<(), Memory>

@@ -4,7 +4,7 @@ use Rattle.std.specs.List.{list_all}
 use Rattle.model_system.specs.System.{System}
 use Rattle.model_machine.specs.Machine.{LastingState}
 use Rattle.log_records.specs.declared.record.Record.{Record}
-use Rattle.log_records.specs.declared.record.Record.TheVariants.{Change}
+use Rattle.told_lasting.specs.Telling.{is_change}
 use Rattle.restart_data.specs.Rules.{first_broken, unless_broken}
 use Rattle.model_image.specs.Cut.{cut_of, records_of, IsCutOff}
 use Rattle.model_image.specs.Snapshot.{snapshot_state, snapshot_rules}
@@ -26,10 +26,6 @@ judged system None = Err 10
 abbrev pub snapshot_of : System → List ℕ → Result (List Record) ℕ
 snapshot_of system bytes = judged system (records_of bytes)
 
-abbrev pub is_change : Record → Bool
-is_change (Change unit database slot before after) = true
-is_change _ = false
-
 -- what is kept of a snapshot: its state, the changes that it tells of, and the next unit
 pub record SnapshotState : Type 0 where
   pub kept : KeptState
@@ -48,6 +44,12 @@ TellsRecords system bytes (Ok snapshot) =
     (records : List Record) × (snapshot_of system bytes ≡ Ok records) × IsOf system records snapshot
 TellsRecords system bytes (Err (Bad rule)) = snapshot_of system bytes ≡ Err rule
 TellsRecords system bytes (Err Memory) = Unit {0}
+
+-- the same of records
+abbrev pub Tells : System → List Record → Result SnapshotState RecordsFault → Type 0
+Tells system records (Ok snapshot) = (judged system (Some records) ≡ Ok records) × IsOf system records snapshot
+Tells system records (Err (Bad rule)) = judged system (Some records) ≡ Err rule
+Tells system records (Err Memory) = Unit {0}
 
 -- ---- a log behind it
 

@@ -1,13 +1,15 @@
 //! The records of an image, judged by the rules of an image.
 //!
 //! Bytes are cut into records; their order, the terminals and codes of a snapshot, and the numbers, messages and replies of
-//! what lasts are judged as the definition of an image says (specs of `model_image`). What reading a snapshot and doing
-//! the log again are to answer stands in specs/Answers; these two calls aren't there yet.
+//! what lasts are judged as the definition of an image says (specs of `model_image`). `read_records` reads a snapshot whole: it
+//! answers the tables of what lasts, or the lowest rule that is broken. What doing the log again is to answer stands in
+//! specs/Answers; that call isn't there yet.
 #![tactic(auto)]
 
 pub use fault::RecordsFault;
 pub use kept::Kept;
 pub use log_records::Record;
+pub use reading::read_records;
 pub use replay::Replayed;
 pub use slots::NamedSlot;
 pub use snapshot::Snapshot;
@@ -17,7 +19,9 @@ mod fault;
 mod judging;
 mod kept;
 mod order;
+mod reading;
 mod replay;
 mod rules;
 mod slots;
 mod snapshot;
+mod tables;

@@ -60,6 +60,17 @@ impl Outputs {
         })
     }
 
+    /// These terminals with their replies, whose numbers follow one another; `content` are the bytes of all these replies.
+    /// This takes no memory.
+    pub fn of(terminals: Vec<TerminalReplies>, content: u64) -> Outputs
+        requires counted { content ≡ outputs_bytes terminals.items }
+        requires small { content < 2 ^ 62 }
+        requires numbered { AllByRecursion AreNumbered terminals.items }
+        ensures { result ≡ terminals.items }
+    {
+        Outputs { content, terminals }
+    }
+
     /// The bytes of all replies: 48 for each, and the LLs of its segments.
     pub fn content(&self) -> u64
         ensures value { result ≡ outputs_bytes self.now }

@@ -1,0 +1,4 @@
+pub mod Places
+pub mod Capped
+pub mod Named
+pub mod Taking
