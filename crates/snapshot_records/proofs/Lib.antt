@@ -10,3 +10,4 @@ pub mod Shown
 pub mod Sizes
 pub mod Fits
 pub mod Begun
+pub mod Viewed

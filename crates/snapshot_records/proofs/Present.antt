@@ -20,12 +20,12 @@ pub image_is : (stores : List Stored) (db slot : ℕ) (one : Stored) (found : Op
 image_is stores db slot one found there is =
     ap (λ (o : Option Stored). option_map_or (λ s. slice_index_or s.slots slot []) o []) there ∙ indexed one.slots slot found is
 
-one_sector : (stores : List Stored) (k : ℕ) (one : Stored) → AllByRecursion HasOneSector stores → slice_get stores k ≡ Some one → one.dbd.sectors ≤ 1
+pub one_sector : (stores : List Stored) (k : ℕ) (one : Stored) → AllByRecursion HasOneSector stores → slice_get stores k ≡ Some one → one.dbd.sectors ≤ 1
 one_sector [] k one each found = absurd (none-some {A = Stored} one found)
 one_sector (s ∷ stores) zero one each found = subst HasOneSector (same_Some s one found) each.0
 one_sector (s ∷ stores) (suc k) one each found = one_sector stores k one each.1 found
 
-slot_at : (dbd : Dbd) (slots : List (List Row)) (k : ℕ) → AllByRecursion (IsSlot dbd) slots → IsSlot dbd (slice_index_or slots k [])
+pub slot_at : (dbd : Dbd) (slots : List (List Row)) (k : ℕ) → AllByRecursion (IsSlot dbd) slots → IsSlot dbd (slice_index_or slots k [])
 slot_at dbd [] k are = inl refl
 slot_at dbd (image ∷ slots) zero are = are.0
 slot_at dbd (image ∷ slots) (suc k) are = slot_at dbd slots k are.1
