@@ -4,7 +4,6 @@ use Rattle.std.specs.Prelude.{Option, slice_get, get_or, sum_by}
 use Rattle.std.specs.Option.{unwrap_or}
 use Rattle.std.proofs.lemmas.Bool.{cases_lt}
 use Rattle.std.proofs.lemmas.Option.{slice_get_within, slice_get-get_or}
-use Rattle.std.proofs.lemmas.List.Sums.{sum_by-cons}
 use Rattle.tm_types.specs.declared.dbd.Dbd.{Dbd}
 use Rattle.model_disk.specs.Disk.{Image, DiskState, sector_at, Within, Follows}
 use Rattle.model_disk.proofs.Words.{within_within, follows_on}
@@ -86,22 +85,3 @@ module _ (system : System) (given : Given) (i : ℕ) (slots : List (ℕ × List 
 
   pub follows_step : (old mid new : DiskState) → Follows (MayPutAll system given) old mid → Follows (MayPut (data_first system i) slots) mid new → Follows (MayPutAll system given) old new
   follows_step old mid new before after = follows_on (MayPutAll system given) (MayPut (data_first system i) slots) (MayPutAll system given) old mid new may_step before after
-
--- ---- where the next database begins
-
-sum_next : (dbds : List Dbd) (i : ℕ) (dbd : Dbd) → slice_get dbds i ≡ Some dbd → sum_by (λ (d : Dbd). d.roots) (take (suc i) dbds) ≡ sum_by (λ (d : Dbd). d.roots) (take i dbds) + dbd.roots
-sum_next [] i dbd found = cc
-sum_next (d ∷ dbds) zero dbd found =
-    let same : d ≡ dbd = cc in
-    omega (arith, sum_by-cons (λ (x : Dbd). x.roots) d (take 0 dbds), ap (λ (x : Dbd). x.roots) same)
-sum_next (d ∷ dbds) (suc i) dbd found =
-    omega (arith, sum_next dbds i dbd found, sum_by-cons (λ (x : Dbd). x.roots) d (take (suc i) dbds), sum_by-cons (λ (x : Dbd). x.roots) d (take i dbds))
-
-pub next_first : (system : System) (i : ℕ) (dbd : Dbd) → slice_get system.databases i ≡ Some dbd → data_first system (i + 1) ≡ data_first system i + dbd.roots
-next_first system i dbd found =
-    let next : i + 1 ≡ suc i = omega arith in
-    omega (arith, sum_next system.databases i dbd found, ap (λ k. sum_by (λ (d : Dbd). d.roots) (take k system.databases)) next)
-
-pub first_fits : (system : System) (i : ℕ) (dbd : Dbd) (size : ℕ) → slice_get system.databases i ≡ Some dbd → data_first system (length system.databases) ≤ size → data_first system i + dbd.roots ≤ size
-first_fits system i dbd size found le =
-    omega (arith, le, slots_before system i (length system.databases) dbd found (slice_get_within system.databases i dbd found))

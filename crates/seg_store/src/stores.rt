@@ -28,6 +28,7 @@ impl Model for Stores {
 }
 
 impl Stores {
+    ghost use Rattle.seg_store.specs.Changed.{all_stores};
     ghost use Rattle.seg_store.specs.Stores.{empty_stores, no_changed, IsStoreOf, LendsStore};
 
     /// A store without rows for each of these databases.
@@ -40,6 +41,13 @@ impl Stores {
             items.push(Store::empty(alloc, dbd)?)?;
         }
         Ok(Stores { items })
+    }
+
+    /// These stores. This takes no memory.
+    pub fn of(items: Vec<Store>) -> Stores
+        ensures { result ≡ all_stores items.items }
+    {
+        Stores { items }
     }
 
     /// Writes the records of the changed slots of all databases into their sectors, in ascending order, where the

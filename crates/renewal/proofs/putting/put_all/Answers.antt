@@ -5,7 +5,8 @@ use Rattle.model_disk.specs.Disk.{Within, Follows}
 use Rattle.model_disk.proofs.Words.{stays_on}
 use Rattle.seg_store.specs.DataSectors.{MayPut, HasPut}
 use Rattle.seg_store.proofs.Putting.{at_ok}
-use Rattle.renewal.proofs.AllPut.{within_step, follows_step, front_step, next_first, first_fits}
+use Rattle.renewal.proofs.AllPut.{within_step, follows_step, front_step}
+use Rattle.image_areas.proofs.Following.{next_first, first_fits}
 use Rattle.renewal.proofs.putting.put_all.Goals as goal
 
 pub write_slots-requires-clause-within : goal.write_slots-requires-clause-within
