@@ -11,14 +11,14 @@ use Rattle.restart_data.specs.Rules.{first_broken, unless_broken}
 use Rattle.told_lasting.specs.declared.telling.Told.{Told}
 use Rattle.model_image.specs.Cut.{cut_of, records_of, where_none_left}
 use Rattle.model_image.specs.Counters.{told_unit}
-use Rattle.model_image.specs.Snapshot.{out_of_order, missing_or_twice, reply_of_none, wrong_changes, snapshot_rules, snapshot_state}
+use Rattle.model_image.specs.Snapshot.{out_of_order, missing_or_twice, reply_of_none, wrong_changes, snapshot_rules}
 use Rattle.model_image.specs.States.{breaks_a_rule, wrong_values, wrong_ids, unknown_messages, wrong_replies, over_full}
 use Rattle.image_records.specs.declared.fault.RecordsFault.{RecordsFault}
 use Rattle.image_records.specs.declared.fault.RecordsFault.TheVariants.{Bad, Memory}
 use Rattle.image_records.specs.declared.reading.RecordRules.{RecordRules}
 use Rattle.image_records.specs.Kept.{Keeps}
-use Rattle.image_records.specs.Answers.{SnapshotState, IsOf, Tells, TellsRecords, judged, snapshot_of}
-use Rattle.image_records.specs.Judging.{AreRecordRules, IsToldBy, IsKeptOf, KeepsTold, rules_by}
+use Rattle.image_records.specs.Answers.{SnapshotState, Tells, TellsRecords, judged, snapshot_of}
+use Rattle.image_records.specs.Judging.{AreRecordRules, IsToldBy, KeepsTold, rules_by}
 
 -- ---- bytes that are records
 

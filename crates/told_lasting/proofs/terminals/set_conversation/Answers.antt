@@ -1,4 +1,4 @@
-use Rattle.std.proofs.Common.{◌≡◌, sym, ap, ◌∙◌, Some, None}
+use Rattle.std.proofs.Common.{◌≡◌, ap, ◌∙◌, Some, None}
 use Rattle.std.specs.Prelude.{position}
 use Rattle.model_conversation.specs.Terminals.{with_conversation, is_of}
 use Rattle.conversation.proofs.Terminals.{place_changed, none_changed}

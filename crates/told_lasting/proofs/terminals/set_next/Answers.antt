@@ -1,4 +1,4 @@
-use Rattle.std.proofs.Common.{◌≡◌, sym, ap, ◌∙◌, Some, None}
+use Rattle.std.proofs.Common.{◌≡◌, ap, ◌∙◌, Some, None}
 use Rattle.std.specs.Prelude.{position}
 use Rattle.model_queues.specs.Outputs.{with_next, is_of}
 use Rattle.out_queues.proofs.Terminals.{place_changed}

@@ -1,4 +1,4 @@
-use Rattle.std.proofs.Common.{◌≡◌, ◌+◌, ◌≤◌, length, take}
+use Rattle.std.proofs.Common.{◌≡◌, ◌+◌, take}
 use Rattle.model_queues.specs.Outputs.{outputs_bytes}
 use Rattle.told_lasting.specs.Weighing.{capped}
 use Rattle.told_lasting.proofs.weighing.with_outputs.Given as goal
