@@ -10,4 +10,6 @@ pub mod Shown
 pub mod Sizes
 pub mod Fits
 pub mod Begun
+pub mod Apart
+pub mod Whole
 pub mod Viewed
