@@ -1,8 +1,10 @@
 -- The empty state keeps the rules, and a blank sector is no restart sector.
-use Rattle.std.proofs.Common.{◌≡◌, ℕ, ◌+◌, Bool, true, false, List, [], ◌∷◌, map, refl, ◌∙◌, ap, arith, Some, None, Ok, nat_lt}
+use Rattle.std.proofs.Common.{All, ◌≡◌, ℕ, ◌+◌, Bool, true, false, List, [], ◌∷◌, map, refl, ◌∙◌, ap, arith, Some, None, Ok, nat_lt}
 use Rattle.std.specs.Prelude.{if◌then◌else◌}
 use Rattle.std.specs.List.{list_all}
+use Rattle.std.proofs.lemmas.Bool.{le-leb}
 use Rattle.std.proofs.lemmas.Bool.Decides.{nat_tests}
+use Rattle.std.proofs.lemmas.List.Elements.{All-head, All-tail}
 use Rattle.tm_disk.specs.Sector.{blank}
 use Rattle.model_conversation.specs.Terminals.{without_conversation}
 use Rattle.model_queues.specs.Outputs.{fresh_terminal, outputs_bytes}
@@ -16,9 +18,10 @@ use Rattle.restart_data.specs.Rules.{first_broken, unless_broken}
 use Rattle.restart_data.specs.Restart.{restart_rules, fields_of}
 use Rattle.restart_data.specs.Fields.{are_zeros}
 use Rattle.restart_data.proofs.Zeros.{blank_is, are_zeros-zeros}
-use Rattle.model_image.specs.States.{is_small, is_next, has_right_pad, run_up_to, breaks_a_rule}
+use Rattle.model_image.specs.States.{is_small, is_next, has_right_pad, run_up_to, breaks_a_rule, is_setting}
 use Rattle.snapshot_records.specs.Records.{IsOfSystem}
-use Rattle.cold_start.specs.FirstImage.{IsDefined}
+use Rattle.system_types.specs.Definitions.{IsTransaction}
+use Rattle.system_types.specs.Valid.{IsSystem}
 
 -- ---- the empty state keeps the rules
 
@@ -48,9 +51,17 @@ no_bytes (n ∷ ns) =
 not_full : (n : ℕ) → nat_lt n 0 ≡ false
 not_full n = grind (arith, nat_tests)
 
-pub empty_sound : (system : System) → IsDefined system → breaks_a_rule system (empty_state system) ≡ false
-empty_sound system defined =
-    rw (small_states system.terminals, next_outputs system.terminals, right_pads system system.terminals, no_replies system.terminals, no_bytes system.terminals, defined.settings) (not_full system.qbytes)
+-- a code's first setting lies in its ranges
+right_settings : (codes : List Code) → All (λ code. IsTransaction code.transaction) codes → list_all is_setting (map first_setting codes) ≡ true
+right_settings [] right = refl
+right_settings (code ∷ codes) right =
+    let here : IsTransaction code.transaction = All-head (λ (code : Code). IsTransaction code.transaction) code codes right in
+    rw (le-leb 1 code.transaction.class here.some_class, le-leb code.transaction.class 255 here.class, le-leb code.transaction.normal_priority 14 here.normal_priority)
+    (right_settings codes (All-tail (λ (code : Code). IsTransaction code.transaction) code codes right))
+
+pub empty_sound : (system : System) → IsSystem system → breaks_a_rule system (empty_state system) ≡ false
+empty_sound system valid =
+    rw (small_states system.terminals, next_outputs system.terminals, right_pads system system.terminals, no_replies system.terminals, no_bytes system.terminals, right_settings system.codes valid.transactions) (not_full system.qbytes)
 
 named_states : (ns : List (List ℕ)) → map (λ t. t.name) (map fresh_terminal_state ns) ≡ ns
 named_states [] = refl

@@ -15,12 +15,12 @@ use Rattle.model_image.proofs.Answers.{zeros_are_empty}
 use Rattle.snapshot_records.specs.Spelled.{Adds}
 use Rattle.snapshot_records.proofs.Begun.{HasSnapshot, recovers_begun}
 use Rattle.cold_start.specs.declared.laying_cold.Places.{Places}
-use Rattle.cold_start.specs.FirstImage.{IsDefined, IsFirst, IsFirstImage, KeepsOrEmpties, first_records}
+use Rattle.cold_start.specs.FirstImage.{IsFirst, IsFirstImage, KeepsOrEmpties, first_records}
 use Rattle.cold_start.specs.Filling.{AreOf, IsWritten, Begins}
 use Rattle.cold_start.proofs.Emptied.{blank_restart, empty_is, empty_sound}
 use Rattle.cold_start.proofs.Names.{codes_apart}
 
-module _ (system : System) (text bytes : List ℕ) (now : RestartSector) (valid : IsSystem system) (defined : IsDefined system) (adds : Adds (first_records system) [] bytes) (first : IsFirst now) where
+module _ (system : System) (text bytes : List ℕ) (now : RestartSector) (valid : IsSystem system) (adds : Adds (first_records system) [] bytes) (first : IsFirst now) where
   -- the first image has the first snapshot
   pub has_first : (image : Image) → IsFirstImage system text bytes now image → HasSnapshot system now (first_records system) image
   has_first image is = record {
@@ -33,7 +33,7 @@ module _ (system : System) (text bytes : List ℕ) (now : RestartSector) (valid 
 
   pub first_recovers : (image : Image) → IsFirstImage system text bytes now image → Recovers system image (Ok (empty_state system))
   first_recovers image is =
-      recovers_begun system (empty_state system) 1 1 defined.apart (codes_apart system valid) (empty_is system) (record { checkpoint_small = refl; unit_next = refl }) (empty_sound system defined) now image (has_first image is)
+      recovers_begun system (empty_state system) 1 1 valid.terminals_apart (codes_apart system valid) (empty_is system) (record { checkpoint_small = refl; unit_next = refl }) (empty_sound system valid) now image (has_first image is)
 
   module _ (places : Places) (are : AreOf system places) (sectors : now.sectors ≡ sectors_of (length bytes)) (few : length bytes ≤ 8192) where
     first_image : (image : Image) → IsWritten places text bytes now image → IsFirstImage system text bytes now image

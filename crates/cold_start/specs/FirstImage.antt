@@ -1,25 +1,17 @@
 -- The first image of a system's disk.
-use Rattle.std.specs.Prelude.{◌≡◌, ◌⊎◌, ℕ, ◌+◌, ◌<◌, ◌≤◌, List, [], length, map, IsTrue, Some, Ok}
-use Rattle.std.specs.List.{list_all}
+use Rattle.std.specs.Prelude.{◌≡◌, ◌⊎◌, ℕ, ◌+◌, ◌<◌, ◌≤◌, List, [], length, Some, Ok}
 use Rattle.model_disk.specs.Disk.{Image, sector_at}
 use Rattle.tm_disk.specs.Sector.{blank}
 use Rattle.model_system.specs.System.{System}
-use Rattle.model_machine.specs.Machine.{empty_state, first_setting}
+use Rattle.model_machine.specs.Machine.{empty_state}
 use Rattle.log_records.specs.declared.record.Record.{Record}
 use Rattle.restart_data.specs.declared.restart.RestartSector.{RestartSector}
 use Rattle.restart_data.specs.Restart.{restart_in}
 use Rattle.restart_data.specs.Snapshot.{snapshot_in}
 use Rattle.model_image.specs.Areas.{snapshot_area, snapshot_first, log_first, data_first}
-use Rattle.model_image.specs.States.{is_setting}
 use Rattle.model_image.specs.Recovered.{Recovers}
-use Rattle.snapshot_records.specs.Records.{AreApart, snapshot_records}
+use Rattle.snapshot_records.specs.Records.{snapshot_records}
 use Rattle.cold_start.specs.Filling.{text_sectors, text_sector}
-
--- What the rules on a definition give besides: each terminal has a name of its own, and the classes and priorities of the
--- codes lie in their ranges.
-pub record IsDefined (system : System) : Type 0 where
-  pub apart : AreApart system.terminals
-  pub settings : IsTrue (list_all is_setting (map first_setting system.codes))
 
 -- how many sectors a disk of the system has at least
 abbrev pub sectors_needed : System → ℕ

@@ -4,7 +4,7 @@ ghost use Rattle.model_disk.specs.Disk.{Stays, Within, Follows, Only, FailedSinc
 ghost use Rattle.restart_data.specs.Restart.{IsRestart};
 ghost use Rattle.restart_data.specs.Snapshot.{sectors_of};
 ghost use Rattle.snapshot_records.specs.Spelled.{Adds};
-ghost use Rattle.cold_start.specs.FirstImage.{IsDefined, IsFirst, IsFirstImage, KeepsOrEmpties, first_records, sectors_needed};
+ghost use Rattle.cold_start.specs.FirstImage.{IsFirst, IsFirstImage, KeepsOrEmpties, first_records, sectors_needed};
 
 use crate::beginning::begin;
 use crate::places::places;
@@ -21,7 +21,6 @@ pub fn write_image<D: Disk>(
     bytes: &[u8],
     now: &RestartSector,
 ) -> Result<(), DiskFault>
-    requires defined { IsDefined system.now }
     requires text { length text.now ≤ 262144 }
     requires size { sectors_needed system.now ≤ (D.state disk.old).size }
     requires records { Adds (first_records system.now) [] bytes.now }

@@ -1,4 +1,4 @@
-pub mod Definition
 pub mod Parts
+pub mod Made
 pub mod Renewal
 pub mod Opening

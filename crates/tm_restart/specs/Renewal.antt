@@ -11,7 +11,7 @@ use Rattle.model_image.specs.Ahead.{NoneAhead}
 use Rattle.model_image.specs.Counters.{next_sequence}
 use Rattle.model_image.specs.Recovered.{Recovers, snapshot_from}
 use Rattle.snapshot_records.specs.Records.{snapshot_records}
-use Rattle.tm_restart.specs.Definition.{text_in}
+use Rattle.model_image.specs.Text.{text_in}
 
 -- the log's writer at the start of the area that a restart sector names
 abbrev pub first_writer : System → RestartSector → Writer

@@ -2,9 +2,11 @@
 //!
 //! Whenever a stop comes, each image recovers to what it recovered to before, or, where it is begun cold, to the empty
 //! state (specs/Opening). Once a call has answered, the restart sector names a new snapshot and an empty log. A refusal
-//! has written nothing. Both calls look at the size alone so far, and answer want of memory behind it.
+//! has written nothing. `recover` looks at the size alone so far, and answers want of memory behind it.
 #![tactic(auto)]
 
+mod empty;
+mod making;
 mod parts;
 mod restarting;
 mod starting;

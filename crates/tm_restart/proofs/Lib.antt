@@ -1,0 +1,3 @@
+pub mod TextBack
+pub mod FirstParts
+pub mod Renewed

@@ -1,0 +1,162 @@
+-- What a cold start has written is the first image of a life.
+use Rattle.std.proofs.Common.{◌≡◌, ℕ, zero, suc, ◌+◌, ◌<◌, ◌≤◌, Bool, false, not, ◌||◌, List, [], ◌∷◌, length, take, drop, map, refl, sym, ◌∙◌, ap, subst, arith, Some, None, Ok, nat_le, nat_lt}
+use Rattle.std.specs.Prelude.{find, slice_get, slice_index_or}
+use Rattle.std.specs.Option.{option_map}
+use Rattle.std.specs.Int.{w16, from_be_bytes}
+use Rattle.std.proofs.lemmas.Option.{none-some, same_Some}
+use Rattle.tm_types.specs.declared.dbd.Dbd.{Dbd}
+use Rattle.model_rows.specs.declared.row.Row.{Row}
+use Rattle.model_rows.specs.Record.{spelling}
+use Rattle.model_disk.specs.Disk.{Image, DiskState, sector_at, Follows}
+use Rattle.tm_disk.specs.Sector.{zeros, blank}
+use Rattle.model_queues.specs.Outputs.{fresh_terminal}
+use Rattle.model_system.specs.System.{System}
+use Rattle.model_machine.specs.Machine.{LastingState, empty_state}
+use Rattle.log_records.specs.declared.record.Record.{Record}
+use Rattle.log_sectors.specs.Sealed.{opened}
+use Rattle.log_sectors.proofs.Sealing.{opened-blank}
+use Rattle.restart_data.specs.declared.restart.RestartSector.{RestartSector}
+use Rattle.restart_data.specs.Restart.{IsRestart}
+use Rattle.restart_data.specs.Fields.{number2_at, are_zeros}
+use Rattle.restart_data.proofs.Zeros.{blank_is, take-zeros, drop-zeros, are_zeros-zeros}
+use Rattle.seg_store.specs.Slots.{Stored, free_slots}
+use Rattle.seg_store.specs.Stores.{empty_store, empty_stores}
+use Rattle.system_types.specs.Valid.{IsSystem}
+use Rattle.model_image.specs.Ahead.{NoneAhead}
+use Rattle.model_image.specs.Holding.{HoldsStores}
+use Rattle.model_image.specs.Areas.{log_first, data_first}
+use Rattle.model_image.specs.Slots.{used_in, bytes_in, is_wrong_length}
+use Rattle.model_image.specs.Slots.Source.{Spelled}
+use Rattle.model_image.specs.Recovered.{snapshot_from}
+use Rattle.model_image.proofs.Places.{slot_above, slot_below, both_logs}
+use Rattle.snapshot_records.specs.Records.{snapshot_records}
+use Rattle.cold_start.specs.FirstImage.{IsFirst, IsFirstImage, first_records}
+use Rattle.snapshot_records.specs.Spelled.{Adds}
+use Rattle.snapshot_records.proofs.Read.{no_changes, read_from}
+use Rattle.cold_start.proofs.Emptied.{empty_is, empty_sound}
+use Rattle.cold_start.proofs.Names.{codes_apart}
+use Rattle.cold_start.proofs.FirstWritten.{has_first, first_recovers}
+use Rattle.tm_restart.specs.declared.parts.Counter.{Counter}
+use Rattle.tm_restart.specs.declared.parts.Counter.TheVariants as counter
+use Rattle.model_image.specs.Text.{text_in}
+use Rattle.tm_restart.specs.Made.{IsMade}
+use Rattle.tm_restart.specs.Opening.{IsBegun, MayBegin, counters, first_spent}
+use Rattle.tm_restart.specs.Parts.{OpeningParts}
+use Rattle.tm_restart.specs.Renewal.{IsRenewed}
+use Rattle.tm_restart.proofs.TextBack.{text_back}
+
+-- ---- the first snapshot
+
+first_snapshot_is : (system : System) (text bytes : List ℕ) (now : RestartSector) → IsSystem system → Adds (first_records system) [] bytes → IsFirst now → (image : Image) → IsFirstImage system text bytes now image → snapshot_from system image now ≡ Ok (first_records system)
+first_snapshot_is system text bytes now valid adds first image is =
+    read_from system (empty_state system) 1 1 valid.terminals_apart (codes_apart system valid) (empty_is system) (record { checkpoint_small = refl; unit_next = refl }) (empty_sound system valid) [] (no_changes system) adds.valid now image
+    (has_first system text bytes now valid adds first image is).read
+
+-- ---- no counter is spent
+
+none_replied : (names : List (List ℕ)) → find (λ (c : Counter × ℕ). nat_le 1000000000000000000 c.1) (map (λ t. (counter.NextOutput t.terminal, t.next)) (map fresh_terminal names)) ≡ None
+none_replied [] = refl
+none_replied (n ∷ names) = none_replied names
+
+unspent : (system : System) → first_spent (counters 0 1 0 1 (empty_state system)) ≡ None
+unspent system = ap (option_map (λ (c : Counter × ℕ). c.0)) (none_replied system.terminals)
+
+-- ---- a free slot
+
+front_blank : take 2 blank ≡ zeros 2
+front_blank = ap (take 2) blank_is ∙ take-zeros 2 4096 (omega arith)
+
+two_zeros : from_be_bytes w16 (zeros 2) ≡ 0
+unfolding zeros
+two_zeros = refl
+
+none_used : used_in blank ≡ 0
+unfolding number2_at
+none_used = ap (from_be_bytes w16) front_blank ∙ two_zeros
+
+no_bytes : bytes_in blank ≡ []
+no_bytes = ap (λ (n : ℕ). take n (drop 2 blank)) none_used
+
+right_length : is_wrong_length (Spelled blank) ≡ false
+right_length =
+    rw (none_used) (ap (λ (b : Bool). nat_lt 4000 0 || not b) (ap are_zeros (ap (drop 2) blank_is ∙ drop-zeros 2 4096) ∙ are_zeros-zeros 4094))
+
+free_at : (roots number : ℕ) → slice_index_or (free_slots roots) number [] ≡ []
+free_at zero number = refl
+free_at (suc roots) zero = refl
+free_at (suc roots) (suc number) = free_at roots number
+
+record Empty (dbds : List Dbd) (place : ℕ) (store : Stored) : Type 0 where
+  dbd : Dbd
+  found : slice_get dbds place ≡ Some dbd
+  is : store ≡ empty_store dbd
+
+empty_at : (dbds : List Dbd) (place : ℕ) (store : Stored) → slice_get (empty_stores dbds) place ≡ Some store → Empty dbds place store
+empty_at [] place store found = absurd (none-some store found)
+empty_at (dbd ∷ dbds) zero store found = record { dbd = dbd; found = refl; is = sym (same_Some (empty_store dbd) store found) }
+empty_at (dbd ∷ dbds) (suc place) store found = let rest = empty_at dbds place store found in record { dbd = rest.dbd; found = rest.found; is = rest.is }
+
+-- ---- the first image
+
+module _ (system : System) (text bytes : List ℕ) (parts : OpeningParts) (state : LastingState) (now : RestartSector) (made : IsMade system (length text) parts state bytes now) where
+  first_has : (P : RestartSector → Type 0) → P now → P parts.now
+  first_has P is = subst P (sym made.has_sector) is
+
+  pub begun : IsBegun system parts state
+  begun = record { empty = made.state_is; next_unit = made.next_unit; first = first_has IsFirst made.first }
+
+  pub may_begin : MayBegin system text parts state
+  may_begin =
+      let sector = made.has_sector in
+      record {
+        keeps_rules = rw (made.state_is) (empty_sound system made.defined);
+        of_system = rw (made.state_is) (empty_is system);
+        restart = first_has IsRestart made.valid;
+        sectors = rw (sector) (omega (arith, made.sectors, made.few));
+        text_size = rw (sector) made.text_size;
+        unspent = rw (sector, made.first.epoch, made.first.sequence, made.first.checkpoint, made.next_unit, made.state_is) (unspent system);
+      }
+
+  module _ (short : length text ≤ 262144) (image : Image) (is : IsFirstImage system text bytes now image) where
+    none_ahead : NoneAhead system image now.epoch now.sequence
+    none_ahead = record {
+      none = λ x n lt le small.
+          ap (λ (s : List ℕ). opened now.epoch n s) (is.blanks (log_first system 0 + x) (omega arith) (omega (arith, lt, both_logs system, slot_above system (length system.databases) 0)))
+          ∙ opened-blank now.epoch n;
+    }
+
+    renewed_by : IsRenewed system text now 1 (empty_state system) image
+    renewed_by =
+        let records : first_records system ≡ snapshot_records now.checkpoint 1 (empty_state system) [] = rw (made.first.checkpoint) refl in
+        record {
+          restart = is.restart;
+          text_size = made.text_size;
+          has_text = ap (λ (n : ℕ). text_in image n) made.text_size ∙ text_back text image is.has_text short;
+          has_snapshot = first_snapshot_is system text bytes now made.defined made.records made.first image is ∙ ap (λ (rs : List Record). Ok rs) records;
+          recovers = first_recovers system text bytes now made.defined made.records made.first image is;
+          none_ahead = none_ahead;
+        }
+
+    renewed : IsRenewed system text parts.now parts.next_unit state image
+    renewed = rw (made.has_sector, made.next_unit, made.state_is) renewed_by
+
+    holds : HoldsStores system parts.stores.stores image
+    holds = record {
+      each = λ place number store found below.
+          let at = empty_at system.databases place store (ap (λ (stores : List Stored). slice_get stores place) (sym made.stores) ∙ found) in
+          let fewer : number < at.dbd.roots = omega (arith, below, ap (λ (s : Stored). s.dbd.roots) at.is) in
+          let none : slice_index_or store.slots number [] ≡ [] = ap (λ (s : Stored). slice_index_or s.slots number []) at.is ∙ free_at at.dbd.roots number in
+          let is_blank : sector_at image (data_first system place + number) ≡ blank =
+          is.blanks (data_first system place + number) (omega (arith, slot_above system place number, both_logs system)) (slot_below system place number (record { dbd = at.dbd; found = at.found; below = fewer })) in
+          record {
+            right = ap (λ (s : List ℕ). is_wrong_length (Spelled s)) is_blank ∙ right_length;
+            spelled = ap bytes_in is_blank ∙ no_bytes ∙ sym (ap (λ (rows : List Row). spelling rows) none);
+          };
+    }
+
+  module _ (short : length text ≤ 262144) (old new : DiskState) (follows : Follows (λ before after. IsFirstImage system text bytes now after) old new) where
+    pub all_renewed : (image : Image) → new.may_leave image → IsRenewed system text parts.now parts.next_unit state image
+    all_renewed image left = renewed short image (follows.from image left).by
+
+    pub all_hold : (image : Image) → new.may_leave image → HoldsStores system parts.stores.stores image
+    all_hold image left = holds short image (follows.from image left).by

@@ -1,0 +1,28 @@
+use Rattle.std.proofs.Common.{sym}
+use Rattle.model_disk.specs.Disk.{Follows}
+use Rattle.log_sectors.proofs.Links.{at_ok}
+use Rattle.cold_start.specs.FirstImage.{IsFirstImage}
+use Rattle.tm_restart.proofs.Renewed.{begun, may_begin, all_renewed, all_hold}
+use Rattle.tm_restart.proofs.starting.lay.Goals as goal
+
+pub returns-clause-value : goal.returns-clause-value
+returns-clause-value g c = begun c.args.system.now c.args.text.now c.args.bytes.now c.args.parts c.args.lasting c.args.now.now c.requires.made
+
+pub returns-clause-begins : goal.returns-clause-begins
+returns-clause-begins g c = may_begin c.args.system.now c.args.text.now c.args.bytes.now c.args.parts c.args.lasting c.args.now.now c.requires.made
+
+pub returns-clause-done : goal.returns-clause-done
+returns-clause-done g c =
+    let old = g.D.Disk.state c.args.disk.now in
+    let new = g.D.Disk.state c.write_image.new.disk in
+    let written : Follows (λ before after. IsFirstImage c.args.system.now c.args.text.now c.args.bytes.now c.args.now.now after) old new =
+    at_ok c.write_image.result (Follows (λ before after. IsFirstImage c.args.system.now c.args.text.now c.args.bytes.now c.args.now.now after) old new) (sym c.if-is_err.ensures.value) c.write_image.ensures.done in
+    all_renewed c.args.system.now c.args.text.now c.args.bytes.now c.args.parts c.args.lasting c.args.now.now c.requires.made c.requires.text old new written
+
+pub returns-clause-stored : goal.returns-clause-stored
+returns-clause-stored g c =
+    let old = g.D.Disk.state c.args.disk.now in
+    let new = g.D.Disk.state c.write_image.new.disk in
+    let written : Follows (λ before after. IsFirstImage c.args.system.now c.args.text.now c.args.bytes.now c.args.now.now after) old new =
+    at_ok c.write_image.result (Follows (λ before after. IsFirstImage c.args.system.now c.args.text.now c.args.bytes.now c.args.now.now after) old new) (sym c.if-is_err.ensures.value) c.write_image.ensures.done in
+    all_hold c.args.system.now c.args.text.now c.args.bytes.now c.args.parts c.args.lasting c.args.now.now c.requires.made c.requires.text old new written
