@@ -1,5 +1,5 @@
 //! The end of a log area.
-ghost use Rattle.std.specs.Prelude.{◌≡◌, ◌+◌, ◌<◌, ◌≤◌, ◌^◌, ◌++◌, [], length, IsTrue, IsOk, IfOk, OnOk, OnErr};
+ghost use Rattle.std.specs.Prelude.{◌≡◌, ◌+◌, ◌-◌, ◌*◌, ◌<◌, ◌≤◌, ◌^◌, ◌++◌, [], length, IsTrue, IsOk, IfOk, OnOk, OnErr};
 ghost use Rattle.model_disk.specs.Disk.{Stays, Within, Follows, Only, WritesAtMost, FailedSince};
 ghost use Rattle.log_writer.specs.Log.{sectors_of, room_of, IsReady, AddsFront, AddsAll};
 
@@ -7,6 +7,7 @@ use crate::lay::{lay, sectors_of};
 use log_sectors::PAYLOAD_BYTES;
 use std::alloc::Global;
 use std::marker::Model;
+use std::mem;
 use tm_disk::{Disk, DiskFault};
 use tm_types::Memory;
 
@@ -75,6 +76,16 @@ impl LogWriter {
         self.appended.extend_from_slice(bytes)
     }
 
+    /// Exchanges what was appended for these bytes, which fit in the sectors that are left. This takes no memory, so bytes
+    /// whose room was taken beforehand can be forced behind a change.
+    pub fn exchange(&mut self, bytes: &mut Vec<u8>)
+        requires { length bytes.old.items ≤ (self.old.count - self.old.place) * 4064 }
+        ensures writer { self.new ≡ record self.old { appended = bytes.old.items } }
+        ensures bytes { bytes.new.items ≡ self.old.appended }
+    {
+        mem::swap(&mut self.appended, bytes);
+    }
+
     /// Writes what was appended into sectors of its own, and syncs. The answer is how many sectors they are. `Disk` comes
     /// exactly where the disk failed in the call; then the writer is of no use.
     pub fn force<D: Disk>(&mut self, disk: &mut D) -> Result<u32, DiskFault>
@@ -98,6 +109,7 @@ impl LogWriter {
         ensures nothing { self.old.appended ≡ [] → IsOk result × (disk.new ≡ disk.old) }
         ensures no_fault { OnOk result ((D.state disk.new).faults ≡ (D.state disk.old).faults) }
         ensures cause { OnErr result (FailedSince (D.state disk.old) (D.state disk.new)) }
+        ensures err { OnErr result (self.new ≡ self.old) }
     {
         if self.appended.is_empty() {
             return Ok(0);

@@ -1,0 +1,48 @@
+-- What a control region keeps of its disk.
+use Rattle.std.specs.Prelude.{◌≡◌, ℕ, ◌+◌, ◌≤◌, ◌↔◌, List, [], length, Option, Some, None}
+use Rattle.std.specs.List.{flat_map}
+use Rattle.log_records.specs.Spelling.{spelling}
+use Rattle.model_disk.specs.Disk.{Image, DiskState}
+use Rattle.model_system.specs.System.{System}
+use Rattle.model_machine.specs.Machine.{LastingState}
+use Rattle.disk_law.specs.Life.{LifeOnDisk, IsLife}
+use Rattle.disk_law.specs.Kept.{RecoversEither}
+use Rattle.step_law.specs.Steps.{StepOnDisk, IsStep}
+use Rattle.restart_data.specs.declared.restart.RestartSector.{RestartSector}
+use Rattle.log_writer.specs.Writer.{Writer}
+use Rattle.log_writer.specs.Log.{sectors_of}
+
+-- the writer of its log with what was appended, for how many bytes more there is memory, and the restart sector that holds
+pub record JournalState : Type 0 where
+  pub log : Writer
+  pub reserved : ℕ
+  pub restart : RestartSector
+
+-- the writer with these bytes appended, in place of others
+abbrev pub holding : List ℕ → Writer → Writer
+holding bytes log = record log { appended = bytes }
+
+-- the writer once all that was appended is forced
+abbrev pub forced : Writer → Writer
+forced log = record log { place = log.place + sectors_of (length log.appended); appended = [] }
+
+-- With so many bytes more, at least 32 sectors of the log area stay free.
+abbrev pub LeavesSectors : Writer → ℕ → Type 0
+LeavesSectors log own = log.place + sectors_of (length log.appended + own) + 32 ≤ log.count
+
+-- how many bytes of a call's own may be appended before a checkpoint is due; none where one is due even for a call
+-- without any
+abbrev pub TellsRoom : Writer → Option ℕ → Type 0
+TellsRoom log (Some room) = (own : ℕ) → (own ≤ room) ↔ LeavesSectors log own
+TellsRoom log None = (own : ℕ) → LeavesSectors log own → ⊥
+
+-- The bytes are the records of a step of this life, whose writer this is.
+pub record IsStepOf (log : Writer) (bytes : List ℕ) (life : LifeOnDisk) (step : StepOnDisk) : Type 0 where
+  pub writer : life.log ≡ log
+  pub spelled : bytes ≡ flat_map spelling step.records
+  pub is_life : IsLife life
+  pub is_step : IsStep life step
+
+-- Whatever a crash might have left since the call began recovers to one state, or to another.
+abbrev pub RecoverEither : System → LastingState → LastingState → DiskState → DiskState → Type 0
+RecoverEither system before after old new = (image : Image) → new.left_since old.clock image → RecoversEither system before after image
