@@ -1,6 +1,5 @@
 -- The records of a snapshot of what lasts.
-use Rattle.std.specs.Prelude.{◌≡◌, ℕ, List, [], ◌∷◌, ◌++◌, map, slice_get, position, Some}
-use Rattle.std.specs.Str.{bytes_eq}
+use Rattle.std.specs.Prelude.{◌≡◌, ℕ, List, [], ◌∷◌, ◌++◌, map}
 use Rattle.tm_types.specs.declared.message.Message.{Message}
 use Rattle.tm_types.specs.declared.message.Reply.{Reply}
 use Rattle.model_conversation.specs.declared.conversation.TerminalConversation.{TerminalConversation}
@@ -10,6 +9,7 @@ use Rattle.model_machine.specs.declared.lasting.TerminalState.{TerminalState}
 use Rattle.model_machine.specs.declared.lasting.CodeSetting.{CodeSetting}
 use Rattle.model_machine.specs.Machine.{LastingState}
 use Rattle.log_records.specs.declared.record.Record.{Record}
+pub use Rattle.system_types.specs.Valid.{AreApart}
 use Rattle.log_records.specs.declared.record.Record.TheVariants as record_of
 
 -- a terminal with its next output and its conversation, in the order of the definition
@@ -43,11 +43,6 @@ snapshot_records checkpoint unit state changes =
     ++ (map message_record state.messages
     ++ (reply_records state.outputs
     ++ changes))))
-
--- each of these names is there once
-abbrev pub AreApart : List (List ℕ) → Type 0
-AreApart names =
-    (place : ℕ) (name : List ℕ) → slice_get names place ≡ Some name → position (λ other. bytes_eq other name) names ≡ Some place
 
 abbrev pub code_names : System → List (List ℕ)
 code_names system = map (λ code. code.transaction.code) system.codes
