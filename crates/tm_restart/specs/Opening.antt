@@ -2,6 +2,7 @@
 use Rattle.std.specs.Prelude.{◌≡◌, ◌⊎◌, ℕ, ◌-◌, ◌<◌, ◌≤◌, false, List, ◌∷◌, length, map, find, nat_le, Option, Some, None, Result, Ok, Err}
 use Rattle.std.specs.Option.{option_map}
 use Rattle.model_disk.specs.Disk.{Image, DiskState, Keeps, FailedSince}
+use Rattle.model_queues.specs.declared.replies.TerminalReplies.{TerminalReplies}
 use Rattle.model_system.specs.System.{System}
 use Rattle.model_machine.specs.Machine.{LastingState, empty_state}
 use Rattle.log_records.specs.declared.record.Record.{Record}
@@ -23,6 +24,10 @@ use Rattle.tm_restart.specs.Renewal.{IsNext}
 
 -- ---- counters
 
+-- where each terminal's next reply stands
+abbrev pub output_counters : List TerminalReplies → List (Counter × ℕ)
+output_counters outputs = map (λ t. (counter.NextOutput t.terminal, t.next)) outputs
+
 -- What a life counts on, in the order in which it is looked at, with where each counter stands: the epoch, the log's next
 -- sequence, the checkpoint, the next id, the next unit, the lasting steps, and each terminal's next reply.
 abbrev pub counters : ℕ → ℕ → ℕ → ℕ → LastingState → List (Counter × ℕ)
@@ -33,7 +38,7 @@ counters epoch sequence checkpoint unit state =
     ∷ (counter.NextId, state.next_id)
     ∷ (counter.NextUnit, unit)
     ∷ (counter.Steps, state.steps)
-    ∷ map (λ t. (counter.NextOutput t.terminal, t.next)) state.outputs
+    ∷ output_counters state.outputs
 
 -- the first that stands at the limit or above
 abbrev pub first_spent : List (Counter × ℕ) → Option Counter

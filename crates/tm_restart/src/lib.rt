@@ -9,6 +9,7 @@ mod empty;
 mod making;
 mod parts;
 mod restarting;
+mod spending;
 mod starting;
 
 pub use model_machine::Lasting;
