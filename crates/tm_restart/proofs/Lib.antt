@@ -1,3 +1,4 @@
 pub mod TextBack
 pub mod FirstParts
 pub mod Renewed
+pub mod Reopened

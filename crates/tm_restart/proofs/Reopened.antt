@@ -1,0 +1,97 @@
+-- Behind the writes of a restart the image is that of the next life.
+use Rattle.std.proofs.Common.{◌≡◌, ℕ, zero, suc, ◌+◌, ◌<◌, ◌≤◌, Bool, true, false, List, [], ◌∷◌, ◌++◌, length, take, refl, sym, ◌∙◌, ap, ⊎_elim, arith, Some, None, Ok}
+use Rattle.std.specs.Prelude.{Option, if◌then◌else◌, ◌==◌}
+use Rattle.std.specs.Option.{option_map}
+use Rattle.std.specs.List.{flat_map}
+use Rattle.std.proofs.lemmas.Bool.{eqb-true}
+use Rattle.model_disk.specs.Disk.{Image, sector_at}
+use Rattle.model_system.specs.System.{System}
+use Rattle.model_machine.specs.Machine.{LastingState}
+use Rattle.log_records.specs.declared.record.Record.{Record}
+use Rattle.log_records.specs.Spelling.{spelling}
+use Rattle.restart_data.specs.declared.restart.RestartSector.{RestartSector}
+use Rattle.model_image.specs.Areas.{snapshot_area, snapshot_first}
+use Rattle.model_image.specs.Cut.{records_of}
+use Rattle.model_image.specs.Recovered.{Recovers}
+use Rattle.model_image.specs.Slots.{named_by}
+use Rattle.model_image.specs.Text.{bytes_from, text_in, first_difference}
+use Rattle.model_image.proofs.Places.{slot_above, log_above}
+use Rattle.snapshot_records.specs.Records.{snapshot_records}
+use Rattle.snapshot_records.proofs.Plain.{none_named}
+use Rattle.snapshot_records.proofs.Read.{IsRead}
+use Rattle.checkpointing.specs.Checkpoint.{InArea}
+use Rattle.renewal.specs.Given.{Given, IsGiven}
+use Rattle.renewal.specs.Before.{IsBefore}
+use Rattle.renewal.specs.Telling.{TellsState}
+use Rattle.renewal.specs.Writing.{IsRewritten}
+use Rattle.renewal.proofs.Unreading.{named_slot}
+use Rattle.renewal.proofs.Recovering.{IsNextLife, renewed_restart, renewed_snapshot, renewed_ahead, renewed_recovers}
+use Rattle.tm_restart.specs.Renewal.{IsRenewed}
+
+-- ---- texts
+
+by_first : (a b : ℕ) (xs ys : List ℕ) (same : Bool) → a == b ≡ same → (first_difference xs ys ≡ None → xs ≡ ys) → (if same then option_map (λ n. suc n) (first_difference xs ys) else Some 0) ≡ None → a ∷ xs ≡ b ∷ ys
+by_first a b xs ys true is rest e = ap (λ x. x ∷ xs) (eqb-true a b is) ∙ ap (λ (l : List ℕ). b ∷ l) (rest (no_more (first_difference xs ys) e)) where
+  no_more : (o : Option ℕ) → option_map (λ n. suc n) o ≡ None → o ≡ None
+  no_more None f = refl
+  no_more (Some n) f = cc
+by_first a b xs ys false is rest e = cc
+
+-- texts that don't differ are one
+pub one_text : (xs ys : List ℕ) → first_difference xs ys ≡ None → xs ≡ ys
+one_text [] [] e = refl
+one_text [] (b ∷ ys) e = cc
+one_text (a ∷ xs) [] e = cc
+one_text (a ∷ xs) (b ∷ ys) e = by_first a b xs ys (a == b) refl (one_text xs ys) e
+
+bytes_same : (n : ℕ) (a e : Image) (at : ℕ) → ((k : ℕ) → at ≤ k → k < at + n → sector_at e k ≡ sector_at a k) → bytes_from n e at ≡ bytes_from n a at
+bytes_same zero a e at same = refl
+bytes_same (suc n) a e at same =
+    ap (λ (s : List ℕ). s ++ bytes_from n e (at + 1)) (same at (omega arith) (omega arith))
+    ∙ ap (λ (rest : List ℕ). sector_at a at ++ rest) (bytes_same n a e (at + 1) (λ k low high. same k (omega (arith, low)) (omega (arith, high))))
+
+names_none : (system : System) (checkpoint unit : ℕ) (state : LastingState) (database number : ℕ) → named_by (snapshot_records checkpoint unit state []) [] database number ≡ None
+unfolding named_by
+names_none system checkpoint unit state database number = rw (none_named system checkpoint unit state database number) refl
+
+module _ (system : System) (r : RestartSector) (snapshot : List Record) (given : Given) (bytes : List ℕ) (now : RestartSector) (a e : Image) (before : IsBefore system r snapshot given now a) (done : IsRewritten system given bytes now a e) where
+  text_stays : (k : ℕ) → 1 ≤ k → k < 1 + 64 → sector_at e k ≡ sector_at a k
+  text_stays k low high =
+      ⊎_elim (λ same. same)
+      (λ written.
+      ⊎_elim (λ (none : k ≡ 0). absurd (omega (arith, none, low)))
+      (λ others.
+      ⊎_elim (λ (in_ : InArea (snapshot_first system now.snapshot) (snapshot_area system) k). absurd (omega (arith, in_.low, high)))
+      (λ (w : IsGiven system given k (sector_at e k)).
+      let slot = named_slot system r snapshot given now a before k (sector_at e k) w in
+      absurd (omega (arith, high, slot.sector, slot_above system slot.place slot.number, log_above system 2)))
+      others)
+      written)
+      (done.elsewhere k)
+
+  text_again : (text : List ℕ) → now.text ≡ r.text → first_difference text (text_in a r.text) ≡ None → text_in e now.text ≡ text
+  text_again text same none =
+      ap (λ n. take n (bytes_from 64 e 1)) same
+      ∙ ap (λ (l : List ℕ). take r.text l) (bytes_same 64 a e 1 text_stays)
+      ∙ sym (one_text text (text_in a r.text) none)
+
+  module _ (next : IsNextLife system r now bytes) (unit : ℕ) (state : LastingState) (read : IsRead system now.checkpoint unit state []) (spelled : bytes ≡ flat_map spelling (snapshot_records now.checkpoint unit state [])) (recovers : Recovers system a (Ok state)) where
+    tells : TellsState system bytes (snapshot_records now.checkpoint unit state []) state
+    tells = record {
+      reads = ap records_of spelled ∙ read.cut;
+      keep_rules = read.unbroken;
+      told = read.state_is;
+      unnamed = names_none system now.checkpoint unit state;
+    }
+
+    pub is_renewed : (text : List ℕ) → now.text ≡ r.text → now.text ≡ length text → first_difference text (text_in a r.text) ≡ None → IsRenewed system text now unit state e
+    is_renewed text same size none =
+        let records : List Record = snapshot_records now.checkpoint unit state [] in
+        record {
+          restart = renewed_restart system r snapshot given bytes now a e before done next records state tells recovers;
+          text_size = size;
+          has_text = text_again text same none;
+          has_snapshot = renewed_snapshot system r snapshot given bytes now a e before done next records state tells recovers;
+          recovers = renewed_recovers system r snapshot given bytes now a e before done next records state tells recovers;
+          none_ahead = renewed_ahead system r snapshot given bytes now a e before done next records state tells recovers;
+        }
