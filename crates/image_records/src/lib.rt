@@ -6,6 +6,7 @@
 //! specs/Answers; that call isn't there yet.
 #![tactic(auto)]
 
+pub use cutting::{CutRecords, cut};
 pub use fault::RecordsFault;
 pub use kept::Kept;
 pub use log_records::Record;
