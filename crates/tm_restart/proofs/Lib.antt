@@ -2,3 +2,4 @@ pub mod TextBack
 pub mod FirstParts
 pub mod Renewed
 pub mod Reopened
+pub mod Judged
