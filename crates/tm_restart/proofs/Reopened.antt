@@ -1,15 +1,19 @@
 -- Behind the writes of a restart the image is that of the next life.
-use Rattle.std.proofs.Common.{◌≡◌, ℕ, zero, suc, ◌+◌, ◌<◌, ◌≤◌, Bool, true, false, List, [], ◌∷◌, ◌++◌, length, take, refl, sym, ◌∙◌, ap, ⊎_elim, arith, Some, None, Ok}
-use Rattle.std.specs.Prelude.{Option, if◌then◌else◌, ◌==◌}
+use Rattle.std.proofs.Common.{◌≡◌, ℕ, zero, suc, ◌+◌, ◌<◌, ◌≤◌, Bool, true, false, List, [], ◌∷◌, ◌++◌, length, take, refl, sym, ◌∙◌, ap, subst, ⊎_elim, arith, Some, None, Ok}
+use Rattle.std.specs.Prelude.{Option, Result, if◌then◌else◌, ◌==◌}
 use Rattle.std.specs.Option.{option_map}
 use Rattle.std.specs.List.{flat_map}
 use Rattle.std.proofs.lemmas.Bool.{eqb-true}
-use Rattle.model_disk.specs.Disk.{Image, sector_at}
+use Rattle.model_disk.specs.Disk.{Image, DiskState, sector_at, Within}
+use Rattle.model_disk.proofs.Words.{within_where}
 use Rattle.model_system.specs.System.{System}
 use Rattle.model_machine.specs.Machine.{LastingState}
 use Rattle.log_records.specs.declared.record.Record.{Record}
 use Rattle.log_records.specs.Spelling.{spelling}
 use Rattle.restart_data.specs.declared.restart.RestartSector.{RestartSector}
+use Rattle.model_image.specs.Alike.{RecoversAlike}
+use Rattle.model_image.specs.Faults.{Fault}
+use Rattle.model_image.proofs.Answers.{one_answer_of}
 use Rattle.model_image.specs.Areas.{snapshot_area, snapshot_first}
 use Rattle.model_image.specs.Cut.{records_of}
 use Rattle.model_image.specs.Recovered.{Recovers}
@@ -23,8 +27,8 @@ use Rattle.checkpointing.specs.Checkpoint.{InArea}
 use Rattle.renewal.specs.Given.{Given, IsGiven}
 use Rattle.renewal.specs.Before.{IsBefore}
 use Rattle.renewal.specs.Telling.{TellsState}
-use Rattle.renewal.specs.Writing.{IsRewritten}
-use Rattle.renewal.proofs.Unreading.{named_slot}
+use Rattle.renewal.specs.Writing.{ChangesUnread, IsRewritten, Rewrites}
+use Rattle.renewal.proofs.Unreading.{named_slot, unread_recovers}
 use Rattle.renewal.proofs.Recovering.{IsNextLife, renewed_restart, renewed_snapshot, renewed_ahead, renewed_recovers}
 use Rattle.tm_restart.specs.Renewal.{IsRenewed}
 
@@ -95,3 +99,28 @@ module _ (system : System) (r : RestartSector) (snapshot : List Record) (given :
           recovers = renewed_recovers system r snapshot given bytes now a e before done next records state tells recovers;
           none_ahead = renewed_ahead system r snapshot given bytes now a e before done next records state tells recovers;
         }
+
+-- ---- at any moment
+
+tells_state : (system : System) (checkpoint unit : ℕ) (state : LastingState) (bytes : List ℕ) → IsRead system checkpoint unit state [] → bytes ≡ flat_map spelling (snapshot_records checkpoint unit state []) → TellsState system bytes (snapshot_records checkpoint unit state []) state
+tells_state system checkpoint unit state bytes read spelled = record {
+  reads = ap records_of spelled ∙ read.cut;
+  keep_rules = read.unbroken;
+  told = read.state_is;
+  unnamed = names_none system checkpoint unit state;
+}
+
+module _ (system : System) (r : RestartSector) (snapshot : List Record) (given : Given) (bytes : List ℕ) (now : RestartSector) (next : IsNextLife system r now bytes) (unit : ℕ) (state : LastingState) (read : IsRead system now.checkpoint unit state []) (spelled : bytes ≡ flat_map spelling (snapshot_records now.checkpoint unit state [])) where
+  -- Whatever was written of a restart, the image recovers as the one before.
+  pub rewrites_recover : (a e : Image) → IsBefore system r snapshot given now a → Recovers system a (Ok state) → Rewrites system given bytes now a e → RecoversAlike system a e
+  rewrites_recover a e before recovers rewrites =
+      ⊎_elim
+      (λ (unread : ChangesUnread system given now a e). unread_recovers system r snapshot given now a before e unread)
+      (λ (done : IsRewritten system given bytes now a e). λ answer is.
+      subst (λ (found : Result LastingState Fault). Recovers system e found) (one_answer_of system a (Ok state) answer recovers is)
+      (renewed_recovers system r snapshot given bytes now a e before done next (snapshot_records now.checkpoint unit state []) state (tells_state system now.checkpoint unit state bytes read spelled) recovers))
+      rewrites
+
+  pub reopened_within : (old new : DiskState) → ((image : Image) → old.may_leave image → IsBefore system r snapshot given now image) → ((image : Image) → old.may_leave image → Recovers system image (Ok state)) → Within (Rewrites system given bytes now) old new → Within (RecoversAlike system) old new
+  reopened_within old new before recovers within =
+      within_where (Rewrites system given bytes now) (RecoversAlike system) old new (λ a e left rewrites. rewrites_recover a e (before a left) (recovers a left) rewrites) within
