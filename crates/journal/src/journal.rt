@@ -17,8 +17,10 @@ ghost use Rattle.step_law.specs.Steps.{StepOnDisk, after_step};
 ghost use Rattle.log_records.specs.declared.record.Record.{Record};
 ghost use Rattle.slot_law.specs.Committed.{Touches};
 ghost use Rattle.checkpoint_law.specs.Checkpointing.{after_checkpoint};
+ghost use Rattle.journal.specs.Counters.{first_spent};
 ghost use Rattle.journal.specs.State.{TellsRoom, forced, IsStepOf, RecoverEither, IsCheckpointOf, RecoverAlone};
 
+use crate::counter::JournalCounter;
 use crate::forcing::force_bytes;
 use checkpointing::{PartsView, take};
 use log_writer::LogWriter;
@@ -31,6 +33,9 @@ use tm_types::Memory;
 
 // 32 sectors of the log.
 const KEPT_BYTES: u64 = 130_048;
+
+// Where a counter is spent.
+const SPENT: u64 = 1_000_000_000_000_000_000;
 
 /// What a control region keeps of its disk.
 #[derive(Drop)]
@@ -88,6 +93,24 @@ impl Journal {
         } else {
             Some(all - KEPT_BYTES - pending)
         }
+    }
+
+    /// The first counter that stands at 1,000,000,000,000,000,000 or above: the epoch, the sequence of the next sector, the
+    /// checkpoint.
+    pub fn spent(&self) -> Option<JournalCounter>
+        requires { self.now.log.sequence + self.now.log.count < 2 ^ 64 }
+        ensures { result ≡ first_spent self.now }
+    {
+        if SPENT <= self.restart.epoch {
+            return Some(JournalCounter::Epoch);
+        }
+        if SPENT <= self.log.next_sequence() {
+            return Some(JournalCounter::Sequence);
+        }
+        if SPENT <= self.restart.checkpoint {
+            return Some(JournalCounter::Checkpoint);
+        }
+        None
     }
 
     /// Takes memory for this many bytes, so that appending them takes none.

@@ -4,7 +4,9 @@
 //! stop kept, the image recovers to the state before the step or to the one with it.
 #![tactic(auto)]
 
+mod counter;
 mod forcing;
 mod journal;
 
+pub use counter::JournalCounter;
 pub use journal::Journal;
