@@ -43,7 +43,7 @@ passes_none p slot (suc n) number (suc k) none lt =
     ap (λ i. p (slot i)) (omega arith)
     ∙ passes_none p slot n (number + 1) k (no_found p (p (slot number)) (slot number) (find p (slots_by slot n (number + 1))) none).1 (omega (arith, lt))
 
-slots_of : (system : System) (image : Image) (snapshot log : List Record) (from i : ℕ) (dbds : List Dbd) (dbd : Dbd) → slice_get dbds i ≡ Some dbd
+pub slots_of : (system : System) (image : Image) (snapshot log : List Record) (from i : ℕ) (dbds : List Dbd) (dbd : Dbd) → slice_get dbds i ≡ Some dbd
     → slice_get (all_slots system image snapshot log from dbds) i ≡ Some (slots_by (slot_in image snapshot log dbd (data_first system (from + i)) (from + i + 1)) dbd.roots 0)
 unfolding all_slots
 slots_of system image snapshot log from i [] dbd found = cc

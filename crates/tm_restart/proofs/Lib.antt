@@ -3,3 +3,4 @@ pub mod FirstParts
 pub mod Renewed
 pub mod Reopened
 pub mod Judged
+pub mod Stores
