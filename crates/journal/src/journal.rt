@@ -1,5 +1,6 @@
 //! The journal.
-ghost use Rattle.std.specs.Prelude.{◌≡◌, ℕ, List, ◌+◌, ◌*◌, ◌<◌, ◌≤◌, ◌^◌, [], length, OnOk, OnErr};
+ghost use Rattle.std.specs.List.{flat_map};
+ghost use Rattle.std.specs.Prelude.{◌≡◌, ℕ, List, map, ◌+◌, ◌*◌, ◌<◌, ◌≤◌, ◌^◌, [], length, OnOk, OnErr};
 ghost use Rattle.model_disk.specs.Disk.{Stays, Within, Follows, Only, WritesAtMost, FailedSince};
 ghost use Rattle.restart_data.specs.Restart.{IsRestart};
 ghost use Rattle.restart_data.specs.Snapshot as snapshot;
@@ -10,7 +11,8 @@ ghost use Rattle.checkpointing.specs.Written.{AreOf};
 ghost use Rattle.checkpointing.specs.Checkpoint.{KeepsRecovery, IsCheckpointed};
 ghost use Rattle.checkpointing.specs.Conditions.{HasRestart, NoneIsAhead, ChangedAreNamed, ForceKeeps, SnapshotKeeps};
 ghost use Rattle.log_writer.specs.Log.{sectors_of, IsReady, AddsFront, AddsAll};
-ghost use Rattle.disk_law.specs.Changes.{with_bytes};
+ghost use Rattle.log_records.specs.Spelling.{spelling};
+ghost use Rattle.disk_law.specs.Changes.{SlotChange, change_record, with_bytes, with_slot_changes};
 ghost use Rattle.disk_law.specs.Life.{LifeOnDisk};
 ghost use Rattle.disk_law.specs.Kept.{AreKept};
 ghost use Rattle.step_law.specs.Steps.{StepOnDisk, after_step};
@@ -130,6 +132,19 @@ impl Journal {
 
     /// Appends bytes, for which memory was taken and the log area has room. They are written with the next step.
     pub fn append(&mut self, bytes: &[u8])
+        requires reserved { length bytes.now ≤ self.old.reserved }
+        requires fits { self.old.log.place + sectors_of (length self.old.log.appended + length bytes.now) ≤ self.old.log.count }
+        ensures log { self.new.log ≡ with_bytes bytes.now self.old.log }
+        // Where they are the records of changes, it is the writer of the life behind these.
+        ensures life { (unit : ℕ) → (changes : List SlotChange) → (life : LifeOnDisk) → life.log ≡ self.old.log → bytes.now ≡ flat_map spelling (map (change_record unit) changes) → (with_slot_changes unit changes life).log ≡ self.new.log }
+        ensures reserved { self.new.reserved + length bytes.now ≡ self.old.reserved }
+        ensures restart { self.new.restart ≡ self.old.restart }
+    {
+        self.push(bytes)
+    }
+
+    // The append, by what it leaves.
+    fn push(&mut self, bytes: &[u8])
         requires reserved { length bytes.now ≤ self.old.reserved }
         requires fits { self.old.log.place + sectors_of (length self.old.log.appended + length bytes.now) ≤ self.old.log.count }
         ensures log { self.new.log ≡ with_bytes bytes.now self.old.log }
@@ -283,7 +298,7 @@ impl Journal {
         ensures no_fault { OnOk result ((D.state disk.new).faults ≡ (D.state disk.old).faults) }
         ensures cause { OnErr result (FailedSince (D.state disk.old) (D.state disk.new)) }
     {
-        self.append(bytes);
+        self.push(bytes);
         self.reserved = 0;
         force_bytes(disk, &mut self.log, &mut self.pending)
     }
