@@ -4,3 +4,4 @@ pub mod Renewed
 pub mod Reopened
 pub mod Judged
 pub mod Stores
+pub mod Named

@@ -2,3 +2,4 @@ pub mod Parts
 pub mod Made
 pub mod Renewal
 pub mod Opening
+pub mod Databases

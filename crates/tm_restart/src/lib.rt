@@ -5,6 +5,7 @@
 //! has written nothing. `recover` looks at the size alone so far, and answers want of memory behind it.
 #![tactic(auto)]
 
+mod databases;
 mod empty;
 mod making;
 mod parts;
