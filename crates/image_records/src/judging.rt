@@ -232,7 +232,8 @@ fn has_no_pad(system: &System, message: &Message) -> bool
     }
 }
 
-fn are_alone(messages: &[Message]) -> bool
+/// Whether at most one of each conversation waits.
+pub fn are_alone(messages: &[Message]) -> bool
     ensures { result ≡ are_alone messages.now }
 {
     for place in 0..messages.len() {

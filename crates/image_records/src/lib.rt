@@ -8,10 +8,12 @@
 
 pub use cutting::{CutRecords, cut};
 pub use fault::RecordsFault;
+pub use judging::{are_alone, is_conversation};
 pub use kept::Kept;
 pub use log_records::Record;
 pub use reading::read_records;
 pub use replay::Replayed;
+pub use rules::{is_code, is_terminal};
 pub use slots::NamedSlot;
 pub use snapshot::Snapshot;
 

@@ -1,0 +1,4 @@
+pub mod Tables
+pub mod NamedBy
+pub mod Done
+pub mod Answered

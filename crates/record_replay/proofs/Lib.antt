@@ -1,0 +1,12 @@
+pub mod Orders
+pub mod DoneSteps
+pub mod Lifted
+pub mod Rules
+pub mod Before
+pub mod Leaving
+pub mod Coming
+pub mod Units
+pub mod Abended
+pub mod Copies
+pub mod Placed
+pub mod Stepped

@@ -1,0 +1,11 @@
+use Rattle.std.proofs.Common.{◌≡◌, length}
+use Rattle.record_replay.specs.Steps.{does_all}
+use Rattle.record_replay.specs.Judged.{IsOrderly}
+use Rattle.record_replay.proofs.doing.do_all.Given as goal
+
+-- doing the rest from here is doing all
+abbrev pub invariant-loop-r : goal.invariant-loop-r
+invariant-loop-r l = (does_all l.records l.kept ≡ does_all l.fn.records l.fn.kept) × IsOrderly l.kept
+
+abbrev pub decreases-loop-r : goal.decreases-loop-r
+decreases-loop-r l = length l.records

@@ -1,0 +1,19 @@
+use Rattle.std.proofs.Common.{sym, subst, ap}
+use Rattle.std.proofs.lemmas.Result.{IfOk-weaker}
+use Rattle.log_records.specs.declared.record.Record.{Record}
+use Rattle.model_image.specs.Replay.{accepts}
+use Rattle.record_replay.specs.Judged.{Leaves, lasting_in}
+use Rattle.record_replay.specs.Working.{WorkState, IsDone}
+use Rattle.record_replay.proofs.Coming.{input_done}
+use Rattle.record_replay.proofs.replaying.do_now.Goals as goal
+
+pub returns-in-Input : goal.returns-in-Input
+returns-in-Input c =
+    let i = c.in-Input in
+    let new : WorkState = record { kept = c.replay_input.new.kept; units = c.working.inside.units.entries } in
+    IfOk-weaker c.replay_input.result _ _
+    (λ fine leaves. subst (λ (r : Record). IsDone c.args.system.now r c.args.working.now new fine) (sym i.is)
+    (input_done c.args.system.now _ i.id i.origin i.code i.number i.conversation i.segments c.args.working.now new fine
+    (subst (λ (w : WorkState). Leaves c.args.system.now (accepts c.args.system.now i.id i.origin i.code i.number i.conversation i.segments (lasting_in c.args.system.now w.kept)) c.replay_input.new.kept fine) c.working.view_is leaves)
+    (ap (λ (w : WorkState). w.units) c.working.view_is)))
+    c.replay_input.ensures

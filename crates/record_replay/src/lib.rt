@@ -1,0 +1,16 @@
+//! One record of a log, done again on the tables of what lasts.
+#![tactic(auto)]
+
+pub use replaying::replay_record;
+pub use working::Working;
+
+mod abend;
+mod doing;
+mod images;
+mod judging;
+mod places;
+mod replaying;
+mod sizes;
+mod steps;
+mod waiting;
+mod working;

@@ -1,0 +1,194 @@
+//! One record of a log, done again.
+ghost use Rattle.std.specs.Prelude.{◌≡◌, None, IfOk};
+ghost use Rattle.model_image.specs.Replay.{Replay, accepts, acknowledges, discards, syncs, is_known, replay_one};
+ghost use Rattle.record_replay.specs.Judged.{lasting_in, AreSound, Leaves};
+ghost use Rattle.record_replay.specs.Working.{IsAt, Comes, IsDone, Waits, waits_for};
+
+use crate::doing::is_small;
+use crate::images::is_image_of;
+use crate::judging::{has_pad_at, has_pad_of, is_sound};
+use crate::steps::{accept, acknowledge, discard, origin_done, sync};
+use crate::waiting::{UnitRecords, push, take};
+use crate::working::Working;
+use image_records::{Kept, is_code, is_terminal};
+use log_records::Record;
+use model_conversation::PadChange;
+use std::alloc::Global;
+use system_types::System;
+use tm_types::{AbendCode, Memory, Message, Name};
+
+/// Does a record of the log again. False: it breaks the rule on such records, and the tables aren't to be used any more.
+pub fn replay_record(
+    alloc: Global,
+    system: &System,
+    working: &mut Working,
+    r: Record,
+) -> Result<bool, Memory>
+    requires { AreSound system.now working.old.kept }
+    ensures { IfOk result (λ fine. (replay : Replay) → IsAt system.now replay working.old → Comes system.now (replay_one system.now r replay) working.new fine) }
+{
+    let known = is_known(alloc, system, &r)?;
+    if !known {
+        return Ok(false);
+    }
+    match waits_for(&r) {
+        Some(unit) => wait(alloc, working, unit, r),
+        None => do_now(alloc, system, working, r),
+    }
+}
+
+fn wait(alloc: Global, working: &mut Working, unit: u64, r: Record) -> Result<bool, Memory>
+    ensures { IfOk result (Waits unit r working.old working.new) }
+{
+    push(alloc, &mut working.units, unit, r)?;
+    Ok(true)
+}
+
+/// The unit at whose sync point the record is done.
+fn waits_for(r: &Record) -> Option<u64>
+    ensures { result ≡ waits_for r.now }
+{
+    match r {
+        Record::Input { unit, .. } => {
+            if *unit == 0 {
+                return None;
+            }
+            Some(*unit)
+        }
+        Record::Reply { unit, .. } => Some(*unit),
+        Record::Completed { unit, .. } => Some(*unit),
+        _ => None,
+    }
+}
+
+/// Does a record that is no unit's, or that is its sync point.
+fn do_now(alloc: Global, system: &System, working: &mut Working, r: Record) -> Result<bool, Memory>
+    requires sound { AreSound system.now working.old.kept }
+    requires now { waits_for r ≡ None }
+    ensures { IfOk result (IsDone system.now r working.old working.new) }
+{
+    match r {
+        Record::Input {
+            id,
+            origin,
+            code,
+            number,
+            conversation,
+            segments,
+            ..
+        } => replay_input(
+            alloc,
+            system,
+            &mut working.kept,
+            number,
+            Message {
+                id,
+                origin,
+                code,
+                conversation,
+                segments,
+            },
+        ),
+        Record::Acknowledged { terminal, number } => {
+            replay_acknowledged(alloc, system, &mut working.kept, &terminal, number)
+        }
+        Record::Discarded {
+            id,
+            abend,
+            number,
+            ..
+        } => replay_discarded(alloc, system, &mut working.kept, id, abend, number),
+        Record::SyncPoint { unit, pad } => {
+            let records = take(alloc, &mut working.units, unit);
+            replay_sync_point(alloc, system, &mut working.kept, records, pad)
+        }
+        Record::Change { .. } => Ok(true),
+        _ => Ok(false),
+    }
+}
+
+fn replay_input(
+    alloc: Global,
+    system: &System,
+    kept: &mut Kept,
+    number: u64,
+    message: Message,
+) -> Result<bool, Memory>
+    requires { AreSound system.now kept.old }
+    ensures { IfOk result (Leaves system.now (accepts system.now message.id message.origin message.code number message.conversation message.segments (lasting_in system.now kept.old)) kept.new) }
+{
+    let origin = message.origin;
+    let fine = accept(alloc, system, kept, number, message)?;
+    if !fine {
+        return Ok(false);
+    }
+    let pads = has_pad_at(system, kept, &origin);
+    is_sound(alloc, system, kept, is_small(number), pads)
+}
+
+fn replay_acknowledged(
+    alloc: Global,
+    system: &System,
+    kept: &mut Kept,
+    terminal: &Name,
+    number: u64,
+) -> Result<bool, Memory>
+    requires { AreSound system.now kept.old }
+    ensures { IfOk result (Leaves system.now (acknowledges terminal.now number (lasting_in system.now kept.old)) kept.new) }
+{
+    let fine = acknowledge(kept, terminal, number);
+    if !fine {
+        return Ok(false);
+    }
+    is_sound(alloc, system, kept, true, true)
+}
+
+fn replay_discarded(
+    alloc: Global,
+    system: &System,
+    kept: &mut Kept,
+    id: u64,
+    abend: AbendCode,
+    number: u64,
+) -> Result<bool, Memory>
+    requires { AreSound system.now kept.old }
+    ensures { IfOk result (Leaves system.now (discards id abend number (lasting_in system.now kept.old)) kept.new) }
+{
+    let fine = discard(alloc, kept, id, abend, number)?;
+    if !fine {
+        return Ok(false);
+    }
+    is_sound(alloc, system, kept, true, true)
+}
+
+fn replay_sync_point(
+    alloc: Global,
+    system: &System,
+    kept: &mut Kept,
+    records: UnitRecords,
+    pad: PadChange,
+) -> Result<bool, Memory>
+    requires { AreSound system.now kept.old }
+    ensures { IfOk result (Leaves system.now (syncs pad records (lasting_in system.now kept.old)) kept.new) }
+{
+    let origin = origin_done(kept, &records);
+    let fine = sync(kept, records, pad)?;
+    if !fine {
+        return Ok(false);
+    }
+    let pads = has_pad_of(system, kept, &origin);
+    is_sound(alloc, system, kept, true, pads)
+}
+
+fn is_known(alloc: Global, system: &System, r: &Record) -> Result<bool, Memory>
+    ensures { IfOk result (λ is. is ≡ is_known system.now r.now) }
+{
+    match r {
+        Record::Input { origin, code, .. } => {
+            Ok(is_terminal(system, origin) && is_code(system, code))
+        }
+        Record::Reply { terminal, .. } => Ok(is_terminal(system, terminal)),
+        Record::Acknowledged { terminal, .. } => Ok(is_terminal(system, terminal)),
+        _ => is_image_of(alloc, system, r),
+    }
+}
