@@ -15,7 +15,7 @@ use Rattle.model_image.specs.Recovered.{snapshot_from, Recovers}
 use Rattle.model_image.specs.States.{breaks_a_rule}
 use Rattle.slot_law.specs.Committed.{Bytes, Touches, changes_of}
 use Rattle.disk_law.specs.Life.{LifeOnDisk, bytes_at}
-use Rattle.disk_law.specs.Text.{text_in}
+use Rattle.model_image.specs.Text.{text_in}
 
 -- the bytes of the slots of stores, by database from 1 on and number
 abbrev pub bytes_in_stores : List Stored → Bytes

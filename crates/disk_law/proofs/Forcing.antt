@@ -24,7 +24,7 @@ use Rattle.model_image.proofs.Later.{none_later, each_not_later}
 use Rattle.model_image.proofs.Places.{snapshot_below, log_above, log_below, slot_above}
 use Rattle.model_image.proofs.Readings as readings
 use Rattle.disk_law.specs.Life.{EachSlot, IsWriterOf}
-use Rattle.disk_law.specs.Text.{bytes_from, text_in}
+use Rattle.model_image.specs.Text.{bytes_from, text_in}
 
 -- ---- bytes that are cut
 

@@ -18,7 +18,7 @@ use Rattle.model_image.specs.Replay.{Replay, replay_all}
 use Rattle.model_image.specs.Recovered.{snapshot_from, first_later, Recovers}
 use Rattle.slot_law.specs.Committed.{AreCommitted}
 use Rattle.disk_law.specs.Life.{LifeOnDisk, EachSlot, but_rows}
-use Rattle.disk_law.specs.Text.{text_in}
+use Rattle.model_image.specs.Text.{text_in}
 
 -- these bytes stand in the sector of a slot
 abbrev pub StandsAt : System → Image → ℕ → ℕ → List ℕ → Type 0
