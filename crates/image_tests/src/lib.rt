@@ -5,6 +5,8 @@
 #![tactic(auto)]
 
 #[cfg(test)]
+mod cold_starts;
+#[cfg(test)]
 mod forced_records;
 #[cfg(test)]
 mod image_bytes;
