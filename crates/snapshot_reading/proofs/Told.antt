@@ -27,7 +27,7 @@ last_kept false false false false false true g none = cc
 last_kept false false false false false false true none = refl
 last_kept false false false false false false false none = cc
 
-images_kept : (system : System) (records : List Record) → first_broken (snapshot_rules system records) ≡ None → list_all (is_image_of system) records ≡ true
+pub images_kept : (system : System) (records : List Record) → first_broken (snapshot_rules system records) ≡ None → list_all (is_image_of system) records ≡ true
 images_kept system records none = last_kept _ _ _ _ _ _ (list_all (is_image_of system) records) none
 
 by_cut : (system : System) (cut : Option (List Record)) (records : List Record) (snapshot : SnapshotState) → judged system cut ≡ Ok records → IsOf system records snapshot → ComesFromRecords system snapshot

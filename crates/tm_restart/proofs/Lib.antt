@@ -5,3 +5,4 @@ pub mod Reopened
 pub mod Judged
 pub mod Stores
 pub mod Named
+pub mod Rereading

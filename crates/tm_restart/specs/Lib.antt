@@ -3,3 +3,4 @@ pub mod Made
 pub mod Renewal
 pub mod Opening
 pub mod Databases
+pub mod Replayed

@@ -9,6 +9,7 @@ mod databases;
 mod empty;
 mod making;
 mod parts;
+mod replaying;
 mod restarting;
 mod spending;
 mod starting;

@@ -1,0 +1,74 @@
+//! The snapshot and the log of an image, read and done again.
+ghost use Rattle.std.specs.Prelude.{◌≡◌, ◌+◌, ◌≤◌, true, List, Some, Ok, IsTrue, IfOk, length};
+ghost use Rattle.std.specs.List.{list_all};
+ghost use Rattle.log_records.specs.declared.record.Record.{Record as OneRecord};
+ghost use Rattle.model_disk.specs.Disk.{Keeps};
+ghost use Rattle.restart_data.specs.Restart.{restart_in};
+ghost use Rattle.restart_data.specs.Images.{IsValid};
+ghost use Rattle.model_image.specs.Areas.{snapshot_area, data_first};
+ghost use Rattle.model_image.specs.Slots.{is_image_of};
+ghost use Rattle.image_records.specs.Answers.{IsOf, TellsLog};
+ghost use Rattle.tm_restart.specs.Replayed.{ComesBehind, TellsReplay, ReplayCause};
+
+use image_areas::log_first;
+use image_records::{RecordsFault, Replayed, Snapshot};
+use log_reading::{LogFault, read_log};
+use restart_data::RestartSector;
+use snapshot_reading::{ReadFault, read_told};
+use std::alloc::Global;
+use system_types::System;
+use tm_disk::Disk;
+
+/// What the snapshot and the log come to, and the sequence behind the log.
+#[derive(Drop)]
+pub(crate) struct Reread {
+    pub replayed: Replayed,
+    pub next_sequence: u64,
+}
+
+// Stands for the call that does the records of a log again, until it is there.
+fn replay_log(
+    _alloc: Global,
+    _system: &System,
+    _snapshot: Snapshot,
+    _bytes: &[u8],
+) -> Result<Replayed, RecordsFault>
+    ensures { (records : List OneRecord) → list_all (is_image_of _system.now) records ≡ true → IsOf _system.now records _snapshot → TellsLog _system.now records _bytes.now result }
+{
+    Err(RecordsFault::Memory)
+}
+
+/// Reads the snapshot and the log that this restart sector names, and does the log again. Nothing is written.
+pub(crate) fn read_replayed<D: Disk>(
+    alloc: Global,
+    disk: &mut D,
+    system: &System,
+    restart: &RestartSector,
+) -> Result<Reread, ReadFault>
+    requires areas { data_first system.now (length system.now.databases) ≤ (D.state disk.old).size }
+    requires valid { IsValid (snapshot_area system.now) restart.now }
+    requires has { IsTrue (D.state disk.old).tells → restart_in (snapshot_area system.now) (D.state disk.old).shown ≡ Ok (Some restart.now) }
+    ensures behind { IfOk result (λ read. ComesBehind system.now read.replayed) }
+    ensures few { IfOk result (λ read. read.next_sequence ≤ restart.now.sequence + system.now.logs) }
+    ensures value { IsTrue (D.state disk.old).tells → TellsReplay system.now restart.now (D.state disk.old).shown result }
+    ensures keeps { Keeps (D.state disk.old) (D.state disk.new) }
+    ensures cause { ReplayCause result (D.state disk.old) (D.state disk.new) }
+{
+    let log = match read_log(alloc, disk, system, restart) {
+        Ok(log) => log,
+        Err(LogFault::Disk) => return Err(ReadFault::Disk),
+        Err(LogFault::Memory) => return Err(ReadFault::Memory),
+    };
+    let snapshot = match read_told(alloc, disk, system, restart) {
+        Ok(snapshot) => snapshot,
+        Err(fault) => return Err(fault),
+    };
+    match replay_log(alloc, system, snapshot, log.payload.as_slice()) {
+        Ok(replayed) => Ok(Reread {
+            replayed,
+            next_sequence: log.next_sequence,
+        }),
+        Err(RecordsFault::Bad(rule)) => Err(ReadFault::Bad(rule, log_first(system, restart.log))),
+        Err(RecordsFault::Memory) => Err(ReadFault::Memory),
+    }
+}
