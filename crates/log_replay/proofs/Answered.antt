@@ -1,5 +1,5 @@
 -- What a log done again is answered.
-use Rattle.std.proofs.Common.{◌≡◌, Bool, true, false, List, ℕ, ◌+◌, ◌-◌, refl, sym, ◌∙◌, ap, subst, Some, None}
+use Rattle.std.proofs.Common.{◌≡◌, Bool, true, false, List, ℕ, ◌+◌, ◌-◌, sym, ◌∙◌, ap, subst, Some, None}
 use Rattle.std.specs.Prelude.{Option, max, Err, Ok, Decides}
 use Rattle.std.specs.List.{list_all}
 use Rattle.model_system.specs.System.{System}

@@ -1,6 +1,6 @@
 -- The records of a log, one after another.
-use Rattle.std.proofs.Common.{◌≡◌, Bool, true, false, not, ◌&&◌, List, [], ◌∷◌, ◌++◌, ℕ, zero, suc, ◌+◌, ◌-◌, ◌≤◌, length, take, drop, refl, sym, ◌∙◌, ap, subst, arith, Some, None}
-use Rattle.std.specs.Prelude.{if◌then◌else◌, Option, max, filter}
+use Rattle.std.proofs.Common.{◌≡◌, Bool, true, false, List, [], ◌∷◌, ℕ, zero, suc, ◌+◌, ◌-◌, ◌≤◌, length, take, drop, refl, sym, ◌∙◌, ap, subst, arith, Some, None}
+use Rattle.std.specs.Prelude.{if◌then◌else◌, Option, max}
 use Rattle.std.specs.List.{list_all}
 use Rattle.std.specs.Option.{option_map, option_and_then}
 use Rattle.std.proofs.lemmas.List.{length-drop}
@@ -8,13 +8,13 @@ use Rattle.model_system.specs.System.{System}
 use Rattle.model_machine.specs.Machine.{LastingState}
 use Rattle.log_records.specs.declared.record.Record.{Record}
 use Rattle.log_records.specs.declared.record.Record.TheVariants.{Input, Command, Reply, Discarded, Completed, Acknowledged, SyncPoint, Checkpoint, Terminal, Code, Change}
-use Rattle.model_image.specs.Counters.{told_unit, greatest_unit, next_unit}
+use Rattle.model_image.specs.Counters.{next_unit}
 use Rattle.model_image.specs.Replay.{Replay, is_known, replayed, unless_it_breaks, replay_one, replay_all, replay_of}
 use Rattle.model_image.specs.Slots.{is_image_of}
 use Rattle.model_image.specs.States.{breaks_a_rule}
 use Rattle.record_replay.specs.Waiting.{of_unit}
-use Rattle.image_records.specs.Kept.{KeptState, Keeps}
-use Rattle.replay_law.proofs.Bools.{both, first_of, second_of}
+use Rattle.image_records.specs.Kept.{KeptState}
+use Rattle.replay_law.proofs.Bools.{both}
 use Rattle.record_replay.specs.Judged.{lasting_in, AreFree, AreSound}
 use Rattle.record_replay.specs.Working.{WorkState, IsAt, Comes}
 use Rattle.log_replay.specs.Replaying.{Ends}

@@ -1,6 +1,6 @@
 -- The tables and what lasts of a snapshot.
-use Rattle.std.proofs.Common.{◌≡◌, Bool, true, false, not, ◌&&◌, List, [], ◌∷◌, ℕ, refl, sym, ◌∙◌, ap, subst, Some, None}
-use Rattle.std.specs.Prelude.{if◌then◌else◌, Option, map}
+use Rattle.std.proofs.Common.{◌≡◌, true, List, [], ◌∷◌, ℕ, refl, sym, ◌∙◌, ap, subst, Some, None}
+use Rattle.std.specs.Prelude.{Option, map}
 use Rattle.std.specs.List.{list_all}
 use Rattle.std.specs.Option.{is_none}
 use Rattle.tm_types.specs.declared.message.Message.{Message}
@@ -13,7 +13,7 @@ use Rattle.log_records.specs.declared.record.Record.{Record}
 use Rattle.log_records.specs.declared.record.Record.TheVariants.{Input, Command, Reply, Discarded, Completed, Acknowledged, SyncPoint, Checkpoint, Terminal, Code, Change}
 use Rattle.model_image.specs.Snapshot.{told, told_by, snapshot_state}
 use Rattle.model_image.specs.States.{breaks_a_rule}
-use Rattle.image_records.specs.Kept.{KeptState, Keeps, kept_of, free_message, free_queues}
+use Rattle.image_records.specs.Kept.{KeptState, Keeps, kept_of, free_message}
 use Rattle.replay_law.proofs.Bools.{first_of, second_of}
 use Rattle.record_replay.specs.Judged.{lasting_in, AreFree, AreSound, has_no_holder}
 

@@ -1,7 +1,7 @@
 -- What a record does to the replay of the definition.
-use Rattle.std.proofs.Common.{◌≡◌, Bool, true, false, not, ◌&&◌, List, [], ◌∷◌, ◌++◌, ℕ, zero, suc, refl, sym, ◌∙◌, ap, subst, Some, None}
+use Rattle.std.proofs.Common.{◌≡◌, Bool, true, false, not, List, [], ◌∷◌, ◌++◌, ℕ, zero, suc, refl, sym, ◌∙◌, ap, subst, Some, None}
 use Rattle.std.specs.Prelude.{if◌then◌else◌, Option, ◌==◌, filter}
-use Rattle.std.specs.Option.{option_map_or, option_map, option_and_then}
+use Rattle.std.specs.Option.{option_map_or, option_and_then}
 use Rattle.std.proofs.lemmas.Bool.{eqb-true, eq-eqb, ne_eqb}
 use Rattle.std.proofs.lemmas.List.Elements.{filter-append}
 use Rattle.std.proofs.lemmas.List.{append-nil}
@@ -11,7 +11,7 @@ use Rattle.log_records.specs.declared.record.Record.{Record}
 use Rattle.log_records.specs.declared.record.Record.TheVariants.{Input, Command, Reply, Discarded, Completed, Acknowledged, SyncPoint, Checkpoint, Terminal, Code, Change}
 use Rattle.model_image.specs.States.{breaks_a_rule}
 use Rattle.model_image.specs.Replay.{Replay, is_of_unit, with_waiting, without_unit, with_lasting, replayed, is_known, unless_it_breaks, replay_one, accepts}
-use Rattle.record_replay.specs.Judged.{lasting_in, AreFree, AreSound, Leaves}
+use Rattle.record_replay.specs.Judged.{lasting_in, AreFree, Leaves}
 use Rattle.record_replay.specs.Waiting.{of_unit, ChangesUnit}
 use Rattle.record_replay.specs.Working.{WorkState, IsAt, Comes, Waits, IsDone, waits_for, of_unit_of, does_now, LeavesUnits}
 

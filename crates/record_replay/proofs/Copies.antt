@@ -1,5 +1,5 @@
 -- Copying messages whose ids ascend, from each to the first one above it.
-use Rattle.std.proofs.Common.{◌≡◌, ℕ, ◌<◌, ◌++◌, ◌∷◌, [], List, length, suc, refl, sym, ap, ◌∙◌, subst, arith, Bool, true, false, cond, append_assoc, ltb}
+use Rattle.std.proofs.Common.{◌≡◌, ℕ, ◌<◌, ◌++◌, ◌∷◌, [], List, refl, sym, ap, ◌∙◌, subst, arith, Bool, true, false, cond, append_assoc, ltb}
 use Rattle.std.specs.Prelude.{Option, None, Some, map, filter, find, slice_get}
 use Rattle.std.specs.List.{AllByRecursion}
 use Rattle.std.specs.Ordering.{nat_cmp, is_lt}

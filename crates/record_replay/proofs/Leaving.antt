@@ -1,10 +1,9 @@
 -- What each step leaves of the rules.
-use Rattle.std.proofs.Common.{◌≡◌, Bool, true, false, not, ◌&&◌, List, [], ◌∷◌, ◌++◌, ℕ, ◌+◌, suc, zero, drop, refl, sym, ◌∙◌, ap, subst, Some, None}
+use Rattle.std.proofs.Common.{◌≡◌, Bool, true, false, not, ◌&&◌, List, [], ◌∷◌, ℕ, ◌+◌, suc, drop, refl, sym, ◌∙◌, ap, subst, Some, None}
 use Rattle.std.specs.Prelude.{if◌then◌else◌, Option, ◌==◌, position, find, slice_get, slice_set}
 use Rattle.std.specs.Str.{bytes_eq}
-use Rattle.std.specs.List.{list_all, list_any}
+use Rattle.std.specs.List.{list_all}
 use Rattle.std.specs.Option.{option_map_or, option_map, option_and_then, is_some}
-use Rattle.std.proofs.lemmas.Bool.{eqb-true}
 use Rattle.tm_types.specs.declared.abend.AbendCode.{AbendCode}
 use Rattle.tm_types.specs.declared.message.Message.{Message}
 use Rattle.model_conversation.specs.declared.conversation.Conversation.{Conversation}
@@ -14,23 +13,22 @@ use Rattle.model_conversation.specs.declared.conversation.PadChange.TheVariants.
 use Rattle.model_conversation.specs.Terminals.{is_of, terminal_at, conversation_at, with_terminal}
 use Rattle.model_system.specs.System.{System}
 use Rattle.model_system.specs.Lists.{change_at}
-use Rattle.model_queues.specs.Queue.{messages_of, with_message, without, has_id, message_at}
+use Rattle.model_queues.specs.Queue.{message_at}
 use Rattle.model_queues.specs.Outputs.{next_of, reply_at, replies_at, without_first}
 use Rattle.model_queues.specs.Outputs as outputs
-use Rattle.model_queues.specs.declared.replies.TerminalReplies.{TerminalReplies}
 use Rattle.model_machine.specs.declared.lasting.TerminalState.{TerminalState}
 use Rattle.model_machine.specs.Machine as machine
 use Rattle.model_machine.specs.Lasting.{KeptInput, with_last, with_begun, padded, discarded_pad, with_text, abend_text, input_message}
 use Rattle.log_records.specs.declared.record.Record.{Record}
-use Rattle.model_image.specs.States.{is_small, is_next, is_conversation, has_right_pad, ascend_below, run_up_to}
+use Rattle.model_image.specs.States.{is_small, is_next, is_conversation, has_right_pad, run_up_to}
 use Rattle.model_image.specs.Snapshot.{message_of}
 use Rattle.image_records.specs.Kept.{KeptState}
 use Rattle.replay_law.proofs.Bools.{both, first_of, second_of}
-use Rattle.replay_law.proofs.Lists.{all_more, found_passes}
-use Rattle.replay_law.proofs.Ordered.{ascend_more, run_drop, all_at}
+use Rattle.replay_law.proofs.Lists.{found_passes}
+use Rattle.replay_law.proofs.Ordered.{run_drop, all_at}
 use Rattle.replay_law.proofs.Conversing.{put}
 use Rattle.record_replay.specs.Steps.{with_added, with_replied, with_gone, with_counted, with_pad, with_told, with_accepted, with_discarded, begins_with, does_all, message_done, step_accepts, step_acknowledges, step_discards, step_syncs}
-use Rattle.record_replay.specs.Judged.{KeepsRest, AreFree, AreSound, AreSmall, has_no_holder, is_run}
+use Rattle.record_replay.specs.Judged.{KeepsRest, AreFree, AreSound, is_run}
 use Rattle.record_replay.proofs.Placed.{position_more}
 use Rattle.record_replay.proofs.DoneSteps.{rest_replied, rest_added, rest_gone, rest_all, free_added, free_gone, free_all, all_keep}
 use Rattle.record_replay.proofs.Before.{rest_before, numbers_before, inputs_before, pads_before}
@@ -126,7 +124,7 @@ module _ (system : System) (kept : KeptState) (before : AreSound system kept) (i
   abbrev accepts_now : Option KeptState
   accepts_now = step_accepts system id origin code number conversation segments kept
 
-  accepted_by : (P : KeptState → Type 0) → ((t : TerminalState) → machine.terminal_at kept.terminals origin ≡ Some t → P (with_accepted origin number input kept)) → (new : KeptState) → accepts_now ≡ Some new → P new
+  pub accepted_by : (P : KeptState → Type 0) → ((t : TerminalState) → machine.terminal_at kept.terminals origin ≡ Some t → P (with_accepted origin number input kept)) → (new : KeptState) → accepts_now ≡ Some new → P new
   accepted_by P made new is = by_terminal (machine.terminal_at kept.terminals origin) refl (kept.next_id == id) is where
     by_number : (t : TerminalState) → machine.terminal_at kept.terminals origin ≡ Some t → (a b : Bool) → (if a && b then Some (with_accepted origin number input kept) else None) ≡ Some new → P new
     by_number t found true true is = let e : with_accepted origin number input kept ≡ new = cc in subst P e (made t found)
@@ -164,7 +162,7 @@ module _ (system : System) (kept : KeptState) (before : AreSound system kept) (t
   abbrev acknowledged : KeptState
   acknowledged = with_counted (record kept { outputs = outputs.with_terminal terminal without_first kept.outputs })
 
-  acknowledged_by : (P : KeptState → Type 0) → P acknowledged → (new : KeptState) → step_acknowledges terminal number kept ≡ Some new → P new
+  pub acknowledged_by : (P : KeptState → Type 0) → P acknowledged → (new : KeptState) → step_acknowledges terminal number kept ≡ Some new → P new
   acknowledged_by P made new is = by_test (option_map_or (λ reply. reply.number == number) (reply_at terminal 0 kept.outputs) false) is where
     by_test : (b : Bool) → (if b then Some acknowledged else None) ≡ Some new → P new
     by_test true is = let e : acknowledged ≡ new = cc in subst P e made
@@ -253,7 +251,7 @@ module _ (system : System) (kept : KeptState) (before : AreSound system kept) (i
 -- ---- a sync point
 
 module _ (system : System) (kept : KeptState) (before : AreSound system kept) (pad : PadChange) (records : List Record) where
-  synced_by : (P : KeptState → Type 0) → ((after : KeptState) → does_all records kept ≡ Some after → P (with_counted (with_pad (message_done records kept) pad after))) → (new : KeptState) → step_syncs pad records kept ≡ Some new → P new
+  pub synced_by : (P : KeptState → Type 0) → ((after : KeptState) → does_all records kept ≡ Some after → P (with_counted (with_pad (message_done records kept) pad after))) → (new : KeptState) → step_syncs pad records kept ≡ Some new → P new
   synced_by P made new is = by_done (does_all records kept) refl is where
     by_done : (o : Option KeptState) → does_all records kept ≡ o → option_map (λ after. with_counted (with_pad (message_done records kept) pad after)) o ≡ Some new → P new
     by_done (Some after) done is = let e : with_counted (with_pad (message_done records kept) pad after) ≡ new = cc in subst P e (made after done)

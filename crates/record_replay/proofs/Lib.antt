@@ -10,3 +10,4 @@ pub mod Abended
 pub mod Copies
 pub mod Placed
 pub mod Stepped
+pub mod Usual

@@ -1,6 +1,6 @@
 -- The steps on the tables are the steps of the definition.
-use Rattle.std.proofs.Common.{◌≡◌, Bool, true, false, not, ◌&&◌, List, [], ◌∷◌, ◌++◌, ℕ, ◌+◌, refl, sym, ◌∙◌, ap, subst, Some, None}
-use Rattle.std.specs.Prelude.{if◌then◌else◌, ◌==◌, Option, filter, find, map}
+use Rattle.std.proofs.Common.{◌≡◌, Bool, true, false, not, ◌&&◌, List, [], ◌∷◌, ◌++◌, ℕ, ◌+◌, refl, sym, ◌∙◌, ap, Some, None}
+use Rattle.std.specs.Prelude.{if◌then◌else◌, ◌==◌, Option, filter, find}
 use Rattle.std.specs.Option.{option_map_or, option_map, option_and_then, is_some}
 use Rattle.std.proofs.lemmas.Bool.{eqb-true}
 use Rattle.tm_types.specs.declared.abend.AbendCode.{AbendCode}
@@ -11,7 +11,7 @@ use Rattle.model_queues.specs.Queue.{messages_of, with_message, without, has_id}
 use Rattle.model_queues.specs.Queue as queue
 use Rattle.model_queues.specs.Outputs.{with_terminal, without_first, next_of, reply_at, replies_at}
 use Rattle.model_system.specs.System.{System}
-use Rattle.model_machine.specs.Machine.{LastingState, message_at, terminal_at, output_at}
+use Rattle.model_machine.specs.Machine.{LastingState, message_at, terminal_at}
 use Rattle.model_message.specs.declared.ended_message.EndedMessage.{EndedMessage}
 use Rattle.model_machine.specs.Lasting.{KeptInput, applied, padded, discarded_pad, abend_text, abend_outputs, finished, finished_by, replied, switched, with_pad_by, without_message, input_message}
 use Rattle.model_machine.specs.Lasting.LastingStep.{Accepts, Acknowledges, Discards}

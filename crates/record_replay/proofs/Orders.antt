@@ -1,17 +1,14 @@
 -- Ids and numbers while the records of a unit are done.
 use Rattle.std.proofs.Common.{◌≡◌, Bool, true, false, not, ◌&&◌, ◌||◌, List, [], ◌∷◌, ◌++◌, ℕ, ◌+◌, ◌<◌, ◌≤◌, ◌^◌, refl, sym, ◌∙◌, ap, subst, arith, Some, None}
-use Rattle.std.specs.Prelude.{IsSomeAnd, if◌then◌else◌, ◌==◌, nat_lt, Option, find, filter, map}
-use Rattle.std.specs.List.{list_any, AllByRecursion}
-use Rattle.std.specs.Option.{option_map_or, option_map, option_and_then, is_some}
-use Rattle.std.proofs.lemmas.Bool.{lt-ltb, le-ltb, ltb-true, ltb-false, eqb-true, eq-eqb, ne_eqb}
-use Rattle.std.proofs.lemmas.List.{map-append}
+use Rattle.std.specs.Prelude.{IsSomeAnd, if◌then◌else◌, ◌==◌, nat_lt, Option, find, filter}
+use Rattle.std.specs.List.{list_any}
+use Rattle.std.specs.Option.{option_map_or, option_map, is_some}
+use Rattle.std.proofs.lemmas.Bool.{le-ltb, ltb-true, ltb-false, eqb-true, eq-eqb, ne_eqb}
 use Rattle.tm_types.specs.declared.message.Message.{Message}
 use Rattle.model_queues.specs.declared.queued.Queued.{Queued}
 use Rattle.model_queues.specs.declared.replies.TerminalReplies.{TerminalReplies}
-use Rattle.model_queues.specs.Queue.{messages_of, IsNewId, with_message, without, has_id, message_at}
+use Rattle.model_queues.specs.Queue.{messages_of, IsNewId, with_message, without}
 use Rattle.model_queues.specs.Outputs.{is_of, replies_at, next_of, with_terminal, with_reply}
-use Rattle.log_records.specs.declared.record.Record.{Record}
-use Rattle.log_records.specs.declared.record.Record.TheVariants.{Input, Command, Reply, Discarded, Completed, Acknowledged, SyncPoint, Checkpoint, Terminal, Code, Change}
 use Rattle.model_image.specs.States.{is_small, ascend_below}
 use Rattle.image_records.specs.Kept.{KeptState}
 use Rattle.replay_law.proofs.Bools.{neither_first, neither_second, first_of, second_of}

@@ -1,6 +1,6 @@
 -- The place of the first element that passes.
 use Rattle.std.proofs.Common.{◌≡◌, ℕ, suc, ◌+◌, Bool, true, false, List, ◌∷◌, length, ap, ◌∙◌, arith, Some, None, cond, nat_lt}
-use Rattle.std.specs.Prelude.{Option, position}
+use Rattle.std.specs.Prelude.{position}
 use Rattle.std.specs.Option.{option_map}
 use Rattle.std.specs.List.{position_or_len}
 use Rattle.std.proofs.lemmas.Bool.Decides.{nat_tests}

@@ -1,14 +1,14 @@
 -- When the tables break no rule.
-use Rattle.std.proofs.Common.{◌≡◌, Bool, true, false, not, ◌&&◌, ◌||◌, List, [], ◌∷◌, ◌++◌, ℕ, refl, sym, ◌∙◌, ap, subst, Some, None}
-use Rattle.std.specs.Prelude.{if◌then◌else◌, Option, ◌==◌}
+use Rattle.std.proofs.Common.{◌≡◌, Bool, true, false, not, ◌&&◌, ◌||◌, refl, sym, ◌∙◌, ap}
+use Rattle.std.specs.Prelude.{◌==◌}
 use Rattle.std.specs.List.{list_all}
 use Rattle.model_system.specs.System.{System}
 use Rattle.model_queues.specs.Queue.{messages_of}
-use Rattle.model_image.specs.States.{is_small, is_next, is_setting, has_right_pad, ascend_below, is_known, are_alone, run_up_to, over_full, breaks_a_rule}
+use Rattle.model_image.specs.States.{is_small, is_next, is_setting, has_right_pad, ascend_below, run_up_to, over_full, breaks_a_rule}
 use Rattle.image_records.specs.Kept.{KeptState}
-use Rattle.replay_law.proofs.Bools.{first_of, second_of}
+use Rattle.replay_law.proofs.Bools.{second_of}
 use Rattle.replay_law.proofs.Lists.{all_imply}
-use Rattle.record_replay.specs.Judged.{lasting_in, are_right, knows, is_run, KeepsRest}
+use Rattle.record_replay.specs.Judged.{lasting_in, are_right, is_run, KeepsRest}
 
 rules : (a b k c f x : Bool) → not (not (a && b && c && true && true && f) || not true || not x || not true || k) ≡ (a && b && not k && c && f && x)
 rules false b k c f x = refl

@@ -1,12 +1,11 @@
 -- What is done on the tables, step by step.
-use Rattle.std.proofs.Common.{◌≡◌, Bool, true, false, not, ◌&&◌, ◌||◌, List, [], ◌∷◌, ◌++◌, ℕ, zero, suc, ◌+◌, refl, sym, ◌∙◌, ap, subst, Some, None}
+use Rattle.std.proofs.Common.{◌≡◌, Bool, true, false, not, ◌&&◌, ◌||◌, List, [], ◌∷◌, ℕ, suc, ◌+◌, refl, sym, ◌∙◌, ap, subst, Some, None}
 use Rattle.std.specs.Prelude.{if◌then◌else◌, Option, ◌==◌, position, find, slice_get, IfSome}
 use Rattle.std.specs.Option.{option_map_or, option_map, option_and_then, is_some}
 use Rattle.std.proofs.lemmas.Bool.{eq-eqb, ne_eqb}
 use Rattle.tm_types.specs.declared.abend.AbendCode.{AbendCode}
 use Rattle.tm_types.specs.declared.message.Message.{Message}
 use Rattle.model_conversation.specs.declared.conversation.Conversation.{Conversation}
-use Rattle.model_conversation.specs.declared.conversation.TerminalConversation.{TerminalConversation}
 use Rattle.model_system.specs.System.{System}
 use Rattle.model_system.specs.Lists.{change_at}
 use Rattle.model_machine.specs.declared.lasting.TerminalState.{TerminalState}
@@ -24,7 +23,7 @@ use Rattle.model_queues.specs.Outputs.{replies_at, next_of, with_reply}
 use Rattle.std.specs.List.{list_all, list_any}
 use Rattle.std.specs.Str.{bytes_eq}
 use Rattle.image_records.specs.Kept.{KeptState}
-use Rattle.record_replay.specs.Steps.{with_added, with_replied, with_gone, with_pad, with_pad_at, with_told, with_discarded, with_counted, with_accepted, begins_with, completed_by, first_completed, does, does_all, message_done, is_over, step_accepts, step_discards, step_syncs}
+use Rattle.record_replay.specs.Steps.{with_added, with_replied, with_gone, with_pad, with_pad_at, with_told, with_discarded, with_counted, with_accepted, begins_with, first_completed, does, does_all, message_done, is_over, step_accepts, step_discards, step_syncs}
 use Rattle.record_replay.specs.Judged.{IsOrderly, AreSmall, Does}
 use Rattle.replay_law.proofs.Bools.{neither_second}
 use Rattle.replay_law.proofs.Lists.{found_passes}

@@ -5,19 +5,23 @@ ghost use Rattle.std.specs.Option.{option_map_or};
 ghost use Rattle.std.specs.Str.{bytes_eq};
 ghost use Rattle.model_conversation.specs.Terminals.{conversation_at};
 ghost use Rattle.model_queues.specs.Queue.{messages_of};
-ghost use Rattle.model_image.specs.States.{is_small, is_next, is_conversation, has_no_pad, has_right_pad, over_full, breaks_a_rule, is_known, are_alone};
-ghost use Rattle.record_replay.specs.Judged.{lasting_in, are_right, knows, KeepsRest};
+ghost use Rattle.model_image.specs.States.{is_small, is_next, is_terminal, is_code, is_conversation, has_no_pad, has_right_pad, over_full, breaks_a_rule, is_known, are_alone};
+ghost use Rattle.record_replay.specs.Judged.{lasting_in, are_right, are_usual, is_plain, is_usual, knows, stays, KeepsRest};
+ghost use Rattle.model_system.specs.Codes.{code_at};
 
 use crate::doing::is_small;
+use crate::waiting::UnitRecords;
 use conversation::Conversations;
 use image_records::{Kept, are_alone, is_code, is_conversation, is_terminal};
+use log_records::Record;
+use model_conversation::PadChange;
 use msg_queues::Queues;
 use std::alloc::Global;
 use system_types::System;
 use tm_types::{Memory, Message, Name};
 
 /// Whether the tables break no rule, where those that no record can break are kept, and whether inputs and pads are
-/// right is known.
+/// right is known. Where `right` is true all messages are known and alone; else they are looked at, one and all.
 #[tactic(auto, using(crate::proofs::Rules::sound_is))]
 pub fn is_sound(
     alloc: Global,
@@ -25,16 +29,18 @@ pub fn is_sound(
     kept: &Kept,
     inputs: bool,
     pads: bool,
+    right: bool,
 ) -> Result<bool, Memory>
     requires rest { KeepsRest kept.now }
     requires numbers { list_all (λ t. is_next t.next) kept.now.outputs ≡ true }
     requires inputs { inputs ≡ list_all (λ t. is_small t.last) kept.now.terminals }
     requires pads { pads ≡ list_all (has_right_pad system.now) kept.now.conversations }
+    requires right { right ≡ true → are_right system.now kept.now ≡ true }
     ensures { IfOk result (λ is. is ≡ not (breaks_a_rule system.now (lasting_in system.now kept.now))) }
 {
     let counts = are_counts_right(kept);
     let room = has_room(system, kept);
-    let messages = are_right(alloc, system, kept)?;
+    let messages = judged(alloc, system, kept, right)?;
     Ok(are_all(counts, room, inputs, pads, messages))
 }
 
@@ -69,6 +75,87 @@ pub fn has_pad_at(system: &System, kept: &Kept, name: &Name) -> bool
     match kept.conversations.conversation(name) {
         Some(conversation) => is_conversation(system, conversation),
         None => true,
+    }
+}
+
+fn judged(alloc: Global, system: &System, kept: &Kept, right: bool) -> Result<bool, Memory>
+    requires { right ≡ true → are_right system.now kept.now ≡ true }
+    ensures { IfOk result (λ are. are ≡ are_right system.now kept.now) }
+{
+    if right {
+        return Ok(true);
+    }
+    are_right(alloc, system, kept)
+}
+
+/// Whether a message of this origin to this code belongs to no conversation, and is known whatever conversations there are.
+pub fn is_plain(system: &System, origin: &Name, code: &Name, conversation: bool) -> bool
+    ensures { result ≡ is_plain system.now origin.now code.now conversation }
+{
+    if conversation {
+        return false;
+    }
+    is_known_by(system, origin, code)
+}
+
+fn is_known_by(system: &System, origin: &Name, code: &Name) -> bool
+    ensures { result ≡ (is_terminal system.now origin.now && is_code system.now code.now && option_map_or (λ code. code.transaction.scratch_pad == 0) (code_at system.now.codes code.now) true) }
+{
+    is_terminal(system, origin) && is_code(system, code) && takes_plain(system, code)
+}
+
+fn takes_plain(system: &System, code: &Name) -> bool
+    ensures { result ≡ option_map_or (λ code. code.transaction.scratch_pad == 0) (code_at system.now.codes code.now) true }
+{
+    match system.code(code) {
+        Some(code) => code.transaction.scratch_pad == 0,
+        None => true,
+    }
+}
+
+/// Whether these records of a unit leave messages known and alone, where this becomes of the pad.
+pub fn are_usual(system: &System, pad: &PadChange, records: &UnitRecords) -> bool
+    ensures { result ≡ are_usual system.now pad.now records.now }
+{
+    stays(pad) && are_all_usual(system, records)
+}
+
+fn stays(pad: &PadChange) -> bool
+    ensures { result ≡ stays pad.now }
+{
+    match pad {
+        PadChange::Stays => true,
+        PadChange::New(_) => false,
+        PadChange::Ends => false,
+    }
+}
+
+fn are_all_usual(system: &System, records: &UnitRecords) -> bool
+    ensures { result ≡ list_all (is_usual system.now) records.now }
+{
+    let count = records.records.len();
+    for place in 0..count {
+        let Some(r) = records.records.get(place) else {
+            unreachable!()
+        };
+        if !is_usual(system, r) {
+            return false;
+        }
+    }
+    true
+}
+
+fn is_usual(system: &System, r: &Record) -> bool
+    ensures { result ≡ is_usual system.now r.now }
+{
+    match r {
+        Record::Input {
+            origin,
+            code,
+            conversation,
+            ..
+        } => is_plain(system, origin, code, *conversation),
+        _ => true,
     }
 }
 

@@ -6,8 +6,8 @@ ghost use Rattle.record_replay.specs.Working.{IsAt, Comes, IsDone, Waits, waits_
 
 use crate::doing::is_small;
 use crate::images::is_image_of;
-use crate::judging::{has_pad_at, has_pad_of, is_sound};
-use crate::steps::{accept, acknowledge, discard, origin_done, sync};
+use crate::judging::{are_usual, has_pad_at, has_pad_of, is_plain, is_sound};
+use crate::steps::{accept, acknowledge, discard, ends_plainly, origin_done, sync};
 use crate::waiting::{UnitRecords, push, take};
 use crate::working::Working;
 use image_records::{Kept, is_code, is_terminal};
@@ -118,12 +118,13 @@ fn replay_input(
     ensures { IfOk result (Leaves system.now (accepts system.now message.id message.origin message.code number message.conversation message.segments (lasting_in system.now kept.old)) kept.new) }
 {
     let origin = message.origin;
+    let plain = is_plain(system, &origin, &message.code, message.conversation);
     let fine = accept(alloc, system, kept, number, message)?;
     if !fine {
         return Ok(false);
     }
     let pads = has_pad_at(system, kept, &origin);
-    is_sound(alloc, system, kept, is_small(number), pads)
+    is_sound(alloc, system, kept, is_small(number), pads, plain)
 }
 
 fn replay_acknowledged(
@@ -140,7 +141,7 @@ fn replay_acknowledged(
     if !fine {
         return Ok(false);
     }
-    is_sound(alloc, system, kept, true, true)
+    is_sound(alloc, system, kept, true, true, true)
 }
 
 fn replay_discarded(
@@ -154,11 +155,12 @@ fn replay_discarded(
     requires { AreSound system.now kept.old }
     ensures { IfOk result (Leaves system.now (discards id abend number (lasting_in system.now kept.old)) kept.new) }
 {
+    let plain = ends_plainly(kept, id);
     let fine = discard(alloc, kept, id, abend, number)?;
     if !fine {
         return Ok(false);
     }
-    is_sound(alloc, system, kept, true, true)
+    is_sound(alloc, system, kept, true, true, plain)
 }
 
 fn replay_sync_point(
@@ -172,12 +174,13 @@ fn replay_sync_point(
     ensures { IfOk result (Leaves system.now (syncs pad records (lasting_in system.now kept.old)) kept.new) }
 {
     let origin = origin_done(kept, &records);
+    let usual = are_usual(system, &pad, &records);
     let fine = sync(kept, records, pad)?;
     if !fine {
         return Ok(false);
     }
     let pads = has_pad_of(system, kept, &origin);
-    is_sound(alloc, system, kept, true, pads)
+    is_sound(alloc, system, kept, true, pads, usual)
 }
 
 fn is_known(alloc: Global, system: &System, r: &Record) -> Result<bool, Memory>

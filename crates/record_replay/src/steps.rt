@@ -1,5 +1,5 @@
 //! The lasting steps of a log, done on the tables.
-ghost use Rattle.std.specs.Prelude.{◌≡◌, ◌+◌, ◌<◌, ◌==◌, ◌^◌, ◌∷◌, [], true, Some, IfOk, OnOk, IsSome, length};
+ghost use Rattle.std.specs.Prelude.{◌≡◌, ◌+◌, ◌<◌, ◌==◌, ◌^◌, ◌∷◌, [], true, not, ◌&&◌, Some, IfOk, OnOk, IsSome, length};
 ghost use Rattle.std.specs.List.{list_all};
 ghost use Rattle.std.specs.Option.{is_some, option_copied, option_map};
 ghost use Rattle.model_image.specs.States.{is_small};
@@ -8,7 +8,7 @@ ghost use Rattle.model_queues.specs.Queue.{message_at};
 ghost use Rattle.model_queues.specs.Outputs.{next_of, replies_at};
 ghost use Rattle.model_system.specs.Lists.{change_at};
 ghost use Rattle.model_machine.specs.Lasting.{with_begun, with_last};
-ghost use Rattle.record_replay.specs.Judged.{AreSmall, Does, IsOrderly};
+ghost use Rattle.record_replay.specs.Judged.{AreSmall, Does, IsOrderly, ends_plainly};
 ghost use Rattle.record_replay.specs.Steps.{step_accepts, step_acknowledges, step_discards, step_syncs, with_gone, with_told, with_pad_at, completed_by, first_completed, message_done};
 
 use crate::abend::abend_segments;
@@ -129,6 +129,22 @@ pub fn discard(
     tell(kept, &origin, segments)?;
     count_to(kept, steps);
     Ok(true)
+}
+
+/// Whether the message of this id belongs to no conversation, and its origin is a terminal that is kept.
+pub fn ends_plainly(kept: &Kept, id: u64) -> bool
+    ensures { result ≡ ends_plainly id kept.now }
+{
+    match found(kept, id) {
+        Some(message) => is_plainly_told(kept, message),
+        None => false,
+    }
+}
+
+fn is_plainly_told(kept: &Kept, message: &Message) -> bool
+    ensures { result ≡ (not message.now.conversation && is_some (replies_at message.now.origin kept.now.outputs)) }
+{
+    !message.conversation && has_terminal(&kept.outputs, &message.origin)
 }
 
 fn found(kept: &Kept, id: u64) -> Option<&Message>

@@ -1,5 +1,5 @@
-use Rattle.std.proofs.Common.{rules, ◌≡◌, List, [], ◌∷◌, true, false, Some, length, sym, subst, ap, ◌∙◌, arith}
-use Rattle.std.specs.Vec.Iter.{into_iter_items, into_iter_len}
+use Rattle.std.proofs.Common.{◌≡◌, List, [], ◌∷◌, Some, length, sym, subst, ap, ◌∙◌, arith}
+use Rattle.std.specs.Vec.Iter.{into_iter_items}
 use Rattle.log_records.specs.declared.record.Record.{Record}
 use Rattle.model_image.specs.Replay.{replay_of, replay_one}
 use Rattle.image_records.specs.Kept.{KeptState}

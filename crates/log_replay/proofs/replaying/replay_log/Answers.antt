@@ -1,4 +1,4 @@
-use Rattle.std.proofs.Common.{◌≡◌, ◌-◌, List, sym, subst, ap, ◌∙◌}
+use Rattle.std.proofs.Common.{◌-◌, List, sym, subst, ap, ◌∙◌}
 use Rattle.std.specs.Prelude.{max}
 use Rattle.log_records.specs.declared.record.Record.{Record}
 use Rattle.model_image.specs.Counters.{greatest_unit}

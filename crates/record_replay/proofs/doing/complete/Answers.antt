@@ -1,5 +1,5 @@
 use Rattle.std.proofs.Common.{sym, subst}
-use Rattle.model_queues.specs.Queue.{QueuesState, without}
+use Rattle.model_queues.specs.Queue.{QueuesState}
 use Rattle.image_records.specs.Kept.{KeptState}
 use Rattle.record_replay.specs.Judged.{IsOrderly}
 use Rattle.record_replay.proofs.Orders.{orderly_gone}

@@ -1,4 +1,4 @@
-use Rattle.std.proofs.Common.{◌≡◌, sym, subst, ap, ◌∙◌}
+use Rattle.std.proofs.Common.{sym, subst, ap, ◌∙◌}
 use Rattle.model_queues.specs.Queue.{IsNewId}
 use Rattle.image_records.specs.Kept.{KeptState}
 use Rattle.record_replay.specs.Judged.{IsOrderly}

@@ -1,10 +1,11 @@
-use Rattle.std.proofs.Common.{◌≡◌, Some, sym, subst, ap, ◌∙◌}
+use Rattle.std.proofs.Common.{◌≡◌, Some, subst}
 use Rattle.std.proofs.lemmas.Result.{IfOk-weaker}
 use Rattle.record_replay.specs.Steps.{step_acknowledges}
 use Rattle.record_replay.specs.Judged.{Does, lasting_in}
 use Rattle.record_replay.proofs.Before.{steps_before, refused, judged}
 use Rattle.record_replay.proofs.Lifted.{acknowledges_is}
 use Rattle.record_replay.proofs.Leaving.{rest_acknowledged, free_acknowledged, numbers_acknowledged, inputs_acknowledged, pads_acknowledged}
+use Rattle.record_replay.proofs.Usual.{right_acknowledged}
 use Rattle.model_image.specs.Replay.{acknowledges}
 use Rattle.record_replay.proofs.replaying.replay_acknowledged.Goals as goal
 
@@ -51,3 +52,9 @@ returns c =
     (acknowledges_is c.args.system.now c.args.terminal.now c.args.number c.args.kept.now) c.acknowledge-fine.new.kept done
     (free_acknowledged c.args.system.now c.args.kept.now c.requires c.args.terminal.now c.args.number c.acknowledge-fine.new.kept done) fine right)
     c.is_sound.ensures
+
+pub is_sound-requires-clause-right : goal.is_sound-requires-clause-right
+is_sound-requires-clause-right c surely =
+    let step = step_acknowledges c.args.terminal.now c.args.number c.args.kept.now in
+    right_acknowledged c.args.system.now c.args.terminal.now c.args.number c.args.kept.now c.acknowledge-fine.new.kept c.requires
+    (subst (Does step c.acknowledge-fine.new.kept) c.if-not-fine.false c.acknowledge-fine.ensures)

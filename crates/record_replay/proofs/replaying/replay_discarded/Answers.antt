@@ -1,10 +1,11 @@
-use Rattle.std.proofs.Common.{◌≡◌, Some, sym, subst, ap, ◌∙◌}
+use Rattle.std.proofs.Common.{◌≡◌, Some, sym, subst, ◌∙◌}
 use Rattle.std.proofs.lemmas.Result.{IfOk-weaker}
 use Rattle.record_replay.specs.Steps.{step_discards}
 use Rattle.record_replay.specs.Judged.{Does, lasting_in}
 use Rattle.record_replay.proofs.Before.{orderly_before, steps_before, numbers_from, refused, judged}
 use Rattle.record_replay.proofs.Lifted.{discards_is}
 use Rattle.record_replay.proofs.Leaving.{rest_discarded, free_discarded, inputs_discarded, pads_discarded}
+use Rattle.record_replay.proofs.Usual.{right_discarded}
 use Rattle.model_image.specs.Replay.{discards}
 use Rattle.record_replay.proofs.replaying.replay_discarded.Goals as goal
 
@@ -56,3 +57,9 @@ returns c =
     (discards_is c.args.system.now c.args.id c.args.abend c.args.number c.args.kept.now) c.discard.new.kept done
     (free_discarded c.args.system.now c.args.kept.now c.requires c.args.id c.args.abend c.args.number c.discard.new.kept done) fine right)
     c.is_sound.ensures
+
+pub is_sound-requires-clause-right : goal.is_sound-requires-clause-right
+is_sound-requires-clause-right c plain =
+    let step = step_discards c.args.id c.args.abend c.args.number c.args.kept.now in
+    right_discarded c.args.system.now c.args.id c.args.abend c.args.number c.args.kept.now c.discard.new.kept c.requires (sym c.ends_plainly-plain.ensures ∙ plain)
+    (subst (Does step c.discard.new.kept) c.if-not-fine.false c.in_ok-fine.ensures.done)

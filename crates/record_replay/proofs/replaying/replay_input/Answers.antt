@@ -1,10 +1,11 @@
-use Rattle.std.proofs.Common.{◌≡◌, Some, sym, subst, ap, ◌∙◌}
+use Rattle.std.proofs.Common.{◌≡◌, Some, sym, subst, ◌∙◌}
 use Rattle.std.proofs.lemmas.Result.{IfOk-weaker}
 use Rattle.record_replay.specs.Steps.{step_accepts}
 use Rattle.record_replay.specs.Judged.{Does, lasting_in}
 use Rattle.record_replay.proofs.Before.{orderly_before, inputs_before, steps_before, refused, judged}
 use Rattle.record_replay.proofs.Lifted.{accepts_is}
 use Rattle.record_replay.proofs.Leaving.{rest_accepted, free_accepted, numbers_accepted, inputs_accepted, pads_accepted}
+use Rattle.record_replay.proofs.Usual.{right_accepted}
 use Rattle.model_image.specs.Replay.{accepts}
 use Rattle.record_replay.proofs.replaying.replay_input.Goals as goal
 
@@ -63,3 +64,10 @@ returns c =
     (accepts_is c.args.system.now m.id m.origin m.code c.args.number m.conversation m.segments c.args.kept.now) c.accept.new.kept done
     (free_accepted c.args.system.now c.args.kept.now c.requires m.id m.origin m.code c.args.number m.conversation m.segments c.accept.new.kept done) fine right)
     c.is_sound.ensures
+
+pub is_sound-requires-clause-right : goal.is_sound-requires-clause-right
+is_sound-requires-clause-right c plain =
+    let m = c.args.message in
+    let step = step_accepts c.args.system.now m.id m.origin m.code c.args.number m.conversation m.segments c.args.kept.now in
+    right_accepted c.args.system.now m.id m.origin m.code c.args.number m.conversation m.segments c.args.kept.now c.accept.new.kept c.requires (sym c.is_plain-plain.ensures ∙ plain)
+    (subst (Does step c.accept.new.kept) c.if-not-fine.false c.in_ok-fine.ensures)

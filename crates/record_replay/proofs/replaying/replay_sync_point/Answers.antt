@@ -9,6 +9,7 @@ use Rattle.record_replay.specs.Judged.{Does, lasting_in}
 use Rattle.record_replay.proofs.Before.{orderly_before, steps_before, numbers_from, refused, judged}
 use Rattle.record_replay.proofs.Lifted.{syncs_is}
 use Rattle.record_replay.proofs.Leaving.{rest_synced, free_synced, inputs_synced, pads_synced}
+use Rattle.record_replay.proofs.Usual.{right_synced}
 use Rattle.model_image.specs.Replay.{syncs}
 use Rattle.record_replay.proofs.replaying.replay_sync_point.Goals as goal
 
@@ -62,3 +63,9 @@ returns c =
     (syncs_is c.args.system.now c.args.pad c.args.records c.args.kept.now) c.sync.new.kept done
     (free_synced c.args.system.now c.args.kept.now c.requires c.args.pad c.args.records c.sync.new.kept done) fine right)
     c.is_sound.ensures
+
+pub is_sound-requires-clause-right : goal.is_sound-requires-clause-right
+is_sound-requires-clause-right c usual =
+    let step = step_syncs c.args.pad c.args.records c.args.kept.now in
+    right_synced c.args.system.now c.args.pad c.args.records c.args.kept.now c.sync.new.kept c.requires (sym c.are_usual-usual.ensures ∙ usual)
+    (subst (Does step c.sync.new.kept) c.if-not-fine.false c.in_ok-fine.ensures.done)

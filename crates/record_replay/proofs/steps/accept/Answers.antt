@@ -1,9 +1,8 @@
-use Rattle.std.proofs.Common.{◌≡◌, ◌<◌, length, sym, subst, ap, ◌∙◌}
+use Rattle.std.proofs.Common.{◌<◌, length, sym, subst, ap, ◌∙◌}
 use Rattle.std.specs.Option.{is_some}
 use Rattle.std.proofs.lemmas.Bool.{eqb-true}
 use Rattle.model_queues.specs.Queue.{IsNewId}
 use Rattle.image_records.specs.Kept.{KeptState}
-use Rattle.record_replay.specs.Steps.{step_accepts}
 use Rattle.record_replay.proofs.Orders.{id_above}
 use Rattle.record_replay.proofs.Stepped.{not_next_input, not_next_id, accepted_is, none_refused}
 use Rattle.record_replay.proofs.steps.accept.Goals as goal

@@ -1,10 +1,8 @@
-use Rattle.std.proofs.Common.{◌≡◌, ℕ, List, [], ◌∷◌, ◌+◌, Some, sym, subst, ap, ◌∙◌}
+use Rattle.std.proofs.Common.{ℕ, List, [], ◌∷◌, Some, sym, subst, ap, ◌∙◌}
 use Rattle.std.specs.Option.{option_copied}
 use Rattle.model_conversation.specs.declared.conversation.PadChange.{PadChange}
 use Rattle.model_machine.specs.Lasting.{abend_text}
 use Rattle.record_replay.specs.Steps.{with_gone, with_pad_at, with_told}
-use Rattle.model_queues.specs.Queue.{message_at}
-use Rattle.model_image.specs.States.{is_small}
 use Rattle.image_records.specs.Kept.{KeptState}
 use Rattle.record_replay.specs.Judged.{IsOrderly, AreSmall}
 use Rattle.record_replay.proofs.Stepped.{not_found, other_number, none_refused, discarded_is, discarded_over, discarded_small, orderly_away, counted_is, small_now}

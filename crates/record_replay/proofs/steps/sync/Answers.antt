@@ -1,5 +1,4 @@
-use Rattle.std.proofs.Common.{◌≡◌, ◌+◌, Some, sym, subst, ap, ◌∙◌}
-use Rattle.image_records.specs.Kept.{KeptState}
+use Rattle.std.proofs.Common.{subst, ap, ◌∙◌}
 use Rattle.record_replay.specs.Steps.{does_all}
 use Rattle.record_replay.specs.Judged.{Does}
 use Rattle.record_replay.proofs.Stepped.{sync_over, sync_counted, sync_small_then, small_now}

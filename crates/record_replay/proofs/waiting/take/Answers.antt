@@ -1,4 +1,4 @@
-use Rattle.std.proofs.Common.{[], None, refl, sym, ap, ◌∙◌}
+use Rattle.std.proofs.Common.{[], None, refl}
 use Rattle.record_replay.proofs.Units.{changed}
 use Rattle.record_replay.proofs.waiting.take.Goals as goal
 
