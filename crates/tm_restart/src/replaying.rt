@@ -1,18 +1,15 @@
 //! The snapshot and the log of an image, read and done again.
-ghost use Rattle.std.specs.Prelude.{◌≡◌, ◌+◌, ◌≤◌, true, List, Some, Ok, IsTrue, IfOk, length};
-ghost use Rattle.std.specs.List.{list_all};
-ghost use Rattle.log_records.specs.declared.record.Record.{Record as OneRecord};
+ghost use Rattle.std.specs.Prelude.{◌≡◌, ◌+◌, ◌≤◌, Some, Ok, IsTrue, IfOk, length};
 ghost use Rattle.model_disk.specs.Disk.{Keeps};
 ghost use Rattle.restart_data.specs.Restart.{restart_in};
 ghost use Rattle.restart_data.specs.Images.{IsValid};
 ghost use Rattle.model_image.specs.Areas.{snapshot_area, data_first};
-ghost use Rattle.model_image.specs.Slots.{is_image_of};
-ghost use Rattle.image_records.specs.Answers.{IsOf, TellsLog};
 ghost use Rattle.tm_restart.specs.Replayed.{ComesBehind, TellsReplay, ReplayCause};
 
 use image_areas::log_first;
-use image_records::{RecordsFault, Replayed, Snapshot};
+use image_records::{RecordsFault, Replayed};
 use log_reading::{LogFault, read_log};
+use log_replay::replay_log;
 use restart_data::RestartSector;
 use snapshot_reading::{ReadFault, read_told};
 use std::alloc::Global;
@@ -24,18 +21,6 @@ use tm_disk::Disk;
 pub(crate) struct Reread {
     pub replayed: Replayed,
     pub next_sequence: u64,
-}
-
-// Stands for the call that does the records of a log again, until it is there.
-fn replay_log(
-    _alloc: Global,
-    _system: &System,
-    _snapshot: Snapshot,
-    _bytes: &[u8],
-) -> Result<Replayed, RecordsFault>
-    ensures { (records : List OneRecord) → list_all (is_image_of _system.now) records ≡ true → IsOf _system.now records _snapshot → TellsLog _system.now records _bytes.now result }
-{
-    Err(RecordsFault::Memory)
 }
 
 /// Reads the snapshot and the log that this restart sector names, and does the log again. Nothing is written.

@@ -48,3 +48,6 @@ returns-in-Err-Bad-clause-keeps g c = keeps_on (g.D.Disk.state c.args.disk.now) 
 
 pub returns-clause-keeps : goal.returns-clause-keeps
 returns-clause-keeps g c = keeps_on (g.D.Disk.state c.args.disk.now) (g.D.Disk.state c.read_log.new.disk) (g.D.Disk.state c.read_told.new.disk) (g.met.D.Disk.is_disk c.args.disk.now) c.in-Ok.ensures.keeps c.in-Ok-read_told.ensures.keeps
+
+pub replay_log-requires : goal.replay_log-requires
+replay_log-requires g c = (c.in-Ok-read_told.ensures.told.records, c.in-Ok-read_told.ensures.told.is_of)
