@@ -6,3 +6,4 @@ pub mod Judged
 pub mod Stores
 pub mod Named
 pub mod Rereading
+pub mod LookedAt

@@ -4,3 +4,4 @@ pub mod Renewal
 pub mod Opening
 pub mod Databases
 pub mod Replayed
+pub mod Looked

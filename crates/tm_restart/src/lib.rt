@@ -7,6 +7,7 @@
 
 mod databases;
 mod empty;
+mod looking;
 mod making;
 mod parts;
 mod replaying;
