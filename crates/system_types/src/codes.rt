@@ -34,6 +34,13 @@ impl Codes {
         })
     }
 
+    /// These states, in the order of the definition.
+    pub fn with(states: Vec<CodeState>) -> Codes
+        ensures { result ≡ states.items }
+    {
+        Codes { items: states }
+    }
+
     /// The states, in the order of the definition.
     pub fn states(&self) -> &[CodeState]
         ensures { result.now ≡ self.now }
