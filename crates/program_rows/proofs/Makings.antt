@@ -4,17 +4,17 @@ use Rattle.std.specs.List.{slice_get}
 use Rattle.std.specs.Option.{option_map, is_some}
 use Rattle.std.specs.Prelude.{IfSome, OnOk, OnErr}
 use Rattle.seg_store.specs.Slots.{Stored}
-use Rattle.unit_work.specs.Changes.{Changes, is_full, no_changes, with_change, with_touch}
+use Rattle.unit_work.specs.Changes.{Changes, is_full, no_changes, with_change, with_slot, with_touch}
 use Rattle.unit_work.specs.Touching.{Touching}
 use Rattle.dli_calls.specs.declared.planned.Edit.{Edit}
 use Rattle.model_enqueue.specs.declared.request.Request.{Request}
 use Rattle.pi_enqueue.specs.declared.table.Blocked.{Blocked}
 use Rattle.pi_enqueue.specs.Grant.{told}
-use Rattle.program_rows.specs.Open.{records_of}
+use Rattle.program_rows.specs.Open.{records_of, slots_of}
 use Rattle.program_rows.specs.Making.{IsPut, IsSame, IsSet, HasAskedIn, TakesSlot, changed_in, kept_of}
 use Rattle.program_rows.specs.declared.asked.Asked.{Asked}
 use Rattle.program_rows.specs.declared.opened.Opened.{Opened}
-use Rattle.program_rows.proofs.Setting.{taken, unit_records, records_put, put_back, put_twice}
+use Rattle.program_rows.proofs.Setting.{taken, unit_records, unit_slots, records_put, slots_put, put_back, put_twice}
 
 -- the records of a unit that was taken out and put back
 pub left_records : (old taken_out new : List Changes) (i : ℕ) (u : Changes) (v : Changes) → slice_get old i ≡ Some u → taken_out ≡ set old i v → new ≡ set taken_out i u → new ≡ old
@@ -41,6 +41,11 @@ module _ {R E : Type 0} where
             ∙ ap (set (records_of old.units.items) (asked.region - 1))
             (ap (λ (c : Changes). c.records) touched
             ∙ (λ t. with_change (kept_of asked.number slot e (sym same t)) (sym (unit_records old.units.items (asked.region - 1) u at) t))));
+        slots = ap slots_of (kept ∙ (ap (λ us. set us (asked.region - 1) p.touched) out ∙ put_twice old.units.items (asked.region - 1) p.touched no_changes))
+            ∙ (slots_put old.units.items (asked.region - 1) p.touched
+            ∙ ap (set (slots_of old.units.items) (asked.region - 1))
+            (ap (λ (c : Changes). c.slots) touched
+            ∙ (λ t. with_slot (kept_of asked.number slot e (sym same t)) (sym (unit_slots old.units.items (asked.region - 1) u at) t))));
         asks = asks;
       }
 
@@ -51,6 +56,7 @@ module _ {R E : Type 0} where
   set_left (Err x) region old new u units p at out same left stores table =
       record {
         units = ap records_of (left_records old.units.items units new.units.items (region - 1) u no_changes at out (left ∙ ap (set units (region - 1)) same));
+        slots = ap slots_of (left_records old.units.items units new.units.items (region - 1) u no_changes at out (left ∙ ap (set units (region - 1)) same));
         stores = stores;
         table = table;
       }
@@ -61,6 +67,7 @@ pub put_left : (region : ℕ) (old new : Opened) (u v : Changes) (units : List C
 put_left region old new u v units at out same back stores table =
     record {
       units = ap records_of (left_records old.units.items units new.units.items (region - 1) u no_changes at out (back ∙ ap (set units (region - 1)) same));
+      slots = ap slots_of (left_records old.units.items units new.units.items (region - 1) u no_changes at out (back ∙ ap (set units (region - 1)) same));
       stores = stores;
       table = table;
     }
