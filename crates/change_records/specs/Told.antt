@@ -12,11 +12,11 @@ is_told_of database slot (Change unit d s before after) = (d == database) && (s 
 is_told_of database slot _ = false
 
 -- what is told of a slot: the bytes that stood there before the step, and those that stand there after it
-pub record IsToldSo (unit : ℕ) (old new : List Stored) (u database slot : ℕ) (before after : List ℕ) : Type 0 where
+pub record IsToldSo (unit : ℕ) (old new : List Stored) (u database slot : ℕ) (was now : List ℕ) : Type 0 where
   pub by : u ≡ unit
   pub there : IsSlotOf old database slot
-  pub before : before ≡ bytes_at database slot old
-  pub after : after ≡ bytes_at database slot new
+  pub before : was ≡ bytes_at database slot old
+  pub after : now ≡ bytes_at database slot new
 
 abbrev pub IsTold : ℕ → List Stored → List Stored → Record → Type 0
 IsTold unit old new (Change u database slot before after) = IsToldSo unit old new u database slot before after

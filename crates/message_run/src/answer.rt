@@ -163,15 +163,14 @@ impl Run {
     {
         let length = told.len();
         match databases.tell_back(region, unit, room, told) {
-            Ok(()) => {}
-            Err(error) => return Err(error),
-        }
-        match self.roll_back() {
-            Ok(status) => Ok(rolled_back(status, region, databases)),
-            Err(_) => {
-                told.truncate(length);
-                Err(Untold::Memory)
-            }
+            Ok(()) => match self.roll_back() {
+                Ok(status) => Ok(rolled_back(status, region, databases)),
+                Err(_) => {
+                    told.truncate(length);
+                    Err(Untold::Memory)
+                }
+            },
+            Err(error) => Err(error),
         }
     }
 

@@ -241,17 +241,17 @@ module _ (o : Opened) (h : AreUnits (records_of o.units.items) o.stores.stores o
       told_where abend records e told = λ i. unless_stopped (free_now i) (e i) (told i)
 
       -- of a call that changes no record
-      changes_none : (p : Planned) → PlansNone dbd stored (dli dbd call at stored) p → (dli dbd call at (rows_numbered region number (seen o))).changed ≡ None
+      changes_none : (p : Planned) → PlansNone stored (dli dbd call at stored) p → (dli dbd call at (rows_numbered region number (seen o))).changed ≡ None
       changes_none p plans = by_mine (λ d. d.changed ≡ None) (sym alike.changed ∙ plans.changed)
 
-      pub none_told : (p : Planned) → PlansNone dbd stored (dli dbd call at stored) p → call_told unit region number dbd call at (seen o) ≡ []
+      pub none_told : (p : Planned) → PlansNone stored (dli dbd call at stored) p → call_told unit region number dbd call at (seen o) ≡ []
       none_told p plans =
           let unchanged = changes_none p plans in
           told_where None []
           (ap (λ c. abend_by number (region_at region (seen o)).changed c (dli dbd call at (rows_numbered region number (seen o))).refusal) unchanged)
           (ap (λ c. changed_told unit number c (dli dbd call at (rows_numbered region number (seen o))).rows o.stores.stores) unchanged)
 
-      pub none_touched : (p : Planned) (slots : List Change) → PlansNone dbd stored (dli dbd call at stored) p
+      pub none_touched : (p : Planned) (slots : List Change) → PlansNone stored (dli dbd call at stored) p
           → changed_touched number (dli dbd call at (rows_numbered region number (seen o))).changed o.stores.stores slots ≡ slots
       none_touched p slots plans = ap (λ c. changed_touched number c o.stores.stores slots) (changes_none p plans)
 

@@ -292,7 +292,7 @@ back_told_changes unit o new d touched view region u stores =
 pub back_toldable : (o : Opened) (d : DatabasesState) (region : ℕ) (us : List Changes) (x : Changes) (slots : List Change) (stores : List Stored) → IsOpen o → HasTouched o → seen o ≡ d → HasUnit o region
     → us ≡ o.units.items → slice_get us (region - 1) ≡ Some x → slots ≡ x.slots → stores ≡ o.stores.stores → AllByRecursion (λ s. s.dbd.sectors ≤ 1) d.stores
     → AllByRecursion (IsToldable stores) slots
-back_toldable o d region us x slots stores h touched view u same at is same_stores sectors =
+back_toldable o d region xs x slots stores h touched view u same at is same_stores sectors =
     subst (λ (ss : List Stored). AllByRecursion (IsToldable ss) slots) (sym same_stores)
     (subst (λ cs. AllByRecursion (IsToldable o.stores.stores) cs) (unit_slots o.units.items (region - 1) x (ap (λ xs. slice_get xs (region - 1)) (sym same) ∙ at) ∙ sym is)
     (toldable o.stores.stores o.table (suc (region - 1)) (changed_in region o) (slots_in region o) h.valid
@@ -301,7 +301,7 @@ back_toldable o d region us x slots stores h touched view u same at is same_stor
 
 pub back_told_is : (unit : ℕ) (o : Opened) (d : DatabasesState) (region : ℕ) (us : List Changes) (x : Changes) (slots : List Change) (stores : List Stored) → seen o ≡ d
     → us ≡ o.units.items → slice_get us (region - 1) ≡ Some x → slots ≡ x.slots → stores ≡ o.stores.stores → map (slot_told unit stores) slots ≡ back_told unit region d
-back_told_is unit o d region us x slots stores view same at is same_stores =
+back_told_is unit o d region xs x slots stores view same at is same_stores =
     (λ i. map (slot_told unit (same_stores i)) ((is ∙ sym (unit_slots o.units.items (region - 1) x (ap (λ xs. slice_get xs (region - 1)) (sym same) ∙ at))) i))
     ∙ ap (back_told unit region) view
 

@@ -30,4 +30,5 @@ pub mod Appending
 pub mod Ordered
 pub mod Touching
 pub mod ToldBack
+pub mod Placing
 pub mod Retold

@@ -11,7 +11,11 @@ use Rattle.model_enqueue.specs.declared.request.Request.{Request}
 use Rattle.pi_enqueue.specs.declared.table.Blocked.{Blocked}
 use Rattle.pi_enqueue.specs.Grant.{told}
 use Rattle.program_rows.specs.Open.{records_of, slots_of}
-use Rattle.program_rows.specs.Making.{IsPut, IsSame, IsSet, HasAskedIn, TakesSlot, changed_in, kept_of}
+use Rattle.tm_types.specs.declared.dbd.Dbd.{Dbd}
+use Rattle.log_records.specs.declared.untold.Untold.{Untold}
+use Rattle.log_records.specs.declared.untold.Untold.TheVariants as untold
+use Rattle.program_rows.specs.Telling.{IsUntold}
+use Rattle.program_rows.specs.Making.{IsPut, IsSame, IsSet, HasAskedIn, TakesSlot, IsUntoldEdit, changed_in, edit_abend, edit_told, kept_of}
 use Rattle.program_rows.specs.declared.asked.Asked.{Asked}
 use Rattle.program_rows.specs.declared.opened.Opened.{Opened}
 use Rattle.program_rows.proofs.Setting.{taken, unit_records, unit_slots, records_put, slots_put, put_back, put_twice}
@@ -82,3 +86,9 @@ unit_full number root region o units u b same at e =
 pub none_told : (answered : Option Blocked) (some : Bool) (o : Option (Request × ℕ)) → answered ≡ option_map told o → some ≡ is_some answered → some ≡ false → o ≡ None
 none_told answered some None e is h = refl
 none_told answered some (Some x) e is h = let clash : true ≡ false = sym (is ∙ ap is_some e) ∙ h in absurd (cc)
+
+-- an edit that leads to no abend isn't told for want of room
+pub untold_edit : (asked : Asked) (dbd : Dbd) (e : Edit) (o : Opened) (unit room : ℕ) (error : Untold) → edit_abend asked dbd e o ≡ None
+    → IsUntold (edit_told unit asked.number (Some e) o.stores.stores) room error → IsUntoldEdit asked dbd (Some e) o unit room error
+untold_edit asked dbd e o unit room untold.Memory none h = tt
+untold_edit asked dbd e o unit room untold.Full none h = (none, h)

@@ -221,8 +221,12 @@ module _ (o : Opened) (h : AreUnits (records_of o.units.items) o.stores.stores o
         waits_told (Ok (Blocked b)) asked.requests.items eq u sl st w (t ∙ ap (λ n. after_asks n asked.requests.items o.table) er) kept
     read_told (Ok (Answered a)) asked p er en eq plans exists none u sl st w t kept =
         let made = made_told_so (Ok (Answered a)) asked p er en eq w.free plans exists
-        (record { status = w.status; area = w.area; position = w.position;
-          edited = subst (IsEdited asked dbd o new) (sym none) (record { units = u; slots = sl; stores = st; asks = record { table = t; kept = kept } }) }) in
+        (record {
+          status = w.status;
+          area = w.area;
+          position = w.position;
+          edited = subst (IsEdited asked dbd o new) (sym none) (record { units = u; slots = sl; stores = st; asks = record { table = t; kept = kept } });
+        }) in
         subst (λ records. Retells unit region number dbd call at o new records (Answered a)) (ap (λ e. edit_told unit number e o.stores.stores) none) made
 
   -- a call whose plan isn't told for want of room
@@ -303,12 +307,12 @@ memory_untold (Err e) records room h = subst (IsUntold records room) (sym h) tt
 -- the databases are whole again, whether or not the call was done
 pub whole_after : (region number : ℕ) (dbd : Dbd) (call : DbCall) (at : Position) (o new : Opened) {E : Type 0} (r : Result DataAnswer E) → IsWhole o → IfOk r (IsDone region number dbd call at o new)
     → OnOk r (HasTouched new) → OnErr r (IsSame o new) → IsWhole new
-whole_after region number dbd call at o new (Ok a) h done touch same = record { open = done.units; touched = touch }
+whole_after region number dbd call at o new (Ok a) h done touch same = record { units = done.units; touched = touch }
 whole_after region number dbd call at o new (Err e) h done touch same =
     record {
-      open = subst (λ us. AreUnits us new.stores.stores new.table) (sym same.units)
+      units = subst (λ us. AreUnits us new.stores.stores new.table) (sym same.units)
           (subst (λ ss. AreUnits (records_of o.units.items) ss new.table) (sym same.stores)
-          (subst (λ (t : EnqueueTable). AreUnits (records_of o.units.items) o.stores.stores t) (sym same.table) h.open));
+          (subst (λ (t : EnqueueTable). AreUnits (records_of o.units.items) o.stores.stores t) (sym same.table) h.units));
       touched = subst (λ us. AllTouch us (slots_of new.units.items) new.stores.stores new.table) (sym same.units)
           (subst (λ ss. AllTouch (records_of o.units.items) ss new.stores.stores new.table) (sym same.slots)
           (subst (λ ss. AllTouch (records_of o.units.items) (slots_of o.units.items) ss new.table) (sym same.stores)

@@ -41,7 +41,7 @@ abbrev pub HasTouched : Opened → Type 0
 HasTouched o = AllTouch (records_of o.units.items) (slots_of o.units.items) o.stores.stores o.table
 
 pub record IsWhole (o : Opened) : Type 0 where
-  pub open : IsOpen o
+  pub units : IsOpen o
   pub touched : HasTouched o
 
 -- the records that a region has changed

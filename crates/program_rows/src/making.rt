@@ -185,15 +185,14 @@ fn tell_and_set(
         room,
         told,
     ) {
-        Ok(()) => {}
-        Err(error) => return Err(error),
-    }
-    match set(alloc, asked, slot, edit, opened) {
-        Ok(()) => Ok(()),
-        Err(_) => {
-            told.truncate(length);
-            Err(Untold::Memory)
-        }
+        Ok(()) => match set(alloc, asked, slot, edit, opened) {
+            Ok(()) => Ok(()),
+            Err(_) => {
+                told.truncate(length);
+                Err(Untold::Memory)
+            }
+        },
+        Err(error) => Err(error),
     }
 }
 

@@ -3,7 +3,7 @@ use Rattle.program_rows.proofs.Retold.{whole_after}
 use Rattle.program_rows.proofs.databases.Databases.call.Goals as goal
 
 pub call-requires-clause-last : goal.call-requires-clause-last
-call-requires-clause-last c = (has_unit c.self.inside.opened c.args.self.now c.args.region c.self.invariant.open c.self.view_is c.requires.region).most
+call-requires-clause-last c = (has_unit c.self.inside.opened c.args.self.now c.args.region c.self.invariant.units c.self.view_is c.requires.region).most
 
 pub invariant_of-self : goal.invariant_of-self
 invariant_of-self c =

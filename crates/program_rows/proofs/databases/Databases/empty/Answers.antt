@@ -4,7 +4,7 @@ use Rattle.program_rows.proofs.databases.Databases.empty.Goals as goal
 pub invariant_of-result : goal.invariant_of-result
 invariant_of-result c =
     record {
-      open = begins c.args.dbds.now c.args.regions (record { units = c.in_ok-units.units; stores = c.in_ok-stores.stores; table = c.in_ok-table.table }) c.types_of.ensures c.in_ok-units.ensures
+      units = begins c.args.dbds.now c.args.regions (record { units = c.in_ok-units.units; stores = c.in_ok-stores.stores; table = c.in_ok-table.table }) c.types_of.ensures c.in_ok-units.ensures
           c.in_ok-stores.ensures.stores c.in_ok-table.ensures;
       touched = begins_touched c.args.dbds.now c.args.regions (record { units = c.in_ok-units.units; stores = c.in_ok-stores.stores; table = c.in_ok-table.table }) c.types_of.ensures c.in_ok-units.ensures
           c.in_ok-stores.ensures.stores c.in_ok-table.ensures;
