@@ -16,7 +16,7 @@ ghost use Rattle.program_rows.specs.Making.{IsPut, IsSame, IsSet, EditMade, HasA
 
 use crate::asked::{Asked, ask};
 use crate::opened::{Opened, put_unit, take_unit, unit_of};
-use crate::telling::tell;
+use crate::telling::{image_in, tell};
 use crate::{Answered, DataAnswer};
 use dli_calls::{Edit, Planned};
 use log_records::Untold;
@@ -174,7 +174,7 @@ fn tell_and_set(
 {
     let length = told.len();
     let store = opened.stores.store(asked.number);
-    let before = store.image(slot);
+    let before = image_in(store, slot);
     match tell(
         alloc,
         unit,

@@ -1,5 +1,5 @@
 //! What is told of slots that are changed.
-ghost use Rattle.std.specs.Prelude.{◌≡◌, ◌≤◌, ◌++◌, ◌∷◌, [], length, map, IfOk, IfErr, OnOk, OnErr};
+ghost use Rattle.std.specs.Prelude.{◌≡◌, ◌<◌, ◌≤◌, Some, slice_get, ◌++◌, ◌∷◌, [], length, map, IfOk, IfErr, OnOk, OnErr};
 ghost use Rattle.std.specs.List.{AllByRecursion};
 ghost use Rattle.log_records.specs.declared.record.Record.TheVariants.{Change as ChangeRecord};
 ghost use Rattle.log_records.specs.Spelling.{spelling, IsRecord};
@@ -8,7 +8,7 @@ ghost use Rattle.program_rows.specs.Telling.{slot_told, Adds, Tells, IsUntold, I
 
 use log_records::{Untold, append_change};
 use seg_rows::{RecordImage, Row};
-use seg_store::Stores;
+use seg_store::{Store, Stores};
 use std::alloc::Global;
 use tm_types::{Bytes, Memory};
 use unit_work::Change;
@@ -98,7 +98,7 @@ fn append_touched(
     ensures valid { OnOk result (IsRecord (slot_told unit stores.now.stores change.now)) }
 {
     let store = stores.store(change.db);
-    let present = store.image(change.slot);
+    let present = image_in(store, change.slot);
     append_slot(
         alloc,
         out,
@@ -108,6 +108,17 @@ fn append_touched(
         present,
         &change.before,
     )
+}
+
+/// The image in a slot that is there.
+pub fn image_in(store: &Store, slot: u16) -> &RecordImage
+    requires { slot < length store.now.slots }
+    ensures { slice_get store.now.slots slot ≡ Some result.now }
+{
+    match store.image(slot) {
+        Some(image) => image,
+        None => unreachable!(),
+    }
 }
 
 fn append_slot(

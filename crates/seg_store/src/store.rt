@@ -143,14 +143,6 @@ impl Store {
         }
     }
 
-    /// The image of the record in a slot, which has no rows where the slot is free.
-    pub fn image(&self, slot: u16) -> &RecordImage
-        requires { slot < length self.now.slots }
-        ensures { slice_get self.now.slots slot ≡ Some result.now }
-    {
-        &self.slots[slot as usize]
-    }
-
     /// Removes the record with this root, if there is one, and frees its slot. All other slots stay.
     /// This takes no memory.
     pub fn remove(&mut self, root: &Key)

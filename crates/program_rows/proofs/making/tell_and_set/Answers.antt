@@ -11,15 +11,15 @@ use Rattle.program_rows.proofs.making.tell_and_set.Goals as goal
 pub store-store-requires-clause-most : goal.store-store-requires-clause-most
 store-store-requires-clause-most c = is_stored c.args.asked.now.number c.args.opened.now.stores.stores c.args.dbd.now c.requires.first c.requires.database
 
-pub image-before-requires : goal.image-before-requires
-image-before-requires c =
+pub image_in-before-requires : goal.image_in-before-requires
+image_in-before-requires c =
     slot_within c.args.opened.now.stores.stores c.args.asked.now.number c.args.slot c.args.edit c.args.dbd.now c.requires.database c.requires.takes c.requires.sectors (stored c.store-store.result.now)
     c.store-store.ensures.stored_is
 
 pub tell-requires-clause-before : goal.tell-requires-clause-before
 tell-requires-clause-before c =
     short_before c.args.opened.now.stores.stores c.args.asked.now.number c.args.slot c.args.edit c.args.dbd.now c.requires.database c.requires.takes c.requires.sectors (stored c.store-store.result.now)
-    c.store-store.ensures.stored_is c.image-before.result.now c.image-before.ensures
+    c.store-store.ensures.stored_is c.image_in-before.result.now c.image_in-before.ensures
 
 pub tell-requires-clause-after : goal.tell-requires-clause-after
 tell-requires-clause-after c =
