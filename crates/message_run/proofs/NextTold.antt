@@ -1,6 +1,6 @@
 -- What a step of the work tells, by what its script needs next.
 use Rattle.std.proofs.Common.{◌≡◌, ℕ, ◌≤◌, ◌++◌, ◌∷◌, [], List, map, suc, refl, sym, ◌∙◌, ap, subst, Bool, true, false, arith}
-use Rattle.std.specs.Prelude.{Option, Some, ◌==◌, ◌&&◌, if◌then◌else◌, slice_get}
+use Rattle.std.specs.Prelude.{Option, Some, Result, Ok, Err, IfOk, OnErr, ◌==◌, ◌&&◌, if◌then◌else◌, slice_get, replicate}
 use Rattle.std.specs.List.{AllByRecursion}
 use Rattle.tm_types.specs.declared.dbd.Dbd.{Dbd}
 use Rattle.tm_types.specs.declared.function.Function.{Function}
@@ -31,6 +31,12 @@ use Rattle.message_run.specs.Ahead.{IsAhead}
 use Rattle.message_run.specs.Telling.{message_told, reach_told, need_told, next_told, TellsNext, TellsOn, IsUntoldOn}
 use Rattle.message_run.proofs.Steps.{trial_needs}
 use Rattle.message_run.proofs.Calls.{all_at}
+use Rattle.message_run.proofs.Standing.{all_nowhere}
+use Rattle.model_dli.specs.Data.{nowhere}
+use Rattle.message_run.specs.RunState.{AreStanding}
+use Rattle.message_run.specs.Answering.{IfAnswered, IsRolled, RollsBack}
+use Rattle.message_run.specs.declared.answer.CallEnd.{CallEnd}
+use Rattle.message_run.specs.declared.answer.CallEnd.TheVariants.{Answered, Abended, Waits}
 
 append_nil : (xs : List ℕ) → xs ++ [] ≡ xs
 append_nil [] = refl
@@ -127,3 +133,15 @@ module _ (unit room : ℕ) (job : Job) (region : ℕ) (databases : DatabasesStat
     pub untold_on : (error : Untold) → IsUntold (reach_told unit region databases (reached job.system.databases job.pcbs call.pcb) (data_of region databases run.positions) call) room error
         → IsUntoldOn unit room job region databases run error
     untold_on error u given ahead = subst (λ rs. IsUntold rs room error) (sym (call_is given ahead)) u
+
+-- behind a ROLB the PCBs stand
+pub rolled_stands : (region : ℕ) (before after : DatabasesState) (dbds : List Dbd) (pcbs : List Pcb) (old new : RunState) {E : Type 0} (r : Result CallEnd E) → IfOk r (IsRolled region before after old new)
+    → OnErr r (new ≡ old) → AreStanding dbds pcbs old.positions → AreStanding dbds pcbs new.positions
+rolled_stands region before after dbds pcbs old new (Err e) rolled err standing = subst (λ (x : RunState). AreStanding dbds pcbs x.positions) (sym err) standing
+rolled_stands region before after dbds pcbs old new (Ok end) rolled err standing = by end rolled.rolls
+  where
+    by : (end : CallEnd) → IfAnswered (RollsBack old new) end → AreStanding dbds pcbs new.positions
+    by (Answered status) rolls =
+        all_nowhere dbds pcbs new.positions (ap (λ (x : RunState). x.positions) rolls.state ∙ ap (λ (n : ℕ). replicate n nowhere) standing.count)
+    by (Abended abend) rolls = absurd rolls
+    by (Waits resource other) rolls = absurd rolls
