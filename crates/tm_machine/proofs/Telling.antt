@@ -97,6 +97,14 @@ quiet_tells old new region unit room turned told is quiet =
     (step_none old.system old.moment unit (Turn region)
     (turn_ends old.system old.moment region _ (slot_at old.moment region) (ap ends_work (sym is.answer) ∙ quiet)))
 
+-- also where it began behind a step that left all as it was
+pub later_tells : (old middle new : PartsState) (region unit room : ℕ) (turned : Turned) (told : List ℕ) → middle ≡ old → IsTurned middle new region turned → ends_work turned ≡ false
+    → Tells old.system old.moment unit room (Turn region) told told
+later_tells old middle new region unit room turned told same is quiet =
+    subst (λ (s : PartsState). Tells s.system s.moment unit room (Turn region) told told) same (quiet_tells middle new region unit room turned told is quiet)
+
+pub ruleset quiet_rules = (quiet_tells, later_tells)
+
 -- ---- inputs
 refusal_none : (terminal : List ℕ) (number : ℕ) (kept : KeptInput) (answer : Result Taken InputRefused) → ((id : ℕ) → answer ≡ Ok (NewInput id) → ⊥) → accepts terminal number kept answer ≡ None
 refusal_none terminal number kept (Ok (NewInput id)) other = absurd (other id refl)

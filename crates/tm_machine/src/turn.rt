@@ -44,6 +44,7 @@ impl Parts {
     }
 
     /// The same by the region's own steps.
+    #[tactic(auto, using(crate::proofs::Telling::quiet_rules))]
     fn step(
         &mut self,
         region: u32,

@@ -1,7 +1,7 @@
-use Rattle.std.proofs.Common.{◌≡◌, ◌-◌, sym, ap, ◌∙◌}
+use Rattle.std.proofs.Common.{rules, ◌≡◌, ◌-◌, sym, ap, ◌∙◌}
 use Rattle.std.specs.Prelude.{Some, slice_get}
 use Rattle.tm_machine.proofs.Raising.{follow_one}
-use Rattle.lasting_state.proofs.Told.{where_full, err_where}
+use Rattle.lasting_state.proofs.Told.{err_where}
 use Rattle.tm_machine.proofs.Finished.{abended_tells, abended_longer, found_here, id_there, works_there, follows_abended, parts_abended, abended_turned}
 use Rattle.tm_machine.proofs.parts.Parts.abend.Goals as goal
 
@@ -61,4 +61,4 @@ returns-in_err-discard-clause-full c =
     ap (λ rs. slice_get rs (c.args.region - 1)) (sym c.deref.ensures.value) ∙ c.busy_at-busy.ensures in
     let region = (rw (← c.self.view_is) at c.requires.region) in
     let ends = (rw (← c.self.view_is) at c.requires.ends) in
-    rw (sym c.self.view_is) (where_full c.in_err-discard.field-0 (abended_longer c.self.inside.system c.self.inside.tables c.self.inside.codes c.self.inside.regions.items c.args.region c.self.invariant c.busy_at-busy.result.now e region c.args.unit c.args.room c.args.abend ends) c.in_err-discard.ensures.full)
+    rw (sym c.self.view_is) (err_where c.from_residual.result (abended_longer c.self.inside.system c.self.inside.tables c.self.inside.codes c.self.inside.regions.items c.args.region c.self.invariant c.busy_at-busy.result.now e region c.args.unit c.args.room c.args.abend ends) (search rules))

@@ -1,4 +1,4 @@
-use Rattle.std.proofs.Common.{◌≡◌, ◌+◌, ◌-◌, ◌∷◌, refl, sym, ap, ◌∙◌}
+use Rattle.std.proofs.Common.{rules, ◌≡◌, ◌+◌, ◌-◌, ◌∷◌, refl, sym, ap, ◌∙◌}
 use Rattle.std.specs.Prelude.{Some, None, slice_get, slice_set}
 use Rattle.std.specs.List.{count_by}
 use Rattle.std.specs.Option.{is_some}
@@ -7,7 +7,7 @@ use Rattle.model_machine.specs.Flags.{all_followed}
 use Rattle.tm_machine.specs.Ends.{destinations}
 use Rattle.tm_machine.proofs.Raising.{follow_is, followed_settled}
 use Rattle.model_machine.specs.Trial.WorkEnd.{Syncs}
-use Rattle.lasting_state.proofs.Told.{where_full, err_where}
+use Rattle.lasting_state.proofs.Told.{err_where}
 use Rattle.tm_machine.proofs.Telling.{short_pad}
 use Rattle.tm_machine.proofs.Finished.{ends_step, completed_tells, completed_longer, id_there, works_there, follows_completed, parts_completed, sync_is, none_turned, follows_next, parts_next, next_turned}
 use Rattle.tm_machine.proofs.parts.Parts.go_on.Goals as goal
@@ -98,4 +98,4 @@ returns-in_err-complete-clause-full c =
     ap (λ rs. slice_get rs (c.args.region - 1)) (sym c.deref.ensures.value) ∙ c.busy_at-busy.ensures in
     let region = (rw (← c.self.view_is) at c.requires.region) in
     let ends = (rw (← c.self.view_is) at c.requires.ends) in
-    rw (sym c.self.view_is) (where_full c.in_err-complete.field-0 (completed_longer c.self.inside.system c.self.inside.tables c.self.inside.codes c.self.inside.regions.items c.args.region c.self.invariant c.busy_at-busy.result.now e region c.args.unit c.args.room c.in-Ok.outputs.items c.in-Ok.ensures c.in-Ok-pad_by.pad c.in-Ok-pad_by.ensures.value (ends_step c.self.inside.system c.self.inside.tables c.self.inside.codes c.self.inside.regions.items c.args.region c.self.invariant c.busy_at-busy.result.now e region Syncs ends)) c.in_err-complete.ensures.full)
+    rw (sym c.self.view_is) (err_where c.from_residual.result (completed_longer c.self.inside.system c.self.inside.tables c.self.inside.codes c.self.inside.regions.items c.args.region c.self.invariant c.busy_at-busy.result.now e region c.args.unit c.args.room c.in-Ok.outputs.items c.in-Ok.ensures c.in-Ok-pad_by.pad c.in-Ok-pad_by.ensures.value (ends_step c.self.inside.system c.self.inside.tables c.self.inside.codes c.self.inside.regions.items c.args.region c.self.invariant c.busy_at-busy.result.now e region Syncs ends)) (search rules))
