@@ -11,6 +11,8 @@ use Rattle.conversation.specs.Refusals.{input_answer as conversation_answer}
 use Rattle.model_conversation.specs.declared.conversation.Conversation.{Conversation}
 use Rattle.model_system.specs.Codes.{code_at}
 use Rattle.model_system.specs.declared.code.Code.{Code}
+use Rattle.model_system.specs.declared.code.SegmentKind.{SegmentKind}
+use Rattle.model_system.specs.declared.code.SegmentKind.TheVariants.{Multiple, Single}
 use Rattle.model_system.specs.declared.code_state.CodeState.{CodeState}
 use Rattle.model_system.specs.System.{System}
 use Rattle.system_types.proofs.Indexed.{found_at}

@@ -168,7 +168,7 @@ module _ (system : System) (tables : TablesState) (states : List CodeState) (reg
       let back : region - 1 + 1 ≡ region = omega (arith, there.0) in
       subst (λ n. IsUnit job_now given_here n tables.databases busy.unit) back (parts.at_work (region - 1) busy e).work.unit
 
-  tried : IsTried job_now given_here region tables.databases busy.unit
+  pub tried : IsTried job_now given_here region tables.databases busy.unit
   tried = unit_trial job_now given_here region tables.databases busy.unit unit_here
 
   abbrev work_now : AtWork

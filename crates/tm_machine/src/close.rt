@@ -67,7 +67,7 @@ pub fn complete(
     ensures dbds { dbds_of tables.new.databases ≡ dbds_of tables.old.databases }
     ensures same { OnErr result (regions.new ≡ regions.old) }
     ensures err { OnErr result (tables.new ≡ tables.old) }
-    ensures above { IsNewId tables.old.next_id tables.old.queues.queued }
+    ensures above { OnOk result (IsNewId tables.old.next_id tables.old.queues.queued) }
 {
     match tables.complete(alloc, region, id, outputs, pad, unit, room, told) {
         Ok(()) => {
@@ -106,7 +106,7 @@ pub fn discard(
     ensures dbds { dbds_of tables.new.databases ≡ dbds_of tables.old.databases }
     ensures same { OnErr result (regions.new ≡ regions.old) }
     ensures err { OnErr result (tables.new ≡ tables.old) }
-    ensures above { IsNewId tables.old.next_id tables.old.queues.queued }
+    ensures above { OnOk result (IsNewId tables.old.next_id tables.old.queues.queued) }
 {
     match tables.discard(alloc, region, id, abend, unit, room, told) {
         Ok(()) => {
