@@ -3,3 +3,4 @@ pub mod Abended
 pub mod Sent
 pub mod Finished
 mod Fresh
+pub mod Told

@@ -11,6 +11,7 @@ use Rattle.model_queues.specs.Queue.{QueuesState, with_message, without, IsNewId
 use Rattle.model_queues.proofs.TakenBack.{taken_back}
 use Rattle.model_queues.specs.Outputs.{is_of, replies_at, with_terminal, with_reply, without_last}
 use Rattle.model_message.specs.declared.ended_message.EndedMessage.{EndedMessage}
+use Rattle.step_telling.proofs.Counted.{there_still}
 use Rattle.lasting_state.specs.Sending.{switches, switched_message, switched_messages, with_messages, with_replies, IsSent}
 
 -- ---- which terminals are there
@@ -24,19 +25,6 @@ with_terminal_none name change (t ∷ ts) e = by (is_of name t) e (λ h. with_te
         → cond b (change t ∷ ts) (t ∷ with_terminal name change ts) ≡ t ∷ ts
     by true h rest = cc
     by false h rest = ap (λ us. t ∷ us) (rest h)
-
--- the same ones are there when one has a reply more
-pub there_still : (other name : List ℕ) (segments : List (List ℕ)) (outputs : List TerminalReplies)
-    → is_some (replies_at other (with_terminal name (with_reply segments) outputs)) ≡ is_some (replies_at other outputs)
-there_still other name segments [] = refl
-there_still other name segments (t ∷ ts) = by (is_of name t) (is_of other t) refl (there_still other name segments ts)
-  where
-    by : (b c : Bool) → is_of other t ≡ c → is_some (replies_at other (with_terminal name (with_reply segments) ts)) ≡ is_some (replies_at other ts)
-        → is_some (replies_at other (cond b (with_reply segments t ∷ ts) (t ∷ with_terminal name (with_reply segments) ts))) ≡ is_some (cond c (Some t) (replies_at other ts))
-    by true true q rest = ap (λ c. is_some (cond c (Some (with_reply segments t)) (replies_at other ts))) q
-    by true false q rest = ap (λ c. is_some (cond c (Some (with_reply segments t)) (replies_at other ts))) q
-    by false true q rest = ap (λ c. is_some (cond c (Some t) (replies_at other (with_terminal name (with_reply segments) ts)))) q
-    by false false q rest = ap (λ c. is_some (cond c (Some t) (replies_at other (with_terminal name (with_reply segments) ts)))) q ∙ rest
 
 pub switches_still : (name : List ℕ) (segments : List (List ℕ)) (terminals : List TerminalReplies) (outputs : List EndedMessage)
     → switches (with_terminal name (with_reply segments) terminals) outputs ≡ switches terminals outputs

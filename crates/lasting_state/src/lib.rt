@@ -7,6 +7,7 @@
 
 pub use conversing::{KeptInput, kept_first};
 pub use limits::COUNT_LIMIT;
+pub use log_records::Untold;
 pub use shown::Shown;
 pub use tables::{Enqueued, Tables, empty_lasting};
 
@@ -18,4 +19,5 @@ mod sending;
 mod settings;
 mod shown;
 mod tables;
+mod telling;
 mod terminals;

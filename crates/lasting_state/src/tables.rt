@@ -45,18 +45,18 @@ pub enum Enqueued {
 #[derive(Debug, Drop)]
 pub struct Tables {
     /// The databases, with what each region has changed, holds and waits for.
-    databases: Databases,
+    pub(crate) databases: Databases,
     /// The messages, each with the region that works on it.
-    queues: Queues,
-    next_id: u64,
+    pub(crate) queues: Queues,
+    pub(crate) next_id: u64,
     /// The terminals, in the order of the definition.
-    terminals: Vec<TerminalState>,
+    pub(crate) terminals: Vec<TerminalState>,
     /// The replies of each terminal.
-    outputs: Outputs,
+    pub(crate) outputs: Outputs,
     /// The conversation of each terminal, if it has one.
-    conversations: Conversations,
+    pub(crate) conversations: Conversations,
     /// How many lasting steps were done.
-    steps: u64,
+    pub(crate) steps: u64,
 }
 
 impl Model for Tables {
@@ -146,10 +146,8 @@ impl Tables {
         self.steps
     }
 
-    /// Accepts an input of the terminal at this place, as it is to be kept, if the queues have the room
-    /// beside so many busy regions; the conversation that it begins, if it begins one, stands at the terminal
-    /// then. Want of memory changes nothing; it is answered too where a count would pass its limit.
-    pub fn enqueue(
+    /// Keeps an input as `enqueue`, and tells nothing.
+    pub(crate) fn keep(
         &mut self,
         place: usize,
         terminal: &Name,
@@ -213,11 +211,8 @@ impl Tables {
         self.queues.give_back(id);
     }
 
-    /// Completes the message of this id in a region: it goes, its outputs are sent in their order, this
-    /// becomes of the pad of its origin, what the region has changed in the databases stays, and it holds
-    /// nothing any more. Want of memory changes nothing; it is answered too where a count would pass its
-    /// limit.
-    pub fn complete(
+    /// Completes a message as `complete`, and tells nothing.
+    pub(crate) fn commit(
         &mut self,
         region: u32,
         id: u64,
@@ -240,10 +235,8 @@ impl Tables {
         Ok(())
     }
 
-    /// Discards the message of this id, the work on which ended abnormally in a region: it goes, its origin
-    /// is told so, its conversation ends if it belongs to one, what the region has changed in the databases
-    /// is taken back, and it holds nothing any more. Want of memory changes nothing; it is answered too where a count would pass its limit.
-    pub fn discard(
+    /// Discards a message as `discard`, and tells nothing.
+    pub(crate) fn back_out(
         &mut self,
         alloc: Global,
         region: u32,

@@ -27,6 +27,11 @@ use Rattle.program_rows.specs.Isolation.{requests_of_call}
 use Rattle.program_rows.specs.Answering.{IsAnswer, region_after, told_blocked}
 use Rattle.program_rows.specs.declared.answer.Answered.{Answered as DataAnswered}
 use Rattle.system_types.specs.Valid.{IsDatabase}
+use Rattle.log_records.specs.declared.record.Record.{Record}
+use Rattle.log_records.specs.declared.untold.Untold.{Untold}
+use Rattle.change_records.specs.Told.{ChangesTold}
+use Rattle.program_rows.specs.Telling.{call_told, Tells, IsUntold}
+use Rattle.message_run.specs.Telling.{reach_told, TellsNext}
 use Rattle.message_run.proofs.Calls.{all_at}
 use Rattle.message_run.proofs.Regions.{set_region}
 use Rattle.message_run.proofs.Standing.{one_stands}
@@ -60,6 +65,9 @@ numbered_valid databases lent place dbd same valid some at = by (slice_get datab
 
 pub few_types : (dbd : Dbd) → IsDatabase dbd → length dbd.types ≤ 255
 few_types dbd valid = omega (arith, valid.few_types)
+
+pub one_sector : (dbd : Dbd) → IsDatabase dbd → dbd.sectors ≤ 1
+one_sector dbd valid = omega (arith, valid.sectors)
 
 short_type : (type : SegType) → type.bytes ≤ 1900 → type.bytes ≤ 1996
 short_type type few = omega arith
@@ -155,6 +163,22 @@ module _ (system : System) (region : ℕ) (before : DatabasesState) (run : RunSt
         told = answer.status ∙ sym (ap (λ (o : Outcome). o.answer.status) outcome_is);
         goes_on = ap (λ (o : Outcome). o.abend) outcome_is ∙ goes;
       }
+
+  -- what it tells
+  tells_are : (unit : ℕ) → call_told unit region number dbd made at before ≡ reach_told unit region before reaches (data_of region before run.positions) call
+  tells_are unit =
+      sym (ap (λ (r : Reached). reach_told unit region before r (data_of region before run.positions) call) reaches_is
+      ∙ ap (λ (p : Position). call_told unit region number dbd made p before) at_is)
+
+  pub tells_so : (unit room : ℕ) (after : DatabasesState) (old now : List ℕ) → Tells (call_told unit region number dbd made at before) room old now
+      → ChangesTold unit before.stores after.stores (call_told unit region number dbd made at before)
+      → TellsNext unit room before after old now (reach_told unit region before reaches (data_of region before run.positions) call)
+  tells_so unit room after old now tells changes =
+      subst (λ (rs : List Record). TellsNext unit room before after old now rs) (tells_are unit) (record { tells = tells; changes = changes })
+
+  pub untold_so : (unit room : ℕ) (error : Untold) → IsUntold (call_told unit region number dbd made at before) room error
+      → IsUntold (reach_told unit region before reaches (data_of region before run.positions) call) room error
+  untold_so unit room error u = subst (λ (rs : List Record). IsUntold rs room error) (tells_are unit) u
 
 -- the PCB of an answered call stands at a position of its database, and the others as before
 pub told_stand : (databases : List Dbd) (pcbs : List Pcb) (old : RunState) (pcb number options : ℕ) (dbd : Dbd) (given : DataAnswered)

@@ -302,7 +302,7 @@ module _ (job : Job) (given : Given) (region : ℕ) (databases : DatabasesState)
     needed : need_at job.lines job.transaction.statement_limit run.machine.script ≡ need
     needed = ap (λ n. need_at job.lines n run.machine.script) (sym ahead.limit) ∙ sym needs
 
-    trial_needs : trial_need job ahead.trial ≡ need
+    pub trial_needs : trial_need job ahead.trial ≡ need
     trial_needs = ap (λ s. need_of (step job.lines job.transaction.statement_limit s)) ahead.script ∙ needed
 
     -- the trial stops where the script needs no call

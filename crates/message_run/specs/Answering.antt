@@ -7,13 +7,13 @@ use Rattle.model_message.specs.Work.{MessageWork}
 use Rattle.model_message.specs.Calls.{unique_answer, reset_work}
 use Rattle.model_dli.specs.Data.{nowhere}
 use Rattle.model_enqueue.specs.declared.request.Request.{Request}
-use Rattle.model_enqueue.specs.Ask.{after_asks, first_blocked}
+use Rattle.model_enqueue.specs.Ask.{after_asks, first_blocked, waits_for_nothing}
 use Rattle.model_machine.specs.Trial.{Reached, Outcome, outcome_at}
 use Rattle.model_machine.specs.Requests.{requests_at}
 use Rattle.script_run.specs.Running.{Running}
 use Rattle.tm_types.specs.declared.resource.Resource.{Resource}
 use Rattle.tm_types.specs.declared.status.Status.{Status}
-use Rattle.program_rows.specs.Answering.{told_blocked}
+use Rattle.program_rows.specs.Answering.{told_blocked, regions_backed}
 use Rattle.program_rows.specs.State.{DatabasesState, committed_rows, data_of}
 use Rattle.program_rows.specs.declared.answer.Answered.{Answered as DataAnswered}
 use Rattle.message_run.specs.RunState.{RunState}
@@ -53,6 +53,12 @@ pub record Answers (region : ℕ) (outcome : Outcome) (after : DatabasesState) (
   pub told : status ≡ outcome.answer.status
   pub goes_on : outcome.abend ≡ None
 
+-- it was answered, and this is so of the status
+abbrev pub IfAnswered : (Status → Type 0) → CallEnd → Type 0
+IfAnswered P (Answered status) = P status
+IfAnswered P (Abended abend) = ⊥
+IfAnswered P (Waits resource by) = ⊥
+
 -- A call was answered; or it leads to an abend, where nothing of what it needs is blocked and nothing changes;
 -- or what it asks for is blocked, and it wasn't made. The databases before and after it come first.
 abbrev pub ComesTo : ℕ → List Request → Outcome → DatabasesState → DatabasesState → RunState → RunState → CallEnd → Type 0
@@ -83,6 +89,12 @@ pub record RollsBack (old new : RunState) (status : Status) : Type 0 where
     work = reset_work old.work;
     positions = replicate (length old.positions) nowhere;
   }
+
+-- What a ROLB leaves of the databases too: what its region has changed is taken back, and it waits for nothing.
+pub record IsRolled (region : ℕ) (before after : DatabasesState) (old new : RunState) (end : CallEnd) : Type 0 where
+  pub rolls : IfAnswered (RollsBack old new) end
+  pub regions : after.regions ≡ regions_backed region before
+  pub table : after.table ≡ waits_for_nothing region before.table
 
 -- the script was answered with what a call on a database gave, and the PCB stands where it then does
 abbrev pub told_run : ℕ → DataAnswered → RunState → RunState

@@ -1,3 +1,4 @@
 pub mod RunState
 pub mod Answering
 pub mod Ahead
+pub mod Telling

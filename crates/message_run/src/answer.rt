@@ -1,5 +1,6 @@
 //! How the calls of a script are answered.
-ghost use Rattle.std.specs.Prelude.{◌≡◌, ◌≤◌, ◌-◌, false, Some, IfOk, IfSome, IsOk, IsSome, OnOk, OnErr, length, replicate, slice_get};
+ghost use Rattle.change_records.specs.Told.{ChangesTold};
+ghost use Rattle.std.specs.Prelude.{◌≡◌, ◌≤◌, ◌-◌, ℕ, false, Some, IfOk, IfErr, IfSome, IsOk, IsSome, OnOk, OnErr, length, replicate, slice_get};
 ghost use Rattle.std.specs.Option.{option_copied};
 ghost use Rattle.tm_types.specs.Segment.{IsSegmentText};
 ghost use Rattle.model_system.specs.declared.pcb.Pcb.TheVariants.{Database};
@@ -11,13 +12,17 @@ ghost use Rattle.model_machine.specs.Trial.{reached, reached_by};
 ghost use Rattle.model_machine.specs.Trial.Reached.{Messages};
 ghost use Rattle.model_enqueue.specs.Ask.{waits_for_nothing};
 ghost use Rattle.program_rows.specs.Answering.{regions_backed};
-ghost use Rattle.program_rows.specs.State.{dbds_of, IsRegionOf};
+ghost use Rattle.program_rows.specs.State.{data_of, dbds_of, IsRegionOf};
 ghost use Rattle.message_run.specs.Ahead.{StayOthers};
-ghost use Rattle.message_run.specs.Answering.{ComesTo, Serves, RollsBack, StaysUnlessAnswered, answered_machine, told_run, outcome_of, requests_by_run};
+ghost use Rattle.message_run.specs.Telling.{reach_told, TellsNext};
+ghost use Rattle.program_rows.specs.Telling.{back_told, IsUntold};
+ghost use Rattle.std.specs.List.{AllByRecursion};
+ghost use Rattle.message_run.specs.Answering.{ComesTo, IsRolled, Serves, RollsBack, StaysUnlessAnswered, answered_machine, told_run, outcome_of, requests_by_run};
 ghost use Rattle.message_run.specs.declared.answer.CallEnd.TheVariants.{Answered as AnsweredWith};
 ghost use Rattle.message_run.specs.RunState.{AreStanding, IsCallBy, IsCallOf};
 
 use crate::run::Run;
+use log_records::Untold;
 use model_dli::DbCall;
 use model_message::abends::{ROLLED_BACK, WRONG_PAD};
 use model_script::CallText;
@@ -39,8 +44,8 @@ pub enum CallEnd {
 }
 
 impl Run {
-    /// Does a call of the script in this region, and answers it, unless what it needs is blocked. Want of
-    /// memory changes nothing.
+    /// Does a call of the script in this region, and answers it, unless what it needs is blocked. What it changes
+    /// in the databases is told of. An Err changes nothing.
     pub(crate) fn answer(
         &mut self,
         system: &System,
@@ -48,7 +53,10 @@ impl Run {
         region: u32,
         databases: &mut Databases,
         call: CallText,
-    ) -> Result<CallEnd, Memory>
+        unit: u64,
+        room: usize,
+        told: &mut Vec<u8>,
+    ) -> Result<CallEnd, Untold>
         requires waits { IsSome self.old.machine.waiting }
         requires text { IsSegmentText call.area }
         requires region { IsRegionOf databases.old region }
@@ -61,18 +69,23 @@ impl Run {
         ensures others { StayOthers region databases.old databases.new }
         ensures err { OnErr result (self.new ≡ self.old) }
         ensures kept { OnErr result (databases.new ≡ databases.old) }
+        ensures tells { OnOk result (TellsNext unit room databases.old databases.new told.old.items told.new.items (reach_told unit region databases.old (reached system.now.databases pcbs.now call.pcb) (data_of region databases.old self.old.positions) call)) }
+        ensures untold { OnErr result (told.new.items ≡ told.old.items) }
+        ensures full { IfErr result (IsUntold (reach_told unit region databases.old (reached system.now.databases pcbs.now call.pcb) (data_of region databases.old self.old.positions) call) room) }
     {
         if call.pcb == 0 {
-            return self.answer_message(system, pcbs, region, databases, &call);
+            return self.answer_message(system, pcbs, region, databases, &call, unit, room, told);
         }
         match pcbs.numbered(call.pcb) {
-            Some(Pcb::Database(number, options)) => {
-                self.answer_database(system, pcbs, region, databases, *number, *options, call)
-            }
-            Some(Pcb::Destination(_)) => self.answer_message(
-                system, pcbs, region, databases, &call,
+            Some(Pcb::Database(number, options)) => self.answer_database(
+                system, pcbs, region, databases, *number, *options, call, unit, room, told,
             ),
-            Some(Pcb::Modifiable) => self.answer_message(system, pcbs, region, databases, &call),
+            Some(Pcb::Destination(_)) => self.answer_message(
+                system, pcbs, region, databases, &call, unit, room, told,
+            ),
+            Some(Pcb::Modifiable) => self.answer_message(
+                system, pcbs, region, databases, &call, unit, room, told,
+            ),
             None => unreachable!(),
         }
     }
@@ -85,10 +98,14 @@ impl Run {
         region: u32,
         databases: &mut Databases,
         call: &CallText,
-    ) -> Result<CallEnd, Memory>
+        unit: u64,
+        room: usize,
+        told: &mut Vec<u8>,
+    ) -> Result<CallEnd, Untold>
         requires waits { IsSome self.old.machine.waiting }
         requires text { IsSegmentText call.now.area }
         requires region { IsRegionOf databases.old region }
+        requires databases { dbds_of databases.old ≡ system.now.databases }
         requires standing { AreStanding system.now.databases _pcbs.now self.old.positions }
         ensures ok { IfOk result (ComesTo region (requests_by_run Messages region databases.old self.old call.now) (outcome_of system.now Messages region databases.old self.old call.now) databases.old databases.new self.old self.new) }
         ensures standing { AreStanding system.now.databases _pcbs.now self.new.positions }
@@ -96,6 +113,9 @@ impl Run {
         ensures others { StayOthers region databases.old databases.new }
         ensures err { OnErr result (self.new ≡ self.old) }
         ensures kept { OnErr result (databases.new ≡ databases.old) }
+        ensures tells { OnOk result (TellsNext unit room databases.old databases.new told.old.items told.new.items (reach_told unit region databases.old (Messages) (data_of region databases.old self.old.positions) call.now)) }
+        ensures untold { OnErr result (told.new.items ≡ told.old.items) }
+        ensures full { IfErr result (IsUntold (reach_told unit region databases.old (Messages) (data_of region databases.old self.old.positions) call.now) room) }
     {
         let (pcb, area) = (call.pcb, call.area.as_slice());
         match call.function {
@@ -109,11 +129,48 @@ impl Run {
             }
             Function::PURG => Ok(answered(self.purge(pcb)?, region, databases)),
             Function::CHNG => Ok(answered(self.change(system, pcb, area)?, region, databases)),
-            Function::ROLB => Ok(rolled_back(self.roll_back()?, region, databases)),
+            Function::ROLB => {
+                let _databases = system.databases();
+                self.answer_rolb(region, databases, unit, room, told)
+            }
             Function::ROLL => Ok(CallEnd::Abended(AbendCode {
                 number: ROLLED_BACK,
             })),
             _ => Ok(answered(self.tell(Status::AM)?, region, databases)),
+        }
+    }
+
+    /// Does a ROLB, which tells of each slot that the region has touched. An Err changes nothing.
+    fn answer_rolb(
+        &mut self,
+        region: u32,
+        databases: &mut Databases,
+        unit: u64,
+        room: usize,
+        told: &mut Vec<u8>,
+    ) -> Result<CallEnd, Untold>
+        requires waits { IsSome self.old.machine.waiting }
+        requires region { IsRegionOf databases.old region }
+        requires sectors { AllByRecursion (λ s. s.dbd.sectors ≤ 1) databases.old.stores }
+        ensures ok { IfOk result (IsRolled region databases.old databases.new self.old self.new) }
+        ensures tells { OnOk result (TellsNext unit room databases.old databases.new told.old.items told.new.items (back_told unit region databases.old)) }
+        ensures dbds { dbds_of databases.new ≡ dbds_of databases.old }
+        ensures committed { databases.new.committed ≡ databases.old.committed }
+        ensures err { OnErr result (self.new ≡ self.old) }
+        ensures kept { OnErr result (databases.new ≡ databases.old) }
+        ensures untold { OnErr result (told.new.items ≡ told.old.items) }
+        ensures full { IfErr result (IsUntold (back_told unit region databases.old) room) }
+    {
+        let length = told.len();
+        match databases.tell_back(region, unit, room, told) {
+            Ok(()) => match self.roll_back() {
+                Ok(status) => Ok(rolled_back(status, region, databases)),
+                Err(_) => {
+                    told.truncate(length);
+                    Err(Untold::Memory)
+                }
+            },
+            Err(error) => Err(error),
         }
     }
 
@@ -197,7 +254,10 @@ impl Run {
         number: u8,
         options: u8,
         call: CallText,
-    ) -> Result<CallEnd, Memory>
+        unit: u64,
+        room: usize,
+        told: &mut Vec<u8>,
+    ) -> Result<CallEnd, Untold>
         requires waits { IsSome self.old.machine.waiting }
         requires text { IsSegmentText call.area }
         requires region { IsRegionOf databases.old region }
@@ -212,6 +272,9 @@ impl Run {
         ensures others { StayOthers region databases.old databases.new }
         ensures err { OnErr result (self.new ≡ self.old) }
         ensures kept { OnErr result (databases.new ≡ databases.old) }
+        ensures tells { OnOk result (TellsNext unit room databases.old databases.new told.old.items told.new.items (reach_told unit region databases.old (reached_by system.now.databases (Some (Database number options))) (data_of region databases.old self.old.positions) call)) }
+        ensures untold { OnErr result (told.new.items ≡ told.old.items) }
+        ensures full { IfErr result (IsUntold (reach_told unit region databases.old (reached_by system.now.databases (Some (Database number options))) (data_of region databases.old self.old.positions) call) room) }
     {
         let dbd = database_numbered(system, number);
         let CallText {
@@ -227,7 +290,7 @@ impl Run {
             ssas,
         };
         let at = position_of(&self.positions, pcb);
-        match databases.call(region, dbd, number, at, &call) {
+        match databases.call(region, dbd, number, at, &call, unit, room, told) {
             Ok(DataAnswer::Abend(abend)) => Ok(CallEnd::Abended(abend)),
             Ok(DataAnswer::Blocked(blocked)) => Ok(CallEnd::Waits(blocked.resource, blocked.by)),
             Ok(DataAnswer::Answered(answered)) => Ok(self.tell_answer(pcb, answered)),
@@ -275,6 +338,7 @@ fn rolled_back(status: Status, region: u32, databases: &mut Databases) -> CallEn
     ensures committed { databases.new.committed ≡ databases.old.committed }
     ensures dbds { dbds_of databases.new ≡ dbds_of databases.old }
     ensures table { databases.new.table ≡ waits_for_nothing region databases.old.table }
+    ensures changes { (unit : ℕ) → ChangesTold unit databases.old.stores databases.new.stores (back_told unit region databases.old) }
 {
     databases.back_out(region);
     answered(status, region, databases)

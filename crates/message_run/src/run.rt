@@ -1,5 +1,5 @@
 //! The work on a message, from call to call.
-ghost use Rattle.std.specs.Prelude.{◌≡◌, IfOk, IfSome, OnErr, length, replicate};
+ghost use Rattle.std.specs.Prelude.{◌≡◌, ◌≤◌, IfOk, IfErr, IfSome, OnOk, OnErr, length, replicate};
 ghost use Rattle.std.specs.Option.{option_copied};
 ghost use Rattle.model_dli.specs.Data.{nowhere};
 ghost use Rattle.model_machine.specs.Trial.{is_sync};
@@ -11,9 +11,11 @@ ghost use Rattle.system_types.specs.Jobs.{lent_job};
 ghost use Rattle.system_types.specs.Valid.{IsServable};
 ghost use Rattle.message_run.specs.RunState.{AreStanding};
 ghost use Rattle.message_run.specs.Ahead.{given_with, IsStart, GoesOn, StaysAhead, StaysUnlessCalled, StayOthers};
+ghost use Rattle.message_run.specs.Telling.{TellsOn, IsUntoldOn};
 
 use crate::answer::CallEnd;
 use io_pcb::{LentPad, Work};
+use log_records::Untold;
 use model_message::EndedMessage;
 use model_script::{CallText, Need};
 use program_rows::{Databases, Position};
@@ -101,14 +103,20 @@ impl Run {
 
     /// Lets the script go on to its next call, and answers that; or tells that the work has ended, or that
     /// what the call needs is blocked. Then the call isn't made, and the next turn comes to it again.
-    /// After want of memory the work is as far as before.
+    /// After an Err the work is as far as before.
+    ///
+    /// What the call changes in the databases is told of by the unit's number in the log; where that is longer than `room`, the
+    /// answer is `Full`.
     pub fn advance(
         &mut self,
         system: &System,
         job: &Job<'_>,
         region: u32,
         databases: &mut Databases,
-    ) -> Result<Advanced, Memory>
+        unit: u64,
+        room: usize,
+        told: &mut Vec<u8>,
+    ) -> Result<Advanced, Untold>
         requires region { IsRegionOf databases.old region }
         requires servable { IsServable system.now.databases job.now.pcbs.now job.now.program.now }
         requires databases { dbds_of databases.old ≡ system.now.databases }
@@ -119,13 +127,16 @@ impl Run {
         ensures calls { OnErr result (self.new.calls ≡ self.old.calls) }
         ensures kept { OnErr result (databases.new ≡ databases.old) }
         ensures ahead { OnErr result (StaysAhead (lent_job system.now job.now) region databases.old self.old self.new) }
+        ensures tells { OnOk result (TellsOn unit room (lent_job system.now job.now) region databases.old databases.new self.old told.old.items told.new.items) }
+        ensures untold { OnErr result (told.new.items ≡ told.old.items) }
+        ensures full { IfErr result (IsUntoldOn unit room (lent_job system.now job.now) region databases.old self.old) }
     {
         if self.calls == u64::MAX {
-            return Err(Memory);
+            return Err(Untold::Memory);
         }
         let need = match self.machine.next(job.program) {
             Ok(need) => need,
-            Err(error) => return Err(error),
+            Err(_) => return Err(Untold::Memory),
         };
         match need {
             Need::Ended => Ok(Advanced::Ended(Ending::End)),
@@ -135,7 +146,7 @@ impl Run {
                     return Ok(Advanced::Ended(Ending::Sync));
                 }
                 let (function, pcb) = (call.function, call.pcb);
-                match self.answer(system, job.pcbs, region, databases, call) {
+                match self.answer(system, job.pcbs, region, databases, call, unit, room, told) {
                     Ok(CallEnd::Answered(status)) => {
                         self.calls += 1;
                         Ok(Advanced::Called(function, pcb, status))

@@ -22,7 +22,7 @@ use Rattle.model_system.specs.declared.code.Code.{Code}
 use Rattle.model_system.specs.Codes.{code_at}
 use Rattle.model_system.specs.System.{System}
 use Rattle.model_image.specs.Replay.{done, all_done, pad_size, kept_in_record, accepts, acknowledges, discards, syncs, with_step, completed_id, completed_message}
-use Rattle.model_image.specs.Steps.{output_record, output_records, completion_records}
+use Rattle.step_records.specs.Records.{output_record, output_records, completion_records}
 
 same : (n : ℕ) → (n == n) ≡ true
 same n = eq-eqb n n refl

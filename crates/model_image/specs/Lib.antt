@@ -4,7 +4,6 @@ pub mod Faults
 pub mod States
 pub mod Snapshot
 pub mod Replay
-pub mod Steps
 pub mod Slots
 pub mod Recovered
 pub mod Counters

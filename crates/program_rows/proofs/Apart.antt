@@ -10,8 +10,9 @@ use Rattle.seg_store.proofs.SlotRows.{same_key}
 use Rattle.unit_work.specs.declared.change.Change.{Change}
 use Rattle.unit_work.specs.Changes.{is_of, is_changed}
 use Rattle.unit_work.specs.BackOut.{is_touched, was_in, cleared_slot}
-use Rattle.program_rows.specs.Open.{image_at, HoldsAlone, Sits, IsUnit, AreUnits}
-use Rattle.program_rows.proofs.Beside.{was_there, IsIdle, AreRooted, AreOthers, AreBeside, touched_is}
+use Rattle.program_rows.specs.Open.{HoldsAlone, Sits, IsUnit, AreUnits, was_there}
+use Rattle.change_records.specs.Images.{image_at}
+use Rattle.program_rows.proofs.Beside.{IsIdle, AreRooted, AreOthers, AreBeside, touched_is}
 use Rattle.program_rows.proofs.Aside.{was_in_is, can_rooted, cleared_where}
 use Rattle.program_rows.proofs.Together.{AreAllBeside, beside_by, all_by}
 use Rattle.program_rows.proofs.Backed.{IsGood}

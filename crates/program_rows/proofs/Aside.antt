@@ -13,9 +13,10 @@ use Rattle.seg_store.proofs.SlotRows.{record_has}
 use Rattle.unit_work.specs.declared.change.Change.{Change}
 use Rattle.unit_work.specs.Changes.{is_changed}
 use Rattle.unit_work.specs.BackOut.{is_touched, was_in, cleared_slot, cleared_slots, cleared_from, cleared, backed_out, IsStored, FitsStore, FitsOption, CanGoBack, CanBackOut}
-use Rattle.program_rows.specs.Open.{slots_at, image_at}
+use Rattle.change_records.specs.Images.{slots_at, image_at}
 use Rattle.program_rows.proofs.Slotwise.{back, backed_is, image_at_each, slots_at_length, dbds_each}
-use Rattle.program_rows.proofs.Beside.{was_there, IsIdle, AreRooted, AreBeside, idle_back, idle_stays, touched_is, all_changed}
+use Rattle.program_rows.proofs.Beside.{IsIdle, AreRooted, AreBeside, idle_back, idle_stays, touched_is, all_changed}
+use Rattle.program_rows.specs.Open.{was_there}
 use Rattle.program_rows.proofs.Bools.{left_of, right_of}
 
 -- the store of a number, among cleared stores

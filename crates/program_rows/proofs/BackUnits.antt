@@ -11,8 +11,9 @@ use Rattle.pi_enqueue.specs.Kept.{IsKept}
 use Rattle.seg_store.specs.Slots.{Stored, has_root, is_free}
 use Rattle.unit_work.specs.declared.change.Change.{Change}
 use Rattle.unit_work.specs.BackOut.{cleared, backed_out, IsStored, CanGoBack}
-use Rattle.program_rows.specs.Open.{slots_at, HoldsAlone, StaysInSlot, Sits, IsUnit, AreUnits, backed_all, seen_by}
-use Rattle.program_rows.proofs.Beside.{was_there, AreBeside}
+use Rattle.program_rows.specs.Open.{HoldsAlone, StaysInSlot, Sits, IsUnit, AreUnits, backed_all, seen_by, was_there}
+use Rattle.change_records.specs.Images.{slots_at}
+use Rattle.program_rows.proofs.Beside.{AreBeside}
 use Rattle.program_rows.proofs.Aside.{goes, can_aside, aside_back, slots_there, was_there_own}
 use Rattle.program_rows.proofs.Together.{pull, get_set, get_set_else, set_twice, set_apart}
 use Rattle.program_rows.proofs.Backed.{valid_back, image_where}
@@ -50,7 +51,7 @@ sits_back table stores region a b unit beside = each a unit.sits (was_there_own 
     each (c ∷ rs) s u f t = (⊎_elim (λ st. inl (one c u.0 f.0 t.0 st)) (λ seq. inr seq) s.0, each rs s.1 u.1 f.1 t.1)
 
 module _ (units : List (List Change)) (stores : List Stored) (table : EnqueueTable) (h : AreUnits units stores table) (place : ℕ) (lt : place < length units) where
-  beside_mine : (k : ℕ) → k < length units → k ≢ place → AreBeside stores (get_or units k []) (get_or units place [])
+  pub beside_mine : (k : ℕ) → k < length units → k ≢ place → AreBeside stores (get_or units k []) (get_or units place [])
   beside_mine k inside other =
       units_beside table stores h.compatible (suc k) (suc place) (get_or units k []) (get_or units place []) (h.each k inside) (h.each place lt)
       (λ e. absurd (other (omega (arith, e))))

@@ -11,9 +11,10 @@ use Rattle.unit_work.specs.declared.change.Change.{Change}
 use Rattle.unit_work.specs.Changes.{is_changed, AreOnce}
 use Rattle.unit_work.specs.BackOut.{cleared_slot, cleared, backed_out, IsStored, CanGoBack, CanBackOut}
 use Rattle.program_rows.specs.State.{rows_of, rows_in}
-use Rattle.program_rows.specs.Open.{slots_at, image_at, backed_all, StaysInSlot}
+use Rattle.program_rows.specs.Open.{backed_all, StaysInSlot, was_there}
+use Rattle.change_records.specs.Images.{slots_at, image_at}
 use Rattle.program_rows.proofs.Slotwise.{each_slot, each_store, back, backed_is, each_there, slots_at_each, slots_at_length, image_at_each, dbds_each}
-use Rattle.program_rows.proofs.Beside.{was_there, AreRooted, AreBeside, idle_back}
+use Rattle.program_rows.proofs.Beside.{AreRooted, AreBeside, idle_back}
 use Rattle.program_rows.proofs.Aside.{goes, can_rooted, cleared_where, slots_there, was_there_own}
 use Rattle.program_rows.proofs.Together.{AreAllBeside, beside_all, can_all}
 use Rattle.program_rows.proofs.Restored.{Restores, restored_slots, restored_record}

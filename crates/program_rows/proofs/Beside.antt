@@ -11,13 +11,10 @@ use Rattle.seg_store.proofs.SlotRows.{rooted}
 use Rattle.unit_work.specs.declared.change.Change.{Change}
 use Rattle.unit_work.specs.Changes.{is_of, is_changed}
 use Rattle.unit_work.specs.BackOut.{is_touched, was_in, backed_slot, cleared_slot, backed_out}
-use Rattle.program_rows.specs.Open.{slots_at, image_at}
+use Rattle.change_records.specs.Images.{slots_at, image_at}
+use Rattle.program_rows.specs.Open.{was_there}
 use Rattle.program_rows.proofs.Slotwise.{back, each_store, backed_is, twice, alike}
 use Rattle.program_rows.proofs.Bools.{or_left, or_right}
-
--- the record of one of these changes was in the slot
-abbrev pub was_there : List Change → ℕ → ℕ → Bool
-was_there records db slot = list_any (was_in db slot) records
 
 -- the image is of none of these records, and none was in the slot
 pub record IsIdle (records : List Change) (db slot : ℕ) (image : List Row) : Type 0 where

@@ -31,7 +31,7 @@ use Rattle.unit_work.specs.declared.change.Change.{Change}
 use Rattle.unit_work.specs.Changes.{with_change, is_full}
 use Rattle.dli_calls.specs.declared.planned.Edit.{Edit}
 use Rattle.dli_calls.specs.declared.planned.Planned.{Planned}
-use Rattle.dli_calls.specs.Plans.{limit_of, HasAnswer, PlansTo, PlansEdit, IsThere}
+use Rattle.dli_calls.specs.Plans.{limit_of, HasAnswer, PlansTo, PlansNone, PlansEdit, IsThere}
 use Rattle.footprint_law.specs.Alike.{AreAlike, rows_changed}
 use Rattle.footprint_law.proofs.Front.{agree_unblocked, agree_where_none, same_front}
 use Rattle.footprint_law.proofs.Same.{same_call}
@@ -41,8 +41,11 @@ use Rattle.program_rows.specs.State.{RegionRows, no_rows, roots_of, rows_of, row
 use Rattle.program_rows.specs.Isolation.{request_of, requests_of_call}
 use Rattle.program_rows.specs.Answering.{told_blocked, IsAnswer, region_after}
 use Rattle.program_rows.specs.Calling.{Called}
+use Rattle.program_rows.specs.Telling.{call_told, changed_told, changed_touched, set_told, unless_stopped}
+use Rattle.change_records.specs.Images.{slots_at}
+use Rattle.log_records.specs.declared.record.Record.{Record}
 use Rattle.program_rows.specs.Open.{records_of, opened, regions_from, seen_by, HoldsAlone, AreUnits}
-use Rattle.program_rows.specs.Making.{seen, IsSame, WaitsAt, IsPut, TakesSlot, kept_of}
+use Rattle.program_rows.specs.Making.{seen, IsSame, WaitsAt, IsPut, TakesSlot, edit_told, kept_of}
 use Rattle.program_rows.specs.declared.answer.Answered as answer
 use Rattle.program_rows.specs.declared.answer.DataAnswer.{DataAnswer}
 use Rattle.program_rows.specs.declared.answer.DataAnswer.TheVariants.{Answered, Abend, Blocked}
@@ -88,10 +91,10 @@ module _ (o : Opened) (h : AreUnits (records_of o.units.items) o.stores.stores o
   abbrev pub stored : List Row
   stored = rows_in number (rows_of o.stores.stores)
 
-  up : suc (region - 1) ≡ region
+  pub up : suc (region - 1) ≡ region
   up = omega (arith, first)
 
-  within : place < length (records_of o.units.items)
+  pub within : place < length (records_of o.units.items)
   within = omega (arith, first, last)
 
   pub sees : region_at region (seen o) ≡ record { rows = rows_of (seen_by place units o.stores.stores); changed = roots_of (get_or units place []) }
@@ -222,6 +225,82 @@ module _ (o : Opened) (h : AreUnits (records_of o.units.items) o.stores.stores o
               λ i. record { rows = rows i; changed = with_changed number (unchanged i) (region_at region (seen o)).changed } in
               same_regions new u s_same ∙ sym (ap (set (seen o).regions (region - 1)) same ∙ set_there (seen o).regions (region - 1) no_rows)
 
+    -- what the call tells, and the slots that it touches
+    module _ (unit : ℕ) where
+      free_now : first_blocked (requests_of_call region number dbd call at (seen o)) o.table ≡ None
+      free_now = sym same_asks.0 ∙ free
+
+      -- the abend to which a plan leads, if it leads to one
+      abbrev pub abend_at : Option Edit → Option AbendCode
+      abend_at None = None
+      abend_at (Some e) = abend_by number (roots_of (get_or units place [])) (Some e.root) (limit_of (set_refusal dbd e.root e.image stored))
+
+      told_where : (abend : Option AbendCode) (records : List Record) → data_abend number (data_of region (seen o) []) (dli dbd call at (rows_numbered region number (seen o))) ≡ abend
+          → changed_told unit number (dli dbd call at (rows_numbered region number (seen o))).changed (dli dbd call at (rows_numbered region number (seen o))).rows o.stores.stores ≡ records
+          → call_told unit region number dbd call at (seen o) ≡ unless_stopped None abend records
+      told_where abend records e told = λ i. unless_stopped (free_now i) (e i) (told i)
+
+      -- of a call that changes no record
+      changes_none : (p : Planned) → PlansNone stored (dli dbd call at stored) p → (dli dbd call at (rows_numbered region number (seen o))).changed ≡ None
+      changes_none p plans = by_mine (λ d. d.changed ≡ None) (sym alike.changed ∙ plans.changed)
+
+      pub none_told : (p : Planned) → PlansNone stored (dli dbd call at stored) p → call_told unit region number dbd call at (seen o) ≡ []
+      none_told p plans =
+          let unchanged = changes_none p plans in
+          told_where None []
+          (ap (λ c. abend_by number (region_at region (seen o)).changed c (dli dbd call at (rows_numbered region number (seen o))).refusal) unchanged)
+          (ap (λ c. changed_told unit number c (dli dbd call at (rows_numbered region number (seen o))).rows o.stores.stores) unchanged)
+
+      pub none_touched : (p : Planned) (slots : List Change) → PlansNone stored (dli dbd call at stored) p
+          → changed_touched number (dli dbd call at (rows_numbered region number (seen o))).changed o.stores.stores slots ≡ slots
+      none_touched p slots plans = ap (λ c. changed_touched number c o.stores.stores slots) (changes_none p plans)
+
+      -- of one that changes a record
+      module _ (p : Planned) (e : Edit) (plans : PlansEdit dbd stored (dli dbd call at stored) p e) where
+        changes_one : (dli dbd call at (rows_numbered region number (seen o))).changed ≡ Some e.root
+        changes_one = by_mine (λ d. d.changed ≡ Some e.root) (sym alike.changed ∙ plans.changed)
+
+        abend_is : data_abend number (data_of region (seen o) []) (dli dbd call at (rows_numbered region number (seen o))) ≡ abend_at (Some e)
+        abend_is =
+            by_mine (λ d. data_abend number (data_of region (seen o) []) d ≡ abend_at (Some e))
+            (λ i. abend_by number (ap (λ (r : RegionRows). r.changed) sees i) ((sym alike.changed ∙ plans.changed) i) ((sym alike.refusal ∙ plans.refusal) i))
+
+        pub led_told : (code : AbendCode) → abend_at (Some e) ≡ Some code → call_told unit region number dbd call at (seen o) ≡ []
+        led_told code led = told_where (Some code) _ (abend_is ∙ led) refl
+
+        pub edit_touched : (slots : List Change)
+            → changed_touched number (dli dbd call at (rows_numbered region number (seen o))).changed o.stores.stores slots ≡ changed_touched number (Some e.root) o.stores.stores slots
+        edit_touched slots = ap (λ c. changed_touched number c o.stores.stores slots) changes_one
+
+        pub edit_is_told : abend_at (Some e) ≡ None → call_told unit region number dbd call at (seen o) ≡ edit_told unit number (Some e) o.stores.stores
+        edit_is_told limits =
+            told_where None (edit_told unit number (Some e) o.stores.stores) (abend_is ∙ limits)
+            (ap (λ c. changed_told unit number c (dli dbd call at (rows_numbered region number (seen o))).rows o.stores.stores) changes_one
+            ∙ ap (λ image. set_told unit number image o.stores.stores (slot_for e.root (slots_at number o.stores.stores))) (by_mine (λ d. record_of e.root d.rows ≡ e.image) mine_image))
+          where
+            unrefused : (dli dbd call at stored).refusal ≡ None
+            unrefused = plans.refusal ∙ no_abend _ _ (limit_of (set_refusal dbd e.root e.image stored)) limits
+
+            image_rooted : AllByRecursion (λ row. Rattle.model_rows.specs.Path.root_of row.path ≡ e.root) e.image
+            image_rooted = ⊎_elim (λ none. subst (λ rows. AllByRecursion (λ (row : Row). Rattle.model_rows.specs.Path.root_of row.path ≡ e.root) rows) (sym none) tt) (λ r. r.under.one_root) plans.image
+
+            image_left : record_of e.root (dli dbd call at stored).rows ≡ e.image
+            image_left = ap (record_of e.root) (plans.rows unrefused) ∙ with_record_itself e.root e.image stored image_rooted
+
+            by : (c : Option (List ℕ × List Row)) → option_map (λ x. x.0) c ≡ Some e.root → IfSome c (λ x. Rattle.model_rows.specs.Record.IsUnder dbd.types x.0 x.1)
+                → (dli dbd call at stored).rows ≡ rows_changed c stored → record_of e.root (rows_changed c mine) ≡ e.image
+            by None q under rows = let clash : (let none : Option (List ℕ) = None in none) ≡ Some e.root = q in absurd (cc)
+            by (Some c) q under rows =
+                let both : Some c.0 ≡ Some e.root = q in
+                let root : c.0 ≡ e.root = cc in
+                ap (λ k. record_of k (with_record c.0 c.1 mine)) (sym root)
+                ∙ (with_record_itself c.0 c.1 mine under.one_root
+                ∙ (sym (with_record_itself c.0 c.1 stored under.one_root)
+                ∙ (ap (λ k. record_of k (with_record c.0 c.1 stored)) root ∙ (ap (record_of e.root) (sym rows) ∙ image_left))))
+
+            mine_image : record_of e.root (dli dbd call at mine).rows ≡ e.image
+            mine_image = ap (record_of e.root) alike.rows_b ∙ by alike.change (sym (alike.whole unrefused) ∙ plans.changed) alike.under alike.rows_a
+
     -- a call that sets a record
     module _ (p : Planned) (e : Edit) (new : Opened) (plans : PlansEdit dbd stored (dli dbd call at stored) p e) (exists : IsThere stored (Some e))
         (limits : abend_by number (roots_of (get_or units place [])) (Some e.root) (limit_of (set_refusal dbd e.root e.image stored)) ≡ None) (slot : ℕ) (put : IsPut number e o.stores.stores new.stores.stores)
@@ -276,7 +355,7 @@ module _ (o : Opened) (h : AreUnits (records_of o.units.items) o.stores.stores o
           exists gone absent)
           (λ gone. exists gone (roots_tell dbd types (dli dbd call at stored).rows stored stored_rows same e.root (image_left ∙ gone))) way
 
-      set_in : IsSetIn new.table (suc place) change o.stores.stores put.s put.t e.image
+      pub set_in : IsSetIn new.table (suc place) change o.stores.stores put.s put.t e.image
       set_in =
           record {
             least = least;
@@ -291,7 +370,7 @@ module _ (o : Opened) (h : AreUnits (records_of o.units.items) o.stores.stores o
             comes = λ way. ⊎_elim (λ same. absurd (comes_or_goes same way)) (λ needed. holds_alone (sequence_need Exclusive) needed refl) (roots_needed dbd types stored stored_rows call at position ok);
           }
 
-      after_units : Follows o.table new.table
+      pub after_units : Follows o.table new.table
       after_units = follows region number (footprint dbd call at stored) o.table new.table least h.numbered t kept
 
       -- the units are open again
@@ -399,7 +478,7 @@ module _ (o : Opened) (h : AreUnits (records_of o.units.items) o.stores.stores o
           gives = tt;
           leaves = same_regions new same.units same.stores;
           asks = same.table;
-          stays = λ i. opened (same.units i) (same.stores i) (same.table i);
+          stays = λ i. opened (same.units i) (same.slots i) (same.stores i) (same.table i);
           committed = same_committed new same.units same.stores;
           dbds = ap (map (λ (x : Stored). x.dbd)) same.stores;
         }

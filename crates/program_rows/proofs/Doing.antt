@@ -21,7 +21,7 @@ use Rattle.dli_calls.specs.Plans.{Plans, PlansTo, IsThere}
 use Rattle.program_rows.specs.State.{rows_in, rows_of}
 use Rattle.program_rows.specs.Isolation.{request_of}
 use Rattle.program_rows.specs.Calling.{IsDone}
-use Rattle.program_rows.specs.Open.{records_of, AreUnits}
+use Rattle.program_rows.specs.Open.{records_of, slots_of, AreUnits}
 use Rattle.program_rows.specs.Making.{IsSame, Reads, WaitsAt, IsEdited, LeadsTo, Makes}
 use Rattle.program_rows.specs.declared.answer.Answered as answer
 use Rattle.program_rows.specs.declared.answer.DataAnswer.{DataAnswer}
@@ -138,13 +138,13 @@ module _ (o : Opened) (h : AreUnits (records_of o.units.items) o.stores.stores o
     pub read_done : (r : Result DataAnswer E) (asked : Asked) (p : Planned) → asked.region ≡ region → asked.number ≡ number
         → asked.requests.items ≡ map (request_of region number) (footprint dbd call at (rows_of_slots s.slots))
         → Plans dbd (rows_of_slots s.slots) (dli dbd call at (rows_of_slots s.slots)) p → IfSome p.area IsSegmentText → IsThere (rows_of_slots s.slots) p.edit → IsPosition dbd.types p.position
-        → p.edit ≡ None → records_of new.units.items ≡ records_of o.units.items → new.stores.stores ≡ o.stores.stores → IfOk r (Reads asked.requests.items o.table p)
+        → p.edit ≡ None → records_of new.units.items ≡ records_of o.units.items → slots_of new.units.items ≡ slots_of o.units.items → new.stores.stores ≡ o.stores.stores → IfOk r (Reads asked.requests.items o.table p)
         → OnOk r (new.table ≡ after_asks asked.region asked.requests.items o.table) → IsKept new.table
         → IfOk r (IsDone region number dbd call at o new)
-    read_done (Err x) asked p er en eq plans text exists stands none u st w t kept = tt
-    read_done (Ok (Abend code)) asked p er en eq plans text exists stands none u st w t kept = absurd w
-    read_done (Ok (Blocked b)) asked p er en eq plans text exists stands none u st w t kept =
+    read_done (Err x) asked p er en eq plans text exists stands none u sl st w t kept = tt
+    read_done (Ok (Abend code)) asked p er en eq plans text exists stands none u sl st w t kept = absurd w
+    read_done (Ok (Blocked b)) asked p er en eq plans text exists stands none u sl st w t kept =
         waited (Ok (Blocked b)) asked.requests.items eq u st w (t ∙ ap (λ n. after_asks n asked.requests.items o.table) er) kept
-    read_done (Ok (Answered a)) asked p er en eq plans text exists stands none u st w t kept =
+    read_done (Ok (Answered a)) asked p er en eq plans text exists stands none u sl st w t kept =
         made (Ok (Answered a)) asked p er en eq w.free plans text exists stands
-        (record { status = w.status; area = w.area; position = w.position; edited = subst (IsEdited asked dbd o new) (sym none) (record { units = u; stores = st; asks = record { table = t; kept = kept } }) })
+        (record { status = w.status; area = w.area; position = w.position; edited = subst (IsEdited asked dbd o new) (sym none) (record { units = u; slots = sl; stores = st; asks = record { table = t; kept = kept } }) })

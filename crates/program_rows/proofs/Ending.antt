@@ -20,17 +20,21 @@ use Rattle.unit_work.specs.BackOut.{backed_out, CanBackOut}
 use Rattle.program_rows.specs.State.{DatabasesState, RegionRows, no_rows, roots_of, rows_of, rows_in, dbds_of, committed_rows, region_at, clean_region, AreRowsOf, IsRegionOf, IsClean}
 use Rattle.program_rows.specs.Isolation.{AgreeOnHeld}
 use Rattle.program_rows.specs.Answering.{regions_backed, IsBeside, IsCommitted}
-use Rattle.program_rows.specs.Open.{records_of, backed_all, seen_by, regions_from, IsUnit, AreUnits}
-use Rattle.program_rows.specs.Making.{seen, IsOpen, changed_in}
+use Rattle.program_rows.specs.Open.{records_of, slots_of, backed_all, seen_by, regions_from, IsUnit, AreUnits, AreTouched, AllTouch}
+use Rattle.program_rows.specs.Telling.{slot_told, back_told, IsToldable}
+use Rattle.change_records.specs.Told.{ChangesTold}
+use Rattle.program_rows.specs.Making.{seen, IsOpen, HasTouched, changed_in, slots_in}
 use Rattle.program_rows.specs.declared.opened.Opened.{Opened}
 use Rattle.program_rows.proofs.Together.{backed_none, get_set, get_set_else, set_twice}
-use Rattle.program_rows.proofs.Backed.{AreValid, valid_all, dbds_all, backed_dbds}
+use Rattle.program_rows.proofs.Backed.{AreValid, valid_all, valid_back, dbds_all, backed_dbds}
 use Rattle.program_rows.proofs.Apart.{all_beside, all_good}
 use Rattle.program_rows.proofs.BackUnits.{empty_unit, back_units, back_committed, back_others, back_own, keep_units, released_units}
 use Rattle.program_rows.proofs.Committing.{sees_then, held_then}
 use Rattle.program_rows.proofs.Overlay.{store_rows, store_types}
 use Rattle.program_rows.proofs.Seen.{region_is, regions_length, same_list, get_put, get_put_else}
-use Rattle.program_rows.proofs.Setting.{unit_records}
+use Rattle.program_rows.proofs.Setting.{unit_records, unit_slots}
+use Rattle.program_rows.proofs.Touching.{none_touched_yet, kept_touched, back_touched, released_touched}
+use Rattle.program_rows.proofs.ToldBack.{back_changes, toldable}
 
 -- a region of the databases has a unit, and is one of the table
 pub record HasUnit (o : Opened) (region : ℕ) : Type 0 where
@@ -193,8 +197,8 @@ module _ (o new : Opened) (h : IsOpen o) (region : ℕ) (u : HasUnit o region) (
         (subst (λ ss. AreUnits (set (records_of o.units.items) (region - 1) []) ss o.table) (sym stores)
         (keep_units (records_of o.units.items) o.stores.stores o.table h (region - 1) u.within))
 
-    pub is_committed : new.table ≡ released region o.table → IsCommitted region (seen o) (seen new)
-    is_committed table =
+    pub is_committed : slots_of new.units.items ≡ set (slots_of o.units.items) (region - 1) [] → new.table ≡ released region o.table → IsCommitted region (seen o) (seen new)
+    is_committed slots table =
         record {
           stores = stores;
           rows = ap rows_of committed_is ∙ ap (λ (x : RegionRows). x.rows) (sym (region_is (region - 1) (records_of o.units.items) o.stores.stores u.within));
@@ -207,6 +211,7 @@ module _ (o new : Opened) (h : IsOpen o) (region : ℕ) (u : HasUnit o region) (
           count = regions_length 0 (records_of new.units.items) (records_of new.units.items) new.stores.stores
               ∙ (ap length units ∙ (length-set (records_of o.units.items) (region - 1) [] ∙ sym (regions_length 0 (records_of o.units.items) (records_of o.units.items) o.stores.stores)));
           others = λ other apart least most. beside other apart least (omega (arith, least, most, regions_length 0 (records_of o.units.items) (records_of o.units.items) o.stores.stores));
+          touched = slots;
           table = table;
         }
       where
@@ -242,6 +247,64 @@ module _ (o new : Opened) (h : IsOpen o) (region : ℕ) (u : HasUnit o region) (
                   (held_then (records_of o.units.items) o.stores.stores o.table h (region - 1) u.within (other - 1) inside k_apart));
             }
 
+-- the slots that the units have touched, once one has no changes any more
+module _ (o new : Opened) (h : IsOpen o) (touched : HasTouched o) (region : ℕ) (u : HasUnit o region) (units : records_of new.units.items ≡ set (records_of o.units.items) (region - 1) [])
+    (slots : slots_of new.units.items ≡ set (slots_of o.units.items) (region - 1) []) where
+  same_count : length (slots_of o.units.items) ≡ length (records_of o.units.items)
+  same_count = length-map o.units.items (λ (x : Changes). x.slots) ∙ sym (length-map o.units.items (λ (x : Changes). x.records))
+
+  now_touched : (stores : List Stored) (table : EnqueueTable) → AllTouch (set (records_of o.units.items) (region - 1) []) (set (slots_of o.units.items) (region - 1) []) stores table
+      → AllTouch (records_of new.units.items) (slots_of new.units.items) stores table
+  now_touched stores table t =
+      subst (λ us. AllTouch us (slots_of new.units.items) stores table) (sym units)
+      (subst (λ ss. AllTouch (set (records_of o.units.items) (region - 1) []) ss stores table) (sym slots) t)
+
+  pub taken_back_touched : new.stores.stores ≡ backed_out (changed_in region o) o.stores.stores → (table : EnqueueTable) → table ≡ o.table
+      → AllTouch (records_of new.units.items) (slots_of new.units.items) new.stores.stores table
+  taken_back_touched stores table same =
+      subst (λ t. AllTouch (records_of new.units.items) (slots_of new.units.items) new.stores.stores t) (sym same)
+      (subst (λ ss. AllTouch (records_of new.units.items) (slots_of new.units.items) ss o.table) (sym stores)
+      (now_touched (backed_out (changed_in region o) o.stores.stores) o.table
+      (back_touched (records_of o.units.items) (slots_of o.units.items) o.stores.stores o.table h (region - 1) u.within same_count touched)))
+
+  pub kept_touched_so : new.stores.stores ≡ o.stores.stores → AllTouch (records_of new.units.items) (slots_of new.units.items) new.stores.stores o.table
+  kept_touched_so stores =
+      subst (λ ss. AllTouch (records_of new.units.items) (slots_of new.units.items) ss o.table) (sym stores)
+      (now_touched o.stores.stores o.table (kept_touched (records_of o.units.items) (slots_of o.units.items) o.stores.stores o.table h (region - 1) u.within same_count touched))
+
+  pub given_up_touched : (stores : List Stored) (old table : EnqueueTable) → AllTouch (records_of new.units.items) (slots_of new.units.items) stores old → table ≡ released region old
+      → AllTouch (records_of new.units.items) (slots_of new.units.items) stores table
+  given_up_touched stores old table before same =
+      let is : table ≡ released (suc (region - 1)) old = same ∙ ap (λ r. released r old) (sym u.up) in
+      subst (λ t. AllTouch (records_of new.units.items) (slots_of new.units.items) stores t) (sym is)
+      (released_touched (records_of new.units.items) (slots_of new.units.items) stores old (region - 1)
+      (ap (λ xs. get_or xs (region - 1) []) units ∙ get_set (records_of o.units.items) (region - 1) [] u.within)
+      (ap (λ xs. get_or xs (region - 1) []) slots ∙ get_set (slots_of o.units.items) (region - 1) [] (omega (arith, u.within, same_count))) before)
+
+-- what ROLB tells is what it makes of the slots
+pub back_told_changes : (unit : ℕ) (o new : Opened) (d : DatabasesState) → HasTouched o → seen o ≡ d → (region : ℕ) → HasUnit o region → new.stores.stores ≡ backed_out (changed_in region o) o.stores.stores
+    → ChangesTold unit d.stores new.stores.stores (back_told unit region d)
+back_told_changes unit o new d touched view region u stores =
+    subst (λ (e : DatabasesState). ChangesTold unit e.stores new.stores.stores (back_told unit region e)) view
+    (subst (λ ss. ChangesTold unit o.stores.stores ss (back_told unit region (seen o))) (sym stores)
+    (back_changes unit o.stores.stores o.table (suc (region - 1)) (changed_in region o) (slots_in region o) (touched (region - 1) u.within)))
+
+pub back_toldable : (o : Opened) (d : DatabasesState) (region : ℕ) (us : List Changes) (x : Changes) (slots : List Change) (stores : List Stored) → IsOpen o → HasTouched o → seen o ≡ d → HasUnit o region
+    → us ≡ o.units.items → slice_get us (region - 1) ≡ Some x → slots ≡ x.slots → stores ≡ o.stores.stores → AllByRecursion (λ s. s.dbd.sectors ≤ 1) d.stores
+    → AllByRecursion (IsToldable stores) slots
+back_toldable o d region xs x slots stores h touched view u same at is same_stores sectors =
+    subst (λ (ss : List Stored). AllByRecursion (IsToldable ss) slots) (sym same_stores)
+    (subst (λ cs. AllByRecursion (IsToldable o.stores.stores) cs) (unit_slots o.units.items (region - 1) x (ap (λ xs. slice_get xs (region - 1)) (sym same) ∙ at) ∙ sym is)
+    (toldable o.stores.stores o.table (suc (region - 1)) (changed_in region o) (slots_in region o) h.valid
+    (valid_back o.stores.stores (changed_in region o) h.valid (record { can = (h.each (region - 1) u.within).can; once = (h.each (region - 1) u.within).kept.once }))
+    (subst (λ (e : DatabasesState). AllByRecursion (λ s. s.dbd.sectors ≤ 1) e.stores) (sym view) sectors) (touched (region - 1) u.within)))
+
+pub back_told_is : (unit : ℕ) (o : Opened) (d : DatabasesState) (region : ℕ) (us : List Changes) (x : Changes) (slots : List Change) (stores : List Stored) → seen o ≡ d
+    → us ≡ o.units.items → slice_get us (region - 1) ≡ Some x → slots ≡ x.slots → stores ≡ o.stores.stores → map (slot_told unit stores) slots ≡ back_told unit region d
+back_told_is unit o d region xs x slots stores view same at is same_stores =
+    (λ i. map (slot_told unit (same_stores i)) ((is ∙ sym (unit_slots o.units.items (region - 1) x (ap (λ xs. slice_get xs (region - 1)) (sym same) ∙ at))) i))
+    ∙ ap (back_told unit region) view
+
 -- at the beginning nothing is open
 module _ (dbds : List Dbd) (regions : ℕ) where
   empty_units : List (List Change)
@@ -264,6 +327,10 @@ module _ (dbds : List Dbd) (regions : ℕ) where
   records_none : (n : ℕ) → records_of (replicate n no_changes) ≡ replicate n []
   records_none zero = refl
   records_none (suc n) = ap (λ us. [] ∷ us) (records_none n)
+
+  slots_none : (n : ℕ) → slots_of (replicate n no_changes) ≡ replicate n []
+  slots_none zero = refl
+  slots_none (suc n) = ap (λ us. [] ∷ us) (slots_none n)
 
   count_none : (n : ℕ) → length (replicate n (let none : List Change = [] in none)) ≡ n
   count_none zero = refl
@@ -306,6 +373,17 @@ module _ (dbds : List Dbd) (regions : ℕ) where
           each = λ place lt.
               subst (IsUnit (empty_table regions) (empty_stores dbds) (suc place)) (sym (none_at regions place)) (empty_unit (empty_table regions) (empty_stores dbds) (suc place));
         })))
+
+    pub slots_are : slots_of o.units.items ≡ replicate regions []
+    slots_are = ap slots_of units ∙ slots_none regions
+
+    pub begins_touched : HasTouched o
+    begins_touched =
+        subst (λ us. AllTouch us (slots_of o.units.items) o.stores.stores o.table) (sym us_are)
+        (subst (λ xs. AllTouch (replicate regions []) xs o.stores.stores o.table) (sym slots_are)
+        (λ place lt.
+        subst (λ a. AreTouched o.table o.stores.stores (suc place) a (get_or (replicate regions []) place [])) (sym (none_at regions place))
+        (subst (λ b. AreTouched o.table o.stores.stores (suc place) [] b) (sym (none_at regions place)) (none_touched_yet o.table o.stores.stores (suc place)))))
 
     pub begins_committed : (seen o).committed ≡ empty_stores dbds
     begins_committed = (λ i. backed_all (us_are i) (stores i)) ∙ none_backed regions (empty_stores dbds)

@@ -26,3 +26,9 @@ pub mod Rooting
 pub mod Called
 pub mod Doing
 pub mod Ending
+pub mod Appending
+pub mod Ordered
+pub mod Touching
+pub mod ToldBack
+pub mod Placing
+pub mod Retold

@@ -4,17 +4,21 @@ use Rattle.std.specs.List.{slice_get}
 use Rattle.std.specs.Option.{option_map, is_some}
 use Rattle.std.specs.Prelude.{IfSome, OnOk, OnErr}
 use Rattle.seg_store.specs.Slots.{Stored}
-use Rattle.unit_work.specs.Changes.{Changes, is_full, no_changes, with_change, with_touch}
+use Rattle.unit_work.specs.Changes.{Changes, is_full, no_changes, with_change, with_slot, with_touch}
 use Rattle.unit_work.specs.Touching.{Touching}
 use Rattle.dli_calls.specs.declared.planned.Edit.{Edit}
 use Rattle.model_enqueue.specs.declared.request.Request.{Request}
 use Rattle.pi_enqueue.specs.declared.table.Blocked.{Blocked}
 use Rattle.pi_enqueue.specs.Grant.{told}
-use Rattle.program_rows.specs.Open.{records_of}
-use Rattle.program_rows.specs.Making.{IsPut, IsSame, IsSet, HasAskedIn, TakesSlot, changed_in, kept_of}
+use Rattle.program_rows.specs.Open.{records_of, slots_of}
+use Rattle.tm_types.specs.declared.dbd.Dbd.{Dbd}
+use Rattle.log_records.specs.declared.untold.Untold.{Untold}
+use Rattle.log_records.specs.declared.untold.Untold.TheVariants as untold
+use Rattle.program_rows.specs.Telling.{IsUntold}
+use Rattle.program_rows.specs.Making.{IsPut, IsSame, IsSet, HasAskedIn, TakesSlot, IsUntoldEdit, changed_in, edit_abend, edit_told, kept_of}
 use Rattle.program_rows.specs.declared.asked.Asked.{Asked}
 use Rattle.program_rows.specs.declared.opened.Opened.{Opened}
-use Rattle.program_rows.proofs.Setting.{taken, unit_records, records_put, put_back, put_twice}
+use Rattle.program_rows.proofs.Setting.{taken, unit_records, unit_slots, records_put, slots_put, put_back, put_twice}
 
 -- the records of a unit that was taken out and put back
 pub left_records : (old taken_out new : List Changes) (i : ℕ) (u : Changes) (v : Changes) → slice_get old i ≡ Some u → taken_out ≡ set old i v → new ≡ set taken_out i u → new ≡ old
@@ -41,6 +45,11 @@ module _ {R E : Type 0} where
             ∙ ap (set (records_of old.units.items) (asked.region - 1))
             (ap (λ (c : Changes). c.records) touched
             ∙ (λ t. with_change (kept_of asked.number slot e (sym same t)) (sym (unit_records old.units.items (asked.region - 1) u at) t))));
+        slots = ap slots_of (kept ∙ (ap (λ us. set us (asked.region - 1) p.touched) out ∙ put_twice old.units.items (asked.region - 1) p.touched no_changes))
+            ∙ (slots_put old.units.items (asked.region - 1) p.touched
+            ∙ ap (set (slots_of old.units.items) (asked.region - 1))
+            (ap (λ (c : Changes). c.slots) touched
+            ∙ (λ t. with_slot (kept_of asked.number slot e (sym same t)) (sym (unit_slots old.units.items (asked.region - 1) u at) t))));
         asks = asks;
       }
 
@@ -51,6 +60,7 @@ module _ {R E : Type 0} where
   set_left (Err x) region old new u units p at out same left stores table =
       record {
         units = ap records_of (left_records old.units.items units new.units.items (region - 1) u no_changes at out (left ∙ ap (set units (region - 1)) same));
+        slots = ap slots_of (left_records old.units.items units new.units.items (region - 1) u no_changes at out (left ∙ ap (set units (region - 1)) same));
         stores = stores;
         table = table;
       }
@@ -61,6 +71,7 @@ pub put_left : (region : ℕ) (old new : Opened) (u v : Changes) (units : List C
 put_left region old new u v units at out same back stores table =
     record {
       units = ap records_of (left_records old.units.items units new.units.items (region - 1) u no_changes at out (back ∙ ap (set units (region - 1)) same));
+      slots = ap slots_of (left_records old.units.items units new.units.items (region - 1) u no_changes at out (back ∙ ap (set units (region - 1)) same));
       stores = stores;
       table = table;
     }
@@ -75,3 +86,9 @@ unit_full number root region o units u b same at e =
 pub none_told : (answered : Option Blocked) (some : Bool) (o : Option (Request × ℕ)) → answered ≡ option_map told o → some ≡ is_some answered → some ≡ false → o ≡ None
 none_told answered some None e is h = refl
 none_told answered some (Some x) e is h = let clash : true ≡ false = sym (is ∙ ap is_some e) ∙ h in absurd (cc)
+
+-- an edit that leads to no abend isn't told for want of room
+pub untold_edit : (asked : Asked) (dbd : Dbd) (e : Edit) (o : Opened) (unit room : ℕ) (error : Untold) → edit_abend asked dbd e o ≡ None
+    → IsUntold (edit_told unit asked.number (Some e) o.stores.stores) room error → IsUntoldEdit asked dbd (Some e) o unit room error
+untold_edit asked dbd e o unit room untold.Memory none h = tt
+untold_edit asked dbd e o unit room untold.Full none h = (none, h)

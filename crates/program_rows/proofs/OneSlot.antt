@@ -10,7 +10,8 @@ use Rattle.seg_store.specs.Slots.{Stored}
 use Rattle.unit_work.specs.declared.change.Change.{Change}
 use Rattle.unit_work.specs.BackOut.{backed_out}
 use Rattle.unit_work.proofs.Backing.{get_set_same, get_set_other}
-use Rattle.program_rows.specs.Open.{slots_at, image_at, backed_all}
+use Rattle.program_rows.specs.Open.{backed_all}
+use Rattle.change_records.specs.Images.{slots_at, image_at}
 use Rattle.program_rows.proofs.Slotwise.{back, backed_is, image_at_each}
 use Rattle.program_rows.proofs.Beside.{IsIdle, idle_back}
 use Rattle.program_rows.proofs.Aside.{ChangesAside, slots_there}

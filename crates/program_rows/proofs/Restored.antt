@@ -19,7 +19,8 @@ use Rattle.unit_work.specs.declared.change.Change.{Change}
 use Rattle.unit_work.specs.Changes.{is_of, is_changed, AreOther, AreOnce}
 use Rattle.unit_work.specs.BackOut.{is_touched, was_in, backed_slot, cleared_slot}
 use Rattle.program_rows.proofs.Slotwise.{each_slot, back, slots_length}
-use Rattle.program_rows.proofs.Beside.{was_there, back_has, cleared_has, touched_is}
+use Rattle.program_rows.proofs.Beside.{back_has, cleared_has, touched_is}
+use Rattle.program_rows.specs.Open.{was_there}
 use Rattle.program_rows.proofs.Aside.{was_in_is}
 use Rattle.program_rows.proofs.Bools.{or_left, or_right}
 

@@ -18,7 +18,7 @@ use Rattle.seg_store.proofs.SlotRows.{entries_of, put_entry, slots_roots, same_k
 use Rattle.unit_work.specs.declared.change.Change.{Change}
 use Rattle.unit_work.specs.BackOut.{is_touched, was_in, backed_slot, cleared_slot}
 use Rattle.program_rows.proofs.Slotwise.{each_slot, back}
-use Rattle.program_rows.proofs.Beside.{was_there}
+use Rattle.program_rows.specs.Open.{was_there}
 use Rattle.program_rows.proofs.Aside.{was_in_is}
 use Rattle.program_rows.proofs.Restored.{Restores, none_put, restored_slots}
 

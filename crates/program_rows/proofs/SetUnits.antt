@@ -16,9 +16,10 @@ use Rattle.unit_work.specs.Changes.{is_changed, with_change, is_full}
 use Rattle.unit_work.specs.BackOut.{is_touched, cleared_slot, backed_out, CanBackOut}
 use Rattle.unit_work.proofs.Keeping.{kept_touch}
 use Rattle.program_rows.specs.State.{rows_of, rows_in}
-use Rattle.program_rows.specs.Open.{slots_at, image_at, HoldsAlone, StaysInSlot, Sits, IsUnit, AreUnits, backed_all, seen_by}
+use Rattle.program_rows.specs.Open.{HoldsAlone, StaysInSlot, Sits, IsUnit, AreUnits, backed_all, seen_by, was_there}
+use Rattle.change_records.specs.Images.{slots_at, image_at}
 use Rattle.program_rows.proofs.Stepping.{Own, HasSlot, Steps, steps, has_slot}
-use Rattle.program_rows.proofs.Beside.{was_there, IsIdle, touched_is, none_touched, all_changed}
+use Rattle.program_rows.proofs.Beside.{IsIdle, touched_is, none_touched, all_changed}
 use Rattle.program_rows.proofs.Aside.{can_aside, cleared_where, slots_there}
 use Rattle.program_rows.proofs.Together.{pull, all_by, get_set, get_set_else, set_twice, set_apart}
 use Rattle.program_rows.proofs.Backed.{AreValid, all_there, valid_all, record_all, rows_in_is}
@@ -52,7 +53,7 @@ valid_put [] i new h v = tt
 valid_put (s ∷ stores) zero new h v = (v, h.1)
 valid_put (s ∷ stores) (suc i) new h v = (h.0, valid_put stores i new h.1 v)
 
-some_or_none : (image : List Row) → (image ≡ []) ⊎ (image ≢ [])
+pub some_or_none : (image : List Row) → (image ≡ []) ⊎ (image ≢ [])
 some_or_none [] = inl refl
 some_or_none (row ∷ image) = inr (λ e. absurd (cc))
 
@@ -64,7 +65,7 @@ module _ (units : List (List Change)) (stores : List Stored) (table after : Enqu
   store_valid : AreSlots s.dbd s.slots
   store_valid = all_there (λ (x : Stored). AreSlots x.dbd x.slots) stores (c.db - 1) s h.valid i.at
 
-  has : HasSlot c s
+  pub has : HasSlot c s
   has =
       subst (λ (before : List Row). HasSlot (record { db = c.db; slot = c.slot; root = c.root; before = before }) s) (sym i.before)
       (has_slot c.db c.root c.slot s store_valid i.place)
@@ -72,7 +73,7 @@ module _ (units : List (List Change)) (stores : List Stored) (table after : Enqu
   pub one : OneSlot c.db c.slot c.before image stores (set stores (c.db - 1) new)
   one = slot_put c.db c.slot c.before image stores s new i.least i.at has.at i.dbd i.slots
 
-  stepped : Steps c (get_or units place []) stores (set stores (c.db - 1) new)
+  pub stepped : Steps c (get_or units place []) stores (set stores (c.db - 1) new)
   stepped =
       let db : c.db ≡ 1 + (c.db - 1) = omega (arith, i.least) in
       steps c (get_or units place []) (c.db - 1) stores s db i.at has (h.each place lt).can new image i.dbd i.slots i.own

@@ -18,7 +18,7 @@ use Rattle.unit_work.specs.Changes.{Changes, is_changed, with_change, is_full}
 use Rattle.dli_calls.specs.declared.planned.Edit.{Edit}
 use Rattle.dli_calls.specs.Plans.{limit_of}
 use Rattle.program_rows.specs.State.{roots_of, rows_of, rows_in}
-use Rattle.program_rows.specs.Open.{records_of}
+use Rattle.program_rows.specs.Open.{records_of, slots_of}
 
 -- the store of a number, its rows and its database
 rows_there : (stores : List Stored) (i : ℕ) (s : Stored) → slice_get stores i ≡ Some s → get_or (rows_of stores) i [] ≡ rows_of_slots s.slots
@@ -111,9 +111,17 @@ unit_records [] i u e = let clash : None ≡ Some u = e in absurd (cc)
 unit_records (x ∷ units) zero u e = let same : Some x ≡ Some u = e in let parts : x ≡ u = cc in ap (λ (y : Changes). y.records) parts
 unit_records (x ∷ units) (suc i) u e = unit_records units i u e
 
+pub unit_slots : (units : List Changes) (i : ℕ) (u : Changes) → slice_get units i ≡ Some u → get_or (slots_of units) i [] ≡ u.slots
+unit_slots [] i u e = let clash : None ≡ Some u = e in absurd (cc)
+unit_slots (x ∷ units) zero u e = let same : Some x ≡ Some u = e in let parts : x ≡ u = cc in ap (λ (y : Changes). y.slots) parts
+unit_slots (x ∷ units) (suc i) u e = unit_slots units i u e
+
 -- the records after one unit is another
 pub records_put : (units : List Changes) (i : ℕ) (u : Changes) → records_of (set units i u) ≡ set (records_of units) i u.records
 records_put units i u = map-set (λ (x : Changes). x.records) units i u
+
+pub slots_put : (units : List Changes) (i : ℕ) (u : Changes) → slots_of (set units i u) ≡ set (slots_of units) i u.slots
+slots_put units i u = map-set (λ (x : Changes). x.slots) units i u
 
 -- a unit that is put back where it was
 pub put_back : {A : Type 0} (xs : List A) (i : ℕ) (x y : A) → slice_get xs i ≡ Some x → set (set xs i y) i x ≡ xs

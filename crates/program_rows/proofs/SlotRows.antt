@@ -13,7 +13,7 @@ use Rattle.seg_store.specs.Slots.{Stored, has_root, place_of, AtMostOne, AreSlot
 use Rattle.seg_store.proofs.Places as places
 use Rattle.seg_store.proofs.SlotRows as slot_rows
 use Rattle.program_rows.specs.State.{rows_of, rows_in}
-use Rattle.program_rows.specs.Open.{slots_at}
+use Rattle.change_records.specs.Images.{slots_at}
 use Rattle.program_rows.proofs.Backed.{rows_in_is}
 use Rattle.program_rows.proofs.OneSlot.{OneSlot}
 use Rattle.program_rows.proofs.Seen.{same_list, get_put, get_put_else}

@@ -37,7 +37,7 @@ or_none true = refl
 or_none false = refl
 
 -- a test of one element more
-any_push : {A : Type 0} (test : A → Bool) (xs : List A) (x : A) → list_any test (xs ++ x ∷ []) ≡ (list_any test xs || test x)
+pub any_push : {A : Type 0} (test : A → Bool) (xs : List A) (x : A) → list_any test (xs ++ x ∷ []) ≡ (list_any test xs || test x)
 any_push test [] x = or_none (test x)
 any_push test (y ∷ xs) x = by (test y) (any_push test xs x)
   where
@@ -84,7 +84,7 @@ touched_is [] db root image h = refl
 touched_is (c ∷ records) db root image h = λ t. (eqb c.db db && rooted root image h c.root t) || touched_is records db root image h t
 
 -- the image of a changed record is cleared, and that of another isn't
-own_gone : (records : List Change) (db : ℕ) (root : List ℕ) (image : List Row) → is_changed db root records ≡ true → Own root image → cleared_slot records db image ≡ []
+pub own_gone : (records : List Change) (db : ℕ) (root : List ℕ) (image : List Row) → is_changed db root records ≡ true → Own root image → cleared_slot records db image ≡ []
 own_gone records db root image q own =
     ⊎_elim (λ e. either_none (is_touched records db image) image e) (λ h. ap (λ b. cond b [] image) (touched_is records db root image h ∙ q)) own
 

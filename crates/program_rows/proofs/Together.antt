@@ -7,7 +7,8 @@ use Rattle.seg_store.specs.Slots.{Stored}
 use Rattle.unit_work.specs.declared.change.Change.{Change}
 use Rattle.unit_work.specs.BackOut.{backed_from, backed_out, CanBackOut}
 use Rattle.unit_work.proofs.Backing.{none_cleared, none_backed}
-use Rattle.program_rows.specs.Open.{backed_all, slots_at, image_at}
+use Rattle.program_rows.specs.Open.{backed_all}
+use Rattle.change_records.specs.Images.{slots_at, image_at}
 use Rattle.program_rows.proofs.Slotwise.{back, backed_is, image_at_each, slots_at_length}
 use Rattle.program_rows.proofs.Beside.{IsIdle, AreRooted, AreBeside, idle_stays, swap}
 use Rattle.program_rows.proofs.Aside.{can_aside, aside_back}

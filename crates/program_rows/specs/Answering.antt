@@ -1,5 +1,5 @@
 -- What a call on the databases answers and leaves.
-use Rattle.std.specs.Prelude.{◌≡◌, ℕ, ◌-◌, ◌≤◌, List, Option, None, Some, IfSome, length, slice_set}
+use Rattle.std.specs.Prelude.{◌≡◌, ℕ, ◌-◌, ◌≤◌, List, [], Option, None, Some, IfSome, length, slice_set}
 use Rattle.tm_types.specs.declared.abend.AbendCode.{AbendCode}
 use Rattle.tm_types.specs.Segment.{IsSegmentText}
 use Rattle.tm_types.specs.declared.dbd.SegType.{SegType}
@@ -102,10 +102,12 @@ pub record IsCommitted (region : ℕ) (old new : DatabasesState) : Type 0 where
   pub own : region_at region new ≡ clean_region (committed_rows new)
   pub count : length new.regions ≡ length old.regions
   pub others : (other : ℕ) → (other ≡ region → ⊥) → 1 ≤ other → other ≤ length old.regions → IsBeside other old new
+  pub touched : new.touched ≡ slice_set old.touched (region - 1) []
   pub table : new.table ≡ released region old.table
 
 -- The region's changes are taken back, and all that it holds and waits for is given up.
 pub record IsGivenUp (region : ℕ) (old new : DatabasesState) : Type 0 where
   pub committed : new.committed ≡ old.committed
   pub regions : new.regions ≡ regions_backed region old
+  pub touched : new.touched ≡ slice_set old.touched (region - 1) []
   pub table : new.table ≡ released region old.table

@@ -3,4 +3,5 @@ pub mod Isolation
 pub mod Answering
 pub mod Open
 pub mod Making
+pub mod Telling
 pub mod Calling

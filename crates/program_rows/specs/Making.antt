@@ -1,5 +1,5 @@
 -- What is made of the plan of a call that nothing blocks.
-use Rattle.std.specs.Prelude.{◌≡◌, ℕ, ◌-◌, false, List, Option, None, Some, [], slice_get, slice_index_or, slice_set}
+use Rattle.std.specs.Prelude.{◌≡◌, ◌<◌, ℕ, ◌-◌, false, List, Option, None, Some, [], length, slice_get, slice_index_or, slice_set}
 use Rattle.tm_types.specs.declared.abend.AbendCode.{AbendCode}
 use Rattle.tm_types.specs.declared.dbd.Dbd.{Dbd}
 use Rattle.model_rows.specs.Rows.{record_of, IsImage}
@@ -11,13 +11,18 @@ use Rattle.pi_enqueue.specs.Kept.{IsKept}
 use Rattle.seg_rows.specs.StoreRefused.{set_refusal}
 use Rattle.seg_store.specs.Slots.{Stored, AreSlots, rows_of_slots, slot_for, with_root}
 use Rattle.unit_work.specs.declared.change.Change.{Change}
-use Rattle.unit_work.specs.Changes.{is_full, with_change}
+use Rattle.unit_work.specs.Changes.{is_full, with_change, with_slot}
 use Rattle.dli_calls.specs.declared.planned.Edit.{Edit}
 use Rattle.dli_calls.specs.declared.planned.Planned.{Planned}
 use Rattle.dli_calls.specs.Plans.{limit_of}
 use Rattle.program_rows.specs.State.{DatabasesState, roots_of, rows_of, rows_in}
 use Rattle.program_rows.specs.Answering.{told_blocked}
-use Rattle.program_rows.specs.Open.{records_of, opened, AreUnits}
+use Rattle.program_rows.specs.Telling.{set_told, spelled}
+use Rattle.log_records.specs.declared.record.Record.{Record}
+use Rattle.log_records.specs.declared.untold.Untold.{Untold}
+use Rattle.log_records.specs.declared.untold.Untold.TheVariants.{Memory, Full}
+use Rattle.change_records.specs.Images.{slots_at}
+use Rattle.program_rows.specs.Open.{records_of, slots_of, opened, AreUnits, AllTouch}
 use Rattle.program_rows.specs.declared.answer.Answered as answer
 use Rattle.program_rows.specs.declared.answer.DataAnswer.{DataAnswer}
 use Rattle.program_rows.specs.declared.answer.DataAnswer.TheVariants.{Answered, Abend, Blocked}
@@ -26,18 +31,31 @@ use Rattle.program_rows.specs.declared.opened.Opened.{Opened}
 
 -- the databases with what is open, as they are seen
 abbrev pub seen : Opened → DatabasesState
-seen o = opened (records_of o.units.items) o.stores.stores o.table
+seen o = opened (records_of o.units.items) (slots_of o.units.items) o.stores.stores o.table
 
 abbrev pub IsOpen : Opened → Type 0
 IsOpen o = AreUnits (records_of o.units.items) o.stores.stores o.table
+
+-- and the slots that its units have touched
+abbrev pub HasTouched : Opened → Type 0
+HasTouched o = AllTouch (records_of o.units.items) (slots_of o.units.items) o.stores.stores o.table
+
+pub record IsWhole (o : Opened) : Type 0 where
+  pub units : IsOpen o
+  pub touched : HasTouched o
 
 -- the records that a region has changed
 abbrev pub changed_in : ℕ → Opened → List Change
 changed_in region o = slice_index_or (records_of o.units.items) (region - 1) []
 
+-- the slots that a region has touched
+abbrev pub slots_in : ℕ → Opened → List Change
+slots_in region o = slice_index_or (slots_of o.units.items) (region - 1) []
+
 -- nothing has changed
 pub record IsSame (old new : Opened) : Type 0 where
   pub units : records_of new.units.items ≡ records_of old.units.items
+  pub slots : slots_of new.units.items ≡ slots_of old.units.items
   pub stores : new.stores.stores ≡ old.stores.stores
   pub table : new.table ≡ old.table
 
@@ -94,11 +112,14 @@ pub record IsSet (asked : Asked) (e : Edit) (old new : Opened) : Type 0 where
   pub room : is_full asked.number e.root (changed_in asked.region old) ≡ false
   pub units : records_of new.units.items
       ≡ slice_set (records_of old.units.items) (asked.region - 1) (with_change (kept_of asked.number slot e put.s) (changed_in asked.region old))
+  pub slots : slots_of new.units.items
+      ≡ slice_set (slots_of old.units.items) (asked.region - 1) (with_slot (kept_of asked.number slot e put.s) (slots_in asked.region old))
   pub asks : HasAskedIn asked old.table new.table
 
 -- no record is set; the region has asked for what the call needs
 pub record HasAsked (asked : Asked) (old new : Opened) : Type 0 where
   pub units : records_of new.units.items ≡ records_of old.units.items
+  pub slots : slots_of new.units.items ≡ slots_of old.units.items
   pub stores : new.stores.stores ≡ old.stores.stores
   pub asks : HasAskedIn asked old.table new.table
 
@@ -133,3 +154,30 @@ Makes asked dbd p old new (Blocked b) = ⊥
 abbrev pub EditMade : Asked → Edit → Opened → Opened → Option AbendCode → Type 0
 EditMade asked e old new None = IsSet asked e old new
 EditMade asked e old new (Some code) = IsSame old new
+
+-- ---- what is told of an edit
+
+-- the slot that is set, with the bytes there and those of the image
+abbrev pub edit_told : ℕ → ℕ → Option Edit → List Stored → List Record
+edit_told unit number (Some e) stores = set_told unit number e.image stores (slot_for e.root (slots_at number stores))
+edit_told unit number None stores = []
+
+-- nothing where it leads to an abend
+abbrev pub told_unless : Option AbendCode → List Record → List Record
+told_unless None records = records
+told_unless (Some code) records = []
+
+abbrev pub made_told : ℕ → ℕ → Option Edit → List Stored → DataAnswer → List Record
+made_told unit number edit stores (Answered a) = edit_told unit number edit stores
+made_told unit number edit stores (Abend code) = []
+made_told unit number edit stores (Blocked b) = []
+
+-- the edit leads to no abend, and what is told of it is longer than the room for it, where that is the reason
+abbrev pub planned_abend : Asked → Dbd → Option Edit → Opened → Option AbendCode
+planned_abend asked dbd (Some e) o = edit_abend asked dbd e o
+planned_abend asked dbd None o = None
+
+abbrev pub IsUntoldEdit : Asked → Dbd → Option Edit → Opened → ℕ → ℕ → Untold → Type 0
+IsUntoldEdit asked dbd edit o unit room Memory = Unit {0}
+IsUntoldEdit asked dbd edit o unit room Full =
+    (planned_abend asked dbd edit o ≡ None) × (room < length (spelled (edit_told unit asked.number edit o.stores.stores)))

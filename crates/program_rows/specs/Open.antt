@@ -1,21 +1,24 @@
 -- The open units of the regions: the records that each has changed, and what backing them out leaves.
-use Rattle.std.specs.Prelude.{◌≡◌, ◌≢◌, ℕ, ◌-◌, ◌<◌, ◌≤◌, ◌⊎◌, true, List, [], ◌∷◌, None, Some, length, suc, map, slice_get, slice_index_or, slice_set}
-use Rattle.std.specs.List.{AllByRecursion}
-use Rattle.std.specs.Option.{option_map_or}
+use Rattle.std.specs.Prelude.{◌≡◌, ◌≢◌, ℕ, ◌-◌, ◌<◌, ◌≤◌, ◌⊎◌, Bool, true, false, List, [], ◌∷◌, None, Some, length, suc, map, slice_index_or, slice_set}
+use Rattle.std.specs.List.{AllByRecursion, list_any}
 use Rattle.tm_types.specs.declared.resource.Resource.{Resource}
 use Rattle.tm_types.specs.declared.resource.Mode.TheVariants.{Exclusive}
-use Rattle.model_rows.specs.declared.row.Row.{Row}
 use Rattle.model_enqueue.specs.Table.{EnqueueTable}
 use Rattle.pi_enqueue.specs.Kept.{IsKept, held}
 use Rattle.seg_store.specs.Slots.{Stored, AreSlots, has_root}
+use Rattle.change_records.specs.Images.{image_at, IsSlotOf}
 use Rattle.unit_work.specs.declared.change.Change.{Change}
-use Rattle.unit_work.specs.Changes.{Changes, AreKept}
-use Rattle.unit_work.specs.BackOut.{backed_out, CanBackOut}
+use Rattle.unit_work.specs.Changes.{Changes, is_seen, AreKept}
+use Rattle.unit_work.specs.BackOut.{was_in, backed_out, CanBackOut}
 use Rattle.program_rows.specs.State.{DatabasesState, RegionRows, roots_of, rows_of}
 
 -- the records that each unit has changed
 abbrev pub records_of : List Changes → List (List Change)
 records_of units = map (λ u. u.records) units
+
+-- the slots that each unit has touched
+abbrev pub slots_of : List Changes → List (List Change)
+slots_of units = map (λ u. u.slots) units
 
 -- the stores with all these units backed out
 abbrev pub backed_all : List (List Change) → List Stored → List Stored
@@ -32,21 +35,15 @@ regions_from place [] all stores = []
 regions_from place (records ∷ units) all stores =
     record { rows = rows_of (seen_by place all stores); changed = roots_of records } ∷ regions_from (suc place) units all stores
 
--- the databases with these open units
-abbrev pub opened : List (List Change) → List Stored → EnqueueTable → DatabasesState
-opened units stores table = record {
+-- the databases with these open units, whose slots these are
+abbrev pub opened : List (List Change) → List (List Change) → List Stored → EnqueueTable → DatabasesState
+opened units slots stores table = record {
   committed = backed_all units stores;
   stores = stores;
   regions = regions_from 0 units units stores;
+  touched = slots;
   table = table;
 }
-
--- the image in a slot of the database of this number
-abbrev pub slots_at : ℕ → List Stored → List (List Row)
-slots_at db stores = option_map_or (λ s. s.slots) (slice_get stores (db - 1)) []
-
-abbrev pub image_at : ℕ → ℕ → List Stored → List Row
-image_at db slot stores = slice_index_or (slots_at db stores) slot []
 
 -- the region has the resource alone
 abbrev pub HoldsAlone : EnqueueTable → ℕ → Resource → Type 0
@@ -75,3 +72,24 @@ pub record AreUnits (units : List (List Change)) (stores : List Stored) (table :
   pub count : length units ≡ table.regions
   pub numbered : AllByRecursion (λ hold. 1 ≤ hold.0.resource.db) table.holds
   pub each : (place : ℕ) → place < length units → IsUnit table stores (suc place) (slice_index_or units place [])
+
+-- the record of one of these changes was in the slot
+abbrev pub was_there : List Change → ℕ → ℕ → Bool
+was_there records db slot = list_any (was_in db slot) records
+
+-- A touched slot: its record before is one that the unit has changed, or it was free, and the region has the sequence of
+-- the database alone. Backing out leaves the image that it had first.
+pub record IsTouched (table : EnqueueTable) (stores : List Stored) (region : ℕ) (records : List Change) (s : Change) : Type 0 where
+  pub there : IsSlotOf stores s.db s.slot
+  pub first : image_at s.db s.slot (backed_out records stores) ≡ s.before
+  pub sits : (was_there records s.db s.slot ≡ true) ⊎ ((s.before ≡ []) × HoldsAlone table region (record { db = s.db; root = None }))
+
+-- the slots that a unit with these records has touched: backing it out changes no other
+pub record AreTouched (table : EnqueueTable) (stores : List Stored) (region : ℕ) (records slots : List Change) : Type 0 where
+  pub each : AllByRecursion (IsTouched table stores region records) slots
+  pub others : (db slot : ℕ) → 1 ≤ db → is_seen db slot slots ≡ false → image_at db slot (backed_out records stores) ≡ image_at db slot stores
+
+-- so for each unit, the first of them in region 1
+abbrev pub AllTouch : List (List Change) → List (List Change) → List Stored → EnqueueTable → Type 0
+AllTouch units slots stores table =
+    (place : ℕ) → place < length units → AreTouched table stores (suc place) (slice_index_or units place []) (slice_index_or slots place [])

@@ -17,12 +17,14 @@ pub record RegionRows : Type 0 where
   pub changed : List (ℕ × List ℕ)
 
 -- The stores as they were committed, which backing out all regions would leave, slots included; the stores as
--- they are, with the changes of all regions; what each region sees and has changed; and what the regions hold
+-- they are, with the changes of all regions; what each region sees and has changed; the slots that each region has
+-- touched, by database and slot, each with its first image and the root last touched in it; and what the regions hold
 -- and wait for.
 pub record DatabasesState : Type 0 where
   pub committed : List Stored
   pub stores : List Stored
   pub regions : List RegionRows
+  pub touched : List (List Change)
   pub table : EnqueueTable
 
 -- the records of these changes
@@ -67,6 +69,10 @@ no_rows = record { rows = []; changed = [] }
 
 abbrev pub region_at : ℕ → DatabasesState → RegionRows
 region_at region databases = slice_index_or databases.regions (region - 1) no_rows
+
+-- the slots that a region has touched since its last commit or back out
+abbrev pub touched_by : ℕ → DatabasesState → List Change
+touched_by region databases = slice_index_or databases.touched (region - 1) []
 
 pub record IsRegionOf (databases : DatabasesState) (region : ℕ) : Type 0 where
   pub least : 1 ≤ region

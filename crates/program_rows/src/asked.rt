@@ -1,5 +1,6 @@
 //! What a call of a region asks for.
-ghost use Rattle.std.specs.Prelude.{◌≡◌, ◌≢◌, ◌≤◌, None, IfOk, OnOk, OnErr, map};
+ghost use Rattle.std.specs.Prelude.{◌≡◌, ◌≢◌, ◌≤◌, None, IfOk, IfErr, OnOk, OnErr, map};
+ghost use Rattle.log_records.specs.declared.untold.Untold.TheVariants.{Memory as NoMemory};
 ghost use Rattle.std.specs.List.{AllByRecursion};
 ghost use Rattle.model_enqueue.specs.Ask.{after_asks, first_blocked};
 ghost use Rattle.model_enqueue.specs.Cycle.{IsRegion};
@@ -9,6 +10,7 @@ ghost use Rattle.program_rows.specs.Making.{Reads, WaitsAt};
 
 use crate::{Answered, Blocked, DataAnswer};
 use dli_calls::Planned;
+use log_records::Untold;
 use model_dli::Need;
 use pi_enqueue::{Request, Table};
 use std::alloc::Global;
@@ -67,10 +69,11 @@ fn request_of(region: u32, number: u8, need: &Need) -> Request
 
 /// A call that changes no record is answered as planned; where what it asks for is blocked, the region
 /// waits.
-pub fn read(asked: &Asked, planned: Planned, table: &mut Table) -> Result<DataAnswer, Memory>
+pub fn read(asked: &Asked, planned: Planned, table: &mut Table) -> Result<DataAnswer, Untold>
     requires region { IsRegion table.old asked.now.region }
     requires own { AllByRecursion (λ request. request.region ≡ asked.now.region) asked.now.requests.items }
     ensures reads { IfOk result (Reads asked.now.requests.items table.old planned) }
+    ensures memory { IfErr result (λ e. e ≡ NoMemory) }
     ensures table { OnOk result (table.new ≡ after_asks asked.now.region asked.now.requests.items table.old) }
     ensures held { IsKept table.new }
     ensures kept { OnErr result (table.new ≡ table.old) }
@@ -87,16 +90,17 @@ pub fn read(asked: &Asked, planned: Planned, table: &mut Table) -> Result<DataAn
             area: planned.area,
             position: planned.position,
         })),
-        Err(error) => Err(error),
+        Err(_) => Err(Untold::Memory),
     }
 }
 
 /// The region waits at the first request that is blocked.
-pub fn wait(asked: &Asked, table: &mut Table) -> Result<DataAnswer, Memory>
+pub fn wait(asked: &Asked, table: &mut Table) -> Result<DataAnswer, Untold>
     requires region { IsRegion table.old asked.now.region }
     requires own { AllByRecursion (λ request. request.region ≡ asked.now.region) asked.now.requests.items }
     requires blocked { first_blocked asked.now.requests.items table.old ≢ None }
     ensures waits { IfOk result (WaitsAt asked.now.requests.items table.old) }
+    ensures memory { IfErr result (λ e. e ≡ NoMemory) }
     ensures table { OnOk result (table.new ≡ after_asks asked.now.region asked.now.requests.items table.old) }
     ensures held { IsKept table.new }
     ensures kept { OnErr result (table.new ≡ table.old) }
@@ -109,7 +113,7 @@ pub fn wait(asked: &Asked, table: &mut Table) -> Result<DataAnswer, Memory>
             by: blocked.by,
         })),
         Ok(None) => unreachable!(),
-        Err(error) => Err(error),
+        Err(_) => Err(Untold::Memory),
     }
 }
 

@@ -1,23 +1,29 @@
 //! A call of a region on a database.
-ghost use Rattle.std.specs.Prelude.{◌≡◌, ◌≤◌, ◌-◌, Some, All, IfOk, OnErr, length, map, slice_get};
+ghost use Rattle.std.specs.Prelude.{◌≡◌, ◌≤◌, ◌-◌, Some, All, IfOk, IfErr, OnOk, OnErr, length, map, slice_get};
 ghost use Rattle.model_dli.specs.Conditions.{IsDbCall, IsPosition};
 ghost use Rattle.program_rows.specs.Calling.{IsDone};
-ghost use Rattle.program_rows.specs.Making.{IsOpen, IsSame};
+ghost use Rattle.model_dli.specs.Dli.{dli};
+ghost use Rattle.change_records.specs.Told.{ChangesTold};
+ghost use Rattle.program_rows.specs.State.{rows_numbered};
+ghost use Rattle.program_rows.specs.Open.{slots_of};
+ghost use Rattle.program_rows.specs.Telling.{call_told, touched_after, Tells, IsUntold};
+ghost use Rattle.program_rows.specs.Making.{seen, IsOpen, HasTouched, IsSame};
 
 use crate::DataAnswer;
 use crate::asked::{asked_for, read, wait};
 use crate::making::make;
 use crate::opened::Opened;
 use dli_calls::plan_needed;
+use log_records::Untold;
 use model_dli::{DbCall, Position};
 use std::alloc::Global;
-use tm_types::{Dbd, Memory};
+use tm_types::Dbd;
 
 /// Makes a call of a region on the database of this number, counted from 1; where what it needs is
 /// blocked, the region waits and no call is made.
 ///
 /// What is needed is told by the rows in the store: up to the first need that is blocked they are as
-/// the region sees them.
+/// the region sees them. The record that the call changes is told of first, by its unit's number in the log.
 pub fn call(
     alloc: Global,
     region: u32,
@@ -26,18 +32,29 @@ pub fn call(
     at: &Position,
     call: &DbCall,
     opened: &mut Opened,
-) -> Result<DataAnswer, Memory>
+    unit: u64,
+    room: usize,
+    told: &mut Vec<u8>,
+) -> Result<DataAnswer, Untold>
     requires open { IsOpen opened.old }
+    requires touched { HasTouched opened.old }
     requires first { 1 ≤ region }
     requires last { region ≤ length opened.old.units.items }
     requires number { 1 ≤ number }
     requires database { slice_get (map (λ s. s.dbd) opened.old.stores.stores) (number - 1) ≡ Some dbd.now }
     requires few { length dbd.now.types ≤ 255 }
     requires short { All (λ type. type.bytes ≤ 1996) dbd.now.types }
+    requires sectors { dbd.now.sectors ≤ 1 }
     requires position { IsPosition dbd.now.types at.now }
     requires call { IsDbCall dbd.now.types call.now }
     ensures done { IfOk result (IsDone region number dbd.now call.now at.now opened.old opened.new) }
+    ensures tells { OnOk result (Tells (call_told unit region number dbd.now call.now at.now (seen opened.old)) room told.old.items told.new.items) }
+    ensures changes { OnOk result (ChangesTold unit opened.old.stores.stores opened.new.stores.stores (call_told unit region number dbd.now call.now at.now (seen opened.old))) }
+    ensures touched { IfOk result (λ a. slots_of opened.new.units.items ≡ touched_after region number (dli dbd.now call.now at.now (rows_numbered region number (seen opened.old))) (seen opened.old) a) }
+    ensures touch { OnOk result (HasTouched opened.new) }
     ensures kept { OnErr result (IsSame opened.old opened.new) }
+    ensures untold { OnErr result (told.new.items ≡ told.old.items) }
+    ensures full { IfErr result (IsUntold (call_told unit region number dbd.now call.now at.now (seen opened.old)) room) }
 {
     let needed = plan_needed(alloc, dbd, call, at, opened.stores.store(number))?;
     let asked = asked_for(alloc, region, number, needed.needs.as_slice())?;
@@ -52,5 +69,5 @@ pub fn call(
     {
         return wait(&asked, &mut opened.table);
     }
-    make(alloc, dbd, &asked, planned, opened)
+    make(alloc, dbd, &asked, planned, opened, unit, room, told)
 }

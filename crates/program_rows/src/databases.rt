@@ -1,5 +1,5 @@
 //! The databases, and the calls on them.
-ghost use Rattle.std.specs.Prelude.{◌≡◌, ◌≤◌, ◌-◌, [], Some, All, IfOk, OnErr, length, map, replicate, slice_get, slice_set};
+ghost use Rattle.std.specs.Prelude.{◌≡◌, ◌≤◌, ◌-◌, ℕ, [], Some, All, IfOk, IfErr, OnOk, OnErr, length, map, replicate, slice_get, slice_set};
 ghost use Rattle.model_dli.specs.Conditions.{IsDbCall, IsPosition};
 ghost use Rattle.model_dli.specs.Data.{data_abend};
 ghost use Rattle.model_dli.specs.Dli.{dli};
@@ -10,7 +10,9 @@ ghost use Rattle.tm_types.specs.SegTypes.{IsHierarchy};
 ghost use Rattle.model_enqueue.specs.Cycle.{IsRegion};
 ghost use Rattle.pi_enqueue.specs.Kept.{IsKept};
 ghost use Rattle.unit_work.specs.BackOut.{CanBackOut, backed_out};
-ghost use Rattle.program_rows.specs.Open.{records_of};
+ghost use Rattle.program_rows.specs.Open.{records_of, slots_of};
+ghost use Rattle.change_records.specs.Told.{ChangesTold};
+ghost use Rattle.program_rows.specs.Telling.{back_told, call_told, touched_after, Tells, IsUntold};
 ghost use Rattle.program_rows.specs.Making.{changed_in};
 ghost use Rattle.seg_store.specs.Stores.{empty_stores};
 ghost use Rattle.program_rows.specs.State.{clean_region, committed_rows, data_of, dbds_of, region_at, rows_numbered, rows_of, AreRowsOf, IsClean, IsRegionOf};
@@ -18,7 +20,9 @@ ghost use Rattle.program_rows.specs.Isolation.{requests_of_call};
 ghost use Rattle.program_rows.specs.Answering.{blocked_of, told_blocked, regions_after, regions_backed, Gives, IsCommitted, IsGivenUp, LeadsToAbend, Stands, StaysAtAbend, table_left};
 
 use crate::opened::{Opened, put_unit, take_unit, unit_of, units_of};
+use crate::telling::tell_slots;
 use crate::{DataAnswer, calling};
+use log_records::Untold;
 use model_dli::{DbCall, Position};
 use pi_enqueue::Table;
 use seg_store::Stores;
@@ -40,13 +44,13 @@ pub struct Databases {
 
 impl Model for Databases {
     ghost use Rattle.program_rows.specs.State.{DatabasesState};
-    ghost use Rattle.program_rows.specs.Making.{seen, IsOpen};
+    ghost use Rattle.program_rows.specs.Making.{seen, IsWhole};
 
     ghost Value = { DatabasesState };
 
     ghost view = { λ d. seen d.opened };
 
-    ghost invariant = { λ d. IsOpen d.opened };
+    ghost invariant = { λ d. IsWhole d.opened };
 }
 
 impl Databases {
@@ -55,6 +59,7 @@ impl Databases {
         ensures stores { IfOk result (λ d. d.stores ≡ empty_stores dbds.now) }
         ensures committed { IfOk result (λ d. d.committed ≡ empty_stores dbds.now) }
         ensures regions { IfOk result (λ d. d.regions ≡ replicate regions (clean_region (rows_of (empty_stores dbds.now)))) }
+        ensures touched { IfOk result (λ d. d.touched ≡ replicate regions []) }
         ensures table { IfOk result (λ d. d.table ≡ empty_table regions) }
         ensures rows { IfOk result (λ d. AreRowsOf (dbds_of d) (committed_rows d)) }
     {
@@ -101,6 +106,9 @@ impl Databases {
     /// What the region sees and has changed is then as the call leaves it; where the PCB stands after the
     /// call is told. What was committed stays, and so does what other regions see. An abend changes nothing
     /// of this. Want of memory changes nothing at all, and any call may answer it.
+    ///
+    /// The record that the call changes is told of by the unit's number in the log: what stood in its slot, and what stands
+    /// there then. Where that is longer than `room`, the call answers `Full` and changes nothing.
     pub fn call(
         &mut self,
         region: u32,
@@ -108,12 +116,16 @@ impl Databases {
         number: u8,
         at: &Position,
         call: &DbCall,
-    ) -> Result<DataAnswer, Memory>
+        unit: u64,
+        room: usize,
+        told: &mut Vec<u8>,
+    ) -> Result<DataAnswer, Untold>
         requires region { IsRegionOf self.old region }
         requires number { 1 ≤ number }
         requires database { slice_get (dbds_of self.old) (number - 1) ≡ Some dbd.now }
         requires few { length dbd.now.types ≤ 255 }
         requires short { All (λ type. type.bytes ≤ 1996) dbd.now.types }
+        requires sectors { dbd.now.sectors ≤ 1 }
         requires position { IsPosition dbd.now.types at.now }
         requires call { IsDbCall dbd.now.types call.now }
         ensures blocked { IfOk result (λ a. blocked_of a ≡ told_blocked (first_blocked (requests_of_call region number dbd.now call.now at.now self.old) self.old.table)) }
@@ -125,9 +137,25 @@ impl Databases {
         ensures stays { IfOk result (StaysAtAbend self.old self.new) }
         ensures committed { self.new.committed ≡ self.old.committed }
         ensures databases { dbds_of self.new ≡ dbds_of self.old }
+        ensures tells { OnOk result (Tells (call_told unit region number dbd.now call.now at.now self.old) room told.old.items told.new.items) }
+        ensures changes { OnOk result (ChangesTold unit self.old.stores self.new.stores (call_told unit region number dbd.now call.now at.now self.old)) }
+        ensures touched { IfOk result (λ a. self.new.touched ≡ touched_after region number (dli dbd.now call.now at.now (rows_numbered region number self.old)) self.old a) }
         ensures kept { OnErr result (self.new ≡ self.old) }
+        ensures untold { OnErr result (told.new.items ≡ told.old.items) }
+        ensures full { IfErr result (IsUntold (call_told unit region number dbd.now call.now at.now self.old) room) }
     {
-        calling::call(self.alloc, region, dbd, number, at, call, &mut self.opened)
+        calling::call(
+            self.alloc,
+            region,
+            dbd,
+            number,
+            at,
+            call,
+            &mut self.opened,
+            unit,
+            room,
+            told,
+        )
     }
 
     /// The region waits for nothing any more. This takes no memory.
@@ -139,6 +167,32 @@ impl Databases {
         let _regions = self.opened.table.regions();
     }
 
+    /// Tells by the unit's number in the log what `back_out` makes of each slot that the region has touched: what stands there,
+    /// and what stood there first, also where both are equal. Where that is longer than `room`, the answer is `Full`. An Err
+    /// leaves what was told before.
+    pub fn tell_back(
+        &self,
+        region: u32,
+        unit: u64,
+        room: usize,
+        told: &mut Vec<u8>,
+    ) -> Result<(), Untold>
+        requires region { IsRegionOf self.now region }
+        requires sectors { AllByRecursion (λ s. s.dbd.sectors ≤ 1) self.now.stores }
+        ensures tells { OnOk result (Tells (back_told unit region self.now) room told.old.items told.new.items) }
+        ensures untold { OnErr result (told.new.items ≡ told.old.items) }
+        ensures full { IfErr result (IsUntold (back_told unit region self.now) room) }
+    {
+        tell_slots(
+            self.alloc,
+            unit,
+            unit_of(&self.opened.units, region).touched(),
+            &self.opened.stores,
+            room,
+            told,
+        )
+    }
+
     /// Takes back all changes of a region since its last commit, each record to the slot that it had; what it
     /// holds it keeps. This takes no memory.
     pub fn back_out(&mut self, region: u32)
@@ -147,6 +201,9 @@ impl Databases {
         ensures committed { self.new.committed ≡ self.old.committed }
         ensures table { self.new.table ≡ self.old.table }
         ensures databases { dbds_of self.new ≡ dbds_of self.old }
+        ensures touched { self.new.touched ≡ slice_set self.old.touched (region - 1) [] }
+        // `tell_back` tells what this makes of the slots.
+        ensures changes { (unit : ℕ) → ChangesTold unit self.old.stores self.new.stores (back_told unit region self.old) }
     {
         take_back(self.alloc, region, &mut self.opened);
     }
@@ -191,6 +248,7 @@ fn take_back(alloc: Global, region: u32, opened: &mut Opened)
     requires most { region ≤ length opened.old.units.items }
     requires can { CanBackOut (changed_in region opened.old) opened.old.stores.stores }
     ensures units { records_of opened.new.units.items ≡ slice_set (records_of opened.old.units.items) (region - 1) [] }
+    ensures slots { slots_of opened.new.units.items ≡ slice_set (slots_of opened.old.units.items) (region - 1) [] }
     ensures stores { opened.new.stores.stores ≡ backed_out (changed_in region opened.old) opened.old.stores.stores }
     ensures table { opened.new.table ≡ opened.old.table }
 {

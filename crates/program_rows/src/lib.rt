@@ -17,3 +17,4 @@ mod calling;
 mod databases;
 mod making;
 mod opened;
+mod telling;

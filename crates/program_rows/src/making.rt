@@ -11,12 +11,15 @@ ghost use Rattle.seg_store.specs.Slots.{AreSlots, rows_of_slots, slot_for};
 ghost use Rattle.unit_work.specs.Changes.{is_full, no_changes, with_touch};
 ghost use Rattle.dli_calls.specs.Plans.{IsThere, limit_of};
 ghost use Rattle.program_rows.specs.State.{rows_in, rows_of};
-ghost use Rattle.program_rows.specs.Making.{IsPut, IsSame, IsSet, EditMade, HasAskedIn, Makes, TakesSlot, changed_in, edit_abend, kept_of};
+ghost use Rattle.program_rows.specs.Telling.{Tells, IsUntold};
+ghost use Rattle.program_rows.specs.Making.{IsPut, IsSame, IsSet, EditMade, HasAskedIn, Makes, TakesSlot, IsUntoldEdit, changed_in, edit_abend, edit_told, kept_of, made_told, told_unless};
 
 use crate::asked::{Asked, ask};
 use crate::opened::{Opened, put_unit, take_unit, unit_of};
+use crate::telling::{image_in, tell};
 use crate::{Answered, DataAnswer};
 use dli_calls::{Edit, Planned};
+use log_records::Untold;
 use model_dli::RowsLimit;
 use model_dli::abends::{RECORD_TOO_LONG, TOO_MANY_RECORDS, TOO_MANY_ROOTS};
 use seg_rows::{RecordImage, Rows};
@@ -25,14 +28,17 @@ use std::alloc::Global;
 use tm_types::{AbendCode, Dbd, Key, Memory};
 use unit_work::{Prepared, Unit};
 
-/// Makes a planned call of a region that nothing blocks.
+/// Makes a planned call of a region that nothing blocks, once the record that it sets is told of.
 pub fn make(
     alloc: Global,
     dbd: &Dbd,
     asked: &Asked,
     planned: Planned,
     opened: &mut Opened,
-) -> Result<DataAnswer, Memory>
+    unit: u64,
+    room: usize,
+    told: &mut Vec<u8>,
+) -> Result<DataAnswer, Untold>
     requires least { 1 ≤ asked.now.region }
     requires most { asked.now.region ≤ length opened.old.units.items }
     requires region { IsRegion opened.old.table asked.now.region }
@@ -42,8 +48,12 @@ pub fn make(
     requires database { slice_get (map (λ s. s.dbd) opened.old.stores.stores) (asked.now.number - 1) ≡ Some dbd.now }
     requires image { IfSome planned.edit (λ e. IsImage dbd.now e.root e.image) }
     requires there { IsThere (rows_in asked.now.number (rows_of opened.old.stores.stores)) planned.edit }
+    requires sectors { dbd.now.sectors ≤ 1 }
     ensures made { IfOk result (Makes asked.now dbd.now planned opened.old opened.new) }
+    ensures tells { IfOk result (λ a. Tells (made_told unit asked.now.number planned.edit opened.old.stores.stores a) room told.old.items told.new.items) }
     ensures kept { OnErr result (IsSame opened.old opened.new) }
+    ensures untold { OnErr result (told.new.items ≡ told.old.items) }
+    ensures full { IfErr result (IsUntoldEdit asked.now dbd.now planned.edit opened.old unit room) }
 {
     let answered = Answered {
         status: planned.status,
@@ -53,25 +63,28 @@ pub fn make(
     let Some(edit) = planned.edit else {
         return match ask(asked, &mut opened.table) {
             Ok(()) => Ok(DataAnswer::Answered(answered)),
-            Err(error) => Err(error),
+            Err(_) => Err(Untold::Memory),
         };
     };
-    match change(alloc, dbd, asked, edit, opened) {
+    match change(alloc, dbd, asked, edit, opened, unit, room, told) {
         Ok(None) => Ok(DataAnswer::Answered(answered)),
         Ok(Some(code)) => Ok(DataAnswer::Abend(code)),
         Err(error) => Err(error),
     }
 }
 
-// Sets a record, or tells the abend to which that leads. One changed record too many goes before a
-// limit of the database.
+// Sets a record, once it is told of, or answers the abend to which that leads. One changed record too many goes
+// before a limit of the database.
 fn change(
     alloc: Global,
     dbd: &Dbd,
     asked: &Asked,
     edit: Edit,
     opened: &mut Opened,
-) -> Result<Option<AbendCode>, Memory>
+    unit: u64,
+    room: usize,
+    told: &mut Vec<u8>,
+) -> Result<Option<AbendCode>, Untold>
     requires least { 1 ≤ asked.now.region }
     requires most { asked.now.region ≤ length opened.old.units.items }
     requires region { IsRegion opened.old.table asked.now.region }
@@ -81,9 +94,13 @@ fn change(
     requires database { slice_get (map (λ s. s.dbd) opened.old.stores.stores) (asked.now.number - 1) ≡ Some dbd.now }
     requires image { IsImage dbd.now edit.root edit.image }
     requires there { IsThere (rows_in asked.now.number (rows_of opened.old.stores.stores)) (Some edit) }
+    requires sectors { dbd.now.sectors ≤ 1 }
     ensures abend { IfOk result (λ o. o ≡ edit_abend asked.now dbd.now edit opened.old) }
     ensures made { IfOk result (EditMade asked.now edit opened.old opened.new) }
+    ensures tells { IfOk result (λ o. Tells (told_unless o (edit_told unit asked.now.number (Some edit) opened.old.stores.stores)) room told.old.items told.new.items) }
     ensures kept { OnErr result (IsSame opened.old opened.new) }
+    ensures untold { OnErr result (told.new.items ≡ told.old.items) }
+    ensures full { IfErr result (IsUntoldEdit asked.now dbd.now (Some edit) opened.old unit room) }
 {
     if unit_of(&opened.units, asked.region).is_full(asked.number, &edit.root) {
         return Ok(Some(AbendCode {
@@ -91,7 +108,7 @@ fn change(
         }));
     }
     match slot_to_take(dbd, &edit, opened.stores.store(asked.number)) {
-        Ok(slot) => match set(alloc, asked, slot, edit, opened) {
+        Ok(slot) => match tell_and_set(alloc, asked, dbd, slot, edit, opened, unit, room, told) {
             Ok(()) => Ok(None),
             Err(error) => Err(error),
         },
@@ -125,6 +142,58 @@ fn record_limit(dbd: &Dbd) -> usize
     ensures { result ≡ record_limit dbd.now }
 {
     4000 * dbd.sectors as usize
+}
+
+// Tells of a record, and then sets it; where it isn't set, it isn't told of.
+fn tell_and_set(
+    alloc: Global,
+    asked: &Asked,
+    dbd: &Dbd,
+    slot: u16,
+    edit: Edit,
+    opened: &mut Opened,
+    unit: u64,
+    room: usize,
+    told: &mut Vec<u8>,
+) -> Result<(), Untold>
+    requires least { 1 ≤ asked.now.region }
+    requires most { asked.now.region ≤ length opened.old.units.items }
+    requires region { IsRegion opened.old.table asked.now.region }
+    requires own { AllByRecursion (λ request. request.region ≡ asked.now.region) asked.now.requests.items }
+    requires free { first_blocked asked.now.requests.items opened.old.table ≡ None }
+    requires first { 1 ≤ asked.now.number }
+    requires database { slice_get (map (λ s. s.dbd) opened.old.stores.stores) (asked.now.number - 1) ≡ Some dbd.now }
+    requires takes { IfSome (slice_get opened.old.stores.stores (asked.now.number - 1)) (λ s. TakesSlot s edit slot) }
+    requires room { is_full asked.now.number edit.root (changed_in asked.now.region opened.old) ≡ false }
+    requires sectors { dbd.now.sectors ≤ 1 }
+    ensures set { OnOk result (IsSet asked.now edit opened.old opened.new) }
+    ensures tells { OnOk result (Tells (edit_told unit asked.now.number (Some edit) opened.old.stores.stores) room told.old.items told.new.items) }
+    ensures kept { OnErr result (IsSame opened.old opened.new) }
+    ensures untold { OnErr result (told.new.items ≡ told.old.items) }
+    ensures full { IfErr result (IsUntold (edit_told unit asked.now.number (Some edit) opened.old.stores.stores) room) }
+{
+    let length = told.len();
+    let store = opened.stores.store(asked.number);
+    let before = image_in(store, slot);
+    match tell(
+        alloc,
+        unit,
+        asked.number,
+        slot,
+        before,
+        &edit.image,
+        room,
+        told,
+    ) {
+        Ok(()) => match set(alloc, asked, slot, edit, opened) {
+            Ok(()) => Ok(()),
+            Err(_) => {
+                told.truncate(length);
+                Err(Untold::Memory)
+            }
+        },
+        Err(error) => Err(error),
+    }
 }
 
 // Keeps the record's image in the unit, asks for what the call needs, and then sets the record.

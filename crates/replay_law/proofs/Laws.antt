@@ -23,7 +23,7 @@ use Rattle.log_records.specs.declared.record.Record.TheVariants.{Input, Reply, D
 use Rattle.model_image.specs.States.{is_terminal, is_code, breaks_a_rule}
 use Rattle.model_image.specs.Slots.{is_image_of}
 use Rattle.model_image.specs.Replay.{Replay, is_of_unit, without_unit, with_lasting, syncs, is_known, replay_one, replay_all}
-use Rattle.model_image.specs.Steps.{output_record, completion_records}
+use Rattle.step_records.specs.Records.{output_record, completion_records}
 use Rattle.model_image.proofs.Steps.{accepts_again, acknowledges_again, discards_again, completes_again}
 use Rattle.replay_law.specs.Sound.{Fits}
 use Rattle.replay_law.specs.Steps.{HasPads, IsFree, PadFits, takes_switched, has_receiver}

@@ -20,7 +20,7 @@ use Rattle.model_machine.specs.Lasting.LastingStep.{Accepts, Acknowledges, Compl
 use Rattle.log_records.specs.declared.record.Record.{Record}
 use Rattle.log_records.specs.declared.record.Record.TheVariants.{Input, Reply, Discarded, Acknowledged, SyncPoint}
 use Rattle.model_image.specs.Slots.{named_by}
-use Rattle.model_image.specs.Steps.{output_record, completion_records}
+use Rattle.step_records.specs.Records.{output_record, completion_records}
 use Rattle.model_image.specs.Replay.{replay_all}
 use Rattle.replay_law.specs.Records.{is_change}
 use Rattle.replay_law.specs.Sound.{Fits}

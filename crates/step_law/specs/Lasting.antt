@@ -16,7 +16,7 @@ use Rattle.model_machine.specs.Lasting.LastingStep.{Accepts, Acknowledges, Compl
 use Rattle.log_records.specs.declared.record.Record.{Record}
 use Rattle.log_records.specs.declared.record.Record.TheVariants.{Input, Discarded, Acknowledged, SyncPoint}
 use Rattle.model_image.specs.States.{is_terminal, is_code}
-use Rattle.model_image.specs.Steps.{completion_records}
+use Rattle.step_records.specs.Records.{completion_records}
 use Rattle.replay_law.specs.Sound.{Fits}
 use Rattle.replay_law.specs.Steps.{HasPads, IsFree, PadFits, has_receiver}
 use Rattle.slot_law.specs.Committed.{without_touches, without_sync, synced}

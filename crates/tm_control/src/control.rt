@@ -9,6 +9,7 @@ ghost use Rattle.model_machine.specs.Steps.{is_quiet, show_answer};
 ghost use Rattle.model_machine.specs.History.{Adds, AddsEntry, AddsNothing, AreSteps, is_fault, now_of};
 ghost use Rattle.deadlock_pick.specs.Broken.{HasNoCycles};
 ghost use Rattle.lasting_state.specs.Showing.{IsShown};
+ghost use Rattle.tm_machine.specs.Answers.{Answers};
 ghost use Rattle.tm_control.specs.Noting.{noted};
 ghost use Rattle.tm_control.specs.contracts.control.Control.{the_row};
 
@@ -21,6 +22,9 @@ use system_types::System;
 use tm_machine::Parts;
 use tm_types::{Memory, Name, Segments};
 
+/// The unit of all records while no log counts units.
+const FIRST_UNIT: u64 = 1;
+
 /// The control region. Contracts see its system, what it opened with, its history and the room for
 /// further entries; what its machine has come to follows from these.
 #[derive(Debug, Drop)]
@@ -28,6 +32,8 @@ pub struct Control {
     parts: Parts,
     opening: Lasting,
     history: Vec<Entry>,
+    /// The records of the last call. No log takes them yet.
+    told: Vec<u8>,
 }
 
 impl Model for Control {
@@ -57,6 +63,7 @@ impl Control {
             parts,
             opening,
             history: Vec::new(alloc),
+            told: Vec::new(alloc),
         })
     }
 
@@ -101,7 +108,7 @@ impl Control {
         if self.history.reserve(1).is_err() {
             return Err(InputRefused::Fault(ControlFault::Memory));
         }
-        let answer = self.parts.accept(terminal, number, segments);
+        let answer = accept(&mut self.parts, terminal, number, segments, &mut self.told);
         note(
             &mut self.history,
             Entry::Accept(*terminal, number, kept, answer),
@@ -167,13 +174,43 @@ impl Control {
         if self.history.reserve(1).is_err() {
             return Err(ControlFault::Memory);
         }
-        match self.parts.turn(region) {
+        match turn(&mut self.parts, region, &mut self.told) {
             Ok(turned) => {
                 self.history.push_reserved(turn_entry(region, &turned));
                 Ok(turned)
             }
             Err(fault) => Err(fault),
         }
+    }
+}
+
+/// Takes an input. Without a log there is room for any records, so no room is as little there as memory.
+fn accept(
+    parts: &mut Parts,
+    terminal: &Name,
+    number: u64,
+    segments: Segments,
+    told: &mut Vec<u8>,
+) -> Result<Taken, InputRefused>
+    requires { 0 < length segments }
+    ensures { Answers parts.old parts.new (Accept terminal.now number segments result) }
+{
+    told.clear();
+    match parts.accept(terminal, number, segments, usize::MAX, told) {
+        Ok(answer) => answer,
+        Err(_) => Err(InputRefused::Fault(ControlFault::Memory)),
+    }
+}
+
+/// Lets a region do its next step, as `accept`.
+fn turn(parts: &mut Parts, region: u32, told: &mut Vec<u8>) -> Result<Turned, ControlFault>
+    requires { IsRegion parts.old.system region }
+    ensures { Answers parts.old parts.new (TurnEntry region result) }
+{
+    told.clear();
+    match parts.turn(region, FIRST_UNIT, usize::MAX, told) {
+        Ok(turned) => Ok(turned),
+        Err(_) => Err(ControlFault::Memory),
     }
 }
 

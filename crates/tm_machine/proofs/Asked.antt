@@ -11,6 +11,8 @@ use Rattle.conversation.specs.Refusals.{input_answer as conversation_answer}
 use Rattle.model_conversation.specs.declared.conversation.Conversation.{Conversation}
 use Rattle.model_system.specs.Codes.{code_at}
 use Rattle.model_system.specs.declared.code.Code.{Code}
+use Rattle.model_system.specs.declared.code.SegmentKind.{SegmentKind}
+use Rattle.model_system.specs.declared.code.SegmentKind.TheVariants.{Multiple, Single}
 use Rattle.model_system.specs.declared.code_state.CodeState.{CodeState}
 use Rattle.model_system.specs.System.{System}
 use Rattle.system_types.proofs.Indexed.{found_at}
@@ -315,6 +317,10 @@ module _ (system : System) (tables : TablesState) (states : List CodeState) (reg
   parts_acknowledged tables' terminal number (Err (Ahead first)) h = parts_same tables' h.1
   parts_acknowledged tables' terminal number (Err (AckFault fault)) h = parts_same tables' h
 
+most_few : (kind : SegmentKind) → most_segments kind ≤ 16
+most_few Multiple = omega arith
+most_few Single = omega arith
+
 -- ---- an input, as it is looked up step by step
 module _ (system : System) (tables : TablesState) (states : List CodeState) (regions : List (Option Busy)) (parts : AreParts system tables states regions)
     (terminal : List ℕ) (number : ℕ) (segments : List (List ℕ)) where
@@ -395,4 +401,5 @@ module _ (system : System) (tables : TablesState) (states : List CodeState) (reg
                 ∙ kept_is system conversation_here segments found (ap (λ o. code_at system.codes (code_for o segments)) (sym code_is) ∙ sym coded);
             named = name;
             free = idle;
+            few = let most_is = most_few found.transaction.segment_kind in omega (arith, most_is, limit, count, fits);
           }

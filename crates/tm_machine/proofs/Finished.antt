@@ -34,7 +34,7 @@ use Rattle.model_machine.specs.Machine.{message_at as message_in, Moment, Slot, 
 use Rattle.model_machine.specs.Lasting.{LastingStep, abend_outputs, applied, discarded_pad, padded, without_message}
 use Rattle.model_machine.specs.Lasting.LastingStep.{Completes, Discards}
 use Rattle.model_machine.specs.Requests.{blocked_now, slot_requests, table_after, table_by}
-use Rattle.model_machine.specs.Steps.{AtWork, After, ending_step, may_go_on, next_among, next_message, slot_after, slot_work, step_in_turn, sync_answer, turn_answer, work_answer, work_by}
+use Rattle.model_machine.specs.Steps.{AtWork, After, ending_step, lasting_step, may_go_on, next_among, next_message, slot_after, slot_work, step_in_turn, sync_answer, turn_answer, work_answer, work_by}
 use Rattle.model_machine.specs.Flags.{all_followed}
 use Rattle.model_machine.proofs.Flags.{states_again}
 use Rattle.tran_pick.specs.Picked.{IsFirstFree}
@@ -58,6 +58,9 @@ use Rattle.tm_machine.proofs.Raising.{IsFollowed, followed_all, followed_settled
 use Rattle.tm_machine.proofs.Scheduled.{parts_taken, told_taken}
 use Rattle.tm_machine.proofs.Stepped.{slot_is, trial_is, work_is}
 use Rattle.tm_machine.proofs.Tried.{IsTried, unit_trial}
+use Rattle.tm_machine.proofs.Telling.{longer_step, tells_step}
+use Rattle.tm_machine.specs.Told.{IsLonger, Tells}
+use Rattle.lasting_state.specs.Telling.{Tells as TablesTell, IsLonger as IsLongerStep}
 
 told_new : (messages : List Message) (slots : List (Option Slot)) → AllByRecursion (λ m. is_held slots m.id ≡ false) messages → IsTold slots (with_messages messages [])
 told_new [] slots free = tt
@@ -165,7 +168,7 @@ module _ (system : System) (tables : TablesState) (states : List CodeState) (reg
       let back : region - 1 + 1 ≡ region = omega (arith, there.0) in
       subst (λ n. IsUnit job_now given_here n tables.databases busy.unit) back (parts.at_work (region - 1) busy e).work.unit
 
-  tried : IsTried job_now given_here region tables.databases busy.unit
+  pub tried : IsTried job_now given_here region tables.databases busy.unit
   tried = unit_trial job_now given_here region tables.databases busy.unit unit_here
 
   abbrev work_now : AtWork
@@ -215,6 +218,39 @@ module _ (system : System) (tables : TablesState) (states : List CodeState) (reg
       ap (λ rows. Completes busy.id rows (outputs_of tried.trial) (pad_of tried.trial)) tried.rows
       ∙ ap (λ os. Completes busy.id (region_at region tables.databases).rows os (pad_of tried.trial)) tried.outputs
       ∙ ap (Completes busy.id (region_at region tables.databases).rows (outputs_by busy.unit)) tried.pad
+
+  -- the step that lasts, where the work ends so
+  pub ends_step : (end : WorkEnd) → EndsSo (state_with moment_now) region end → lasting_step system moment_now (Turn region) ≡ Some (ending_step slot_now tried.trial end)
+  ends_step end h = ap (option_and_then (step_in_turn system moment_now region)) slot_here ∙ step_here end h
+
+  -- a completion is told, and that it doesn't fit
+  module _ (unit room : ℕ) (sends : List EndedMessage) (sent_so : sends ≡ outputs_by busy.unit) (pad : PadChange) (pad_so : pad ≡ pad_by busy.unit) where
+    completed_step : lasting_step system moment_now (Turn region) ≡ Some (ending_step slot_now tried.trial Ends)
+        → lasting_step system moment_now (Turn region) ≡ Some (Completes busy.id (region_at region tables.databases).rows sends pad)
+    completed_step does =
+        does ∙ ap (λ s. Some s) (completes_is
+        ∙ ap (λ os. Completes busy.id (region_at region tables.databases).rows os (pad_by busy.unit)) (sym sent_so)
+        ∙ ap (Completes busy.id (region_at region tables.databases).rows sends) (sym pad_so))
+
+    pub completed_tells : (does : lasting_step system moment_now (Turn region) ≡ Some (ending_step slot_now tried.trial Ends)) (before after : List ℕ)
+        → TablesTell unit room (Completes busy.id (region_at region tables.databases).rows sends pad) tables before after → Tells system moment_now unit room (Turn region) before after
+    completed_tells does before after h =
+        tells_step system moment_now unit room (Turn region) (Completes busy.id (region_at region tables.databases).rows sends pad) tables (settings_of states) refl (completed_step does) before after h
+
+    pub completed_longer : (does : lasting_step system moment_now (Turn region) ≡ Some (ending_step slot_now tried.trial Ends))
+        → IsLongerStep unit room (Completes busy.id (region_at region tables.databases).rows sends pad) tables → IsLonger system moment_now unit room (Turn region)
+    completed_longer does h =
+        longer_step system moment_now unit room (Turn region) (Completes busy.id (region_at region tables.databases).rows sends pad) tables (settings_of states) refl (completed_step does) h
+
+  pub abended_tells : (unit room : ℕ) (abend : AbendCode) → EndsSo (state_with moment_now) region (Abends abend) → (before after : List ℕ)
+      → TablesTell unit room (Discards busy.id abend) tables before after → Tells system moment_now unit room (Turn region) before after
+  abended_tells unit room abend ends before after h =
+      tells_step system moment_now unit room (Turn region) (Discards busy.id abend) tables (settings_of states) refl (ends_step (Abends abend) ends) before after h
+
+  pub abended_longer : (unit room : ℕ) (abend : AbendCode) → EndsSo (state_with moment_now) region (Abends abend)
+      → IsLongerStep unit room (Discards busy.id abend) tables → IsLonger system moment_now unit room (Turn region)
+  abended_longer unit room abend ends h =
+      longer_step system moment_now unit room (Turn region) (Discards busy.id abend) tables (settings_of states) refl (ends_step (Abends abend) ends) h
 
   -- the message by the list of all messages
   found_in : message_in (messages_of tables.queues.queued) busy.id ≡ Some message_now

@@ -21,3 +21,4 @@ mod Roomed
 mod Finished
 mod Giving
 mod Breaking
+pub mod Telling

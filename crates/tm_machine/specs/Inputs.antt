@@ -1,5 +1,5 @@
 -- Inputs, but for the room that they want.
-use Rattle.std.specs.Prelude.{◌≡◌, ⊤, ℕ, ◌<◌, ◌-◌, ◌==◌, true, false, if◌then◌else◌, List, Option, Some, None, Result, Ok, Err, length}
+use Rattle.std.specs.Prelude.{◌≡◌, ⊤, ℕ, ◌<◌, ◌≤◌, ◌-◌, ◌==◌, true, false, if◌then◌else◌, List, Option, Some, None, Result, Ok, Err, length}
 use Rattle.std.specs.Option.{unwrap_or}
 use Rattle.model_machine.specs.declared.entry.Taken.{Taken}
 use Rattle.model_machine.specs.declared.entry.Taken.TheVariants.{New, Already}
@@ -41,6 +41,7 @@ pub record IsNewInput (parts : PartsState) (terminal : List ℕ) (number : ℕ) 
   pub kept : kept_so input.way input.code segments ≡ kept_input parts.system parts.moment.lasting terminal segments
   pub named : IsName input.code
   pub free : busy_conversation parts.moment.lasting terminal ≡ None
+  pub few : length segments ≤ 16
 
 -- the right answer, which isn't that the input is new; or a fault
 abbrev pub IsRefusal : Result Taken InputRefused → Result Taken InputRefused → Type 0

@@ -6,3 +6,4 @@ pub mod Inputs
 pub mod Victims
 pub mod Turns
 pub mod Ends
+pub mod Told

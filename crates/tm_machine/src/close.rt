@@ -1,15 +1,19 @@
 //! The end of a region's work on a message.
-ghost use Rattle.std.specs.Prelude.{◌≡◌, ◌≤◌, ◌-◌, ◌∷◌, None, Some, length, slice_get, slice_set, IfOk, OnOk, OnErr, IsSome, IsSomeAnd};
+ghost use Rattle.std.specs.Prelude.{◌≡◌, ◌≤◌, ◌-◌, ◌∷◌, None, Some, length, slice_get, slice_set, IfOk, IfErr, OnOk, OnErr, IsSome, IsSomeAnd};
 ghost use Rattle.model_queues.specs.Queue.{AreInOrder, IsNewId, message_at, queued_at};
 ghost use Rattle.model_machine.specs.Lasting.{abend_outputs, discarded_pad};
 ghost use Rattle.model_machine.specs.Lasting.LastingStep.{Completes, Discards};
+ghost use Rattle.log_records.specs.Spelling.{IsAbend};
+ghost use Rattle.step_telling.specs.Ranges.{HaveCounts, HasShortPad};
+ghost use Rattle.step_telling.specs.Untold.{WhereFull};
 ghost use Rattle.program_rows.specs.State.{committed_rows, dbds_of, region_at, AreRowsOf, IsRegionOf};
 ghost use Rattle.program_rows.specs.Answering.{IsCommitted, IsGivenUp};
 ghost use Rattle.lasting_state.specs.Tables.{given_back, with_databases, Applies, IsClosed};
+ghost use Rattle.lasting_state.specs.Telling.{IsLonger, Tells};
 ghost use Rattle.tm_machine.specs.Ends.{destinations};
 
 use crate::region::Busy;
-use lasting_state::Tables;
+use lasting_state::{Tables, Untold};
 use model_conversation::PadChange;
 use model_message::EndedMessage;
 use std::alloc::Global;
@@ -32,21 +36,30 @@ pub fn names_moved(
     Ok(names)
 }
 
-/// Completes the message of this id, and empties its region; this becomes of the pad of its origin. Want
-/// of memory changes nothing.
+/// Completes the message of this id, and empties its region; this becomes of the pad of its origin. The records of
+/// this unit, of at most `room` bytes, are appended. A refusal changes nothing.
 pub fn complete(
+    alloc: Global,
     regions: &mut Vec<Option<Busy>>,
     region: u32,
     tables: &mut Tables,
     id: u64,
     outputs: VecDeque<EndedMessage>,
     pad: PadChange,
-) -> Result<(), Memory>
+    unit: u64,
+    room: usize,
+    told: &mut Vec<u8>,
+) -> Result<(), Untold>
     requires positive { 1 ≤ region }
     requires defined { region ≤ length regions.old.items }
     requires works { IsRegionOf tables.old.databases region }
     requires found { IsSome (queued_at id tables.old.queues.queued) }
+    requires counts { HaveCounts outputs.items }
+    requires pad { HasShortPad pad }
     ensures regions { OnOk result (regions.new.items ≡ slice_set regions.old.items (region - 1) None) }
+    ensures told { OnOk result (Tells unit room (Completes id (region_at region tables.old.databases).rows outputs.items pad) tables.old told.old.items told.new.items) }
+    ensures untold { OnErr result (told.new.items ≡ told.old.items) }
+    ensures full { IfErr result (WhereFull (IsLonger unit room (Completes id (region_at region tables.old.databases).rows outputs.items pad) tables.old)) }
     ensures step { OnOk result (Applies (Completes id (region_at region tables.old.databases).rows outputs.items pad) tables.old tables.new) }
     ensures closed { OnOk result (IsClosed tables.new.databases (λ _. pad) (λ _. outputs.items) tables.old tables.new id) }
     ensures databases { OnOk result (IsCommitted region tables.old.databases tables.new.databases) }
@@ -54,9 +67,9 @@ pub fn complete(
     ensures dbds { dbds_of tables.new.databases ≡ dbds_of tables.old.databases }
     ensures same { OnErr result (regions.new ≡ regions.old) }
     ensures err { OnErr result (tables.new ≡ tables.old) }
-    ensures above { IsNewId tables.old.next_id tables.old.queues.queued }
+    ensures above { OnOk result (IsNewId tables.old.next_id tables.old.queues.queued) }
 {
-    match tables.complete(region, id, outputs, pad) {
+    match tables.complete(alloc, region, id, outputs, pad, unit, room, told) {
         Ok(()) => {
             empty(&mut regions[region as usize - 1]);
             Ok(())
@@ -65,8 +78,8 @@ pub fn complete(
     }
 }
 
-/// Discards the message of this id, the work on which ended abnormally, and empties its region. Want of
-/// memory changes nothing.
+/// Discards the message of this id, the work on which ended abnormally, and empties its region. The record of this
+/// unit, of at most `room` bytes, is appended. A refusal changes nothing.
 pub fn discard(
     alloc: Global,
     regions: &mut Vec<Option<Busy>>,
@@ -74,21 +87,28 @@ pub fn discard(
     tables: &mut Tables,
     id: u64,
     abend: AbendCode,
-) -> Result<(), Memory>
+    unit: u64,
+    room: usize,
+    told: &mut Vec<u8>,
+) -> Result<(), Untold>
     requires positive { 1 ≤ region }
     requires defined { region ≤ length regions.old.items }
     requires works { IsRegionOf tables.old.databases region }
     requires found { IsSome (queued_at id tables.old.queues.queued) }
+    requires abend { IsAbend abend.number }
     ensures regions { OnOk result (regions.new.items ≡ slice_set regions.old.items (region - 1) None) }
+    ensures told { OnOk result (Tells unit room (Discards id abend) tables.old told.old.items told.new.items) }
+    ensures untold { OnErr result (told.new.items ≡ told.old.items) }
+    ensures full { IfErr result (WhereFull (IsLonger unit room (Discards id abend) tables.old)) }
     ensures step { OnOk result (Applies (Discards id abend) tables.old tables.new) }
     ensures closed { OnOk result (IsClosed tables.new.databases discarded_pad (λ message. abend_outputs message abend) tables.old tables.new id) }
     ensures databases { OnOk result (IsGivenUp region tables.old.databases tables.new.databases) }
     ensures dbds { dbds_of tables.new.databases ≡ dbds_of tables.old.databases }
     ensures same { OnErr result (regions.new ≡ regions.old) }
     ensures err { OnErr result (tables.new ≡ tables.old) }
-    ensures above { IsNewId tables.old.next_id tables.old.queues.queued }
+    ensures above { OnOk result (IsNewId tables.old.next_id tables.old.queues.queued) }
 {
-    match tables.discard(alloc, region, id, abend) {
+    match tables.discard(alloc, region, id, abend, unit, room, told) {
         Ok(()) => {
             empty(&mut regions[region as usize - 1]);
             Ok(())

@@ -1,10 +1,13 @@
 //! How a region's work on a message ends.
-ghost use Rattle.std.specs.Prelude.{◌≡◌, IfOk, OnOk, OnErr, IsSome, IsSomeAnd};
+ghost use Rattle.std.specs.Prelude.{◌≡◌, IfOk, IfErr, OnOk, OnErr, IsSome, IsSomeAnd};
 ghost use Rattle.model_queues.specs.Queue.{message_at};
+ghost use Rattle.model_machine.specs.declared.entry.ControlCall.TheVariants.{Turn};
 ghost use Rattle.model_machine.specs.Machine.{IsRegion};
 ghost use Rattle.model_machine.specs.Trial.WorkEnd.{Ends, Syncs, Abends};
 ghost use Rattle.message_run.specs.Ahead.{end_of};
 ghost use Rattle.tm_machine.specs.Ends.{EndsSo};
+ghost use Rattle.step_telling.specs.Untold.{WhereFull};
+ghost use Rattle.tm_machine.specs.Told.{IsLonger, Tells};
 ghost use Rattle.tm_machine.specs.Turns.{IsTurned};
 
 use crate::close::{busy_at, complete, discard, names_moved};
@@ -12,95 +15,134 @@ use crate::flags::{follow, follow_all};
 use crate::next::next_message;
 use crate::parts::Parts;
 use crate::region::{Busy, count_busy, outputs_by, pad_by, take};
-use lasting_state::{COUNT_LIMIT, Tables};
+use lasting_state::{COUNT_LIMIT, Tables, Untold};
 use message_run::Ending;
 use model_machine::Turned;
-use tm_types::{AbendCode, Memory, Name};
+use step_telling::{have_counts, is_abend};
+use tm_types::{AbendCode, Name};
 
 impl Parts {
-    /// Ends a region's work on its message, which has come to this end. Want of memory changes
-    /// nothing.
-    pub fn finish(&mut self, region: u32, ending: Ending) -> Result<Turned, Memory>
+    /// Ends a region's work on its message, which has come to this end. The records of the step in
+    /// this unit, of at most `room` bytes, are appended. A refusal changes nothing.
+    pub fn finish(
+        &mut self,
+        region: u32,
+        ending: Ending,
+        unit: u64,
+        room: usize,
+        told: &mut Vec<u8>,
+    ) -> Result<Turned, Untold>
         requires region { IsRegion self.old.system region }
         requires ends { EndsSo self.old region (end_of ending) }
         ensures turned { IfOk result (IsTurned self.old self.new region) }
+        ensures told { OnOk result (Tells self.old.system self.old.moment unit room (Turn region) told.old.items told.new.items) }
         ensures err { OnErr result (self.new ≡ self.old) }
+        ensures untold { OnErr result (told.new.items ≡ told.old.items) }
+        ensures full { IfErr result (WhereFull (IsLonger self.old.system self.old.moment unit room (Turn region))) }
     {
         match ending {
-            Ending::End => self.complete(region),
-            Ending::Sync => self.go_on(region),
-            Ending::Abend(abend) => self.abend(region, abend),
+            Ending::End => self.complete(region, unit, room, told),
+            Ending::Sync => self.go_on(region, unit, room, told),
+            Ending::Abend(abend) => self.abend(region, abend, unit, room, told),
         }
     }
 
     /// Completes a message whose script has ended.
-    fn complete(&mut self, region: u32) -> Result<Turned, Memory>
+    fn complete(
+        &mut self,
+        region: u32,
+        unit: u64,
+        room: usize,
+        told: &mut Vec<u8>,
+    ) -> Result<Turned, Untold>
         requires region { IsRegion self.old.system region }
         requires ends { EndsSo self.old region Ends }
         ensures turned { IfOk result (IsTurned self.old self.new region) }
+        ensures told { OnOk result (Tells self.old.system self.old.moment unit room (Turn region) told.old.items told.new.items) }
         ensures err { OnErr result (self.new ≡ self.old) }
+        ensures untold { OnErr result (told.new.items ≡ told.old.items) }
+        ensures full { IfErr result (WhereFull (IsLonger self.old.system self.old.moment unit room (Turn region))) }
     {
         let busy = busy_at(&self.regions, region);
         let code = busy.code;
         let id = busy.id;
         let Ok(outputs) = outputs_by(self.alloc, busy) else {
-            return Err(Memory);
+            return Err(Untold::Memory);
         };
+        if !have_counts(&outputs) {
+            return Err(Untold::Memory);
+        }
         let Ok(pad) = pad_by(self.alloc, busy) else {
-            return Err(Memory);
+            return Err(Untold::Memory);
         };
         let Ok(names) = names_moved(self.alloc, &code, &outputs) else {
-            return Err(Memory);
+            return Err(Untold::Memory);
         };
-        let Ok(()) = complete(
+        complete(
+            self.alloc,
             &mut self.regions,
             region,
             &mut self.tables,
             id,
             outputs,
             pad,
-        ) else {
-            return Err(Memory);
-        };
+            unit,
+            room,
+            told,
+        )?;
         follow_all(&mut self.codes, &self.system, self.tables.queues(), &names);
         Ok(Turned::Done(code, id))
     }
 
     /// Completes a message whose script asks for a further one, and goes on with that, on the rows
     /// that the work on the first one leaves.
-    fn go_on(&mut self, region: u32) -> Result<Turned, Memory>
+    fn go_on(
+        &mut self,
+        region: u32,
+        unit: u64,
+        room: usize,
+        told: &mut Vec<u8>,
+    ) -> Result<Turned, Untold>
         requires region { IsRegion self.old.system region }
         requires ends { EndsSo self.old region Syncs }
         ensures turned { IfOk result (IsTurned self.old self.new region) }
+        ensures told { OnOk result (Tells self.old.system self.old.moment unit room (Turn region) told.old.items told.new.items) }
         ensures err { OnErr result (self.new ≡ self.old) }
+        ensures untold { OnErr result (told.new.items ≡ told.old.items) }
+        ensures full { IfErr result (WhereFull (IsLonger self.old.system self.old.moment unit room (Turn region))) }
     {
         let busy = busy_at(&self.regions, region);
         let code = busy.code;
         let taken = busy.taken;
         let id = busy.id;
         if taken >= COUNT_LIMIT {
-            return Err(Memory);
+            return Err(Untold::Memory);
         }
         let Ok(outputs) = outputs_by(self.alloc, busy) else {
-            return Err(Memory);
+            return Err(Untold::Memory);
         };
+        if !have_counts(&outputs) {
+            return Err(Untold::Memory);
+        }
         let Ok(pad) = pad_by(self.alloc, busy) else {
-            return Err(Memory);
+            return Err(Untold::Memory);
         };
         let Ok(names) = names_moved(self.alloc, &code, &outputs) else {
-            return Err(Memory);
+            return Err(Untold::Memory);
         };
         let count = count_busy(&self.regions);
-        let Ok(()) = complete(
+        complete(
+            self.alloc,
             &mut self.regions,
             region,
             &mut self.tables,
             id,
             outputs,
             pad,
-        ) else {
-            return Err(Memory);
-        };
+            unit,
+            room,
+            told,
+        )?;
         let Some(next) = next_message(&self.system, &self.codes, &self.tables, &code, taken, count)
         else {
             follow_all(&mut self.codes, &self.system, self.tables.queues(), &names);
@@ -118,26 +160,40 @@ impl Parts {
     }
 
     /// Discards a message whose script has ended abnormally; its origin is told so.
-    fn abend(&mut self, region: u32, abend: AbendCode) -> Result<Turned, Memory>
+    fn abend(
+        &mut self,
+        region: u32,
+        abend: AbendCode,
+        unit: u64,
+        room: usize,
+        told: &mut Vec<u8>,
+    ) -> Result<Turned, Untold>
         requires region { IsRegion self.old.system region }
         requires ends { EndsSo self.old region (Abends abend) }
         ensures turned { IfOk result (IsTurned self.old self.new region) }
+        ensures told { OnOk result (Tells self.old.system self.old.moment unit room (Turn region) told.old.items told.new.items) }
         ensures err { OnErr result (self.new ≡ self.old) }
+        ensures untold { OnErr result (told.new.items ≡ told.old.items) }
+        ensures full { IfErr result (WhereFull (IsLonger self.old.system self.old.moment unit room (Turn region))) }
     {
         let busy = busy_at(&self.regions, region);
         let code = busy.code;
         let id = busy.id;
+        if !is_abend(abend) {
+            return Err(Untold::Memory);
+        }
         let origin = origin_of(&self.tables, id);
-        let Ok(()) = discard(
+        discard(
             self.alloc,
             &mut self.regions,
             region,
             &mut self.tables,
             id,
             abend,
-        ) else {
-            return Err(Memory);
-        };
+            unit,
+            room,
+            told,
+        )?;
         // Where no terminal has the name of the origin, it is told as a code would be.
         let waiting = self.tables.queues().waiting(&origin);
         follow(&mut self.codes, &self.system, &origin, waiting);

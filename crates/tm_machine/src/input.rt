@@ -1,19 +1,23 @@
 //! Inputs of terminals.
-ghost use Rattle.std.specs.Prelude.{◌≡◌, ◌<◌, length, IfOk, IfErr, IfSome, Some};
+ghost use Rattle.std.specs.Prelude.{◌≡◌, ◌<◌, length, IfOk, IfErr, IfSome, OnErr, Some};
 ghost use Rattle.std.specs.Option.{option_copied};
 ghost use Rattle.tm_types.specs.Name.{IsName};
 ghost use Rattle.model_system.specs.Codes.{code_at};
 ghost use Rattle.model_machine.specs.declared.entry.Entry.TheVariants.{Accept};
+ghost use Rattle.model_machine.specs.declared.entry.ControlCall.TheVariants.{Input};
+ghost use Rattle.model_machine.specs.History.{is_fault};
 ghost use Rattle.model_machine.specs.Steps.{by_number, most_segments, input_answer};
+ghost use Rattle.step_telling.specs.Untold.{WhereFull};
 ghost use Rattle.tm_machine.specs.Answers.{Answers};
 ghost use Rattle.tm_machine.specs.Inputs.{IsNewInput, IsRefusal, code_for, way_by, kept_so};
+ghost use Rattle.tm_machine.specs.Told.{IsLonger, TellsUnless};
 
 use crate::flags::follow;
 use crate::lookup::{code_word, find_code};
 use crate::parts::Parts;
 use crate::region::count_busy;
 use conversation::Busy;
-use lasting_state::{Enqueued, KeptInput, kept_first};
+use lasting_state::{Enqueued, KeptInput, Untold, kept_first};
 use model_machine::{ControlFault, InputRefused, Taken};
 use model_system::{Code, SegmentKind};
 use std::alloc::Global;
@@ -126,20 +130,28 @@ fn by_number(last: u64, number: u64) -> Option<Result<Taken, InputRefused>>
 }
 
 impl Parts {
-    /// Takes an input, or says why not. A fault changes nothing.
+    /// Takes an input, or says why not. The record of an input that is kept, of at most `room` bytes, is appended. A
+    /// refusal changes nothing; `Memory` is answered too where a count would pass its limit. A fault in the answer's
+    /// place changes and tells nothing.
     pub fn accept(
         &mut self,
         terminal: &Name,
         number: u64,
         segments: Segments,
-    ) -> Result<Taken, InputRefused>
+        room: usize,
+        told: &mut Vec<u8>,
+    ) -> Result<Result<Taken, InputRefused>, Untold>
         requires { 0 < length segments }
-        ensures { Answers self.old self.new (Accept terminal.now number segments result) }
+        ensures answer { IfOk result (λ answer. Answers self.old self.new (Accept terminal.now number segments answer)) }
+        ensures told { IfOk result (λ answer. TellsUnless (is_fault (Accept terminal.now number segments answer)) self.old.system self.old.moment 0 room (Input terminal.now number segments) told.old.items told.new.items) }
+        ensures err { OnErr result (self.new ≡ self.old) }
+        ensures untold { OnErr result (told.new.items ≡ told.old.items) }
+        ensures full { IfErr result (WhereFull (IsLonger self.old.system self.old.moment 0 room (Input terminal.now number segments))) }
     {
         let _ = &self.alloc;
         match self.new_input(terminal, number, &segments) {
-            Ok(input) => self.enqueue(terminal, number, input, segments),
-            Err(answer) => answer,
+            Ok(input) => self.enqueue(terminal, number, input, segments, room, told),
+            Err(answer) => Ok(answer),
         }
     }
 
@@ -183,34 +195,46 @@ impl Parts {
         Ok(NewInput { place, code, way })
     }
 
-    /// Adds a new input to the queues, if they have the room.
+    /// Adds a new input to the queues, if they have the room, and tells it.
     fn enqueue(
         &mut self,
         terminal: &Name,
         number: u64,
         input: NewInput,
         segments: Segments,
-    ) -> Result<Taken, InputRefused>
+        room: usize,
+        told: &mut Vec<u8>,
+    ) -> Result<Result<Taken, InputRefused>, Untold>
         requires new { IsNewInput self.old terminal.now number segments input }
         requires segment { 0 < length segments }
-        ensures { Answers self.old self.new (Accept terminal.now number segments result) }
+        ensures answer { IfOk result (λ answer. Answers self.old self.new (Accept terminal.now number segments answer)) }
+        ensures told { IfOk result (λ answer. TellsUnless (is_fault (Accept terminal.now number segments answer)) self.old.system self.old.moment 0 room (Input terminal.now number segments) told.old.items told.new.items) }
+        ensures err { OnErr result (self.new ≡ self.old) }
+        ensures untold { OnErr result (told.new.items ≡ told.old.items) }
+        ensures full { IfErr result (WhereFull (IsLonger self.old.system self.old.moment 0 room (Input terminal.now number segments))) }
     {
         let Ok(kept) = kept_so(self.alloc, &input, segments) else {
-            return Err(InputRefused::Fault(ControlFault::Memory));
+            return Err(Untold::Memory);
         };
         let busy = count_busy(&self.regions);
         let code = input.code;
-        match self
-            .tables
-            .enqueue(input.place, terminal, number, kept, busy)
-        {
+        match self.tables.enqueue(
+            self.alloc,
+            input.place,
+            terminal,
+            number,
+            kept,
+            busy,
+            room,
+            told,
+        ) {
             Ok(Enqueued::New(id)) => {
                 let waiting = self.tables.queues().waiting(&code);
                 follow(&mut self.codes, &self.system, &code, waiting);
-                Ok(Taken::New(id))
+                Ok(Ok(Taken::New(id)))
             }
-            Ok(Enqueued::Full(need, limit)) => Err(InputRefused::QueueFull(need, limit)),
-            Err(_) => Err(InputRefused::Fault(ControlFault::Memory)),
+            Ok(Enqueued::Full(need, limit)) => Ok(Err(InputRefused::QueueFull(need, limit))),
+            Err(untold) => Err(untold),
         }
     }
 }

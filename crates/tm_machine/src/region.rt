@@ -103,8 +103,9 @@ fn take_unit(
 }
 
 /// Lets the script of a code go on to its next call, and answers that. After want of memory the work is
-/// as far as before.
+/// as far as before. What the call tells is for a log, and there is none yet.
 fn advance_unit(
+    alloc: Global,
     system: &System,
     region: u32,
     code: &Name,
@@ -122,7 +123,11 @@ fn advance_unit(
     ensures others { StayOthers region databases.old databases.new }
 {
     let job = job_of(system, code);
-    unit.advance(system, &job, region, databases)
+    let mut told = Vec::new(alloc);
+    match unit.advance(system, &job, region, databases, 1, usize::MAX, &mut told) {
+        Ok(advanced) => Ok(advanced),
+        Err(_) => Err(Memory),
+    }
 }
 
 /// Lets the script of a region that has a message go on, as `advance`.
@@ -149,6 +154,7 @@ fn advance_busy(
         Err(error) => return Err(error),
     };
     let advanced = advance_unit(
+        alloc,
         system,
         region,
         &busy.code,

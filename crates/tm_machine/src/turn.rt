@@ -1,51 +1,75 @@
 //! The turns of the regions.
-ghost use Rattle.std.specs.Prelude.{◌≡◌, IfOk, OnErr, None};
+ghost use Rattle.std.specs.Prelude.{◌≡◌, false, Ok, IfOk, IfErr, OnOk, OnErr, None};
 ghost use Rattle.model_machine.specs.declared.entry.Entry.TheVariants.{Turn as TurnEntry};
+ghost use Rattle.model_machine.specs.declared.entry.ControlCall.TheVariants.{Turn as TurnCall};
 ghost use Rattle.model_machine.specs.Machine.{IsRegion, slot_at};
 ghost use Rattle.model_machine.specs.Steps.{need_now};
+ghost use Rattle.step_telling.specs.Untold.{WhereFull};
 ghost use Rattle.tm_machine.specs.Answers.{Answers};
+ghost use Rattle.tm_machine.specs.Told.{ends_work, IsLonger, Tells};
 ghost use Rattle.tm_machine.specs.Turns.{Goes, IsTurned, waited};
 
 use crate::flags::follow;
 use crate::next::SLOT_ROOM;
 use crate::parts::Parts;
 use crate::region::{Busy, advance, count_busy, take};
+use lasting_state::Untold;
 use message_run::Advanced;
 use model_enqueue::Victims;
-use model_machine::{ControlFault, Turned};
+use model_machine::Turned;
 use tm_types::{Memory, Resource};
 use tran_pick::pick;
 
 impl Parts {
-    /// Lets a region do its next step. A fault changes nothing.
-    pub fn turn(&mut self, region: u32) -> Result<Turned, ControlFault>
+    /// Lets a region do its next step. The records of what lasts of it, in this unit and of at most `room` bytes, are
+    /// appended. A refusal changes nothing; `Memory` is answered too where a count would pass its limit.
+    pub fn turn(
+        &mut self,
+        region: u32,
+        unit: u64,
+        room: usize,
+        told: &mut Vec<u8>,
+    ) -> Result<Turned, Untold>
         requires { IsRegion self.old.system region }
-        ensures { Answers self.old self.new (TurnEntry region result) }
+        ensures answer { IfOk result (λ turned. Answers self.old self.new (TurnEntry region (Ok turned))) }
+        ensures told { OnOk result (Tells self.old.system self.old.moment unit room (TurnCall region) told.old.items told.new.items) }
+        ensures err { OnErr result (self.new ≡ self.old) }
+        ensures untold { OnErr result (told.new.items ≡ told.old.items) }
+        ensures full { IfErr result (WhereFull (IsLonger self.old.system self.old.moment unit room (TurnCall region))) }
     {
-        match self.step(region) {
+        match self.step(region, unit, room, told) {
             Ok(turned) => Ok(turned),
-            Err(_) => Err(ControlFault::Memory),
+            Err(untold) => Err(untold),
         }
     }
 
-    /// Lets a region do its next step. Want of memory changes nothing; it is answered too where a count
-    /// would pass its limit.
-    fn step(&mut self, region: u32) -> Result<Turned, Memory>
+    /// The same by the region's own steps.
+    #[tactic(auto, using(crate::proofs::Telling::quiet_rules))]
+    fn step(
+        &mut self,
+        region: u32,
+        unit: u64,
+        room: usize,
+        told: &mut Vec<u8>,
+    ) -> Result<Turned, Untold>
         requires { IsRegion self.old.system region }
         ensures turned { IfOk result (IsTurned self.old self.new region) }
+        ensures told { OnOk result (Tells self.old.system self.old.moment unit room (TurnCall region) told.old.items told.new.items) }
         ensures err { OnErr result (self.new ≡ self.old) }
+        ensures untold { OnErr result (told.new.items ≡ told.old.items) }
+        ensures full { IfErr result (WhereFull (IsLonger self.old.system self.old.moment unit room (TurnCall region))) }
     {
         match self.advance(region) {
-            Ok(None) => self.schedule(region),
+            Ok(None) => Ok(self.schedule(region)?),
             Ok(Some(Advanced::Called(function, pcb, status))) => {
                 Ok(Turned::Called(function, pcb, status))
             }
-            Ok(Some(Advanced::Ended(ending))) => self.finish(region, ending),
+            Ok(Some(Advanced::Ended(ending))) => self.finish(region, ending, unit, room, told),
             Ok(Some(Advanced::Waits(resource, by))) => {
                 let victims = self.break_rings(region);
                 Ok(waited(resource, by, victims))
             }
-            Err(error) => Err(error),
+            Err(_) => Err(Untold::Memory),
         }
     }
 
@@ -78,6 +102,7 @@ impl Parts {
         requires region { IsRegion self.old.system region }
         requires empty { slot_at self.old.moment region ≡ None }
         ensures turned { IfOk result (IsTurned self.old self.new region) }
+        ensures quiet { IfOk result (λ turned. ends_work turned ≡ false) }
         ensures err { OnErr result (self.new ≡ self.old) }
     {
         let Some(picked) = pick(&self.system, region, &self.codes, self.tables.queues()) else {
@@ -104,7 +129,8 @@ impl Parts {
 
 /// What a region that waits is answered, where these regions gave way.
 fn waited(resource: Resource, by: u32, victims: Victims) -> Turned
-    ensures { result ≡ waited resource by victims }
+    ensures value { result ≡ waited resource by victims }
+    ensures quiet { ends_work result ≡ false }
 {
     if victims.as_slice().is_empty() {
         Turned::Waits(resource, by)

@@ -194,6 +194,13 @@ impl Unit {
         self.records.len() as u32
     }
 
+    /// The touched slots, by database and slot, each with the image that it had before the unit.
+    pub fn touched(&self) -> &[Change]
+        ensures { result.now ≡ self.now.slots }
+    {
+        &self.slots
+    }
+
     /// The touched slot at this place, by database and slot; None exactly past the last.
     pub fn slot(&self, place: u32) -> Option<UnitSlot<'_>>
         ensures { option_map shown result ≡ slice_get self.now.slots place }

@@ -1,8 +1,8 @@
 use Rattle.std.proofs.Common.{◌-◌, sym, ap, ◌∙◌}
 use Rattle.unit_work.specs.Changes.{no_changes}
 use Rattle.unit_work.specs.BackOut.{backed_out}
-use Rattle.program_rows.specs.Open.{records_of}
-use Rattle.program_rows.proofs.Setting.{unit_records, records_put}
+use Rattle.program_rows.specs.Open.{records_of, slots_of}
+use Rattle.program_rows.proofs.Setting.{unit_records, records_put, slots_put}
 use Rattle.program_rows.proofs.databases.take_back.Goals as goal
 
 pub returns-clause-units : goal.returns-clause-units
@@ -12,3 +12,8 @@ pub returns-clause-stores : goal.returns-clause-stores
 returns-clause-stores c =
     c.back_out.ensures.stores
     ∙ ap (λ rs. backed_out rs c.args.opened.now.stores.stores) (sym (unit_records c.args.opened.now.units.items (c.args.region - 1) c.take_unit-unit.result c.take_unit-unit.ensures.taken))
+
+pub returns-clause-slots : goal.returns-clause-slots
+returns-clause-slots c =
+    ap slots_of c.take_unit-unit.ensures.left
+    ∙ (slots_put c.args.opened.now.units.items (c.args.region - 1) no_changes)

@@ -8,7 +8,7 @@ use Rattle.dli_calls.specs.Plans.{IsThere, limit_of}
 use Rattle.seg_store.specs.Changed.{stored}
 use Rattle.program_rows.specs.Making.{TakesSlot, changed_in}
 use Rattle.program_rows.proofs.Setting.{is_stored, dbd_there, full_abend, limit_is, rows_at_is}
-use Rattle.program_rows.proofs.Makings.{unit_full}
+use Rattle.program_rows.proofs.Makings.{unit_full, untold_edit}
 use Rattle.program_rows.proofs.making.change.Goals as goal
 
 pub returns-then-is_full-clause-abend : goal.returns-then-is_full-clause-abend
@@ -23,11 +23,8 @@ store-requires-clause-most c = is_stored c.args.asked.now.number c.args.opened.n
 pub slot_to_take-requires-clause-database : goal.slot_to_take-requires-clause-database
 slot_to_take-requires-clause-database c = dbd_there c.args.opened.now.stores.stores _ (stored c.store.result.now) c.args.dbd.now c.store.ensures.stored_is c.requires.database
 
-pub set-requires-clause-last : goal.set-requires-clause-last
-set-requires-clause-last c = is_stored c.args.asked.now.number c.args.opened.now.stores.stores c.args.dbd.now c.requires.number c.requires.database
-
-pub set-requires-clause-takes : goal.set-requires-clause-takes
-set-requires-clause-takes c =
+pub tell_and_set-requires-clause-takes : goal.tell_and_set-requires-clause-takes
+tell_and_set-requires-clause-takes c =
     let dbd : c.store.result.now.dbd ≡ c.args.dbd.now = dbd_there c.args.opened.now.stores.stores _ (stored c.store.result.now) c.args.dbd.now c.store.ensures.stored_is c.requires.database in
     let takes : TakesSlot (stored c.store.result.now) c.args.edit c.in-Ok.slot =
     record {
@@ -38,13 +35,13 @@ set-requires-clause-takes c =
     } in
     subst (λ o. IfSome o (λ s. TakesSlot s c.args.edit c.in-Ok.slot)) (sym c.store.ensures.stored_is) takes
 
-pub set-requires-clause-room : goal.set-requires-clause-room
-set-requires-clause-room c =
+pub tell_and_set-requires-clause-room : goal.tell_and_set-requires-clause-room
+tell_and_set-requires-clause-room c =
     unit_full c.args.asked.now.number c.args.edit.root c.args.asked.now.region c.args.opened.now c.deref.result.now c.unit_of.result.now c.is_full.result
     c.deref.ensures.value c.unit_of.ensures c.is_full.ensures ∙ c.if-is_full.false
 
-pub returns-in-Ok-set-clause-abend : goal.returns-in-Ok-set-clause-abend
-returns-in-Ok-set-clause-abend c =
+pub returns-in-Ok-tell_and_set-clause-abend : goal.returns-in-Ok-tell_and_set-clause-abend
+returns-in-Ok-tell_and_set-clause-abend c =
     sym (limit_is c.args.asked.now.number c.args.dbd.now c.args.edit (changed_in c.args.asked.now.region c.args.opened.now) c.args.opened.now.stores.stores (stored c.store.result.now) None
     (unit_full c.args.asked.now.number c.args.edit.root c.args.asked.now.region c.args.opened.now c.deref.result.now c.unit_of.result.now c.is_full.result
     c.deref.ensures.value c.unit_of.ensures c.is_full.ensures ∙ c.if-is_full.false) c.store.ensures.stored_is
@@ -61,3 +58,11 @@ returns-in-Err-clause-abend c =
 pub slot_to_take-requires-clause-there : goal.slot_to_take-requires-clause-there
 slot_to_take-requires-clause-there c =
     subst (λ (rows : List Row). IsThere rows (Some c.args.edit)) (rows_at_is c.args.asked.now.number c.args.opened.now.stores.stores (stored c.store.result.now) c.store.ensures.stored_is) c.requires.there
+
+pub returns-in-Err-tell_and_set-clause-full : goal.returns-in-Err-tell_and_set-clause-full
+returns-in-Err-tell_and_set-clause-full c =
+    untold_edit c.args.asked.now c.args.dbd.now c.args.edit c.args.opened.now c.args.unit c.args.room c.in-Err-tell_and_set.error
+    (limit_is c.args.asked.now.number c.args.dbd.now c.args.edit (changed_in c.args.asked.now.region c.args.opened.now) c.args.opened.now.stores.stores (stored c.store.result.now) None
+    (unit_full c.args.asked.now.number c.args.edit.root c.args.asked.now.region c.args.opened.now c.deref.result.now c.unit_of.result.now c.is_full.result
+    c.deref.ensures.value c.unit_of.ensures c.is_full.ensures ∙ c.if-is_full.false) c.store.ensures.stored_is
+    (ap limit_of c.in-Ok.ensures.accepted)) c.in-Err-tell_and_set.ensures.full

@@ -3,7 +3,7 @@ use Rattle.std.specs.Prelude.{slice_get}
 use Rattle.model_system.specs.declared.pcb.Pcb.TheVariants.{Database}
 use Rattle.model_dli.specs.declared.call.Position.{Position}
 use Rattle.message_run.specs.RunState.{RunState}
-use Rattle.message_run.proofs.Database.{is_db_call, is_numbered, few_types, short_types, has_position, leads, are_free, are_granted, are_blocked, answers, told_stand}
+use Rattle.message_run.proofs.Database.{is_db_call, is_numbered, few_types, short_types, one_sector, has_position, leads, are_free, are_granted, are_blocked, answers, tells_so, untold_so, told_stand}
 use Rattle.message_run.proofs.run.Run.answer_database.Goals as goal
 
 pub database_numbered-dbd-requires-clause-most : goal.database_numbered-dbd-requires-clause-most
@@ -67,3 +67,27 @@ returns-in-Ok-Answered-clause-standing c =
 pub tell_answer-requires-clause-pcbs : goal.tell_answer-requires-clause-pcbs
 tell_answer-requires-clause-pcbs c =
     has_position c.args.system.now.databases c.args._pcbs.now c.args.self.now.positions c.args.call.pcb (Database c.args.number c.args.options) c.requires.standing c.requires.some c.requires.pcb
+
+pub call-requires-clause-sectors : goal.call-requires-clause-sectors
+call-requires-clause-sectors c = one_sector c.database_numbered-dbd.result.now c.database_numbered-dbd.ensures.valid
+
+pub returns-in-Ok-Abend-clause-tells : goal.returns-in-Ok-Abend-clause-tells
+returns-in-Ok-Abend-clause-tells c =
+    let stands : slice_get c.args.self.now.positions (c.args.call.pcb - 1) ≡ Some c.position_of-at.result.now =
+    ap (λ (ps : List Position). slice_get ps (c.args.call.pcb - 1)) (sym (ap (λ (r : RunState). r.positions) c.self.view_is) ∙ sym c.deref.ensures.value) ∙ c.position_of-at.ensures in
+    tells_so c.args.system.now c.args.region c.args.databases.now c.args.self.now c.args.call c.args.number c.args.options c.database_numbered-dbd.result.now c.position_of-at.result.now c.database_numbered-dbd.ensures.value stands
+    c.args.unit c.args.room c.call.new.self c.args.told.now.items c.call.new.told.items c.in-Ok-Abend.ensures.tells c.in-Ok-Abend.ensures.changes
+
+pub returns-in-Ok-Blocked-clause-tells : goal.returns-in-Ok-Blocked-clause-tells
+returns-in-Ok-Blocked-clause-tells c =
+    let stands : slice_get c.args.self.now.positions (c.args.call.pcb - 1) ≡ Some c.position_of-at.result.now =
+    ap (λ (ps : List Position). slice_get ps (c.args.call.pcb - 1)) (sym (ap (λ (r : RunState). r.positions) c.self.view_is) ∙ sym c.deref.ensures.value) ∙ c.position_of-at.ensures in
+    tells_so c.args.system.now c.args.region c.args.databases.now c.args.self.now c.args.call c.args.number c.args.options c.database_numbered-dbd.result.now c.position_of-at.result.now c.database_numbered-dbd.ensures.value stands
+    c.args.unit c.args.room c.call.new.self c.args.told.now.items c.call.new.told.items c.in-Ok-Blocked.ensures.tells c.in-Ok-Blocked.ensures.changes
+
+pub returns-in-Ok-Answered-clause-tells : goal.returns-in-Ok-Answered-clause-tells
+returns-in-Ok-Answered-clause-tells c =
+    let stands : slice_get c.args.self.now.positions (c.args.call.pcb - 1) ≡ Some c.position_of-at.result.now =
+    ap (λ (ps : List Position). slice_get ps (c.args.call.pcb - 1)) (sym (ap (λ (r : RunState). r.positions) c.self.view_is) ∙ sym c.deref.ensures.value) ∙ c.position_of-at.ensures in
+    tells_so c.args.system.now c.args.region c.args.databases.now c.args.self.now c.args.call c.args.number c.args.options c.database_numbered-dbd.result.now c.position_of-at.result.now c.database_numbered-dbd.ensures.value stands
+    c.args.unit c.args.room c.call.new.self c.args.told.now.items c.call.new.told.items c.in-Ok-Answered.ensures.tells c.in-Ok-Answered.ensures.changes

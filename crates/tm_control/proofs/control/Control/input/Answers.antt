@@ -9,5 +9,5 @@ use Rattle.tm_control.proofs.control.Control.input.Goals as goal
 
 pub invariant_of-self-2 : goal.invariant_of-self-2
 invariant_of-self-2 c =
-    IsControl-noted c.self.inside.parts c.accept-answer.new.self c.self.inside.opening c.self.inside.history.items c.note.new.history.items (Accept c.args.terminal.now c.args.number c.in-Ok.kept c.accept-answer.result)
-    c.self.invariant (c.note.ensures ∙ ap (λ entries. noted (is_fault (Accept c.args.terminal.now c.args.number c.in-Ok.kept c.accept-answer.result)) entries (Accept c.args.terminal.now c.args.number c.in-Ok.kept c.accept-answer.result)) c.reserve.ensures.items) (subst (λ s. Answers c.self.inside.parts c.accept-answer.new.self (Accept c.args.terminal.now c.args.number s c.accept-answer.result)) (sym c.in-Ok.ensures) c.accept-answer.ensures)
+    IsControl-noted c.self.inside.parts c.accept-answer.new.parts c.self.inside.opening c.self.inside.history.items c.note.new.history.items (Accept c.args.terminal.now c.args.number c.in-Ok.kept c.accept-answer.result)
+    c.self.invariant (c.note.ensures ∙ ap (λ entries. noted (is_fault (Accept c.args.terminal.now c.args.number c.in-Ok.kept c.accept-answer.result)) entries (Accept c.args.terminal.now c.args.number c.in-Ok.kept c.accept-answer.result)) c.reserve.ensures.items) (subst (λ s. Answers c.self.inside.parts c.accept-answer.new.parts (Accept c.args.terminal.now c.args.number s c.accept-answer.result)) (sym c.in-Ok.ensures) c.accept-answer.ensures)

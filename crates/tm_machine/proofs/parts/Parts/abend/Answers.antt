@@ -1,7 +1,8 @@
-use Rattle.std.proofs.Common.{◌≡◌, ◌-◌, sym, ap, ◌∙◌}
+use Rattle.std.proofs.Common.{rules, ◌≡◌, ◌-◌, sym, ap, ◌∙◌}
 use Rattle.std.specs.Prelude.{Some, slice_get}
 use Rattle.tm_machine.proofs.Raising.{follow_one}
-use Rattle.tm_machine.proofs.Finished.{found_here, id_there, works_there, follows_abended, parts_abended, abended_turned}
+use Rattle.lasting_state.proofs.Told.{err_where}
+use Rattle.tm_machine.proofs.Finished.{abended_tells, abended_longer, found_here, id_there, works_there, follows_abended, parts_abended, abended_turned}
 use Rattle.tm_machine.proofs.parts.Parts.abend.Goals as goal
 
 pub origin_of-origin-requires : goal.origin_of-origin-requires
@@ -32,8 +33,8 @@ invariant_of-self-2 c =
     let region = (rw (← c.self.view_is) at c.requires.region) in
     let follow = follow_one c.self.inside.system.codes c.origin_of-origin.result c.waiting-waiting.result c.self.inside.codes c.follow.new.codes c.queues.result.now c.discard.new.tables.queues
     c.follow.ensures c.waiting-waiting.ensures c.queues.ensures in
-    let follows = follows_abended c.self.inside.system c.self.inside.tables c.self.inside.codes c.self.inside.regions.items c.args.region c.self.invariant c.busy_at-busy.result.now e region c.discard.new.tables c.in-Ok.ensures.above c.args.abend c.in-Ok.ensures.closed c.in-Ok.ensures.step c.in-Ok.ensures.databases c.in-Ok.ensures.dbds c.follow.new.codes c.origin_of-origin.result c.origin_of-origin.ensures follow in
-    rw c.in-Ok.ensures.regions (parts_abended c.self.inside.system c.self.inside.tables c.self.inside.codes c.self.inside.regions.items c.args.region c.self.invariant c.busy_at-busy.result.now e region c.discard.new.tables c.in-Ok.ensures.above c.args.abend c.in-Ok.ensures.closed c.in-Ok.ensures.step c.in-Ok.ensures.databases c.in-Ok.ensures.dbds c.follow.new.codes follows)
+    let follows = follows_abended c.self.inside.system c.self.inside.tables c.self.inside.codes c.self.inside.regions.items c.args.region c.self.invariant c.busy_at-busy.result.now e region c.discard.new.tables c.in_ok-discard.ensures.above c.args.abend c.in_ok-discard.ensures.closed c.in_ok-discard.ensures.step c.in_ok-discard.ensures.databases c.in_ok-discard.ensures.dbds c.follow.new.codes c.origin_of-origin.result c.origin_of-origin.ensures follow in
+    rw c.in_ok-discard.ensures.regions (parts_abended c.self.inside.system c.self.inside.tables c.self.inside.codes c.self.inside.regions.items c.args.region c.self.invariant c.busy_at-busy.result.now e region c.discard.new.tables c.in_ok-discard.ensures.above c.args.abend c.in_ok-discard.ensures.closed c.in_ok-discard.ensures.step c.in_ok-discard.ensures.databases c.in_ok-discard.ensures.dbds c.follow.new.codes follows)
 
 pub returns-clause-turned : goal.returns-clause-turned
 returns-clause-turned c =
@@ -42,6 +43,22 @@ returns-clause-turned c =
     let region = (rw (← c.self.view_is) at c.requires.region) in
     let follow = follow_one c.self.inside.system.codes c.origin_of-origin.result c.waiting-waiting.result c.self.inside.codes c.follow.new.codes c.queues.result.now c.discard.new.tables.queues
     c.follow.ensures c.waiting-waiting.ensures c.queues.ensures in
-    let follows = follows_abended c.self.inside.system c.self.inside.tables c.self.inside.codes c.self.inside.regions.items c.args.region c.self.invariant c.busy_at-busy.result.now e region c.discard.new.tables c.in-Ok.ensures.above c.args.abend c.in-Ok.ensures.closed c.in-Ok.ensures.step c.in-Ok.ensures.databases c.in-Ok.ensures.dbds c.follow.new.codes c.origin_of-origin.result c.origin_of-origin.ensures follow in
-    let turned = abended_turned c.self.inside.system c.self.inside.tables c.self.inside.codes c.self.inside.regions.items c.args.region c.self.invariant c.busy_at-busy.result.now e region c.discard.new.tables c.in-Ok.ensures.above c.args.abend c.in-Ok.ensures.closed c.in-Ok.ensures.step c.in-Ok.ensures.databases c.in-Ok.ensures.dbds c.follow.new.codes follows (rw (← c.self.view_is) at c.requires.ends) in
-    rw (sym c.self.view_is) (rw c.in-Ok.ensures.regions turned)
+    let follows = follows_abended c.self.inside.system c.self.inside.tables c.self.inside.codes c.self.inside.regions.items c.args.region c.self.invariant c.busy_at-busy.result.now e region c.discard.new.tables c.in_ok-discard.ensures.above c.args.abend c.in_ok-discard.ensures.closed c.in_ok-discard.ensures.step c.in_ok-discard.ensures.databases c.in_ok-discard.ensures.dbds c.follow.new.codes c.origin_of-origin.result c.origin_of-origin.ensures follow in
+    let turned = abended_turned c.self.inside.system c.self.inside.tables c.self.inside.codes c.self.inside.regions.items c.args.region c.self.invariant c.busy_at-busy.result.now e region c.discard.new.tables c.in_ok-discard.ensures.above c.args.abend c.in_ok-discard.ensures.closed c.in_ok-discard.ensures.step c.in_ok-discard.ensures.databases c.in_ok-discard.ensures.dbds c.follow.new.codes follows (rw (← c.self.view_is) at c.requires.ends) in
+    rw (sym c.self.view_is) (rw c.in_ok-discard.ensures.regions turned)
+
+pub returns-clause-told : goal.returns-clause-told
+returns-clause-told c =
+    let e : slice_get c.self.inside.regions.items (c.args.region - 1) ≡ Some (Some c.busy_at-busy.result.now) =
+    ap (λ rs. slice_get rs (c.args.region - 1)) (sym c.deref.ensures.value) ∙ c.busy_at-busy.ensures in
+    let region = (rw (← c.self.view_is) at c.requires.region) in
+    let ends = (rw (← c.self.view_is) at c.requires.ends) in
+    rw (sym c.self.view_is) (abended_tells c.self.inside.system c.self.inside.tables c.self.inside.codes c.self.inside.regions.items c.args.region c.self.invariant c.busy_at-busy.result.now e region c.args.unit c.args.room c.args.abend ends c.args.told.now.items c.discard.new.told.items c.in_ok-discard.ensures.told)
+
+pub returns-in_err-discard-clause-full : goal.returns-in_err-discard-clause-full
+returns-in_err-discard-clause-full c =
+    let e : slice_get c.self.inside.regions.items (c.args.region - 1) ≡ Some (Some c.busy_at-busy.result.now) =
+    ap (λ rs. slice_get rs (c.args.region - 1)) (sym c.deref.ensures.value) ∙ c.busy_at-busy.ensures in
+    let region = (rw (← c.self.view_is) at c.requires.region) in
+    let ends = (rw (← c.self.view_is) at c.requires.ends) in
+    rw (sym c.self.view_is) (err_where c.from_residual.result (abended_longer c.self.inside.system c.self.inside.tables c.self.inside.codes c.self.inside.regions.items c.args.region c.self.invariant c.busy_at-busy.result.now e region c.args.unit c.args.room c.args.abend ends) (search rules))

@@ -3,7 +3,7 @@ use Rattle.program_rows.specs.Answering.{IsGivenUp}
 use Rattle.model_machine.specs.Lasting.{abend_outputs, discarded_pad, padded}
 use Rattle.lasting_state.specs.Tables.{TablesState}
 use Rattle.lasting_state.proofs.Finished.{closes, discards_is, found_message_and}
-use Rattle.lasting_state.proofs.tables.Tables.discard.Goals as goal
+use Rattle.lasting_state.proofs.tables.Tables.back_out.Goals as goal
 
 pub returns-clause-step : goal.returns-clause-step
 returns-clause-step c =

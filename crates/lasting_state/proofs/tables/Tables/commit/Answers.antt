@@ -3,7 +3,7 @@ use Rattle.program_rows.specs.Answering.{IsCommitted}
 use Rattle.model_machine.specs.Lasting.{padded}
 use Rattle.lasting_state.specs.Tables.{TablesState}
 use Rattle.lasting_state.proofs.Finished.{closes, completes_is, some_message}
-use Rattle.lasting_state.proofs.tables.Tables.complete.Goals as goal
+use Rattle.lasting_state.proofs.tables.Tables.commit.Goals as goal
 
 pub returns-clause-step : goal.returns-clause-step
 returns-clause-step c =

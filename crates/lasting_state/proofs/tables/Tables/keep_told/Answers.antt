@@ -1,0 +1,19 @@
+use Rattle.std.proofs.Common.{◌<◌, ◌≤◌, ◌++◌, length, rules, ap, subst, ◌∙◌}
+use Rattle.model_machine.specs.Lasting.LastingStep.{Accepts}
+use Rattle.lasting_state.proofs.Told.{tells, longer, err_where}
+use Rattle.lasting_state.proofs.tables.Tables.keep_told.Goals as goal
+
+pub returns-in_err-tell-clause-full : goal.returns-in_err-tell-clause-full
+returns-in_err-tell-clause-full c =
+    err_where {P = c.args.room < length c.deref.result.now} c.from_residual.result
+    (λ h. record {
+      fits = c.requires.fits;
+      longer = longer 0 c.args.room (Accepts c.args.terminal.now c.args.number c.args.kept) c.args.self.now c.in-Ok.spelled.items c.in-Ok.ensures (subst (λ bs. c.args.room < length bs) c.deref.ensures.value h);
+    })
+    (search rules)
+
+pub returns-in-Ok-New-clause-told : goal.returns-in-Ok-New-clause-told
+returns-in-Ok-New-clause-told c =
+    tells 0 c.args.room (Accepts c.args.terminal.now c.args.number c.args.kept) c.args.self.now c.in-Ok.spelled.items c.in-Ok.ensures c.args.told.now.items c.tell.new.told.items
+    (c.in_ok-tell.ensures.told ∙ ap (λ bs. c.args.told.now.items ++ bs) c.deref.ensures.value)
+    (subst (λ bs. length bs ≤ c.args.room) c.deref.ensures.value c.in_ok-tell.ensures.fits)

@@ -1,0 +1,309 @@
+//! Lasting steps that are told in records.
+//!
+//! What would be told is spelled before anything is changed, and so is looked at whether it fits.
+ghost use Rattle.std.specs.Prelude.{◌≡◌, ◌<◌, ◌≤◌, ◌++◌, IfOk, IfErr, IfSome, OnOk, OnErr, IsSome, IsSomeAnd, Some, List, length};
+ghost use Rattle.model_queues.specs.Queue.{IsNewId, message_at, queued_at};
+ghost use Rattle.model_queues.specs.Outputs.{next_of};
+ghost use Rattle.model_machine.specs.declared.lasting.CodeSetting.{CodeSetting};
+ghost use Rattle.model_machine.specs.Machine.{terminal_place};
+ghost use Rattle.model_machine.specs.Lasting.{abend_outputs, discarded_pad};
+ghost use Rattle.model_machine.specs.Lasting.LastingStep.{Accepts, Completes, Discards};
+ghost use Rattle.log_records.specs.Spelling.{IsAbend, IsCount};
+ghost use Rattle.program_rows.specs.State.{committed_rows, dbds_of, region_at, AreRowsOf, IsRegionOf};
+ghost use Rattle.program_rows.specs.Answering.{IsCommitted, IsGivenUp};
+ghost use Rattle.step_records.specs.Records.{step_bytes};
+ghost use Rattle.step_telling.specs.Ranges.{HaveCounts, HasShortPad};
+ghost use Rattle.step_telling.specs.Untold.{WhereFull};
+ghost use Rattle.lasting_state.specs.Tables.{lasting_of, needs, Applies, IsEnqueued, IsClosed};
+ghost use Rattle.lasting_state.specs.Telling.{AreBytesOf, IsLonger, IsRefused, Tells, TellsInput, WouldTell};
+
+use crate::conversing::KeptInput;
+use crate::sending::bytes_of;
+use crate::tables::{Enqueued, Tables};
+use log_records::Untold;
+use model_conversation::PadChange;
+use model_message::EndedMessage;
+use msg_queues::SLOT_ROOM;
+use out_queues::Outputs;
+use std::alloc::Global;
+use std::collections::VecDeque;
+use step_telling::{completion_bytes, discarding_bytes, input_bytes, tell};
+use tm_types::{AbendCode, Memory, Name};
+
+impl Tables {
+    /// Accepts an input of the terminal at this place, as it is to be kept, if the queues have the room
+    /// beside so many busy regions; the conversation that it begins, if it begins one, stands at the terminal
+    /// then. Its record, of at most so many bytes, is appended. A refusal changes nothing; `Memory` is answered too where a
+    /// count would pass its limit.
+    pub fn enqueue(
+        &mut self,
+        alloc: Global,
+        place: usize,
+        terminal: &Name,
+        number: u64,
+        kept: KeptInput,
+        busy: u32,
+        room: usize,
+        told: &mut Vec<u8>,
+    ) -> Result<Enqueued, Untold>
+        requires place { terminal_place self.old.terminals terminal.now ≡ Some place }
+        requires within { place < length self.old.terminals }
+        requires count { IsCount kept.segments }
+        ensures ok { IfOk result (IsEnqueued self.old self.new terminal.now number kept busy) }
+        ensures told { IfOk result (TellsInput self.old terminal.now number kept room told.old.items told.new.items) }
+        ensures err { OnErr result (self.new ≡ self.old) }
+        ensures untold { OnErr result (told.new.items ≡ told.old.items) }
+        ensures full { IfErr result (WhereFull (WouldTell self.old terminal.now number kept busy room)) }
+        ensures above { OnOk result (IsNewId self.old.next_id self.old.queues.queued) }
+    {
+        let Some(bytes) = self.needed(&kept, busy) else {
+            return Err(Untold::Memory);
+        };
+        if bytes > u64::from(self.queues.limit()) {
+            return match self.refuse(place, terminal, number, kept, busy) {
+                Ok(full) => Ok(full),
+                Err(_) => Err(Untold::Memory),
+            };
+        }
+        self.keep_told(alloc, place, terminal, number, kept, busy, room, told)
+    }
+
+    /// The bytes that an input needs beside so many busy regions, or None where they pass the limit of all counts.
+    fn needed(&self, kept: &KeptInput, busy: u32) -> Option<u64>
+        ensures { IfSome result (λ bytes. bytes ≡ needs self.now kept.now.segments busy) }
+    {
+        let bytes = bytes_of(&kept.segments)?;
+        Some(self.content() + bytes + SLOT_ROOM * u64::from(busy.max(1)))
+    }
+
+    /// Refuses an input for which the queues have no room.
+    fn refuse(
+        &mut self,
+        place: usize,
+        terminal: &Name,
+        number: u64,
+        kept: KeptInput,
+        busy: u32,
+    ) -> Result<Enqueued, Memory>
+        requires place { terminal_place self.old.terminals terminal.now ≡ Some place }
+        requires within { place < length self.old.terminals }
+        requires full { self.old.queues.limit < needs self.old kept.segments busy }
+        ensures ok { IfOk result (IsEnqueued self.old self.new terminal.now number kept busy) }
+        ensures full { IfOk result IsRefused }
+        ensures err { OnErr result (self.new ≡ self.old) }
+        ensures above { OnOk result (IsNewId self.old.next_id self.old.queues.queued) }
+    {
+        match self.keep(place, terminal, number, kept, busy) {
+            Ok(Enqueued::New(_id)) => unreachable!(),
+            Ok(Enqueued::Full(needed, limit)) => Ok(Enqueued::Full(needed, limit)),
+            Err(error) => Err(error),
+        }
+    }
+
+    /// Keeps an input for which the queues have the room, and tells it.
+    fn keep_told(
+        &mut self,
+        alloc: Global,
+        place: usize,
+        terminal: &Name,
+        number: u64,
+        kept: KeptInput,
+        busy: u32,
+        room: usize,
+        told: &mut Vec<u8>,
+    ) -> Result<Enqueued, Untold>
+        requires place { terminal_place self.old.terminals terminal.now ≡ Some place }
+        requires within { place < length self.old.terminals }
+        requires count { IsCount kept.segments }
+        requires fits { needs self.old kept.segments busy ≤ self.old.queues.limit }
+        ensures ok { IfOk result (IsEnqueued self.old self.new terminal.now number kept busy) }
+        ensures told { IfOk result (TellsInput self.old terminal.now number kept room told.old.items told.new.items) }
+        ensures err { OnErr result (self.new ≡ self.old) }
+        ensures untold { OnErr result (told.new.items ≡ told.old.items) }
+        ensures full { IfErr result (WhereFull (WouldTell self.old terminal.now number kept busy room)) }
+        ensures above { OnOk result (IsNewId self.old.next_id self.old.queues.queued) }
+    {
+        let Ok(spelled) = self.input(alloc, terminal, number, &kept) else {
+            return Err(Untold::Memory);
+        };
+        let start = told.len();
+        tell(told, &spelled, room)?;
+        match self.keep(place, terminal, number, kept, busy) {
+            Ok(Enqueued::New(id)) => Ok(Enqueued::New(id)),
+            Ok(Enqueued::Full(_needed, _limit)) => unreachable!(),
+            Err(_) => {
+                told.truncate(start);
+                Err(Untold::Memory)
+            }
+        }
+    }
+
+    /// The record of an input that is kept next, spelled.
+    fn input(
+        &self,
+        alloc: Global,
+        terminal: &Name,
+        number: u64,
+        kept: &KeptInput,
+    ) -> Result<Vec<u8>, Memory>
+        requires { IsCount kept.now.segments }
+        ensures { IfOk result (λ bytes. AreBytesOf 0 (Accepts terminal.now number kept.now) self.now bytes.items) }
+    {
+        let bytes = input_bytes(
+            alloc,
+            self.next_id,
+            terminal,
+            &kept.code,
+            number,
+            kept.conversation,
+            &kept.segments,
+        )?;
+        Ok(bytes)
+    }
+
+    /// Completes the message of this id in a region: it goes, its outputs are sent in their order, this
+    /// becomes of the pad of its origin, what the region has changed in the databases stays, and it holds
+    /// nothing any more. The records, of at most `room` bytes, are appended. A refusal changes nothing; `Memory` is answered
+    /// too where a count would pass its limit.
+    pub fn complete(
+        &mut self,
+        alloc: Global,
+        region: u32,
+        id: u64,
+        outputs: VecDeque<EndedMessage>,
+        pad: PadChange,
+        unit: u64,
+        room: usize,
+        told: &mut Vec<u8>,
+    ) -> Result<(), Untold>
+        requires region { IsRegionOf self.old.databases region }
+        requires found { IsSome (queued_at id self.old.queues.queued) }
+        requires counts { HaveCounts outputs.items }
+        requires pad { HasShortPad pad }
+        ensures step { OnOk result (Applies (Completes id (region_at region self.old.databases).rows outputs.items pad) self.old self.new) }
+        ensures told { OnOk result (Tells unit room (Completes id (region_at region self.old.databases).rows outputs.items pad) self.old told.old.items told.new.items) }
+        ensures closed { OnOk result (IsClosed self.new.databases (λ _. pad) (λ _. outputs.items) self.old self.new id) }
+        ensures databases { OnOk result (IsCommitted region self.old.databases self.new.databases) }
+        ensures rows { OnOk result (AreRowsOf (dbds_of self.new.databases) (committed_rows self.new.databases)) }
+        ensures dbds { dbds_of self.new.databases ≡ dbds_of self.old.databases }
+        ensures err { OnErr result (self.new ≡ self.old) }
+        ensures untold { OnErr result (told.new.items ≡ told.old.items) }
+        ensures full { IfErr result (WhereFull (IsLonger unit room (Completes id (region_at region self.old.databases).rows outputs.items pad) self.old)) }
+        ensures above { OnOk result (IsNewId self.old.next_id self.old.queues.queued) }
+    {
+        let Ok(spelled) = self.completion(alloc, region, unit, id, &outputs, &pad) else {
+            return Err(Untold::Memory);
+        };
+        let start = told.len();
+        tell(told, &spelled, room)?;
+        match self.commit(region, id, outputs, pad) {
+            Ok(()) => Ok(()),
+            Err(_) => {
+                told.truncate(start);
+                Err(Untold::Memory)
+            }
+        }
+    }
+
+    /// The records of a completion, spelled.
+    fn completion(
+        &self,
+        alloc: Global,
+        _region: u32,
+        unit: u64,
+        id: u64,
+        outputs: &VecDeque<EndedMessage>,
+        pad: &PadChange,
+    ) -> Result<Vec<u8>, Memory>
+        requires found { IsSome (queued_at id self.now.queues.queued) }
+        requires counts { HaveCounts outputs.now.items }
+        requires pad { HasShortPad pad.now }
+        ensures { IfOk result (λ bytes. AreBytesOf unit (Completes id (region_at _region self.now.databases).rows outputs.now.items pad.now) self.now bytes.items) }
+    {
+        let Some(message) = self.queues.find(id) else {
+            unreachable!()
+        };
+        let bytes = completion_bytes(
+            alloc,
+            unit,
+            &self.outputs,
+            self.next_id,
+            &message.origin,
+            id,
+            outputs,
+            pad,
+        )?;
+        Ok(bytes)
+    }
+
+    /// Discards the message of this id, the work on which ended abnormally in a region: it goes, its origin
+    /// is told so, its conversation ends if it belongs to one, what the region has changed in the databases
+    /// is taken back, and it holds nothing any more. The record, of at most `room` bytes, is appended. A refusal changes
+    /// nothing; `Memory` is answered too where a count would pass its limit.
+    pub fn discard(
+        &mut self,
+        alloc: Global,
+        region: u32,
+        id: u64,
+        abend: AbendCode,
+        unit: u64,
+        room: usize,
+        told: &mut Vec<u8>,
+    ) -> Result<(), Untold>
+        requires region { IsRegionOf self.old.databases region }
+        requires found { IsSome (queued_at id self.old.queues.queued) }
+        requires abend { IsAbend abend.number }
+        ensures step { OnOk result (Applies (Discards id abend) self.old self.new) }
+        ensures told { OnOk result (Tells unit room (Discards id abend) self.old told.old.items told.new.items) }
+        ensures closed { OnOk result (IsClosed self.new.databases discarded_pad (λ message. abend_outputs message abend) self.old self.new id) }
+        ensures databases { OnOk result (IsGivenUp region self.old.databases self.new.databases) }
+        ensures dbds { dbds_of self.new.databases ≡ dbds_of self.old.databases }
+        ensures err { OnErr result (self.new ≡ self.old) }
+        ensures untold { OnErr result (told.new.items ≡ told.old.items) }
+        ensures full { IfErr result (WhereFull (IsLonger unit room (Discards id abend) self.old)) }
+        ensures above { OnOk result (IsNewId self.old.next_id self.old.queues.queued) }
+    {
+        let Ok(spelled) = self.discarding(alloc, unit, id, abend) else {
+            return Err(Untold::Memory);
+        };
+        let start = told.len();
+        tell(told, &spelled, room)?;
+        match self.back_out(alloc, region, id, abend) {
+            Ok(()) => Ok(()),
+            Err(_) => {
+                told.truncate(start);
+                Err(Untold::Memory)
+            }
+        }
+    }
+
+    /// The record of a discarded message, spelled.
+    fn discarding(
+        &self,
+        alloc: Global,
+        unit: u64,
+        id: u64,
+        abend: AbendCode,
+    ) -> Result<Vec<u8>, Memory>
+        requires found { IsSome (queued_at id self.now.queues.queued) }
+        requires abend { IsAbend abend.number }
+        ensures { IfOk result (λ bytes. AreBytesOf unit (Discards id abend) self.now bytes.items) }
+    {
+        let Some(message) = self.queues.find(id) else {
+            unreachable!()
+        };
+        let number = next_number(&self.outputs, &message.origin);
+        let bytes = discarding_bytes(alloc, unit, id, abend, number)?;
+        Ok(bytes)
+    }
+}
+
+/// The number that the next reply to this name gets, which is 1 where no terminal has it.
+fn next_number(outputs: &Outputs, name: &Name) -> u64
+    ensures { result ≡ next_of name.now outputs.now }
+{
+    match outputs.terminal(name) {
+        Some(kept) => kept.next,
+        None => 1,
+    }
+}

@@ -1,0 +1,65 @@
+-- Records of slots that are appended, one after another.
+use Rattle.std.proofs.Common.{◌≡◌, ℕ, zero, suc, ◌+◌, ◌≤◌, List, [], ◌∷◌, ◌++◌, length, map, drop, refl, sym, ◌∙◌, ap, subst, Some, append_assoc, append-nil, add-one}
+use Rattle.std.specs.Prelude.{slice_get}
+use Rattle.std.specs.List.{flat_map, AllByRecursion}
+use Rattle.std.proofs.lemmas.Option.{same_Some, none-some}
+use Rattle.std.proofs.lemmas.List.Concat.{flat_map-cons, flat_map-append}
+use Rattle.seg_store.specs.Slots.{Stored}
+use Rattle.unit_work.specs.declared.change.Change.{Change}
+use Rattle.log_records.specs.declared.record.Record.{Record}
+use Rattle.log_records.specs.Spelling.{spelling, IsRecord}
+use Rattle.program_rows.specs.Telling.{slot_told, Adds, Tells}
+
+all_both : (some more : List Record) → AllByRecursion IsRecord some → AllByRecursion IsRecord more → AllByRecursion IsRecord (some ++ more)
+all_both [] more a b = b
+all_both (r ∷ some) more a b = (a.0, all_both some more a.1 b)
+
+adds_both : (some more : List Record) (before middle after : List ℕ) → Adds some before middle → Adds more middle after → Adds (some ++ more) before after
+adds_both some more before middle after a b = record {
+  bytes =
+      b.bytes ∙ ap (λ (l : List ℕ). l ++ flat_map spelling more) a.bytes
+      ∙ append_assoc before (flat_map spelling some) (flat_map spelling more)
+      ∙ ap (λ (l : List ℕ). before ++ l) (sym (flat_map-append spelling some more));
+  valid = all_both some more a.valid b.valid;
+}
+
+pub adds_one : (r : Record) (before after : List ℕ) → after ≡ before ++ spelling r → IsRecord r → Adds (r ∷ []) before after
+adds_one r before after is valid = record {
+  bytes = is ∙ ap (λ (l : List ℕ). before ++ l) (sym (flat_map-cons spelling r [] ∙ append-nil (spelling r)));
+  valid = (valid, tt);
+}
+
+pub adds_none : (before : List ℕ) → Adds [] before before
+adds_none before = record { bytes = sym (append-nil before); valid = tt }
+
+-- All that is to come comes to these records.
+abbrev pub Comes : List Record → List Record → List ℕ → List ℕ → Type 0
+Comes rest whole before now = (after : List ℕ) → Adds rest now after → Adds whole before after
+
+comes_more : (r : Record) (rest all whole : List Record) (before now next : List ℕ) → all ≡ r ∷ rest → next ≡ now ++ spelling r → IsRecord r → Comes all whole before now → Comes rest whole before next
+comes_more r rest all whole before now next is one valid comes after adds =
+    comes after (subst (λ (l : List Record). Adds l now after) (sym is) (adds_both (r ∷ []) rest now next after (adds_one r now next one valid) adds))
+
+drop_more : {X : Type 0} (xs : List X) (i : ℕ) (x : X) → slice_get xs i ≡ Some x → drop i xs ≡ x ∷ drop (i + 1) xs
+drop_more {X} xs i x is = rw add-one (go xs i x is) where
+  go : (ys : List X) (k : ℕ) (y : X) → slice_get ys k ≡ Some y → drop k ys ≡ y ∷ drop (suc k) ys
+  go [] k y e = absurd (none-some y e)
+  go (z ∷ ys) zero y e = ap (λ (w : X). w ∷ ys) (same_Some z y e)
+  go (z ∷ ys) (suc k) y e = go ys k y e
+
+pub slots_more : (unit : ℕ) (stores : List Stored) (slots : List Change) (i : ℕ) (s : Change) (before now next : List ℕ) → slice_get slots i ≡ Some s
+    → next ≡ now ++ spelling (slot_told unit stores s) → IsRecord (slot_told unit stores s)
+    → Comes (map (slot_told unit stores) (drop i slots)) (map (slot_told unit stores) slots) before now
+    → Comes (map (slot_told unit stores) (drop (i + 1) slots)) (map (slot_told unit stores) slots) before next
+slots_more unit stores slots i s before now next at one valid comes =
+    comes_more (slot_told unit stores s) (map (slot_told unit stores) (drop (i + 1) slots)) (map (slot_told unit stores) (drop i slots)) (map (slot_told unit stores) slots) before now next
+    (ap (map (slot_told unit stores)) (drop_more slots i s at)) one valid comes
+
+-- what is told in one go
+pub adds_told : (records : List Record) (room : ℕ) (bytes old new : List ℕ) → Adds records [] bytes → new ≡ old ++ bytes → length bytes ≤ room → Tells records room old new
+adds_told records room bytes old new a e fits =
+    record {
+      told = e ∙ ap (λ (l : List ℕ). old ++ l) a.bytes;
+      valid = a.valid;
+      fits = subst (λ (l : List ℕ). length l ≤ room) a.bytes fits;
+    }

@@ -1,0 +1,59 @@
+-- The slot that a record takes: the image that stands there, and what is told of it.
+use Rattle.std.proofs.Common.{◌≡◌, ℕ, ◌-◌, ◌<◌, ◌≤◌, ◌++◌, ◌∷◌, [], List, length, map, refl, sym, ◌∙◌, ap, subst, Some, get_or, take, Result, Ok, Err}
+use Rattle.std.specs.List.{slice_get}
+use Rattle.std.specs.Prelude.{IfSome, IfErr, OnOk}
+use Rattle.std.proofs.lemmas.Option.{slice_get_within, slice_get-get_or}
+use Rattle.tm_types.specs.declared.dbd.Dbd.{Dbd}
+use Rattle.model_rows.specs.declared.row.Row.{Row}
+use Rattle.model_rows.specs.Record as rows
+use Rattle.model_rows.specs.Rows.{record_of}
+use Rattle.seg_store.specs.Slots.{Stored, slot_for, rows_of_slots}
+use Rattle.dli_calls.specs.declared.planned.Edit.{Edit}
+use Rattle.log_records.specs.declared.record.Record.{Record}
+use Rattle.log_records.specs.declared.record.Record.TheVariants as told
+use Rattle.log_records.specs.declared.untold.Untold.{Untold}
+use Rattle.change_records.specs.Images.{image_at}
+use Rattle.program_rows.specs.Making.{TakesSlot, edit_told}
+use Rattle.program_rows.specs.Telling.{set_told, spelled, Tells, IsUntold}
+use Rattle.program_rows.proofs.Aside.{slots_there}
+use Rattle.program_rows.proofs.Setting.{taken, dbd_there}
+use Rattle.program_rows.proofs.Stepping.{has_slot}
+use Rattle.program_rows.proofs.ToldBack.{short_image, short_edit}
+
+module _ (stores : List Stored) (number slot : ℕ) (e : Edit) (dbd : Dbd) (database : slice_get (map (λ (s : Stored). s.dbd) stores) (number - 1) ≡ Some dbd)
+    (takes : IfSome (slice_get stores (number - 1)) (λ s. TakesSlot s e slot)) (sectors : dbd.sectors ≤ 1) (k : Stored) (at : slice_get stores (number - 1) ≡ Some k) where
+  takes_it : TakesSlot k e slot
+  takes_it = taken (λ s. TakesSlot s e slot) (slice_get stores (number - 1)) k at takes
+
+  one_sector : k.dbd.sectors ≤ 1
+  one_sector = subst (λ (d : Dbd). d.sectors ≤ 1) (sym (dbd_there stores (number - 1) k dbd at database)) sectors
+
+  stands : slice_get k.slots slot ≡ Some (record_of e.root (rows_of_slots k.slots))
+  stands = (has_slot number e.root slot k takes_it.valid takes_it.place).at
+
+  pub slot_within : slot < length k.slots
+  slot_within = slice_get_within k.slots slot (record_of e.root (rows_of_slots k.slots)) stands
+
+  pub short_before : (image : List Row) → slice_get k.slots slot ≡ Some image → length (rows.spelling image) ≤ 4000
+  short_before image there = short_image k.dbd k.slots slot image takes_it.valid one_sector there
+
+  pub short_after : length (rows.spelling e.image) ≤ 4000
+  short_after = short_edit k.dbd e.root e.image (rows_of_slots k.slots) one_sector takes_it.accepted
+
+  pub told_is : (unit : ℕ) (image : List Row) → slice_get k.slots slot ≡ Some image
+      → told.Change unit number slot (rows.spelling image) (rows.spelling e.image) ∷ [] ≡ edit_told unit number (Some e) stores
+  told_is unit image there =
+      let slots = slots_there number stores k at in
+      let both : Some (get_or k.slots slot []) ≡ Some image = sym (slice_get-get_or k.slots slot [] slot_within) ∙ there in
+      let same : get_or k.slots slot [] ≡ image = cc in
+      let is : image_at number slot stores ≡ image = ap (λ (xs : List (List Row)). get_or xs slot []) slots ∙ same in
+      sym (ap (set_told unit number e.image stores) (ap (slot_for e.root) slots ∙ takes_it.place)
+      ∙ ap (λ before. told.Change unit number slot (rows.spelling before) (rows.spelling e.image) ∷ []) is)
+
+-- what is told is taken back by its length
+pub told_back : (old now : List ℕ) (records : List Record) (room n : ℕ) → Tells records room old now → n ≡ length old → take n now ≡ old
+told_back old now records room n t e = ap (λ m. take m now) e ∙ (ap (take (length old)) t.told ∙ front old (spelled records))
+  where
+    front : (xs ys : List ℕ) → take (length xs) (xs ++ ys) ≡ xs
+    front [] ys = refl
+    front (x ∷ xs) ys = ap (λ zs. x ∷ zs) (front xs ys)

@@ -1,0 +1,29 @@
+-- Outputs and pads that records have room for.
+use Rattle.std.proofs.Common.{◌≡◌, ℕ, true, List, [], ◌∷◌, length, arith}
+use Rattle.std.specs.Prelude.{nat_le}
+use Rattle.std.specs.List.{list_all}
+use Rattle.std.proofs.lemmas.Bool.{and_parts, leb-true}
+use Rattle.model_conversation.specs.declared.conversation.PadChange.{PadChange}
+use Rattle.model_conversation.specs.declared.conversation.PadChange.TheVariants.{Stays, New, Ends}
+use Rattle.model_message.specs.declared.ended_message.EndedMessage.{EndedMessage}
+use Rattle.log_records.specs.declared.record.Record.TheVariants.{SyncPoint}
+use Rattle.log_records.specs.Spelling.{IsPadChange, IsShort}
+use Rattle.log_records.proofs.WithLength.{stays_short, ends_short, new_short}
+use Rattle.step_telling.specs.Ranges.{has_count, HaveCounts, HasShortPad}
+
+pub counts_where : (outputs : List EndedMessage) → list_all has_count outputs ≡ true → HaveCounts outputs
+counts_where [] h = tt
+counts_where (output ∷ outputs) h =
+    let parts = and_parts (has_count output) (list_all has_count outputs) h in
+    let own = and_parts (nat_le 1 (length output.segments)) (nat_le (length output.segments) 32) parts.0 in
+    ((leb-true 1 (length output.segments) own.0, leb-true (length output.segments) 32 own.1), counts_where outputs parts.1)
+
+pub is_pad_change : (pad : PadChange) → HasShortPad pad → IsPadChange pad
+is_pad_change Stays short = tt
+is_pad_change (New pad) short = omega (arith, short)
+is_pad_change Ends short = tt
+
+pub is_short : (unit : ℕ) (pad : PadChange) → HasShortPad pad → IsShort (SyncPoint unit pad)
+is_short unit Stays short = stays_short unit
+is_short unit (New pad) short = new_short unit pad short
+is_short unit Ends short = ends_short unit

@@ -1,0 +1,3 @@
+pub mod Untold
+pub mod Counted
+pub mod Ranges
