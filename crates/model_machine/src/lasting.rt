@@ -54,6 +54,13 @@ impl DatabaseRows {
         }
     }
 
+    /// These rows, in hierarchic order.
+    pub fn of(rows: Vec<Row>) -> DatabaseRows
+        ensures { result ≡ rows.items }
+    {
+        DatabaseRows { rows }
+    }
+
     /// The rows, in hierarchic order.
     pub fn as_slice(&self) -> &[Row]
         ensures { result.now ≡ self.now }
