@@ -11,7 +11,7 @@ use Rattle.model_machine.specs.Machine.{empty_state, fresh_terminal_state, first
 use Rattle.system_types.specs.Codes.{first_state}
 use Rattle.seg_store.specs.Slots.{Stored, rows_of_slots, free_slots}
 use Rattle.seg_store.specs.Stores.{empty_stores, no_changed}
-use Rattle.tm_restart.specs.Parts.{OpeningParts, AreOpeningParts}
+use Rattle.opening_parts.specs.Parts.{OpeningParts, AreOpeningParts}
 
 -- ---- the flags
 

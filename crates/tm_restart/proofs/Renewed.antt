@@ -41,7 +41,7 @@ use Rattle.tm_restart.specs.declared.parts.Counter.TheVariants as counter
 use Rattle.model_image.specs.Text.{text_in}
 use Rattle.tm_restart.specs.Made.{IsMade}
 use Rattle.tm_restart.specs.Opening.{IsBegun, MayBegin, counters, first_spent}
-use Rattle.tm_restart.specs.Parts.{OpeningParts}
+use Rattle.opening_parts.specs.Parts.{OpeningParts}
 use Rattle.tm_restart.specs.Renewal.{IsRenewed}
 use Rattle.tm_restart.proofs.TextBack.{text_back}
 

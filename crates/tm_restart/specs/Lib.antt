@@ -1,4 +1,3 @@
-pub mod Parts
 pub mod Made
 pub mod Renewal
 pub mod Opening

@@ -9,7 +9,7 @@ use Rattle.seg_store.specs.Stores.{empty_stores}
 use Rattle.system_types.specs.Valid.{IsSystem}
 use Rattle.snapshot_records.specs.Spelled.{Adds}
 use Rattle.cold_start.specs.FirstImage.{IsFirst, first_records}
-use Rattle.tm_restart.specs.Parts.{OpeningParts, AreOpeningParts}
+use Rattle.opening_parts.specs.Parts.{OpeningParts, AreOpeningParts}
 
 -- The parts and the state are those of the empty machine, and these are the bytes of its first snapshot. The restart sector
 -- is the first one, for that snapshot and a text of so many bytes, and the parts have it.

@@ -17,7 +17,7 @@ use Rattle.tm_restart.specs.declared.parts.Counter.{Counter}
 use Rattle.tm_restart.specs.declared.parts.Counter.TheVariants as counter
 use Rattle.tm_restart.specs.declared.parts.OpenError.{OpenError}
 use Rattle.tm_restart.specs.declared.parts.OpenError.TheVariants.{BadImage, WrongDefinition, TooSmall, Spent, Disk, Memory}
-use Rattle.tm_restart.specs.Parts.{OpeningParts}
+use Rattle.opening_parts.specs.Parts.{OpeningParts}
 use Rattle.cold_start.specs.FirstImage.{IsFirst, sectors_needed}
 use Rattle.model_image.specs.Text.{text_in, first_difference}
 use Rattle.tm_restart.specs.Renewal.{IsNext}

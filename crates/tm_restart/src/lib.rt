@@ -16,6 +16,7 @@ mod spending;
 mod starting;
 
 pub use model_machine::Lasting;
-pub use parts::{Counter, OpenError, Parts};
+pub use opening_parts::Parts;
+pub use parts::{Counter, OpenError};
 pub use restarting::recover;
 pub use starting::cold;

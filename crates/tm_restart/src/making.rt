@@ -4,14 +4,14 @@ ghost use Rattle.model_machine.specs.Machine.{empty_state};
 ghost use Rattle.seg_store.specs.Stores.{empty_stores};
 ghost use Rattle.system_types.specs.Codes.{first_state};
 ghost use Rattle.tm_restart.specs.Made.{IsMade};
-ghost use Rattle.tm_restart.specs.Parts.{AreOpeningParts};
+ghost use Rattle.opening_parts.specs.Parts.{AreOpeningParts};
 
 use crate::empty::{empty_lasting, fresh_states};
-use crate::parts::Parts;
 use cold_start::{first_restart, first_snapshot};
 use conversation::Conversations;
 use model_machine::Lasting;
 use msg_queues::Queues;
+use opening_parts::Parts;
 use out_queues::Outputs;
 use restart_data::RestartSector;
 use seg_store::Stores;

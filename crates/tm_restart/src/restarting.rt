@@ -3,13 +3,14 @@ ghost use Rattle.std.specs.Prelude.{◌≤◌, length, IsTrue, IfOk, OnOk};
 ghost use Rattle.model_disk.specs.Disk.{Image, Stays, Within, Only};
 ghost use Rattle.model_image.specs.Alike.{RecoversAlike};
 ghost use Rattle.model_image.specs.Holding.{HoldsStores};
-ghost use Rattle.tm_restart.specs.Parts.{AreOpeningParts};
+ghost use Rattle.opening_parts.specs.Parts.{AreOpeningParts};
 ghost use Rattle.tm_restart.specs.Renewal.{IsRenewed};
 ghost use Rattle.tm_restart.specs.Opening.{SizeFirst, TellsOpening, MayBegin, OpeningCause};
 
-use crate::parts::{OpenError, Parts};
+use crate::parts::OpenError;
 use image_areas::sectors_needed;
 use model_machine::Lasting;
+use opening_parts::Parts;
 use std::alloc::Global;
 use system_types::System;
 use tm_disk::Disk;

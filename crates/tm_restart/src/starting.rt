@@ -4,15 +4,16 @@ ghost use Rattle.model_disk.specs.Disk.{Image, Stays, Within, Only};
 ghost use Rattle.model_image.specs.Holding.{HoldsStores};
 ghost use Rattle.cold_start.specs.FirstImage.{KeepsOrEmpties, sectors_needed};
 ghost use Rattle.tm_restart.specs.Made.{IsMade};
-ghost use Rattle.tm_restart.specs.Parts.{AreOpeningParts};
+ghost use Rattle.opening_parts.specs.Parts.{AreOpeningParts};
 ghost use Rattle.tm_restart.specs.Renewal.{IsRenewed};
 ghost use Rattle.tm_restart.specs.Opening.{SizeFirst, TellsCold, MayBegin, OpeningCause};
 
 use crate::making::{Made, make};
-use crate::parts::{OpenError, Parts};
+use crate::parts::OpenError;
 use cold_start::write_image;
 use image_areas::sectors_needed;
 use model_machine::Lasting;
+use opening_parts::Parts;
 use restart_data::RestartSector;
 use std::alloc::Global;
 use system_types::System;
