@@ -2,8 +2,5 @@ pub mod TextBack
 pub mod FirstParts
 pub mod Renewed
 pub mod Reopened
-pub mod Judged
-pub mod Stores
-pub mod Named
-pub mod Rereading
-pub mod LookedAt
+pub mod Seen
+pub mod Recovering

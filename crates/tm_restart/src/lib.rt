@@ -2,15 +2,14 @@
 //!
 //! Whenever a stop comes, each image recovers to what it recovered to before, or, where it is begun cold, to the empty
 //! state (specs/Opening). Once a call has answered, the restart sector names a new snapshot and an empty log. A refusal
-//! has written nothing. `recover` looks at the size alone so far, and answers want of memory behind it.
+//! has written nothing. `recover` begins images of zeros so far, and tells why an image can't be opened; where one could be
+//! it answers want of memory.
 #![tactic(auto)]
 
-mod databases;
 mod empty;
-mod looking;
+mod finding;
 mod making;
 mod parts;
-mod replaying;
 mod restarting;
 mod spending;
 mod starting;

@@ -7,7 +7,9 @@ ghost use Rattle.opening_parts.specs.Parts.{AreOpeningParts};
 ghost use Rattle.tm_restart.specs.Renewal.{IsRenewed};
 ghost use Rattle.tm_restart.specs.Opening.{SizeFirst, TellsOpening, MayBegin, OpeningCause};
 
+use crate::finding::find;
 use crate::parts::OpenError;
+use crate::starting::cold;
 use image_areas::sectors_needed;
 use model_machine::Lasting;
 use opening_parts::Parts;
@@ -47,5 +49,9 @@ pub fn recover<D: Disk>(
     if has < needed {
         return Err(OpenError::TooSmall(needed, has));
     }
-    Err(OpenError::Memory)
+    match find(alloc, disk, system, text) {
+        Ok(None) => cold(alloc, disk, system, text),
+        Ok(Some(_)) => Err(OpenError::Memory),
+        Err(error) => Err(error),
+    }
 }

@@ -35,6 +35,7 @@ fn spent_output(outputs: &[TerminalReplies]) -> Option<Counter>
 }
 
 /// What a life counts on besides its replies, before it begins.
+#[derive(Drop)]
 pub(crate) struct Counts {
     pub epoch: u64,
     /// The sequence behind the log.

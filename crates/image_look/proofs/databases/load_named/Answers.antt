@@ -3,8 +3,8 @@ use Rattle.model_image.specs.Slots.{all_slots, slot_fault}
 use Rattle.image_loading.specs.Databases.{databases_in, AreImages}
 use Rattle.image_loading.specs.Loading.{AreSlotted}
 use Rattle.given_slots.specs.Giving.{AreNamedBytes}
-use Rattle.tm_restart.proofs.Named.{given_images, databases_are, same_fault, same_count}
-use Rattle.tm_restart.proofs.databases.load_named.Goals as goal
+use Rattle.image_look.proofs.NamedSlots.{given_images, databases_are, same_fault, same_count}
+use Rattle.image_look.proofs.databases.load_named.Goals as goal
 
 pub load_all-requires-clause-images : goal.load_all-requires-clause-images
 load_all-requires-clause-images g c =

@@ -1,26 +1,25 @@
 -- What an image comes to, once its databases are loaded.
-use Rattle.std.proofs.Common.{◌≡◌, ℕ, ◌*◌, true, List, map, refl, sym, ◌∙◌, ap, subst, Some, None, Ok, Err}
+use Rattle.std.proofs.Common.{◌≡◌, ℕ, ◌*◌, true, map, refl, ap, Some, None, Ok, Err}
 use Rattle.std.specs.Prelude.{Option, Decides}
 use Rattle.std.specs.Option.{option_map}
 use Rattle.model_disk.specs.Disk.{Image}
 use Rattle.model_system.specs.System.{System}
-use Rattle.model_rows.specs.Rows.{Database}
 use Rattle.restart_data.specs.declared.restart.RestartSector.{RestartSector}
 use Rattle.restart_data.specs.Restart.{restart_in}
 use Rattle.seg_store.specs.Slots.{rows_of_slots}
-use Rattle.seg_store.specs.Changed.{Kept, stored}
+use Rattle.seg_store.specs.Changed.{stored}
 use Rattle.model_image.specs.Areas.{snapshot_area, log_first}
 use Rattle.model_image.specs.Cut.{IsCutOff}
 use Rattle.model_image.specs.Faults.{Fault, unless_fault}
 use Rattle.model_image.specs.Slots.{all_slots, slot_fault, rows_of}
 use Rattle.model_image.specs.Recovered.{log_in, first_later, Recovers}
 use Rattle.image_loading.specs.Loading.{AreAllMade, AreSlotted}
-use Rattle.tm_restart.specs.declared.looking.Looked.{Looked}
-use Rattle.tm_restart.specs.declared.replaying.Reread.{Reread}
-use Rattle.tm_restart.specs.Looked.{IsLooked}
-use Rattle.tm_restart.specs.Replayed.{IsReplayed}
-use Rattle.tm_restart.proofs.Judged.{bad_slot, bad_later, good_image}
-use Rattle.tm_restart.proofs.Stores.{stores_loaded, rows_found}
+use Rattle.image_look.specs.declared.looking.Looked.{Looked}
+use Rattle.image_look.specs.declared.replaying.Reread.{Reread}
+use Rattle.image_look.specs.Looked.{IsLooked}
+use Rattle.image_look.specs.Replayed.{IsReplayed}
+use Rattle.image_look.proofs.Judged.{bad_slot, bad_later, good_image}
+use Rattle.image_look.proofs.Stores.{stores_loaded, rows_found}
 
 module _ (system : System) (image : Image) (r : RestartSector) (is : restart_in (snapshot_area system) image ≡ Ok (Some r)) (looked : Looked) (rp : IsReplayed system image r looked.reread) where
   decides : Decides true (IsCutOff (log_in system image r).rest)

@@ -14,7 +14,7 @@ use Rattle.image_loading.specs.Databases.{databases_in, AreImages}
 use Rattle.slot_loading.specs.declared.fault.LoadFault.{LoadFault}
 use Rattle.slot_loading.specs.declared.fault.LoadFault.TheVariants as faults
 use Rattle.image_loading.specs.Loading.{TellsAll}
-use Rattle.tm_restart.specs.Databases.{TellsNamed}
+use Rattle.image_look.specs.Databases.{TellsNamed}
 use Rattle.image_loading.proofs.Naming.{databases_named}
 use Rattle.given_slots.specs.Giving.{of_database, AreNamedBytes}
 use Rattle.given_slots.proofs.Given.{given_bytes}

@@ -4,8 +4,8 @@ use Rattle.model_disk.proofs.Words.{keeps_on}
 use Rattle.model_image.specs.Recovered.{Recovers}
 use Rattle.image_records.specs.Answers.{TellsLog}
 use Rattle.snapshot_reading.specs.Reading.{TellsSnapshotOf, IsRead}
-use Rattle.tm_restart.proofs.Rereading.{reread_good, reread_bad, told_fault, told_log}
-use Rattle.tm_restart.proofs.replaying.read_replayed.Goals as goal
+use Rattle.image_look.proofs.Rereading.{reread_good, reread_bad, told_fault, told_log}
+use Rattle.image_look.proofs.replaying.read_replayed.Goals as goal
 
 pub returns-in-Err-clause-value : goal.returns-in-Err-clause-value
 returns-in-Err-clause-value g c tells =

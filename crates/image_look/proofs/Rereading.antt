@@ -26,9 +26,9 @@ use Rattle.snapshot_reading.specs.declared.fault.ReadFault.{ReadFault}
 use Rattle.snapshot_reading.specs.declared.fault.ReadFault.TheVariants as faults
 use Rattle.snapshot_reading.specs.Reading.{TellsSnapshotOf, IsRead}
 use Rattle.snapshot_reading.proofs.Told.{images_kept}
-use Rattle.tm_restart.specs.declared.replaying.Reread.{Reread}
-use Rattle.tm_restart.specs.Replayed.{IsReplayed, TellsReplay}
-use Rattle.tm_restart.proofs.Judged.{bad_snapshot, bad_rest, bad_log}
+use Rattle.image_look.specs.declared.replaying.Reread.{Reread}
+use Rattle.image_look.specs.Replayed.{IsReplayed, TellsReplay}
+use Rattle.image_look.proofs.Judged.{bad_snapshot, bad_rest, bad_log}
 
 good_by : (cut : Bool) (o : Option LastingState) (lasting : LastingState) → (if cut then replayed_to o else Err 18) ≡ Ok lasting → (cut ≡ true) × (o ≡ Some lasting)
 good_by true (Some found) lasting e = (refl, cc)

@@ -4,7 +4,7 @@ use Rattle.model_image.specs.Slots.{Slot, slot_fault}
 use Rattle.slot_loading.specs.declared.fault.LoadFault.{LoadFault}
 use Rattle.slot_loading.specs.declared.fault.LoadFault.TheVariants as faults
 use Rattle.image_loading.specs.Loading.{AreSlotted}
-use Rattle.tm_restart.specs.declared.databases.Named.{Named}
+use Rattle.image_look.specs.declared.databases.Named.{Named}
 
 -- They break no rule, and each store has the records of its slots; or the lowest rule that one breaks.
 abbrev pub TellsNamed : Result Named LoadFault → List (List Slot) → Type 0

@@ -1,13 +1,13 @@
-use Rattle.std.proofs.Common.{◌≡◌, List, Ok, Err, Some, None, refl, sym, ◌∙◌, ap, subst, IsTrue}
+use Rattle.std.proofs.Common.{Ok, Err, refl, sym, ◌∙◌, ap, subst, IsTrue}
 use Rattle.model_disk.specs.Disk.{Image}
 use Rattle.model_disk.proofs.Words.{keeps_on}
-use Rattle.model_image.specs.Recovered.{log_in, first_later, Recovers}
+use Rattle.model_image.specs.Recovered.{log_in}
 use Rattle.model_image.specs.Slots.{all_slots}
 use Rattle.image_records.specs.NamedSlots.{AreNamed}
-use Rattle.tm_restart.specs.declared.replaying.Reread.{Reread}
-use Rattle.tm_restart.specs.Databases.{TellsNamed}
-use Rattle.tm_restart.proofs.LookedAt.{look_good, look_later, look_bad}
-use Rattle.tm_restart.proofs.looking.look.Goals as goal
+use Rattle.image_look.specs.declared.replaying.Reread.{Reread}
+use Rattle.image_look.specs.Databases.{TellsNamed}
+use Rattle.image_look.proofs.LookedAt.{look_good, look_later, look_bad}
+use Rattle.image_look.proofs.looking.look.Goals as goal
 
 pub returns-in-Err-Bad-clause-value : goal.returns-in-Err-Bad-clause-value
 returns-in-Err-Bad-clause-value g c tells =

@@ -4,7 +4,7 @@ ghost use Rattle.model_disk.specs.Disk.{Keeps};
 ghost use Rattle.restart_data.specs.Restart.{restart_in};
 ghost use Rattle.restart_data.specs.Images.{IsValid};
 ghost use Rattle.model_image.specs.Areas.{snapshot_area, data_first};
-ghost use Rattle.tm_restart.specs.Replayed.{ComesBehind, TellsReplay, ReplayCause};
+ghost use Rattle.image_look.specs.Replayed.{ComesBehind, TellsReplay, ReplayCause};
 
 use image_areas::log_first;
 use image_records::{RecordsFault, Replayed};
@@ -18,13 +18,13 @@ use tm_disk::Disk;
 
 /// What the snapshot and the log come to, and the sequence behind the log.
 #[derive(Drop)]
-pub(crate) struct Reread {
+pub struct Reread {
     pub replayed: Replayed,
     pub next_sequence: u64,
 }
 
 /// Reads the snapshot and the log that this restart sector names, and does the log again. Nothing is written.
-pub(crate) fn read_replayed<D: Disk>(
+pub fn read_replayed<D: Disk>(
     alloc: Global,
     disk: &mut D,
     system: &System,

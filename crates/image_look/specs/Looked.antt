@@ -1,5 +1,5 @@
 -- What an image comes to, its databases with it.
-use Rattle.std.specs.Prelude.{◌≡◌, ℕ, map, None, Some, Result, Ok, Err}
+use Rattle.std.specs.Prelude.{◌≡◌, map, Result, Ok, Err}
 use Rattle.model_disk.specs.Disk.{Image, DiskState, FailedSince}
 use Rattle.model_system.specs.System.{System}
 use Rattle.restart_data.specs.declared.restart.RestartSector.{RestartSector}
@@ -9,8 +9,8 @@ use Rattle.model_image.specs.Recovered.{log_in, Recovers}
 use Rattle.renewal.specs.Loaded.{AreLoaded}
 use Rattle.snapshot_reading.specs.declared.fault.ReadFault.{ReadFault}
 use Rattle.snapshot_reading.specs.declared.fault.ReadFault.TheVariants as faults
-use Rattle.tm_restart.specs.declared.looking.Looked.{Looked}
-use Rattle.tm_restart.specs.Replayed.{IsReplayed}
+use Rattle.image_look.specs.declared.looking.Looked.{Looked}
+use Rattle.image_look.specs.Replayed.{IsReplayed}
 
 -- The image recovers to what its snapshot and its log come to, with the rows of its databases.
 pub record IsLooked (system : System) (image : Image) (restart : RestartSector) (looked : Looked) : Type 0 where

@@ -9,7 +9,7 @@ ghost use Rattle.slot_loading.specs.Loading.{LoadCause};
 ghost use Rattle.image_records.specs.NamedSlots.{is_slot_of, Ascend, AreNamed};
 ghost use Rattle.image_loading.specs.Loading.{AreAllMade};
 ghost use Rattle.given_slots.specs.Giving.{AreNamedBytes};
-ghost use Rattle.tm_restart.specs.Databases.{TellsNamed};
+ghost use Rattle.image_look.specs.Databases.{TellsNamed};
 
 use given_slots::given_of;
 use image_loading::{Loaded, load_all};
@@ -21,13 +21,13 @@ use tm_disk::Disk;
 
 /// The databases, and of each the slots that records name.
 #[derive(Debug, Drop)]
-pub(crate) struct Named {
+pub struct Named {
     pub given: Vec<Slots>,
     pub loaded: Loaded,
 }
 
 /// Loads all databases, the slots that records name from there and all others from their sectors. Nothing is written.
-pub(crate) fn load_named<D: Disk>(
+pub fn load_named<D: Disk>(
     alloc: Global,
     disk: &mut D,
     system: &System,

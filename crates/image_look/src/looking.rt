@@ -1,10 +1,13 @@
 //! All of an image behind its text, read and judged.
-ghost use Rattle.std.specs.Prelude.{◌≡◌, ◌≤◌, Some, Ok, IsTrue, IfOk, length};
+ghost use Rattle.std.specs.Prelude.{◌≡◌, ◌+◌, ◌≤◌, Some, Ok, IsTrue, IfOk, length};
 ghost use Rattle.model_disk.specs.Disk.{Keeps};
 ghost use Rattle.restart_data.specs.Restart.{restart_in};
 ghost use Rattle.restart_data.specs.Images.{IsValid};
 ghost use Rattle.model_image.specs.Areas.{snapshot_area, data_first};
-ghost use Rattle.tm_restart.specs.Looked.{TellsLook, LookCause};
+ghost use Rattle.given_slots.specs.Giving.{AreNamedBytes};
+ghost use Rattle.image_loading.specs.Loading.{AreAllMade};
+ghost use Rattle.image_look.specs.Replayed.{ComesBehind};
+ghost use Rattle.image_look.specs.Looked.{TellsLook, LookCause};
 
 use crate::databases::{Named, load_named};
 use crate::replaying::{Reread, read_replayed};
@@ -19,14 +22,14 @@ use tm_disk::Disk;
 
 /// What an image comes to: its tables, the slots that records name, and its databases.
 #[derive(Drop)]
-pub(crate) struct Looked {
+pub struct Looked {
     pub reread: Reread,
     pub named: Named,
 }
 
 /// Reads the snapshot, the log and all databases of an image with this restart sector, and looks for log sectors of a later
 /// life. Nothing is written.
-pub(crate) fn look<D: Disk>(
+pub fn look<D: Disk>(
     alloc: Global,
     disk: &mut D,
     system: &System,
@@ -35,6 +38,10 @@ pub(crate) fn look<D: Disk>(
     requires areas { data_first system.now (length system.now.databases) ≤ (D.state disk.old).size }
     requires valid { IsValid (snapshot_area system.now) restart.now }
     requires has { IsTrue (D.state disk.old).tells → restart_in (snapshot_area system.now) (D.state disk.old).shown ≡ Ok (Some restart.now) }
+    ensures behind { IfOk result (λ looked. ComesBehind system.now looked.reread.replayed) }
+    ensures few { IfOk result (λ looked. looked.reread.next_sequence ≤ restart.now.sequence + system.now.logs) }
+    ensures given { IfOk result (λ looked. AreNamedBytes (length system.now.databases) looked.reread.replayed.slots looked.named.given.items) }
+    ensures made { IfOk result (λ looked. AreAllMade system.now.databases looked.named.loaded.stores looked.named.loaded.rows) }
     ensures value { IsTrue (D.state disk.old).tells → TellsLook system.now restart.now (D.state disk.old).shown result }
     ensures keeps { Keeps (D.state disk.old) (D.state disk.new) }
     ensures cause { LookCause result (D.state disk.old) (D.state disk.new) }

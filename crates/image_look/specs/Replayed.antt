@@ -13,7 +13,7 @@ use Rattle.model_image.specs.Snapshot.{snapshot_state}
 use Rattle.image_records.specs.Answers.{ReplayedState, IsBehind}
 use Rattle.snapshot_reading.specs.declared.fault.ReadFault.{ReadFault}
 use Rattle.snapshot_reading.specs.declared.fault.ReadFault.TheVariants as faults
-use Rattle.tm_restart.specs.declared.replaying.Reread.{Reread}
+use Rattle.image_look.specs.declared.replaying.Reread.{Reread}
 
 -- What was read comes from records of a snapshot and of a log, on every disk.
 pub record ComesBehind (system : System) (replayed : ReplayedState) : Type 0 where
