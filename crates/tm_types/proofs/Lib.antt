@@ -1,3 +1,4 @@
 pub mod Printable
 pub mod Hierarchy
 pub mod Places
+pub mod Commands

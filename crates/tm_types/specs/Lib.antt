@@ -9,3 +9,4 @@ pub mod PaddedKey
 pub mod SegTypes
 pub mod Words
 pub mod Digits
+pub mod Commands

@@ -10,6 +10,10 @@ is_name_byte b = (nat_le 65 b && nat_le b 90) || (nat_le 48 b && nat_le b 57) ||
 abbrev pub IsName : List ℕ → Type 0
 IsName bytes = (1 ≤ length bytes) × (length bytes ≤ 8) × IsTrue (list_all is_name_byte bytes)
 
+-- the same as a test
+abbrev pub is_name : List ℕ → Bool
+is_name bytes = nat_le 1 (length bytes) && nat_le (length bytes) 8 && list_all is_name_byte bytes
+
 -- what stands behind a short name in its eight bytes
 abbrev pub name_padding : List ℕ
 name_padding = 0 ∷ 0 ∷ 0 ∷ 0 ∷ 0 ∷ 0 ∷ 0 ∷ 0 ∷ []

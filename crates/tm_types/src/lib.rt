@@ -7,6 +7,7 @@
 
 pub use abend::AbendCode;
 pub use bytes::Bytes;
+pub use command::LastingCommand;
 pub use dbd::{Dbd, SegType, SegTypes};
 pub use digits::four_digits;
 pub use function::Function;
@@ -26,6 +27,7 @@ pub use words::{first_word, operands};
 
 mod abend;
 mod bytes;
+mod command;
 mod dbd;
 mod digits;
 mod function;

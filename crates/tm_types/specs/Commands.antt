@@ -1,0 +1,68 @@
+-- The commands of an operator that last, and how each is spelled.
+use Rattle.std.specs.Prelude.{◌≡◌, ℕ, ◌==◌, if◌then◌else◌, Option, None, Some, List, [], ◌++◌, codes}
+use Rattle.std.specs.Str.{bytes_eq}
+use Rattle.tm_types.specs.Name.{IsName, is_name}
+use Rattle.tm_types.specs.Words.{first_word, operands}
+use Rattle.tm_types.specs.declared.command.LastingCommand.{LastingCommand}
+use Rattle.tm_types.specs.declared.command.LastingCommand.TheVariants.{StartTransaction, StopTransaction, StartTerminal, StopTerminal, DequeueFirst, DequeueAll, Exit}
+
+-- the one spelling of each
+abbrev pub spelling : LastingCommand → List ℕ
+spelling (StartTransaction code) = codes "/START TRANSACTION " ++ code
+spelling (StopTransaction code) = codes "/STOP TRANSACTION " ++ code
+spelling (StartTerminal terminal) = codes "/START LTERM " ++ terminal
+spelling (StopTerminal terminal) = codes "/STOP LTERM " ++ terminal
+spelling (DequeueFirst terminal) = codes "/DEQUEUE LTERM " ++ (terminal ++ codes " PURGE1")
+spelling (DequeueAll terminal) = codes "/DEQUEUE LTERM " ++ (terminal ++ codes " PURGE")
+spelling (Exit terminal) = codes "/EXIT " ++ terminal
+
+-- the code or terminal that it names
+abbrev pub name_in : LastingCommand → List ℕ
+name_in (StartTransaction code) = code
+name_in (StopTransaction code) = code
+name_in (StartTerminal terminal) = terminal
+name_in (StopTerminal terminal) = terminal
+name_in (DequeueFirst terminal) = terminal
+name_in (DequeueAll terminal) = terminal
+name_in (Exit terminal) = terminal
+
+-- the text is the command's spelling, and what it names is a name
+pub record Spells (text : List ℕ) (command : LastingCommand) : Type 0 where
+  pub spelled : text ≡ spelling command
+  pub named : IsName (name_in command)
+
+-- ---- the command that a text spells, by its words
+
+abbrev pub named : (List ℕ → LastingCommand) → List ℕ → Option LastingCommand
+named command word = if is_name word then Some (command word) else None
+
+-- behind /START, and behind /STOP
+unfoldable pub start_in : List ℕ → Option LastingCommand
+start_in text =
+    if bytes_eq (first_word text) (codes "TRANSACTION") then named (λ code. StartTransaction code) (operands text)
+    else if bytes_eq (first_word text) (codes "LTERM") then named (λ terminal. StartTerminal terminal) (operands text)
+    else None
+
+unfoldable pub stop_in : List ℕ → Option LastingCommand
+stop_in text =
+    if bytes_eq (first_word text) (codes "TRANSACTION") then named (λ code. StopTransaction code) (operands text)
+    else if bytes_eq (first_word text) (codes "LTERM") then named (λ terminal. StopTerminal terminal) (operands text)
+    else None
+
+-- behind /DEQUEUE LTERM, and behind /DEQUEUE
+unfoldable pub purge_in : List ℕ → Option LastingCommand
+purge_in text =
+    if bytes_eq (operands text) (codes "PURGE1") then named (λ terminal. DequeueFirst terminal) (first_word text)
+    else if bytes_eq (operands text) (codes "PURGE") then named (λ terminal. DequeueAll terminal) (first_word text)
+    else None
+
+unfoldable pub dequeue_in : List ℕ → Option LastingCommand
+dequeue_in text = if bytes_eq (first_word text) (codes "LTERM") then purge_in (operands text) else None
+
+unfoldable pub command_in : List ℕ → Option LastingCommand
+command_in text =
+    if bytes_eq (first_word text) (codes "/START") then start_in (operands text)
+    else if bytes_eq (first_word text) (codes "/STOP") then stop_in (operands text)
+    else if bytes_eq (first_word text) (codes "/DEQUEUE") then dequeue_in (operands text)
+    else if bytes_eq (first_word text) (codes "/EXIT") then named (λ terminal. Exit terminal) (operands text)
+    else None
