@@ -1,5 +1,6 @@
 //! The calls of a control region, and what they are answered.
 
+use crate::counts::Counter;
 use model_enqueue::Victims;
 use thiserror::Error;
 use tm_types::{AbendCode, Function, Name, Resource, Segments, Status};
@@ -23,6 +24,12 @@ pub enum ControlFault {
     /// No memory was left; nothing changed.
     #[error("no memory")]
     Memory,
+    /// The disk failed in the call, and its count of faults rose.
+    #[error("the disk failed")]
+    Disk,
+    /// A counter stands at 1,000,000,000,000,000,000 or above; nothing changed.
+    #[error("a counter is spent")]
+    Spent(Counter),
 }
 
 /// An input that was taken.

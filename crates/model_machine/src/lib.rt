@@ -5,10 +5,12 @@
 //! and the history is legal.
 #![tactic(auto)]
 
+pub use counts::Counter;
 pub use entry::{
     AckRefused, Acked, ControlCall, ControlFault, Entry, InputRefused, ShowAnswer, Taken, Turned,
 };
 pub use lasting::{CodeSetting, DatabaseRows, Lasting, TerminalState};
 
+mod counts;
 mod entry;
 mod lasting;

@@ -4,7 +4,7 @@ use Rattle.std.proofs.lemmas.List.Folds.{list_all-append}
 use Rattle.std.proofs.lemmas.Bool.Decides.{nat_tests}
 use Rattle.std.specs.Prelude.{Option, Some, None, IsNone, IfSome, nat_le}
 use Rattle.std.specs.List.{list_all}
-use Rattle.tm_control.specs.declared.life.Life.{Life}
+use Rattle.memory_control.specs.declared.life.Life.{Life}
 use Rattle.tm_edge.specs.Fault.{HasRisen}
 use Rattle.tm_edge.specs.Lines.{CutLine, cut_lines, is_short, line_size, line_text, behind_line, HasServed, IsTooLong}
 use Rattle.tm_edge.proofs.ServedSoFar.{long_first}

@@ -36,8 +36,8 @@ use Rattle.snapshot_records.proofs.Read.{no_changes, read_from}
 use Rattle.cold_start.proofs.Emptied.{empty_is, empty_sound}
 use Rattle.cold_start.proofs.Names.{codes_apart}
 use Rattle.cold_start.proofs.FirstWritten.{has_first, first_recovers}
-use Rattle.tm_restart.specs.declared.parts.Counter.{Counter}
-use Rattle.tm_restart.specs.declared.parts.Counter.TheVariants as counter
+use Rattle.model_machine.specs.declared.counts.Counter.{Counter}
+use Rattle.model_machine.specs.declared.counts.Counter.TheVariants as counter
 use Rattle.model_image.specs.Text.{text_in}
 use Rattle.tm_restart.specs.Made.{IsMade}
 use Rattle.tm_restart.specs.Opening.{IsBegun, MayBegin, counters, first_spent}

@@ -14,7 +14,7 @@ use Rattle.model_image.specs.Text.{text_in, first_difference}
 use Rattle.model_image.specs.Recovered.{Recovers}
 use Rattle.image_records.specs.Kept.{KeptState}
 use Rattle.image_look.proofs.Judged.{bad_restart}
-use Rattle.tm_restart.specs.declared.parts.Counter.{Counter}
+use Rattle.model_machine.specs.declared.counts.Counter.{Counter}
 use Rattle.tm_restart.specs.declared.finding.Found.{Found}
 use Rattle.tm_restart.specs.Opening.{counters, first_spent, IsBad, IsOther, IsSpent}
 use Rattle.tm_restart.specs.Found.{IsSeen}

@@ -13,8 +13,8 @@ use Rattle.model_image.specs.Counters.{next_unit, next_sequence}
 use Rattle.model_image.specs.Recovered.{snapshot_from, log_in, Recovers}
 use Rattle.model_image.specs.States.{breaks_a_rule}
 use Rattle.snapshot_records.specs.Records.{IsOfSystem}
-use Rattle.tm_restart.specs.declared.parts.Counter.{Counter}
-use Rattle.tm_restart.specs.declared.parts.Counter.TheVariants as counter
+use Rattle.model_machine.specs.declared.counts.Counter.{Counter}
+use Rattle.model_machine.specs.declared.counts.Counter.TheVariants as counter
 use Rattle.tm_restart.specs.declared.parts.OpenError.{OpenError}
 use Rattle.tm_restart.specs.declared.parts.OpenError.TheVariants.{BadImage, WrongDefinition, TooSmall, Spent, Disk, Memory}
 use Rattle.opening_parts.specs.Parts.{OpeningParts}

@@ -9,7 +9,7 @@ use Rattle.model_session.specs.Session.{AreServed, IsLife}
 use Rattle.model_session.specs.Session.Standing.{Up}
 use Rattle.model_session.proofs.Sessions.{AreServed-append}
 use Rattle.tm_edge.specs.Lines.{unread}
-use Rattle.tm_control.specs.declared.life.Life.{Life}
+use Rattle.memory_control.specs.declared.life.Life.{Life}
 use Rattle.tm_session.specs.declared.outcome.Ended.{Ended}
 use Rattle.tm_session.specs.declared.outcome.Ended.TheVariants.{Done, Words, BadLine, BadCross, Read, Write, Memory, Limit}
 use Rattle.tm_session.specs.Source.{judged}

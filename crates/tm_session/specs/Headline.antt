@@ -4,7 +4,7 @@ use Rattle.model_system.specs.System.{System}
 use Rattle.model_session.specs.Blocks.{Block}
 use Rattle.model_session.specs.Session.{LifeState, IsDrilled}
 use Rattle.tm_edge.specs.Lines.{lines_of}
-use Rattle.tm_control.specs.declared.life.Life.{Life}
+use Rattle.memory_control.specs.declared.life.Life.{Life}
 use Rattle.tm_session.specs.declared.outcome.Ended.{Ended}
 use Rattle.tm_session.specs.declared.outcome.Ended.TheVariants.{BadLine, BadCross, Read, Memory, Limit}
 use Rattle.sysdef_text.specs.Ends.{definition_lines}

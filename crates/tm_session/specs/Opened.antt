@@ -2,7 +2,7 @@
 use Rattle.std.specs.Prelude.{◌≡◌, ℕ, Option, IfSome, List, [], ◌∷◌, length}
 use Rattle.model_machine.specs.Machine.{empty_state, start_of}
 use Rattle.model_machine.specs.History.{ControlState, AreSteps, now_of}
-use Rattle.tm_control.specs.declared.life.Life.{Life}
+use Rattle.memory_control.specs.declared.life.Life.{Life}
 use Rattle.tm_session.specs.Opening.{ReadsDefinition}
 use Rattle.tm_session.specs.Headline.{Defines}
 

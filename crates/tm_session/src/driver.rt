@@ -9,11 +9,11 @@ ghost use Rattle.tm_session.specs.Outcome.{HasCause, IsBack, IsReadToEnd};
 use crate::outcome::Ended;
 use crate::reader::read_line;
 use crate::serve::serve_block;
+use memory_control::Control;
 use session_lines::{Block, is_further, takes_further};
 use session_text::Printed;
 use std::alloc::Global;
 use text_rows::is_passed_over;
-use tm_control::Control;
 use tm_edge::{Line, Lines, Sink, Source};
 
 /// The most lines that a source has.

@@ -1,6 +1,6 @@
 //! How a session ended, and what it came to.
+use memory_control::Life;
 use std::marker::Model;
-use tm_control::Life;
 
 /// How a session ended. Each has a status number and, mostly, a last line.
 #[derive(Clone, Copy, Debug)]
@@ -32,7 +32,7 @@ pub struct Lives {
 
 impl Model for Lives {
     ghost use Rattle.std.specs.Prelude.{List};
-    ghost use Rattle.tm_control.specs.declared.life.Life.{Life};
+    ghost use Rattle.memory_control.specs.declared.life.Life.{Life};
 
     ghost Value = { List Life };
 

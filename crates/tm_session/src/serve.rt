@@ -10,6 +10,7 @@ ghost use Rattle.model_session.specs.Lines.{CanAsk, asked_of};
 ghost use Rattle.tm_session.specs.Serving.{IsDone, IsAnswered, BreaksOff};
 
 use crate::turns::answer_quiet;
+use memory_control::{AckRefused, Acked, Control, ControlFault, InputRefused, Shown, Taken};
 use mfs_edit::edit_out;
 use model_machine::ControlCall;
 use model_session::{Asked, InputStopped};
@@ -20,7 +21,6 @@ use session_text::{
 };
 use std::alloc::Global;
 use system_types::System;
-use tm_control::{AckRefused, Acked, Control, ControlFault, InputRefused, Shown, Taken};
 use tm_types::{Memory, Name, Reply, Segments};
 
 /// Serves a block, and leaves what is to be printed for it as the printed text. After want of memory
@@ -242,5 +242,7 @@ fn answer_turn(control: &mut Control, printed: &mut Printed, region: u32) -> Res
             Ok(())
         }
         Err(ControlFault::Memory) => Err(Memory),
+        Err(ControlFault::Disk) => Err(Memory),
+        Err(ControlFault::Spent(_)) => Err(Memory),
     }
 }

@@ -9,9 +9,9 @@ ghost use Rattle.tm_session.specs.Headline.{IsSession, IsUnbegun};
 use crate::driver::serve_lines;
 use crate::outcome::{Ended, Lives, Outcome};
 use crate::source::{judge, read_definition};
+use memory_control::{Control, Life};
 use std::alloc::Global;
 use system_types::System;
-use tm_control::{Control, Life};
 use tm_edge::{Lines, Sink, Source};
 use tm_types::Memory;
 

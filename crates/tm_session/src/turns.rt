@@ -3,8 +3,8 @@ ghost use Rattle.std.specs.Prelude.{◌≡◌, ◌≤◌, IfOk, OnErr, [], OnOk}
 ghost use Rattle.model_session.specs.declared.asked.Asked.TheVariants.{Quiet};
 ghost use Rattle.tm_session.specs.Serving.{IsTurned, BreaksOff, HasTurned};
 
+use memory_control::{Control, ControlFault};
 use session_text::{ANSWER_ROOM, Printed, quiet_line};
-use tm_control::{Control, ControlFault};
 use tm_types::Memory;
 
 /// Lets the regions turn while something is left to do, so many times at most, and prints their one
@@ -42,6 +42,8 @@ fn turn_while_left(control: &mut Control, most: u32) -> Result<(u32, bool), Memo
         match control.turn(region) {
             Ok(_) => {}
             Err(ControlFault::Memory) => return Err(Memory),
+            Err(ControlFault::Disk) => return Err(Memory),
+            Err(ControlFault::Spent(_)) => return Err(Memory),
         }
     }
     Ok((most, control.quiet()))

@@ -1,0 +1,2 @@
+mod Invariant
+mod Rings

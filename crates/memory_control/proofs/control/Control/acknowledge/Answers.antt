@@ -1,0 +1,12 @@
+-- the parts went on as the new entry says
+use Rattle.std.proofs.Common.{◌∙◌, ap}
+use Rattle.model_machine.specs.declared.entry.Entry.TheVariants.{Acked}
+use Rattle.model_machine.specs.History.{is_fault}
+use Rattle.memory_control.specs.Noting.{noted}
+use Rattle.memory_control.proofs.Invariant.{IsControl-noted}
+use Rattle.memory_control.proofs.control.Control.acknowledge.Goals as goal
+
+pub invariant_of-self-2 : goal.invariant_of-self-2
+invariant_of-self-2 c =
+    IsControl-noted c.self.inside.parts c.acknowledge-answer.new.self c.self.inside.opening c.self.inside.history.items c.note.new.history.items (Acked c.args.terminal.now c.args.number c.acknowledge-answer.result)
+    c.self.invariant (c.note.ensures ∙ ap (λ entries. noted (is_fault (Acked c.args.terminal.now c.args.number c.acknowledge-answer.result)) entries (Acked c.args.terminal.now c.args.number c.acknowledge-answer.result)) c.reserve.ensures.items) c.acknowledge-answer.ensures

@@ -1,0 +1,2 @@
+pub mod ControlView
+pub mod Noting
