@@ -1,2 +1,0 @@
-mod Invariant
-mod Rings
