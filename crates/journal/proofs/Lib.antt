@@ -1,3 +1,2 @@
 pub mod Stepping
 pub mod Checkpointing
-pub mod Appending

@@ -13,20 +13,13 @@ use Rattle.step_law.specs.Steps.{StepOnDisk, with_records, after_step}
 use Rattle.step_law.proofs.OnDisk.{step_at_any_moment, step_done}
 use Rattle.journal.specs.State.{IsStepOf, RecoverEither}
 
--- a writer with more bytes appended is where its log ends, too
-pub more_ready : (bytes : List ℕ) (log : Writer) (disk : DiskState) → IsReady log disk → IsReady (with_bytes bytes log) disk
-more_ready bytes log disk ready image left = let end = ready image left in record { written = end.written; free = end.free }
-
-module _ (log : Writer) (bytes : List ℕ) (life : LifeOnDisk) (step : StepOnDisk) (is : IsStepOf log bytes life step) (old : DiskState) (kept : AreKept life old) where
-  same_writer : with_bytes bytes log ≡ with_records life step.records
-  same_writer = ap (λ (b : List ℕ). with_bytes b log) is.spelled ∙ ap (with_bytes (flat_map spelling step.records)) (sym is.writer)
-
-  pub within_recovers : (new : DiskState) → IsDisk old → Within (AddsFront (with_bytes bytes log)) old new → RecoverEither life.system life.lasting step.lasting old new
+module _ (log : Writer) (life : LifeOnDisk) (step : StepOnDisk) (is : IsStepOf log life step) (old : DiskState) (kept : AreKept life old) where
+  pub within_recovers : (new : DiskState) → IsDisk old → Within (AddsFront log) old new → RecoverEither life.system life.lasting step.lasting old new
   within_recovers new disk within image left =
-      step_at_any_moment life is.is_life step is.is_step old kept new disk (subst (λ (w : Writer). Within (AddsFront w) old new) same_writer within) image left
+      step_at_any_moment life is.is_life step is.is_step old kept new disk (subst (λ (w : Writer). Within (AddsFront w) old new) (sym is.writer) within) image left
 
-  pub follows_kept : (new : DiskState) → Follows (AddsAll (with_bytes bytes log)) old new → AreKept (after_step step life) new
-  follows_kept new follows = step_done life is.is_life step is.is_step old kept new (subst (λ (w : Writer). Follows (AddsAll w) old new) same_writer follows)
+  pub follows_kept : (new : DiskState) → Follows (AddsAll log) old new → AreKept (after_step step life) new
+  follows_kept new follows = step_done life is.is_life step is.is_step old kept new (subst (λ (w : Writer). Follows (AddsAll w) old new) (sym is.writer) follows)
 
 -- what holds once a call is done gives what follows from it
 pub when_done : {A E : Type 0} (result : Result A E) (P Q : Type 0) → (P → Q) → OnOk result P → OnOk result Q

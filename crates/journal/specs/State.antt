@@ -1,7 +1,5 @@
 -- What a control region keeps of its disk.
 use Rattle.std.specs.Prelude.{◌≡◌, ℕ, ◌+◌, ◌≤◌, ◌↔◌, List, [], length, Option, Some, None, Ok}
-use Rattle.std.specs.List.{flat_map}
-use Rattle.log_records.specs.Spelling.{spelling}
 use Rattle.model_disk.specs.Disk.{Image, DiskState}
 use Rattle.model_system.specs.System.{System}
 use Rattle.model_machine.specs.Machine.{LastingState}
@@ -13,15 +11,14 @@ use Rattle.model_image.specs.Recovered.{Recovers}
 use Rattle.slot_law.specs.Committed.{Touches}
 use Rattle.checkpointing.specs.Parts.{CheckpointParts}
 use Rattle.checkpoint_law.specs.Checkpointing.{parts_with, MayCheckpoint}
-use Rattle.step_law.specs.Steps.{StepOnDisk, IsStep}
+use Rattle.step_law.specs.Steps.{StepOnDisk, IsStep, with_records}
 use Rattle.restart_data.specs.declared.restart.RestartSector.{RestartSector}
 use Rattle.log_writer.specs.Writer.{Writer}
 use Rattle.log_writer.specs.Log.{sectors_of}
 
--- the writer of its log with what was appended, for how many bytes more there is memory, and the restart sector that holds
+-- the writer of its log with what was appended, and the restart sector that holds
 pub record JournalState : Type 0 where
   pub log : Writer
-  pub reserved : ℕ
   pub restart : RestartSector
 
 -- the writer with these bytes appended, in place of others
@@ -42,10 +39,13 @@ abbrev pub TellsRoom : Writer → Option ℕ → Type 0
 TellsRoom log (Some room) = (own : ℕ) → (own ≤ room) ↔ LeavesSectors log own
 TellsRoom log None = (own : ℕ) → LeavesSectors log own → ⊥
 
--- The bytes are the records of a step of this life, whose writer this is.
-pub record IsStepOf (log : Writer) (bytes : List ℕ) (life : LifeOnDisk) (step : StepOnDisk) : Type 0 where
-  pub writer : life.log ≡ log
-  pub spelled : bytes ≡ flat_map spelling step.records
+-- how many bytes of a call's own may be appended at all
+abbrev pub TellsAllRoom : Writer → ℕ → Type 0
+TellsAllRoom log room = (own : ℕ) → (own ≤ room) ↔ (log.place + sectors_of (length log.appended + own) ≤ log.count)
+
+-- What was appended last are the records of a step of this life.
+pub record IsStepOf (log : Writer) (life : LifeOnDisk) (step : StepOnDisk) : Type 0 where
+  pub writer : with_records life step.records ≡ log
   pub is_life : IsLife life
   pub is_step : IsStep life step
 

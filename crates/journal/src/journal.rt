@@ -1,5 +1,4 @@
 //! The journal.
-ghost use Rattle.std.specs.List.{flat_map};
 ghost use Rattle.std.specs.Prelude.{◌≡◌, ℕ, List, map, ◌+◌, ◌*◌, ◌<◌, ◌≤◌, ◌^◌, [], length, OnOk, OnErr};
 ghost use Rattle.model_disk.specs.Disk.{Stays, Within, Follows, Only, WritesAtMost, FailedSince};
 ghost use Rattle.restart_data.specs.Restart.{IsRestart};
@@ -11,8 +10,6 @@ ghost use Rattle.checkpointing.specs.Written.{AreOf};
 ghost use Rattle.checkpointing.specs.Checkpoint.{KeepsRecovery, IsCheckpointed};
 ghost use Rattle.checkpointing.specs.Conditions.{HasRestart, NoneIsAhead, ChangedAreNamed, ForceKeeps, SnapshotKeeps};
 ghost use Rattle.log_writer.specs.Log.{sectors_of, IsReady, AddsFront, AddsAll};
-ghost use Rattle.log_records.specs.Spelling.{spelling};
-ghost use Rattle.disk_law.specs.Changes.{SlotChange, change_record, with_bytes, with_slot_changes};
 ghost use Rattle.disk_law.specs.Life.{LifeOnDisk};
 ghost use Rattle.disk_law.specs.Kept.{AreKept};
 ghost use Rattle.step_law.specs.Steps.{StepOnDisk, after_step};
@@ -20,10 +17,9 @@ ghost use Rattle.log_records.specs.declared.record.Record.{Record};
 ghost use Rattle.slot_law.specs.Committed.{Touches};
 ghost use Rattle.checkpoint_law.specs.Checkpointing.{after_checkpoint};
 ghost use Rattle.journal.specs.Counters.{first_spent};
-ghost use Rattle.journal.specs.State.{TellsRoom, forced, IsStepOf, RecoverEither, IsCheckpointOf, RecoverAlone};
+ghost use Rattle.journal.specs.State.{TellsRoom, TellsAllRoom, holding, forced, IsStepOf, RecoverEither, IsCheckpointOf, RecoverAlone};
 
 use crate::counter::JournalCounter;
-use crate::forcing::force_bytes;
 use checkpointing::{PartsView, take};
 use log_writer::LogWriter;
 use restart_data::RestartSector;
@@ -31,7 +27,6 @@ use seg_store::Stores;
 use std::alloc::Global;
 use std::marker::Model;
 use tm_disk::{Disk, DiskFault};
-use tm_types::Memory;
 
 // 32 sectors of the log.
 const KEPT_BYTES: u64 = 130_048;
@@ -43,35 +38,25 @@ const SPENT: u64 = 1_000_000_000_000_000_000;
 #[derive(Drop)]
 pub struct Journal {
     log: LogWriter,
-    // What was appended since the last force. The writer has nothing of it.
-    pending: Vec<u8>,
-    // For how many bytes more there is memory.
-    reserved: usize,
     restart: RestartSector,
 }
 
 impl Model for Journal {
-    ghost use Rattle.std.specs.Prelude.{◌≡◌, ◌≤◌, ◌+◌, ◌-◌, ◌*◌, [], length, vec_len, vec_capacity};
-    ghost use Rattle.journal.specs.State.{JournalState, holding};
+    ghost use Rattle.journal.specs.State.{JournalState};
 
     ghost Value = { JournalState };
 
-    ghost view = { λ j. record { log = holding j.pending.items j.log; reserved = j.reserved; restart = j.restart } };
-
-    ghost invariant = { λ j. (vec_len j.pending + j.reserved ≤ vec_capacity j.pending) × ((j.log.appended ≡ []) × ((length j.pending.items ≤ (j.log.count - j.log.place) * 4064) × (j.log.place ≤ j.log.count))) };
+    ghost view = { λ j. record { log = j.log; restart = j.restart } };
 }
 
 impl Journal {
     /// A journal whose log begins in this area, with the first sequence of the restart sector.
     pub fn begin(alloc: Global, first: u32, count: u32, restart: &RestartSector) -> Journal
         ensures log { result.log ≡ record { first = first; count = count; sequence = restart.now.sequence; epoch = restart.now.epoch; place = 0; appended = [] } }
-        ensures reserved { result.reserved ≡ 0 }
         ensures restart { result.restart ≡ restart.now }
     {
         Journal {
             log: LogWriter::new(alloc, first, count, restart.sequence, restart.epoch),
-            pending: Vec::new(alloc),
-            reserved: 0,
             restart: *restart,
         }
     }
@@ -89,12 +74,18 @@ impl Journal {
         ensures { TellsRoom self.now.log result }
     {
         let all = self.log.room();
-        let pending = self.pending.len() as u64;
-        if all < KEPT_BYTES + pending {
+        if all < KEPT_BYTES {
             None
         } else {
-            Some(all - KEPT_BYTES - pending)
+            Some(all - KEPT_BYTES)
         }
+    }
+
+    /// How many bytes may be appended at all.
+    pub fn all_room(&self) -> u64
+        ensures { TellsAllRoom self.now.log result }
+    {
+        self.log.room()
     }
 
     /// The first counter that stands at 1,000,000,000,000,000,000 or above: the epoch, the sequence of the next sector, the
@@ -115,75 +106,62 @@ impl Journal {
         None
     }
 
-    /// Takes memory for this many bytes, so that appending them takes none.
-    pub fn reserve(&mut self, bytes: usize) -> Result<(), Memory>
-        ensures log { self.new.log ≡ self.old.log }
-        ensures restart { self.new.restart ≡ self.old.restart }
-        ensures ok { OnOk result (bytes ≤ self.new.reserved) }
-        ensures more { self.old.reserved ≤ self.new.reserved }
-        ensures err { OnErr result (self.new ≡ self.old) }
-    {
-        if self.reserved < bytes {
-            self.pending.try_reserve(bytes)?;
-            self.reserved = bytes;
-        }
-        Ok(())
-    }
-
-    /// Appends bytes, for which memory was taken and the log area has room. They are written with the next step.
-    pub fn append(&mut self, bytes: &[u8])
-        requires reserved { length bytes.now ≤ self.old.reserved }
-        requires fits { self.old.log.place + sectors_of (length self.old.log.appended + length bytes.now) ≤ self.old.log.count }
-        ensures log { self.new.log ≡ with_bytes bytes.now self.old.log }
-        // Where they are the records of changes, it is the writer of the life behind these.
-        ensures life { (unit : ℕ) → (changes : List SlotChange) → (life : LifeOnDisk) → life.log ≡ self.old.log → bytes.now ≡ flat_map spelling (map (change_record unit) changes) → (with_slot_changes unit changes life).log ≡ self.new.log }
-        ensures reserved { self.new.reserved + length bytes.now ≡ self.old.reserved }
+    /// Exchanges what was appended for these bytes, for which the log area has room. This takes no memory: the records of a
+    /// call are told behind what was appended before the call changes anything, and appended with it.
+    pub fn exchange(&mut self, bytes: &mut Vec<u8>)
+        requires fits { self.old.log.place + sectors_of (length bytes.old.items) ≤ self.old.log.count }
+        ensures log { self.new.log ≡ holding bytes.old.items self.old.log }
+        ensures bytes { bytes.new.items ≡ self.old.log.appended }
         ensures restart { self.new.restart ≡ self.old.restart }
     {
-        self.push(bytes)
+        self.log.exchange(bytes)
     }
 
-    // The append, by what it leaves.
-    fn push(&mut self, bytes: &[u8])
-        requires reserved { length bytes.now ≤ self.old.reserved }
-        requires fits { self.old.log.place + sectors_of (length self.old.log.appended + length bytes.now) ≤ self.old.log.count }
-        ensures log { self.new.log ≡ with_bytes bytes.now self.old.log }
-        ensures reserved { self.new.reserved + length bytes.now ≡ self.old.reserved }
-        ensures restart { self.new.restart ≡ self.old.restart }
-    {
-        if self.pending.extend_from_slice(bytes).is_err() {
-            unreachable!();
-        }
-        self.reserved -= bytes.len();
-    }
-
-    /// Appends the records of a lasting step, for which memory was taken and the log area has room, and forces all. Whenever a
-    /// crash comes, the image recovers to what lasted before or to what lasts with the step; once it has answered, each image
-    /// is one of the life behind the step. `Disk` comes exactly where the disk failed in the call. Then the journal is of no
-    /// use.
-    pub fn step<D: Disk>(&mut self, disk: &mut D, bytes: &[u8]) -> Result<(), DiskFault>
-        requires reserved { length bytes.now ≤ self.old.reserved }
-        requires fits { self.old.log.place + sectors_of (length self.old.log.appended + length bytes.now) ≤ self.old.log.count }
+    /// Forces all that was appended, the records of a lasting step at its end. Whenever a crash comes, the image recovers to
+    /// what lasted before or to what lasts with the step; once it has answered, each image is one of the life behind the step.
+    /// `Disk` comes exactly where the disk failed in the call. Then the journal is of no use.
+    pub fn force<D: Disk>(&mut self, disk: &mut D) -> Result<(), DiskFault>
         requires area { self.old.log.first + self.old.log.count ≤ (D.state disk.old).size }
         requires sequences { self.old.log.sequence + self.old.log.count < 2 ^ 64 }
         requires ready { IsReady self.old.log (D.state disk.old) }
 
         ensures stays { Stays (D.state disk.old) (D.state disk.new) }
         // Whenever a crash comes, the log has gained a front of the records, and once it is done, all of them.
-        ensures any_moment { Within (AddsFront (with_bytes bytes.now self.old.log)) (D.state disk.old) (D.state disk.new) }
-        ensures done { OnOk result (Follows (AddsAll (with_bytes bytes.now self.old.log)) (D.state disk.old) (D.state disk.new)) }
+        ensures any_moment { Within (AddsFront self.old.log) (D.state disk.old) (D.state disk.new) }
+        ensures done { OnOk result (Follows (AddsAll self.old.log) (D.state disk.old) (D.state disk.new)) }
         // So the image recovers to what lasted or to what lasts with the step, and then is one of the life behind it.
-        ensures crash { (life : LifeOnDisk) → (step : StepOnDisk) → IsStepOf self.old.log bytes.now life step → AreKept life (D.state disk.old) → RecoverEither life.system life.lasting step.lasting (D.state disk.old) (D.state disk.new) }
-        ensures kept { OnOk result ((life : LifeOnDisk) → (step : StepOnDisk) → IsStepOf self.old.log bytes.now life step → AreKept life (D.state disk.old) → AreKept (after_step step life) (D.state disk.new)) }
-        ensures log { OnOk result (self.new.log ≡ forced (with_bytes bytes.now self.old.log)) }
+        ensures crash { (life : LifeOnDisk) → (step : StepOnDisk) → IsStepOf self.old.log life step → AreKept life (D.state disk.old) → RecoverEither life.system life.lasting step.lasting (D.state disk.old) (D.state disk.new) }
+        ensures kept { OnOk result ((life : LifeOnDisk) → (step : StepOnDisk) → IsStepOf self.old.log life step → AreKept life (D.state disk.old) → AreKept (after_step step life) (D.state disk.new)) }
+        ensures log { OnOk result (self.new.log ≡ forced self.old.log) }
         ensures ready { OnOk result (IsReady self.new.log (D.state disk.new)) }
         ensures restart { self.new.restart ≡ self.old.restart }
 
-        ensures writes { WritesAtMost (sectors_of (length self.old.log.appended + length bytes.now)) (D.state disk.old) (D.state disk.new) }
+        ensures writes { WritesAtMost (sectors_of (length self.old.log.appended)) (D.state disk.old) (D.state disk.new) }
         ensures no_fault { OnOk result ((D.state disk.new).faults ≡ (D.state disk.old).faults) }
         ensures cause { OnErr result (FailedSince (D.state disk.old) (D.state disk.new)) }
     {
-        self.force(disk, bytes)
+        self.write(disk)
+    }
+
+    // The force, by what it leaves on the disk.
+    fn write<D: Disk>(&mut self, disk: &mut D) -> Result<(), DiskFault>
+        requires area { self.old.log.first + self.old.log.count ≤ (D.state disk.old).size }
+        requires sequences { self.old.log.sequence + self.old.log.count < 2 ^ 64 }
+        requires ready { IsReady self.old.log (D.state disk.old) }
+        ensures stays { Stays (D.state disk.old) (D.state disk.new) }
+        ensures any_moment { Within (AddsFront self.old.log) (D.state disk.old) (D.state disk.new) }
+        ensures done { OnOk result (Follows (AddsAll self.old.log) (D.state disk.old) (D.state disk.new)) }
+        ensures ready { OnOk result (IsReady self.new.log (D.state disk.new)) }
+        ensures log { OnOk result (self.new.log ≡ forced self.old.log) }
+        ensures restart { self.new.restart ≡ self.old.restart }
+        ensures writes { WritesAtMost (sectors_of (length self.old.log.appended)) (D.state disk.old) (D.state disk.new) }
+        ensures no_fault { OnOk result ((D.state disk.new).faults ≡ (D.state disk.old).faults) }
+        ensures cause { OnErr result (FailedSince (D.state disk.old) (D.state disk.new)) }
+    {
+        match self.log.force(disk) {
+            Ok(_) => Ok(()),
+            Err(_) => Err(DiskFault::Disk),
+        }
     }
 
     /// Takes a checkpoint: forces all, writes each slot that was changed and the snapshot, and then the restart sector, which is
@@ -267,8 +245,6 @@ impl Journal {
         ensures no_fault { OnOk result ((D.state disk.new).faults ≡ (D.state disk.old).faults) }
         ensures cause { OnErr result (FailedSince (D.state disk.old) (D.state disk.new)) }
     {
-        self.reserved = 0;
-        self.log.exchange(&mut self.pending);
         match take(alloc, disk, &mut self.log, stores, parts) {
             Ok(next) => {
                 self.restart = next;
@@ -279,27 +255,5 @@ impl Journal {
                 Err(DiskFault::Disk)
             }
         }
-    }
-
-    // Appends bytes as well, and forces all.
-    fn force<D: Disk>(&mut self, disk: &mut D, bytes: &[u8]) -> Result<(), DiskFault>
-        requires reserved { length bytes.now ≤ self.old.reserved }
-        requires fits { self.old.log.place + sectors_of (length self.old.log.appended + length bytes.now) ≤ self.old.log.count }
-        requires area { self.old.log.first + self.old.log.count ≤ (D.state disk.old).size }
-        requires sequences { self.old.log.sequence + self.old.log.count < 2 ^ 64 }
-        requires ready { IsReady (with_bytes bytes.now self.old.log) (D.state disk.old) }
-        ensures stays { Stays (D.state disk.old) (D.state disk.new) }
-        ensures any_moment { Within (AddsFront (with_bytes bytes.now self.old.log)) (D.state disk.old) (D.state disk.new) }
-        ensures done { OnOk result (Follows (AddsAll (with_bytes bytes.now self.old.log)) (D.state disk.old) (D.state disk.new)) }
-        ensures ready { OnOk result (IsReady (forced (with_bytes bytes.now self.old.log)) (D.state disk.new)) }
-        ensures log { OnOk result (self.new.log ≡ forced (with_bytes bytes.now self.old.log)) }
-        ensures restart { self.new.restart ≡ self.old.restart }
-        ensures writes { WritesAtMost (sectors_of (length self.old.log.appended + length bytes.now)) (D.state disk.old) (D.state disk.new) }
-        ensures no_fault { OnOk result ((D.state disk.new).faults ≡ (D.state disk.old).faults) }
-        ensures cause { OnErr result (FailedSince (D.state disk.old) (D.state disk.new)) }
-    {
-        self.push(bytes);
-        self.reserved = 0;
-        force_bytes(disk, &mut self.log, &mut self.pending)
     }
 }

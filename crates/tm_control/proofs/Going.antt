@@ -1,0 +1,215 @@
+-- A call of a control region, by what it leaves of its machine.
+use Rattle.std.proofs.Common.{◌≡◌, ◌≤◌, ◌⊎◌, ◌+◌, ℕ, Bool, true, false, List, [], ◌∷◌, ◌++◌, refl, sym, ◌∙◌, ap, subst, arith}
+use Rattle.std.specs.Prelude.{Option, Some, None, Ok, if◌then◌else◌}
+use Rattle.std.specs.Option.{option_map_or}
+use Rattle.model_disk.specs.Disk.{Image, DiskState, IsDisk}
+use Rattle.model_system.specs.System.{System}
+use Rattle.model_machine.specs.declared.entry.Entry.{Entry}
+use Rattle.model_machine.specs.declared.entry.ControlFault.{ControlFault}
+use Rattle.model_machine.specs.declared.entry.ControlFault.TheVariants.{Memory, Disk, Spent}
+use Rattle.model_machine.specs.Machine.{LastingState, Moment, start_of}
+use Rattle.model_machine.specs.Lasting.{LastingStep, applied}
+use Rattle.model_machine.specs.Steps.{lasting_step}
+use Rattle.model_machine.specs.History.{after_entry, call_of, moment_after, IsCall, May, AreSteps}
+use Rattle.model_machine.proofs.Histories.{moment_after-append, AreSteps-append}
+use Rattle.tm_machine.specs.Answers.{IsAnswered}
+use Rattle.tm_machine.specs.Parts.{PartsState}
+use Rattle.model_image.specs.Recovered.{Recovers}
+use Rattle.disk_law.specs.Kept.{RecoversEither}
+use Rattle.logged_machine.specs.Logged.{LoggedState, LastsNow}
+use Rattle.logged_machine.specs.Goes.{Keeps, WentOn, Failed, StoodStill, GoesBy, CrashesBy, fault_in}
+use Rattle.tm_control.specs.OnDisk.{ControlOnDisk, IsUp, IsDown, Lasts, LastsBy, lasting_after}
+use Rattle.tm_control.specs.Calls.{StaysSo, AddsBy, CrashesSo, is_noted, noted}
+use Rattle.tm_control.specs.Inside.{IsServed, IsBroken, Holds, HoldsBy}
+
+-- a control region by its parts
+abbrev pub seen : {D : Type 0} → LoggedState D → LastingState → List Entry → ℕ → ℕ → ControlOnDisk D
+seen machine opening history room began = record {
+  control = record { system = machine.machine.system; opening = opening; history = history; room = room };
+  text = machine.text;
+  up = machine.served;
+  began = began;
+  journal = machine.journal;
+  next_unit = machine.next_unit;
+  disk = machine.disk;
+}
+
+-- ---- lasting steps are counted on
+
+rises : (lasting : LastingState) (step : Option LastingStep) → lasting.steps ≤ (option_map_or (λ s. applied s lasting) step lasting).steps
+rises lasting None = omega arith
+rises lasting (Some step) = omega arith
+
+steps_rise : (system : System) (moment : Moment) (entry : Entry) → moment.lasting.steps ≤ (after_entry system moment entry).lasting.steps
+steps_rise system moment entry = rises moment.lasting (lasting_step system moment (call_of entry))
+
+-- what lasts with an entry more
+pub lasting_with : (system : System) (opening : LastingState) (before : List Entry) (entry : Entry) (moment : Moment)
+    → moment_after system (start_of system opening) before ≡ moment
+    → lasting_after system opening (before ++ entry ∷ []) ≡ (after_entry system moment entry).lasting
+lasting_with system opening before entry moment here =
+    ap (λ (m : Moment). m.lasting) (moment_after-append system (start_of system opening) before entry)
+    ∙ ap (λ (m : Moment). (after_entry system m entry).lasting) here
+
+-- ---- the machine went on
+
+pub served_next : {D : Type 0} (old new : LoggedState D) (opening : LastingState) (before after : List Entry) (entry : Entry) (steps steps' : ℕ)
+    → IsServed old opening before steps → after ≡ before ++ entry ∷ [] → IsAnswered old.machine new.machine entry → steps' ≡ new.machine.moment.lasting.steps
+    → IsServed new opening after steps'
+served_next old new opening before after entry steps steps' h longer answered count = record {
+  moment =
+      ap (λ s. moment_after s (start_of s opening) after) answered.system ∙ ap (moment_after old.machine.system (start_of old.machine.system opening)) longer
+      ∙ moment_after-append old.machine.system (start_of old.machine.system opening) before entry ∙ ap (λ m. after_entry old.machine.system m entry) h.moment ∙ sym answered.after;
+  legal =
+      let here : AreSteps old.machine.system (start_of old.machine.system opening) (before ++ entry ∷ []) =
+      AreSteps-append old.machine.system (start_of old.machine.system opening) before entry h.legal (subst (λ m. May old.machine.system m entry) (sym h.moment) answered.may) in
+      let longer-legal : AreSteps old.machine.system (start_of old.machine.system opening) after = subst (AreSteps old.machine.system (start_of old.machine.system opening)) (sym longer) here in
+      subst (λ s. AreSteps s (start_of s opening) after) (sym answered.system) longer-legal;
+  count = count;
+  more =
+      let rise : old.machine.moment.lasting.steps ≤ new.machine.moment.lasting.steps =
+      subst (λ (m : Moment). old.machine.moment.lasting.steps ≤ m.lasting.steps) (sym answered.after) (steps_rise old.machine.system old.machine.moment entry) in
+      omega (arith, h.more, h.count, count, rise);
+}
+
+-- ---- a call
+
+-- what a call of the machine left
+pub record Went {D : Type 0} (state : D → DiskState) (old new : LoggedState D) (opening : LastingState) (before : List Entry) (steps : ℕ) (entry : Entry) : Type 0 where
+  pub served : old.served ≡ true
+  pub holds : IsServed old opening before steps
+  pub call : IsCall old.machine.system (call_of entry)
+  pub keeps : Keeps state old new
+  pub lasts : LastsNow state new
+  pub disk : IsDisk (state new.disk)
+
+-- what it is for the control region
+pub record Is {D : Type 0} (state : D → DiskState) (fault : Option ControlFault) (old new : ControlOnDisk D) (entry : Entry) : Type 0 where
+  pub adds : AddsBy state fault old new entry
+  pub crash : CrashesSo state fault old new entry
+  pub lasts : Lasts state new
+  pub stays : StaysSo state old new
+
+module _ {D : Type 0} (state : D → DiskState) (old new : LoggedState D) (opening : LastingState) (before after : List Entry) (entry : Entry) (room room' began steps steps' : ℕ)
+    (went : Went state old new opening before steps entry)
+    (count : steps' ≡ (if new.served then new.machine.moment.lasting.steps else steps)) where
+  abbrev pub was : ControlOnDisk D
+  was = seen old opening before room began
+
+  abbrev pub is : ControlOnDisk D
+  is = seen new opening after room' began
+
+  stay : StaysSo state was is
+  stay = record { system = went.keeps.system; opening = refl; text = went.keeps.text; began = refl; disk = went.keeps.disk }
+
+  -- while it is served what lasts is on each image
+  lasts_up : new.served ≡ true → IsServed new opening after steps' → Lasts state is
+  lasts_up served here =
+      subst (λ (b : Bool). LastsBy b is.control new.text (state new.disk)) (sym served)
+      (record {
+        legal = here.legal;
+        images = λ image left. subst (λ (m : Moment). Recovers new.machine.system image (Ok m.lasting)) (sym here.moment) ((went.lasts served).recover image left);
+        texts = (went.lasts served).have_text;
+      })
+
+  counted : new.served ≡ true → steps' ≡ new.machine.moment.lasting.steps
+  counted served = count ∙ ap (λ (b : Bool). if b then new.machine.moment.lasting.steps else steps) served
+
+  kept_up : new.served ≡ true → IsServed new opening after steps' → Holds state new opening after steps'
+  kept_up served here = subst (λ (b : Bool). HoldsBy b state new opening after steps') (sym served) here
+
+  -- one state or another, by what lasts before and with the entry
+  either : (image : Image) → RecoversEither old.machine.system old.machine.moment.lasting (after_entry old.machine.system old.machine.moment entry).lasting image
+      → RecoversEither old.machine.system (moment_after old.machine.system (start_of old.machine.system opening) before).lasting (lasting_after old.machine.system opening (before ++ entry ∷ [])) image
+  either image both =
+      subst (λ (m : Moment). RecoversEither old.machine.system m.lasting (lasting_after old.machine.system opening (before ++ entry ∷ [])) image) (sym went.holds.moment)
+      (subst (λ (s : LastingState). RecoversEither old.machine.system old.machine.moment.lasting s image)
+      (sym (lasting_with old.machine.system opening before entry old.machine.moment went.holds.moment)) both)
+
+  alone : (image : Image) → Recovers old.machine.system image (Ok old.machine.moment.lasting)
+      → Recovers old.machine.system image (Ok (moment_after old.machine.system (start_of old.machine.system opening) before).lasting)
+  alone image one = subst (λ (m : Moment). Recovers old.machine.system image (Ok m.lasting)) (sym went.holds.moment) one
+
+  -- the disk failed
+  broken : fault_in entry ≡ Some Disk → Failed state old new → CrashesBy state (Some Disk) old new entry → after ≡ before ++ entry ∷ [] → IsDown is.control (state new.disk)
+  broken fault failed crash longer = record {
+    before = before;
+    entry = entry;
+    all = longer;
+    legal = subst (λ (s : System). AreSteps s (start_of s opening) before) (sym went.keeps.system) went.holds.legal;
+    call = subst (λ (s : System). IsCall s (call_of entry)) (sym went.keeps.system) went.call;
+    fault = fault;
+    images = λ image left.
+        subst (λ (h : List Entry). RecoversEither new.machine.system (lasting_after new.machine.system opening before) (lasting_after new.machine.system opening h) image) (sym longer)
+        (subst (λ (s : System). RecoversEither s (lasting_after s opening before) (lasting_after s opening (before ++ entry ∷ [])) image) (sym went.keeps.system)
+        (either image (crash image (went.disk.now_counts (state old.disk).clock image went.keeps.later left))));
+  }
+
+  by : (fault : Option ControlFault) → fault_in entry ≡ fault → GoesBy state fault old new entry → CrashesBy state fault old new entry → after ≡ noted (is_noted fault) before entry
+      → Is state fault was is entry × Holds state new opening after steps'
+  by None f goes crash longer =
+      let here : IsServed new opening after steps' = served_next old new opening before after entry steps steps' went.holds longer goes.answered (counted goes.served) in (
+        record {
+          adds = record {
+            adds = record { system = went.keeps.system; opening = refl; history = longer; may = subst (λ m. May old.machine.system m entry) (sym went.holds.moment) goes.answered.may };
+            up = goes.served;
+            no_fault = goes.no_fault;
+          };
+          crash = λ image left. either image (crash image left);
+          lasts = lasts_up goes.served here;
+          stays = stay;
+        },
+        kept_up goes.served here,
+      )
+  by (Some Disk) f goes crash longer =
+      let down : IsDown is.control (state new.disk) = broken f goes crash longer in (
+        record {
+          adds = record { history = longer; call = went.call; down = goes.served; failed = goes.failed };
+          crash = λ image left. either image (crash image left);
+          lasts = subst (λ (b : Bool). LastsBy b is.control new.text (state new.disk)) (sym goes.served) down;
+          stays = stay;
+        },
+        subst (λ (b : Bool). HoldsBy b state new opening after steps') (sym goes.served)
+            (record {
+              before = before;
+              entry = entry;
+              all = longer;
+              legal = down.legal;
+              call = down.call;
+              fault = f;
+              images = down.images;
+              count =
+                  count ∙ ap (λ (b : Bool). if b then new.machine.moment.lasting.steps else steps) goes.served
+                  ∙ went.holds.count ∙ ap (λ (m : Moment). m.lasting.steps) (sym went.holds.moment) ∙ ap (λ (s : System). (lasting_after s opening before).steps) (sym went.keeps.system);
+              more =
+                  let same : steps' ≡ steps = count ∙ ap (λ (b : Bool). if b then new.machine.moment.lasting.steps else steps) goes.served in
+                  omega (arith, same, went.holds.more);
+            }),
+      )
+  by (Some Memory) f goes crash longer =
+      let same : new.machine ≡ old.machine = goes.machine in
+      let here : IsServed new opening after steps' = record {
+        moment = subst (λ (p : PartsState). moment_after p.system (start_of p.system opening) after ≡ p.moment) (sym same) (ap (moment_after old.machine.system (start_of old.machine.system opening)) longer ∙ went.holds.moment);
+        legal = subst (λ (p : PartsState). AreSteps p.system (start_of p.system opening) after) (sym same) (subst (AreSteps old.machine.system (start_of old.machine.system opening)) (sym longer) went.holds.legal);
+        count = counted goes.served;
+        more =
+            let now : steps' ≡ steps = counted goes.served ∙ ap (λ (p : PartsState). p.moment.lasting.steps) same ∙ sym went.holds.count in
+            omega (arith, now, went.holds.more);
+      } in (
+        record {
+          adds = record {
+            adds = record { system = went.keeps.system; opening = refl; history = longer };
+            up = goes.served;
+            no_fault = goes.no_fault;
+          };
+          crash = λ image left. alone image (crash image left);
+          lasts = lasts_up goes.served here;
+          stays = stay;
+        },
+        kept_up goes.served here,
+      )
+  by (Some (Spent counter)) f goes crash longer = absurd goes
+
+  pub called : GoesBy state (fault_in entry) old new entry → CrashesBy state (fault_in entry) old new entry → after ≡ noted (is_noted (fault_in entry)) before entry
+      → Is state (fault_in entry) was is entry × Holds state new opening after steps'
+  called goes crash longer = by (fault_in entry) refl goes crash longer

@@ -1,0 +1,47 @@
+//! Entries that are added to a history.
+ghost use Rattle.std.specs.Prelude.{◌≡◌, ◌<◌, Some};
+ghost use Rattle.std.specs.Vec.{vec_len, vec_capacity};
+ghost use Rattle.model_machine.specs.declared.entry.Entry.TheVariants.{Turn as TurnEntry};
+ghost use Rattle.logged_machine.specs.Goes.{fault_in};
+ghost use Rattle.tm_control.specs.Calls.{is_noted, noted};
+
+use model_machine::{AckRefused, ControlFault, Entry, InputRefused, Turned};
+
+/// Adds an entry to a history that has room for it: that of a call which was answered, or in which the disk failed.
+pub(crate) fn note(history: &mut Vec<Entry>, entry: Entry)
+    requires { vec_len history.old < vec_capacity history.old }
+    ensures { history.new.items ≡ noted (is_noted (fault_in entry)) history.old.items entry }
+{
+    if is_noted(&entry) {
+        history.push_reserved(entry);
+    }
+}
+
+fn is_noted(entry: &Entry) -> bool
+    ensures { result ≡ is_noted (fault_in entry.now) }
+{
+    match entry {
+        Entry::Accept(_, _, _, Err(InputRefused::Fault(fault))) => is_told(fault),
+        Entry::Acked(_, _, Err(AckRefused::Fault(fault))) => is_told(fault),
+        Entry::Turn(_, Err(fault)) => is_told(fault),
+        _ => true,
+    }
+}
+
+/// Whether the history tells of a fault: that of the disk alone.
+fn is_told(fault: &ControlFault) -> bool
+    ensures { result ≡ is_noted (Some fault.now) }
+{
+    match fault {
+        ControlFault::Disk => true,
+        ControlFault::Memory => false,
+        ControlFault::Spent(_) => false,
+    }
+}
+
+/// The entry of a turn.
+pub(crate) fn turn_entry(region: u32, turned: &Result<Turned, ControlFault>) -> Entry
+    ensures { result ≡ TurnEntry region turned.now }
+{
+    Entry::Turn(region, *turned)
+}
