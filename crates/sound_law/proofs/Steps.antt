@@ -63,7 +63,7 @@ pub record HasTerminals (system : System) (lasting : LastingState) : Type 0 wher
   pub conversations : map (λ (t : TerminalConversation). t.terminal) lasting.conversations ≡ system.terminals
 
 -- what is found by a name is there exactly where the name is one of theirs
-there_by : {X : Type 0} (name_of : X → List ℕ) (xs : List X) (name : List ℕ) → is_some (find (λ x. bytes_eq (name_of x) name) xs) ≡ list_any (λ other. bytes_eq other name) (map name_of xs)
+pub there_by : {X : Type 0} (name_of : X → List ℕ) (xs : List X) (name : List ℕ) → is_some (find (λ x. bytes_eq (name_of x) name) xs) ≡ list_any (λ other. bytes_eq other name) (map name_of xs)
 there_by name_of [] name = refl
 there_by name_of (x ∷ xs) name = by (bytes_eq (name_of x) name) (there_by name_of xs name) where
   by : (b : Bool) → is_some (find (λ y. bytes_eq (name_of y) name) xs) ≡ list_any (λ other. bytes_eq other name) (map name_of xs)
@@ -71,7 +71,7 @@ there_by name_of (x ∷ xs) name = by (bytes_eq (name_of x) name) (there_by name
   by true e = refl
   by false e = e
 
-pads_of_codes : (codes : List Code) → All (λ code. IsPadLength code.transaction.scratch_pad) codes → list_all has_room codes ≡ true
+pub pads_of_codes : (codes : List Code) → All (λ code. IsPadLength code.transaction.scratch_pad) codes → list_all has_room codes ≡ true
 pads_of_codes [] all = refl
 pads_of_codes (code ∷ codes) all =
     both (has_room code) (list_all has_room codes) (by code.transaction.scratch_pad (code.transaction.scratch_pad == 0) refl (All-head (λ c. IsPadLength c.transaction.scratch_pad) code codes all))
@@ -81,7 +81,7 @@ pads_of_codes (code ∷ codes) all =
       by pad false e h = grind (arith, nat_tests, e, h.least)
 
 -- a step is counted
-counted_stands : (system : System) (steps : ℕ) (lasting : LastingState) → Stands system lasting → Stands system (record lasting { steps = steps })
+pub counted_stands : (system : System) (steps : ℕ) (lasting : LastingState) → Stands system lasting → Stands system (record lasting { steps = steps })
 counted_stands system steps lasting s = record { settings = s.settings; pads = s.pads; ascending = s.ascending; known = s.known; alone = s.alone; runs = s.runs }
 
 -- what is sent keeps the conversations
@@ -91,7 +91,7 @@ sent_keeps origin output lasting = by (is_some (output_at lasting.outputs output
   by true = refl
   by false = refl
 
-all_keep : (origin : List ℕ) (outputs : List EndedMessage) (lasting : LastingState) → (all_sent origin outputs lasting).conversations ≡ lasting.conversations
+pub all_keep : (origin : List ℕ) (outputs : List EndedMessage) (lasting : LastingState) → (all_sent origin outputs lasting).conversations ≡ lasting.conversations
 all_keep origin [] lasting = refl
 all_keep origin (output ∷ outputs) lasting = all_keep origin outputs (sent origin output lasting) ∙ sent_keeps origin output lasting
 
@@ -121,13 +121,13 @@ module _ (system : System) (valid : IsSystem system) (moment : Moment) (names : 
     by true f later = cc
     by false f later = later f
 
-  is_free : (terminal : List ℕ) (number : ℕ) (segments : List (List ℕ)) → is_terminal system terminal ≡ true → IsNew system moment terminal number segments → IsFree terminal moment.lasting
+  pub is_free : (terminal : List ℕ) (number : ℕ) (segments : List (List ℕ)) → is_terminal system terminal ≡ true → IsNew system moment terminal number segments → IsFree terminal moment.lasting
   is_free terminal number segments known new = record {
     place = there_by (λ (t : TerminalConversation). t.terminal) moment.lasting.conversations terminal ∙ ap (λ (ns : List (List ℕ)). list_any (λ other. bytes_eq other terminal) ns) names.conversations ∙ known;
     none = free_by terminal (conversations.conversation_at terminal moment.lasting.conversations) moment.lasting.messages new.free;
   }
 
-  input_known : (terminal : List ℕ) (number : ℕ) (segments : List (List ℕ)) → IsNew system moment terminal number segments → is_terminal system terminal ≡ true
+  pub input_known : (terminal : List ℕ) (number : ℕ) (segments : List (List ℕ)) → IsNew system moment terminal number segments → is_terminal system terminal ≡ true
   input_known terminal number segments new =
       sym (ap (λ (ns : List (List ℕ)). list_any (λ other. bytes_eq other terminal) ns) names.terminals)
       ∙ sym (there_by (λ (t : TerminalState). t.name) moment.lasting.terminals terminal)
@@ -163,7 +163,7 @@ module _ (system : System) (valid : IsSystem system) (moment : Moment) (names : 
 
   -- ---- completions and abends
 
-  receives : (output : EndedMessage) → is_sent_well system output ≡ true → has_receiver system moment.lasting.outputs output ≡ true
+  pub receives : (output : EndedMessage) → is_sent_well system output ≡ true → has_receiver system moment.lasting.outputs output ≡ true
   receives output is =
       let same : is_some (output_at moment.lasting.outputs output.to) ≡ is_terminal system output.to =
       there_by (λ (t : TerminalReplies). t.terminal) moment.lasting.outputs output.to ∙ ap (λ (ns : List (List ℕ)). list_any (λ other. bytes_eq other output.to) ns) names.outputs in
@@ -188,7 +188,7 @@ module _ (system : System) (valid : IsSystem system) (moment : Moment) (names : 
             sym (ap (λ (o : Option Conversation). option_map_or (is_conversation system) o true) is)
             ∙ found_passes (has_right_pad system) (conversations.is_of origin) (padded (New text) origin moment.lasting.conversations) after right g
 
-  pad_fits : (pad : PadChange) (message : Message) → (Changes pad → message.conversation ≡ true) → list_all (has_right_pad system) (padded pad message.origin moment.lasting.conversations) ≡ true → PadFits system pad message moment.lasting
+  pub pad_fits : (pad : PadChange) (message : Message) → (Changes pad → message.conversation ≡ true) → list_all (has_right_pad system) (padded pad message.origin moment.lasting.conversations) ≡ true → PadFits system pad message moment.lasting
   pad_fits Stays message flagged right = tt
   pad_fits (New text) message flagged right = (flagged tt, pad_right text message.origin (conversations.terminal_at message.origin moment.lasting.conversations) refl right)
   pad_fits Ends message flagged right = flagged tt

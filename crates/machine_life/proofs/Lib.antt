@@ -1,0 +1,14 @@
+pub mod Numbers
+pub mod Holding
+pub mod Places
+pub mod Changes
+pub mod Stores
+pub mod Counting
+pub mod Moves
+pub mod Ended
+pub mod Inputs
+pub mod Ending
+pub mod Staying
+pub mod Calls
+pub mod Victims
+pub mod Turns

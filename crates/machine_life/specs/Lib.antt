@@ -1,0 +1,7 @@
+pub mod Marks
+pub mod OnSlots
+pub mod Turning
+pub mod Counts
+pub mod Doing
+pub mod Carried
+pub mod Going
