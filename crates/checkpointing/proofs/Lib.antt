@@ -2,5 +2,6 @@ pub mod Slots
 pub mod Calls
 pub mod Preparing
 pub mod Keeping
+pub mod Texts
 pub mod Taking
 pub mod Facts

@@ -16,6 +16,8 @@ use Rattle.seg_store.specs.Changed.{AllStores}
 use Rattle.checkpointing.specs.Written.{AreOf}
 use Rattle.checkpointing.specs.Checkpoint.{KeepsRecovery, IsCheckpointed}
 use Rattle.checkpointing.specs.Conditions.{HasRestart, NoneIsAhead, ChangedAreNamed, ForceKeeps, SnapshotKeeps}
+use Rattle.checkpointing.specs.Texts.{KeepsText}
+use Rattle.checkpointing.proofs.Texts.{prepares_text, written_text}
 use Rattle.checkpointing.specs.Steps.{WritesSnapshot, WritesRestart, Prepares, Takes}
 use Rattle.checkpointing.proofs.Calls.{within_then}
 use Rattle.checkpointing.proofs.Preparing.{sectors_fit, snapshot_prepares}
@@ -79,7 +81,22 @@ module _ (parts : CheckpointParts) (log : Writer) (stores : AllStores) (old : Di
       (λ (new : Restarts (next_restart parts log) b c). inr (record { middle = b; one = saved; two = new }))
       (restart_either (next_restart parts log) asked.next small b c some may)
 
+  takes_text : (a e : Image) → old.may_leave a → Takes parts log stores a e → KeepsText parts.system a e
+  takes_text a e left takes =
+      ⊎_elim (λ prepares. prepares_text parts log stores a (stands a left) e prepares)
+      (λ whole. written_text parts log stores a (stands a left) e (omega (arith, asked.fits, asked.free.snapshot_sectors)) (checkpointed a e left whole))
+      takes
+
   -- ---- at each exit
+  pub prepared_text : (new : DiskState) → Within (Prepares parts log stores) old new → Within (KeepsText parts.system) old new
+  prepared_text new within =
+      within_where (Prepares parts log stores) (KeepsText parts.system) old new (λ a e left prepares. prepares_text parts log stores a (stands a left) e prepares) within
+
+  pub taken_text : (mid new : DiskState) → Within (Prepares parts log stores) old mid → Follows (WritesSnapshot parts log stores) old mid → Within (MayWrite 0 (restart_sector (next_restart parts log))) mid new → Within (KeepsText parts.system) old new
+  taken_text mid new before saved may =
+      within_where (Takes parts log stores) (KeepsText parts.system) old new takes_text
+      (within_then (Prepares parts log stores) (WritesSnapshot parts log stores) (MayWrite 0 (restart_sector (next_restart parts log))) (Takes parts log stores) old mid new (λ a c prepares. inl prepares) restart_takes before saved may)
+
   pub prepared_within : (new : DiskState) → Within (Prepares parts log stores) old new → Within (KeepsRecovery parts.system) old new
   prepared_within new within = within_where (Prepares parts log stores) (KeepsRecovery parts.system) old new prepares_recover within
 

@@ -3,3 +3,4 @@ pub mod Written
 pub mod Checkpoint
 pub mod Conditions
 pub mod Steps
+pub mod Texts

@@ -9,6 +9,7 @@ ghost use Rattle.seg_store.specs.WriteBack.{changed_count, all_written};
 ghost use Rattle.checkpointing.specs.Parts.{parts_of, other_area, restart_behind, sequence_behind, next_restart, next_writer, AreFree, IsOver};
 ghost use Rattle.checkpointing.specs.Written.{AreOf};
 ghost use Rattle.checkpointing.specs.Checkpoint.{KeepsRecovery, IsCheckpointed};
+ghost use Rattle.checkpointing.specs.Texts.{KeepsText};
 ghost use Rattle.checkpointing.specs.Conditions.{HasRestart, NoneIsAhead, ChangedAreNamed, ForceKeeps, SnapshotKeeps};
 
 use crate::steps::prepare;
@@ -82,6 +83,8 @@ pub fn take<D: Disk>(
     ensures stays { Stays (D.state disk.old) (D.state disk.new) }
     // Whenever a crash comes, the image recovers to what lasted before.
     ensures any_moment { Within (KeepsRecovery parts.entry.now.system.now) (D.state disk.old) (D.state disk.new) }
+    // It is of the same text.
+    ensures texts { Within (KeepsText parts.entry.now.system.now) (D.state disk.old) (D.state disk.new) }
     // Then each image is that of the checkpoint, and no other is left.
     ensures answer { IfOk result (λ restart. restart ≡ next_restart (parts_of parts.entry.now) log.old) }
     ensures done { OnOk result (Follows (IsCheckpointed (parts_of parts.entry.now) log.old stores.old) (D.state disk.old) (D.state disk.new)) }

@@ -1,26 +1,84 @@
--- A checkpoint of a life, by what it leaves on the disk.
-use Rattle.std.proofs.Common.{List, ℕ, ap, subst, sym}
-use Rattle.model_disk.specs.Disk.{DiskState, IsDisk, Within, Follows}
+-- A checkpoint of a life.
+use Rattle.std.proofs.Common.{◌≡◌, ◌≤◌, ◌<◌, ◌+◌, ◌*◌, ◌/◌, ℕ, List, length, refl, ap, sym, ◌∙◌, subst, arith}
+use Rattle.std.specs.Prelude.{Result, OnOk}
+use Rattle.model_disk.specs.Disk.{DiskState, Follows}
 use Rattle.model_system.specs.System.{System}
+use Rattle.model_image.specs.Areas.{log_first, data_first}
+use Rattle.model_image.proofs.Places.{log_below, slot_above}
 use Rattle.log_records.specs.declared.record.Record.{Record}
 use Rattle.log_writer.specs.Writer.{Writer}
+use Rattle.restart_data.specs.declared.restart.RestartSector.{RestartSector}
+use Rattle.restart_data.specs.Restart.{IsRestart}
 use Rattle.seg_store.specs.Changed.{AllStores}
 use Rattle.slot_law.specs.Committed.{Touches}
-use Rattle.checkpointing.specs.Parts.{CheckpointParts}
-use Rattle.checkpointing.specs.Checkpoint.{KeepsRecovery, IsCheckpointed}
+use Rattle.checkpointing.specs.Parts.{CheckpointParts, next_restart, sequence_behind, AreFree, IsOver}
+use Rattle.checkpointing.specs.Checkpoint.{IsCheckpointed}
+use Rattle.checkpointing.specs.Conditions.{HasRestart, NoneIsAhead, ChangedAreNamed, ForceKeeps, SnapshotKeeps}
+use Rattle.checkpointing.specs.Written.{AreOf}
 use Rattle.disk_law.specs.Life.{LifeOnDisk}
 use Rattle.disk_law.specs.Kept.{AreKept}
-use Rattle.checkpoint_law.specs.Checkpointing.{after_checkpoint}
-use Rattle.checkpoint_law.proofs.OnDisk.{checkpoint_done, keeps_at_any_moment}
-use Rattle.journal.specs.State.{IsCheckpointOf, RecoverAlone}
+use Rattle.checkpoint_law.specs.Checkpointing.{parts_with, after_checkpoint}
+use Rattle.checkpoint_law.proofs.OnDisk.{has_restart, changed_are_named, none_is_ahead, forces_keep, snapshots_keep, checkpoint_done}
+use Rattle.journal.specs.State.{JournalState}
+use Rattle.journal.specs.Checkpoints.{parts_for, IsOf, CanCheckpoint}
 
-module _ (log : Writer) (stores : AllStores) (parts : CheckpointParts) (bytes : List ℕ) (touches : Touches) (told : List Record) (life : LifeOnDisk) (is : IsCheckpointOf log stores parts bytes touches told life) (old : DiskState) (kept : AreKept life old) where
-  pub within_recovers : (new : DiskState) → IsDisk old → Within (KeepsRecovery parts.system) old new → RecoverAlone life.system life.lasting old new
-  within_recovers new disk within image left =
-      keeps_at_any_moment life is.is_life old new kept disk (subst (λ (system : System). Within (KeepsRecovery system) old new) (ap (λ (p : CheckpointParts). p.system) is.are_parts) within) image left
+-- what a checkpoint asks for
+pub record Asks (parts : CheckpointParts) (log : Writer) (stores : AllStores) (disk : DiskState) : Type 0 where
+  pub now : HasRestart parts.system parts.now disk
+  pub free : AreFree parts
+  pub next : IsRestart (next_restart parts log)
+  pub stores_of : AreOf parts.system stores
+  pub named : ChangedAreNamed parts log stores disk
+  pub over : IsOver parts log
+  pub log_area : log.first + log.count ≤ disk.size
+  pub ahead : NoneIsAhead parts.system parts.now.epoch (sequence_behind log) disk
+  pub force_keeps : ForceKeeps parts log disk
+  pub snapshot_keeps : SnapshotKeeps parts log stores disk
 
-  pub follows_kept : (new : DiskState) → Follows (IsCheckpointed parts log stores) old new → AreKept (after_checkpoint bytes touches life) new
-  follows_kept new follows =
-      checkpoint_done bytes stores touches told life is.is_life is.may old kept new
-      (subst (λ (p : CheckpointParts). Follows (IsCheckpointed p life.log stores) old new) is.are_parts
-      (subst (λ (w : Writer). Follows (IsCheckpointed parts w stores) old new) (sym is.writer) follows))
+of_life : (bytes : List ℕ) (stores : AllStores) (disk : DiskState) (life : LifeOnDisk) (touches : Touches) (told : List Record)
+    → IsOf life.system (record { log = life.log; restart = life.now }) stores bytes touches told disk life
+    → data_first life.system (length life.system.databases) ≤ disk.size
+    → Asks (parts_with bytes life) life.log stores disk
+of_life bytes stores disk life touches told is areas =
+    let w = is.is_life.writer in
+    record {
+      now = has_restart life disk is.kept;
+      free = record { snapshot_at = refl; snapshot_sectors = refl; log_at = refl; log_sectors = refl };
+      next = is.may.next;
+      stores_of = is.may.slots.are_of;
+      named = changed_are_named bytes stores touches told life is.is_life is.may disk is.kept;
+      over = record { first = w.first; count = w.count; sequence = w.sequence; epoch = w.epoch };
+      log_area = omega (arith, w.first, w.count, areas, log_below life.system life.now.log is.is_life.in_range.log, slot_above life.system (length life.system.databases) 0);
+      ahead = none_is_ahead bytes stores touches told life is.is_life is.may disk is.kept;
+      force_keeps = forces_keep bytes stores touches told life is.is_life is.may disk is.kept;
+      snapshot_keeps = snapshots_keep bytes stores touches told life is.is_life is.may disk is.kept;
+    }
+
+-- by the system and the journal that the life has
+pub asks : (system : System) (journal : JournalState) (stores : AllStores) (bytes : List ℕ) (disk : DiskState) (can : CanCheckpoint system journal stores bytes disk)
+    → Asks (parts_for system journal.restart bytes) journal.log stores disk
+asks system journal stores bytes disk can =
+    let life = can.life in
+    let is = can.is in
+    let whole : IsOf life.system (record { log = life.log; restart = life.now }) stores bytes can.touches can.told disk life =
+    record { of_system = refl; writer = refl; now = refl; is_life = is.is_life; may = is.may; kept = is.kept } in
+    let areas : data_first life.system (length life.system.databases) ≤ disk.size =
+    subst (λ (s : System). data_first s (length s.databases) ≤ disk.size) (sym is.of_system) can.areas in
+    subst (λ (s : System). Asks (parts_for s journal.restart bytes) journal.log stores disk) is.of_system
+    (subst (λ (r : RestartSector). Asks (parts_for life.system r bytes) journal.log stores disk) is.now
+    (subst (λ (w : Writer). Asks (parts_for life.system life.now bytes) w stores disk) is.writer
+    (of_life bytes stores disk life can.touches can.told whole areas)))
+
+-- once it is done, each image is one of the life behind it
+pub follows_kept : (system : System) (journal : JournalState) (stores : AllStores) (bytes : List ℕ) (touches : Touches) (told : List Record) (life : LifeOnDisk) (old : DiskState)
+    → IsOf system journal stores bytes touches told old life
+    → (new : DiskState) → Follows (IsCheckpointed (parts_for system journal.restart bytes) journal.log stores) old new → AreKept (after_checkpoint bytes touches life) new
+follows_kept system journal stores bytes touches told life old is new follows =
+    checkpoint_done bytes stores touches told life is.is_life is.may old is.kept new
+    (subst (λ (s : System). Follows (IsCheckpointed (parts_for s life.now bytes) life.log stores) old new) (sym is.of_system)
+    (subst (λ (r : RestartSector). Follows (IsCheckpointed (parts_for system r bytes) life.log stores) old new) (sym is.now)
+    (subst (λ (w : Writer). Follows (IsCheckpointed (parts_for system journal.restart bytes) w stores) old new) (sym is.writer) follows)))
+
+-- a snapshot that fits its area, in bytes
+pub bytes_fit : (bytes area : ℕ) → (bytes + 4063) / 4064 ≤ area → bytes ≤ area * 4064
+bytes_fit bytes area h = omega (arith, h)

@@ -1,16 +1,10 @@
 -- What a control region keeps of its disk.
-use Rattle.std.specs.Prelude.{◌≡◌, ℕ, ◌+◌, ◌≤◌, ◌↔◌, List, [], length, Option, Some, None, Ok}
+use Rattle.std.specs.Prelude.{◌≡◌, ℕ, ◌+◌, ◌≤◌, ◌↔◌, List, [], length, Option, Some, None}
 use Rattle.model_disk.specs.Disk.{Image, DiskState}
 use Rattle.model_system.specs.System.{System}
 use Rattle.model_machine.specs.Machine.{LastingState}
 use Rattle.disk_law.specs.Life.{LifeOnDisk, IsLife}
 use Rattle.disk_law.specs.Kept.{RecoversEither}
-use Rattle.log_records.specs.declared.record.Record.{Record}
-use Rattle.seg_store.specs.Changed.{AllStores}
-use Rattle.model_image.specs.Recovered.{Recovers}
-use Rattle.slot_law.specs.Committed.{Touches}
-use Rattle.checkpointing.specs.Parts.{CheckpointParts}
-use Rattle.checkpoint_law.specs.Checkpointing.{parts_with, MayCheckpoint}
 use Rattle.step_law.specs.Steps.{StepOnDisk, IsStep, with_records}
 use Rattle.restart_data.specs.declared.restart.RestartSector.{RestartSector}
 use Rattle.log_writer.specs.Writer.{Writer}
@@ -52,14 +46,3 @@ pub record IsStepOf (log : Writer) (life : LifeOnDisk) (step : StepOnDisk) : Typ
 -- Whatever a crash might have left since the call began recovers to one state, or to another.
 abbrev pub RecoverEither : System → LastingState → LastingState → DiskState → DiskState → Type 0
 RecoverEither system before after old new = (image : Image) → new.left_since old.clock image → RecoversEither system before after image
-
--- These are the parts of a checkpoint of this life, whose writer this is, with these bytes as its snapshot.
-pub record IsCheckpointOf (log : Writer) (stores : AllStores) (parts : CheckpointParts) (bytes : List ℕ) (touches : Touches) (told : List Record) (life : LifeOnDisk) : Type 0 where
-  pub writer : life.log ≡ log
-  pub are_parts : parts ≡ parts_with bytes life
-  pub is_life : IsLife life
-  pub may : MayCheckpoint bytes stores touches told life
-
--- Whatever a crash might have left since the call began recovers to this state.
-abbrev pub RecoverAlone : System → LastingState → DiskState → DiskState → Type 0
-RecoverAlone system lasting old new = (image : Image) → new.left_since old.clock image → Recovers system image (Ok lasting)

@@ -2,12 +2,13 @@
 ghost use Rattle.std.specs.Prelude.{◌≡◌, ℕ, List, map, ◌+◌, ◌*◌, ◌<◌, ◌≤◌, ◌^◌, [], length, OnOk, OnErr};
 ghost use Rattle.model_disk.specs.Disk.{Stays, Within, Follows, Only, WritesAtMost, FailedSince};
 ghost use Rattle.restart_data.specs.Restart.{IsRestart};
-ghost use Rattle.restart_data.specs.Snapshot as snapshot;
+ghost use Rattle.restart_data.specs.Snapshot as sectors;
 ghost use Rattle.model_image.specs.Areas.{data_first};
 ghost use Rattle.seg_store.specs.WriteBack.{changed_count, all_written};
 ghost use Rattle.checkpointing.specs.Parts.{parts_of, sequence_behind, next_restart, next_writer, AreFree, IsOver};
 ghost use Rattle.checkpointing.specs.Written.{AreOf};
 ghost use Rattle.checkpointing.specs.Checkpoint.{KeepsRecovery, IsCheckpointed};
+ghost use Rattle.checkpointing.specs.Texts.{KeepsText};
 ghost use Rattle.checkpointing.specs.Conditions.{HasRestart, NoneIsAhead, ChangedAreNamed, ForceKeeps, SnapshotKeeps};
 ghost use Rattle.log_writer.specs.Log.{sectors_of, IsReady, AddsFront, AddsAll};
 ghost use Rattle.disk_law.specs.Life.{LifeOnDisk};
@@ -17,15 +18,18 @@ ghost use Rattle.log_records.specs.declared.record.Record.{Record};
 ghost use Rattle.slot_law.specs.Committed.{Touches};
 ghost use Rattle.checkpoint_law.specs.Checkpointing.{after_checkpoint};
 ghost use Rattle.journal.specs.Counters.{first_spent};
-ghost use Rattle.journal.specs.State.{TellsRoom, TellsAllRoom, holding, forced, IsStepOf, RecoverEither, IsCheckpointOf, RecoverAlone};
+ghost use Rattle.journal.specs.State.{TellsRoom, TellsAllRoom, holding, forced, IsStepOf, RecoverEither};
+ghost use Rattle.journal.specs.Checkpoints.{parts_for, IsOf, CanCheckpoint};
 
 use crate::counter::JournalCounter;
 use checkpointing::{PartsView, take};
+use image_areas::{log_first, snapshot_area, snapshot_first};
 use log_writer::LogWriter;
 use restart_data::RestartSector;
 use seg_store::Stores;
 use std::alloc::Global;
 use std::marker::Model;
+use system_types::System;
 use tm_disk::{Disk, DiskFault};
 
 // 32 sectors of the log.
@@ -164,49 +168,47 @@ impl Journal {
         }
     }
 
-    /// Takes a checkpoint: forces all, writes each slot that was changed and the snapshot, and then the restart sector, which is
-    /// the journal's then; its log begins anew in the other area. Whenever a crash comes, the image recovers to what lasts;
-    /// once it has answered, each image is one of the life behind the checkpoint. `Disk` comes exactly where the disk failed
-    /// in the call. Then the journal is of no use.
+    /// Takes a checkpoint with these bytes as its snapshot: forces all, writes each slot that was changed and the snapshot, and
+    /// then the restart sector, which is the journal's then; its log begins anew in the other area. Whenever a crash comes, the
+    /// image recovers to what lasts, and is of the same text; once it has answered, each image is one of the life behind the
+    /// checkpoint. `Disk` comes exactly where the disk failed in the call. Then the journal is of no use.
     pub fn checkpoint<D: Disk>(
         &mut self,
         alloc: Global,
         disk: &mut D,
+        system: &System,
         stores: &mut Stores,
-        parts: &PartsView,
+        snapshot: &[u8],
     ) -> Result<(), DiskFault>
-        requires areas { data_first parts.now.system.now (length parts.now.system.now.databases) ≤ (D.state disk.old).size }
-        requires now { HasRestart parts.now.system.now parts.now.now.now (D.state disk.old) }
-        requires free { AreFree (parts_of parts.now) }
-        requires some { 0 < length parts.now.snapshot.now }
-        requires fits { length parts.now.snapshot.now ≤ parts.now.snapshot_sectors * 4064 }
-        requires next { IsRestart (next_restart (parts_of parts.now) self.old.log) }
-        requires stores { AreOf parts.now.system.now stores.old }
-        requires named { ChangedAreNamed (parts_of parts.now) self.old.log stores.old (D.state disk.old) }
-        requires over { IsOver (parts_of parts.now) self.old.log }
-        requires log_area { self.old.log.first + self.old.log.count ≤ (D.state disk.old).size }
-        requires ready { IsReady self.old.log (D.state disk.old) }
-        requires ahead { NoneIsAhead parts.now.system.now parts.now.now.now.epoch (sequence_behind self.old.log) (D.state disk.old) }
-        requires force_keeps { ForceKeeps (parts_of parts.now) self.old.log (D.state disk.old) }
-        requires snapshot_keeps { SnapshotKeeps (parts_of parts.now) self.old.log stores.old (D.state disk.old) }
+        requires can { CanCheckpoint system.now self.old stores.old snapshot.now (D.state disk.old) }
 
         ensures stays { Stays (D.state disk.old) (D.state disk.new) }
-        ensures any_moment { Within (KeepsRecovery parts.entry.now.system.now) (D.state disk.old) (D.state disk.new) }
-        ensures done { OnOk result (Follows (IsCheckpointed (parts_of parts.entry.now) self.old.log stores.old) (D.state disk.old) (D.state disk.new)) }
-        // So the image recovers to what lasts, and then is one of the life behind the checkpoint.
-        ensures crash { (life : LifeOnDisk) → (snapshot_bytes : List ℕ) → (touches : Touches) → (told : List Record) → IsCheckpointOf self.old.log stores.old (parts_of parts.entry.now) snapshot_bytes touches told life → AreKept life (D.state disk.old) → RecoverAlone life.system life.lasting (D.state disk.old) (D.state disk.new) }
-        ensures kept { OnOk result ((life : LifeOnDisk) → (snapshot_bytes : List ℕ) → (touches : Touches) → (told : List Record) → IsCheckpointOf self.old.log stores.old (parts_of parts.entry.now) snapshot_bytes touches told life → AreKept life (D.state disk.old) → AreKept (after_checkpoint snapshot_bytes touches life) (D.state disk.new)) }
-        ensures restart { OnOk result (self.new.restart ≡ next_restart (parts_of parts.entry.now) self.old.log) }
-        ensures log { OnOk result (self.new.log ≡ next_writer (parts_of parts.entry.now) self.old.log) }
+        ensures any_moment { Within (KeepsRecovery system.entry.now) (D.state disk.old) (D.state disk.new) }
+        ensures texts { Within (KeepsText system.entry.now) (D.state disk.old) (D.state disk.new) }
+        ensures done { OnOk result (Follows (IsCheckpointed (parts_for system.entry.now self.old.restart snapshot.entry.now) self.old.log stores.old) (D.state disk.old) (D.state disk.new)) }
+        // Each image is one of the life behind the checkpoint.
+        ensures kept { OnOk result ((life : LifeOnDisk) → (touches : Touches) → (told : List Record) → IsOf system.entry.now self.old stores.old snapshot.entry.now touches told (D.state disk.old) life → AreKept (after_checkpoint snapshot.entry.now touches life) (D.state disk.new)) }
+        ensures restart { OnOk result (self.new.restart ≡ next_restart (parts_for system.entry.now self.old.restart snapshot.entry.now) self.old.log) }
+        ensures log { OnOk result (self.new.log ≡ next_writer (parts_for system.entry.now self.old.restart snapshot.entry.now) self.old.log) }
         ensures ready { OnOk result (IsReady self.new.log (D.state disk.new)) }
         ensures synced { OnOk result (Only (D.state disk.new).shown (D.state disk.new)) }
         ensures written { OnOk result (stores.new ≡ all_written stores.old) }
 
-        ensures writes { WritesAtMost (sectors_of (length self.old.log.appended) + changed_count stores.old.changed + snapshot.sectors_of (length parts.entry.now.snapshot.now) + 1) (D.state disk.old) (D.state disk.new) }
+        ensures writes { WritesAtMost (sectors_of (length self.old.log.appended) + changed_count stores.old.changed + sectors.sectors_of (length snapshot.entry.now) + 1) (D.state disk.old) (D.state disk.new) }
         ensures no_fault { OnOk result ((D.state disk.new).faults ≡ (D.state disk.old).faults) }
         ensures cause { OnErr result (FailedSince (D.state disk.old) (D.state disk.new)) }
     {
-        self.take_checkpoint(alloc, disk, stores, parts)
+        let now = self.restart;
+        let view = PartsView {
+            system,
+            now: &now,
+            snapshot_at: snapshot_first(system, 1 - now.snapshot),
+            snapshot_sectors: snapshot_area(system),
+            log_at: log_first(system, 1 - now.log),
+            log_sectors: system.logs(),
+            snapshot,
+        };
+        self.take_checkpoint(alloc, disk, stores, &view)
     }
 
     // The checkpoint, by what it leaves on the disk.
@@ -234,6 +236,7 @@ impl Journal {
 
         ensures stays { Stays (D.state disk.old) (D.state disk.new) }
         ensures any_moment { Within (KeepsRecovery parts.entry.now.system.now) (D.state disk.old) (D.state disk.new) }
+        ensures texts { Within (KeepsText parts.entry.now.system.now) (D.state disk.old) (D.state disk.new) }
         ensures done { OnOk result (Follows (IsCheckpointed (parts_of parts.entry.now) self.old.log stores.old) (D.state disk.old) (D.state disk.new)) }
         ensures restart { OnOk result (self.new.restart ≡ next_restart (parts_of parts.entry.now) self.old.log) }
         ensures log { OnOk result (self.new.log ≡ next_writer (parts_of parts.entry.now) self.old.log) }
@@ -241,7 +244,7 @@ impl Journal {
         ensures synced { OnOk result (Only (D.state disk.new).shown (D.state disk.new)) }
         ensures written { OnOk result (stores.new ≡ all_written stores.old) }
 
-        ensures writes { WritesAtMost (sectors_of (length self.old.log.appended) + changed_count stores.old.changed + snapshot.sectors_of (length parts.entry.now.snapshot.now) + 1) (D.state disk.old) (D.state disk.new) }
+        ensures writes { WritesAtMost (sectors_of (length self.old.log.appended) + changed_count stores.old.changed + sectors.sectors_of (length parts.entry.now.snapshot.now) + 1) (D.state disk.old) (D.state disk.new) }
         ensures no_fault { OnOk result ((D.state disk.new).faults ≡ (D.state disk.old).faults) }
         ensures cause { OnErr result (FailedSince (D.state disk.old) (D.state disk.new)) }
     {

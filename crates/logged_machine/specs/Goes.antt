@@ -1,5 +1,5 @@
 -- What a call leaves of a machine with its log.
-use Rattle.std.specs.Prelude.{◌≡◌, ◌≤◌, ⊥, true, false, Option, Some, None, Ok, Err}
+use Rattle.std.specs.Prelude.{◌≡◌, ◌≤◌, true, false, Option, Some, None, Ok, Err}
 use Rattle.model_disk.specs.Disk.{Image, DiskState, Stays, FailedSince}
 use Rattle.model_machine.specs.History.{after_entry}
 use Rattle.model_machine.specs.declared.entry.Entry.{Entry}
@@ -8,6 +8,7 @@ use Rattle.model_machine.specs.declared.entry.ControlFault.{ControlFault}
 use Rattle.model_machine.specs.declared.entry.ControlFault.TheVariants.{Memory, Disk, Spent}
 use Rattle.model_machine.specs.declared.entry.InputRefused.TheVariants.{Fault as InputFault}
 use Rattle.model_machine.specs.declared.entry.AckRefused.TheVariants.{Fault as AckFault}
+use Rattle.checkpointing.specs.Texts.{HasText}
 use Rattle.tm_machine.specs.Answers.{IsAnswered}
 use Rattle.model_image.specs.Recovered.{Recovers}
 use Rattle.disk_law.specs.Kept.{RecoversEither}
@@ -35,14 +36,15 @@ pub record WentOn {D : Type 0} (state : D → DiskState) (old new : LoggedState 
   pub served : new.served ≡ true
   pub no_fault : (state new.disk).faults ≡ (state old.disk).faults
 
--- The disk failed in it, and nothing is served any more.
+-- The disk failed in it, and nothing is served any more. What a crash may leave is still of the definition's text.
 pub record Failed {D : Type 0} (state : D → DiskState) (old new : LoggedState D) : Type 0 where
   pub served : new.served ≡ false
   pub failed : FailedSince (state old.disk) (state new.disk)
+  pub have_text : (image : Image) → (state new.disk).may_leave image → HasText old.machine.system old.text image
 
--- There was no memory, and the machine is as before.
+-- There was no memory, and the machine stands where it stood.
 pub record StoodStill {D : Type 0} (state : D → DiskState) (old new : LoggedState D) : Type 0 where
-  pub machine : new.machine ≡ old.machine
+  pub moment : new.machine.moment ≡ old.machine.moment
   pub served : new.served ≡ true
   pub no_fault : (state new.disk).faults ≡ (state old.disk).faults
 

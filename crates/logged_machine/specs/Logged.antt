@@ -1,13 +1,9 @@
 -- A machine with its log on a disk, as its callers see it.
 use Rattle.std.specs.Prelude.{◌≡◌, ℕ, ◌+◌, Bool, true, List, Option, Some, None, Ok}
 use Rattle.model_disk.specs.Disk.{Image, DiskState}
-use Rattle.model_system.specs.System.{System}
 use Rattle.model_machine.specs.declared.counts.Counter.{Counter}
-use Rattle.restart_data.specs.declared.restart.RestartSector.{RestartSector}
-use Rattle.restart_data.specs.Restart.{restart_in}
-use Rattle.model_image.specs.Areas.{snapshot_area}
 use Rattle.model_image.specs.Recovered.{Recovers}
-use Rattle.model_image.specs.Text.{text_in, first_difference}
+use Rattle.checkpointing.specs.Texts.{HasText}
 use Rattle.tm_restart.specs.Opening.{counters, first_spent}
 use Rattle.journal.specs.State.{JournalState}
 use Rattle.tm_machine.specs.Parts.{PartsState}
@@ -21,11 +17,6 @@ pub record LoggedState (D : Type 0) : Type 0 where
   pub journal : JournalState
   pub next_unit : ℕ
   pub disk : D
-
--- The image is of a definition with this text.
-abbrev pub HasText : System → List ℕ → Image → Type 0
-HasText system text image =
-    (restart : RestartSector) → restart_in (snapshot_area system) image ≡ Ok (Some restart) → first_difference text (text_in image restart.text) ≡ None
 
 -- Each image that a crash may leave is of this text, and recovers to what lasts.
 pub record AreLasting {D : Type 0} (state : D → DiskState) (l : LoggedState D) : Type 0 where

@@ -13,9 +13,9 @@ use Rattle.model_machine.specs.Steps.{lasting_step}
 use Rattle.model_machine.specs.History.{after_entry, call_of, moment_after, IsCall, May, AreSteps}
 use Rattle.model_machine.proofs.Histories.{moment_after-append, AreSteps-append}
 use Rattle.tm_machine.specs.Answers.{IsAnswered}
-use Rattle.tm_machine.specs.Parts.{PartsState}
 use Rattle.model_image.specs.Recovered.{Recovers}
 use Rattle.disk_law.specs.Kept.{RecoversEither}
+use Rattle.checkpointing.specs.Texts.{HasText}
 use Rattle.logged_machine.specs.Logged.{LoggedState, LastsNow}
 use Rattle.logged_machine.specs.Goes.{Keeps, WentOn, Failed, StoodStill, GoesBy, CrashesBy, fault_in}
 use Rattle.tm_control.specs.OnDisk.{ControlOnDisk, IsUp, IsDown, Lasts, LastsBy, lasting_after}
@@ -131,7 +131,7 @@ module _ {D : Type 0} (state : D → DiskState) (old new : LoggedState D) (openi
   alone image one = subst (λ (m : Moment). Recovers old.machine.system image (Ok m.lasting)) (sym went.holds.moment) one
 
   -- the disk failed
-  broken : fault_in entry ≡ Some Disk → Failed state old new → CrashesBy state (Some Disk) old new entry → after ≡ before ++ entry ∷ [] → IsDown is.control (state new.disk)
+  broken : fault_in entry ≡ Some Disk → Failed state old new → CrashesBy state (Some Disk) old new entry → after ≡ before ++ entry ∷ [] → IsDown is.control new.text (state new.disk)
   broken fault failed crash longer = record {
     before = before;
     entry = entry;
@@ -143,10 +143,12 @@ module _ {D : Type 0} (state : D → DiskState) (old new : LoggedState D) (openi
         subst (λ (h : List Entry). RecoversEither new.machine.system (lasting_after new.machine.system opening before) (lasting_after new.machine.system opening h) image) (sym longer)
         (subst (λ (s : System). RecoversEither s (lasting_after s opening before) (lasting_after s opening (before ++ entry ∷ [])) image) (sym went.keeps.system)
         (either image (crash image (went.disk.now_counts (state old.disk).clock image went.keeps.later left))));
+    texts = λ image left. subst (λ (t : List ℕ). HasText new.machine.system t image) (sym went.keeps.text) (subst (λ (s : System). HasText s old.text image) (sym went.keeps.system) (failed.have_text image left));
   }
 
   by : (fault : Option ControlFault) → fault_in entry ≡ fault → GoesBy state fault old new entry → CrashesBy state fault old new entry → after ≡ noted (is_noted fault) before entry
       → Is state fault was is entry × Holds state new opening after steps'
+  unfolding broken
   by None f goes crash longer =
       let here : IsServed new opening after steps' = served_next old new opening before after entry steps steps' went.holds longer goes.answered (counted goes.served) in (
         record {
@@ -162,7 +164,7 @@ module _ {D : Type 0} (state : D → DiskState) (old new : LoggedState D) (openi
         kept_up goes.served here,
       )
   by (Some Disk) f goes crash longer =
-      let down : IsDown is.control (state new.disk) = broken f goes crash longer in (
+      let down : IsDown is.control new.text (state new.disk) = broken f goes crash longer in (
         record {
           adds = record { history = longer; call = went.call; down = goes.served; failed = goes.failed };
           crash = λ image left. either image (crash image left);
@@ -178,6 +180,7 @@ module _ {D : Type 0} (state : D → DiskState) (old new : LoggedState D) (openi
               call = down.call;
               fault = f;
               images = down.images;
+        texts = down.texts;
               count =
                   count ∙ ap (λ (b : Bool). if b then new.machine.moment.lasting.steps else steps) goes.served
                   ∙ went.holds.count ∙ ap (λ (m : Moment). m.lasting.steps) (sym went.holds.moment) ∙ ap (λ (s : System). (lasting_after s opening before).steps) (sym went.keeps.system);
@@ -187,13 +190,17 @@ module _ {D : Type 0} (state : D → DiskState) (old new : LoggedState D) (openi
             }),
       )
   by (Some Memory) f goes crash longer =
-      let same : new.machine ≡ old.machine = goes.machine in
+      let stands : moment_after new.machine.system (start_of new.machine.system opening) after ≡ new.machine.moment =
+      ap (λ (s : System). moment_after s (start_of s opening) after) went.keeps.system
+      ∙ ap (moment_after old.machine.system (start_of old.machine.system opening)) longer ∙ went.holds.moment ∙ sym goes.moment in
       let here : IsServed new opening after steps' = record {
-        moment = subst (λ (p : PartsState). moment_after p.system (start_of p.system opening) after ≡ p.moment) (sym same) (ap (moment_after old.machine.system (start_of old.machine.system opening)) longer ∙ went.holds.moment);
-        legal = subst (λ (p : PartsState). AreSteps p.system (start_of p.system opening) after) (sym same) (subst (AreSteps old.machine.system (start_of old.machine.system opening)) (sym longer) went.holds.legal);
+        moment = stands;
+        legal =
+            subst (λ (s : System). AreSteps s (start_of s opening) after) (sym went.keeps.system)
+            (subst (AreSteps old.machine.system (start_of old.machine.system opening)) (sym longer) went.holds.legal);
         count = counted goes.served;
         more =
-            let now : steps' ≡ steps = counted goes.served ∙ ap (λ (p : PartsState). p.moment.lasting.steps) same ∙ sym went.holds.count in
+            let now : steps' ≡ steps = counted goes.served ∙ ap (λ (m : Moment). m.lasting.steps) goes.moment ∙ sym went.holds.count in
             omega (arith, now, went.holds.more);
       } in (
         record {

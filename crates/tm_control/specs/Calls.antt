@@ -1,5 +1,5 @@
 -- What a call of a control region does.
-use Rattle.std.specs.Prelude.{◌≡◌, ⊥, ◌++◌, Bool, true, false, List, [], ◌∷◌, Option, Some, None, Ok}
+use Rattle.std.specs.Prelude.{◌≡◌, ◌++◌, Bool, true, false, List, [], ◌∷◌, Option, Some, None, Ok}
 use Rattle.model_disk.specs.Disk.{Image, DiskState, Stays, FailedSince}
 use Rattle.model_machine.specs.History.{AddsEntry, AddsNothing, IsCall, call_of, now_of}
 use Rattle.model_machine.specs.declared.counts.Counter.{Counter}

@@ -1,10 +1,9 @@
 -- What a control region opens with, and what is handed back at the end of a life.
-use Rattle.std.specs.Prelude.{◌≡◌, ℕ, ◌+◌, ◌≤◌, true, false, List, [], Option}
+use Rattle.std.specs.Prelude.{◌≡◌, ℕ, ◌+◌, ◌≤◌, true, List, []}
 use Rattle.model_disk.specs.Disk.{DiskState, Stays, Within}
 use Rattle.model_system.specs.System.{System}
 use Rattle.model_machine.specs.Machine.{start_of}
-use Rattle.model_machine.specs.History.{IsLegal, ended_by, AreSteps, moment_after}
-use Rattle.model_machine.specs.declared.entry.Entry.{Entry}
+use Rattle.model_machine.specs.History.{IsLegal, moment_after}
 use Rattle.deadlock_pick.specs.Broken.{HasNoCycles}
 use Rattle.cold_start.specs.FirstImage.{sectors_needed}
 use Rattle.logged_machine.specs.declared.how.How.{How}
@@ -36,9 +35,5 @@ pub record Closes {D : Type 0} (c : ControlOnDisk D) (disk : D) (life : Life) (s
   pub opening : life.opening ≡ c.control.opening
   pub history : life.history ≡ c.control.history
   pub legal : IsLegal c.control.system (start_of c.control.system c.control.opening) c.control.history
-  pub answered : List Entry
-  pub last : Option Entry
-  pub all : c.control.history ≡ ended_by answered last
-  pub steps : AreSteps c.control.system (start_of c.control.system c.control.opening) answered
-  pub kept : c.control.opening.steps + life.kept ≡ (lasting_after c.control.system c.control.opening answered).steps
-  pub rings : HasNoCycles (moment_after c.control.system (start_of c.control.system c.control.opening) answered).enqueues
+  pub kept : c.control.opening.steps + life.kept ≡ (lasting_after c.control.system c.control.opening legal.steps).steps
+  pub rings : HasNoCycles (moment_after c.control.system (start_of c.control.system c.control.opening) legal.steps).enqueues

@@ -6,6 +6,7 @@ use Rattle.model_machine.specs.History.{IsCall, AreSteps, call_of, moment_after}
 use Rattle.model_machine.specs.declared.entry.Entry.{Entry}
 use Rattle.model_machine.specs.declared.entry.ControlFault.TheVariants.{Disk}
 use Rattle.disk_law.specs.Kept.{RecoversEither}
+use Rattle.checkpointing.specs.Texts.{HasText}
 use Rattle.logged_machine.specs.Logged.{LoggedState}
 use Rattle.logged_machine.specs.Goes.{fault_in}
 use Rattle.tm_control.specs.OnDisk.{lasting_after}
@@ -27,6 +28,7 @@ pub record IsBroken {D : Type 0} (state : D → DiskState) (machine : LoggedStat
   pub fault : fault_in entry ≡ Some Disk
   pub images : (image : Image) → (state machine.disk).may_leave image
       → RecoversEither machine.machine.system (lasting_after machine.machine.system opening before) (lasting_after machine.machine.system opening history) image
+  pub texts : (image : Image) → (state machine.disk).may_leave image → HasText machine.machine.system machine.text image
   pub count : steps ≡ (lasting_after machine.machine.system opening before).steps
   pub more : opening.steps ≤ steps
 

@@ -11,7 +11,7 @@ use Rattle.tm_restart.specs.Opening.{counters, first_spent}
 use Rattle.journal.specs.State.{JournalState}
 use Rattle.model_image.specs.Recovered.{Recovers}
 use Rattle.disk_law.specs.Kept.{RecoversEither}
-use Rattle.logged_machine.specs.Logged.{HasText}
+use Rattle.checkpointing.specs.Texts.{HasText}
 use Rattle.logged_machine.specs.Goes.{fault_in}
 
 -- The control region as its history tells it; the definition's text; whether it is up; how often its disk had failed when
@@ -38,7 +38,7 @@ pub record IsUp (control : ControlState) (text : List ℕ) (disk : DiskState) : 
 
 -- Once the disk has failed, the last entry has the fault in place of its answer, and each image that a crash may leave
 -- recovers to what lasted before it, or to that with its step.
-pub record IsDown (control : ControlState) (disk : DiskState) : Type 0 where
+pub record IsDown (control : ControlState) (text : List ℕ) (disk : DiskState) : Type 0 where
   pub before : List Entry
   pub entry : Entry
   pub all : control.history ≡ before ++ entry ∷ []
@@ -47,10 +47,11 @@ pub record IsDown (control : ControlState) (disk : DiskState) : Type 0 where
   pub fault : fault_in entry ≡ Some Disk
   pub images : (image : Image) → disk.may_leave image
       → RecoversEither control.system (lasting_after control.system control.opening before) (lasting_after control.system control.opening control.history) image
+  pub texts : (image : Image) → disk.may_leave image → HasText control.system text image
 
 abbrev pub LastsBy : Bool → ControlState → List ℕ → DiskState → Type 0
 LastsBy true control text disk = IsUp control text disk
-LastsBy false control text disk = IsDown control disk
+LastsBy false control text disk = IsDown control text disk
 
 -- So it is of every control region.
 abbrev pub Lasts : {D : Type 0} → (D → DiskState) → ControlOnDisk D → Type 0

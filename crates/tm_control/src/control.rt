@@ -146,6 +146,14 @@ impl<D: Disk> Control<D> {
         self.machine.is_quiet()
     }
 
+    /// How many lasting steps there were, those before the opening among them.
+    pub fn steps(&self) -> u64
+        requires up { self.now.up ≡ true }
+        ensures { result ≡ (now_of self.now.control).lasting.steps }
+    {
+        self.machine.steps()
+    }
+
     /// Makes the `n`-th write from now fail and the disk stop. It answers false where the disk can't be told so.
     pub fn arm(&mut self, n: u64) -> bool
         requires some { 0 < n }

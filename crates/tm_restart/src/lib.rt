@@ -18,4 +18,5 @@ pub use model_machine::Lasting;
 pub use opening_parts::Parts;
 pub use parts::{Counter, OpenError};
 pub use restarting::recover;
+pub use spending::{Counts, spent_counter};
 pub use starting::cold;

@@ -36,7 +36,7 @@ fn spent_output(outputs: &[TerminalReplies]) -> Option<Counter>
 
 /// What a life counts on besides its replies, before it begins.
 #[derive(Drop)]
-pub(crate) struct Counts {
+pub struct Counts {
     pub epoch: u64,
     /// The sequence behind the log.
     pub sequence: u64,
@@ -48,7 +48,7 @@ pub(crate) struct Counts {
 }
 
 /// The first counter that is spent.
-pub(crate) fn spent_counter(counts: &Counts, outputs: &[TerminalReplies]) -> Option<Counter>
+pub fn spent_counter(counts: &Counts, outputs: &[TerminalReplies]) -> Option<Counter>
     ensures { (state : OneState) → state.next_id ≡ counts.now.next_id → state.steps ≡ counts.now.steps → state.outputs ≡ outputs.now → result ≡ first_spent (counters counts.now.epoch counts.now.sequence counts.now.checkpoint (counts.now.last_unit + 1) state) }
 {
     if is_spent(counts.epoch) {

@@ -10,7 +10,7 @@ use Rattle.checkpointing.specs.Parts.{CheckpointParts, parts_of, next_restart, n
 use Rattle.checkpointing.specs.Steps.{WritesSnapshot}
 use Rattle.checkpointing.specs.Checkpoint.{IsCheckpointed}
 use Rattle.checkpointing.proofs.Slots.{slots_end}
-use Rattle.checkpointing.proofs.Taking.{Asked, all_asked, next_of_forced, same_writer, begins_empty, prepared_within, taken_within, taken_follows, taken_ahead, taken_ready}
+use Rattle.checkpointing.proofs.Taking.{Asked, all_asked, next_of_forced, same_writer, begins_empty, prepared_within, taken_within, prepared_text, taken_text, taken_follows, taken_ahead, taken_ready}
 use Rattle.checkpointing.proofs.checkpoint.take.Goals as goal
 
 pub prepare-requires-clause-area : goal.prepare-requires-clause-area
@@ -121,3 +121,42 @@ returns-clause-empty g c =
     let done : Follows (IsCheckpointed parts c.args.log.now c.args.stores.now) old new = taken_follows parts c.args.log.now c.args.stores.now old disk asked mid new saved (subst (λ (r : RestartSector). Follows (Restarts r) mid new) next restarts) in
     let writer : c.new.result ≡ next_writer parts c.args.log.now = c.new.ensures ∙ same_writer c.args.parts.now.log_at c.args.parts.now.log_sectors c.next_restart-next.result (next_restart parts c.args.log.now) next in
     λ image left. ap (λ (w : Writer). log_of w image) writer ∙ begins_empty (next_writer parts c.args.log.now) image (taken_ready parts c.args.log.now c.args.stores.now old disk asked new done image left) refl
+
+pub returns-in-Err-clause-texts : goal.returns-in-Err-clause-texts
+returns-in-Err-clause-texts g c =
+    let parts : CheckpointParts = parts_of c.args.parts.now in
+    let old = g.D.Disk.state c.args.disk.now in
+    let disk = g.met.D.Disk.is_disk c.args.disk.now in
+    let asked : Asked parts c.args.log.now c.args.stores.now old =
+    all_asked parts c.args.log.now c.args.stores.now old c.requires.areas c.requires.now c.requires.free c.requires.over c.room-room.ensures.fits c.requires.stores c.requires.fits c.requires.next c.requires.named c.requires.ahead c.requires.force_keeps c.requires.snapshot_keeps in
+    prepared_text parts c.args.log.now c.args.stores.now old disk asked (g.D.Disk.state c.prepare.new.disk) c.prepare.ensures.any_moment
+
+pub returns-then-is_err-clause-texts : goal.returns-then-is_err-clause-texts
+returns-then-is_err-clause-texts g c =
+    let parts : CheckpointParts = parts_of c.args.parts.now in
+    let old = g.D.Disk.state c.args.disk.now in
+    let disk = g.met.D.Disk.is_disk c.args.disk.now in
+    let asked : Asked parts c.args.log.now c.args.stores.now old =
+    all_asked parts c.args.log.now c.args.stores.now old c.requires.areas c.requires.now c.requires.free c.requires.over c.room-room.ensures.fits c.requires.stores c.requires.fits c.requires.next c.requires.named c.requires.ahead c.requires.force_keeps c.requires.snapshot_keeps in
+    let mid = g.D.Disk.state c.prepare.new.disk in
+    let new = g.D.Disk.state c.write_restart.new.disk in
+    let saved : Follows (WritesSnapshot parts c.args.log.now c.args.stores.now) old mid = c.in-Ok.ensures.done in
+    let sequence : c.next_sequence.result ≡ sequence_behind c.args.log.now = c.next_sequence.ensures ∙ next_of_forced c.prepare.new.log c.args.log.now c.in-Ok.ensures.forced in
+    let next : c.next_restart-next.result ≡ next_restart parts c.args.log.now = c.next_restart-next.ensures ∙ ap (restart_behind parts) sequence in
+    taken_text parts c.args.log.now c.args.stores.now old disk asked mid new c.prepare.ensures.any_moment saved
+    (subst (λ (r : RestartSector). Within (MayWrite 0 (restart_sector r)) mid new) next c.write_restart.ensures.any_moment)
+
+pub returns-clause-texts : goal.returns-clause-texts
+returns-clause-texts g c =
+    let parts : CheckpointParts = parts_of c.args.parts.now in
+    let old = g.D.Disk.state c.args.disk.now in
+    let disk = g.met.D.Disk.is_disk c.args.disk.now in
+    let asked : Asked parts c.args.log.now c.args.stores.now old =
+    all_asked parts c.args.log.now c.args.stores.now old c.requires.areas c.requires.now c.requires.free c.requires.over c.room-room.ensures.fits c.requires.stores c.requires.fits c.requires.next c.requires.named c.requires.ahead c.requires.force_keeps c.requires.snapshot_keeps in
+    let mid = g.D.Disk.state c.prepare.new.disk in
+    let new = g.D.Disk.state c.write_restart.new.disk in
+    let saved : Follows (WritesSnapshot parts c.args.log.now c.args.stores.now) old mid = c.in-Ok.ensures.done in
+    let sequence : c.next_sequence.result ≡ sequence_behind c.args.log.now = c.next_sequence.ensures ∙ next_of_forced c.prepare.new.log c.args.log.now c.in-Ok.ensures.forced in
+    let next : c.next_restart-next.result ≡ next_restart parts c.args.log.now = c.next_restart-next.ensures ∙ ap (restart_behind parts) sequence in
+    taken_text parts c.args.log.now c.args.stores.now old disk asked mid new c.prepare.ensures.any_moment saved
+    (subst (λ (r : RestartSector). Within (MayWrite 0 (restart_sector r)) mid new) next c.write_restart.ensures.any_moment)
