@@ -1,16 +1,19 @@
 -- Whole lives: which histories are legal, and where they lead.
 use Rattle.std.specs.Prelude.{◌≡◌, ◌<◌, ⊤, ℕ, Bool, true, false, Ok, Err, Option, None, Some, List, [], ◌∷◌, ◌++◌, length}
 use Rattle.model_machine.specs.declared.entry.Entry.{Entry}
-use Rattle.model_machine.specs.declared.entry.Entry.TheVariants.{Accept, Show, Acked, Turn as TurnEntry}
+use Rattle.model_machine.specs.declared.entry.Entry.TheVariants.{Accept, Show, Acked, Turn as TurnEntry, Commanded, Checked}
 use Rattle.model_machine.specs.declared.entry.ControlCall.{ControlCall}
-use Rattle.model_machine.specs.declared.entry.ControlCall.TheVariants.{Input, Receive, Acknowledge, Turn}
+use Rattle.model_machine.specs.declared.entry.ControlCall.TheVariants.{Input, Receive, Acknowledge, Turn, Command, Checkpoint}
 use Rattle.model_machine.specs.declared.entry.InputRefused.TheVariants.{Fault as InputFault}
 use Rattle.model_machine.specs.declared.entry.AckRefused.TheVariants.{Fault as AckFault}
+use Rattle.model_machine.specs.declared.entry.CommandRefused.TheVariants.{Fault as CommandFault}
+use Rattle.model_machine.specs.declared.entry.CheckpointRefused.TheVariants.{Fault as CheckpointFault}
 use Rattle.model_system.specs.System.{System}
 use Rattle.model_machine.specs.Machine.{LastingState, Moment, start_of, slot_at, IsRegion}
 use Rattle.model_machine.specs.declared.entry.Turned.TheVariants.{Backed}
 use Rattle.model_enqueue.specs.declared.victim.Victim.{Victim}
 use Rattle.model_machine.specs.Requests.{BreaksAt}
+use Rattle.model_machine.specs.Commands.{IsServed, command_answer, checkpoint_answer}
 use Rattle.model_machine.specs.Steps.{input_answer, show_answer, ack_answer, turn_answer, After}
 
 -- the call that an entry answers
@@ -19,41 +22,58 @@ call_of (Accept terminal number segments answer) = Input terminal number segment
 call_of (Show terminal answer) = Receive terminal
 call_of (Acked terminal number answer) = Acknowledge terminal number
 call_of (TurnEntry region answer) = Turn region
+call_of (Commanded command answer) = Command command
+call_of (Checked freeze answer) = Checkpoint freeze
 
 -- the regions that gave way in the turn that an entry tells of
 abbrev pub victims_in : Entry → List Victim
 victims_in (TurnEntry region (Ok (Backed victims))) = victims
 victims_in _ = []
 
+-- the number of the checkpoint that an entry tells of
+abbrev pub number_in : Entry → ℕ
+number_in (Checked freeze (Ok number)) = number
+number_in _ = 0
+
 -- The entry that a call adds at a moment, and no other: the call with the machine's answer. These are the
--- victims, where the call is a turn whose request is blocked.
-abbrev pub entry_now : System → Moment → List Victim → ControlCall → Entry
-entry_now system moment victims (Input terminal number segments) = Accept terminal number segments (input_answer system moment terminal number segments)
-entry_now system moment victims (Receive terminal) = Show terminal (show_answer moment terminal)
-entry_now system moment victims (Acknowledge terminal number) = Acked terminal number (ack_answer moment terminal number)
-entry_now system moment victims (Turn region) = TurnEntry region (Ok (turn_answer system moment region victims))
+-- victims, where the call is a turn whose request is blocked, and this is the number of a checkpoint.
+abbrev pub entry_now : System → Moment → List Victim → ℕ → ControlCall → Entry
+entry_now system moment victims checkpoint (Input terminal number segments) = Accept terminal number segments (input_answer system moment terminal number segments)
+entry_now system moment victims checkpoint (Receive terminal) = Show terminal (show_answer moment terminal)
+entry_now system moment victims checkpoint (Acknowledge terminal number) = Acked terminal number (ack_answer moment terminal number)
+entry_now system moment victims checkpoint (Turn region) = TurnEntry region (Ok (turn_answer system moment region victims))
+entry_now system moment victims checkpoint (Command command) = Commanded command (command_answer system moment command)
+entry_now system moment victims checkpoint (Checkpoint freeze) = Checked freeze (checkpoint_answer moment freeze checkpoint)
 
 -- the victims of a call are the right ones
 abbrev pub AreVictims : System → Moment → List Victim → ControlCall → Type 0
 AreVictims system moment victims (Turn region) = BreaksAt system moment region victims (slot_at moment region)
 AreVictims system moment victims _ = victims ≡ []
 
--- an input has a segment, and a turn is one of a region that is there
+-- an input has a segment, a turn is one of a region that is there, and a command is one that is served
 abbrev pub IsCall : System → ControlCall → Type 0
 IsCall system (Input terminal number segments) = 0 < length segments
 IsCall system (Receive terminal) = ⊤
 IsCall system (Acknowledge terminal number) = ⊤
 IsCall system (Turn region) = IsRegion system region
+IsCall system (Command command) = IsServed command
+IsCall system (Checkpoint freeze) = ⊤
 
 -- the entry has the right answer at the moment
 pub record May (system : System) (moment : Moment) (entry : Entry) : Type 0 where
   pub call : IsCall system (call_of entry)
   pub victims : AreVictims system moment (victims_in entry) (call_of entry)
-  pub answer : entry ≡ entry_now system moment (victims_in entry) (call_of entry)
+  pub answer : entry ≡ entry_now system moment (victims_in entry) (number_in entry) (call_of entry)
 
 -- what the call of an entry leaves
 abbrev pub after_entry : System → Moment → Entry → Moment
 after_entry system moment entry = After system moment (call_of entry) (victims_in entry)
+
+-- the checkpoints that entries tell of have numbers above this one, each above those before it
+abbrev pub AscendAbove : ℕ → List Entry → Type 0
+AscendAbove least [] = ⊤
+AscendAbove least (Checked freeze (Ok number) ∷ entries) = (least < number) × AscendAbove number entries
+AscendAbove least (entry ∷ entries) = AscendAbove least entries
 
 -- the moment that these entries lead to
 abbrev pub moment_after : System → Moment → List Entry → Moment
@@ -70,6 +90,8 @@ abbrev pub is_fault : Entry → Bool
 is_fault (Accept terminal number segments (Err (InputFault fault))) = true
 is_fault (Acked terminal number (Err (AckFault fault))) = true
 is_fault (TurnEntry region (Err fault)) = true
+is_fault (Commanded command (Err (CommandFault fault))) = true
+is_fault (Checked freeze (Err (CheckpointFault fault))) = true
 is_fault _ = false
 
 -- behind a life's steps stands nothing more, or a call that met a fault

@@ -2,6 +2,8 @@
 use Rattle.std.specs.Prelude.{ℕ, ◌+◌, ◌-◌, ◌==◌, Bool, filter, not, true, false, if◌then◌else◌, Option, Some, None, List, [], ◌∷◌, ◌++◌, codes, slice_index_or}
 use Rattle.std.specs.Option.{is_some, option_map}
 use Rattle.tm_types.specs.declared.abend.AbendCode.{AbendCode}
+use Rattle.tm_types.specs.declared.command.LastingCommand.{LastingCommand}
+use Rattle.tm_types.specs.declared.command.LastingCommand.TheVariants.{StartTransaction, StopTransaction, StartTerminal, StopTerminal, DequeueFirst, DequeueAll, Exit}
 use Rattle.tm_types.specs.declared.message.Message.{Message}
 use Rattle.tm_types.specs.Words.{first_word, operands}
 use Rattle.tm_types.specs.Digits.{four_digits}
@@ -16,11 +18,12 @@ use Rattle.model_system.specs.declared.code.Code.{Code}
 use Rattle.model_system.specs.Codes.{code_at}
 use Rattle.model_system.specs.System.{System}
 use Rattle.model_system.specs.Lists.{change_at}
-use Rattle.model_queues.specs.Outputs.{with_terminal, with_reply, without_first}
+use Rattle.model_queues.specs.Outputs.{with_terminal, with_reply, without_first, without_replies}
 use Rattle.model_message.specs.declared.ended_message.EndedMessage.{EndedMessage}
 use Rattle.model_rows.specs.declared.row.Row.{Row}
+use Rattle.model_machine.specs.declared.lasting.CodeSetting.{CodeSetting}
 use Rattle.model_machine.specs.declared.lasting.TerminalState.{TerminalState}
-use Rattle.model_machine.specs.Machine.{LastingState, terminal_place, output_at, message_at}
+use Rattle.model_machine.specs.Machine.{LastingState, terminal_place, setting_place, output_at, message_at}
 
 -- ---- an input as it is kept
 
@@ -71,12 +74,13 @@ kept_input system lasting terminal segments = kept_by system (conversation_at te
 
 -- An input of a terminal under a number is accepted, and kept so. A terminal's first reply is acknowledged. The
 -- message of an id is completed: the rows are these, these outputs are sent, and this becomes of the pad. The
--- message of an id is discarded with an abend.
+-- message of an id is discarded with an abend. An operator's command is done.
 pub data LastingStep : Type 0 where
   Accepts : List ℕ → ℕ → KeptInput → LastingStep
   Acknowledges : List ℕ → LastingStep
   Completes : ℕ → List (List Row) → List EndedMessage → PadChange → LastingStep
   Discards : ℕ → AbendCode → LastingStep
+  Commands : LastingCommand → LastingStep
 
 -- a terminal with this number as its last input's
 abbrev pub with_last : ℕ → TerminalState → TerminalState
@@ -170,6 +174,31 @@ abbrev pub with_pad_by : Option Message → (Message → PadChange) → LastingS
 with_pad_by (Some message) change lasting = record lasting { conversations = padded (change message) message.origin lasting.conversations }
 with_pad_by None change lasting = lasting
 
+-- a code and a terminal that are stopped, or started
+abbrev pub stopped_code : Bool → CodeSetting → CodeSetting
+stopped_code stopped code = record code { stopped = stopped }
+
+abbrev pub stopped_terminal : Bool → TerminalState → TerminalState
+stopped_terminal stopped terminal = record terminal { stopped = stopped }
+
+abbrev pub with_stopped_code : Bool → List ℕ → LastingState → LastingState
+with_stopped_code stopped code lasting = record lasting { codes = change_at lasting.codes (setting_place lasting.codes code) (stopped_code stopped) }
+
+abbrev pub with_stopped_terminal : Bool → List ℕ → LastingState → LastingState
+with_stopped_terminal stopped terminal lasting =
+    record lasting { terminals = change_at lasting.terminals (terminal_place lasting.terminals terminal) (stopped_terminal stopped) }
+
+-- What a command changes: whether a code or a terminal is stopped, the replies of a terminal, of which the first or
+-- all go, or the conversation of a terminal, which ends.
+abbrev pub commanded : LastingCommand → LastingState → LastingState
+commanded (StartTransaction code) lasting = with_stopped_code false code lasting
+commanded (StopTransaction code) lasting = with_stopped_code true code lasting
+commanded (StartTerminal terminal) lasting = with_stopped_terminal false terminal lasting
+commanded (StopTerminal terminal) lasting = with_stopped_terminal true terminal lasting
+commanded (DequeueFirst terminal) lasting = acknowledged terminal lasting
+commanded (DequeueAll terminal) lasting = record lasting { outputs = with_terminal terminal without_replies lasting.outputs }
+commanded (Exit terminal) lasting = record lasting { conversations = conversing terminal None lasting.conversations }
+
 -- what a step changes
 abbrev pub changed : LastingStep → LastingState → LastingState
 changed (Accepts terminal number kept) lasting = accepted terminal number kept lasting
@@ -180,6 +209,7 @@ changed (Completes id rows outputs pad) lasting =
 changed (Discards id abend) lasting =
     finished_by (message_at lasting.messages id) (λ message. abend_outputs message abend)
     (with_pad_by (message_at lasting.messages id) discarded_pad lasting)
+changed (Commands command) lasting = commanded command lasting
 
 -- what a step leaves, which is counted
 abbrev pub applied : LastingStep → LastingState → LastingState

@@ -7,3 +7,4 @@ pub mod Requests
 pub mod Steps
 pub mod History
 pub mod Flags
+pub mod Commands

@@ -56,6 +56,9 @@ terminal_place terminals name = position (λ terminal. bytes_eq terminal.name na
 abbrev pub terminal_at : List TerminalState → List ℕ → Option TerminalState
 terminal_at terminals name = find (λ terminal. bytes_eq terminal.name name) terminals
 
+abbrev pub setting_place : List CodeSetting → List ℕ → Option ℕ
+setting_place settings name = position (λ setting. bytes_eq setting.code name) settings
+
 abbrev pub output_at : List TerminalReplies → List ℕ → Option TerminalReplies
 output_at outputs name = replies_at name outputs
 

@@ -1,5 +1,5 @@
 -- The calls of the machine: what each is answered at a moment, and what it leaves.
-use Rattle.std.specs.Prelude.{ℕ, suc, ◌+◌, ◌-◌, ◌*◌, ◌==◌, nat_lt, nat_le, Bool, true, not, ◌&&◌, ◌||◌, if◌then◌else◌, Option, Some, None, Result, Ok, Err, List, [], ◌∷◌, length, slice_get, slice_set}
+use Rattle.std.specs.Prelude.{ℕ, suc, ◌+◌, ◌-◌, ◌*◌, ◌==◌, nat_lt, nat_le, Bool, true, false, not, ◌&&◌, ◌||◌, if◌then◌else◌, Option, Some, None, Result, Ok, Err, List, [], ◌∷◌, length, slice_get, slice_set}
 use Rattle.std.specs.Option.{option_map_or, option_and_then, option_or, unwrap_or, is_some}
 use Rattle.tm_types.specs.Segment.{counted_bytes}
 use Rattle.model_system.specs.declared.code_state.CodeState.{CodeState}
@@ -18,13 +18,13 @@ use Rattle.model_queues.specs.Outputs.{first_number}
 use Rattle.model_queues.specs.Room.{input_needs, slot_needs, slot_room}
 use Rattle.model_queues.specs.Waiting.{first_waiting}
 use Rattle.model_machine.specs.declared.entry.ControlCall.{ControlCall}
-use Rattle.model_machine.specs.declared.entry.ControlCall.TheVariants.{Input, Receive, Acknowledge, Turn}
+use Rattle.model_machine.specs.declared.entry.ControlCall.TheVariants.{Input, Receive, Acknowledge, Turn, Command, Checkpoint}
 use Rattle.model_machine.specs.declared.entry.Taken.{Taken}
 use Rattle.model_machine.specs.declared.entry.Taken.TheVariants.{New, Already}
 use Rattle.model_machine.specs.declared.entry.InputRefused.{InputRefused}
-use Rattle.model_machine.specs.declared.entry.InputRefused.TheVariants.{Terminal as NoTerminal, Expected, Conversation as Conversing, Code as NoCode, SegmentsOver, QueueFull}
+use Rattle.model_machine.specs.declared.entry.InputRefused.TheVariants.{Terminal as NoTerminal, StoppedTerminal, Expected, Conversation as Conversing, Code as NoCode, StoppedCode, SegmentsOver, QueueFull}
 use Rattle.model_machine.specs.declared.entry.ShowAnswer.{ShowAnswer}
-use Rattle.model_machine.specs.declared.entry.ShowAnswer.TheVariants.{Reply as Showed, Empty, Unknown as ShowUnknown}
+use Rattle.model_machine.specs.declared.entry.ShowAnswer.TheVariants.{Reply as Showed, Empty, Stopped as ShowStopped, Unknown as ShowUnknown}
 use Rattle.model_machine.specs.declared.entry.Acked.{Acked}
 use Rattle.model_machine.specs.declared.entry.Acked.TheVariants.{Removed, Already as AckAlready}
 use Rattle.model_machine.specs.declared.entry.AckRefused.{AckRefused}
@@ -34,6 +34,8 @@ use Rattle.model_machine.specs.declared.entry.Turned.TheVariants.{Scheduled, Cal
 use Rattle.model_machine.specs.Trial.{Trial, WorkEnd, Advance, advance, outputs_of, pad_of}
 use Rattle.model_machine.specs.Trial.WorkEnd.{Ends, Syncs, Abends}
 use Rattle.model_machine.specs.Trial.Advance.{Goes, Stops}
+use Rattle.model_machine.specs.declared.lasting.TerminalState.{TerminalState}
+use Rattle.model_machine.specs.Commands.{state_now, command_answer, commands}
 use Rattle.model_machine.specs.Machine.{LastingState, Moment, Slot, terminal_at, output_at, slot_at, is_held, busy_slots, content, states_of, moment_with}
 use Rattle.model_machine.specs.Lasting.{KeptInput, LastingStep, kept_input, applied}
 use Rattle.model_machine.specs.Lasting.LastingStep.{Accepts, Acknowledges, Completes, Discards}
@@ -53,6 +55,10 @@ Refusal = Option (Result Taken InputRefused)
 -- no terminal has the name
 abbrev pub unknown_terminal : LastingState → List ℕ → Refusal
 unknown_terminal lasting terminal = if is_some (terminal_at lasting.terminals terminal) then None else Some (Err NoTerminal)
+
+-- the terminal is stopped
+abbrev pub stopped_terminal : LastingState → List ℕ → Refusal
+stopped_terminal lasting terminal = if option_map_or (λ t. t.stopped) (terminal_at lasting.terminals terminal) false then Some (Err StoppedTerminal) else None
 
 -- A number that is at most the last one was accepted before; only the next one is new.
 abbrev pub by_number : ℕ → ℕ → Refusal
@@ -77,6 +83,13 @@ busy_conversation lasting terminal = busy_by (conversation_at terminal lasting.c
 abbrev pub unknown_code : List Code → List ℕ → Refusal
 unknown_code codes word = if is_some (code_at codes word) then None else Some (Err NoCode)
 
+-- the code that it goes to is stopped
+abbrev pub stopped_by : List ℕ → Option CodeState → Refusal
+stopped_by code state = if option_map_or (λ s. s.stopped) state false then Some (Err (StoppedCode code)) else None
+
+abbrev pub stopped_code : System → Moment → List ℕ → Refusal
+stopped_code system moment code = stopped_by code (state_now system moment code)
+
 -- an input has at most 16 segments, or one where its code takes single segments
 abbrev pub most_segments : SegmentKind → ℕ
 most_segments Multiple = 16
@@ -100,9 +113,11 @@ no_room system moment segments = by_room (input_needs (content moment.lasting) (
 abbrev pub refusals : System → Moment → List ℕ → ℕ → KeptInput → List Refusal
 refusals system moment terminal number kept =
     unknown_terminal moment.lasting terminal
+    ∷ stopped_terminal moment.lasting terminal
     ∷ wrong_number moment.lasting terminal number
     ∷ busy_conversation moment.lasting terminal
     ∷ unknown_code system.codes kept.code
+    ∷ stopped_code system moment kept.code
     ∷ many_segments system.codes kept
     ∷ no_room system moment kept.segments
     ∷ []
@@ -119,13 +134,17 @@ input_answer system moment terminal number segments =
 
 -- ---- replies
 
--- the lowest reply that is kept, under its own number
+-- the lowest reply that is kept, under its own number; a stopped terminal is shown nothing
 abbrev pub show_by : Option TerminalReplies → ShowAnswer
 show_by None = ShowUnknown
 show_by (Some output) = option_map_or (λ reply. Showed reply.number) (slice_get output.replies 0) Empty
 
+abbrev pub show_to : Option TerminalState → Option TerminalReplies → ShowAnswer
+show_to None output = ShowUnknown
+show_to (Some terminal) output = if terminal.stopped then ShowStopped else show_by output
+
 abbrev pub show_answer : Moment → List ℕ → ShowAnswer
-show_answer moment terminal = show_by (output_at moment.lasting.outputs terminal)
+show_answer moment terminal = show_to (terminal_at moment.lasting.terminals terminal) (output_at moment.lasting.outputs terminal)
 
 -- what is below the first number was acknowledged before; the first is removed where it is kept
 abbrev pub ack_by : Option TerminalReplies → ℕ → Result Acked AckRefused
@@ -186,7 +205,7 @@ next_among system moment behind slot _ _ = None
 
 abbrev pub next_message : System → Moment → LastingState → Slot → Option ℕ
 next_message system moment behind slot =
-    next_among system moment behind slot (code_at system.codes slot.code) (option_and_then (slice_get (states_of moment)) (code_place system.codes slot.code))
+    next_among system moment behind slot (code_at system.codes slot.code) (state_now system moment slot.code)
 
 abbrev pub sync_answer : Slot → Option ℕ → Turned
 sync_answer slot (Some next) = Next slot.code slot.id next
@@ -251,6 +270,8 @@ lasting_step system moment (Receive terminal) = None
 lasting_step system moment (Acknowledge terminal number) = acknowledges terminal (ack_answer moment terminal number)
 lasting_step system moment (Turn region) =
     option_and_then (step_in_turn system moment region) (slot_at moment region)
+lasting_step system moment (Command command) = commands command (command_answer system moment command)
+lasting_step system moment (Checkpoint freeze) = None
 
 abbrev pub lasting_after : System → Moment → ControlCall → LastingState
 lasting_after system moment call = option_map_or (λ step. applied step moment.lasting) (lasting_step system moment call) moment.lasting

@@ -1,6 +1,7 @@
 //! The calls of a control region, and what they are answered.
 
 use crate::counts::Counter;
+use model_command::{Answer, Command};
 use model_enqueue::Victims;
 use thiserror::Error;
 use tm_types::{AbendCode, Function, Name, Resource, Segments, Status};
@@ -16,6 +17,10 @@ pub enum ControlCall {
     Acknowledge(Name, u64),
     /// Let the region of this number do its next step.
     Turn(u32),
+    /// Do what an operator commands. The forms of `/CHECKPOINT` and those that open a system aren't among these calls.
+    Command(Command),
+    /// Take a checkpoint, and with the flag end the life with it.
+    Checkpoint(bool),
 }
 
 /// Why a call could not be done.
@@ -46,12 +51,16 @@ pub enum Taken {
 pub enum InputRefused {
     #[error("no terminal has this name")]
     Terminal,
+    #[error("the terminal is stopped")]
+    StoppedTerminal,
     #[error("the number {0} was expected")]
     Expected(u64),
     #[error("message {0} of the terminal's conversation isn't done")]
     Conversation(u64),
     #[error("the first word is no transaction code")]
     Code,
+    #[error("the code {0:?} is stopped")]
+    StoppedCode(Name),
     #[error("the input has {0} segments, and its code takes at most {1}")]
     SegmentsOver(u32, u32),
     #[error("{0} bytes are needed, and {1} may be used")]
@@ -67,6 +76,8 @@ pub enum ShowAnswer {
     Reply(u64),
     /// No reply is kept.
     Empty,
+    /// The terminal is stopped.
+    Stopped,
     /// No terminal has this name.
     Unknown,
 }
@@ -120,6 +131,28 @@ pub enum Turned {
     Backed(Victims),
 }
 
+/// Why a command was not done. Nothing changed.
+#[derive(Clone, Copy, Debug, Error)]
+pub enum CommandRefused {
+    #[error("no code or terminal has the name {0:?}")]
+    UnknownName(Name),
+    #[error("message {0} of the conversation isn't done")]
+    Busy(u64),
+    #[error("the terminal has no conversation")]
+    NoConversation,
+    #[error("{0}")]
+    Fault(ControlFault),
+}
+
+/// Why a checkpoint was not taken. Nothing changed.
+#[derive(Clone, Copy, Debug, Error)]
+pub enum CheckpointRefused {
+    #[error("region {0} works on message {1}")]
+    BusyRegion(u32, u64),
+    #[error("{0}")]
+    Fault(ControlFault),
+}
+
 /// A call of the control region with its answer, or with a fault in the answer's place.
 #[derive(Debug, Drop)]
 pub enum Entry {
@@ -131,4 +164,8 @@ pub enum Entry {
     Acked(Name, u64, Result<Acked, AckRefused>),
     /// A region had its turn.
     Turn(u32, Result<Turned, ControlFault>),
+    /// An operator gave a command.
+    Commanded(Command, Result<Answer, CommandRefused>),
+    /// A checkpoint was asked for, with the flag one behind which the life ends. It got this number.
+    Checked(bool, Result<u64, CheckpointRefused>),
 }

@@ -7,9 +7,11 @@
 
 pub use counts::Counter;
 pub use entry::{
-    AckRefused, Acked, ControlCall, ControlFault, Entry, InputRefused, ShowAnswer, Taken, Turned,
+    AckRefused, Acked, CheckpointRefused, CommandRefused, ControlCall, ControlFault, Entry,
+    InputRefused, ShowAnswer, Taken, Turned,
 };
 pub use lasting::{CodeSetting, DatabaseRows, Lasting, TerminalState};
+pub use model_command::{ActiveRegion, ActiveRegions, Answer, Command, RegionWork};
 
 mod counts;
 mod entry;
