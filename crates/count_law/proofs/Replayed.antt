@@ -3,21 +3,24 @@ use Rattle.std.proofs.Common.{◌≡◌, ℕ, zero, suc, ◌+◌, ◌≤◌, Boo
 use Rattle.std.specs.Prelude.{Option, ◌==◌, filter, if◌then◌else◌}
 use Rattle.std.specs.Option.{option_map, option_map_or, option_and_then, is_some}
 use Rattle.std.specs.List.{AllByRecursion}
+use Rattle.tm_types.specs.declared.command.LastingCommand.{LastingCommand}
+use Rattle.tm_types.specs.declared.command.LastingCommand.TheVariants.{StartTransaction, StopTransaction, StartTerminal, StopTerminal, DequeueFirst, DequeueAll, Exit}
 use Rattle.tm_types.specs.declared.message.Message.{Message}
+use Rattle.tm_types.specs.Commands.{command_in}
 use Rattle.tm_types.specs.declared.abend.AbendCode.{AbendCode}
 use Rattle.model_conversation.specs.declared.conversation.PadChange.{PadChange}
-use Rattle.model_queues.specs.Outputs.{with_terminal, with_reply, without_first, next_of, reply_at}
+use Rattle.model_queues.specs.Outputs.{with_terminal, with_reply, without_first, without_replies, next_of, reply_at}
 use Rattle.model_message.specs.declared.ended_message.EndedMessage.{EndedMessage}
 use Rattle.model_system.specs.System.{System}
 use Rattle.model_machine.specs.Machine.{LastingState, message_at, output_at, terminal_at}
 use Rattle.model_machine.specs.Lasting.{KeptInput, applied, changed, sent, replied, switched, all_sent, finished, finished_by, with_pad_by, without_message, abend_text, abend_outputs, discarded_pad, input_message}
-use Rattle.model_machine.specs.Lasting.LastingStep.{Accepts, Acknowledges, Discards}
+use Rattle.model_machine.specs.Lasting.LastingStep.{Accepts, Acknowledges, Discards, Commands}
 use Rattle.log_records.specs.declared.record.Record.{Record}
 use Rattle.log_records.specs.declared.record.Record.TheVariants.{Input, Command, Reply, Discarded, Completed, Acknowledged, SyncPoint, Checkpoint, Terminal, Code, Change}
 use Rattle.log_records.specs.Spelling.{IsCount, IsRecord}
 use Rattle.model_image.specs.Snapshot.{message_of}
 use Rattle.model_image.specs.States.{breaks_a_rule}
-use Rattle.model_image.specs.Replay.{Replay, done, all_done, kept_in_record, accepts, acknowledges, discards, completed_message, with_step, syncs, is_of_unit, with_waiting, with_lasting, without_unit, replayed, is_known, unless_it_breaks, replay_one, replay_all, replay_of}
+use Rattle.model_image.specs.Replay.{Replay, done, all_done, kept_in_record, accepts, acknowledges, discards, commands, completed_message, with_step, syncs, is_of_unit, with_waiting, with_lasting, without_unit, replayed, is_known, unless_it_breaks, replay_one, replay_all, replay_of}
 use Rattle.count_law.specs.Counted.{AreCounted, AreAllCounted, IsCounted}
 use Rattle.count_law.proofs.Kept.{one_more, filtered, terminal_kept, reply_counted, without_first_counted}
 
@@ -85,6 +88,22 @@ accepted_counted terminal number kept lasting count is = record {
   messages = one_more (λ m. IsCount m.segments) lasting.messages (input_message lasting.next_id terminal kept) is.messages count;
   replies = is.replies;
 }
+
+commanded_counted : (command : LastingCommand) (lasting : LastingState) → IsCounted lasting → IsCounted (applied (Commands command) lasting)
+commanded_counted (StartTransaction code) lasting is = record { messages = is.messages; replies = is.replies }
+commanded_counted (StopTransaction code) lasting is = record { messages = is.messages; replies = is.replies }
+commanded_counted (StartTerminal terminal) lasting is = record { messages = is.messages; replies = is.replies }
+commanded_counted (StopTerminal terminal) lasting is = record { messages = is.messages; replies = is.replies }
+commanded_counted (DequeueFirst terminal) lasting is = acknowledged_counted terminal lasting is
+commanded_counted (DequeueAll terminal) lasting is = record {
+  messages = is.messages;
+  replies = terminal_kept terminal without_replies lasting.outputs (λ t all. tt) is.replies;
+}
+commanded_counted (Exit terminal) lasting is = record { messages = is.messages; replies = is.replies }
+
+commanded_left : (command : Option LastingCommand) (lasting : LastingState) → IsCounted lasting → IfLeft (option_map (λ c. applied (Commands c) lasting) command)
+commanded_left None lasting is = tt
+commanded_left (Some command) lasting is = commanded_counted command lasting is
 
 -- ---- the records of a unit, at its sync point
 
@@ -167,7 +186,8 @@ replayed_counted system (SyncPoint unit pad) replay valid is =
     (synced_counted (completed_message records replay.lasting) pad (all_done records replay.lasting)
     (all_done_counted records replay.lasting (filtered IsRecord (is_of_unit unit) replay.waiting is.waiting) is.lasting))
 replayed_counted system (Change unit database slot before after) replay valid is = is
-replayed_counted system (Command text) replay valid is = tt
+replayed_counted system (Command text) replay valid is =
+    left_counted replay (commands text replay.lasting) is.waiting (commanded_left (command_in text) replay.lasting is.lasting)
 replayed_counted system (Checkpoint checkpoint next_id next_unit steps) replay valid is = tt
 replayed_counted system (Terminal name last next stopped conversation) replay valid is = tt
 replayed_counted system (Code name stopped class priority) replay valid is = tt

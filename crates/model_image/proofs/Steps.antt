@@ -4,14 +4,18 @@ use Rattle.std.specs.Prelude.{Option, if◌then◌else◌, ◌==◌}
 use Rattle.std.specs.Option.{is_some, option_map, option_map_or, option_and_then}
 use Rattle.std.proofs.lemmas.Bool.{eq-eqb, eqb-true, ne_eqb}
 use Rattle.tm_types.specs.declared.abend.AbendCode.{AbendCode}
+use Rattle.tm_types.specs.declared.command.LastingCommand.{LastingCommand}
 use Rattle.tm_types.specs.declared.message.Message.{Message}
+use Rattle.tm_types.specs.Commands.{name_in, spelling}
+use Rattle.tm_types.specs.Name.{IsName}
+use Rattle.tm_types.proofs.Commands.{spelled_read}
 use Rattle.tm_types.specs.declared.message.Reply.{Reply as KeptReply}
 use Rattle.model_queues.specs.Outputs.{next_of, reply_at}
 use Rattle.model_message.specs.declared.ended_message.EndedMessage.{EndedMessage}
 use Rattle.model_machine.specs.declared.lasting.TerminalState.{TerminalState}
 use Rattle.model_machine.specs.Machine.{LastingState, terminal_at, message_at, output_at}
 use Rattle.model_machine.specs.Lasting.{KeptInput, applied, code_word, kept_alone, kept_first, kept_by, kept_by_code, kept_input, without_word, padded, sent, all_sent, switched, replied, without_message, finished_by, with_pad_by}
-use Rattle.model_machine.specs.Lasting.LastingStep.{Accepts, Acknowledges, Completes, Discards}
+use Rattle.model_machine.specs.Lasting.LastingStep.{Accepts, Acknowledges, Completes, Discards, Commands}
 use Rattle.log_records.specs.declared.record.Record.{Record}
 use Rattle.log_records.specs.declared.record.Record.TheVariants.{Input, Reply, Completed}
 use Rattle.model_conversation.specs.declared.conversation.Conversation.{Conversation}
@@ -21,7 +25,7 @@ use Rattle.model_conversation.specs.Terminals.{conversation_at}
 use Rattle.model_system.specs.declared.code.Code.{Code}
 use Rattle.model_system.specs.Codes.{code_at}
 use Rattle.model_system.specs.System.{System}
-use Rattle.model_image.specs.Replay.{done, all_done, pad_size, kept_in_record, accepts, acknowledges, discards, syncs, with_step, completed_id, completed_message}
+use Rattle.model_image.specs.Replay.{done, all_done, pad_size, kept_in_record, accepts, acknowledges, discards, commands, syncs, with_step, completed_id, completed_message}
 use Rattle.step_records.specs.Records.{output_record, output_records, completion_records}
 
 same : (n : ℕ) → (n == n) ≡ true
@@ -214,3 +218,10 @@ completes_again unit id message outputs pad lasting found below =
     ∙ ap (λ (o : Option Message). Some (with_step (with_pad_by o (λ _. pad) (all_sent message.origin outputs (gone id lasting))))) which
     ∙ ap (λ (l : LastingState). Some (with_step l)) (all_sent_pads pad message.origin message.origin outputs (gone id lasting))
     ∙ ap (λ (l : LastingState). Some l) (finishes id message outputs pad lasting found)
+
+-- ---- a command
+
+-- its spelling is done again as the command
+pub commands_again : (lasting : LastingState) (command : LastingCommand) → IsName (name_in command) → commands (spelling command) lasting ≡ Some (applied (Commands command) lasting)
+commands_again lasting command named =
+    ap (option_map (λ c. applied (Commands c) lasting)) (spelled_read (spelling command) command (record { spelled = refl; named = named }))

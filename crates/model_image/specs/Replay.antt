@@ -1,6 +1,9 @@
 -- The records of a log, done again.
 use Rattle.std.specs.Prelude.{ℕ, zero, suc, ◌+◌, ◌-◌, Bool, false, not, ◌&&◌, ◌==◌, List, [], ◌∷◌, ◌++◌, filter, Option, Some, None, if◌then◌else◌}
 use Rattle.std.specs.Option.{option_map, option_map_or, option_and_then, is_some}
+use Rattle.tm_types.specs.declared.command.LastingCommand.{LastingCommand}
+use Rattle.tm_types.specs.declared.command.LastingCommand.TheVariants.{StartTransaction, StopTransaction, StartTerminal, StopTerminal, DequeueFirst, DequeueAll, Exit}
+use Rattle.tm_types.specs.Commands.{command_in}
 use Rattle.tm_types.specs.declared.message.Message.{Message}
 use Rattle.tm_types.specs.declared.abend.AbendCode.{AbendCode}
 use Rattle.model_conversation.specs.declared.conversation.Conversation.{Conversation}
@@ -11,7 +14,7 @@ use Rattle.model_system.specs.System.{System}
 use Rattle.model_queues.specs.Outputs.{with_terminal, with_reply, next_of, reply_at}
 use Rattle.model_machine.specs.Machine.{LastingState, terminal_at, message_at}
 use Rattle.model_machine.specs.Lasting.{KeptInput, applied, with_pad_by}
-use Rattle.model_machine.specs.Lasting.LastingStep.{Accepts, Acknowledges, Discards}
+use Rattle.model_machine.specs.Lasting.LastingStep.{Accepts, Acknowledges, Discards, Commands}
 use Rattle.log_records.specs.declared.record.Record.{Record}
 use Rattle.log_records.specs.declared.record.Record.TheVariants.{Input, Command, Reply, Discarded, Completed, Acknowledged, SyncPoint, Checkpoint, Terminal, Code, Change}
 use Rattle.model_conversation.specs.declared.conversation.PadChange.{PadChange}
@@ -77,6 +80,10 @@ discards id abend number lasting =
     if option_map_or (λ message. next_of message.origin lasting.outputs == number) (message_at lasting.messages id) false
     then Some (applied (Discards id abend) lasting) else None
 
+-- A command is done, if its text spells one that lasts. It is counted, also where it changes nothing.
+abbrev pub commands : List ℕ → LastingState → Option LastingState
+commands text lasting = option_map (λ command. applied (Commands command) lasting) (command_in text)
+
 -- A unit reaches its sync point: its records are done, in their order, and this becomes of the pad of the message
 -- that they complete.
 abbrev pub with_step : LastingState → LastingState
@@ -117,7 +124,7 @@ abbrev pub without_unit : ℕ → Replay → Replay
 without_unit unit replay = record replay { waiting = filter (λ r. not (is_of_unit unit r)) replay.waiting }
 
 -- What a record of the log does: none where a number isn't the next one, where what it is about isn't there, and where it
--- is none of a log. A change says something of a slot alone. No command lasts.
+-- is none of a log. A change says something of a slot alone.
 abbrev pub replayed : System → Record → Replay → Option Replay
 replayed system (Input zero id origin code number conversation segments) replay =
     with_lasting replay (accepts system id origin code number conversation segments replay.lasting)
@@ -130,16 +137,27 @@ replayed system (Discarded unit id abend number) replay = with_lasting replay (d
 replayed system (SyncPoint unit pad) replay =
     with_lasting (without_unit unit replay) (syncs pad (filter (is_of_unit unit) replay.waiting) replay.lasting)
 replayed system (Change unit database slot before after) replay = Some replay
-replayed system (Command text) replay = None
+replayed system (Command text) replay = with_lasting replay (commands text replay.lasting)
 replayed system (Checkpoint checkpoint next_id next_unit steps) replay = None
 replayed system (Terminal name last next stopped conversation) replay = None
 replayed system (Code name stopped class priority) replay = None
+
+-- a command names a code of the system, or a terminal
+abbrev pub names_known : System → LastingCommand → Bool
+names_known system (StartTransaction code) = is_code system code
+names_known system (StopTransaction code) = is_code system code
+names_known system (StartTerminal terminal) = is_terminal system terminal
+names_known system (StopTerminal terminal) = is_terminal system terminal
+names_known system (DequeueFirst terminal) = is_terminal system terminal
+names_known system (DequeueAll terminal) = is_terminal system terminal
+names_known system (Exit terminal) = is_terminal system terminal
 
 -- the names of a record are known where it stands, and the images of a change are of a slot
 abbrev pub is_known : System → Record → Bool
 is_known system (Input unit id origin code number conversation segments) = is_terminal system origin && is_code system code
 is_known system (Reply unit terminal number segments) = is_terminal system terminal
 is_known system (Acknowledged terminal number) = is_terminal system terminal
+is_known system (Command text) = option_map_or (names_known system) (command_in text) false
 is_known system r = is_image_of system r
 
 -- 19: each record is one of the log, names what is there, and leaves a state that breaks no rule

@@ -2,12 +2,16 @@
 use Rattle.std.proofs.Common.{◌≡◌, Bool, true, false, not, List, [], ◌∷◌, ◌++◌, ℕ, zero, suc, ◌+◌, ◌<◌, take, refl, sym, ◌∙◌, ap, subst, arith, Some}
 use Rattle.std.specs.Prelude.{if◌then◌else◌, ◌==◌, filter, Option}
 use Rattle.std.specs.List.{list_all}
-use Rattle.std.specs.Option.{is_some, option_and_then}
+use Rattle.std.specs.Option.{is_some, option_and_then, option_map_or}
 use Rattle.std.proofs.lemmas.Bool.{eq-eqb}
 use Rattle.std.proofs.lemmas.List.Elements.{filter-append}
 use Rattle.std.proofs.lemmas.List.{append-nil}
 use Rattle.tm_types.specs.declared.abend.AbendCode.{AbendCode}
+use Rattle.tm_types.specs.declared.command.LastingCommand.{LastingCommand}
 use Rattle.tm_types.specs.declared.message.Message.{Message}
+use Rattle.tm_types.specs.Commands.{name_in, spelling}
+use Rattle.tm_types.specs.Name.{IsName}
+use Rattle.tm_types.proofs.Commands.{spelled_read}
 use Rattle.tm_types.specs.declared.message.Reply.{Reply as KeptReply}
 use Rattle.model_conversation.specs.declared.conversation.PadChange.{PadChange}
 use Rattle.model_conversation.specs.declared.conversation.PadChange.TheVariants.{Stays, Ends}
@@ -17,16 +21,16 @@ use Rattle.model_system.specs.System.{System}
 use Rattle.model_machine.specs.declared.lasting.TerminalState.{TerminalState}
 use Rattle.model_machine.specs.Machine.{LastingState, terminal_at, message_at, output_at}
 use Rattle.model_machine.specs.Lasting.{applied, sent, kept_input, finished_by, with_pad_by, discarded_pad, abend_outputs}
-use Rattle.model_machine.specs.Lasting.LastingStep.{Accepts, Acknowledges, Completes, Discards}
+use Rattle.model_machine.specs.Lasting.LastingStep.{Accepts, Acknowledges, Completes, Discards, Commands}
 use Rattle.log_records.specs.declared.record.Record.{Record}
-use Rattle.log_records.specs.declared.record.Record.TheVariants.{Input, Reply, Discarded, Acknowledged, SyncPoint}
+use Rattle.log_records.specs.declared.record.Record.TheVariants.{Input, Command, Reply, Discarded, Acknowledged, SyncPoint}
 use Rattle.model_image.specs.States.{is_terminal, is_code, breaks_a_rule}
 use Rattle.model_image.specs.Slots.{is_image_of}
-use Rattle.model_image.specs.Replay.{Replay, is_of_unit, without_unit, with_lasting, syncs, is_known, replay_one, replay_all}
+use Rattle.model_image.specs.Replay.{Replay, is_of_unit, without_unit, with_lasting, syncs, names_known, is_known, replay_one, replay_all}
 use Rattle.step_records.specs.Records.{output_record, completion_records}
-use Rattle.model_image.proofs.Steps.{accepts_again, acknowledges_again, discards_again, completes_again}
+use Rattle.model_image.proofs.Steps.{accepts_again, acknowledges_again, commands_again, discards_again, completes_again}
 use Rattle.replay_law.specs.Sound.{Fits}
-use Rattle.replay_law.specs.Steps.{HasPads, IsFree, PadFits, takes_switched, has_receiver}
+use Rattle.replay_law.specs.Steps.{EndsNoneWaiting, HasPads, IsFree, PadFits, takes_switched, has_receiver}
 use Rattle.replay_law.specs.Records.{without_changes, waits}
 use Rattle.replay_law.proofs.Bools.{both, first_of, second_of}
 use Rattle.replay_law.proofs.Lists.{all_imply}
@@ -34,6 +38,7 @@ use Rattle.replay_law.proofs.SoundLaws.{breaks_none, is_sound}
 use Rattle.replay_law.proofs.Ordered.{below_next}
 use Rattle.replay_law.proofs.Kept.{Stands, stands, sound_where, origin_known, receivers_stay, finished_stands, acknowledged_stands}
 use Rattle.replay_law.proofs.Accepted.{accepted_stands}
+use Rattle.replay_law.proofs.Commanded.{commanded_stands}
 use Rattle.replay_law.proofs.Replayed.{all_take, keeps_all, drops_all, keeps_others, one_done, appended, all_wait, replay_more}
 
 -- one step more is counted
@@ -132,6 +137,17 @@ module _ (system : System) (lasting : LastingState) (waiting : List Record) (sou
       (one_done system (Acknowledged terminal reply.number) Before (After after) known
       (ap (with_lasting Before) (acknowledges_again lasting terminal reply found))
       (none_broken system after (counted_stands system (lasting.steps + 1) _ (acknowledged_stands system terminal lasting s)) fits))
+
+  -- a command is done
+  pub command_replayed : (command : LastingCommand) → IsName (name_in command) → names_known system command ≡ true → EndsNoneWaiting command lasting → Fits system (applied (Commands command) lasting) →
+      replay_all system (Command (spelling command) ∷ []) Before ≡ Some (After (applied (Commands command) lasting))
+  command_replayed command named known none fits =
+      let after = applied (Commands command) lasting in
+      alone (Command (spelling command)) (After after)
+      (one_done system (Command (spelling command)) Before (After after)
+      (ap (λ (o : Option LastingCommand). option_map_or (names_known system) o false) (spelled_read (spelling command) command (record { spelled = refl; named = named })) ∙ known)
+      (ap (with_lasting Before) (commands_again lasting command named))
+      (none_broken system after (counted_stands system (lasting.steps + 1) _ (commanded_stands system command lasting s none)) fits))
 
   module _ (id : ℕ) (message : Message) (found : message_at lasting.messages id ≡ Some message) where
     -- a message is discarded

@@ -5,6 +5,7 @@ pub mod Conversing
 pub mod Ordered
 pub mod Kept
 pub mod Accepted
+pub mod Commanded
 pub mod Replayed
 pub mod Laws
 pub mod Rows

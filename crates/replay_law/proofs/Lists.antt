@@ -1,7 +1,9 @@
 -- Tests of all elements and of one, over lists that change.
-use Rattle.std.proofs.Common.{◌≡◌, Bool, true, false, ◌||◌, List, [], ◌∷◌, ◌++◌, refl, sym, ◌∙◌, ap, Some}
-use Rattle.std.specs.Prelude.{if◌then◌else◌, filter, find}
+use Rattle.std.proofs.Common.{◌≡◌, ℕ, zero, suc, Bool, true, false, ◌||◌, List, [], ◌∷◌, ◌++◌, refl, sym, ◌∙◌, ap, Option, None, Some}
+use Rattle.std.specs.Prelude.{if◌then◌else◌, filter, find, slice_get, slice_set}
 use Rattle.std.specs.List.{list_all, list_any}
+use Rattle.std.specs.Option.{option_map_or}
+use Rattle.model_system.specs.Lists.{change_at}
 use Rattle.replay_law.proofs.Bools.{both, first_of, second_of, neither_first, neither_second}
 
 pub all_more : {X : Type 0} (p : X → Bool) (xs : List X) (x : X) → list_all p xs ≡ true → p x ≡ true → list_all p (xs ++ x ∷ []) ≡ true
@@ -47,3 +49,22 @@ found_is_one p test (y ∷ xs) x found is = by_test (test y) found (λ later. fo
     or_true : (b : Bool) → b || true ≡ true
     or_true true = refl
     or_true false = refl
+
+-- the element at a place passes a test that all pass
+pub passes_at : {X : Type 0} (p : X → Bool) (xs : List X) (place : ℕ) (x : X) → list_all p xs ≡ true → slice_get xs place ≡ Some x → p x ≡ true
+passes_at p [] place x all e = cc
+passes_at p (y ∷ xs) zero x all e = let same : y ≡ x = cc in ap p (sym same) ∙ first_of (p y) (list_all p xs) all
+passes_at p (y ∷ xs) (suc place) x all e = passes_at p xs place x (second_of (p y) (list_all p xs) all) e
+
+pub all_set : {X : Type 0} (p : X → Bool) (xs : List X) (place : ℕ) (x : X) → list_all p xs ≡ true → p x ≡ true → list_all p (slice_set xs place x) ≡ true
+all_set p [] place x all is = refl
+all_set p (y ∷ xs) zero x all is = both (p x) (list_all p xs) is (second_of (p y) (list_all p xs) all)
+all_set p (y ∷ xs) (suc place) x all is =
+    both (p y) (list_all p (slice_set xs place x)) (first_of (p y) (list_all p xs) all) (all_set p xs place x (second_of (p y) (list_all p xs) all) is)
+
+pub all_changed : {X : Type 0} (p : X → Bool) (xs : List X) (place : ℕ) (change : X → X) → list_all p xs ≡ true → ((x : X) → p x ≡ true → p (change x) ≡ true)
+    → list_all p (change_at xs (Some place) change) ≡ true
+all_changed {X} p xs place change all each = by (slice_get xs place) refl where
+  by : (found : Option X) → slice_get xs place ≡ found → list_all p (option_map_or (λ x. slice_set xs place (change x)) found xs) ≡ true
+  by None e = all
+  by (Some x) e = all_set p xs place (change x) all (each x (passes_at p xs place x all e))

@@ -2,6 +2,8 @@
 use Rattle.std.specs.Prelude.{◌≡◌, ℕ, ◌==◌, nat_le, Bool, true, false, ◌&&◌, ◌||◌, if◌then◌else◌, List, IsSome}
 use Rattle.std.specs.List.{list_all, list_any}
 use Rattle.std.specs.Option.{is_some, option_map_or}
+use Rattle.tm_types.specs.declared.command.LastingCommand.{LastingCommand}
+use Rattle.tm_types.specs.declared.command.LastingCommand.TheVariants.{Exit}
 use Rattle.tm_types.specs.declared.message.Message.{Message}
 use Rattle.model_conversation.specs.declared.conversation.PadChange.{PadChange}
 use Rattle.model_conversation.specs.declared.conversation.PadChange.TheVariants.{Stays, New, Ends}
@@ -45,3 +47,8 @@ PadFits system Ends message lasting = message.conversation ≡ true
 pub record IsFree (terminal : List ℕ) (lasting : LastingState) : Type 0 where
   pub place : IsSome (conversations.terminal_at terminal lasting.conversations)
   pub none : IsSome (conversations.conversation_at terminal lasting.conversations) → list_any (is_conversing terminal) lasting.messages ≡ false
+
+-- a command ends no conversation of which a message waits
+abbrev pub EndsNoneWaiting : LastingCommand → LastingState → Type 0
+EndsNoneWaiting (Exit terminal) lasting = list_any (is_conversing terminal) lasting.messages ≡ false
+EndsNoneWaiting _ lasting = Unit {0}

@@ -5,26 +5,8 @@ use Rattle.std.specs.List.{list_all}
 use Rattle.std.specs.Option.{option_map_or}
 use Rattle.std.proofs.lemmas.List.Sums.{sum_by-cons}
 use Rattle.model_system.specs.Lists.{change_at}
+pub use Rattle.replay_law.proofs.Lists.{passes_at, all_set, all_changed}
 use Rattle.replay_law.proofs.Bools.{both, first_of, second_of}
-
--- the element at a place passes a test that all pass
-pub passes_at : {X : Type 0} (p : X → Bool) (xs : List X) (place : ℕ) (x : X) → list_all p xs ≡ true → slice_get xs place ≡ Some x → p x ≡ true
-passes_at p [] place x all e = cc
-passes_at p (y ∷ xs) zero x all e = let same : y ≡ x = cc in ap p (sym same) ∙ first_of (p y) (list_all p xs) all
-passes_at p (y ∷ xs) (suc place) x all e = passes_at p xs place x (second_of (p y) (list_all p xs) all) e
-
-pub all_set : {X : Type 0} (p : X → Bool) (xs : List X) (place : ℕ) (x : X) → list_all p xs ≡ true → p x ≡ true → list_all p (slice_set xs place x) ≡ true
-all_set p [] place x all is = refl
-all_set p (y ∷ xs) zero x all is = both (p x) (list_all p xs) is (second_of (p y) (list_all p xs) all)
-all_set p (y ∷ xs) (suc place) x all is =
-    both (p y) (list_all p (slice_set xs place x)) (first_of (p y) (list_all p xs) all) (all_set p xs place x (second_of (p y) (list_all p xs) all) is)
-
-pub all_changed : {X : Type 0} (p : X → Bool) (xs : List X) (place : ℕ) (change : X → X) → list_all p xs ≡ true → ((x : X) → p x ≡ true → p (change x) ≡ true)
-    → list_all p (change_at xs (Some place) change) ≡ true
-all_changed {X} p xs place change all each = by (slice_get xs place) refl where
-  by : (found : Option X) → slice_get xs place ≡ found → list_all p (option_map_or (λ x. slice_set xs place (change x)) found xs) ≡ true
-  by None e = all
-  by (Some x) e = all_set p xs place (change x) all (each x (passes_at p xs place x all e))
 
 pub sum_set : {X : Type 0} (f : X → ℕ) (xs : List X) (place : ℕ) (x y : X) → slice_get xs place ≡ Some x → sum_by f (slice_set xs place y) + f x ≡ sum_by f xs + f y
 sum_set f [] place x y e = cc

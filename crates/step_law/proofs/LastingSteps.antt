@@ -7,6 +7,8 @@ use Rattle.std.proofs.lemmas.Bool.{eqb-true}
 use Rattle.std.proofs.lemmas.List.{length-append, take-append-le}
 use Rattle.tm_types.specs.declared.abend.AbendCode.{AbendCode}
 use Rattle.tm_types.specs.declared.dbd.Dbd.{Dbd}
+use Rattle.tm_types.specs.declared.command.LastingCommand.{LastingCommand}
+use Rattle.tm_types.specs.declared.command.LastingCommand.TheVariants.{StartTransaction, StopTransaction, StartTerminal, StopTerminal, DequeueFirst, DequeueAll, Exit}
 use Rattle.tm_types.specs.declared.message.Message.{Message}
 use Rattle.model_conversation.specs.declared.conversation.PadChange.{PadChange}
 use Rattle.model_conversation.specs.declared.conversation.PadChange.TheVariants.{Stays, New, Ends}
@@ -16,7 +18,7 @@ use Rattle.model_rows.specs.declared.row.Row.{Row}
 use Rattle.model_system.specs.System.{System}
 use Rattle.model_machine.specs.Machine.{LastingState, empty_state, output_at}
 use Rattle.model_machine.specs.Lasting.{LastingStep, applied, sent}
-use Rattle.model_machine.specs.Lasting.LastingStep.{Accepts, Acknowledges, Completes, Discards}
+use Rattle.model_machine.specs.Lasting.LastingStep.{Accepts, Acknowledges, Completes, Discards, Commands}
 use Rattle.log_records.specs.declared.record.Record.{Record}
 use Rattle.log_records.specs.declared.record.Record.TheVariants.{Input, Reply, Discarded, Acknowledged, SyncPoint}
 use Rattle.model_image.specs.Slots.{named_by}
@@ -24,17 +26,17 @@ use Rattle.step_records.specs.Records.{output_record, completion_records}
 use Rattle.model_image.specs.Replay.{replay_all}
 use Rattle.replay_law.specs.Records.{is_change}
 use Rattle.replay_law.specs.Sound.{Fits}
-use Rattle.replay_law.specs.Steps.{IsFree, PadFits}
+use Rattle.replay_law.specs.Steps.{EndsNoneWaiting, IsFree, PadFits}
 use Rattle.replay_law.proofs.Bools.{both}
 use Rattle.replay_law.proofs.Replayed.{all_take}
 use Rattle.replay_law.proofs.Rows.{with_rows, at_rows, rows_aside}
-use Rattle.replay_law.proofs.Laws.{accept_replayed, acknowledge_replayed, abend_replayed, completion_replayed, front_waits}
+use Rattle.replay_law.proofs.Laws.{accept_replayed, acknowledge_replayed, command_replayed, abend_replayed, completion_replayed, front_waits}
 use Rattle.slot_law.specs.Committed.{Touch, AreCommitted, without_touches, without_sync, synced}
 use Rattle.slot_law.proofs.Slots.{ended_keeps, sync_keeps}
 use Rattle.disk_law.specs.Life.{LifeOnDisk, IsLife, AreBeside, SpellRows, but_rows}
 use Rattle.disk_law.specs.Quiet.{is_quiet}
 use Rattle.step_law.specs.Steps.{done_to, Wait, IsTouched, IsStep}
-use Rattle.step_law.specs.Lasting.{input_of, input_record, accepting, MayAccept, acknowledging, MayAcknowledge, discarding, MayDiscard, completing, MayComplete}
+use Rattle.step_law.specs.Lasting.{input_of, input_record, accepting, MayAccept, acknowledging, MayAcknowledge, command_record, commanding, MayCommand, discarding, MayDiscard, completing, MayComplete}
 use Rattle.disk_law.proofs.Naming.{all_quiet_keep, named_stays}
 use Rattle.disk_law.proofs.Changing.{touched_named, without_life}
 
@@ -53,6 +55,15 @@ pad_aside : (system : System) (lines : List (List Row)) (pad : PadChange) (messa
 pad_aside system lines Stays message lasting f = f
 pad_aside system lines (New text) message lasting f = f
 pad_aside system lines Ends message lasting f = f
+
+ends_aside : (lines : List (List Row)) (command : LastingCommand) (lasting : LastingState) → EndsNoneWaiting command lasting → EndsNoneWaiting command (with_rows lines lasting)
+ends_aside lines (StartTransaction code) lasting none = tt
+ends_aside lines (StopTransaction code) lasting none = tt
+ends_aside lines (StartTerminal terminal) lasting none = tt
+ends_aside lines (StopTerminal terminal) lasting none = tt
+ends_aside lines (DequeueFirst terminal) lasting none = tt
+ends_aside lines (DequeueAll terminal) lasting none = tt
+ends_aside lines (Exit terminal) lasting none = none
 
 sent_aside : (lines : List (List Row)) (origin : List ℕ) (output : EndedMessage) (lasting : LastingState) (b : Bool) → is_some (output_at lasting.outputs output.to) ≡ b → sent origin output (with_rows lines lasting) ≡ with_rows lines (sent origin output lasting)
 sent_aside lines origin output lasting true is = rw is refl
@@ -124,6 +135,29 @@ module _ (terminal : List ℕ) (number : ℕ) (life : LifeOnDisk) (l : IsLife li
     carries = λ snapshot log c. all_quiet_keep snapshot life.may_sync life.touches life.committed log (Acknowledged terminal number ∷ []) refl c;
     others = λ snapshot log c d s none. refl;
     rows = l.rows;
+    slots = l.slots;
+    same = λ place number dbd found below is. (is, refl);
+    only = λ place number dbd found below is. inl is;
+  }
+
+module _ (command : LastingCommand) (life : LifeOnDisk) (l : IsLife life) (may : MayCommand command life) where
+  abbrev lines_e : List (List Row)
+  lines_e = (empty_state life.system).rows
+
+  -- a command is done
+  pub command_step : IsStep life (commanding command life)
+  command_step = record {
+    room = may.room;
+    steady = refl;
+    quiet = one_quiet (command_record command);
+    wait = one_waits life.system life.lasting (command_record command);
+    leads =
+        command_replayed life.system (but_rows life.system life.lasting) [] l.sound command may.named may.known (ends_aside lines_e command life.lasting may.none)
+        (fits_step life.system lines_e (Commands command) life.lasting may.fits)
+        ∙ sym (step_aside life.system (Commands command) life.lasting);
+    carries = λ snapshot log c. all_quiet_keep snapshot life.may_sync life.touches life.committed log (command_record command ∷ []) refl c;
+    others = λ snapshot log c d s none. refl;
+    rows = subst (SpellRows life.system life.committed) (sym (same_rows (Commands command) life.lasting refl)) l.rows;
     slots = l.slots;
     same = λ place number dbd found below is. (is, refl);
     only = λ place number dbd found below is. inl is;

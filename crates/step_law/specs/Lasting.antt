@@ -1,10 +1,14 @@
--- The lasting steps of a life: an input is accepted, a reply is acknowledged, a message is discarded or completed.
+-- The lasting steps of a life: an input is accepted, a reply is acknowledged, a command is done, a message is discarded or
+-- completed.
 use Rattle.std.specs.Prelude.{◌≡◌, ℕ, ◌+◌, ◌<◌, true, List, [], ◌∷◌, ◌++◌, Bool, Some}
 use Rattle.std.specs.List.{list_all}
 use Rattle.std.specs.Option.{is_some}
 use Rattle.tm_types.specs.declared.abend.AbendCode.{AbendCode}
+use Rattle.tm_types.specs.declared.command.LastingCommand.{LastingCommand}
 use Rattle.tm_types.specs.declared.message.Message.{Message}
 use Rattle.tm_types.specs.declared.message.Reply.{Reply as KeptReply}
+use Rattle.tm_types.specs.Commands as command_texts
+use Rattle.tm_types.specs.Name.{IsName}
 use Rattle.model_conversation.specs.declared.conversation.PadChange.{PadChange}
 use Rattle.model_queues.specs.Outputs.{next_of, reply_at}
 use Rattle.model_message.specs.declared.ended_message.EndedMessage.{EndedMessage}
@@ -12,13 +16,14 @@ use Rattle.model_rows.specs.declared.row.Row.{Row}
 use Rattle.model_machine.specs.declared.lasting.TerminalState.{TerminalState}
 use Rattle.model_machine.specs.Machine.{LastingState, terminal_at, message_at, output_at}
 use Rattle.model_machine.specs.Lasting.{KeptInput, kept_input, applied}
-use Rattle.model_machine.specs.Lasting.LastingStep.{Accepts, Acknowledges, Completes, Discards}
+use Rattle.model_machine.specs.Lasting.LastingStep.{Accepts, Acknowledges, Completes, Discards, Commands}
 use Rattle.log_records.specs.declared.record.Record.{Record}
-use Rattle.log_records.specs.declared.record.Record.TheVariants.{Input, Discarded, Acknowledged, SyncPoint}
+use Rattle.log_records.specs.declared.record.Record.TheVariants.{Input, Command, Discarded, Acknowledged, SyncPoint}
 use Rattle.model_image.specs.States.{is_terminal, is_code}
 use Rattle.step_records.specs.Records.{completion_records}
 use Rattle.replay_law.specs.Sound.{Fits}
-use Rattle.replay_law.specs.Steps.{HasPads, IsFree, PadFits, has_receiver}
+use Rattle.model_image.specs.Replay.{names_known}
+use Rattle.replay_law.specs.Steps.{EndsNoneWaiting, HasPads, IsFree, PadFits, has_receiver}
 use Rattle.slot_law.specs.Committed.{without_touches, without_sync, synced}
 use Rattle.disk_law.specs.Life.{LifeOnDisk, SpellRows}
 use Rattle.disk_law.specs.Changes.{put_back, MarksBack}
@@ -76,6 +81,22 @@ pub record MayAcknowledge (terminal : List ℕ) (number : ℕ) (life : LifeOnDis
   pub known : is_terminal life.system terminal ≡ true
   pub fits : Fits life.system (applied (Acknowledges terminal) life.lasting)
   pub room : HasRoomFor life (Acknowledged terminal number ∷ [])
+
+-- ---- a command is done
+
+abbrev pub command_record : LastingCommand → Record
+command_record command = Command (command_texts.spelling command)
+
+abbrev pub commanding : LastingCommand → LifeOnDisk → StepOnDisk
+commanding command life = beside_slots (command_record command ∷ []) (applied (Commands command) life.lasting) life
+
+-- It names a code or a terminal of the system, and ends no conversation of which a message waits.
+pub record MayCommand (command : LastingCommand) (life : LifeOnDisk) : Type 0 where
+  pub named : IsName (command_texts.name_in command)
+  pub known : names_known life.system command ≡ true
+  pub none : EndsNoneWaiting command life.lasting
+  pub fits : Fits life.system (applied (Commands command) life.lasting)
+  pub room : HasRoomFor life (command_record command ∷ [])
 
 -- ---- a message is discarded
 

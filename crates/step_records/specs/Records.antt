@@ -4,14 +4,15 @@ use Rattle.std.specs.List.{flat_map}
 use Rattle.std.specs.Option.{is_some, option_map_or}
 use Rattle.tm_types.specs.declared.abend.AbendCode.{AbendCode}
 use Rattle.tm_types.specs.declared.message.Message.{Message}
+use Rattle.tm_types.specs.Commands as commands
 use Rattle.model_conversation.specs.declared.conversation.PadChange.{PadChange}
 use Rattle.model_queues.specs.Outputs.{first_number, next_of}
 use Rattle.model_message.specs.declared.ended_message.EndedMessage.{EndedMessage}
 use Rattle.model_machine.specs.Machine.{LastingState, message_at, output_at}
 use Rattle.model_machine.specs.Lasting.{KeptInput, LastingStep, sent}
-use Rattle.model_machine.specs.Lasting.LastingStep.{Accepts, Acknowledges, Completes, Discards}
+use Rattle.model_machine.specs.Lasting.LastingStep.{Accepts, Acknowledges, Completes, Discards, Commands}
 use Rattle.log_records.specs.declared.record.Record.{Record}
-use Rattle.log_records.specs.declared.record.Record.TheVariants.{Input, Reply, Acknowledged, Completed, Discarded, SyncPoint}
+use Rattle.log_records.specs.declared.record.Record.TheVariants.{Input, Command, Reply, Acknowledged, Completed, Discarded, SyncPoint}
 use Rattle.log_records.specs.Spelling.{spelling}
 
 -- ---- a completion
@@ -59,6 +60,7 @@ step_records unit (Accepts terminal number kept) lasting = input_record terminal
 step_records unit (Acknowledges terminal) lasting = acknowledged_record terminal lasting ∷ []
 step_records unit (Completes id rows outputs pad) lasting = completed_by unit (message_at lasting.messages id) outputs pad lasting
 step_records unit (Discards id abend) lasting = discarded_by unit (message_at lasting.messages id) abend lasting
+step_records unit (Commands command) lasting = Command (commands.spelling command) ∷ []
 
 -- the bytes of these records
 abbrev pub step_bytes : ℕ → LastingStep → LastingState → List ℕ

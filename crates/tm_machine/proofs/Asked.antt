@@ -9,7 +9,7 @@ use Rattle.model_queues.specs.Queue.{free_count, messages_of}
 use Rattle.conversation.specs.declared.conversations.Busy.{Busy as BusyMessage}
 use Rattle.conversation.specs.Refusals.{input_answer as conversation_answer}
 use Rattle.model_conversation.specs.declared.conversation.Conversation.{Conversation}
-use Rattle.model_system.specs.Codes.{code_at}
+use Rattle.model_system.specs.Codes.{code_at, code_place}
 use Rattle.model_system.specs.declared.code.Code.{Code}
 use Rattle.model_system.specs.declared.code.SegmentKind.{SegmentKind}
 use Rattle.model_system.specs.declared.code.SegmentKind.TheVariants.{Multiple, Single}
@@ -19,7 +19,7 @@ use Rattle.system_types.proofs.Indexed.{found_at}
 use Rattle.model_machine.specs.declared.entry.Taken.{Taken}
 use Rattle.model_machine.specs.declared.entry.Taken.TheVariants.{New, Already}
 use Rattle.model_machine.specs.declared.entry.InputRefused.{InputRefused}
-use Rattle.model_machine.specs.declared.entry.InputRefused.TheVariants.{Terminal as NoTerminal, Expected, Conversation as Conversing, Code as NoCode, SegmentsOver, QueueFull, Fault}
+use Rattle.model_machine.specs.declared.entry.InputRefused.TheVariants.{Terminal as NoTerminal, StoppedTerminal, Expected, Conversation as Conversing, Code as NoCode, StoppedCode, SegmentsOver, QueueFull, Fault}
 use Rattle.model_machine.specs.declared.entry.Acked.{Acked}
 use Rattle.model_machine.specs.declared.entry.Acked.TheVariants.{Removed, Already as AckAlready}
 use Rattle.model_machine.specs.declared.entry.AckRefused.{AckRefused}
@@ -29,7 +29,7 @@ use Rattle.model_machine.specs.declared.lasting.TerminalState.{TerminalState}
 use Rattle.model_machine.specs.Machine.{Moment, terminal_at, terminal_place, output_at, moment_with}
 use Rattle.model_machine.specs.Lasting.{KeptInput, applied, code_word, kept_alone, kept_by, kept_by_code, kept_first, kept_input, without_word}
 use Rattle.model_machine.specs.Lasting.LastingStep.{Acknowledges}
-use Rattle.model_machine.specs.Steps.{Refusal, busy_by, first_of, by_number, by_count, most_segments, accepts, acknowledges, ack_by, input_answer, no_room}
+use Rattle.model_machine.specs.Steps.{Refusal, busy_by, first_of, by_number, by_count, most_segments, accepts, acknowledges, ack_by, input_answer, no_room, stopped_by, stopped_code}
 use Rattle.lasting_state.specs.Tables.{TablesState, lasting_of, IsAcknowledged}
 use Rattle.tm_machine.specs.declared.region.Busy.{Busy}
 use Rattle.tm_machine.specs.Answers.{IsAnswered, Answers}
@@ -128,19 +128,33 @@ idle_now (Some c) None code e = (refl, let same : code ≡ Some c.code = cc in s
 idle_now (Some c) (Some n) code e = cc
 
 -- ---- the answer of an input, by what was looked up
-abbrev pub answer_by : Option TerminalState → ℕ → Refusal → Option Code → ℕ → Refusal → ℕ → Result Taken InputRefused
-answer_by terminal number busy code count room next =
+abbrev pub answer_by : Option TerminalState → ℕ → Refusal → Option Code → Refusal → ℕ → Refusal → ℕ → Result Taken InputRefused
+answer_by terminal number busy code halted count room next =
     unwrap_or (first_of (
     (if is_some terminal then None else Some (Err NoTerminal))
+    ∷ (if option_map_or (λ t. t.stopped) terminal false then Some (Err StoppedTerminal) else None)
     ∷ option_and_then (λ t. by_number t.last number) terminal
     ∷ busy
     ∷ (if is_some code then None else Some (Err NoCode))
+    ∷ halted
     ∷ option_and_then (λ c. by_count (most_segments c.transaction.segment_kind) count) code
     ∷ room
     ∷ [])) (Ok (New next))
 
-pub no_terminal : (t : Option TerminalState) (number : ℕ) (busy : Refusal) (code : Option Code) (count : ℕ) (room : Refusal) (next : ℕ) → t ≡ None → Err NoTerminal ≡ answer_by t number busy code count room next
-no_terminal t number busy code count room next e = sym (ap (λ o. answer_by o number busy code count room next) e)
+pub no_terminal : (t : Option TerminalState) (number : ℕ) (busy : Refusal) (code : Option Code) (halted : Refusal) (count : ℕ) (room : Refusal) (next : ℕ) → t ≡ None → Err NoTerminal ≡ answer_by t number busy code halted count room next
+no_terminal t number busy code halted count room next e = sym (ap (λ o. answer_by o number busy code halted count room next) e)
+
+-- a terminal that isn't stopped has this number as its last
+abbrev pub IsRunning : ℕ → TerminalState → Type 0
+IsRunning last s = (last ≡ s.last) × (s.stopped ≡ false)
+
+pub stopped_terminal : (t : Option TerminalState) (number : ℕ) (busy : Refusal) (code : Option Code) (halted : Refusal) (count : ℕ) (room : Refusal) (next : ℕ)
+    → IsSomeAnd t (λ s. s.stopped ≡ true) → Err StoppedTerminal ≡ answer_by t number busy code halted count room next
+stopped_terminal (Some s) number busy code halted count room next is = step is
+  where
+    step : s.stopped ≡ true → Err StoppedTerminal ≡ answer_by (Some s) number busy code halted count room next
+    step h = rw h refl
+stopped_terminal None number busy code halted count room next is = absurd is
 
 not_new : (last number id : ℕ) → by_number last number ≡ Some (Ok (New id)) → ⊥
 not_new last number id e = by (nat_le number last) (nat_lt (last + 1) number) e
@@ -154,6 +168,8 @@ is_refusal : (right answer : Result Taken InputRefused) → answer ≡ right →
 is_refusal right (Ok (New id)) e other = absurd (other id refl)
 is_refusal right (Ok Already) e other = e
 is_refusal right (Err NoTerminal) e other = e
+is_refusal right (Err StoppedTerminal) e other = e
+is_refusal right (Err (StoppedCode code)) e other = e
 is_refusal right (Err (Expected next)) e other = e
 is_refusal right (Err (Conversing id)) e other = e
 is_refusal right (Err NoCode) e other = e
@@ -161,71 +177,85 @@ is_refusal right (Err (SegmentsOver count most)) e other = e
 is_refusal right (Err (QueueFull need limit)) e other = e
 is_refusal right (Err (Fault fault)) e other = tt
 
-pub numbered : (t : Option TerminalState) (last number : ℕ) (busy : Refusal) (code : Option Code) (count : ℕ) (room : Refusal) (next : ℕ) (answer : Result Taken InputRefused)
-    → IsSomeAnd t (λ s. last ≡ s.last) → Some answer ≡ by_number last number → IsRefusal (answer_by t number busy code count room next) answer
-numbered (Some s) last number busy code count room next answer same e =
-    let here : by_number s.last number ≡ Some answer = ap (λ n. by_number n number) (sym same) ∙ sym e in
-    is_refusal (answer_by (Some s) number busy code count room next) answer (sym (step here))
+pub numbered : (t : Option TerminalState) (last number : ℕ) (busy : Refusal) (code : Option Code) (halted : Refusal) (count : ℕ) (room : Refusal) (next : ℕ) (answer : Result Taken InputRefused)
+    → IsSomeAnd t (IsRunning last) → Some answer ≡ by_number last number → IsRefusal (answer_by t number busy code halted count room next) answer
+numbered (Some s) last number busy code halted count room next answer same e =
+    let here : by_number s.last number ≡ Some answer = ap (λ n. by_number n number) (sym same.0) ∙ sym e in
+    is_refusal (answer_by (Some s) number busy code halted count room next) answer (sym (step same.1 here))
     (λ id f. not_new last number id (sym e ∙ ap (λ a. Some a) f))
   where
-    step : by_number s.last number ≡ Some answer → answer_by (Some s) number busy code count room next ≡ answer
-    step h = rw h refl
-numbered None last number busy code count room next answer same e = absurd same
+    step : s.stopped ≡ false → by_number s.last number ≡ Some answer → answer_by (Some s) number busy code halted count room next ≡ answer
+    step u h = rw u (rw h refl)
+numbered None last number busy code halted count room next answer same e = absurd same
 
 -- an input whose number is the next one
-past_number : (t : Option TerminalState) (last number : ℕ) (busy : Refusal) (code : Option Code) (count : ℕ) (room : Refusal) (next : ℕ)
-    → IsSomeAnd t (λ s. last ≡ s.last) → None ≡ by_number last number
-    → answer_by t number busy code count room next
-    ≡ unwrap_or (first_of (busy ∷ (if is_some code then None else Some (Err NoCode)) ∷ option_and_then (λ c. by_count (most_segments c.transaction.segment_kind) count) code ∷ room ∷ [])) (Ok (New next))
-past_number (Some s) last number busy code count room next same e = step (ap (λ n. by_number n number) (sym same) ∙ sym e)
+past_number : (t : Option TerminalState) (last number : ℕ) (busy : Refusal) (code : Option Code) (halted : Refusal) (count : ℕ) (room : Refusal) (next : ℕ)
+    → IsSomeAnd t (IsRunning last) → None ≡ by_number last number
+    → answer_by t number busy code halted count room next
+    ≡ unwrap_or (first_of (busy ∷ (if is_some code then None else Some (Err NoCode)) ∷ halted ∷ option_and_then (λ c. by_count (most_segments c.transaction.segment_kind) count) code ∷ room ∷ [])) (Ok (New next))
+past_number (Some s) last number busy code halted count room next same e = step same.1 (ap (λ n. by_number n number) (sym same.0) ∙ sym e)
   where
-    step : by_number s.last number ≡ None → answer_by (Some s) number busy code count room next
-        ≡ unwrap_or (first_of (busy ∷ (if is_some code then None else Some (Err NoCode)) ∷ option_and_then (λ c. by_count (most_segments c.transaction.segment_kind) count) code ∷ room ∷ [])) (Ok (New next))
-    step h = rw h refl
-past_number None last number busy code count room next same e = absurd same
+    step : s.stopped ≡ false → by_number s.last number ≡ None → answer_by (Some s) number busy code halted count room next
+        ≡ unwrap_or (first_of (busy ∷ (if is_some code then None else Some (Err NoCode)) ∷ halted ∷ option_and_then (λ c. by_count (most_segments c.transaction.segment_kind) count) code ∷ room ∷ [])) (Ok (New next))
+    step u h = rw u (rw h refl)
+past_number None last number busy code halted count room next same e = absurd same
 
-pub conversing_still : (t : Option TerminalState) (last number : ℕ) (busy : Refusal) (code : Option Code) (count : ℕ) (room : Refusal) (next id : ℕ)
-    → IsSomeAnd t (λ s. last ≡ s.last) → None ≡ by_number last number → busy ≡ Some (Err (Conversing id)) → Err (Conversing id) ≡ answer_by t number busy code count room next
-conversing_still t last number busy code count room next id same e now =
-    sym (past_number t last number busy code count room next same e
-    ∙ ap (λ b. unwrap_or (first_of (b ∷ (if is_some code then None else Some (Err NoCode)) ∷ option_and_then (λ c. by_count (most_segments c.transaction.segment_kind) count) code ∷ room ∷ [])) (Ok (New next))) now)
+pub conversing_still : (t : Option TerminalState) (last number : ℕ) (busy : Refusal) (code : Option Code) (halted : Refusal) (count : ℕ) (room : Refusal) (next id : ℕ)
+    → IsSomeAnd t (IsRunning last) → None ≡ by_number last number → busy ≡ Some (Err (Conversing id)) → Err (Conversing id) ≡ answer_by t number busy code halted count room next
+conversing_still t last number busy code halted count room next id same e now =
+    sym (past_number t last number busy code halted count room next same e
+    ∙ ap (λ b. unwrap_or (first_of (b ∷ (if is_some code then None else Some (Err NoCode)) ∷ halted ∷ option_and_then (λ c. by_count (most_segments c.transaction.segment_kind) count) code ∷ room ∷ [])) (Ok (New next))) now)
 
 -- and whose terminal's conversation isn't busy
-past_busy : (t : Option TerminalState) (last number : ℕ) (busy : Refusal) (code : Option Code) (count : ℕ) (room : Refusal) (next : ℕ)
-    → IsSomeAnd t (λ s. last ≡ s.last) → None ≡ by_number last number → busy ≡ None
-    → answer_by t number busy code count room next
-    ≡ unwrap_or (first_of ((if is_some code then None else Some (Err NoCode)) ∷ option_and_then (λ c. by_count (most_segments c.transaction.segment_kind) count) code ∷ room ∷ [])) (Ok (New next))
-past_busy t last number busy code count room next same e idle =
-    past_number t last number busy code count room next same e
-    ∙ ap (λ b. unwrap_or (first_of (b ∷ (if is_some code then None else Some (Err NoCode)) ∷ option_and_then (λ c. by_count (most_segments c.transaction.segment_kind) count) code ∷ room ∷ [])) (Ok (New next))) idle
+past_busy : (t : Option TerminalState) (last number : ℕ) (busy : Refusal) (code : Option Code) (halted : Refusal) (count : ℕ) (room : Refusal) (next : ℕ)
+    → IsSomeAnd t (IsRunning last) → None ≡ by_number last number → busy ≡ None
+    → answer_by t number busy code halted count room next
+    ≡ unwrap_or (first_of ((if is_some code then None else Some (Err NoCode)) ∷ halted ∷ option_and_then (λ c. by_count (most_segments c.transaction.segment_kind) count) code ∷ room ∷ [])) (Ok (New next))
+past_busy t last number busy code halted count room next same e idle =
+    past_number t last number busy code halted count room next same e
+    ∙ ap (λ b. unwrap_or (first_of (b ∷ (if is_some code then None else Some (Err NoCode)) ∷ halted ∷ option_and_then (λ c. by_count (most_segments c.transaction.segment_kind) count) code ∷ room ∷ [])) (Ok (New next))) idle
 
-pub no_code : (t : Option TerminalState) (last number : ℕ) (busy : Refusal) (code : Option Code) (count : ℕ) (room : Refusal) (next : ℕ)
-    → IsSomeAnd t (λ s. last ≡ s.last) → None ≡ by_number last number → busy ≡ None → code ≡ None → Err NoCode ≡ answer_by t number busy code count room next
-no_code t last number busy code count room next same e idle none =
-    sym (past_busy t last number busy code count room next same e idle
-    ∙ ap (λ c. unwrap_or (first_of ((if is_some c then None else Some (Err NoCode)) ∷ option_and_then (λ k. by_count (most_segments k.transaction.segment_kind) count) c ∷ room ∷ [])) (Ok (New next))) none)
+pub no_code : (t : Option TerminalState) (last number : ℕ) (busy : Refusal) (code : Option Code) (halted : Refusal) (count : ℕ) (room : Refusal) (next : ℕ)
+    → IsSomeAnd t (IsRunning last) → None ≡ by_number last number → busy ≡ None → code ≡ None → Err NoCode ≡ answer_by t number busy code halted count room next
+no_code t last number busy code halted count room next same e idle none =
+    sym (past_busy t last number busy code halted count room next same e idle
+    ∙ ap (λ c. unwrap_or (first_of ((if is_some c then None else Some (Err NoCode)) ∷ halted ∷ option_and_then (λ k. by_count (most_segments k.transaction.segment_kind) count) c ∷ room ∷ [])) (Ok (New next))) none)
 
-counted_by : (t : Option TerminalState) (last number : ℕ) (busy : Refusal) (code : Option Code) (found : Code) (count : ℕ) (room : Refusal) (next : ℕ)
-    → IsSomeAnd t (λ s. last ≡ s.last) → None ≡ by_number last number → busy ≡ None → code ≡ Some found
-    → answer_by t number busy code count room next ≡ unwrap_or (first_of (by_count (most_segments found.transaction.segment_kind) count ∷ room ∷ [])) (Ok (New next))
-counted_by t last number busy code found count room next same e idle there =
-    past_busy t last number busy code count room next same e idle
-    ∙ ap (λ c. unwrap_or (first_of ((if is_some c then None else Some (Err NoCode)) ∷ option_and_then (λ k. by_count (most_segments k.transaction.segment_kind) count) c ∷ room ∷ [])) (Ok (New next))) there
+coded_by : (t : Option TerminalState) (last number : ℕ) (busy : Refusal) (code : Option Code) (found : Code) (halted : Refusal) (count : ℕ) (room : Refusal) (next : ℕ)
+    → IsSomeAnd t (IsRunning last) → None ≡ by_number last number → busy ≡ None → code ≡ Some found
+    → answer_by t number busy code halted count room next ≡ unwrap_or (first_of (halted ∷ by_count (most_segments found.transaction.segment_kind) count ∷ room ∷ [])) (Ok (New next))
+coded_by t last number busy code found halted count room next same e idle there =
+    past_busy t last number busy code halted count room next same e idle
+    ∙ ap (λ c. unwrap_or (first_of ((if is_some c then None else Some (Err NoCode)) ∷ halted ∷ option_and_then (λ k. by_count (most_segments k.transaction.segment_kind) count) c ∷ room ∷ [])) (Ok (New next))) there
 
-pub many : (t : Option TerminalState) (last number : ℕ) (busy : Refusal) (code : Option Code) (found : Code) (count : ℕ) (room : Refusal) (next most size : ℕ)
-    → IsSomeAnd t (λ s. last ≡ s.last) → None ≡ by_number last number → busy ≡ None → code ≡ Some found → most ≡ most_segments found.transaction.segment_kind → size ≡ count → most < size
-    → Err (SegmentsOver size most) ≡ answer_by t number busy code count room next
-many t last number busy code found count room next most size same e idle there m s over =
-    sym (counted_by t last number busy code found count room next same e idle there
+pub stopped_code_is : (t : Option TerminalState) (last number : ℕ) (busy : Refusal) (code : Option Code) (found : Code) (halted : Refusal) (count : ℕ) (room : Refusal) (next : ℕ) (name : List ℕ)
+    → IsSomeAnd t (IsRunning last) → None ≡ by_number last number → busy ≡ None → code ≡ Some found → halted ≡ Some (Err (StoppedCode name))
+    → Err (StoppedCode name) ≡ answer_by t number busy code halted count room next
+stopped_code_is t last number busy code found halted count room next name same e idle there stops =
+    sym (coded_by t last number busy code found halted count room next same e idle there
+    ∙ ap (λ h. unwrap_or (first_of (h ∷ by_count (most_segments found.transaction.segment_kind) count ∷ room ∷ [])) (Ok (New next))) stops)
+
+counted_by : (t : Option TerminalState) (last number : ℕ) (busy : Refusal) (code : Option Code) (found : Code) (halted : Refusal) (count : ℕ) (room : Refusal) (next : ℕ)
+    → IsSomeAnd t (IsRunning last) → None ≡ by_number last number → busy ≡ None → code ≡ Some found → halted ≡ None
+    → answer_by t number busy code halted count room next ≡ unwrap_or (first_of (by_count (most_segments found.transaction.segment_kind) count ∷ room ∷ [])) (Ok (New next))
+counted_by t last number busy code found halted count room next same e idle there runs =
+    coded_by t last number busy code found halted count room next same e idle there
+    ∙ ap (λ h. unwrap_or (first_of (h ∷ by_count (most_segments found.transaction.segment_kind) count ∷ room ∷ [])) (Ok (New next))) runs
+
+pub many : (t : Option TerminalState) (last number : ℕ) (busy : Refusal) (code : Option Code) (found : Code) (halted : Refusal) (count : ℕ) (room : Refusal) (next most size : ℕ)
+    → IsSomeAnd t (IsRunning last) → None ≡ by_number last number → busy ≡ None → code ≡ Some found → halted ≡ None → most ≡ most_segments found.transaction.segment_kind → size ≡ count → most < size
+    → Err (SegmentsOver size most) ≡ answer_by t number busy code halted count room next
+many t last number busy code found halted count room next most size same e idle there runs m s over =
+    sym (counted_by t last number busy code found halted count room next same e idle there runs
     ∙ ap (λ n. unwrap_or (first_of (by_count n count ∷ room ∷ [])) (Ok (New next))) (sym m)
     ∙ ap (λ n. unwrap_or (first_of (by_count most n ∷ room ∷ [])) (Ok (New next))) (sym s)
     ∙ ap (λ b. unwrap_or (first_of ((if b then Some (Err (SegmentsOver size most)) else None) ∷ room ∷ [])) (Ok (New next))) (lt-ltb most size over)) ∙ refl
 
-pub room_left : (t : Option TerminalState) (last number : ℕ) (busy : Refusal) (code : Option Code) (found : Code) (count : ℕ) (room : Refusal) (next most size : ℕ)
-    → IsSomeAnd t (λ s. last ≡ s.last) → None ≡ by_number last number → busy ≡ None → code ≡ Some found → most ≡ most_segments found.transaction.segment_kind → size ≡ count → size ≤ most
-    → answer_by t number busy code count room next ≡ unwrap_or room (Ok (New next))
-room_left t last number busy code found count room next most size same e idle there m s fits =
-    counted_by t last number busy code found count room next same e idle there
+pub room_left : (t : Option TerminalState) (last number : ℕ) (busy : Refusal) (code : Option Code) (found : Code) (halted : Refusal) (count : ℕ) (room : Refusal) (next most size : ℕ)
+    → IsSomeAnd t (IsRunning last) → None ≡ by_number last number → busy ≡ None → code ≡ Some found → halted ≡ None → most ≡ most_segments found.transaction.segment_kind → size ≡ count → size ≤ most
+    → answer_by t number busy code halted count room next ≡ unwrap_or room (Ok (New next))
+room_left t last number busy code found halted count room next most size same e idle there runs m s fits =
+    counted_by t last number busy code found halted count room next same e idle there runs
     ∙ ap (λ n. unwrap_or (first_of (by_count n count ∷ room ∷ [])) (Ok (New next))) (sym m)
     ∙ ap (λ n. unwrap_or (first_of (by_count most n ∷ room ∷ [])) (Ok (New next))) (sym s)
     ∙ ap (λ b. unwrap_or (first_of ((if b then Some (Err (SegmentsOver size most)) else None) ∷ room ∷ [])) (Ok (New next))) (le-ltb most size fits)
@@ -258,6 +288,8 @@ module _ (system : System) (tables : TablesState) (states : List CodeState) (reg
   refused_input terminal number segments (Ok (New id)) some h = absurd h
   refused_input terminal number segments (Ok Already) some h = answered terminal number segments (Ok Already) some h refl
   refused_input terminal number segments (Err NoTerminal) some h = answered terminal number segments (Err NoTerminal) some h refl
+  refused_input terminal number segments (Err StoppedTerminal) some h = answered terminal number segments (Err StoppedTerminal) some h refl
+  refused_input terminal number segments (Err (StoppedCode code)) some h = answered terminal number segments (Err (StoppedCode code)) some h refl
   refused_input terminal number segments (Err (Expected next)) some h = answered terminal number segments (Err (Expected next)) some h refl
   refused_input terminal number segments (Err (Conversing id)) some h = answered terminal number segments (Err (Conversing id)) some h refl
   refused_input terminal number segments (Err NoCode) some h = answered terminal number segments (Err NoCode) some h refl
@@ -339,6 +371,9 @@ module _ (system : System) (tables : TablesState) (states : List CodeState) (reg
   abbrev room_here : Refusal
   room_here = no_room system moment_here kept_here.segments
 
+  abbrev halted_here : Refusal
+  halted_here = stopped_code system moment_here kept_here.code
+
   abbrev terminal_here : Option TerminalState
   terminal_here = terminal_at tables.terminals terminal
 
@@ -347,21 +382,38 @@ module _ (system : System) (tables : TablesState) (states : List CodeState) (reg
 
   pub unknown_input : None ≡ place_here → Err NoTerminal ≡ input_answer system moment_here terminal number segments
   unknown_input none =
-      no_terminal terminal_here number (busy_by conversation_here busy_here) (code_at system.codes kept_here.code) (length kept_here.segments) room_here tables.next_id
+      no_terminal terminal_here number (busy_by conversation_here busy_here) (code_at system.codes kept_here.code) halted_here (length kept_here.segments) room_here tables.next_id
       (at_place tables.terminals terminal None (sym (place_is tables.terminals system.terminals terminal parts.names) ∙ sym none))
 
-  module _ (place : ℕ) (at : Some place ≡ place_here) (last : ℕ) (is : IsSomeAnd (slice_get tables.terminals place) (λ s. last ≡ s.last)) where
-    there : IsSomeAnd terminal_here (λ s. last ≡ s.last)
-    there = subst (λ o. IsSomeAnd o (λ s. last ≡ s.last)) (sym (at_place tables.terminals terminal (Some place) (sym (place_is tables.terminals system.terminals terminal parts.names) ∙ sym at))) is
+  at_here : (place : ℕ) → Some place ≡ place_here → terminal_here ≡ slice_get tables.terminals place
+  at_here place at = at_place tables.terminals terminal (Some place) (sym (place_is tables.terminals system.terminals terminal parts.names) ∙ sym at)
+
+  pub stopped_input : (place : ℕ) → Some place ≡ place_here → (stopped : Bool) → IsSomeAnd (slice_get tables.terminals place) (λ s. stopped ≡ s.stopped) → stopped ≡ true
+      → Err StoppedTerminal ≡ input_answer system moment_here terminal number segments
+  stopped_input place at stopped is stops =
+      stopped_terminal terminal_here number (busy_by conversation_here busy_here) (code_at system.codes kept_here.code) halted_here (length kept_here.segments) room_here tables.next_id
+      (subst (λ o. IsSomeAnd o (λ s. s.stopped ≡ true)) (sym (at_here place at)) (both_known (slice_get tables.terminals place) is)) where
+        both_known : (o : Option TerminalState) → IsSomeAnd o (λ s. stopped ≡ s.stopped) → IsSomeAnd o (λ s. s.stopped ≡ true)
+        both_known (Some s) h = sym h ∙ stops
+        both_known None h = absurd h
+
+  module _ (place : ℕ) (at : Some place ≡ place_here) (stopped : Bool) (known : IsSomeAnd (slice_get tables.terminals place) (λ s. stopped ≡ s.stopped)) (runs : stopped ≡ false)
+      (last : ℕ) (is : IsSomeAnd (slice_get tables.terminals place) (λ s. last ≡ s.last)) where
+    both_known : (o : Option TerminalState) → IsSomeAnd o (λ s. stopped ≡ s.stopped) → IsSomeAnd o (λ s. last ≡ s.last) → IsSomeAnd o (IsRunning last)
+    both_known (Some s) h k = (k, sym h ∙ runs)
+    both_known None h k = absurd h
+
+    there : IsSomeAnd terminal_here (IsRunning last)
+    there = subst (λ o. IsSomeAnd o (IsRunning last)) (sym (at_here place at)) (both_known (slice_get tables.terminals place) known is)
 
     pub numbered_input : (answer : Result Taken InputRefused) → Some answer ≡ by_number last number → IsRefusal (input_answer system moment_here terminal number segments) answer
     numbered_input answer says =
-        numbered terminal_here last number (busy_by conversation_here busy_here) (code_at system.codes kept_here.code) (length kept_here.segments) room_here tables.next_id answer there says
+        numbered terminal_here last number (busy_by conversation_here busy_here) (code_at system.codes kept_here.code) halted_here (length kept_here.segments) room_here tables.next_id answer there says
 
     module _ (next : None ≡ by_number last number) where
       pub busy_input : (id : ℕ) → Err (record { id = id }) ≡ conversation_answer conversation_here busy_here → Err (Conversing id) ≡ input_answer system moment_here terminal number segments
       busy_input id says =
-          conversing_still terminal_here last number (busy_by conversation_here busy_here) (code_at system.codes kept_here.code) (length kept_here.segments) room_here tables.next_id id there next
+          conversing_still terminal_here last number (busy_by conversation_here busy_here) (code_at system.codes kept_here.code) halted_here (length kept_here.segments) room_here tables.next_id id there next
           (busy_now conversation_here busy_here id says)
 
       module _ (conversation : Option (List ℕ)) (says : Ok conversation ≡ conversation_answer conversation_here busy_here) where
@@ -376,22 +428,42 @@ module _ (system : System) (tables : TablesState) (states : List CodeState) (reg
 
         pub uncoded_input : None ≡ code_at system.codes (code_for conversation segments) → Err NoCode ≡ input_answer system moment_here terminal number segments
         uncoded_input none =
-            no_code terminal_here last number (busy_by conversation_here busy_here) (code_at system.codes kept_here.code) (length kept_here.segments) room_here tables.next_id there next idle
+            no_code terminal_here last number (busy_by conversation_here busy_here) (code_at system.codes kept_here.code) halted_here (length kept_here.segments) room_here tables.next_id there next idle
             (ap (code_at system.codes) goes ∙ sym none)
 
-        module _ (found : Code) (coded : Some found ≡ code_at system.codes (code_for conversation segments)) (most size : ℕ) (limit : most ≡ most_segments found.transaction.segment_kind)
+        -- the code that was found is stopped
+        module _ (found : Code) (coded : Some found ≡ code_at system.codes (code_for conversation segments)) (name : List ℕ) (named_so : name ≡ found.transaction.code)
+            (goes_to : found.transaction.code ≡ code_for conversation segments) (halted : Bool) (told : halted ≡ option_map_or (λ s. s.stopped) (option_and_then (slice_get states) (code_place system.codes name)) false) where
+          is_named : name ≡ kept_here.code
+          is_named = named_so ∙ goes_to ∙ sym goes
+
+          pub halts : halted_here ≡ (if halted then Some (Err (StoppedCode name)) else None)
+          halts =
+              ap (λ k. stopped_code system moment_here k) (sym is_named)
+              ∙ ap (λ ss. stopped_by name (option_and_then (slice_get ss) (code_place system.codes name))) (states_are states)
+              ∙ ap (λ b. if b then Some (Err (StoppedCode name)) else None) (sym told)
+
+          pub halted_input : halted ≡ true → Err (StoppedCode name) ≡ input_answer system moment_here terminal number segments
+          halted_input stops =
+              stopped_code_is terminal_here last number (busy_by conversation_here busy_here) (code_at system.codes kept_here.code) found halted_here (length kept_here.segments) room_here tables.next_id name there next idle
+              (ap (code_at system.codes) goes ∙ sym coded) (halts ∙ ap (λ b. if b then Some (Err (StoppedCode name)) else None) stops)
+
+          pub not_halted : halted ≡ false → halted_here ≡ None
+          not_halted starts = halts ∙ ap (λ b. if b then Some (Err (StoppedCode name)) else None) starts
+
+        module _ (found : Code) (coded : Some found ≡ code_at system.codes (code_for conversation segments)) (free_code : halted_here ≡ None) (most size : ℕ) (limit : most ≡ most_segments found.transaction.segment_kind)
             (count : size ≡ length segments) where
           pub many_input : most < size → Err (SegmentsOver size most) ≡ input_answer system moment_here terminal number segments
           many_input over =
-              many terminal_here last number (busy_by conversation_here busy_here) (code_at system.codes kept_here.code) found (length kept_here.segments) room_here tables.next_id most size there next idle
-              (ap (code_at system.codes) goes ∙ sym coded) limit (count ∙ sym (kept_count system conversation_here segments)) over
+              many terminal_here last number (busy_by conversation_here busy_here) (code_at system.codes kept_here.code) found halted_here (length kept_here.segments) room_here tables.next_id most size there next idle
+              (ap (code_at system.codes) goes ∙ sym coded) free_code limit (count ∙ sym (kept_count system conversation_here segments)) over
 
           pub new_input : size ≤ most → (input : NewInput) → input.place ≡ place → place < length system.terminals → input.way ≡ way_by conversation found.transaction.scratch_pad
               → input.code ≡ found.transaction.code → found.transaction.code ≡ code_for conversation segments → IsName input.code
               → IsNewInput (record { system = system; moment = moment_here }) terminal number segments input
           new_input fits input placed within way code named name = record {
-            answer = room_left terminal_here last number (busy_by conversation_here busy_here) (code_at system.codes kept_here.code) found (length kept_here.segments) room_here tables.next_id most size there next idle
-                (ap (code_at system.codes) goes ∙ sym coded) limit (count ∙ sym (kept_count system conversation_here segments)) fits;
+            answer = room_left terminal_here last number (busy_by conversation_here busy_here) (code_at system.codes kept_here.code) found halted_here (length kept_here.segments) room_here tables.next_id most size there next idle
+                (ap (code_at system.codes) goes ∙ sym coded) free_code limit (count ∙ sym (kept_count system conversation_here segments)) fits;
             place = sym (place_is tables.terminals system.terminals terminal parts.names) ∙ sym at ∙ ap (λ p. Some p) (sym placed);
             within = subst (λ p. p < length tables.terminals) (sym placed) (subst (λ n. place < n) (ap length (sym parts.names) ∙ length_map (λ (t : TerminalState). t.name) tables.terminals) within);
             kept =

@@ -13,15 +13,20 @@ pub returns-in_default-clause-refused : goal.returns-in_default-clause-refused
 returns-in_default-clause-refused c =
     rw (sym c.self.view_is) (unknown_input c.self.inside.system c.self.inside.tables c.self.inside.codes c.self.inside.regions.items c.self.invariant c.args.terminal.now c.args.number c.args.segments.now c.in_default.ensures.value)
 
+pub returns-then-is_stopped-clause-refused : goal.returns-then-is_stopped-clause-refused
+returns-then-is_stopped-clause-refused c =
+    rw (sym c.self.view_is) (stopped_input c.self.inside.system c.self.inside.tables c.self.inside.codes c.self.inside.regions.items c.self.invariant c.args.terminal.now c.args.number c.args.segments.now
+    c.in-Some.place c.in-Some.ensures.value c.is_stopped.result c.is_stopped.ensures c.if-is_stopped.true)
+
 pub returns-in-Some-by_number-clause-refused : goal.returns-in-Some-by_number-clause-refused
 returns-in-Some-by_number-clause-refused c =
     rw (sym c.self.view_is) (numbered_input c.self.inside.system c.self.inside.tables c.self.inside.codes c.self.inside.regions.items c.self.invariant c.args.terminal.now c.args.number c.args.segments.now
-    c.in-Some.place c.in-Some.ensures.value c.last_input.result c.last_input.ensures c.in-Some-by_number.answer c.in-Some-by_number.ensures)
+    c.in-Some.place c.in-Some.ensures.value c.is_stopped.result c.is_stopped.ensures c.if-is_stopped.false c.last_input.result c.last_input.ensures c.in-Some-by_number.answer c.in-Some-by_number.ensures)
 
 pub returns-in-Err-clause-refused : goal.returns-in-Err-clause-refused
 returns-in-Err-clause-refused c =
     rw (sym c.self.view_is) (busy_input c.self.inside.system c.self.inside.tables c.self.inside.codes c.self.inside.regions.items c.self.invariant c.args.terminal.now c.args.number c.args.segments.now
-    c.in-Some.place c.in-Some.ensures.value c.last_input.result c.last_input.ensures c.in_default-by_number.ensures c.in-Err.field-0.id
+    c.in-Some.place c.in-Some.ensures.value c.is_stopped.result c.is_stopped.ensures c.if-is_stopped.false c.last_input.result c.last_input.ensures c.in_default-by_number.ensures c.in-Err.field-0.id
     (c.in-Err.ensures ∙ ap (λ cs. conversation_answer (conversation_at c.args.terminal.now cs) (busy_id c.args.terminal.now (messages_of c.queues.result.now.queued))) c.conversations.ensures
     ∙ ap (λ q. conversation_answer (conversation_at c.args.terminal.now c.self.inside.tables.conversations) (busy_id c.args.terminal.now (messages_of q.queued))) c.queues.ensures))
 
@@ -31,7 +36,7 @@ returns-in_default-code_for-clause-refused c =
     c.in-Ok.ensures ∙ ap (λ cs. conversation_answer (conversation_at c.args.terminal.now cs) (busy_id c.args.terminal.now (messages_of c.queues.result.now.queued))) c.conversations.ensures
     ∙ ap (λ q. conversation_answer (conversation_at c.args.terminal.now c.self.inside.tables.conversations) (busy_id c.args.terminal.now (messages_of q.queued))) c.queues.ensures in
     rw (sym c.self.view_is) (uncoded_input c.self.inside.system c.self.inside.tables c.self.inside.codes c.self.inside.regions.items c.self.invariant c.args.terminal.now c.args.number c.args.segments.now
-    c.in-Some.place c.in-Some.ensures.value c.last_input.result c.last_input.ensures c.in_default-by_number.ensures c.in-Ok.conversation says
+    c.in-Some.place c.in-Some.ensures.value c.is_stopped.result c.is_stopped.ensures c.if-is_stopped.false c.last_input.result c.last_input.ensures c.in_default-by_number.ensures c.in-Ok.conversation says
     (c.in_default-code_for.ensures.value ∙ ap (λ k. code_at k (code_for c.in-Ok.conversation c.args.segments.now)) c.codes.ensures.value))
 
 pub returns-then-count-most-clause-refused : goal.returns-then-count-most-clause-refused
@@ -40,7 +45,7 @@ returns-then-count-most-clause-refused c =
     c.in-Ok.ensures ∙ ap (λ cs. conversation_answer (conversation_at c.args.terminal.now cs) (busy_id c.args.terminal.now (messages_of c.queues.result.now.queued))) c.conversations.ensures
     ∙ ap (λ q. conversation_answer (conversation_at c.args.terminal.now c.self.inside.tables.conversations) (busy_id c.args.terminal.now (messages_of q.queued))) c.queues.ensures in
     rw (sym c.self.view_is) (many_input c.self.inside.system c.self.inside.tables c.self.inside.codes c.self.inside.regions.items c.self.invariant c.args.terminal.now c.args.number c.args.segments.now
-    c.in-Some.place c.in-Some.ensures.value c.last_input.result c.last_input.ensures c.in_default-by_number.ensures c.in-Ok.conversation says c.in-Some-code_for.code.now
+    c.in-Some.place c.in-Some.ensures.value c.is_stopped.result c.is_stopped.ensures c.if-is_stopped.false c.last_input.result c.last_input.ensures c.in_default-by_number.ensures c.in-Ok.conversation says c.in-Some-code_for.code.now
     (c.in-Some-code_for.ensures.value ∙ ap (λ k. code_at k (code_for c.in-Ok.conversation c.args.segments.now)) c.codes.ensures.value) c.most_segments-most.result c.in-Ok-try_from.count c.most_segments-most.ensures (search rules)
     c.if-count-most.true)
 
@@ -50,7 +55,7 @@ returns-clause-new c =
     c.in-Ok.ensures ∙ ap (λ cs. conversation_answer (conversation_at c.args.terminal.now cs) (busy_id c.args.terminal.now (messages_of c.queues.result.now.queued))) c.conversations.ensures
     ∙ ap (λ q. conversation_answer (conversation_at c.args.terminal.now c.self.inside.tables.conversations) (busy_id c.args.terminal.now (messages_of q.queued))) c.queues.ensures in
     rw (sym c.self.view_is) (new_input c.self.inside.system c.self.inside.tables c.self.inside.codes c.self.inside.regions.items c.self.invariant c.args.terminal.now c.args.number c.args.segments.now
-    c.in-Some.place c.in-Some.ensures.value c.last_input.result c.last_input.ensures c.in_default-by_number.ensures c.in-Ok.conversation says c.in-Some-code_for.code.now
+    c.in-Some.place c.in-Some.ensures.value c.is_stopped.result c.is_stopped.ensures c.if-is_stopped.false c.last_input.result c.last_input.ensures c.in_default-by_number.ensures c.in-Ok.conversation says c.in-Some-code_for.code.now
     (c.in-Some-code_for.ensures.value ∙ ap (λ k. code_at k (code_for c.in-Ok.conversation c.args.segments.now)) c.codes.ensures.value) c.most_segments-most.result c.in-Ok-try_from.count c.most_segments-most.ensures (search rules)
     c.if-count-most.false (record { place = c.in-Some.place; code = c.named-code.result; way = c.way_by-way.result }) refl c.in-Some.ensures.within c.way_by-way.ensures c.named-code.ensures.value
     c.in-Some-code_for.ensures.named c.named-code.ensures.name)
