@@ -9,6 +9,8 @@ pub enum Shown<'a> {
     Reply(&'a Reply),
     /// No reply is kept.
     Empty,
+    /// The terminal is stopped.
+    Stopped,
     /// No terminal has this name.
     Unknown,
 }

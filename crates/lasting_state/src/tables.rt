@@ -102,6 +102,14 @@ impl Tables {
         self.queues.content() + self.outputs.content()
     }
 
+    /// Whether the terminal at a place is stopped.
+    pub fn is_stopped(&self, place: usize) -> bool
+        requires { place < length self.now.terminals }
+        ensures { IsSomeAnd (slice_get self.now.terminals place) (λ terminal. result ≡ terminal.stopped) }
+    {
+        self.terminals[place].stopped
+    }
+
     /// The number of the last input of the terminal at this place; 0 before the first.
     pub fn last_input(&self, place: usize) -> u64
         requires { place < length self.now.terminals }

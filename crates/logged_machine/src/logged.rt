@@ -2,9 +2,9 @@
 ghost use Rattle.std.specs.Prelude.{◌≡◌, ◌<◌, ◌≤◌, ◌↔◌, length, true, None, IfOk, IfErr, IsTrue};
 ghost use Rattle.model_disk.specs.Disk.{Keeps as KeepsDisk, Only, armed};
 ghost use Rattle.model_machine.specs.declared.entry.Entry.TheVariants.{Accept, Show as ShowEntry, Acked as AckedEntry, Turn as TurnEntry};
-ghost use Rattle.model_machine.specs.Machine.{output_at, IsRegion};
+ghost use Rattle.model_machine.specs.Machine.{output_at, terminal_at, IsRegion};
 ghost use Rattle.model_machine.specs.Steps.{is_quiet, show_answer};
-ghost use Rattle.lasting_state.specs.Showing.{IsShown};
+ghost use Rattle.lasting_state.specs.Showing.{IsShownTo};
 ghost use Rattle.tm_machine.specs.Answers.{Answers};
 ghost use Rattle.logged_machine.specs.Logged.{LastsNow, spent_now};
 ghost use Rattle.logged_machine.specs.Goes.{Keeps, GoesBy, CrashesBy, fault_in};
@@ -136,7 +136,7 @@ impl<D: Disk> LoggedMachine<D> {
 
     /// What the terminal is to be shown.
     pub fn showing(&self, terminal: &Name) -> Shown<'_>
-        ensures { IsShown (output_at self.now.machine.moment.lasting.outputs terminal.now) result }
+        ensures { IsShownTo (terminal_at self.now.machine.moment.lasting.terminals terminal.now) (output_at self.now.machine.moment.lasting.outputs terminal.now) result }
     {
         match self.never {}
     }

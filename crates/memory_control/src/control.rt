@@ -4,18 +4,21 @@ ghost use Rattle.std.specs.Borrow.{sem};
 ghost use Rattle.std.specs.Vec.{vec_len, vec_capacity};
 ghost use Rattle.std.specs.Io.BufRead.{Rests};
 ghost use Rattle.model_machine.specs.declared.entry.Entry.TheVariants.{Accept, Show, Acked as AckedEntry, Turn as TurnEntry};
-ghost use Rattle.model_machine.specs.Machine.{empty_state, start_of, output_at, IsRegion};
+ghost use Rattle.model_machine.specs.Machine.{empty_state, start_of, output_at, terminal_at, IsRegion};
 ghost use Rattle.model_machine.specs.Steps.{is_quiet, show_answer};
 ghost use Rattle.model_machine.specs.History.{Adds, AddsEntry, AddsNothing, AreSteps, is_fault, now_of};
 ghost use Rattle.deadlock_pick.specs.Broken.{HasNoCycles};
-ghost use Rattle.lasting_state.specs.Showing.{IsShown};
+ghost use Rattle.lasting_state.specs.Showing.{IsShownTo};
 ghost use Rattle.tm_machine.specs.Answers.{Answers};
 ghost use Rattle.memory_control.specs.Noting.{noted};
 ghost use Rattle.memory_control.specs.contracts.control.Control.{the_row};
 
 use crate::life::{History, Life};
 use lasting_state::{Shown, empty_lasting};
-use model_machine::{AckRefused, Acked, ControlFault, Entry, InputRefused, Lasting, Taken, Turned};
+use model_machine::{
+    AckRefused, Acked, CheckpointRefused, CommandRefused, ControlFault, Entry, InputRefused,
+    Lasting, Taken, Turned,
+};
 use std::alloc::Global;
 use std::marker::Model;
 use system_types::System;
@@ -118,7 +121,7 @@ impl Control {
 
     /// What the terminal is to be shown; this adds no entry.
     pub fn showing(&self, terminal: &Name) -> Shown<'_>
-        ensures { IsShown (output_at (now_of self.now).lasting.outputs terminal.now) result }
+        ensures { IsShownTo (terminal_at (now_of self.now).lasting.terminals terminal.now) (output_at (now_of self.now).lasting.outputs terminal.now) result }
     {
         self.parts.showing(terminal)
     }
@@ -127,7 +130,7 @@ impl Control {
     /// memory; the room for its entry was made by `reserve`.
     pub fn receive(&mut self, terminal: &Name) -> Shown<'_>
         requires { 0 < self.old.room }
-        ensures shown { IsShown (output_at (now_of self.old).lasting.outputs terminal.now) result }
+        ensures shown { IsShownTo (terminal_at (now_of self.old).lasting.terminals terminal.now) (output_at (now_of self.old).lasting.outputs terminal.now) result }
         ensures* adds { sem 𝓛 (Rests the_row self.entry (λ new. AddsEntry self.old new (Show terminal.now (show_answer (now_of self.old) terminal.now)))) }
     {
         let answer = self.parts.show_answer(terminal);
@@ -237,6 +240,8 @@ fn is_fault(entry: &Entry) -> bool
         Entry::Accept(_, _, _, Err(InputRefused::Fault(_))) => true,
         Entry::Acked(_, _, Err(AckRefused::Fault(_))) => true,
         Entry::Turn(_, Err(_)) => true,
+        Entry::Commanded(_, Err(CommandRefused::Fault(_))) => true,
+        Entry::Checked(_, Err(CheckpointRefused::Fault(_))) => true,
         _ => false,
     }
 }

@@ -4,6 +4,7 @@ use Rattle.std.specs.Option.{option_map, option_map_or, option_and_then, is_some
 use Rattle.tm_types.specs.declared.command.LastingCommand.{LastingCommand}
 use Rattle.tm_types.specs.declared.command.LastingCommand.TheVariants as lasts
 use Rattle.tm_types.specs.declared.dbd.Dbd.{Dbd}
+use Rattle.tm_types.specs.declared.resource.Resource.{Resource}
 use Rattle.model_command.specs.declared.command.Command.{Command}
 use Rattle.model_command.specs.declared.command.Command.TheVariants.{StartTransaction, StopTransaction, StartTerminal, StopTerminal, DisplayTransaction, DisplayTerminal, DisplayActive, Checkpoint, Freeze, DequeueFirst, DequeueAll, Exit, EmergencyRestart, NormalRestart, ColdStart}
 use Rattle.model_command.specs.declared.answer.Answer.{Answer}
@@ -19,8 +20,7 @@ use Rattle.model_conversation.specs.declared.conversation.Conversation.{Conversa
 use Rattle.model_conversation.specs.Input.{busy_id}
 use Rattle.model_conversation.specs.Terminals.{conversation_at}
 use Rattle.model_queues.specs.declared.replies.TerminalReplies.{TerminalReplies}
-use Rattle.model_enqueue.specs.declared.request.Request.{Request}
-use Rattle.model_enqueue.specs.Table.{EnqueueTable, wait_of, blocked_by}
+use Rattle.model_enqueue.specs.Table.{EnqueueTable, wait_of, waits_by}
 use Rattle.model_machine.specs.declared.entry.CommandRefused.{CommandRefused}
 use Rattle.model_machine.specs.declared.entry.CommandRefused.TheVariants.{UnknownName, Busy, NoConversation}
 use Rattle.model_machine.specs.declared.entry.CheckpointRefused.{CheckpointRefused}
@@ -59,18 +59,17 @@ abbrev pub shown_terminal : List ℕ → Option TerminalState → Option Termina
 shown_terminal name (Some terminal) (Some output) = Ok (TerminalShown name terminal.last (output.next - 1) (length output.replies) terminal.stopped)
 shown_terminal name _ _ = Err (UnknownName name)
 
--- what a region waits for, with the region that blocks it, where that is still blocked
-abbrev pub still_blocked : ℕ → EnqueueTable → Option (Request × ℕ)
-still_blocked region table = option_and_then (λ request. option_map (λ by. (request, by)) (blocked_by request table)) (wait_of region table)
-
--- A region waits for the record of a database with a root key, or for the sequence of the database's roots.
-abbrev pub waiting_work : List Dbd → Slot → Request × ℕ → RegionWork
-waiting_work databases slot blocked =
-    option_map_or (λ dbd. Waiting slot.code slot.id dbd.name blocked.0.resource.root blocked.1) (slice_get databases (blocked.0.resource.db - 1)) (Working slot.code slot.id)
+-- A region waits where what it waits for is still blocked: for the record of a database with a root key, or for the sequence
+-- of the database's roots.
+abbrev pub waiting_work : List Dbd → Slot → Option Resource → Option ℕ → RegionWork
+waiting_work databases slot (Some resource) (Some by) =
+    option_map_or (λ dbd. Waiting slot.code slot.id dbd.name resource.root by) (slice_get databases (resource.db - 1)) (Working slot.code slot.id)
+waiting_work databases slot _ _ = Working slot.code slot.id
 
 abbrev pub work_of : List Dbd → EnqueueTable → ℕ → Option Slot → RegionWork
 work_of databases table region None = Idle
-work_of databases table region (Some slot) = option_map_or (waiting_work databases slot) (still_blocked region table) (Working slot.code slot.id)
+work_of databases table region (Some slot) =
+    waiting_work databases slot (option_map (λ request. request.resource) (wait_of region table)) (waits_by region table)
 
 -- each region from this number on, with what it does
 abbrev pub active_from : List Dbd → EnqueueTable → ℕ → List (Option Slot) → List ActiveRegion
@@ -140,9 +139,12 @@ lasting_command (Exit terminal) = Some (lasts.Exit terminal)
 lasting_command _ = None
 
 -- what was answered otherwise than by a refusal lasts, also where it changes nothing
-abbrev pub commands : Command → CommandAnswer → Option LastingStep
-commands command (Ok answer) = option_map Commands (lasting_command command)
-commands command (Err refused) = None
+abbrev pub steps_by : Option LastingCommand → CommandAnswer → Option LastingStep
+steps_by command (Ok answer) = option_map Commands command
+steps_by command (Err refused) = None
+
+abbrev pub command_step : System → Moment → Command → Option LastingStep
+command_step system moment command = steps_by (lasting_command command) (command_answer system moment command)
 
 -- ---- checkpoints
 

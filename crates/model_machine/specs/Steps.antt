@@ -35,7 +35,7 @@ use Rattle.model_machine.specs.Trial.{Trial, WorkEnd, Advance, advance, outputs_
 use Rattle.model_machine.specs.Trial.WorkEnd.{Ends, Syncs, Abends}
 use Rattle.model_machine.specs.Trial.Advance.{Goes, Stops}
 use Rattle.model_machine.specs.declared.lasting.TerminalState.{TerminalState}
-use Rattle.model_machine.specs.Commands.{state_now, command_answer, commands}
+use Rattle.model_machine.specs.Commands.{state_now, command_step}
 use Rattle.model_machine.specs.Machine.{LastingState, Moment, Slot, terminal_at, output_at, slot_at, is_held, busy_slots, content, states_of, moment_with}
 use Rattle.model_machine.specs.Lasting.{KeptInput, LastingStep, kept_input, applied}
 use Rattle.model_machine.specs.Lasting.LastingStep.{Accepts, Acknowledges, Completes, Discards}
@@ -270,7 +270,7 @@ lasting_step system moment (Receive terminal) = None
 lasting_step system moment (Acknowledge terminal number) = acknowledges terminal (ack_answer moment terminal number)
 lasting_step system moment (Turn region) =
     option_and_then (step_in_turn system moment region) (slot_at moment region)
-lasting_step system moment (Command command) = commands command (command_answer system moment command)
+lasting_step system moment (Command command) = command_step system moment command
 lasting_step system moment (Checkpoint freeze) = None
 
 abbrev pub lasting_after : System → Moment → ControlCall → LastingState

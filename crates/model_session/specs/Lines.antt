@@ -8,7 +8,8 @@ use Rattle.text_rows.specs.Lines.{split_at}
 use Rattle.text_rows.specs.Lowest.{both, also}
 use Rattle.tm_types.specs.Segment.{are_printable}
 use Rattle.tm_types.specs.Words.{first_word, operands}
-use Rattle.model_machine.specs.declared.entry.ControlCall.TheVariants.{Input, Receive, Acknowledge, Turn}
+use Rattle.model_machine.specs.Commands.{IsServed}
+use Rattle.model_machine.specs.declared.entry.ControlCall.TheVariants.{Input, Receive, Acknowledge, Turn, Command, Checkpoint}
 use Rattle.model_format.specs.declared.fields.FieldValue.{FieldValue}
 use Rattle.model_format.specs.Entering.{entered}
 use Rattle.model_format.specs.Formats.{FormatLines}
@@ -200,6 +201,8 @@ CanAsk regions (Call (Input terminal number segments)) = 0 < length segments
 CanAsk regions (Call (Turn region)) = (1 ≤ region) × (region ≤ regions)
 CanAsk regions (Call (Receive terminal)) = ⊤
 CanAsk regions (Call (Acknowledge terminal number)) = ⊤
+CanAsk regions (Call (Command command)) = IsServed command
+CanAsk regions (Call (Checkpoint freeze)) = ⊤
 CanAsk regions (Quiet most) = ⊤
 CanAsk regions (Stopped terminal number reason) = ⊤
 CanAsk regions (Bad rule) = ⊤

@@ -1,5 +1,5 @@
 -- What is printed for an entry.
-use Rattle.std.specs.Prelude.{ℕ, suc, Option, Some, None, Result, Ok, Err, List, [], ◌∷◌, ◌++◌, ◌-◌, ◌/◌, Bool, nat_le, take, drop, slice_get, codes, decimal}
+use Rattle.std.specs.Prelude.{ℕ, suc, Option, Some, None, Result, Ok, Err, List, [], ◌∷◌, ◌++◌, ◌-◌, ◌/◌, Bool, if◌then◌else◌, nat_le, take, drop, slice_get, codes, decimal}
 use Rattle.std.specs.Option.{option_map_or, option_and_then}
 use Rattle.std.specs.List.{flat_map, list_all, position_or_len}
 use Rattle.tm_types.specs.Function.{function_name}
@@ -17,18 +17,25 @@ use Rattle.model_system.specs.Formats.{format_of}
 use Rattle.model_system.specs.System.{System}
 use Rattle.model_message.specs.Calls.{without_blanks}
 use Rattle.model_machine.specs.declared.entry.Entry.{Entry}
-use Rattle.model_machine.specs.declared.entry.Entry.TheVariants.{Accept, Show, Acked as AckedEntry, Turn}
+use Rattle.model_machine.specs.declared.entry.Entry.TheVariants.{Accept, Show, Acked as AckedEntry, Turn, Commanded, Checked}
 use Rattle.model_machine.specs.declared.entry.ControlFault.{ControlFault}
 use Rattle.model_machine.specs.declared.entry.Taken.{Taken}
 use Rattle.model_machine.specs.declared.entry.Taken.TheVariants.{New, Already}
 use Rattle.model_machine.specs.declared.entry.InputRefused.{InputRefused}
-use Rattle.model_machine.specs.declared.entry.InputRefused.TheVariants.{Terminal as NoTerminal, Expected, Conversation as Conversing, Code as NoCode, SegmentsOver, QueueFull, Fault as InputFault}
+use Rattle.model_machine.specs.declared.entry.InputRefused.TheVariants.{Terminal as NoTerminal, StoppedTerminal as IsStoppedTerminal, Expected, Conversation as Conversing, Code as NoCode, StoppedCode, SegmentsOver, QueueFull, Fault as InputFault}
 use Rattle.model_machine.specs.declared.entry.ShowAnswer.{ShowAnswer}
-use Rattle.model_machine.specs.declared.entry.ShowAnswer.TheVariants.{Reply as Showed, Empty, Unknown as ShowUnknown}
+use Rattle.model_machine.specs.declared.entry.ShowAnswer.TheVariants.{Reply as Showed, Empty, Stopped as ShowStopped, Unknown as ShowUnknown}
 use Rattle.model_machine.specs.declared.entry.Acked.{Acked}
 use Rattle.model_machine.specs.declared.entry.Acked.TheVariants.{Removed, Already as AckAlready}
 use Rattle.model_machine.specs.declared.entry.AckRefused.{AckRefused}
 use Rattle.model_machine.specs.declared.entry.AckRefused.TheVariants.{Unknown as AckUnknown, Ahead, Fault as AckFault}
+use Rattle.model_machine.specs.declared.entry.CommandRefused.{CommandRefused}
+use Rattle.model_machine.specs.declared.entry.CommandRefused.TheVariants.{UnknownName, Busy, NoConversation, Fault as CommandFault}
+use Rattle.model_machine.specs.declared.entry.CheckpointRefused.{CheckpointRefused}
+use Rattle.model_machine.specs.declared.entry.CheckpointRefused.TheVariants.{BusyRegion, Fault as CheckpointFault}
+use Rattle.model_command.specs.declared.answer.Answer.{Answer}
+use Rattle.model_command.specs.declared.answer.Answer.TheVariants as answers
+use Rattle.model_command.specs.Answers.{answer_text}
 use Rattle.model_machine.specs.declared.entry.Turned.{Turned}
 use Rattle.model_machine.specs.declared.entry.Turned.TheVariants.{Scheduled, Called, Next, QC, Done, Abended, Idle, Held, Waits, Backed}
 use Rattle.model_machine.specs.Machine.{Moment, output_at}
@@ -58,9 +65,11 @@ abbrev pub input_text : List ℕ → ℕ → List ℕ → Result Taken InputRefu
 input_text terminal number word (Ok (New id)) = about (codes "ACK") terminal number ++ line_end
 input_text terminal number word (Ok Already) = about (codes "ALREADY") terminal number ++ line_end
 input_text terminal number word (Err NoTerminal) = about (codes "REFUSED") terminal number ++ codes " TERMINAL" ++ line_end
+input_text terminal number word (Err IsStoppedTerminal) = about (codes "REFUSED") terminal number ++ codes " STOPPED " ++ terminal ++ line_end
 input_text terminal number word (Err (Expected next)) = about (codes "REFUSED") terminal number ++ codes " EXPECTED " ++ decimal next ++ line_end
 input_text terminal number word (Err (Conversing id)) = about (codes "REFUSED") terminal number ++ codes " CONVERSATION " ++ decimal id ++ line_end
 input_text terminal number word (Err NoCode) = about (codes "REFUSED") terminal number ++ codes " CODE " ++ word ++ line_end
+input_text terminal number word (Err (StoppedCode code)) = about (codes "REFUSED") terminal number ++ codes " STOPPED " ++ code ++ line_end
 input_text terminal number word (Err (SegmentsOver count most)) = about (codes "REFUSED") terminal number ++ codes " SEGMENTS " ++ decimal count ++ 32 ∷ [] ++ decimal most ++ line_end
 input_text terminal number word (Err (QueueFull need limit)) = about (codes "REFUSED") terminal number ++ codes " QUEUE FULL " ++ decimal need ++ 32 ∷ [] ++ decimal limit ++ line_end
 input_text terminal number word (Err (InputFault fault)) = []
@@ -101,6 +110,10 @@ none_text terminal = spaced (codes "NONE") ++ terminal ++ line_end
 abbrev pub unknown_text : List ℕ → List ℕ
 unknown_text terminal = spaced (codes "REFUSED") ++ terminal ++ codes " TERMINAL" ++ line_end
 
+-- a stopped terminal
+abbrev pub held_text : List ℕ → List ℕ
+held_text terminal = spaced (codes "REFUSED") ++ terminal ++ codes " STOPPED " ++ terminal ++ line_end
+
 -- the first reply that a terminal has at the moment
 abbrev pub first_reply : Moment → List ℕ → Option Reply
 first_reply moment terminal = option_and_then (λ found. slice_get found.replies 0) (output_at moment.lasting.outputs terminal)
@@ -109,6 +122,7 @@ first_reply moment terminal = option_and_then (λ found. slice_get found.replies
 abbrev pub show_text : System → Moment → List ℕ → ShowAnswer → List ℕ
 show_text system moment terminal (Showed number) = option_map_or (shown_text terminal (format_of system terminal)) (first_reply moment terminal) []
 show_text system moment terminal Empty = none_text terminal
+show_text system moment terminal ShowStopped = held_text terminal
 show_text system moment terminal ShowUnknown = unknown_text terminal
 
 abbrev pub ack_text : List ℕ → ℕ → Result Acked AckRefused → List ℕ
@@ -178,11 +192,29 @@ turn_text databases region (Ok turned) = turned_text databases region turned
 turn_text databases region (Err fault) = []
 
 -- What is printed for an entry at the moment before it. A fault has no text yet, since no call meets one.
+abbrev pub command_line : Answer → List ℕ
+command_line answer = answer_text answer ++ line_end
+
+abbrev pub command_text : Result Answer CommandRefused → List ℕ
+command_text (Ok answer) = command_line answer
+command_text (Err (UnknownName name)) = command_line (answers.UnknownName name)
+command_text (Err (Busy id)) = command_line (answers.ConversationBusy id)
+command_text (Err NoConversation) = command_line answers.NoConversation
+command_text (Err (CommandFault fault)) = []
+
+-- behind a freeze the system is down
+abbrev pub checkpoint_text : Bool → Result ℕ CheckpointRefused → List ℕ
+checkpoint_text freeze (Ok number) = if freeze then command_line (answers.Frozen number) else command_line (answers.Checkpoint number)
+checkpoint_text freeze (Err (BusyRegion region id)) = command_line (answers.FreezeRefused region id)
+checkpoint_text freeze (Err (CheckpointFault fault)) = []
+
 abbrev pub entry_text : System → Moment → Entry → List ℕ
 entry_text system moment (Accept terminal number segments answer) = input_text terminal number (shown_word (code_word segments)) answer
 entry_text system moment (Show terminal answer) = show_text system moment terminal answer
 entry_text system moment (AckedEntry terminal number answer) = ack_text terminal number answer
 entry_text system moment (Turn region answer) = turn_text system.databases region answer
+entry_text system moment (Commanded command answer) = command_text answer
+entry_text system moment (Checked freeze answer) = checkpoint_text freeze answer
 
 -- what is printed for a block that breaks a rule
 abbrev pub bad_line_text : ℕ → List ℕ

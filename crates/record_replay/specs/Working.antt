@@ -1,11 +1,11 @@
 -- What lasts and waits while a log is done again.
 use Rattle.std.specs.Prelude.{◌≡◌, ℕ, zero, suc, Bool, true, false, List, [], ◌∷◌, ◌++◌, filter, Option, Some, None}
 use Rattle.log_records.specs.declared.record.Record.{Record}
-use Rattle.log_records.specs.declared.record.Record.TheVariants.{Input, Reply, Discarded, Completed, Acknowledged, SyncPoint, Change}
+use Rattle.log_records.specs.declared.record.Record.TheVariants.{Input, Command, Reply, Discarded, Completed, Acknowledged, SyncPoint, Change}
 use Rattle.model_machine.specs.Machine.{LastingState}
 use Rattle.model_system.specs.System.{System}
 use Rattle.model_image.specs.States.{breaks_a_rule}
-use Rattle.model_image.specs.Replay.{Replay, is_of_unit, accepts, acknowledges, discards, syncs}
+use Rattle.model_image.specs.Replay.{Replay, is_of_unit, accepts, acknowledges, commands, discards, syncs}
 use Rattle.image_records.specs.Kept.{KeptState}
 use Rattle.record_replay.specs.Judged.{lasting_in, AreFree, Leaves}
 use Rattle.record_replay.specs.Waiting.{of_unit, ChangesUnit}
@@ -44,6 +44,7 @@ of_unit_of _ units = []
 abbrev pub does_now : System → Record → List Record → LastingState → Option LastingState
 does_now system (Input unit id origin code number conversation segments) records lasting = accepts system id origin code number conversation segments lasting
 does_now system (Acknowledged terminal number) records lasting = acknowledges terminal number lasting
+does_now system (Command text) records lasting = commands text lasting
 does_now system (Discarded unit id abend number) records lasting = discards id abend number lasting
 does_now system (SyncPoint unit pad) records lasting = syncs pad records lasting
 does_now system (Change unit database slot before after) records lasting = Some lasting

@@ -1,6 +1,8 @@
 //! One record of a log, done again.
-ghost use Rattle.std.specs.Prelude.{◌≡◌, None, IfOk};
-ghost use Rattle.model_image.specs.Replay.{Replay, accepts, acknowledges, discards, syncs, is_known, replay_one};
+ghost use Rattle.std.specs.Prelude.{◌≡◌, None, false, IfOk};
+ghost use Rattle.std.specs.Option.{option_map_or};
+ghost use Rattle.tm_types.specs.Commands.{command_in};
+ghost use Rattle.model_image.specs.Replay.{Replay, accepts, acknowledges, discards, syncs, is_known, names_known, replay_one};
 ghost use Rattle.record_replay.specs.Judged.{lasting_in, AreSound, Leaves};
 ghost use Rattle.record_replay.specs.Working.{IsAt, Comes, IsDone, Waits, waits_for};
 
@@ -15,7 +17,7 @@ use log_records::Record;
 use model_conversation::PadChange;
 use std::alloc::Global;
 use system_types::System;
-use tm_types::{AbendCode, Memory, Message, Name};
+use tm_types::{AbendCode, LastingCommand, Memory, Message, Name};
 
 /// Does a record of the log again. False: it breaks the rule on such records, and the tables aren't to be used any more.
 pub fn replay_record(
@@ -103,6 +105,7 @@ fn do_now(alloc: Global, system: &System, working: &mut Working, r: Record) -> R
             replay_sync_point(alloc, system, &mut working.kept, records, pad)
         }
         Record::Change { .. } => Ok(true),
+        Record::Command { .. } => Err(Memory),
         _ => Ok(false),
     }
 }
@@ -192,6 +195,31 @@ fn is_known(alloc: Global, system: &System, r: &Record) -> Result<bool, Memory>
         }
         Record::Reply { terminal, .. } => Ok(is_terminal(system, terminal)),
         Record::Acknowledged { terminal, .. } => Ok(is_terminal(system, terminal)),
+        Record::Command { text } => Ok(names_known(system, text.as_slice())),
         _ => is_image_of(alloc, system, r),
+    }
+}
+
+/// Whether a text spells a command that lasts and names a code of the system, or a terminal.
+fn names_known(system: &System, text: &[u8]) -> bool
+    ensures { result ≡ option_map_or (names_known system.now) (command_in text.now) false }
+{
+    match LastingCommand::read(text) {
+        Some(command) => is_named(system, &command),
+        None => false,
+    }
+}
+
+fn is_named(system: &System, command: &LastingCommand) -> bool
+    ensures { result ≡ names_known system.now command.now }
+{
+    match command {
+        LastingCommand::StartTransaction(code) => is_code(system, code),
+        LastingCommand::StopTransaction(code) => is_code(system, code),
+        LastingCommand::StartTerminal(terminal) => is_terminal(system, terminal),
+        LastingCommand::StopTerminal(terminal) => is_terminal(system, terminal),
+        LastingCommand::DequeueFirst(terminal) => is_terminal(system, terminal),
+        LastingCommand::DequeueAll(terminal) => is_terminal(system, terminal),
+        LastingCommand::Exit(terminal) => is_terminal(system, terminal),
     }
 }

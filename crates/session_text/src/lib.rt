@@ -6,8 +6,8 @@
 #![tactic(auto)]
 
 pub use lines::{
-    ANSWER_ROOM, TURN_ROOM, WORD_ROOM, ack_line, bad_line, input_line, none_line, quiet_line,
-    shown_word, stopped_line, turned_line, unknown_line,
+    ANSWER_ROOM, TURN_ROOM, WORD_ROOM, ack_line, bad_line, held_line, input_line, none_line,
+    quiet_line, shown_word, stopped_line, turned_line, unknown_line,
 };
 pub use page::{PAGE_ROOM, page_lines};
 pub use printed::{NUMBER_ROOM, Printed};

@@ -39,6 +39,10 @@ pub fn input_line(
         Ok(Taken::New(_)) => add_answer(out, b"ACK", terminal, number),
         Ok(Taken::Already) => add_answer(out, b"ALREADY", terminal, number),
         Err(InputRefused::Terminal) => add_refused(out, terminal, number, b" TERMINAL"),
+        Err(InputRefused::StoppedTerminal) => {
+            let name = terminal.as_bytes();
+            add_refused_with_word(out, terminal, number, b" STOPPED ", name);
+        }
         Err(InputRefused::Expected(next)) => {
             add_refused_with_number(out, terminal, number, b" EXPECTED ", *next);
         }
@@ -46,6 +50,10 @@ pub fn input_line(
             add_refused_with_number(out, terminal, number, b" CONVERSATION ", *id);
         }
         Err(InputRefused::Code) => add_refused_with_word(out, terminal, number, b" CODE ", word),
+        Err(InputRefused::StoppedCode(code)) => {
+            let name = code.as_bytes();
+            add_refused_with_word(out, terminal, number, b" STOPPED ", name);
+        }
         Err(InputRefused::SegmentsOver(count, most)) => {
             let (count, most) = (u64::from(*count), u64::from(*most));
             add_refused_with_two(out, terminal, number, b" SEGMENTS ", count, most);
@@ -91,6 +99,18 @@ pub fn unknown_line(out: &mut Printed, terminal: &Name)
     out.push(b"REFUSED ");
     out.push(terminal.as_bytes());
     out.push(b" TERMINAL\n");
+}
+
+/// Adds the line for a stopped terminal, where it asked for a reply.
+pub fn held_line(out: &mut Printed, terminal: &Name)
+    requires { ANSWER_ROOM ≤ out.old.room }
+    ensures { out.new.text ≡ out.old.text ++ text.held_text terminal.now }
+{
+    out.push(b"REFUSED ");
+    out.push(terminal.as_bytes());
+    out.push(b" STOPPED ");
+    out.push(terminal.as_bytes());
+    out.push(b"\n");
 }
 
 /// Adds the line of a region's turn, or a line for each region that gave way in it.

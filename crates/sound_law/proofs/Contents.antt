@@ -10,7 +10,7 @@ use Rattle.tm_types.specs.declared.abend.AbendCode.{AbendCode}
 use Rattle.tm_types.specs.declared.message.Message.{Message}
 use Rattle.tm_types.specs.declared.message.Reply.{Reply}
 use Rattle.model_queues.specs.declared.replies.TerminalReplies.{TerminalReplies}
-use Rattle.model_queues.specs.Outputs.{is_of, outputs_bytes, replies_at, with_reply, with_terminal, without_first}
+use Rattle.model_queues.specs.Outputs.{is_of, outputs_bytes, replies_at, with_reply, with_terminal, without_first, without_replies}
 use Rattle.model_queues.specs.Room.{message_bytes, messages_bytes, replies_bytes, reply_bytes}
 use Rattle.model_message.specs.declared.ended_message.EndedMessage.{EndedMessage}
 use Rattle.model_machine.specs.Lasting.{all_sent, finished, replied, sent, switched, without_message}
@@ -43,6 +43,14 @@ acknowledged_bytes name (t ∷ ts) = by (is_of name t) (acknowledged_bytes name 
       → outputs_bytes (if b then without_first t ∷ ts else t ∷ with_terminal name without_first ts) ≤ outputs_bytes (t ∷ ts)
   by true rest = omega (arith, sum_by-cons terminal_bytes (without_first t) ts, sum_by-cons terminal_bytes t ts, drop_less t.replies)
   by false rest = omega (arith, sum_by-cons terminal_bytes t (with_terminal name without_first ts), sum_by-cons terminal_bytes t ts, rest)
+
+pub dequeued_bytes : (name : List ℕ) (outputs : List TerminalReplies) → outputs_bytes (with_terminal name without_replies outputs) ≤ outputs_bytes outputs
+dequeued_bytes name [] = omega arith
+dequeued_bytes name (t ∷ ts) = by (is_of name t) (dequeued_bytes name ts) where
+  by : (b : Bool) → outputs_bytes (with_terminal name without_replies ts) ≤ outputs_bytes ts
+      → outputs_bytes (if b then without_replies t ∷ ts else t ∷ with_terminal name without_replies ts) ≤ outputs_bytes (t ∷ ts)
+  by true rest = omega (arith, sum_by-cons terminal_bytes (without_replies t) ts, sum_by-cons terminal_bytes t ts)
+  by false rest = omega (arith, sum_by-cons terminal_bytes t (with_terminal name without_replies ts), sum_by-cons terminal_bytes t ts, rest)
 
 sent_content : (origin : List ℕ) (output : EndedMessage) (lasting : LastingState) → content (sent origin output lasting) ≤ content lasting + ended_bytes output
 sent_content origin output lasting = by (is_some (output_at lasting.outputs output.to)) where

@@ -7,6 +7,8 @@ use Rattle.std.proofs.lemmas.Bool.{ltb-false}
 use Rattle.std.proofs.lemmas.Bool.Decides.{nat_tests}
 use Rattle.std.proofs.lemmas.List.Sums.{sum_by_push}
 use Rattle.tm_types.specs.declared.abend.AbendCode.{AbendCode}
+use Rattle.tm_types.specs.declared.command.LastingCommand.{LastingCommand}
+use Rattle.tm_types.specs.declared.command.LastingCommand.TheVariants.{StartTransaction, StopTransaction, StartTerminal, StopTerminal, DequeueFirst, DequeueAll, Exit}
 use Rattle.tm_types.specs.declared.message.Message.{Message}
 use Rattle.model_conversation.specs.declared.conversation.PadChange.{PadChange}
 use Rattle.model_enqueue.specs.declared.request.Request.{Request}
@@ -21,12 +23,12 @@ use Rattle.model_queues.specs.Waiting.{first_waiting}
 use Rattle.model_message.specs.declared.ended_message.EndedMessage.{EndedMessage}
 use Rattle.model_machine.specs.declared.entry.Turned.{Turned}
 use Rattle.model_machine.specs.Lasting.{LastingStep, abend_outputs, accepted, applied, changed, finished, finished_by, input_message, kept_input, with_pad_by}
-use Rattle.model_machine.specs.Lasting.LastingStep.{Accepts, Acknowledges, Completes, Discards}
+use Rattle.model_machine.specs.Lasting.LastingStep.{Accepts, Acknowledges, Completes, Discards, Commands}
 use Rattle.model_machine.specs.Machine.{LastingState, Moment, Slot, busy_slots, content, is_held, message_at}
 use Rattle.model_machine.specs.Steps.{need_now, no_room}
 use Rattle.sound_law.specs.Rooms.{HasRoom}
 use Rattle.sound_law.specs.Sending.{sent_bytes}
-use Rattle.sound_law.proofs.Contents.{acknowledged_bytes, finished_content}
+use Rattle.sound_law.proofs.Contents.{acknowledged_bytes, dequeued_bytes, finished_content}
 use Rattle.sound_law.proofs.Refused.{IsNew, has_room}
 
 -- what a message leaves that is there, or nothing
@@ -57,3 +59,13 @@ accepted_room system moment terminal number segments new =
 
 pub acknowledged_content : (terminal : List ℕ) (lasting : LastingState) → content (applied (Acknowledges terminal) lasting) ≤ content lasting
 acknowledged_content terminal lasting = omega (arith, acknowledged_bytes terminal lasting.outputs)
+
+-- no command adds to the content
+pub commanded_content : (command : LastingCommand) (lasting : LastingState) → content (applied (Commands command) lasting) ≤ content lasting
+commanded_content (StartTransaction code) lasting = omega arith
+commanded_content (StopTransaction code) lasting = omega arith
+commanded_content (StartTerminal terminal) lasting = omega arith
+commanded_content (StopTerminal terminal) lasting = omega arith
+commanded_content (DequeueFirst terminal) lasting = acknowledged_content terminal lasting
+commanded_content (DequeueAll terminal) lasting = omega (arith, dequeued_bytes terminal lasting.outputs)
+commanded_content (Exit terminal) lasting = omega arith

@@ -7,7 +7,11 @@ use Rattle.std.specs.Str.{bytes_eq}
 use Rattle.std.proofs.lemmas.Bool.Decides.{nat_tests}
 use Rattle.std.proofs.lemmas.List.Elements.{All-head, All-tail}
 use Rattle.tm_types.specs.declared.abend.AbendCode.{AbendCode}
+use Rattle.tm_types.specs.declared.command.LastingCommand.{LastingCommand}
+use Rattle.tm_types.specs.declared.command.LastingCommand.TheVariants.{StartTransaction, StopTransaction, StartTerminal, StopTerminal, DequeueFirst, DequeueAll, Exit}
 use Rattle.tm_types.specs.declared.message.Message.{Message}
+use Rattle.model_command.specs.declared.command.Command.{Command}
+use Rattle.model_command.specs.declared.command.Command.TheVariants as command
 use Rattle.model_conversation.specs.declared.conversation.Conversation.{Conversation}
 use Rattle.model_conversation.specs.declared.conversation.PadChange.{PadChange}
 use Rattle.model_conversation.specs.declared.conversation.PadChange.TheVariants.{Stays, New, Ends}
@@ -27,15 +31,17 @@ use Rattle.model_machine.specs.declared.entry.Acked.{Acked}
 use Rattle.model_machine.specs.declared.entry.Acked.TheVariants.{Removed, Already as AckAlready}
 use Rattle.model_machine.specs.declared.entry.AckRefused.{AckRefused}
 use Rattle.model_machine.specs.declared.entry.ControlCall.{ControlCall}
-use Rattle.model_machine.specs.declared.entry.ControlCall.TheVariants.{Input, Receive, Acknowledge, Turn}
+use Rattle.model_machine.specs.declared.entry.ControlCall.TheVariants.{Input, Receive, Acknowledge, Turn, Command as CommandCall, Checkpoint as CheckpointCall}
 use Rattle.model_machine.specs.declared.entry.InputRefused.{InputRefused}
 use Rattle.model_machine.specs.declared.entry.InputRefused.TheVariants.{Terminal as NoTerminal, Code as NoCode, Conversation as Conversing}
 use Rattle.model_machine.specs.declared.entry.Taken.{Taken}
 use Rattle.model_machine.specs.declared.entry.Taken.TheVariants.{New as IsNewInput, Already}
 use Rattle.model_machine.specs.declared.lasting.TerminalState.{TerminalState}
+use Rattle.model_machine.specs.declared.entry.CommandRefused.TheVariants.{UnknownName}
+use Rattle.model_machine.specs.Commands.{CommandAnswer, command_answer, command_step, exited, steps_by}
 use Rattle.model_machine.specs.History.{AreVictims}
 use Rattle.model_machine.specs.Lasting.{LastingStep, KeptInput, abend_outputs, abend_text, all_sent, applied, discarded_pad, finished, finished_by, kept_input, padded, replied, sent, switched, with_pad_by, with_text}
-use Rattle.model_machine.specs.Lasting.LastingStep.{Accepts, Acknowledges, Completes, Discards}
+use Rattle.model_machine.specs.Lasting.LastingStep.{Accepts, Acknowledges, Completes, Discards, Commands}
 use Rattle.model_machine.specs.Machine.{LastingState, Moment, Slot, message_at, output_at, slot_at, terminal_at}
 use Rattle.model_machine.specs.Requests.{blocked_now}
 use Rattle.model_machine.specs.Steps.{AtWork, After, Refusal, accepts, ack_answer, acknowledges, busy_by, ended_step, ending_step, input_answer, slot_work, step_in_turn, turn_step, unless_blocked}
@@ -43,9 +49,10 @@ use Rattle.model_machine.specs.Trial.{Advance, Trial, outputs_of, pad_of}
 use Rattle.model_machine.specs.Trial.Advance.{Goes, Stops}
 use Rattle.model_machine.specs.Trial.WorkEnd.{Ends as ScriptEnds, Syncs, Abends}
 use Rattle.system_types.specs.Valid.{IsPadLength, IsSystem}
-use Rattle.replay_law.specs.Steps.{HasPads, IsFree, PadFits, has_receiver, has_room, takes_switched}
+use Rattle.replay_law.specs.Steps.{EndsNoneWaiting, HasPads, IsFree, PadFits, has_receiver, has_room, takes_switched}
 use Rattle.replay_law.proofs.Accepted.{accepted_stands}
 use Rattle.replay_law.proofs.Bools.{both, first_of, second_of}
+use Rattle.replay_law.proofs.Commanded.{commanded_stands}
 use Rattle.replay_law.proofs.Conversing.{itself_changed}
 use Rattle.replay_law.proofs.Kept.{Stands, acknowledged_stands, finished_stands}
 use Rattle.replay_law.proofs.Lists.{all_imply, found_passes}
@@ -254,6 +261,58 @@ module _ (system : System) (valid : IsSystem system) (moment : Moment) (names : 
   turn_stands region None right = s
   turn_stands region (Some slot) right = unblocked_stands slot (blocked_now system moment region slot) right
 
+  -- ---- commands
+
+  exit_free : (terminal : List ℕ) (c : Option Conversation) (messages : List Message) (step : LastingStep) → Some step ≡ steps_by (Some (Exit terminal)) (exited terminal c (busy_id terminal messages)) → list_any (is_conversing terminal) messages ≡ false
+  exit_free terminal None messages step e = cc
+  exit_free terminal (Some c) [] step e = refl
+  exit_free terminal (Some c) (m ∷ messages) step e = by (is_conversing terminal m) e (λ f. exit_free terminal (Some c) messages step f) where
+    by : (b : Bool) → Some step ≡ steps_by (Some (Exit terminal)) (exited terminal (Some c) (option_map (λ (message : Message). message.id) (if b then Some m else find (is_conversing terminal) messages)))
+        → (Some step ≡ steps_by (Some (Exit terminal)) (exited terminal (Some c) (busy_id terminal messages)) → list_any (is_conversing terminal) messages ≡ false) → (b || list_any (is_conversing terminal) messages) ≡ false
+    by true f later = cc
+    by false f later = later f
+
+  there_exit : (b : Bool) (terminal : List ℕ) (answer : CommandAnswer) (step : LastingStep) → Some step ≡ steps_by (Some (Exit terminal)) (if b then answer else Err (UnknownName terminal)) → Some step ≡ steps_by (Some (Exit terminal)) answer
+  there_exit true terminal answer step e = e
+  there_exit false terminal answer step e = cc
+
+  -- a command that is done
+  done_stands : (command : LastingCommand) → EndsNoneWaiting command moment.lasting → Stands system (applied (Commands command) moment.lasting)
+  done_stands command none = counted_stands system (moment.lasting.steps + 1) _ (commanded_stands system command moment.lasting s none)
+
+  answered_stands : (command : LastingCommand) (answer : CommandAnswer) → EndsNoneWaiting command moment.lasting → Stands system (behind (steps_by (Some command) answer))
+  answered_stands command (Ok answer) none = done_stands command none
+  answered_stands command (Err refused) none = s
+
+  exit_stands : (terminal : List ℕ) (step : Option LastingStep) → step ≡ command_step system moment (command.Exit terminal) → Stands system (behind step)
+  exit_stands terminal None e = s
+  exit_stands terminal (Some step) e =
+      let c = conversations.conversation_at terminal moment.lasting.conversations in
+      let there = there_exit (is_some (terminal_at moment.lasting.terminals terminal)) terminal (exited terminal c (busy_id terminal moment.lasting.messages)) step e in
+      let none = exit_free terminal c moment.lasting.messages step there in
+      subst (λ (x : Option LastingStep). Stands system (behind x)) (sym e) (answered_stands (Exit terminal) (command_answer system moment (command.Exit terminal)) none)
+
+  nothing_stands : (answer : CommandAnswer) → Stands system (behind (steps_by None answer))
+  nothing_stands (Ok answer) = s
+  nothing_stands (Err refused) = s
+
+  command_stands : (c : Command) → Stands system (behind (command_step system moment c))
+  command_stands (command.StartTransaction code) = answered_stands (StartTransaction code) (command_answer system moment (command.StartTransaction code)) tt
+  command_stands (command.StopTransaction code) = answered_stands (StopTransaction code) (command_answer system moment (command.StopTransaction code)) tt
+  command_stands (command.StartTerminal terminal) = answered_stands (StartTerminal terminal) (command_answer system moment (command.StartTerminal terminal)) tt
+  command_stands (command.StopTerminal terminal) = answered_stands (StopTerminal terminal) (command_answer system moment (command.StopTerminal terminal)) tt
+  command_stands (command.DequeueFirst terminal) = answered_stands (DequeueFirst terminal) (command_answer system moment (command.DequeueFirst terminal)) tt
+  command_stands (command.DequeueAll terminal) = answered_stands (DequeueAll terminal) (command_answer system moment (command.DequeueAll terminal)) tt
+  command_stands (command.Exit terminal) = exit_stands terminal _ refl
+  command_stands (command.DisplayTransaction code) = nothing_stands (command_answer system moment (command.DisplayTransaction code))
+  command_stands (command.DisplayTerminal terminal) = nothing_stands (command_answer system moment (command.DisplayTerminal terminal))
+  command_stands command.DisplayActive = s
+  command_stands command.Checkpoint = s
+  command_stands command.Freeze = s
+  command_stands command.EmergencyRestart = s
+  command_stands command.NormalRestart = s
+  command_stands command.ColdStart = s
+
   -- ---- all calls
 
   call_stands : (call : ControlCall) (victims : List Victim) → RightPads (After system moment call victims).lasting → Stands system (After system moment call victims).lasting
@@ -261,6 +320,8 @@ module _ (system : System) (valid : IsSystem system) (moment : Moment) (names : 
   call_stands (Receive terminal) victims right = s
   call_stands (Acknowledge terminal number) victims right = ack_stands terminal (ack_answer moment terminal number)
   call_stands (Turn region) victims right = turn_stands region (slot_at moment region) right
+  call_stands (CommandCall command) victims right = command_stands command
+  call_stands (CheckpointCall freeze) victims right = s
 
   -- A machine that is sound stays so, where its pads are right.
   pub stays_sound : (call : ControlCall) (victims : List Victim) → AreVictims system moment victims call → list_all (has_right_pad system) (After system moment call victims).lasting.conversations ≡ true

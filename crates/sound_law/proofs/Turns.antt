@@ -17,12 +17,14 @@ use Rattle.model_machine.specs.declared.entry.Acked.{Acked}
 use Rattle.model_machine.specs.declared.entry.Acked.TheVariants.{Removed, Already as AckAlready}
 use Rattle.model_machine.specs.declared.entry.AckRefused.{AckRefused}
 use Rattle.model_machine.specs.declared.entry.ControlCall.{ControlCall}
-use Rattle.model_machine.specs.declared.entry.ControlCall.TheVariants.{Input, Receive, Acknowledge, Turn}
+use Rattle.model_machine.specs.declared.entry.ControlCall.TheVariants.{Input, Receive, Acknowledge, Turn, Command, Checkpoint}
 use Rattle.model_machine.specs.declared.entry.InputRefused.{InputRefused}
 use Rattle.model_machine.specs.declared.entry.Taken.{Taken}
 use Rattle.model_machine.specs.declared.entry.Taken.TheVariants.{New, Already}
 use Rattle.model_machine.specs.declared.entry.Turned.{Turned}
 use Rattle.model_machine.specs.declared.entry.Turned.TheVariants.{Idle, Held, Scheduled}
+use Rattle.tm_types.specs.declared.command.LastingCommand.{LastingCommand}
+use Rattle.model_machine.specs.Commands.{CommandAnswer, command_answer, lasting_command, state_now, steps_by}
 use Rattle.model_machine.specs.History.{AreVictims}
 use Rattle.model_machine.specs.Lasting.{LastingStep, KeptInput, applied, kept_input}
 use Rattle.model_machine.specs.Lasting.LastingStep.{Accepts}
@@ -36,7 +38,7 @@ use Rattle.model_machine.specs.Trial.WorkEnd.{Ends, Syncs, Abends}
 use Rattle.system_types.specs.Valid.{IsSystem}
 use Rattle.sound_law.specs.Rooms.{HasRoom, StaysSound}
 use Rattle.sound_law.proofs.Refused.{IsNew, is_new}
-use Rattle.sound_law.proofs.Rooms.{accepted_room, acknowledged_content, completed_content, discarded_content}
+use Rattle.sound_law.proofs.Rooms.{accepted_room, acknowledged_content, commanded_content, completed_content, discarded_content}
 use Rattle.sound_law.proofs.Slots.{fewer_slots, freed_slots, kept_slots, more_slots, victims_slots}
 use Rattle.sound_law.proofs.Works.{SendsWell, abend_fits, work_sends}
 
@@ -96,7 +98,7 @@ module _ (system : System) (valid : IsSystem system) (moment : Moment) (sound : 
     synced_fits behind most None e = gets_free behind most
     synced_fits behind most (Some next) e =
         stays_busy behind (record slot { taken = slot.taken + 1; id = next; calls = 0 })
-        (next_room behind (code_at system.codes slot.code) (option_and_then (slice_get (states_of moment)) (code_place system.codes slot.code)) next e)
+        (next_room behind (code_at system.codes slot.code) (state_now system moment slot.code) next e)
 
     completed : (trial : Trial) → SendsWell system moment.lasting slot.id trial → content (applied (ending_step slot trial Ends) moment.lasting) ≤ content moment.lasting + 65536
     completed trial sends = completed_content slot.id trial.databases.rows _ _ moment.lasting sends.bytes
@@ -166,9 +168,16 @@ module _ (system : System) (valid : IsSystem system) (moment : Moment) (sound : 
   ack_fits terminal (Ok AckAlready) = sound.room
   ack_fits terminal (Err refused) = sound.room
 
+  command_fits : (step : Option LastingCommand) (answer : CommandAnswer) → Fits (option_map_or (λ s. applied s moment.lasting) (steps_by step answer) moment.lasting) moment.slots
+  command_fits None (Ok answer) = sound.room
+  command_fits (Some command) (Ok answer) = omega (arith, sound.room, commanded_content command moment.lasting)
+  command_fits step (Err refused) = sound.room
+
   -- every call leaves the room that it found
   pub call_fits : (call : ControlCall) (victims : List Victim) → AreVictims system moment victims call → HasRoom system (After system moment call victims)
   call_fits (Input terminal number segments) victims right = input_fits terminal number segments _ refl
   call_fits (Receive terminal) victims right = sound.room
   call_fits (Acknowledge terminal number) victims right = ack_fits terminal (ack_answer moment terminal number)
   call_fits (Turn region) victims right = turn_fits region victims (slot_at moment region) refl right
+  call_fits (Command command) victims right = command_fits (lasting_command command) (command_answer system moment command)
+  call_fits (Checkpoint freeze) victims right = sound.room

@@ -4,10 +4,10 @@ ghost use Rattle.std.specs.Borrow.{sem};
 ghost use Rattle.std.specs.Io.BufRead.{Rests};
 ghost use Rattle.model_disk.specs.Disk.{Keeps, Only, armed};
 ghost use Rattle.model_machine.specs.declared.entry.Entry.TheVariants.{Accept, Show, Acked as AckedEntry, Turn as TurnEntry};
-ghost use Rattle.model_machine.specs.Machine.{output_at, IsRegion};
+ghost use Rattle.model_machine.specs.Machine.{output_at, terminal_at, IsRegion};
 ghost use Rattle.model_machine.specs.Steps.{is_quiet, show_answer};
 ghost use Rattle.model_machine.specs.History.{AddsEntry, AddsNothing, now_of};
-ghost use Rattle.lasting_state.specs.Showing.{IsShown};
+ghost use Rattle.lasting_state.specs.Showing.{IsShownTo};
 ghost use Rattle.logged_machine.specs.Goes.{fault_in};
 ghost use Rattle.logged_machine.specs.Opened.{HandsBack};
 ghost use Rattle.tm_control.specs.OnDisk.{Lasts, spent_now};
@@ -222,7 +222,7 @@ impl<D: Disk> Control<D> {
     /// What the terminal is to be shown; this adds no entry.
     pub fn showing(&self, terminal: &Name) -> Shown<'_>
         requires up { self.now.up ≡ true }
-        ensures { IsShown (output_at (now_of self.now.control).lasting.outputs terminal.now) result }
+        ensures { IsShownTo (terminal_at (now_of self.now.control).lasting.terminals terminal.now) (output_at (now_of self.now.control).lasting.outputs terminal.now) result }
     {
         self.machine.showing(terminal)
     }
@@ -232,7 +232,7 @@ impl<D: Disk> Control<D> {
     pub fn receive(&mut self, terminal: &Name) -> Shown<'_>
         requires up { self.old.up ≡ true }
         requires room { 0 < self.old.control.room }
-        ensures shown { IsShown (output_at (now_of self.old.control).lasting.outputs terminal.now) result }
+        ensures shown { IsShownTo (terminal_at (now_of self.old.control).lasting.terminals terminal.now) (output_at (now_of self.old.control).lasting.outputs terminal.now) result }
         ensures* adds { sem 𝓛 (Rests the_row self.entry (λ new. AddsEntry self.old.control new.control (Show terminal.now (show_answer (now_of self.old.control) terminal.now)))) }
         ensures* up { sem 𝓛 (Rests the_row self.entry (λ new. new.up ≡ true)) }
         ensures* disk { sem 𝓛 (Rests the_row self.entry (λ new. new.disk ≡ self.old.disk)) }

@@ -16,6 +16,7 @@ use Rattle.model_system.specs.declared.code.SegmentKind.TheVariants.{Multiple, S
 use Rattle.model_system.specs.declared.code_state.CodeState.{CodeState}
 use Rattle.model_system.specs.System.{System}
 use Rattle.system_types.proofs.Indexed.{found_at}
+use Rattle.model_machine.proofs.Flags.{states_again}
 use Rattle.model_machine.specs.declared.entry.Taken.{Taken}
 use Rattle.model_machine.specs.declared.entry.Taken.TheVariants.{New, Already}
 use Rattle.model_machine.specs.declared.entry.InputRefused.{InputRefused}
@@ -440,7 +441,7 @@ module _ (system : System) (tables : TablesState) (states : List CodeState) (reg
           pub halts : halted_here ≡ (if halted then Some (Err (StoppedCode name)) else None)
           halts =
               ap (λ k. stopped_code system moment_here k) (sym is_named)
-              ∙ ap (λ ss. stopped_by name (option_and_then (slice_get ss) (code_place system.codes name))) (states_are states)
+              ∙ ap (λ ss. stopped_by name (option_and_then (slice_get ss) (code_place system.codes name))) (states_again states)
               ∙ ap (λ b. if b then Some (Err (StoppedCode name)) else None) (sym told)
 
           pub halted_input : halted ≡ true → Err (StoppedCode name) ≡ input_answer system moment_here terminal number segments

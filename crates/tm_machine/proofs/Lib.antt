@@ -17,6 +17,7 @@ mod Scheduled
 mod Resting
 mod Started
 mod Asked
+pub mod ShownTo
 mod Roomed
 mod Finished
 mod Giving

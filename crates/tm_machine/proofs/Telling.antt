@@ -14,7 +14,7 @@ use Rattle.model_machine.specs.declared.entry.Entry.TheVariants.{Accept}
 use Rattle.model_machine.specs.declared.entry.Taken.{Taken}
 use Rattle.model_machine.specs.declared.entry.Taken.TheVariants.{New as NewInput, Already}
 use Rattle.model_machine.specs.declared.entry.InputRefused.{InputRefused}
-use Rattle.model_machine.specs.declared.entry.InputRefused.TheVariants.{Terminal, Expected, Conversation, Code, SegmentsOver, QueueFull, Fault}
+use Rattle.model_machine.specs.declared.entry.InputRefused.TheVariants.{Terminal, StoppedTerminal, StoppedCode, Expected, Conversation, Code, SegmentsOver, QueueFull, Fault}
 use Rattle.model_machine.specs.declared.entry.Turned.{Turned}
 use Rattle.model_machine.specs.declared.entry.Turned.TheVariants.{Next, QC, Done, Abended, Idle}
 use Rattle.model_machine.specs.Trial.{Advance, Trial}
@@ -124,6 +124,8 @@ module _ (system : System) (moment : Moment) (room : ℕ) (terminal : List ℕ) 
   refused_tells (Ok (NewInput id)) h = absurd h
   refused_tells (Ok Already) h = refused_so (λ id e. let clash : Ok Already ≡ Ok (NewInput id) = h ∙ e in cc)
   refused_tells (Err Terminal) h = refused_so (λ id e. let clash : Err Terminal ≡ Ok (NewInput id) = h ∙ e in cc)
+  refused_tells (Err StoppedTerminal) h = refused_so (λ id e. let clash : Err StoppedTerminal ≡ Ok (NewInput id) = h ∙ e in cc)
+  refused_tells (Err (StoppedCode code)) h = refused_so (λ id e. let clash : Err (StoppedCode code) ≡ Ok (NewInput id) = h ∙ e in cc)
   refused_tells (Err (Expected next)) h = refused_so (λ id e. let clash : Err (Expected next) ≡ Ok (NewInput id) = h ∙ e in cc)
   refused_tells (Err (Conversation other)) h = refused_so (λ id e. let clash : Err (Conversation other) ≡ Ok (NewInput id) = h ∙ e in cc)
   refused_tells (Err Code) h = refused_so (λ id e. let clash : Err Code ≡ Ok (NewInput id) = h ∙ e in cc)

@@ -4,7 +4,7 @@ use Rattle.std.specs.Option.{unwrap_or}
 use Rattle.model_machine.specs.declared.entry.Taken.{Taken}
 use Rattle.model_machine.specs.declared.entry.Taken.TheVariants.{New, Already}
 use Rattle.model_machine.specs.declared.entry.InputRefused.{InputRefused}
-use Rattle.model_machine.specs.declared.entry.InputRefused.TheVariants.{Terminal, Expected, Conversation, Code, SegmentsOver, QueueFull, Fault}
+use Rattle.model_machine.specs.declared.entry.InputRefused.TheVariants.{Terminal, StoppedTerminal, Expected, Conversation, Code, StoppedCode, SegmentsOver, QueueFull, Fault}
 use Rattle.model_machine.specs.Machine.{terminal_place}
 use Rattle.tm_types.specs.Name.{IsName}
 use Rattle.model_conversation.specs.Pads.{begun}
@@ -48,6 +48,8 @@ abbrev pub IsRefusal : Result Taken InputRefused → Result Taken InputRefused �
 IsRefusal right (Ok (New id)) = ⊥
 IsRefusal right (Ok Already) = Ok Already ≡ right
 IsRefusal right (Err Terminal) = Err Terminal ≡ right
+IsRefusal right (Err StoppedTerminal) = Err StoppedTerminal ≡ right
+IsRefusal right (Err (StoppedCode code)) = Err (StoppedCode code) ≡ right
 IsRefusal right (Err (Expected next)) = Err (Expected next) ≡ right
 IsRefusal right (Err (Conversation id)) = Err (Conversation id) ≡ right
 IsRefusal right (Err Code) = Err Code ≡ right

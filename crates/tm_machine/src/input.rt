@@ -1,8 +1,8 @@
 //! Inputs of terminals.
-ghost use Rattle.std.specs.Prelude.{◌≡◌, ◌<◌, length, IfOk, IfErr, IfSome, OnErr, Some};
-ghost use Rattle.std.specs.Option.{option_copied};
+ghost use Rattle.std.specs.Prelude.{◌≡◌, ◌<◌, false, length, slice_get, IfOk, IfErr, IfSome, OnErr, Some};
+ghost use Rattle.std.specs.Option.{option_and_then, option_copied, option_map_or};
 ghost use Rattle.tm_types.specs.Name.{IsName};
-ghost use Rattle.model_system.specs.Codes.{code_at};
+ghost use Rattle.model_system.specs.Codes.{code_at, code_place};
 ghost use Rattle.model_machine.specs.declared.entry.Entry.TheVariants.{Accept};
 ghost use Rattle.model_machine.specs.declared.entry.ControlCall.TheVariants.{Input};
 ghost use Rattle.model_machine.specs.History.{is_fault};
@@ -21,6 +21,7 @@ use lasting_state::{Enqueued, KeptInput, Untold, kept_first};
 use model_machine::{ControlFault, InputRefused, Taken};
 use model_system::{Code, SegmentKind};
 use std::alloc::Global;
+use system_types::{Codes, System};
 use tm_types::{Memory, Name, Segments};
 
 /// How an input is kept.
@@ -97,6 +98,17 @@ fn kept_so(alloc: Global, input: &NewInput, segments: Segments) -> Result<KeptIn
     }
 }
 
+/// Whether the code of this name is stopped.
+fn is_code_stopped(system: &System, codes: &Codes, code: &Name) -> bool
+    requires { length codes.now ≡ length system.now.codes }
+    ensures { result ≡ option_map_or (λ s. s.stopped) (option_and_then (slice_get codes.now) (code_place system.now.codes code.now)) false }
+{
+    match system.code_place(code) {
+        Some(place) => codes.states()[place].stopped,
+        None => false,
+    }
+}
+
 fn named(code: &Code) -> Name
     ensures value { result ≡ code.now.transaction.code }
     ensures name { IsName result }
@@ -169,6 +181,9 @@ impl Parts {
         let Some(place) = self.system.terminal_place(terminal) else {
             return Err(Err(InputRefused::Terminal));
         };
+        if self.tables.is_stopped(place) {
+            return Err(Err(InputRefused::StoppedTerminal));
+        }
         if let Some(answer) = by_number(self.tables.last_input(place), number) {
             return Err(answer);
         }
@@ -183,6 +198,10 @@ impl Parts {
         let Some(code) = code_for(self.system.codes(), &conversation, segments) else {
             return Err(Err(InputRefused::Code));
         };
+        let name = named(code);
+        if is_code_stopped(&self.system, &self.codes, &name) {
+            return Err(Err(InputRefused::StoppedCode(name)));
+        }
         let most = most_segments(code.transaction.segment_kind);
         let Ok(count) = u32::try_from(segments.len()) else {
             return Err(Err(InputRefused::Fault(ControlFault::Memory)));
@@ -191,8 +210,11 @@ impl Parts {
             return Err(Err(InputRefused::SegmentsOver(count, most)));
         }
         let way = way_by(&conversation, code.transaction.scratch_pad);
-        let code = named(code);
-        Ok(NewInput { place, code, way })
+        Ok(NewInput {
+            place,
+            code: name,
+            way,
+        })
     }
 
     /// Adds a new input to the queues, if they have the room, and tells it.

@@ -1,9 +1,9 @@
 //! Replies that terminals see and acknowledge.
 ghost use Rattle.std.specs.Prelude.{◌≡◌};
 ghost use Rattle.model_machine.specs.declared.entry.Entry.TheVariants.{Acked as AckedEntry, Show as ShowEntry};
-ghost use Rattle.model_machine.specs.Machine.{output_at};
+ghost use Rattle.model_machine.specs.Machine.{output_at, terminal_at};
 ghost use Rattle.model_machine.specs.Steps.{show_answer};
-ghost use Rattle.lasting_state.specs.Showing.{IsShown};
+ghost use Rattle.lasting_state.specs.Showing.{IsShownTo};
 ghost use Rattle.tm_machine.specs.Answers.{Answers};
 
 use crate::parts::Parts;
@@ -14,8 +14,14 @@ use tm_types::Name;
 impl Parts {
     /// What the terminal is to be shown.
     pub fn showing(&self, terminal: &Name) -> Shown<'_>
-        ensures { IsShown (output_at self.now.moment.lasting.outputs terminal.now) result }
+        ensures { IsShownTo (terminal_at self.now.moment.lasting.terminals terminal.now) (output_at self.now.moment.lasting.outputs terminal.now) result }
     {
+        let Some(place) = self.system.terminal_place(terminal) else {
+            return Shown::Unknown;
+        };
+        if self.tables.is_stopped(place) {
+            return Shown::Stopped;
+        }
         self.tables.showing(terminal)
     }
 
@@ -28,6 +34,7 @@ impl Parts {
         self.shown_answer(terminal)
     }
 
+    #[tactic(auto, using(crate::proofs::ShownTo::shown_answers))]
     fn shown_answer(&self, terminal: &Name) -> ShowAnswer
         ensures { result ≡ show_answer self.now.moment terminal.now }
     {
@@ -35,6 +42,7 @@ impl Parts {
             Shown::Unknown => ShowAnswer::Unknown,
             Shown::Reply(reply) => ShowAnswer::Reply(reply.number),
             Shown::Empty => ShowAnswer::Empty,
+            Shown::Stopped => ShowAnswer::Stopped,
         }
     }
 

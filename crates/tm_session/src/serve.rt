@@ -16,8 +16,9 @@ use model_machine::ControlCall;
 use model_session::{Asked, InputStopped};
 use session_lines::{Block, read_block};
 use session_text::{
-    ANSWER_ROOM, PAGE_ROOM, Printed, TURN_ROOM, WORD_ROOM, ack_line, bad_line, input_line,
-    none_line, page_lines, reply_lines, shown_word, stopped_line, turned_line, unknown_line,
+    ANSWER_ROOM, PAGE_ROOM, Printed, TURN_ROOM, WORD_ROOM, ack_line, bad_line, held_line,
+    input_line, none_line, page_lines, reply_lines, shown_word, stopped_line, turned_line,
+    unknown_line,
 };
 use std::alloc::Global;
 use system_types::System;
@@ -93,6 +94,8 @@ fn answer(
             answer_acknowledge(control, printed, &terminal, number)
         }
         ControlCall::Turn(region) => answer_turn(control, printed, region),
+        ControlCall::Command(_) => Err(Memory),
+        ControlCall::Checkpoint(_) => Err(Memory),
     }
 }
 
@@ -129,6 +132,8 @@ fn is_input_fault(answer: &Result<Taken, InputRefused>) -> bool
         Ok(_) => false,
         Err(InputRefused::Fault(_)) => true,
         Err(InputRefused::Terminal) => false,
+        Err(InputRefused::StoppedTerminal) => false,
+        Err(InputRefused::StoppedCode(_)) => false,
         Err(InputRefused::Expected(_)) => false,
         Err(InputRefused::Conversation(_)) => false,
         Err(InputRefused::Code) => false,
@@ -168,6 +173,10 @@ fn print_showing(
         Shown::Reply(reply) => print_reply(alloc, printed, control.system(), terminal, reply),
         Shown::Empty => {
             none_line(printed, terminal);
+            Ok(())
+        }
+        Shown::Stopped => {
+            held_line(printed, terminal);
             Ok(())
         }
         Shown::Unknown => {

@@ -6,7 +6,7 @@ use Rattle.model_conversation.specs.Terminals.{conversation_at}
 use Rattle.conversation.specs.Refusals.{input_answer as conversation_answer}
 use Rattle.model_system.specs.Codes.{code_at}
 use Rattle.tm_machine.specs.Inputs.{code_for}
-use Rattle.tm_machine.proofs.Asked.{unknown_input, numbered_input, busy_input, uncoded_input, many_input, new_input}
+use Rattle.tm_machine.proofs.Asked.{unknown_input, stopped_input, halted_input, not_halted, numbered_input, busy_input, uncoded_input, many_input, new_input}
 use Rattle.tm_machine.proofs.parts.Parts.new_input.Goals as goal
 
 pub returns-in_default-clause-refused : goal.returns-in_default-clause-refused
@@ -39,6 +39,16 @@ returns-in_default-code_for-clause-refused c =
     c.in-Some.place c.in-Some.ensures.value c.is_stopped.result c.is_stopped.ensures c.if-is_stopped.false c.last_input.result c.last_input.ensures c.in_default-by_number.ensures c.in-Ok.conversation says
     (c.in_default-code_for.ensures.value ∙ ap (λ k. code_at k (code_for c.in-Ok.conversation c.args.segments.now)) c.codes.ensures.value))
 
+pub returns-then-is_code_stopped-clause-refused : goal.returns-then-is_code_stopped-clause-refused
+returns-then-is_code_stopped-clause-refused c =
+    let says : Ok c.in-Ok.conversation ≡ conversation_answer (conversation_at c.args.terminal.now c.self.inside.tables.conversations) (busy_id c.args.terminal.now (messages_of c.self.inside.tables.queues.queued)) =
+    c.in-Ok.ensures ∙ ap (λ cs. conversation_answer (conversation_at c.args.terminal.now cs) (busy_id c.args.terminal.now (messages_of c.queues.result.now.queued))) c.conversations.ensures
+    ∙ ap (λ q. conversation_answer (conversation_at c.args.terminal.now c.self.inside.tables.conversations) (busy_id c.args.terminal.now (messages_of q.queued))) c.queues.ensures in
+    rw (sym c.self.view_is) (halted_input c.self.inside.system c.self.inside.tables c.self.inside.codes c.self.inside.regions.items c.self.invariant c.args.terminal.now c.args.number c.args.segments.now
+    c.in-Some.place c.in-Some.ensures.value c.is_stopped.result c.is_stopped.ensures c.if-is_stopped.false c.last_input.result c.last_input.ensures c.in_default-by_number.ensures c.in-Ok.conversation says c.in-Some-code_for.code.now
+    (c.in-Some-code_for.ensures.value ∙ ap (λ k. code_at k (code_for c.in-Ok.conversation c.args.segments.now)) c.codes.ensures.value) c.named-name.result c.named-name.ensures.value c.in-Some-code_for.ensures.named
+    c.is_code_stopped.result c.is_code_stopped.ensures c.if-is_code_stopped.true)
+
 pub returns-then-count-most-clause-refused : goal.returns-then-count-most-clause-refused
 returns-then-count-most-clause-refused c =
     let says : Ok c.in-Ok.conversation ≡ conversation_answer (conversation_at c.args.terminal.now c.self.inside.tables.conversations) (busy_id c.args.terminal.now (messages_of c.self.inside.tables.queues.queued)) =
@@ -46,7 +56,10 @@ returns-then-count-most-clause-refused c =
     ∙ ap (λ q. conversation_answer (conversation_at c.args.terminal.now c.self.inside.tables.conversations) (busy_id c.args.terminal.now (messages_of q.queued))) c.queues.ensures in
     rw (sym c.self.view_is) (many_input c.self.inside.system c.self.inside.tables c.self.inside.codes c.self.inside.regions.items c.self.invariant c.args.terminal.now c.args.number c.args.segments.now
     c.in-Some.place c.in-Some.ensures.value c.is_stopped.result c.is_stopped.ensures c.if-is_stopped.false c.last_input.result c.last_input.ensures c.in_default-by_number.ensures c.in-Ok.conversation says c.in-Some-code_for.code.now
-    (c.in-Some-code_for.ensures.value ∙ ap (λ k. code_at k (code_for c.in-Ok.conversation c.args.segments.now)) c.codes.ensures.value) c.most_segments-most.result c.in-Ok-try_from.count c.most_segments-most.ensures (search rules)
+    (c.in-Some-code_for.ensures.value ∙ ap (λ k. code_at k (code_for c.in-Ok.conversation c.args.segments.now)) c.codes.ensures.value) (not_halted c.self.inside.system c.self.inside.tables c.self.inside.codes c.self.inside.regions.items c.self.invariant c.args.terminal.now c.args.number c.args.segments.now
+    c.in-Some.place c.in-Some.ensures.value c.is_stopped.result c.is_stopped.ensures c.if-is_stopped.false c.last_input.result c.last_input.ensures c.in_default-by_number.ensures c.in-Ok.conversation says c.in-Some-code_for.code.now
+    (c.in-Some-code_for.ensures.value ∙ ap (λ k. code_at k (code_for c.in-Ok.conversation c.args.segments.now)) c.codes.ensures.value) c.named-name.result c.named-name.ensures.value c.in-Some-code_for.ensures.named
+    c.is_code_stopped.result c.is_code_stopped.ensures c.if-is_code_stopped.false) c.most_segments-most.result c.in-Ok-try_from.count c.most_segments-most.ensures (search rules)
     c.if-count-most.true)
 
 pub returns-clause-new : goal.returns-clause-new
@@ -56,6 +69,9 @@ returns-clause-new c =
     ∙ ap (λ q. conversation_answer (conversation_at c.args.terminal.now c.self.inside.tables.conversations) (busy_id c.args.terminal.now (messages_of q.queued))) c.queues.ensures in
     rw (sym c.self.view_is) (new_input c.self.inside.system c.self.inside.tables c.self.inside.codes c.self.inside.regions.items c.self.invariant c.args.terminal.now c.args.number c.args.segments.now
     c.in-Some.place c.in-Some.ensures.value c.is_stopped.result c.is_stopped.ensures c.if-is_stopped.false c.last_input.result c.last_input.ensures c.in_default-by_number.ensures c.in-Ok.conversation says c.in-Some-code_for.code.now
-    (c.in-Some-code_for.ensures.value ∙ ap (λ k. code_at k (code_for c.in-Ok.conversation c.args.segments.now)) c.codes.ensures.value) c.most_segments-most.result c.in-Ok-try_from.count c.most_segments-most.ensures (search rules)
-    c.if-count-most.false (record { place = c.in-Some.place; code = c.named-code.result; way = c.way_by-way.result }) refl c.in-Some.ensures.within c.way_by-way.ensures c.named-code.ensures.value
-    c.in-Some-code_for.ensures.named c.named-code.ensures.name)
+    (c.in-Some-code_for.ensures.value ∙ ap (λ k. code_at k (code_for c.in-Ok.conversation c.args.segments.now)) c.codes.ensures.value) (not_halted c.self.inside.system c.self.inside.tables c.self.inside.codes c.self.inside.regions.items c.self.invariant c.args.terminal.now c.args.number c.args.segments.now
+    c.in-Some.place c.in-Some.ensures.value c.is_stopped.result c.is_stopped.ensures c.if-is_stopped.false c.last_input.result c.last_input.ensures c.in_default-by_number.ensures c.in-Ok.conversation says c.in-Some-code_for.code.now
+    (c.in-Some-code_for.ensures.value ∙ ap (λ k. code_at k (code_for c.in-Ok.conversation c.args.segments.now)) c.codes.ensures.value) c.named-name.result c.named-name.ensures.value c.in-Some-code_for.ensures.named
+    c.is_code_stopped.result c.is_code_stopped.ensures c.if-is_code_stopped.false) c.most_segments-most.result c.in-Ok-try_from.count c.most_segments-most.ensures (search rules)
+    c.if-count-most.false (record { place = c.in-Some.place; code = c.named-name.result; way = c.way_by-way.result }) refl c.in-Some.ensures.within c.way_by-way.ensures c.named-name.ensures.value
+    c.in-Some-code_for.ensures.named c.named-name.ensures.name)
