@@ -9,11 +9,11 @@ use Rattle.tm_types.specs.declared.message.Message.{Message}
 use Rattle.tm_types.specs.Commands.{command_in}
 use Rattle.tm_types.specs.declared.abend.AbendCode.{AbendCode}
 use Rattle.model_conversation.specs.declared.conversation.PadChange.{PadChange}
-use Rattle.model_queues.specs.Outputs.{with_terminal, with_reply, without_first, without_replies, next_of, reply_at}
+use Rattle.model_queues.specs.Outputs.{with_terminal, with_reply, without_first, next_of, reply_at}
 use Rattle.model_message.specs.declared.ended_message.EndedMessage.{EndedMessage}
 use Rattle.model_system.specs.System.{System}
 use Rattle.model_machine.specs.Machine.{LastingState, message_at, output_at, terminal_at}
-use Rattle.model_machine.specs.Lasting.{KeptInput, applied, changed, sent, replied, switched, all_sent, finished, finished_by, with_pad_by, without_message, abend_text, abend_outputs, discarded_pad, input_message}
+use Rattle.model_machine.specs.Lasting.{KeptInput, applied, changed, sent, replied, switched, all_sent, finished, finished_by, with_pad_by, without_message, abend_text, abend_outputs, discarded_pad, input_message, without_replies}
 use Rattle.model_machine.specs.Lasting.LastingStep.{Accepts, Acknowledges, Discards, Commands}
 use Rattle.log_records.specs.declared.record.Record.{Record}
 use Rattle.log_records.specs.declared.record.Record.TheVariants.{Input, Command, Reply, Discarded, Completed, Acknowledged, SyncPoint, Checkpoint, Terminal, Code, Change}

@@ -18,7 +18,8 @@ use Rattle.model_system.specs.declared.code.Code.{Code}
 use Rattle.model_system.specs.Codes.{code_at}
 use Rattle.model_system.specs.System.{System}
 use Rattle.model_system.specs.Lists.{change_at}
-use Rattle.model_queues.specs.Outputs.{with_terminal, with_reply, without_first, without_replies}
+use Rattle.model_queues.specs.declared.replies.TerminalReplies.{TerminalReplies}
+use Rattle.model_queues.specs.Outputs.{with_terminal, with_reply, without_first}
 use Rattle.model_message.specs.declared.ended_message.EndedMessage.{EndedMessage}
 use Rattle.model_rows.specs.declared.row.Row.{Row}
 use Rattle.model_machine.specs.declared.lasting.CodeSetting.{CodeSetting}
@@ -173,6 +174,10 @@ discarded_pad message = if message.conversation then Ends else Stays
 abbrev pub with_pad_by : Option Message → (Message → PadChange) → LastingState → LastingState
 with_pad_by (Some message) change lasting = record lasting { conversations = padded (change message) message.origin lasting.conversations }
 with_pad_by None change lasting = lasting
+
+-- a terminal without its replies, whose numbers stay used
+abbrev pub without_replies : TerminalReplies → TerminalReplies
+without_replies t = record t { replies = [] }
 
 -- a code and a terminal that are stopped, or started
 abbrev pub stopped_code : Bool → CodeSetting → CodeSetting

@@ -37,10 +37,6 @@ with_reply segments t = record t {
 abbrev pub without_first : TerminalReplies → TerminalReplies
 without_first t = record t { replies = drop 1 t.replies }
 
--- a terminal without its replies, whose numbers stay used
-abbrev pub without_replies : TerminalReplies → TerminalReplies
-without_replies t = record t { replies = [] }
-
 -- a terminal without its last reply, whose number the next reply gets
 abbrev pub without_last : TerminalReplies → TerminalReplies
 without_last t = record t { next = t.next - 1; replies = take (length t.replies - 1) t.replies }

@@ -9,7 +9,7 @@ use Rattle.tm_types.specs.Segment.{counted_bytes}
 use Rattle.tm_types.specs.declared.message.Reply.{Reply}
 use Rattle.model_queues.specs.Room.{reply_bytes, replies_bytes}
 use Rattle.model_queues.specs.declared.replies.TerminalReplies.{TerminalReplies}
-use Rattle.model_queues.specs.Outputs.{fresh_terminal, is_of, replies_at, IsTerminal, with_terminal, with_reply, without_first, without_last, without_replies, with_next, RunUpTo, AreNumbered, outputs_bytes}
+use Rattle.model_queues.specs.Outputs.{fresh_terminal, is_of, replies_at, IsTerminal, with_terminal, with_reply, without_first, without_last, with_next, RunUpTo, AreNumbered, outputs_bytes}
 use Rattle.out_queues.specs.Kept.{AreKept}
 
 abbrev terminal_bytes : TerminalReplies → ℕ
@@ -120,15 +120,6 @@ kept_removed name ts new fs content bytes h e g same =
       counted = omega (arith, h.counted, g);
       small = omega (arith, h.small);
       numbered = subst (AllByRecursion AreNumbered) (sym e) (numbered_changed name without_first ts h.numbered (λ t f n. run_fewer t.next t.replies n));
-    })
-
-pub kept_emptied : (name : List ℕ) (ts new fs : List TerminalReplies) (content bytes : ℕ) → AreKept ts content → new ≡ with_terminal name without_replies ts
-    → outputs_bytes new + bytes ≡ outputs_bytes ts → fs ≡ new → AreKept fs (content - bytes)
-kept_emptied name ts new fs content bytes h e g same =
-    subst (λ us. AreKept us (content - bytes)) (sym same) (record {
-      counted = omega (arith, h.counted, g);
-      small = omega (arith, h.small);
-      numbered = subst (AllByRecursion AreNumbered) (sym e) (numbered_changed name without_replies ts h.numbered (λ t f n. tt));
     })
 
 pub kept_added : (name : List ℕ) (segments : List (List ℕ)) (ts new fs : List TerminalReplies) (content bytes : ℕ) → AreKept ts content → IsTerminal name ts

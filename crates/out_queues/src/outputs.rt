@@ -3,7 +3,7 @@ ghost use Rattle.std.specs.Prelude.{◌≡◌, ◌+◌, ◌<◌, ◌≤◌, ◌^
 ghost use Rattle.std.specs.List.{AllByRecursion};
 ghost use Rattle.std.specs.Option.{option_copied, is_some};
 ghost use Rattle.tm_types.specs.Segment.{counted_bytes};
-ghost use Rattle.model_queues.specs.Outputs.{fresh_terminal, replies_at, IsTerminal, with_terminal, with_reply, without_first, without_last, without_replies, with_next, reply_at, next_of, AreNumbered, outputs_bytes};
+ghost use Rattle.model_queues.specs.Outputs.{fresh_terminal, replies_at, IsTerminal, with_terminal, with_reply, without_last, with_next, reply_at, next_of, AreNumbered, outputs_bytes};
 ghost use Rattle.out_queues.specs.Acknowledged.{ack_answer, left_by};
 
 use crate::table;
@@ -158,24 +158,6 @@ impl Outputs {
         ensures { self.new ≡ with_terminal terminal.now (with_next number) self.old }
     {
         table::set_next(&mut self.terminals, terminal, number);
-    }
-
-    /// Removes the first reply of the terminal, if it has one. This takes no memory.
-    pub fn remove_first(&mut self, terminal: &Name)
-        requires { IsTerminal terminal.now self.old }
-        ensures { self.new ≡ with_terminal terminal.now without_first self.old }
-    {
-        let removed = table::remove_first(&mut self.terminals, terminal);
-        self.content -= removed;
-    }
-
-    /// Removes all replies of the terminal. This takes no memory.
-    pub fn remove_all(&mut self, terminal: &Name)
-        requires { IsTerminal terminal.now self.old }
-        ensures { self.new ≡ with_terminal terminal.now without_replies self.old }
-    {
-        let removed = table::remove_all(&mut self.terminals, terminal);
-        self.content -= removed;
     }
 
     /// The terminal has seen its reply of this number, which is then no longer kept. This takes no

@@ -1,9 +1,9 @@
 //! The terminals of a system by their names.
-ghost use Rattle.std.specs.Prelude.{◌≡◌, ◌+◌, ◌<◌, ◌≤◌, ◌^◌, [], Some, map, position, slice_get, IsSomeAnd, OnOk, OnErr, IfOk, IfErr};
+ghost use Rattle.std.specs.Prelude.{◌≡◌, ◌+◌, ◌<◌, ◌≤◌, ◌^◌, Some, map, position, slice_get, IsSomeAnd, OnOk, OnErr, IfOk, IfErr};
 ghost use Rattle.tm_types.specs.Segment.{counted_bytes};
 ghost use Rattle.std.specs.Option.{option_copied};
 ghost use Rattle.model_queues.specs.Room.{replies_bytes};
-ghost use Rattle.model_queues.specs.Outputs.{fresh_terminal, is_of, replies_at, IsTerminal, with_terminal, with_reply, without_first, without_last, without_replies, with_next, next_of, first_number, outputs_bytes};
+ghost use Rattle.model_queues.specs.Outputs.{fresh_terminal, is_of, replies_at, IsTerminal, with_terminal, with_reply, without_first, without_last, with_next, next_of, first_number, outputs_bytes};
 
 use model_queues::{Replies, TerminalReplies};
 use std::alloc::{AllocFailed, Global};
@@ -151,38 +151,6 @@ fn drop_first(kept: &mut TerminalReplies) -> u64
         Some(reply) => reply.segments.counted_bytes(),
         None => 0,
     }
-}
-
-/// Removes all replies of the terminal of this name, and answers how many bytes they counted.
-pub fn remove_all(terminals: &mut [TerminalReplies], name: &Name) -> u64
-    requires terminal { IsTerminal name.now terminals.old }
-    requires fits { outputs_bytes terminals.old < 2 ^ 62 }
-    ensures value { terminals.new ≡ with_terminal name.now without_replies terminals.old }
-    ensures bytes { outputs_bytes terminals.new + result ≡ outputs_bytes terminals.old }
-{
-    let place = place_of(terminals, name);
-    drop_all(&mut terminals[place])
-}
-
-fn drop_all(kept: &mut TerminalReplies) -> u64
-    requires { replies_bytes kept.old.replies < 2 ^ 62 }
-    ensures value { kept.new ≡ without_replies kept.old }
-    ensures bytes { replies_bytes kept.new.replies + result ≡ replies_bytes kept.old.replies }
-{
-    empty(&mut kept.replies.items)
-}
-
-/// Removes all of these replies, and answers how many bytes they counted.
-fn empty(replies: &mut VecDeque<Reply>) -> u64
-    requires { replies_bytes replies.old.items < 2 ^ 62 }
-    ensures value { replies.new.items ≡ [] }
-    ensures bytes { result ≡ replies_bytes replies.old.items }
-{
-    let mut bytes: u64 = 0;
-    while let Some(reply) = replies.pop_front() {
-        bytes += reply.segments.counted_bytes();
-    }
-    bytes
 }
 
 /// Removes the last reply of the terminal of this name, whose number the next reply gets, and answers

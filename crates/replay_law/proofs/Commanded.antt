@@ -4,12 +4,12 @@ use Rattle.std.specs.Prelude.{Option, ◌==◌}
 use Rattle.std.specs.List.{list_all}
 use Rattle.tm_types.specs.declared.command.LastingCommand.{LastingCommand}
 use Rattle.tm_types.specs.declared.command.LastingCommand.TheVariants.{StartTransaction, StopTransaction, StartTerminal, StopTerminal, DequeueFirst, DequeueAll, Exit}
-use Rattle.model_queues.specs.Outputs.{with_terminal, without_replies}
+use Rattle.model_queues.specs.Outputs.{with_terminal}
 use Rattle.model_system.specs.Lists.{change_at}
 use Rattle.model_system.specs.System.{System}
 use Rattle.model_machine.specs.declared.lasting.CodeSetting.{CodeSetting}
 use Rattle.model_machine.specs.Machine.{LastingState, setting_place}
-use Rattle.model_machine.specs.Lasting.{commanded, stopped_code, with_stopped_code, with_stopped_terminal}
+use Rattle.model_machine.specs.Lasting.{commanded, stopped_code, with_stopped_code, with_stopped_terminal, without_replies}
 use Rattle.model_image.specs.States.{is_setting, run_up_to}
 use Rattle.replay_law.specs.Steps.{EndsNoneWaiting}
 use Rattle.replay_law.proofs.Bools.{both, first_of}

@@ -10,10 +10,10 @@ use Rattle.tm_types.specs.declared.abend.AbendCode.{AbendCode}
 use Rattle.tm_types.specs.declared.message.Message.{Message}
 use Rattle.tm_types.specs.declared.message.Reply.{Reply}
 use Rattle.model_queues.specs.declared.replies.TerminalReplies.{TerminalReplies}
-use Rattle.model_queues.specs.Outputs.{is_of, outputs_bytes, replies_at, with_reply, with_terminal, without_first, without_replies}
+use Rattle.model_queues.specs.Outputs.{is_of, outputs_bytes, replies_at, with_reply, with_terminal, without_first}
 use Rattle.model_queues.specs.Room.{message_bytes, messages_bytes, replies_bytes, reply_bytes}
 use Rattle.model_message.specs.declared.ended_message.EndedMessage.{EndedMessage}
-use Rattle.model_machine.specs.Lasting.{all_sent, finished, replied, sent, switched, without_message}
+use Rattle.model_machine.specs.Lasting.{all_sent, finished, replied, sent, switched, without_message, without_replies}
 use Rattle.model_machine.specs.Machine.{LastingState, content, output_at}
 use Rattle.sound_law.specs.Sending.{ended_bytes, sent_bytes}
 

@@ -17,7 +17,3 @@ first_state code = record {
 
 abbrev pub is_state_of : List ℕ → CodeState → Bool
 is_state_of code state = bytes_eq state.code code
-
--- a state that is stopped, or started
-abbrev pub stopped_state : Bool → CodeState → CodeState
-stopped_state stopped state = record state { stopped = stopped }

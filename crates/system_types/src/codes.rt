@@ -1,7 +1,6 @@
 //! The states of a system's codes.
 ghost use Rattle.std.specs.Prelude.{◌≡◌, ◌<◌, IfOk, IfSome, length, slice_set, slice_get, Some, position, map};
 ghost use Rattle.std.specs.Str.{bytes_eq};
-ghost use Rattle.model_system.specs.Lists.{change_at};
 ghost use Rattle.system_types.specs.Codes as spec;
 
 use crate::System;
@@ -64,14 +63,6 @@ impl Codes {
     {
         set_raised(&mut self.items, place, raised)
     }
-
-    /// Stops the code at this place, or starts it.
-    pub fn set_stopped(&mut self, place: usize, stopped: bool)
-        requires { place < length self.old }
-        ensures { self.new ≡ change_at self.old (Some place) (spec.stopped_state stopped) }
-    {
-        set_stopped(&mut self.items, place, stopped);
-    }
 }
 
 fn first_states(alloc: Global, codes: &[Code]) -> Result<Vec<CodeState>, AllocError>
@@ -112,17 +103,4 @@ fn set_raised(states: &mut [CodeState], place: usize, raised: bool)
 {
     let state = states[place];
     states[place] = CodeState { raised, ..state };
-}
-
-fn set_stopped(states: &mut Vec<CodeState>, place: usize, stopped: bool)
-    requires { place < length states.old.items }
-    ensures { states.new.items ≡ change_at states.old.items (Some place) (spec.stopped_state stopped) }
-{
-    note_stopped(&mut states[place], stopped);
-}
-
-fn note_stopped(state: &mut CodeState, stopped: bool)
-    ensures { state.new ≡ spec.stopped_state stopped state.old }
-{
-    state.stopped = stopped;
 }
