@@ -114,7 +114,7 @@ impl Control {
         let answer = accept(&mut self.parts, terminal, number, segments, &mut self.told);
         note(
             &mut self.history,
-            Entry::Accept(*terminal, number, kept, answer),
+            input_entry(terminal, number, kept, &answer),
         );
         answer
     }
@@ -163,7 +163,7 @@ impl Control {
             return Err(AckRefused::Fault(ControlFault::Memory));
         }
         let answer = self.parts.acknowledge(terminal, number);
-        note(&mut self.history, Entry::Acked(*terminal, number, answer));
+        note(&mut self.history, ack_entry(terminal, number, &answer));
         answer
     }
 
@@ -215,6 +215,23 @@ fn turn(parts: &mut Parts, region: u32, told: &mut Vec<u8>) -> Result<Turned, Co
         Ok(turned) => Ok(turned),
         Err(_) => Err(ControlFault::Memory),
     }
+}
+
+fn input_entry(
+    terminal: &Name,
+    number: u64,
+    segments: Segments,
+    answer: &Result<Taken, InputRefused>,
+) -> Entry
+    ensures { result ≡ Accept terminal.now number segments answer.now }
+{
+    Entry::Accept(*terminal, number, segments, *answer)
+}
+
+fn ack_entry(terminal: &Name, number: u64, answer: &Result<Acked, AckRefused>) -> Entry
+    ensures { result ≡ AckedEntry terminal.now number answer.now }
+{
+    Entry::Acked(*terminal, number, *answer)
 }
 
 fn turn_entry(region: u32, turned: &Turned) -> Entry

@@ -5,7 +5,9 @@ ghost use Rattle.model_machine.specs.declared.entry.Entry.TheVariants.{Turn as T
 ghost use Rattle.logged_machine.specs.Goes.{fault_in};
 ghost use Rattle.tm_control.specs.Calls.{is_noted, noted};
 
-use model_machine::{AckRefused, ControlFault, Entry, InputRefused, Turned};
+use model_machine::{
+    AckRefused, CheckpointRefused, CommandRefused, ControlFault, Entry, InputRefused, Turned,
+};
 
 /// Adds an entry to a history that has room for it: that of a call which was answered, or in which the disk failed.
 pub(crate) fn note(history: &mut Vec<Entry>, entry: Entry)
@@ -24,6 +26,8 @@ fn is_noted(entry: &Entry) -> bool
         Entry::Accept(_, _, _, Err(InputRefused::Fault(fault))) => is_told(fault),
         Entry::Acked(_, _, Err(AckRefused::Fault(fault))) => is_told(fault),
         Entry::Turn(_, Err(fault)) => is_told(fault),
+        Entry::Commanded(_, Err(CommandRefused::Fault(fault))) => is_told(fault),
+        Entry::Checked(_, Err(CheckpointRefused::Fault(fault))) => is_told(fault),
         _ => true,
     }
 }
