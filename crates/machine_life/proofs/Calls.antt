@@ -79,7 +79,7 @@ none_among : (c : Change) (slots : List Change) → AllByRecursion (λ d. is_bef
 none_among c [] all = refl
 none_among c (d ∷ slots) all = ap (λ b. b || is_among c.db c.slot slots) (behind_apart c d all.0) ∙ none_among c slots all.1
 
-ascend_own : (slots : List Change) → Ascend slots → AreOwn slots
+pub ascend_own : (slots : List Change) → Ascend slots → AreOwn slots
 ascend_own [] are = tt
 ascend_own (c ∷ slots) are = (none_among c slots are.0, ascend_own slots are.1)
 

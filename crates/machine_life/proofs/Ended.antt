@@ -107,10 +107,10 @@ module _ (system : System) (n : ℕ) (lasting : LastingState) (before : List (Op
       let by = l.touched.each unit d s t is in subst (λ r. HoldsAlone was r (resource_of d (image_at d s old.committed))) (its_region d s by) by.alone
 
   -- a slot that the unit touched and the region doesn't keep stands as it is committed
-  stands_committed : (d s : ℕ) (t : Touch) → life.touches unit d s ≡ Some t → is_among d s (touched_in region old) ≡ false → image_at d s old.committed ≡ image_at d s old.stores
+  pub stands_committed : (d s : ℕ) (t : Touch) → life.touches unit d s ≡ Some t → is_among d s (touched_in region old) ≡ false → image_at d s old.committed ≡ image_at d s old.stores
   stands_committed d s t is none = have.untouched d s (l.touched.each unit d s t is).there.least (kept_by_none d s (alone_in d s t is) none)
 
-  committed_so : (d s : ℕ) → IsKnownSlot system d s → life.committed d s ≡ bytes_at d s old.committed
+  pub committed_so : (d s : ℕ) → IsKnownSlot system d s → life.committed d s ≡ bytes_at d s old.committed
   committed_so d s known =
       ap (λ k. life.committed k s) known.is ∙ l.committed known.place s known.dbd known.found known.below ∙ sym (ap (λ k. bytes_at k s old.committed) known.is)
 

@@ -31,6 +31,8 @@ use Rattle.sound_law.specs.Sending.{is_sent_well, sent_bytes}
 use Rattle.sound_law.proofs.Pads.{Changes}
 use Rattle.sound_law.proofs.Works.{origin_known}
 use Rattle.sound_law.proofs.Steps.{HasTerminals, all_keep, pad_fits, receives, there_by}
+use Rattle.snapshot_records.specs.Records.{IsOfSystem}
+use Rattle.count_law.specs.Counted.{IsCounted}
 use Rattle.step_records.specs.Records.{step_records}
 use Rattle.slot_law.specs.Committed.{synced}
 use Rattle.disk_law.specs.Life.{LifeOnDisk, SpellRows}
@@ -46,17 +48,21 @@ use Rattle.machine_life.specs.Carried.{resource_of, HoldTouched, IsCarriedBy}
 use Rattle.machine_life.specs.Going.{StepsOn}
 use Rattle.machine_life.proofs.Counting.{completes_fits, discards_fits}
 use Rattle.machine_life.proofs.Ended.{put_so, marks_back, synced_so, held_committed, units_then, syncs_then}
-use Rattle.machine_life.proofs.Inputs.{HasRoom, room_for, lasting_fits, keeps_rules, life_behind, unbroken_by}
+use Rattle.machine_life.proofs.Inputs.{HasRoom, has_terminals, room_for, lasting_fits, keeps_rules, life_behind, unbroken_by}
+use Rattle.machine_life.proofs.Names.{of_system_behind, step_counted}
 use Rattle.machine_life.proofs.Places.{bytes_of_place}
 use Rattle.machine_life.proofs.Stores.{has_stores, committed_one, stands_so, marked_so, stays_there}
 
-module _ (system : System) (valid : IsSystem system) (n : ℕ) (moment after : Moment) (names : HasTerminals system moment.lasting) (old new : SlotsState) (units : List ℕ) (next : ℕ) (life : LifeOnDisk)
+module _ (system : System) (valid : IsSystem system) (n : ℕ) (moment after : Moment) (old new : SlotsState) (units : List ℕ) (next : ℕ) (life : LifeOnDisk)
     (c : IsCarriedBy system moment old units next life) (sound : StaysSound system after) (unspent : AreUnspent moment.lasting)
     (have : HaveSlots system.databases n old) (had : HaveSlots system.databases n new) (one_sector : AllByRecursion (λ dbd. dbd.sectors ≤ 1) system.databases) (holds : HoldTouched moment.enqueues old)
     (unit region : ℕ) (least : 1 ≤ region) (found : slice_get units (region - 1) ≡ Some unit) (some : 0 < unit)
     (leave : (other d : ℕ) (image : List Row) → (other ≡ region → ⊥) → HoldsAlone moment.enqueues other (resource_of d image) → HoldsAlone after.enqueues other (resource_of d image))
     (number later : ℕ) (fresh : (number ≡ 0) ⊎ (next ≤ number)) (low : number < later) (more : next ≤ later) (numbers : AreNumbered after.slots (with_unit region number units) later)
     (id : ℕ) (message : Message) (at : message_at moment.lasting.messages id ≡ Some message) (its : message.id ≡ id) where
+  names : HasTerminals system moment.lasting
+  names = has_terminals system moment.lasting c.is.names
+
   fits_now : Fits system moment.lasting
   fits_now = lasting_fits system moment.lasting life c.is.of_system c.is.lasts c.is.is_life
 
@@ -149,6 +155,8 @@ module _ (system : System) (valid : IsSystem system) (n : ℕ) (moment after : M
             is = record {
               of_system = c.is.of_system;
               lasts = lasts_so;
+              names = subst (λ (l : LastingState). IsOfSystem system l) (sym behind_is) (of_system_behind system (Completes id lines outputs pad) moment.lasting c.is.names);
+              counted = subst (λ (l : LastingState). IsCounted l) lasts_so (step_counted life step is (subst (λ (l : LastingState). IsCounted l) (sym c.is.lasts) c.is.counted));
               is_life = life_behind life c.is.is_life step is unbroken;
               stores = has_stores system n new had one_sector (after_step step life) c.is.of_system
                   (λ place number dbd found_there below.
@@ -230,6 +238,8 @@ module _ (system : System) (valid : IsSystem system) (n : ℕ) (moment after : M
             is = record {
               of_system = c.is.of_system;
               lasts = discard_lasts;
+              names = subst (λ (l : LastingState). IsOfSystem system l) (sym behind_is) (of_system_behind system (Discards id abend) moment.lasting c.is.names);
+              counted = subst (λ (l : LastingState). IsCounted l) discard_lasts (step_counted life step is (subst (λ (l : LastingState). IsCounted l) (sym c.is.lasts) c.is.counted));
               is_life = life_behind life c.is.is_life step is discard_unbroken;
               stores = has_stores system n new had one_sector (after_step step life) c.is.of_system
                   (λ place number dbd found_there below.

@@ -37,6 +37,8 @@ use Rattle.replay_law.proofs.SoundLaws.{breaks_none, is_sound}
 use Rattle.sound_law.specs.Rooms.{StaysSound}
 use Rattle.sound_law.proofs.Refused.{IsNew, is_new}
 use Rattle.sound_law.proofs.Steps.{HasTerminals, pads_of_codes, there_by, is_free, input_known, stays_sound}
+use Rattle.snapshot_records.specs.Records.{IsOfSystem}
+use Rattle.count_law.specs.Counted.{IsCounted}
 use Rattle.step_records.specs.Records as told
 use Rattle.disk_law.specs.Life.{LifeOnDisk, IsLife}
 use Rattle.step_law.specs.Steps.{HasRoomFor, IsStep, StepOnDisk, after_step}
@@ -47,6 +49,7 @@ use Rattle.machine_life.specs.OnSlots.{SlotsState}
 use Rattle.machine_life.specs.Carried.{IsCarriedBy}
 use Rattle.machine_life.specs.Going.{StepsOn}
 use Rattle.machine_life.proofs.Counting.{accepts_fits, acknowledges_fits}
+use Rattle.machine_life.proofs.Names.{of_system_behind, step_counted}
 
 -- these records have room in a life's log
 pub record HasRoom (records : List Record) (life : LifeOnDisk) : Type 0 where
@@ -81,6 +84,10 @@ life_behind life l step s unbroken = record {
   rows = s.rows;
   slots = s.slots;
 }
+
+-- what lasts has the terminals of the system
+pub has_terminals : (system : System) (lasting : LastingState) → IsOfSystem system lasting → HasTerminals system lasting
+has_terminals system lasting is = record { terminals = is.terminals; outputs = is.outputs; conversations = is.conversations }
 
 -- ---- an input
 
@@ -123,10 +130,17 @@ removed_by first low same reply = if low then Ok AckAlready else if same && is_s
 room_within : (a b most : ℕ) → a + b ≤ most → a ≤ most
 room_within a b most h = omega (arith, h)
 
-module _ (system : System) (valid : IsSystem system) (moment : Moment) (names : HasTerminals system moment.lasting) (slots : SlotsState) (units : List ℕ) (next : ℕ) (life : LifeOnDisk)
+module _ (system : System) (valid : IsSystem system) (moment : Moment) (slots : SlotsState) (units : List ℕ) (next : ℕ) (life : LifeOnDisk)
     (c : IsCarriedBy system moment slots units next life) (unspent : AreUnspent moment.lasting) where
+  names : HasTerminals system moment.lasting
+  names = has_terminals system moment.lasting c.is.names
+
   fits_now : Fits system moment.lasting
   fits_now = lasting_fits system moment.lasting life c.is.of_system c.is.lasts c.is.is_life
+
+  counted_then : (step : StepOnDisk) → IsStep life step → (after : LastingState) → step.lasting ≡ after → IsCounted after
+  counted_then step s after same =
+      subst (λ (l : LastingState). IsCounted l) same (step_counted life step s (subst (λ (l : LastingState). IsCounted l) (sym c.is.lasts) c.is.counted))
 
   module _ (terminal : List ℕ) (number : ℕ) (segments : List (List ℕ)) (id : ℕ) (answer : input_answer system moment terminal number segments ≡ Ok (New id)) (small : is_small number ≡ true)
       (right : list_all (has_right_pad system) (After system moment (Input terminal number segments) []).lasting.conversations ≡ true) where
@@ -197,6 +211,8 @@ module _ (system : System) (valid : IsSystem system) (moment : Moment) (names : 
             is = record {
               of_system = c.is.of_system;
               lasts = lasts_so;
+              names = subst (λ (l : LastingState). IsOfSystem system l) (sym behind_is) (of_system_behind system (Accepts terminal number kept) moment.lasting c.is.names);
+              counted = counted_then (accepting terminal number segments life) is after.lasting lasts_so;
               is_life = life_behind life c.is.is_life (accepting terminal number segments life) is unbroken;
               stores = record { are_of = c.is.stores.are_of; valid = c.is.stores.valid; present = c.is.stores.present; changed = c.is.stores.changed };
               committed = c.is.committed;
@@ -308,6 +324,8 @@ module _ (system : System) (valid : IsSystem system) (moment : Moment) (names : 
             is = record {
               of_system = c.is.of_system;
               lasts = lasts_so;
+              names = subst (λ (l : LastingState). IsOfSystem system l) (sym ack_behind) (of_system_behind system (Acknowledges terminal) moment.lasting c.is.names);
+              counted = counted_then (acknowledging terminal number life) is after_ack.lasting lasts_so;
               is_life = life_behind life c.is.is_life (acknowledging terminal number life) is unbroken;
               stores = record { are_of = c.is.stores.are_of; valid = c.is.stores.valid; present = c.is.stores.present; changed = c.is.stores.changed };
               committed = c.is.committed;

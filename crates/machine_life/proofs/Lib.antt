@@ -4,6 +4,7 @@ pub mod Places
 pub mod Changes
 pub mod Stores
 pub mod Counting
+pub mod Names
 pub mod Moves
 pub mod Ended
 pub mod Inputs
@@ -12,3 +13,6 @@ pub mod Staying
 pub mod Calls
 pub mod Victims
 pub mod Turns
+pub mod Answered
+pub mod Checkpoints
+pub mod Openings

@@ -375,6 +375,8 @@ module _ (system : System) (n : ℕ) (lasting : LastingState) (before after : Li
   behind_is = record {
     of_system = stays.system ∙ l.of_system;
     lasts = stays.lasting ∙ l.lasts;
+    names = l.names;
+    counted = l.counted;
     is_life = is_life_behind;
     stores = has_stores system n new had one_sector life_behind (stays.system ∙ l.of_system)
         (λ place number dbd found below. present_so (place + 1) number (known_there place number dbd found below))

@@ -36,6 +36,8 @@ module _ (system : System) (lasting : LastingState) (before after : List (Option
   goes_with numbers = record {
     of_system = l.of_system;
     lasts = l.lasts;
+    names = l.names;
+    counted = l.counted;
     is_life = l.is_life;
     stores = l.stores;
     committed = l.committed;
@@ -108,6 +110,8 @@ module _ (system : System) (lasting : LastingState) (before after : List (Option
       is = record {
         of_system = l.of_system;
         lasts = l.lasts;
+        names = l.names;
+        counted = l.counted;
         is_life = l.is_life;
         stores = l.stores;
         committed = l.committed;
@@ -153,6 +157,8 @@ module _ (system : System) (n : ℕ) (lasting : LastingState) (before after : Li
     is = record {
       of_system = l.of_system;
       lasts = l.lasts;
+      names = l.names;
+      counted = l.counted;
       is_life = without_life unit marks life l.is_life back;
       stores = has_stores system n new had one_sector life_up l.of_system
           (λ place number dbd found_there below. put_so system n lasting before was table old units next life l have holds unit region least found some new up (place + 1) number (known_so place number dbd found_there below))

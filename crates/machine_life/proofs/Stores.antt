@@ -33,7 +33,7 @@ pub marked_of_place : (changed : List (List ℕ)) (place number : ℕ) → is_ma
 marked_of_place changed place number = ap (λ k. list_any (λ n. n == number) (slice_index_or changed k [])) (omega arith)
 
 module _ (system : System) (regions : ℕ) (slots : SlotsState) (have : HaveSlots system.databases regions slots) (one_sector : AllByRecursion (λ dbd. dbd.sectors ≤ 1) system.databases) where
-  stores_one : AllByRecursion (λ s. s.dbd.sectors ≤ 1) slots.stores
+  pub stores_one : AllByRecursion (λ s. s.dbd.sectors ≤ 1) slots.stores
   stores_one =
       all_map (λ (s : Stored). s.dbd) (λ (dbd : Dbd). dbd.sectors ≤ 1) slots.stores
       (subst (λ (dbds : List Dbd). AllByRecursion (λ dbd. dbd.sectors ≤ 1) dbds) (sym have.stores) one_sector)

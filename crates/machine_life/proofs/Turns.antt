@@ -42,7 +42,7 @@ use Rattle.step_records.specs.Records.{step_records}
 use Rattle.system_types.specs.Valid.{IsSystem}
 use Rattle.replay_law.proofs.Rows.{rows_aside}
 use Rattle.sound_law.specs.Rooms.{StaysSound}
-use Rattle.sound_law.proofs.Steps.{HasTerminals, stays_sound}
+use Rattle.sound_law.proofs.Steps.{stays_sound}
 use Rattle.sound_law.proofs.Works.{SendsWell, work_sends}
 use Rattle.disk_law.specs.Life.{LifeOnDisk}
 use Rattle.disk_law.proofs.Recovering.{index_found}
@@ -56,7 +56,7 @@ use Rattle.machine_life.proofs.Calls.{call_goes}
 use Rattle.machine_life.proofs.Ended.{get_of_index}
 use Rattle.machine_life.proofs.Ending.{complete_goes, discard_goes}
 use Rattle.machine_life.proofs.Holding.{asks_leave, release_leaves}
-use Rattle.machine_life.proofs.Inputs.{HasRoom}
+use Rattle.machine_life.proofs.Inputs.{HasRoom, has_terminals}
 use Rattle.machine_life.proofs.Numbers.{numbered_ended, numbered_kept, numbered_taken}
 use Rattle.machine_life.proofs.Staying.{stays_as, takes_on}
 use Rattle.machine_life.proofs.Victims.{continues_then, some_unit, victims_go}
@@ -124,7 +124,7 @@ message_of_work system lasting slot work works = by_job (job_of system slot.code
 completed_rows : (id : ℕ) (lines : List (List Row)) (outputs : List EndedMessage) (pad : PadChange) (lasting : LastingState) → (applied (Completes id lines outputs pad) lasting).rows ≡ lines
 completed_rows id lines outputs pad lasting = sym (ap (λ (x : LastingState). x.rows) (rows_aside lines (Completes id lines outputs pad) lasting))
 
-module _ (system : System) (valid : IsSystem system) (n : ℕ) (moment : Moment) (names : HasTerminals system moment.lasting) (old new : SlotsState) (units : List ℕ) (next : ℕ) (life : LifeOnDisk)
+module _ (system : System) (valid : IsSystem system) (n : ℕ) (moment : Moment) (old new : SlotsState) (units : List ℕ) (next : ℕ) (life : LifeOnDisk)
     (c : IsCarriedBy system moment old units next life) (unspent : AreUnspent moment.lasting)
     (have : HaveSlots system.databases n old) (had : HaveSlots system.databases n new) (one_sector : AllByRecursion (λ dbd. dbd.sectors ≤ 1) system.databases) (holds : HoldTouched moment.enqueues old)
     (region : ℕ) (least : 1 ≤ region) (most : region ≤ n) (victims : List Victim) (right_victims : BreaksAt system moment region victims (slot_at moment region))
@@ -138,7 +138,7 @@ module _ (system : System) (valid : IsSystem system) (n : ℕ) (moment : Moment)
   unit = unit_of units region
 
   sound : StaysSound system after
-  sound = stays_sound system valid moment names c.sound (Turn region) victims right_victims right
+  sound = stays_sound system valid moment (has_terminals system moment.lasting c.is.names) c.sound (Turn region) victims right_victims right
 
   -- a life that goes with what the machine comes to is carried by it
   carried : (bytes : List ℕ) (lasting : LastingState) (regions : List (Option Slot)) (table : EnqueueTable) (units_then : List ℕ) (next_then : ℕ) → after.lasting ≡ lasting → after.slots ≡ regions → after.enqueues ≡ table
@@ -322,7 +322,7 @@ module _ (system : System) (valid : IsSystem system) (n : ℕ) (moment : Moment)
       completed turned slot_then number later fresh low more numbers none table a b d quiet commits room =
           let same : records ++ step_records unit completion moment.lasting ≡ step_records unit completion moment.lasting = ap (λ (rs : List Record). rs ++ step_records unit completion moment.lasting) quiet in
           subst (λ (rs : List Record). StepsOn (flat_map spelling rs) system after new (with_unit region number units) later life) (sym same)
-          (complete_goes system valid n moment after names old new units next life c sound unspent have had one_sector holds unit region least found_unit some (leaves turned table d) number later fresh low more
+          (complete_goes system valid n moment after old new units next life c sound unspent have had one_sector holds unit region least found_unit some (leaves turned table d) number later fresh low more
           (subst (λ (rs : List (Option Slot)). AreNumbered rs (with_unit region number units) later) (sym (b ∙ without_none (slice_set moment.slots (region - 1) slot_then) none)) numbers)
           slot.id its_message.message its_message.at its_message.its trial.databases.rows (outputs_of trial) (pad_of trial) a sends.bytes sends.receivers (sends.flagged its_message.message its_message.at) commits
           (rows_are ∙ ap (λ (l : LastingState). l.rows) a ∙ completed_rows slot.id trial.databases.rows (outputs_of trial) (pad_of trial) moment.lasting)
@@ -345,7 +345,7 @@ module _ (system : System) (valid : IsSystem system) (n : ℕ) (moment : Moment)
           let step : LastingStep = Discards slot.id abend in
           let same : records ++ step_records unit step moment.lasting ≡ step_records unit step moment.lasting = ap (λ (rs : List Record). rs ++ step_records unit step moment.lasting) quiet in
           subst (λ (rs : List Record). StepsOn (flat_map spelling rs) system after new (with_unit region 0 units) next life) (sym same)
-          (discard_goes system valid n moment after names old new units next life c sound unspent have had one_sector holds unit region least found_unit some (leaves (Abended slot.code slot.id abend) refl d)
+          (discard_goes system valid n moment after old new units next life c sound unspent have had one_sector holds unit region least found_unit some (leaves (Abended slot.code slot.id abend) refl d)
           0 next (inl refl) c.is.numbers.some (omega arith)
           (subst (λ (rs : List (Option Slot)). AreNumbered rs (with_unit region 0 units) next) (sym (b ∙ without_none (slice_set moment.slots (region - 1) None) none)) (numbered_ended moment.slots units next (region - 1) c.is.numbers))
           slot.id its_message.message its_message.at its_message.its abend a does

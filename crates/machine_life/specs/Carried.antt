@@ -10,6 +10,8 @@ use Rattle.model_machine.specs.Machine.{LastingState, Moment, Slot}
 use Rattle.pi_enqueue.specs.Kept.{IsKept}
 use Rattle.change_records.specs.Images.{image_at, bytes_at, IsSlotOf}
 use Rattle.machine_life.specs.OnSlots.{HoldsAlone}
+use Rattle.snapshot_records.specs.Records.{IsOfSystem}
+use Rattle.count_law.specs.Counted.{IsCounted}
 use Rattle.slot_law.specs.Committed.{Touch, Touches}
 use Rattle.disk_law.specs.Life.{LifeOnDisk, IsLife, EachSlot}
 use Rattle.checkpoint_law.specs.Checkpointing.{HasStores}
@@ -54,11 +56,13 @@ pub record MaySync (units : List ℕ) (next_unit : ℕ) (may_sync : ℕ → Bool
 
 -- ---- the life
 
--- The life has the system and what lasts. Its slots are those of the stores, its committed ones those that are committed there,
+-- The life has the system and what lasts, which has the system's names, and whose messages and replies have 1 to 32 segments. Its slots are those of the stores, its committed ones those that are committed there,
 -- and its open units are those of the regions, with these numbers.
 pub record IsLifeOf (system : System) (lasting : LastingState) (regions : List (Option Slot)) (table : EnqueueTable) (slots : SlotsState) (units : List ℕ) (next_unit : ℕ) (life : LifeOnDisk) : Type 0 where
   pub of_system : life.system ≡ system
   pub lasts : life.lasting ≡ lasting
+  pub names : IsOfSystem system lasting
+  pub counted : IsCounted lasting
   pub is_life : IsLife life
   pub stores : HasStores life (all_stores slots)
   pub committed : EachSlot system (λ place number. life.committed (place + 1) number ≡ bytes_at (place + 1) number slots.committed)

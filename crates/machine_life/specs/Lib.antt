@@ -5,3 +5,4 @@ pub mod Counts
 pub mod Doing
 pub mod Carried
 pub mod Going
+pub mod Opens

@@ -1,0 +1,170 @@
+-- A step keeps the names of terminals and codes, and leaves messages and replies of 1 to 32 segments.
+use Rattle.std.proofs.Common.{◌≡◌, ℕ, zero, suc, Bool, true, false, List, [], ◌∷◌, map, Option, Some, None, refl, sym, ◌∙◌, ap, subst}
+use Rattle.std.specs.Prelude.{if◌then◌else◌, slice_get, slice_set}
+use Rattle.std.specs.List.{AllByRecursion}
+use Rattle.std.specs.Option.{is_some, option_map, option_map_or}
+use Rattle.tm_types.specs.declared.abend.AbendCode.{AbendCode}
+use Rattle.tm_types.specs.declared.command.LastingCommand.{LastingCommand}
+use Rattle.tm_types.specs.declared.command.LastingCommand.TheVariants.{StartTransaction, StopTransaction, StartTerminal, StopTerminal, DequeueFirst, DequeueAll, Exit}
+use Rattle.tm_types.specs.declared.message.Message.{Message}
+use Rattle.model_conversation.specs.declared.conversation.Conversation.{Conversation}
+use Rattle.model_conversation.specs.declared.conversation.PadChange.{PadChange}
+use Rattle.model_conversation.specs.declared.conversation.PadChange.TheVariants.{Stays, New, Ends}
+use Rattle.model_conversation.specs.declared.conversation.TerminalConversation.{TerminalConversation}
+use Rattle.model_conversation.specs.Terminals as conversations
+use Rattle.model_queues.specs.declared.replies.TerminalReplies.{TerminalReplies}
+use Rattle.model_queues.specs.Outputs as outputs
+use Rattle.model_message.specs.declared.ended_message.EndedMessage.{EndedMessage}
+use Rattle.model_system.specs.Lists.{change_at}
+use Rattle.model_system.specs.System.{System}
+use Rattle.model_machine.specs.declared.lasting.CodeSetting.{CodeSetting}
+use Rattle.model_machine.specs.declared.lasting.TerminalState.{TerminalState}
+use Rattle.model_machine.specs.Machine.{LastingState, message_at, output_at, setting_place, terminal_place}
+use Rattle.model_machine.specs.Lasting.{KeptInput, LastingStep, abend_outputs, all_sent, applied, conversing, discarded_pad, finished, finished_by, new_pad, padded, replied, sent, switched, with_begun, with_last, with_pad_by, without_message, stopped_code, stopped_terminal, with_stopped_code, with_stopped_terminal, without_replies}
+use Rattle.model_machine.specs.Lasting.LastingStep.{Accepts, Acknowledges, Completes, Discards, Commands}
+use Rattle.log_records.specs.declared.record.Record.{Record}
+use Rattle.model_image.specs.Replay.{Replay, replay_all, replay_of}
+use Rattle.snapshot_records.specs.Records.{IsOfSystem}
+use Rattle.count_law.specs.Counted.{IsCounted}
+use Rattle.count_law.proofs.Replayed.{log_counted}
+use Rattle.disk_law.specs.Life.{LifeOnDisk, but_rows}
+use Rattle.step_law.specs.Steps.{StepOnDisk, IsStep}
+
+-- ---- changes by name
+
+outputs_keep : (name : List ℕ) (change : TerminalReplies → TerminalReplies) → ((t : TerminalReplies) → (change t).terminal ≡ t.terminal) → (ts : List TerminalReplies) → map (λ t. t.terminal) (outputs.with_terminal name change ts) ≡ map (λ t. t.terminal) ts
+outputs_keep name change keeps [] = refl
+outputs_keep name change keeps (t ∷ ts) = by (outputs.is_of name t) (outputs_keep name change keeps ts) where
+  by : (b : Bool) → map (λ x. x.terminal) (outputs.with_terminal name change ts) ≡ map (λ x. x.terminal) ts
+      → map (λ x. x.terminal) (if b then change t ∷ ts else t ∷ outputs.with_terminal name change ts) ≡ map (λ x. x.terminal) (t ∷ ts)
+  by true later = ap (λ (n : List ℕ). n ∷ map (λ (x : TerminalReplies). x.terminal) ts) (keeps t)
+  by false later = ap (λ (ns : List (List ℕ)). t.terminal ∷ ns) later
+
+conversations_keep : (name : List ℕ) (change : TerminalConversation → TerminalConversation) → ((t : TerminalConversation) → (change t).terminal ≡ t.terminal) → (ts : List TerminalConversation)
+    → map (λ t. t.terminal) (conversations.with_terminal name change ts) ≡ map (λ t. t.terminal) ts
+conversations_keep name change keeps [] = refl
+conversations_keep name change keeps (t ∷ ts) = by (conversations.is_of name t) (conversations_keep name change keeps ts) where
+  by : (b : Bool) → map (λ x. x.terminal) (conversations.with_terminal name change ts) ≡ map (λ x. x.terminal) ts
+      → map (λ x. x.terminal) (if b then change t ∷ ts else t ∷ conversations.with_terminal name change ts) ≡ map (λ x. x.terminal) (t ∷ ts)
+  by true later = ap (λ (n : List ℕ). n ∷ map (λ (x : TerminalConversation). x.terminal) ts) (keeps t)
+  by false later = ap (λ (ns : List (List ℕ)). t.terminal ∷ ns) later
+
+-- a change of one keeps the names of all
+named_keep : {X : Type 0} (name : X → List ℕ) (change : X → X) → ((x : X) → name (change x) ≡ name x) → (xs : List X) (place : Option ℕ) → map name (change_at xs place change) ≡ map name xs
+named_keep name change keeps xs None = refl
+named_keep {X} name change keeps xs (Some place) = at xs place where
+  at : (xs : List X) (k : ℕ) → map name (option_map_or (λ x. slice_set xs k (change x)) (slice_get xs k) xs) ≡ map name xs
+  at [] k = refl
+  at (x ∷ xs) zero = ap (λ (n : List ℕ). n ∷ map name xs) (keeps x)
+  at (x ∷ xs) (suc k) = by (slice_get xs k) (at xs k) where
+    by : (o : Option X) → map name (option_map_or (λ y. slice_set xs k (change y)) o xs) ≡ map name xs
+        → map name (option_map_or (λ y. slice_set (x ∷ xs) (suc k) (change y)) o (x ∷ xs)) ≡ map name (x ∷ xs)
+    by None later = refl
+    by (Some y) later = ap (λ (ns : List (List ℕ)). name x ∷ ns) later
+
+terminals_keep : (change : TerminalState → TerminalState) → ((t : TerminalState) → (change t).name ≡ t.name) → (ts : List TerminalState) (place : Option ℕ) → map (λ t. t.name) (change_at ts place change) ≡ map (λ t. t.name) ts
+terminals_keep change keeps ts place = named_keep (λ (t : TerminalState). t.name) change keeps ts place
+
+codes_keep : (change : CodeSetting → CodeSetting) → ((c : CodeSetting) → (change c).code ≡ c.code) → (cs : List CodeSetting) (place : Option ℕ) → map (λ c. c.code) (change_at cs place change) ≡ map (λ c. c.code) cs
+codes_keep change keeps cs place = named_keep (λ (c : CodeSetting). c.code) change keeps cs place
+
+-- ---- a step
+
+-- the names are as before
+pub record KeepsNames (before after : LastingState) : Type 0 where
+  pub terminals : map (λ t. t.name) after.terminals ≡ map (λ t. t.name) before.terminals
+  pub outputs_are : map (λ t. t.terminal) after.outputs ≡ map (λ t. t.terminal) before.outputs
+  pub conversations_are : map (λ t. t.terminal) after.conversations ≡ map (λ t. t.terminal) before.conversations
+  pub codes_are : map (λ c. c.code) after.codes ≡ map (λ c. c.code) before.codes
+
+sent_names : (origin : List ℕ) (output : EndedMessage) (lasting : LastingState) → KeepsNames lasting (sent origin output lasting)
+sent_names origin output lasting = by (is_some (output_at lasting.outputs output.to)) where
+  by : (b : Bool) → KeepsNames lasting (if b then replied output lasting else switched origin output lasting)
+  by true = record { terminals = refl; outputs_are = outputs_keep output.to (outputs.with_reply output.segments) (λ t. refl) lasting.outputs; conversations_are = refl; codes_are = refl }
+  by false = record { terminals = refl; outputs_are = refl; conversations_are = refl; codes_are = refl }
+
+names_then : (a b c : LastingState) → KeepsNames a b → KeepsNames b c → KeepsNames a c
+names_then a b c first second = record {
+  terminals = second.terminals ∙ first.terminals;
+  outputs_are = second.outputs_are ∙ first.outputs_are;
+  conversations_are = second.conversations_are ∙ first.conversations_are;
+  codes_are = second.codes_are ∙ first.codes_are;
+}
+
+all_sent_names : (origin : List ℕ) (some : List EndedMessage) (lasting : LastingState) → KeepsNames lasting (all_sent origin some lasting)
+all_sent_names origin [] lasting = record { terminals = refl; outputs_are = refl; conversations_are = refl; codes_are = refl }
+all_sent_names origin (output ∷ some) lasting =
+    names_then lasting (sent origin output lasting) (all_sent origin (output ∷ some) lasting) (sent_names origin output lasting) (all_sent_names origin some (sent origin output lasting))
+
+padded_names : (change : PadChange) (origin : List ℕ) (all : List TerminalConversation) → map (λ t. t.terminal) (padded change origin all) ≡ map (λ t. t.terminal) all
+padded_names Stays origin all = refl
+padded_names (New text) origin all = conversations_keep origin (new_pad text) (λ t. refl) all
+padded_names Ends origin all = conversations_keep origin (conversations.with_conversation None) (λ t. refl) all
+
+finished_names : (found : Option Message) (some : Message → List EndedMessage) (change : Message → PadChange) (lasting : LastingState) → KeepsNames lasting (finished_by found some (with_pad_by found change lasting))
+finished_names None some change lasting = record { terminals = refl; outputs_are = refl; conversations_are = refl; codes_are = refl }
+finished_names (Some message) some change lasting =
+    let behind = with_pad_by (Some message) change lasting in
+    let k = all_sent_names message.origin (some message) (record behind { messages = without_message behind.messages message.id }) in
+    record {
+      terminals = k.terminals;
+      outputs_are = k.outputs_are;
+      conversations_are = k.conversations_are ∙ padded_names (change message) message.origin lasting.conversations;
+      codes_are = k.codes_are;
+    }
+
+begun_names : (terminal : List ℕ) (begins : Option Conversation) (all : List TerminalConversation) → map (λ t. t.terminal) (with_begun terminal begins all) ≡ map (λ t. t.terminal) all
+begun_names terminal None all = refl
+begun_names terminal (Some c) all = conversations_keep terminal (conversations.with_conversation (Some c)) (λ t. refl) all
+
+pub step_names : (step : LastingStep) (lasting : LastingState) → KeepsNames lasting (applied step lasting)
+step_names (Accepts terminal number kept) lasting = record {
+  terminals = terminals_keep (with_last number) (λ t. refl) lasting.terminals (terminal_place lasting.terminals terminal);
+  outputs_are = refl;
+  conversations_are = begun_names terminal kept.begins lasting.conversations;
+  codes_are = refl;
+}
+step_names (Acknowledges terminal) lasting = record { terminals = refl; outputs_are = outputs_keep terminal outputs.without_first (λ t. refl) lasting.outputs; conversations_are = refl; codes_are = refl }
+step_names (Completes id rows some pad) lasting =
+    let k = finished_names (message_at lasting.messages id) (λ _. some) (λ _. pad) (record lasting { rows = rows }) in
+    record { terminals = k.terminals; outputs_are = k.outputs_are; conversations_are = k.conversations_are; codes_are = k.codes_are }
+step_names (Discards id abend) lasting =
+    let k = finished_names (message_at lasting.messages id) (λ message. abend_outputs message abend) discarded_pad lasting in
+    record { terminals = k.terminals; outputs_are = k.outputs_are; conversations_are = k.conversations_are; codes_are = k.codes_are }
+
+step_names (Commands command) lasting = by command where
+  code_names : (stopped : Bool) (code : List ℕ) → KeepsNames lasting (with_stopped_code stopped code lasting)
+  code_names stopped code =
+      record { terminals = refl; outputs_are = refl; conversations_are = refl; codes_are = codes_keep (stopped_code stopped) (λ c. refl) lasting.codes (setting_place lasting.codes code) }
+
+  terminal_names : (stopped : Bool) (terminal : List ℕ) → KeepsNames lasting (with_stopped_terminal stopped terminal lasting)
+  terminal_names stopped terminal =
+      record { terminals = terminals_keep (stopped_terminal stopped) (λ t. refl) lasting.terminals (terminal_place lasting.terminals terminal); outputs_are = refl; conversations_are = refl; codes_are = refl }
+
+  by : (c : LastingCommand) → KeepsNames lasting (applied (Commands c) lasting)
+  by (StartTransaction code) = let k = code_names false code in record { terminals = k.terminals; outputs_are = k.outputs_are; conversations_are = k.conversations_are; codes_are = k.codes_are }
+  by (StopTransaction code) = let k = code_names true code in record { terminals = k.terminals; outputs_are = k.outputs_are; conversations_are = k.conversations_are; codes_are = k.codes_are }
+  by (StartTerminal terminal) = let k = terminal_names false terminal in record { terminals = k.terminals; outputs_are = k.outputs_are; conversations_are = k.conversations_are; codes_are = k.codes_are }
+  by (StopTerminal terminal) = let k = terminal_names true terminal in record { terminals = k.terminals; outputs_are = k.outputs_are; conversations_are = k.conversations_are; codes_are = k.codes_are }
+  by (DequeueFirst terminal) = record { terminals = refl; outputs_are = outputs_keep terminal outputs.without_first (λ t. refl) lasting.outputs; conversations_are = refl; codes_are = refl }
+  by (DequeueAll terminal) = record { terminals = refl; outputs_are = outputs_keep terminal without_replies (λ t. refl) lasting.outputs; conversations_are = refl; codes_are = refl }
+  by (Exit terminal) = record { terminals = refl; outputs_are = refl; conversations_are = conversations_keep terminal (conversations.with_conversation None) (λ t. refl) lasting.conversations; codes_are = refl }
+
+-- What lasts is of the system behind a step.
+pub of_system_behind : (system : System) (step : LastingStep) (lasting : LastingState) → IsOfSystem system lasting → IsOfSystem system (applied step lasting)
+of_system_behind system step lasting is =
+    let k = step_names step lasting in
+    record { terminals = k.terminals ∙ is.terminals; outputs = k.outputs_are ∙ is.outputs; conversations = k.conversations_are ∙ is.conversations; codes = k.codes_are ∙ is.codes }
+
+-- ---- segments
+
+left_lasting : (after : Option Replay) (to : Replay) → after ≡ Some to → option_map (λ replay. replay.lasting) after ≡ Some to.lasting
+left_lasting after to is = ap (λ (o : Option Replay). option_map (λ (replay : Replay). replay.lasting) o) is
+
+-- Messages and replies have 1 to 32 segments behind a step of a life.
+pub step_counted : (life : LifeOnDisk) (step : StepOnDisk) → IsStep life step → IsCounted life.lasting → IsCounted step.lasting
+step_counted life step s is =
+    let behind =
+    log_counted life.system step.records (but_rows life.system life.lasting) (but_rows life.system step.lasting) s.room.valid (record { messages = is.messages; replies = is.replies })
+    (left_lasting (replay_all life.system step.records (record { lasting = but_rows life.system life.lasting; waiting = [] })) (record { lasting = but_rows life.system step.lasting; waiting = [] }) s.leads) in
+    record { messages = behind.messages; replies = behind.replies }
