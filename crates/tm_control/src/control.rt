@@ -17,7 +17,7 @@ ghost use Rattle.tm_control.specs.contracts.control.Control.{the_row};
 
 use crate::closed::Closed;
 use crate::life::{History, Life};
-use crate::noting::{note, turn_entry};
+use crate::noting::{acked_entry, input_entry, note, turn_entry};
 use lasting_state::Shown;
 use logged_machine::{How, LoggedMachine, OpenRefused};
 use model_machine::{AckRefused, Acked, ControlFault, Entry, InputRefused, Lasting, Taken, Turned};
@@ -214,7 +214,7 @@ impl<D: Disk> Control<D> {
         self.steps = steps_of(self.steps, &self.machine);
         note(
             &mut self.history,
-            Entry::Accept(*terminal, number, kept, answer),
+            input_entry(terminal, number, kept, &answer),
         );
         answer
     }
@@ -233,11 +233,11 @@ impl<D: Disk> Control<D> {
         requires up { self.old.up ≡ true }
         requires room { 0 < self.old.control.room }
         ensures shown { IsShown (output_at (now_of self.old.control).lasting.outputs terminal.now) result }
-        ensures* adds { sem 𝓛 (Rests the_row self.entry (λ new. AddsEntry self.old.control new.control (Show terminal.now (show_answer (now_of self.old.control) terminal.now)))) }
-        ensures* up { sem 𝓛 (Rests the_row self.entry (λ new. new.up ≡ true)) }
-        ensures* disk { sem 𝓛 (Rests the_row self.entry (λ new. new.disk ≡ self.old.disk)) }
-        ensures* lasts { sem 𝓛 (Rests the_row self.entry (λ new. Lasts D.state new)) }
-        ensures* stays { sem 𝓛 (Rests the_row self.entry (λ new. StaysSo D.state self.old new)) }
+        ensures* adds { sem 𝓛 (Rests (the_row D.row D.Disk) self.entry (λ new. AddsEntry self.old.control new.control (Show terminal.now (show_answer (now_of self.old.control) terminal.now)))) }
+        ensures* up { sem 𝓛 (Rests (the_row D.row D.Disk) self.entry (λ new. new.up ≡ true)) }
+        ensures* disk { sem 𝓛 (Rests (the_row D.row D.Disk) self.entry (λ new. new.disk ≡ self.old.disk)) }
+        ensures* lasts { sem 𝓛 (Rests (the_row D.row D.Disk) self.entry (λ new. Lasts D.state new)) }
+        ensures* stays { sem 𝓛 (Rests (the_row D.row D.Disk) self.entry (λ new. StaysSo D.state self.old new)) }
     {
         let answer = self.machine.show_answer(terminal);
         self.history.push_reserved(Entry::Show(*terminal, answer));
@@ -262,7 +262,7 @@ impl<D: Disk> Control<D> {
         }
         let answer = self.machine.acknowledge(terminal, number);
         self.steps = steps_of(self.steps, &self.machine);
-        note(&mut self.history, Entry::Acked(*terminal, number, answer));
+        note(&mut self.history, acked_entry(terminal, number, &answer));
         answer
     }
 
