@@ -3,7 +3,7 @@ use Rattle.std.proofs.Common.{◌≡◌, ◌≤◌, ◌<◌, ◌+◌, ◌*◌, �
 use Rattle.std.specs.Prelude.{Result, OnOk}
 use Rattle.model_disk.specs.Disk.{DiskState, Follows}
 use Rattle.model_system.specs.System.{System}
-use Rattle.model_image.specs.Areas.{log_first, data_first}
+use Rattle.model_image.specs.Areas.{snapshot_area, snapshot_first, log_first, data_first}
 use Rattle.model_image.proofs.Places.{log_below, slot_above}
 use Rattle.log_records.specs.declared.record.Record.{Record}
 use Rattle.log_writer.specs.Writer.{Writer}
@@ -11,7 +11,7 @@ use Rattle.restart_data.specs.declared.restart.RestartSector.{RestartSector}
 use Rattle.restart_data.specs.Restart.{IsRestart}
 use Rattle.seg_store.specs.Changed.{AllStores}
 use Rattle.slot_law.specs.Committed.{Touches}
-use Rattle.checkpointing.specs.Parts.{CheckpointParts, next_restart, sequence_behind, AreFree, IsOver}
+use Rattle.checkpointing.specs.Parts.{CheckpointParts, other_area, next_restart, sequence_behind, AreFree, IsOver}
 use Rattle.checkpointing.specs.Checkpoint.{IsCheckpointed}
 use Rattle.checkpointing.specs.Conditions.{HasRestart, NoneIsAhead, ChangedAreNamed, ForceKeeps, SnapshotKeeps}
 use Rattle.checkpointing.specs.Written.{AreOf}
@@ -82,3 +82,44 @@ follows_kept system journal stores bytes touches told life old is new follows =
 -- a snapshot that fits its area, in bytes
 pub bytes_fit : (bytes area : ℕ) → (bytes + 4063) / 4064 ≤ area → bytes ≤ area * 4064
 bytes_fit bytes area h = omega (arith, h)
+
+-- ---- the code's own values
+
+-- the parts by the numbers of their areas
+abbrev pub parts_at : System → RestartSector → List ℕ → ℕ → ℕ → ℕ → ℕ → CheckpointParts
+parts_at system now bytes snapshot_at snapshot_sectors log_at log_sectors = record {
+  system = system;
+  now = now;
+  snapshot_at = snapshot_at;
+  snapshot_sectors = snapshot_sectors;
+  log_at = log_at;
+  log_sectors = log_sectors;
+  snapshot = bytes;
+}
+
+pub record AreAreas (system : System) (now : RestartSector) (snapshot_at snapshot_sectors log_at log_sectors : ℕ) : Type 0 where
+  pub snapshot_at_is : snapshot_at ≡ snapshot_first system (other_area now.snapshot)
+  pub snapshot_sectors_are : snapshot_sectors ≡ snapshot_area system
+  pub log_at_is : log_at ≡ log_first system (other_area now.log)
+  pub log_sectors_are : log_sectors ≡ system.logs
+
+pub same_parts : (system : System) (now : RestartSector) (bytes : List ℕ) (snapshot_at snapshot_sectors log_at log_sectors : ℕ) → AreAreas system now snapshot_at snapshot_sectors log_at log_sectors
+    → parts_at system now bytes snapshot_at snapshot_sectors log_at log_sectors ≡ parts_for system now bytes
+same_parts system now bytes snapshot_at snapshot_sectors log_at log_sectors are =
+    rw (are.snapshot_at_is, are.snapshot_sectors_are, are.log_at_is, are.log_sectors_are) refl
+
+pub asks_at : (system : System) (journal : JournalState) (stores : AllStores) (bytes : List ℕ) (disk : DiskState) (can : CanCheckpoint system journal stores bytes disk)
+    → (snapshot_at snapshot_sectors log_at log_sectors : ℕ) → AreAreas system journal.restart snapshot_at snapshot_sectors log_at log_sectors
+    → Asks (parts_at system journal.restart bytes snapshot_at snapshot_sectors log_at log_sectors) journal.log stores disk
+asks_at system journal stores bytes disk can snapshot_at snapshot_sectors log_at log_sectors are =
+    subst (λ (p : CheckpointParts). Asks p journal.log stores disk) (sym (same_parts system journal.restart bytes snapshot_at snapshot_sectors log_at log_sectors are))
+    (asks system journal stores bytes disk can)
+
+-- by a restart sector that is the journal's
+pub asks_with : (system : System) (journal : JournalState) (restart : RestartSector) (stores : AllStores) (bytes : List ℕ) (disk : DiskState) (can : CanCheckpoint system journal stores bytes disk)
+    → restart ≡ journal.restart → (snapshot_at snapshot_sectors log_at log_sectors : ℕ) → AreAreas system restart snapshot_at snapshot_sectors log_at log_sectors
+    → Asks (parts_at system restart bytes snapshot_at snapshot_sectors log_at log_sectors) journal.log stores disk
+asks_with system journal restart stores bytes disk can same snapshot_at snapshot_sectors log_at log_sectors are =
+    subst
+    (λ (r : RestartSector). AreAreas system r snapshot_at snapshot_sectors log_at log_sectors → Asks (parts_at system r bytes snapshot_at snapshot_sectors log_at log_sectors) journal.log stores disk)
+    (sym same) (λ now. asks_at system journal stores bytes disk can snapshot_at snapshot_sectors log_at log_sectors now) are

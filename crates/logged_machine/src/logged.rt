@@ -151,7 +151,8 @@ impl<D: Disk> LoggedMachine<D> {
 
     /// The first counter that stands at its limit.
     pub fn spent(&self) -> Option<Counter>
-        ensures { result ≡ spent_now self.now }
+        ensures value { result ≡ spent_now self.now }
+        ensures lasts { LastsNow D.state self.now }
     {
         match self.never {}
     }

@@ -20,7 +20,7 @@ use Rattle.model_system.specs.System.{System}
 use Rattle.model_machine.specs.declared.lasting.CodeSetting.{CodeSetting}
 use Rattle.model_machine.specs.declared.lasting.TerminalState.{TerminalState}
 use Rattle.model_machine.specs.Machine.{LastingState, message_at, output_at, setting_place, terminal_place}
-use Rattle.model_machine.specs.Lasting.{KeptInput, LastingStep, abend_outputs, all_sent, applied, conversing, discarded_pad, finished, finished_by, new_pad, padded, replied, sent, switched, with_begun, with_last, with_pad_by, without_message, stopped_code, stopped_terminal, with_stopped_code, with_stopped_terminal, without_replies}
+use Rattle.model_machine.specs.Lasting.{KeptInput, LastingStep, abend_outputs, all_sent, applied, commanded, conversing, discarded_pad, finished, finished_by, new_pad, padded, replied, sent, stopped_code, stopped_terminal, switched, with_begun, with_last, with_pad_by, without_message, without_replies}
 use Rattle.model_machine.specs.Lasting.LastingStep.{Accepts, Acknowledges, Completes, Discards, Commands}
 use Rattle.log_records.specs.declared.record.Record.{Record}
 use Rattle.model_image.specs.Replay.{Replay, replay_all, replay_of}
@@ -49,24 +49,17 @@ conversations_keep name change keeps (t ∷ ts) = by (conversations.is_of name t
   by true later = ap (λ (n : List ℕ). n ∷ map (λ (x : TerminalConversation). x.terminal) ts) (keeps t)
   by false later = ap (λ (ns : List (List ℕ)). t.terminal ∷ ns) later
 
--- a change of one keeps the names of all
-named_keep : {X : Type 0} (name : X → List ℕ) (change : X → X) → ((x : X) → name (change x) ≡ name x) → (xs : List X) (place : Option ℕ) → map name (change_at xs place change) ≡ map name xs
-named_keep name change keeps xs None = refl
-named_keep {X} name change keeps xs (Some place) = at xs place where
-  at : (xs : List X) (k : ℕ) → map name (option_map_or (λ x. slice_set xs k (change x)) (slice_get xs k) xs) ≡ map name xs
+changes_keep : {X Y : Type 0} (name_of : X → Y) (change : X → X) → ((x : X) → name_of (change x) ≡ name_of x) → (xs : List X) (place : Option ℕ) → map name_of (change_at xs place change) ≡ map name_of xs
+changes_keep name_of change keeps xs None = refl
+changes_keep {X} {Y} name_of change keeps xs (Some place) = at xs place where
+  at : (xs : List X) (k : ℕ) → map name_of (option_map_or (λ x. slice_set xs k (change x)) (slice_get xs k) xs) ≡ map name_of xs
   at [] k = refl
-  at (x ∷ xs) zero = ap (λ (n : List ℕ). n ∷ map name xs) (keeps x)
+  at (x ∷ xs) zero = ap (λ n. n ∷ map name_of xs) (keeps x)
   at (x ∷ xs) (suc k) = by (slice_get xs k) (at xs k) where
-    by : (o : Option X) → map name (option_map_or (λ y. slice_set xs k (change y)) o xs) ≡ map name xs
-        → map name (option_map_or (λ y. slice_set (x ∷ xs) (suc k) (change y)) o (x ∷ xs)) ≡ map name (x ∷ xs)
+    by : (o : Option X) → map name_of (option_map_or (λ y. slice_set xs k (change y)) o xs) ≡ map name_of xs
+        → map name_of (option_map_or (λ y. slice_set (x ∷ xs) (suc k) (change y)) o (x ∷ xs)) ≡ map name_of (x ∷ xs)
     by None later = refl
-    by (Some y) later = ap (λ (ns : List (List ℕ)). name x ∷ ns) later
-
-terminals_keep : (change : TerminalState → TerminalState) → ((t : TerminalState) → (change t).name ≡ t.name) → (ts : List TerminalState) (place : Option ℕ) → map (λ t. t.name) (change_at ts place change) ≡ map (λ t. t.name) ts
-terminals_keep change keeps ts place = named_keep (λ (t : TerminalState). t.name) change keeps ts place
-
-codes_keep : (change : CodeSetting → CodeSetting) → ((c : CodeSetting) → (change c).code ≡ c.code) → (cs : List CodeSetting) (place : Option ℕ) → map (λ c. c.code) (change_at cs place change) ≡ map (λ c. c.code) cs
-codes_keep change keeps cs place = named_keep (λ (c : CodeSetting). c.code) change keeps cs place
+    by (Some y) later = ap (λ ns. name_of x ∷ ns) later
 
 -- ---- a step
 
@@ -117,9 +110,32 @@ begun_names : (terminal : List ℕ) (begins : Option Conversation) (all : List T
 begun_names terminal None all = refl
 begun_names terminal (Some c) all = conversations_keep terminal (conversations.with_conversation (Some c)) (λ t. refl) all
 
+-- a command changes no name
+command_names : (command : LastingCommand) (lasting : LastingState) → KeepsNames lasting (commanded command lasting)
+command_names (StartTransaction code) lasting =
+    record { terminals = refl; outputs_are = refl; conversations_are = refl; codes_are = changes_keep (λ (c : CodeSetting). c.code) (stopped_code false) (λ c. refl) lasting.codes (setting_place lasting.codes code) }
+command_names (StopTransaction code) lasting =
+    record { terminals = refl; outputs_are = refl; conversations_are = refl; codes_are = changes_keep (λ (c : CodeSetting). c.code) (stopped_code true) (λ c. refl) lasting.codes (setting_place lasting.codes code) }
+command_names (StartTerminal terminal) lasting = record {
+  terminals = changes_keep (λ (t : TerminalState). t.name) (stopped_terminal false) (λ t. refl) lasting.terminals (terminal_place lasting.terminals terminal);
+  outputs_are = refl;
+  conversations_are = refl;
+  codes_are = refl;
+}
+command_names (StopTerminal terminal) lasting = record {
+  terminals = changes_keep (λ (t : TerminalState). t.name) (stopped_terminal true) (λ t. refl) lasting.terminals (terminal_place lasting.terminals terminal);
+  outputs_are = refl;
+  conversations_are = refl;
+  codes_are = refl;
+}
+command_names (DequeueFirst terminal) lasting = record { terminals = refl; outputs_are = outputs_keep terminal outputs.without_first (λ t. refl) lasting.outputs; conversations_are = refl; codes_are = refl }
+command_names (DequeueAll terminal) lasting = record { terminals = refl; outputs_are = outputs_keep terminal without_replies (λ t. refl) lasting.outputs; conversations_are = refl; codes_are = refl }
+command_names (Exit terminal) lasting =
+    record { terminals = refl; outputs_are = refl; conversations_are = conversations_keep terminal (conversations.with_conversation None) (λ t. refl) lasting.conversations; codes_are = refl }
+
 pub step_names : (step : LastingStep) (lasting : LastingState) → KeepsNames lasting (applied step lasting)
 step_names (Accepts terminal number kept) lasting = record {
-  terminals = terminals_keep (with_last number) (λ t. refl) lasting.terminals (terminal_place lasting.terminals terminal);
+  terminals = changes_keep (λ (t : TerminalState). t.name) (with_last number) (λ t. refl) lasting.terminals (terminal_place lasting.terminals terminal);
   outputs_are = refl;
   conversations_are = begun_names terminal kept.begins lasting.conversations;
   codes_are = refl;
@@ -131,24 +147,9 @@ step_names (Completes id rows some pad) lasting =
 step_names (Discards id abend) lasting =
     let k = finished_names (message_at lasting.messages id) (λ message. abend_outputs message abend) discarded_pad lasting in
     record { terminals = k.terminals; outputs_are = k.outputs_are; conversations_are = k.conversations_are; codes_are = k.codes_are }
-
-step_names (Commands command) lasting = by command where
-  code_names : (stopped : Bool) (code : List ℕ) → KeepsNames lasting (with_stopped_code stopped code lasting)
-  code_names stopped code =
-      record { terminals = refl; outputs_are = refl; conversations_are = refl; codes_are = codes_keep (stopped_code stopped) (λ c. refl) lasting.codes (setting_place lasting.codes code) }
-
-  terminal_names : (stopped : Bool) (terminal : List ℕ) → KeepsNames lasting (with_stopped_terminal stopped terminal lasting)
-  terminal_names stopped terminal =
-      record { terminals = terminals_keep (stopped_terminal stopped) (λ t. refl) lasting.terminals (terminal_place lasting.terminals terminal); outputs_are = refl; conversations_are = refl; codes_are = refl }
-
-  by : (c : LastingCommand) → KeepsNames lasting (applied (Commands c) lasting)
-  by (StartTransaction code) = let k = code_names false code in record { terminals = k.terminals; outputs_are = k.outputs_are; conversations_are = k.conversations_are; codes_are = k.codes_are }
-  by (StopTransaction code) = let k = code_names true code in record { terminals = k.terminals; outputs_are = k.outputs_are; conversations_are = k.conversations_are; codes_are = k.codes_are }
-  by (StartTerminal terminal) = let k = terminal_names false terminal in record { terminals = k.terminals; outputs_are = k.outputs_are; conversations_are = k.conversations_are; codes_are = k.codes_are }
-  by (StopTerminal terminal) = let k = terminal_names true terminal in record { terminals = k.terminals; outputs_are = k.outputs_are; conversations_are = k.conversations_are; codes_are = k.codes_are }
-  by (DequeueFirst terminal) = record { terminals = refl; outputs_are = outputs_keep terminal outputs.without_first (λ t. refl) lasting.outputs; conversations_are = refl; codes_are = refl }
-  by (DequeueAll terminal) = record { terminals = refl; outputs_are = outputs_keep terminal without_replies (λ t. refl) lasting.outputs; conversations_are = refl; codes_are = refl }
-  by (Exit terminal) = record { terminals = refl; outputs_are = refl; conversations_are = conversations_keep terminal (conversations.with_conversation None) (λ t. refl) lasting.conversations; codes_are = refl }
+step_names (Commands command) lasting =
+    let k = command_names command lasting in
+    record { terminals = k.terminals; outputs_are = k.outputs_are; conversations_are = k.conversations_are; codes_are = k.codes_are }
 
 -- What lasts is of the system behind a step.
 pub of_system_behind : (system : System) (step : LastingStep) (lasting : LastingState) → IsOfSystem system lasting → IsOfSystem system (applied step lasting)

@@ -19,7 +19,7 @@ use Rattle.checkpointing.specs.Texts.{HasText}
 use Rattle.logged_machine.specs.Logged.{LoggedState, LastsNow}
 use Rattle.logged_machine.specs.Goes.{Keeps, WentOn, Failed, StoodStill, GoesBy, CrashesBy, fault_in}
 use Rattle.tm_control.specs.OnDisk.{ControlOnDisk, IsUp, IsDown, Lasts, LastsBy, lasting_after}
-use Rattle.tm_control.specs.Calls.{StaysSo, AddsBy, CrashesSo, is_noted, noted}
+use Rattle.tm_control.specs.Calls.{StaysSo, AddsBy, CrashesSo, CrashesAlone, is_noted, noted}
 use Rattle.tm_control.specs.Inside.{IsServed, IsBroken, Holds, HoldsBy}
 
 -- a control region by its parts
@@ -220,3 +220,53 @@ module _ {D : Type 0} (state : D → DiskState) (old new : LoggedState D) (openi
   pub called : GoesBy state (fault_in entry) old new entry → CrashesBy state (fault_in entry) old new entry → after ≡ noted (is_noted (fault_in entry)) before entry
       → Is state (fault_in entry) was is entry × Holds state new opening after steps'
   called goes crash longer = by (fault_in entry) refl goes crash longer
+
+-- ---- what always holds
+
+pub lasts_now : {D : Type 0} (state : D → DiskState) (machine : LoggedState D) (opening : LastingState) (history : List Entry) (room began steps : ℕ)
+    → Holds state machine opening history steps → LastsNow state machine → Lasts state (seen machine opening history room began)
+lasts_now {D} state machine opening history room began steps holds lasts = by machine.served refl holds
+  where
+    by : (b : Bool) → machine.served ≡ b → HoldsBy b state machine opening history steps → LastsBy b (seen machine opening history room began).control machine.text (state machine.disk)
+    by true served h = record {
+      legal = h.legal;
+      images = λ image left. subst (λ (m : Moment). Recovers machine.machine.system image (Ok m.lasting)) (sym h.moment) ((lasts served).recover image left);
+      texts = (lasts served).have_text;
+    }
+    by false served h = record {
+      before = h.before;
+      entry = h.entry;
+      all = h.all;
+      legal = h.legal;
+      call = h.call;
+      fault = h.fault;
+      images = h.images;
+      texts = h.texts;
+    }
+
+-- while it is served, by the machine alone
+pub served_holds : {D : Type 0} (state : D → DiskState) (old new : LoggedState D) (opening : LastingState) (history : List Entry) (steps : ℕ)
+    → old.served ≡ true → new.served ≡ true → new.machine.system ≡ old.machine.system → new.machine.moment ≡ old.machine.moment
+    → Holds state old opening history steps → Holds state new opening history steps
+served_holds state old new opening history steps was is system moment holds =
+    subst (λ (b : Bool). HoldsBy b state new opening history steps) (sym is)
+    (let h : IsServed old opening history steps = subst (λ (b : Bool). HoldsBy b state old opening history steps) was holds in
+    record {
+      moment = ap (λ (s : System). moment_after s (start_of s opening) history) system ∙ h.moment ∙ sym moment;
+      legal = subst (λ (s : System). AreSteps s (start_of s opening) history) (sym system) h.legal;
+      count = h.count ∙ ap (λ (m : Moment). m.lasting.steps) (sym moment);
+      more = h.more;
+    })
+
+-- and so it is served
+pub is_served : {D : Type 0} (state : D → DiskState) (machine : LoggedState D) (opening : LastingState) (history : List Entry) (steps : ℕ)
+    → machine.served ≡ true → Holds state machine opening history steps → IsServed machine opening history steps
+is_served state machine opening history steps served holds = subst (λ (b : Bool). HoldsBy b state machine opening history steps) served holds
+
+-- where nothing happened what a crash may leave is as before
+pub still : {D : Type 0} (state : D → DiskState) (machine : LoggedState D) (opening : LastingState) (history : List Entry) (room room' began steps : ℕ)
+    → machine.served ≡ true → Holds state machine opening history steps → LastsNow state machine → IsDisk (state machine.disk)
+    → CrashesAlone state (seen machine opening history room began) (seen machine opening history room' began)
+still state machine opening history room room' began steps served holds lasts disk image left =
+    subst (λ (m : Moment). Recovers machine.machine.system image (Ok m.lasting)) (sym (is_served state machine opening history steps served holds).moment)
+    ((lasts served).recover image (disk.now_alone image left))

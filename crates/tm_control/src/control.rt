@@ -17,7 +17,7 @@ ghost use Rattle.tm_control.specs.contracts.control.Control.{the_row};
 
 use crate::closed::Closed;
 use crate::life::{History, Life};
-use crate::noting::{note, turn_entry};
+use crate::noting::{acked_entry, input_entry, note, turn_entry};
 use lasting_state::Shown;
 use logged_machine::{How, LoggedMachine, OpenRefused};
 use model_machine::{AckRefused, Acked, ControlFault, Entry, InputRefused, Lasting, Taken, Turned};
@@ -214,7 +214,7 @@ impl<D: Disk> Control<D> {
         self.steps = steps_of(self.steps, &self.machine);
         note(
             &mut self.history,
-            Entry::Accept(*terminal, number, kept, answer),
+            input_entry(terminal, number, kept, &answer),
         );
         answer
     }
@@ -232,12 +232,21 @@ impl<D: Disk> Control<D> {
     pub fn receive(&mut self, terminal: &Name) -> Shown<'_>
         requires up { self.old.up ≡ true }
         requires room { 0 < self.old.control.room }
+<<<<<<< HEAD
         ensures shown { IsShownTo (terminal_at (now_of self.old.control).lasting.terminals terminal.now) (output_at (now_of self.old.control).lasting.outputs terminal.now) result }
         ensures* adds { sem 𝓛 (Rests the_row self.entry (λ new. AddsEntry self.old.control new.control (Show terminal.now (show_answer (now_of self.old.control) terminal.now)))) }
         ensures* up { sem 𝓛 (Rests the_row self.entry (λ new. new.up ≡ true)) }
         ensures* disk { sem 𝓛 (Rests the_row self.entry (λ new. new.disk ≡ self.old.disk)) }
         ensures* lasts { sem 𝓛 (Rests the_row self.entry (λ new. Lasts D.state new)) }
         ensures* stays { sem 𝓛 (Rests the_row self.entry (λ new. StaysSo D.state self.old new)) }
+=======
+        ensures shown { IsShown (output_at (now_of self.old.control).lasting.outputs terminal.now) result }
+        ensures* adds { sem 𝓛 (Rests (the_row D.row D.Disk) self.entry (λ new. AddsEntry self.old.control new.control (Show terminal.now (show_answer (now_of self.old.control) terminal.now)))) }
+        ensures* up { sem 𝓛 (Rests (the_row D.row D.Disk) self.entry (λ new. new.up ≡ true)) }
+        ensures* disk { sem 𝓛 (Rests (the_row D.row D.Disk) self.entry (λ new. new.disk ≡ self.old.disk)) }
+        ensures* lasts { sem 𝓛 (Rests (the_row D.row D.Disk) self.entry (λ new. Lasts D.state new)) }
+        ensures* stays { sem 𝓛 (Rests (the_row D.row D.Disk) self.entry (λ new. StaysSo D.state self.old new)) }
+>>>>>>> origin/main
     {
         let answer = self.machine.show_answer(terminal);
         self.history.push_reserved(Entry::Show(*terminal, answer));
@@ -262,7 +271,7 @@ impl<D: Disk> Control<D> {
         }
         let answer = self.machine.acknowledge(terminal, number);
         self.steps = steps_of(self.steps, &self.machine);
-        note(&mut self.history, Entry::Acked(*terminal, number, answer));
+        note(&mut self.history, acked_entry(terminal, number, &answer));
         answer
     }
 

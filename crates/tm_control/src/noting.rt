@@ -1,13 +1,15 @@
 //! Entries that are added to a history.
 ghost use Rattle.std.specs.Prelude.{◌≡◌, ◌<◌, Some};
 ghost use Rattle.std.specs.Vec.{vec_len, vec_capacity};
-ghost use Rattle.model_machine.specs.declared.entry.Entry.TheVariants.{Turn as TurnEntry};
+ghost use Rattle.model_machine.specs.declared.entry.Entry.TheVariants.{Accept, Acked as AckedEntry, Turn as TurnEntry};
 ghost use Rattle.logged_machine.specs.Goes.{fault_in};
 ghost use Rattle.tm_control.specs.Calls.{is_noted, noted};
 
 use model_machine::{
-    AckRefused, CheckpointRefused, CommandRefused, ControlFault, Entry, InputRefused, Turned,
+    AckRefused, Acked, CheckpointRefused, CommandRefused, ControlFault, Entry, InputRefused, Taken,
+    Turned,
 };
+use tm_types::{Name, Segments};
 
 /// Adds an entry to a history that has room for it: that of a call which was answered, or in which the disk failed.
 pub(crate) fn note(history: &mut Vec<Entry>, entry: Entry)
@@ -41,6 +43,29 @@ fn is_told(fault: &ControlFault) -> bool
         ControlFault::Memory => false,
         ControlFault::Spent(_) => false,
     }
+}
+
+/// The entry of an input.
+pub(crate) fn input_entry(
+    terminal: &Name,
+    number: u64,
+    segments: Segments,
+    answer: &Result<Taken, InputRefused>,
+) -> Entry
+    ensures { result ≡ Accept terminal.now number segments answer.now }
+{
+    Entry::Accept(*terminal, number, segments, *answer)
+}
+
+/// The entry of an acknowledgement.
+pub(crate) fn acked_entry(
+    terminal: &Name,
+    number: u64,
+    answer: &Result<Acked, AckRefused>,
+) -> Entry
+    ensures { result ≡ AckedEntry terminal.now number answer.now }
+{
+    Entry::Acked(*terminal, number, *answer)
 }
 
 /// The entry of a turn.
