@@ -232,21 +232,12 @@ impl<D: Disk> Control<D> {
     pub fn receive(&mut self, terminal: &Name) -> Shown<'_>
         requires up { self.old.up ≡ true }
         requires room { 0 < self.old.control.room }
-<<<<<<< HEAD
         ensures shown { IsShownTo (terminal_at (now_of self.old.control).lasting.terminals terminal.now) (output_at (now_of self.old.control).lasting.outputs terminal.now) result }
-        ensures* adds { sem 𝓛 (Rests the_row self.entry (λ new. AddsEntry self.old.control new.control (Show terminal.now (show_answer (now_of self.old.control) terminal.now)))) }
-        ensures* up { sem 𝓛 (Rests the_row self.entry (λ new. new.up ≡ true)) }
-        ensures* disk { sem 𝓛 (Rests the_row self.entry (λ new. new.disk ≡ self.old.disk)) }
-        ensures* lasts { sem 𝓛 (Rests the_row self.entry (λ new. Lasts D.state new)) }
-        ensures* stays { sem 𝓛 (Rests the_row self.entry (λ new. StaysSo D.state self.old new)) }
-=======
-        ensures shown { IsShown (output_at (now_of self.old.control).lasting.outputs terminal.now) result }
         ensures* adds { sem 𝓛 (Rests (the_row D.row D.Disk) self.entry (λ new. AddsEntry self.old.control new.control (Show terminal.now (show_answer (now_of self.old.control) terminal.now)))) }
         ensures* up { sem 𝓛 (Rests (the_row D.row D.Disk) self.entry (λ new. new.up ≡ true)) }
         ensures* disk { sem 𝓛 (Rests (the_row D.row D.Disk) self.entry (λ new. new.disk ≡ self.old.disk)) }
         ensures* lasts { sem 𝓛 (Rests (the_row D.row D.Disk) self.entry (λ new. Lasts D.state new)) }
         ensures* stays { sem 𝓛 (Rests (the_row D.row D.Disk) self.entry (λ new. StaysSo D.state self.old new)) }
->>>>>>> origin/main
     {
         let answer = self.machine.show_answer(terminal);
         self.history.push_reserved(Entry::Show(*terminal, answer));
