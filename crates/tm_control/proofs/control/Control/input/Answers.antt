@@ -10,7 +10,7 @@ use Rattle.tm_control.proofs.control.Control.input.Goals as goal
 
 pub invariant_of-self-2 : goal.invariant_of-self-2
 invariant_of-self-2 g c =
-    (called g.D.Disk.state c.self.inside.machine c.accept-answer.new.self c.self.inside.opening c.self.inside.history.items c.note.new.history.items (Accept c.args.terminal.now c.args.number c.args.segments c.accept-answer.result) 0 0 c.self.inside.began c.self.inside.steps c.steps_of.result
+    (called g.D.Disk.state c.self.inside.machine c.accept-answer.new.self c.self.inside.opening c.self.inside.history.items c.note.new.history.items (Accept c.args.terminal.now c.args.number c.args.segments c.accept-answer.result) 0 0 c.self.inside.began c.self.inside.steps c.steps_of-self-inside.result
     (record {
       served = ap (λ (v : ControlOnDisk _). v.up) c.self.view_is ∙ c.requires.up;
       holds = is_served g.D.Disk.state c.self.inside.machine c.self.inside.opening c.self.inside.history.items c.self.inside.steps (ap (λ (v : ControlOnDisk _). v.up) c.self.view_is ∙ c.requires.up) c.self.invariant;
@@ -19,13 +19,13 @@ invariant_of-self-2 g c =
       lasts = c.accept-answer.ensures.lasts;
       disk = g.met.D.Disk.is_disk c.accept-answer.new.self.disk;
     })
-    c.steps_of.ensures c.accept-answer.ensures.goes c.accept-answer.ensures.crash
+    c.steps_of-self-inside.ensures c.accept-answer.ensures.goes c.accept-answer.ensures.crash
     (subst (λ (e : Entry). c.note.new.history.items ≡ noted (is_noted (fault_in e)) c.self.inside.history.items e) c.input_entry.ensures
     (c.note.ensures ∙ ap (λ (es : List Entry). noted (is_noted (fault_in c.input_entry.result)) es c.input_entry.result) c.reserve.ensures.items))).1
 
 pub returns-clause-crash : goal.returns-clause-crash
 returns-clause-crash g c = rw (sym c.self.view_is)
-    (called g.D.Disk.state c.self.inside.machine c.accept-answer.new.self c.self.inside.opening c.self.inside.history.items c.note.new.history.items (Accept c.args.terminal.now c.args.number c.args.segments c.accept-answer.result) _ _ c.self.inside.began c.self.inside.steps c.steps_of.result
+    (called g.D.Disk.state c.self.inside.machine c.accept-answer.new.self c.self.inside.opening c.self.inside.history.items c.note.new.history.items (Accept c.args.terminal.now c.args.number c.args.segments c.accept-answer.result) _ _ c.self.inside.began c.self.inside.steps c.steps_of-self-inside.result
     (record {
       served = ap (λ (v : ControlOnDisk _). v.up) c.self.view_is ∙ c.requires.up;
       holds = is_served g.D.Disk.state c.self.inside.machine c.self.inside.opening c.self.inside.history.items c.self.inside.steps (ap (λ (v : ControlOnDisk _). v.up) c.self.view_is ∙ c.requires.up) c.self.invariant;
@@ -34,13 +34,13 @@ returns-clause-crash g c = rw (sym c.self.view_is)
       lasts = c.accept-answer.ensures.lasts;
       disk = g.met.D.Disk.is_disk c.accept-answer.new.self.disk;
     })
-    c.steps_of.ensures c.accept-answer.ensures.goes c.accept-answer.ensures.crash
+    c.steps_of-self-inside.ensures c.accept-answer.ensures.goes c.accept-answer.ensures.crash
     (subst (λ (e : Entry). c.note.new.history.items ≡ noted (is_noted (fault_in e)) c.self.inside.history.items e) c.input_entry.ensures
     (c.note.ensures ∙ ap (λ (es : List Entry). noted (is_noted (fault_in c.input_entry.result)) es c.input_entry.result) c.reserve.ensures.items))).0.crash
 
 pub returns-clause-lasts : goal.returns-clause-lasts
 returns-clause-lasts g c =
-    (called g.D.Disk.state c.self.inside.machine c.accept-answer.new.self c.self.inside.opening c.self.inside.history.items c.note.new.history.items (Accept c.args.terminal.now c.args.number c.args.segments c.accept-answer.result) _ _ c.self.inside.began c.self.inside.steps c.steps_of.result
+    (called g.D.Disk.state c.self.inside.machine c.accept-answer.new.self c.self.inside.opening c.self.inside.history.items c.note.new.history.items (Accept c.args.terminal.now c.args.number c.args.segments c.accept-answer.result) _ _ c.self.inside.began c.self.inside.steps c.steps_of-self-inside.result
     (record {
       served = ap (λ (v : ControlOnDisk _). v.up) c.self.view_is ∙ c.requires.up;
       holds = is_served g.D.Disk.state c.self.inside.machine c.self.inside.opening c.self.inside.history.items c.self.inside.steps (ap (λ (v : ControlOnDisk _). v.up) c.self.view_is ∙ c.requires.up) c.self.invariant;
@@ -49,6 +49,6 @@ returns-clause-lasts g c =
       lasts = c.accept-answer.ensures.lasts;
       disk = g.met.D.Disk.is_disk c.accept-answer.new.self.disk;
     })
-    c.steps_of.ensures c.accept-answer.ensures.goes c.accept-answer.ensures.crash
+    c.steps_of-self-inside.ensures c.accept-answer.ensures.goes c.accept-answer.ensures.crash
     (subst (λ (e : Entry). c.note.new.history.items ≡ noted (is_noted (fault_in e)) c.self.inside.history.items e) c.input_entry.ensures
     (c.note.ensures ∙ ap (λ (es : List Entry). noted (is_noted (fault_in c.input_entry.result)) es c.input_entry.result) c.reserve.ensures.items))).0.lasts
