@@ -6,11 +6,17 @@ use Rattle.model_system.specs.System.{System}
 use Rattle.model_machine.specs.declared.entry.Acked.{Acked as AckAnswer}
 use Rattle.model_machine.specs.declared.entry.AckRefused.{AckRefused}
 use Rattle.model_machine.specs.declared.entry.AckRefused.TheVariants.{Unknown as AckUnknown, Ahead, Fault as AckFault}
+use Rattle.model_command.specs.declared.answer.Answer.{Answer}
+use Rattle.model_command.specs.declared.command.Command.{Command}
+use Rattle.model_machine.specs.declared.entry.CheckpointRefused.{CheckpointRefused}
+use Rattle.model_machine.specs.declared.entry.CheckpointRefused.TheVariants.{BusyRegion, Fault as CheckpointFault}
+use Rattle.model_machine.specs.declared.entry.CommandRefused.{CommandRefused}
+use Rattle.model_machine.specs.declared.entry.CommandRefused.TheVariants.{UnknownName, Busy, NoConversation, Fault as CommandFault}
 use Rattle.model_machine.specs.declared.entry.ControlFault.{ControlFault}
 use Rattle.model_machine.specs.declared.entry.Entry.{Entry}
-use Rattle.model_machine.specs.declared.entry.Entry.TheVariants.{Accept, Show, Acked, Turn}
+use Rattle.model_machine.specs.declared.entry.Entry.TheVariants.{Accept, Show, Acked, Turn, Commanded, Checked}
 use Rattle.model_machine.specs.declared.entry.InputRefused.{InputRefused}
-use Rattle.model_machine.specs.declared.entry.InputRefused.TheVariants.{Terminal, Expected, Conversation, Code, SegmentsOver, QueueFull, Fault as InputFault}
+use Rattle.model_machine.specs.declared.entry.InputRefused.TheVariants.{Terminal, StoppedTerminal, Expected, Conversation, Code, StoppedCode, SegmentsOver, QueueFull, Fault as InputFault}
 use Rattle.model_machine.specs.declared.entry.Taken.{Taken}
 use Rattle.model_machine.specs.declared.entry.Turned.{Turned}
 use Rattle.model_machine.specs.Machine.{LastingState, Moment, start_of}
@@ -30,6 +36,8 @@ none_some x e = cc
 accept_faulted : (terminal : List ℕ) (number : ℕ) (segments : List (List ℕ)) (answer : Result Taken InputRefused) (fault : ControlFault) → fault_in (Accept terminal number segments answer) ≡ Some fault → is_fault (Accept terminal number segments answer) ≡ true
 accept_faulted terminal number segments (Ok taken) fault e = absurd (none_some fault e)
 accept_faulted terminal number segments (Err Terminal) fault e = absurd (none_some fault e)
+accept_faulted terminal number segments (Err StoppedTerminal) fault e = absurd (none_some fault e)
+accept_faulted terminal number segments (Err (StoppedCode code)) fault e = absurd (none_some fault e)
 accept_faulted terminal number segments (Err (Expected n)) fault e = absurd (none_some fault e)
 accept_faulted terminal number segments (Err (Conversation id)) fault e = absurd (none_some fault e)
 accept_faulted terminal number segments (Err Code) fault e = absurd (none_some fault e)
@@ -47,11 +55,25 @@ turn_faulted : (region : ℕ) (answer : Result Turned ControlFault) (fault : Con
 turn_faulted region (Ok turned) fault e = absurd (none_some fault e)
 turn_faulted region (Err f) fault e = refl
 
+commanded_faulted : (command : Command) (answer : Result Answer CommandRefused) (fault : ControlFault) → fault_in (Commanded command answer) ≡ Some fault → is_fault (Commanded command answer) ≡ true
+commanded_faulted command (Ok answer) fault e = absurd (none_some fault e)
+commanded_faulted command (Err (UnknownName name)) fault e = absurd (none_some fault e)
+commanded_faulted command (Err (Busy id)) fault e = absurd (none_some fault e)
+commanded_faulted command (Err NoConversation) fault e = absurd (none_some fault e)
+commanded_faulted command (Err (CommandFault f)) fault e = refl
+
+checked_faulted : (freeze : Bool) (answer : Result ℕ CheckpointRefused) (fault : ControlFault) → fault_in (Checked freeze answer) ≡ Some fault → is_fault (Checked freeze answer) ≡ true
+checked_faulted freeze (Ok number) fault e = absurd (none_some fault e)
+checked_faulted freeze (Err (BusyRegion region id)) fault e = absurd (none_some fault e)
+checked_faulted freeze (Err (CheckpointFault f)) fault e = refl
+
 pub faulted : (entry : Entry) (fault : ControlFault) → fault_in entry ≡ Some fault → is_fault entry ≡ true
 faulted (Accept terminal number segments answer) fault e = accept_faulted terminal number segments answer fault e
 faulted (Show terminal answer) fault e = absurd (none_some fault e)
 faulted (Acked terminal number answer) fault e = acked_faulted terminal number answer fault e
 faulted (Turn region answer) fault e = turn_faulted region answer fault e
+faulted (Commanded command answer) fault e = commanded_faulted command answer fault e
+faulted (Checked freeze answer) fault e = checked_faulted freeze answer fault e
 
 -- ---- a life's end
 
