@@ -270,3 +270,11 @@ pub still : {D : Type 0} (state : D → DiskState) (machine : LoggedState D) (op
 still state machine opening history room room' began steps served holds lasts disk image left =
     subst (λ (m : Moment). Recovers machine.machine.system image (Ok m.lasting)) (sym (is_served state machine opening history steps served holds).moment)
     ((lasts served).recover image (disk.now_alone image left))
+
+-- the machine stands where it stood, and was asked
+pub shown_holds : {D : Type 0} (state : D → DiskState) (machine : LoggedState D) (opening : LastingState) (before after : List Entry) (entry : Entry) (steps : ℕ)
+    → machine.served ≡ true → Holds state machine opening before steps → after ≡ before ++ entry ∷ [] → IsAnswered machine.machine machine.machine entry
+    → Holds state machine opening after steps
+shown_holds state machine opening before after entry steps served holds longer answered =
+    let h : IsServed machine opening before steps = is_served state machine opening before steps served holds in
+    subst (λ (b : Bool). HoldsBy b state machine opening after steps) (sym served) (served_next machine machine opening before after entry steps steps h longer answered h.count)

@@ -239,6 +239,7 @@ impl<D: Disk> Control<D> {
         ensures* lasts { sem 𝓛 (Rests (the_row D.row D.Disk) self.entry (λ new. Lasts D.state new)) }
         ensures* stays { sem 𝓛 (Rests (the_row D.row D.Disk) self.entry (λ new. StaysSo D.state self.old new)) }
     {
+        let _ = self.machine.is_served();
         let answer = self.machine.show_answer(terminal);
         self.history.push_reserved(Entry::Show(*terminal, answer));
         self.machine.showing(terminal)

@@ -20,7 +20,7 @@ invariant_of-self-2 g c =
       disk = g.met.D.Disk.is_disk c.accept-answer.new.self.disk;
     })
     c.steps_of-self-inside.ensures c.accept-answer.ensures.goes c.accept-answer.ensures.crash
-    (subst (λ (e : Entry). c.note.new.history.items ≡ noted (is_noted (fault_in e)) c.self.inside.history.items e) c.input_entry.ensures
+    (subst (λ (e : Entry). c.note.new.history.items ≡ noted (is_noted (fault_in e)) c.self.inside.history.items e) (c.input_entry.ensures ∙ ap (λ (s : List (List ℕ)). Accept c.args.terminal.now c.args.number s c.accept-answer.result) c.in-Ok.ensures)
     (c.note.ensures ∙ ap (λ (es : List Entry). noted (is_noted (fault_in c.input_entry.result)) es c.input_entry.result) c.reserve.ensures.items))).1
 
 pub returns-clause-crash : goal.returns-clause-crash
@@ -35,7 +35,7 @@ returns-clause-crash g c = rw (sym c.self.view_is)
       disk = g.met.D.Disk.is_disk c.accept-answer.new.self.disk;
     })
     c.steps_of-self-inside.ensures c.accept-answer.ensures.goes c.accept-answer.ensures.crash
-    (subst (λ (e : Entry). c.note.new.history.items ≡ noted (is_noted (fault_in e)) c.self.inside.history.items e) c.input_entry.ensures
+    (subst (λ (e : Entry). c.note.new.history.items ≡ noted (is_noted (fault_in e)) c.self.inside.history.items e) (c.input_entry.ensures ∙ ap (λ (s : List (List ℕ)). Accept c.args.terminal.now c.args.number s c.accept-answer.result) c.in-Ok.ensures)
     (c.note.ensures ∙ ap (λ (es : List Entry). noted (is_noted (fault_in c.input_entry.result)) es c.input_entry.result) c.reserve.ensures.items))).0.crash
 
 pub returns-clause-lasts : goal.returns-clause-lasts
@@ -50,5 +50,5 @@ returns-clause-lasts g c =
       disk = g.met.D.Disk.is_disk c.accept-answer.new.self.disk;
     })
     c.steps_of-self-inside.ensures c.accept-answer.ensures.goes c.accept-answer.ensures.crash
-    (subst (λ (e : Entry). c.note.new.history.items ≡ noted (is_noted (fault_in e)) c.self.inside.history.items e) c.input_entry.ensures
+    (subst (λ (e : Entry). c.note.new.history.items ≡ noted (is_noted (fault_in e)) c.self.inside.history.items e) (c.input_entry.ensures ∙ ap (λ (s : List (List ℕ)). Accept c.args.terminal.now c.args.number s c.accept-answer.result) c.in-Ok.ensures)
     (c.note.ensures ∙ ap (λ (es : List Entry). noted (is_noted (fault_in c.input_entry.result)) es c.input_entry.result) c.reserve.ensures.items))).0.lasts
