@@ -180,7 +180,7 @@ module _ {D : Type 0} (state : D → DiskState) (old new : LoggedState D) (openi
               call = down.call;
               fault = f;
               images = down.images;
-        texts = down.texts;
+              texts = down.texts;
               count =
                   count ∙ ap (λ (b : Bool). if b then new.machine.moment.lasting.steps else steps) goes.served
                   ∙ went.holds.count ∙ ap (λ (m : Moment). m.lasting.steps) (sym went.holds.moment) ∙ ap (λ (s : System). (lasting_after s opening before).steps) (sym went.keeps.system);

@@ -58,11 +58,7 @@ pub(crate) fn input_entry(
 }
 
 /// The entry of an acknowledgement.
-pub(crate) fn acked_entry(
-    terminal: &Name,
-    number: u64,
-    answer: &Result<Acked, AckRefused>,
-) -> Entry
+pub(crate) fn acked_entry(terminal: &Name, number: u64, answer: &Result<Acked, AckRefused>) -> Entry
     ensures { result ≡ AckedEntry terminal.now number answer.now }
 {
     Entry::Acked(*terminal, number, *answer)
