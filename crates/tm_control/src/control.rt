@@ -236,10 +236,8 @@ impl<D: Disk> Control<D> {
         ensures* adds { sem 𝓛 (Rests (the_row D.row D.Disk) self.entry (λ new. AddsEntry self.old.control new.control (Show terminal.now (show_answer (now_of self.old.control) terminal.now)))) }
         ensures* up { sem 𝓛 (Rests (the_row D.row D.Disk) self.entry (λ new. new.up ≡ true)) }
         ensures* disk { sem 𝓛 (Rests (the_row D.row D.Disk) self.entry (λ new. new.disk ≡ self.old.disk)) }
-        ensures* lasts { sem 𝓛 (Rests (the_row D.row D.Disk) self.entry (λ new. Lasts D.state new)) }
         ensures* stays { sem 𝓛 (Rests (the_row D.row D.Disk) self.entry (λ new. StaysSo D.state self.old new)) }
     {
-        let _ = self.machine.is_served();
         let answer = self.machine.show_answer(terminal);
         self.history.push_reserved(Entry::Show(*terminal, answer));
         self.machine.showing(terminal)

@@ -40,7 +40,7 @@ returns-clause-crash g c = rw (sym c.self.view_is)
 
 pub returns-clause-lasts : goal.returns-clause-lasts
 returns-clause-lasts g c =
-    (called g.D.Disk.state c.self.inside.machine c.acknowledge-answer.new.self c.self.inside.opening c.self.inside.history.items c.note.new.history.items (Acked c.args.terminal.now c.args.number c.acknowledge-answer.result) _ _ c.self.inside.began c.self.inside.steps c.steps_of-self-inside.result
+    (called g.D.Disk.state c.self.inside.machine c.acknowledge-answer.new.self c.self.inside.opening c.self.inside.history.items c.note.new.history.items (Acked c.args.terminal.now c.args.number c.acknowledge-answer.result) 0 _ c.self.inside.began c.self.inside.steps c.steps_of-self-inside.result
     (record {
       served = ap (λ (v : ControlOnDisk _). v.up) c.self.view_is ∙ c.requires.up;
       holds = is_served g.D.Disk.state c.self.inside.machine c.self.inside.opening c.self.inside.history.items c.self.inside.steps (ap (λ (v : ControlOnDisk _). v.up) c.self.view_is ∙ c.requires.up) c.self.invariant;
