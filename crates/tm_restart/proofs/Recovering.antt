@@ -3,7 +3,7 @@ use Rattle.std.proofs.Common.{◌≡◌, ℕ, false, sym, ◌∙◌, subst, inl,
 use Rattle.std.specs.Prelude.{Result, List}
 use Rattle.std.proofs.lemmas.Bool.{cases_Bool}
 use Rattle.model_disk.specs.Disk.{Image, DiskState, IsDisk, ComesFrom, Within, Only, Keeps}
-use Rattle.model_disk.proofs.Words.{keeps_on, leaves_none}
+use Rattle.model_disk.proofs.Words.{leaves_none}
 use Rattle.model_system.specs.System.{System}
 use Rattle.model_machine.specs.Machine.{LastingState, empty_state}
 use Rattle.restart_data.specs.Restart.{restart_in}
@@ -13,11 +13,10 @@ use Rattle.model_image.specs.Faults.{Fault}
 use Rattle.model_image.specs.Recovered.{Recovers}
 use Rattle.model_image.proofs.Answers.{one_answer_of, zeros_are_empty}
 use Rattle.cold_start.specs.FirstImage.{KeepsOrEmpties}
-use Rattle.tm_restart.specs.declared.parts.OpenError.{OpenError}
-use Rattle.tm_restart.specs.declared.parts.OpenError.TheVariants.{BadImage, WrongDefinition, TooSmall, Spent, Disk, Memory}
+use Rattle.opening_answers.specs.declared.refusals.OpenError.{OpenError}
+use Rattle.opening_answers.specs.declared.refusals.OpenError.TheVariants.{BadImage, WrongDefinition, TooSmall, Spent, Disk, Memory}
 use Rattle.opening_parts.specs.Parts.{OpeningParts}
-use Rattle.tm_restart.specs.Opening.{SizeFirst, TellsCold, TellsOpening, OpeningCause, WroteNothing}
-use Rattle.tm_restart.specs.Found.{SizeKnown, FoundCause}
+use Rattle.opening_answers.specs.Opening.{TellsCold, TellsOpening}
 
 -- ---- what is left
 
@@ -61,9 +60,6 @@ module _ (system : System) (old mid : DiskState) (keeps : Keeps old mid) where
       keeps = λ time image early left. after.keeps time image (omega (arith, early, keeps.elapses.later)) (keeps.elapses.keeps time image early left);
     }
 
-pub read_only : (old mid : DiskState) → Keeps old mid → Only old.shown old → Only mid.shown mid
-read_only old mid keeps only image left = only image (keeps.no_more image left) ∙ sym keeps.shown
-
 -- ---- what is told
 
 pub cold_tells : (system : System) (text : List ℕ) (image : Image) (result : Result (OpeningParts × LastingState) OpenError) → restart_in (snapshot_area system) image ≡ Ok None → TellsCold system result → TellsOpening system text image result
@@ -74,37 +70,3 @@ cold_tells system text image (Err (WrongDefinition place)) zeros tells = absurd 
 cold_tells system text image (Err (Spent counter)) zeros tells = absurd tells
 cold_tells system text image (Err Disk) zeros tells = tt
 cold_tells system text image (Err Memory) zeros tells = tt
-
--- ---- the cause
-
-wrote_nothing : (old mid new : DiskState) → IsDisk old → Keeps old mid → mid.faults ≡ old.faults → WroteNothing mid new → WroteNothing old new
-wrote_nothing old mid new is_disk keeps faults nothing = record {
-  keeps = keeps_on old mid new is_disk keeps nothing.keeps;
-  no_fault = nothing.no_fault ∙ faults;
-}
-
-pub read_cause : (old mid new : DiskState) (result : Result (OpeningParts × LastingState) OpenError) → IsDisk old → Keeps old mid → mid.faults ≡ old.faults → OpeningCause result mid new → OpeningCause result old new
-read_cause old mid new (Ok opened) is_disk keeps faults cause = cause ∙ faults
-read_cause old mid new (Err (TooSmall needed has)) is_disk keeps faults cause = wrote_nothing old mid new is_disk keeps faults cause
-read_cause old mid new (Err (BadImage rule sector)) is_disk keeps faults cause = wrote_nothing old mid new is_disk keeps faults cause
-read_cause old mid new (Err (WrongDefinition place)) is_disk keeps faults cause = wrote_nothing old mid new is_disk keeps faults cause
-read_cause old mid new (Err (Spent counter)) is_disk keeps faults cause = wrote_nothing old mid new is_disk keeps faults cause
-read_cause old mid new (Err Disk) is_disk keeps faults cause = ⊎_elim (λ rose. inl (omega (arith, rose, faults))) (λ last. inr last) cause
-read_cause old mid new (Err Memory) is_disk keeps faults cause = wrote_nothing old mid new is_disk keeps faults cause
-
-pub read_size : (system : System) (old mid : DiskState) (result : Result (OpeningParts × LastingState) OpenError) → Keeps old mid → SizeFirst system mid.size result → SizeFirst system old.size result
-read_size system old mid result keeps size = subst (λ (n : ℕ). SizeFirst system n result) keeps.stays.size size
-
-pub found_cause : {A : Type 0} (old mid new : DiskState) (result : Result A OpenError) → IsDisk old → Keeps old mid → mid.faults ≡ old.faults → FoundCause result mid new → FoundCause result old new
-found_cause old mid new (Ok found) is_disk keeps faults cause = cause ∙ faults
-found_cause old mid new (Err error) is_disk keeps faults cause = read_cause old mid new (Err error) is_disk keeps faults cause
-
-pub found_size : {A : Type 0} (system : System) (old mid : DiskState) (result : Result A OpenError) → Keeps old mid → SizeKnown system mid.size result → SizeKnown system old.size result
-found_size system old mid result keeps size = subst (λ (n : ℕ). SizeKnown system n result) keeps.stays.size size
-
--- what is told of the disk behind a reading is told of it before
-pub told_before : (P : Image → Type 0) (old mid : DiskState) → Keeps old mid → (IsTrue mid.tells → P mid.shown) → IsTrue old.tells → P old.shown
-told_before P old mid keeps told tells = subst P keeps.shown (told (subst IsTrue (sym keeps.stays.tells) tells))
-
-pub told_behind : (P : Image → Type 0) (old mid : DiskState) → Keeps old mid → (IsTrue old.tells → P old.shown) → IsTrue mid.tells → P mid.shown
-told_behind P old mid keeps told tells = subst P (sym keeps.shown) (told (subst IsTrue keeps.stays.tells tells))

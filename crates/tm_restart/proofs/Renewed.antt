@@ -39,11 +39,11 @@ use Rattle.cold_start.proofs.FirstWritten.{has_first, first_recovers}
 use Rattle.model_machine.specs.declared.counts.Counter.{Counter}
 use Rattle.model_machine.specs.declared.counts.Counter.TheVariants as counter
 use Rattle.model_image.specs.Text.{text_in}
-use Rattle.tm_restart.specs.Made.{IsMade}
-use Rattle.tm_restart.specs.Opening.{IsBegun, MayBegin, counters, first_spent}
+use Rattle.first_parts.specs.Made.{IsMade}
+use Rattle.opening_answers.specs.Opening.{IsBegun, MayBegin, counters, first_spent}
 use Rattle.opening_parts.specs.Parts.{OpeningParts}
-use Rattle.tm_restart.specs.Renewal.{IsRenewed}
-use Rattle.tm_restart.proofs.TextBack.{text_back}
+use Rattle.opening_answers.specs.Renewal.{IsRenewed}
+use Rattle.first_parts.proofs.TextBack.{text_back}
 
 -- ---- the first snapshot
 

@@ -30,7 +30,7 @@ use Rattle.renewal.specs.Telling.{TellsState}
 use Rattle.renewal.specs.Writing.{ChangesUnread, IsRewritten, Rewrites}
 use Rattle.renewal.proofs.Unreading.{named_slot, unread_recovers}
 use Rattle.renewal.proofs.Recovering.{IsNextLife, renewed_restart, renewed_snapshot, renewed_ahead, renewed_recovers}
-use Rattle.tm_restart.specs.Renewal.{IsRenewed}
+use Rattle.opening_answers.specs.Renewal.{IsRenewed}
 
 -- ---- texts
 

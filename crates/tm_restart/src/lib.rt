@@ -1,22 +1,17 @@
 //! The beginning of a life: an image is begun cold, or recovered.
 //!
 //! Whenever a stop comes, each image recovers to what it recovered to before, or, where it is begun cold, to the empty
-//! state (specs/Opening). Once a call has answered, the restart sector names a new snapshot and an empty log. A refusal
+//! state (specs/Opening of `opening_answers`). Once a call has answered, the restart sector names a new snapshot and an empty log. A refusal
 //! has written nothing. `recover` begins images of zeros so far, and tells why an image can't be opened; where one could be
 //! it answers want of memory.
 #![tactic(auto)]
 
-mod empty;
-mod finding;
-mod making;
-mod parts;
 mod restarting;
-mod spending;
 mod starting;
 
 pub use model_machine::Lasting;
+pub use opening_answers::{Counter, OpenError};
 pub use opening_parts::Parts;
-pub use parts::{Counter, OpenError};
 pub use restarting::recover;
 pub use spending::{Counts, spent_counter};
 pub use starting::cold;

@@ -4,14 +4,14 @@ ghost use Rattle.model_disk.specs.Disk.{Image, Stays, Within, Only};
 ghost use Rattle.model_image.specs.Alike.{RecoversAlike};
 ghost use Rattle.model_image.specs.Holding.{HoldsStores};
 ghost use Rattle.opening_parts.specs.Parts.{AreOpeningParts};
-ghost use Rattle.tm_restart.specs.Renewal.{IsRenewed};
-ghost use Rattle.tm_restart.specs.Opening.{SizeFirst, TellsOpening, MayBegin, OpeningCause};
+ghost use Rattle.opening_answers.specs.Renewal.{IsRenewed};
+ghost use Rattle.opening_answers.specs.Opening.{SizeFirst, TellsOpening, MayBegin, OpeningCause};
 
-use crate::finding::find;
-use crate::parts::OpenError;
 use crate::starting::cold;
 use image_areas::sectors_needed;
+use image_finding::find;
 use model_machine::Lasting;
+use opening_answers::OpenError;
 use opening_parts::Parts;
 use std::alloc::Global;
 use system_types::System;

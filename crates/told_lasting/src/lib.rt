@@ -8,7 +8,6 @@ pub use images::{are_images_of, is_image_of};
 pub use telling::{Told, tell_all};
 pub use weighing::{is_over_full, replies_content};
 
-mod empty;
 mod images;
 mod telling;
 mod terminals;

@@ -5,8 +5,8 @@ ghost use Rattle.model_system.specs.Lists.{change_at};
 ghost use Rattle.model_image.specs.Snapshot.{snapshot_state, told, told_by};
 ghost use Rattle.told_lasting.specs.Telling.{AreNamed, is_change, with_setting};
 
-use crate::empty::empty_state;
 use crate::terminals::{add_reply, set_code, set_conversation, set_input, set_next};
+use first_state::empty_lasting;
 use log_records::Record;
 use model_conversation::Conversation;
 use model_machine::Lasting;
@@ -27,7 +27,7 @@ pub fn tell_all(alloc: Global, system: &System, records: Vec<Record>) -> Result<
     ensures lasting { IfOk result (λ told. told.lasting ≡ snapshot_state system.now records.items) }
     ensures changes { IfOk result (λ told. told.changes.items ≡ filter is_change records.items) }
 {
-    let empty = empty_state(alloc, system)?;
+    let empty = empty_lasting(alloc, system)?;
     tell_behind(alloc, system, empty, records)
 }
 

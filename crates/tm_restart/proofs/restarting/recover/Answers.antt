@@ -1,5 +1,5 @@
 use Rattle.std.proofs.Common.{Ok, subst}
-use Rattle.tm_restart.specs.Found.{TellsFind}
+use Rattle.image_finding.specs.Found.{TellsFind}
 use Rattle.tm_restart.proofs.Recovering.{cold_within}
 use Rattle.tm_restart.proofs.restarting.recover.Goals as goal
 

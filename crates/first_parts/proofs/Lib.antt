@@ -1,0 +1,2 @@
+pub mod TextBack
+pub mod FirstParts

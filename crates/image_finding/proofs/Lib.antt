@@ -1,0 +1,2 @@
+pub mod FoundBehind
+pub mod Seen

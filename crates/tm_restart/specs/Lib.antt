@@ -1,4 +1,0 @@
-pub mod Made
-pub mod Renewal
-pub mod Opening
-pub mod Found
