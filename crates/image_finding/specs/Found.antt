@@ -29,6 +29,7 @@ pub record IsJudged (system : System) (text : List ℕ) (found : Found) : Type 0
   pub valid : IsValid (snapshot_area system) found.restart
   pub text_size : length text ≡ found.restart.text
   pub behind : ComesBehind system found.looked.reread.replayed
+  pub least : found.restart.sequence ≤ found.looked.reread.next_sequence
   pub few : found.looked.reread.next_sequence ≤ found.restart.sequence + system.logs
   pub given : AreNamedBytes (length system.databases) found.looked.reread.replayed.slots found.looked.named.given.items
   pub made : AreAllMade system.databases found.looked.named.loaded.stores found.looked.named.loaded.rows

@@ -1,12 +1,14 @@
 -- The snapshot and the log of an image, by what reading them and doing the log again answer.
 use Rattle.std.proofs.Common.{◌≡◌, ◌⊎◌, ℕ, Bool, true, false, List, refl, sym, ◌∙◌, ap, subst, inl, inr, ⊎_elim, Some, None, Ok, Err}
 use Rattle.std.specs.Prelude.{Option, Result, Decides, if◌then◌else◌}
-use Rattle.std.specs.List.{list_all}
+use Rattle.std.specs.List.{list_all, AllByRecursion}
 use Rattle.model_disk.specs.Disk.{Image}
 use Rattle.model_system.specs.System.{System}
 use Rattle.model_machine.specs.Machine.{LastingState}
 use Rattle.log_records.specs.declared.record.Record.{Record}
 use Rattle.log_records.specs.Reading.{◌>>=◌}
+use Rattle.log_records.specs.Spelling.{IsRecord}
+use Rattle.log_records.proofs.Takes.{IsBytes}
 use Rattle.log_sectors.specs.Chain.{chain, joined}
 use Rattle.restart_data.specs.declared.restart.RestartSector.{RestartSector}
 use Rattle.restart_data.specs.Restart.{restart_in}
@@ -20,6 +22,10 @@ use Rattle.model_image.specs.Slots.{is_image_of}
 use Rattle.model_image.specs.Recovered.{snapshot_from, log_in, Recovers}
 use Rattle.model_image.specs.Replay.{replay_of}
 use Rattle.model_image.specs.Snapshot.{snapshot_state, snapshot_rules}
+use Rattle.count_law.proofs.Cut.{all_valid}
+use Rattle.count_law.proofs.Replayed.{log_counted}
+use Rattle.count_law.proofs.Told.{snapshot_counted}
+use Rattle.name_law.proofs.Replayed.{snapshot_named, log_named}
 use Rattle.image_records.specs.Answers.{SnapshotState, ReplayedState, replayed_to, IsBehind, TellsLog}
 use Rattle.image_records.specs.declared.fault.RecordsFault.TheVariants.{Bad}
 use Rattle.snapshot_reading.specs.declared.fault.ReadFault.{ReadFault}
@@ -27,7 +33,7 @@ use Rattle.snapshot_reading.specs.declared.fault.ReadFault.TheVariants as faults
 use Rattle.snapshot_reading.specs.Reading.{TellsSnapshotOf, IsRead}
 use Rattle.snapshot_reading.proofs.Told.{images_kept}
 use Rattle.image_look.specs.declared.replaying.Reread.{Reread}
-use Rattle.image_look.specs.Replayed.{IsReplayed, TellsReplay}
+use Rattle.image_look.specs.Replayed.{ComesBehind, IsReplayed, TellsReplay}
 use Rattle.image_look.proofs.Judged.{bad_snapshot, bad_rest, bad_log}
 
 good_by : (cut : Bool) (o : Option LastingState) (lasting : LastingState) → (if cut then replayed_to o else Err 18) ≡ Ok lasting → (cut ≡ true) × (o ≡ Some lasting)
@@ -101,3 +107,19 @@ snapshot_kept system first (Err fault) records e = cc
 pub told_log : (system : System) (image : Image) (r : RestartSector) (snapshot : SnapshotState) (read : IsRead system image r snapshot) → list_all (is_image_of system) read.records ≡ true
 told_log system image r snapshot read =
     images_kept system read.records (snapshot_kept system (snapshot_first system r.snapshot) (snapshot_in r.sectors image (snapshot_first system r.snapshot) r.checkpoint) read.records read.has)
+
+-- ---- what holds on every disk
+
+pub comes_behind : (system : System) (bytes : List ℕ) (snapshot : List Record) (replayed : ReplayedState) → IsBytes bytes → AllByRecursion IsRecord snapshot → TellsLog system snapshot bytes (Ok replayed) → ComesBehind system replayed
+comes_behind system bytes snapshot replayed are valid told =
+    let lasting = told.comes.0 in
+    let replays = (good_by told.is_cut_off (replay_of system (cut_of bytes).records (snapshot_state system snapshot)) lasting told.comes.1).1 in
+    let named = log_named system (cut_of bytes).records (snapshot_state system snapshot) lasting (snapshot_named system snapshot) replays in
+    record {
+      snapshot = snapshot;
+      log = (cut_of bytes).records;
+      lasting = lasting;
+      behind = told.comes.2;
+      counted = log_counted system (cut_of bytes).records (snapshot_state system snapshot) lasting (all_valid bytes are) (snapshot_counted system snapshot valid) replays;
+      named = record { terminals = named.terminals; outputs = named.outputs; conversations = named.conversations; codes = named.codes };
+    }

@@ -10,17 +10,22 @@ use Rattle.model_image.specs.Cut.{IsCutOff}
 use Rattle.model_image.specs.Recovered.{snapshot_from, log_in, Recovers}
 use Rattle.model_image.specs.Replay.{replay_of}
 use Rattle.model_image.specs.Snapshot.{snapshot_state}
+use Rattle.count_law.specs.Counted.{IsCounted}
+use Rattle.snapshot_records.specs.Records.{IsOfSystem}
 use Rattle.image_records.specs.Answers.{ReplayedState, IsBehind}
 use Rattle.snapshot_reading.specs.declared.fault.ReadFault.{ReadFault}
 use Rattle.snapshot_reading.specs.declared.fault.ReadFault.TheVariants as faults
 use Rattle.image_look.specs.declared.replaying.Reread.{Reread}
 
--- What was read comes from records of a snapshot and of a log, on every disk.
+-- What was read comes from records of a snapshot and of a log, on every disk. They leave a state of the system, whose
+-- messages and replies have 1 to 32 segments.
 pub record ComesBehind (system : System) (replayed : ReplayedState) : Type 0 where
   pub snapshot : List Record
   pub log : List Record
   pub lasting : LastingState
   pub behind : IsBehind system snapshot log lasting replayed
+  pub counted : IsCounted lasting
+  pub named : IsOfSystem system lasting
 
 -- The image's snapshot and the records of its log come to this state; what is left of the log is cut off.
 pub record IsReplayed (system : System) (image : Image) (restart : RestartSector) (read : Reread) : Type 0 where

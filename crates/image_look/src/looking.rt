@@ -39,6 +39,7 @@ pub fn look<D: Disk>(
     requires valid { IsValid (snapshot_area system.now) restart.now }
     requires has { IsTrue (D.state disk.old).tells → restart_in (snapshot_area system.now) (D.state disk.old).shown ≡ Ok (Some restart.now) }
     ensures behind { IfOk result (λ looked. ComesBehind system.now looked.reread.replayed) }
+    ensures least { IfOk result (λ looked. restart.now.sequence ≤ looked.reread.next_sequence) }
     ensures few { IfOk result (λ looked. looked.reread.next_sequence ≤ restart.now.sequence + system.now.logs) }
     ensures given { IfOk result (λ looked. AreNamedBytes (length system.now.databases) looked.reread.replayed.slots looked.named.given.items) }
     ensures made { IfOk result (λ looked. AreAllMade system.now.databases looked.named.loaded.stores looked.named.loaded.rows) }

@@ -34,6 +34,7 @@ pub fn read_replayed<D: Disk>(
     requires valid { IsValid (snapshot_area system.now) restart.now }
     requires has { IsTrue (D.state disk.old).tells → restart_in (snapshot_area system.now) (D.state disk.old).shown ≡ Ok (Some restart.now) }
     ensures behind { IfOk result (λ read. ComesBehind system.now read.replayed) }
+    ensures least { IfOk result (λ read. restart.now.sequence ≤ read.next_sequence) }
     ensures few { IfOk result (λ read. read.next_sequence ≤ restart.now.sequence + system.now.logs) }
     ensures value { IsTrue (D.state disk.old).tells → TellsReplay system.now restart.now (D.state disk.old).shown result }
     ensures keeps { Keeps (D.state disk.old) (D.state disk.new) }

@@ -50,6 +50,7 @@ pub fn read_log<D: Disk>(
     requires valid { IsValid (snapshot_area system.now) restart.now }
     // It is decided on each disk.
     ensures decided { IfOk result (λ read. Decides read.is_cut_off (IsCutOff (cut_of read.payload).rest)) }
+    ensures least { IfOk result (λ read. restart.now.sequence ≤ read.next_sequence) }
     ensures few { IfOk result (λ read. read.next_sequence ≤ restart.now.sequence + system.now.logs) }
     ensures value { IfOk result (λ read. IsTrue (D.state disk.old).tells → IsLogOf system.now restart.now (D.state disk.old).shown read) }
     ensures keeps { Keeps (D.state disk.old) (D.state disk.new) }

@@ -1,13 +1,16 @@
 -- A snapshot's records, from its bytes.
 use Rattle.std.proofs.Common.{◌≡◌, ℕ, Bool, true, false, not, List, [], ◌∷◌, refl, subst, None, Some, Ok}
 use Rattle.std.specs.Prelude.{Option}
-use Rattle.std.specs.List.{list_all}
+use Rattle.std.specs.List.{list_all, AllByRecursion}
 use Rattle.model_system.specs.System.{System}
 use Rattle.log_records.specs.declared.record.Record.{Record}
+use Rattle.log_records.specs.Spelling.{IsRecord}
+use Rattle.log_records.proofs.Takes.{IsBytes}
 use Rattle.restart_data.specs.Rules.{first_broken, unless_broken}
 use Rattle.model_image.specs.Cut.{records_of}
 use Rattle.model_image.specs.Slots.{is_image_of}
 use Rattle.model_image.specs.Snapshot.{snapshot_rules}
+use Rattle.count_law.proofs.Cut.{whole_valid}
 use Rattle.image_records.specs.Answers.{judged, snapshot_of, SnapshotState, IsOf}
 use Rattle.snapshot_reading.specs.Reading.{ComesFromRecords}
 
@@ -30,12 +33,12 @@ last_kept false false false false false false false none = cc
 pub images_kept : (system : System) (records : List Record) → first_broken (snapshot_rules system records) ≡ None → list_all (is_image_of system) records ≡ true
 images_kept system records none = last_kept _ _ _ _ _ _ (list_all (is_image_of system) records) none
 
-by_cut : (system : System) (cut : Option (List Record)) (records : List Record) (snapshot : SnapshotState) → judged system cut ≡ Ok records → IsOf system records snapshot → ComesFromRecords system snapshot
-by_cut system None records snapshot e of = absurd cc
-by_cut system (Some found) records snapshot e of =
+by_cut : (system : System) (cut : Option (List Record)) (records : List Record) (snapshot : SnapshotState) → ((found : List Record) → cut ≡ Some found → AllByRecursion IsRecord found) → judged system cut ≡ Ok records → IsOf system records snapshot → ComesFromRecords system snapshot
+by_cut system None records snapshot valid e of = absurd cc
+by_cut system (Some found) records snapshot valid e of =
     let both = unbroken_is (first_broken (snapshot_rules system found)) found records e in
     let none : first_broken (snapshot_rules system records) ≡ None = subst (λ l. first_broken (snapshot_rules system l) ≡ None) both.1 both.0 in
-    record { records = records; is_of = of; unbroken = none; images = images_kept system records none }
+    record { records = records; is_of = of; unbroken = none; images = images_kept system records none; valid = subst (λ (l : List Record). AllByRecursion IsRecord l) both.1 (valid found refl) }
 
-pub comes_from : (system : System) (bytes : List ℕ) (records : List Record) (snapshot : SnapshotState) → snapshot_of system bytes ≡ Ok records → IsOf system records snapshot → ComesFromRecords system snapshot
-comes_from system bytes records snapshot e of = by_cut system (records_of bytes) records snapshot e of
+pub comes_from : (system : System) (bytes : List ℕ) (records : List Record) (snapshot : SnapshotState) → IsBytes bytes → snapshot_of system bytes ≡ Ok records → IsOf system records snapshot → ComesFromRecords system snapshot
+comes_from system bytes records snapshot are e of = by_cut system (records_of bytes) records snapshot (λ found is. whole_valid bytes found are is) e of

@@ -1,9 +1,10 @@
 -- What reading the snapshot of an image answers.
 use Rattle.std.specs.Prelude.{◌≡◌, true, List, None, Result, Ok, Err}
-use Rattle.std.specs.List.{list_all}
+use Rattle.std.specs.List.{list_all, AllByRecursion}
 use Rattle.model_disk.specs.Disk.{Image, DiskState, FailedSince}
 use Rattle.model_system.specs.System.{System}
 use Rattle.log_records.specs.declared.record.Record.{Record}
+use Rattle.log_records.specs.Spelling.{IsRecord}
 use Rattle.restart_data.specs.declared.restart.RestartSector.{RestartSector}
 use Rattle.restart_data.specs.Rules.{first_broken}
 use Rattle.model_image.specs.Recovered.{snapshot_from}
@@ -13,12 +14,14 @@ use Rattle.image_records.specs.Answers.{SnapshotState, IsOf}
 use Rattle.snapshot_reading.specs.declared.fault.ReadFault.{ReadFault}
 use Rattle.snapshot_reading.specs.declared.fault.ReadFault.TheVariants as faults
 
--- What was read comes from records that break no rule on a snapshot; their changes are of slots, with images of records.
+-- What was read comes from records in their ranges that break no rule on a snapshot; their changes are of slots, with images
+-- of records.
 pub record ComesFromRecords (system : System) (snapshot : SnapshotState) : Type 0 where
   pub records : List Record
   pub is_of : IsOf system records snapshot
   pub unbroken : first_broken (snapshot_rules system records) ≡ None
   pub images : list_all (is_image_of system) records ≡ true
+  pub valid : AllByRecursion IsRecord records
 
 -- the records of the image's snapshot are these
 pub record IsRead (system : System) (image : Image) (restart : RestartSector) (snapshot : SnapshotState) : Type 0 where

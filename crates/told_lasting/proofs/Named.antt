@@ -92,21 +92,21 @@ set_names name [] (suc k) x y at same = cc
 set_names name (z ∷ xs) zero x y at same = let e : z ≡ x = cc in ap (λ (n : List ℕ). n ∷ map name xs) (same ∙ ap name (sym e))
 set_names name (z ∷ xs) (suc k) x y at same = ap (λ (l : List (List ℕ)). name z ∷ l) (set_names name xs k x y at same)
 
-change_names : {X : Type 0} (name : X → List ℕ) (f : X → X) → ((x : X) → name (f x) ≡ name x) → (xs : List X) (place : Option ℕ) → map name (change_at xs place f) ≡ map name xs
+pub change_names : {X : Type 0} (name : X → List ℕ) (f : X → X) → ((x : X) → name (f x) ≡ name x) → (xs : List X) (place : Option ℕ) → map name (change_at xs place f) ≡ map name xs
 change_names name f same xs None = refl
 change_names {X} name f same xs (Some k) = by (slice_get xs k) refl where
   by : (at : Option X) → slice_get xs k ≡ at → map name (option_map_or (λ x. slice_set xs k (f x)) at xs) ≡ map name xs
   by None e = refl
   by (Some x) e = set_names name xs k x (f x) e (same x)
 
-output_names : (n : List ℕ) (f : TerminalReplies → TerminalReplies) → ((t : TerminalReplies) → of_output (f t) ≡ of_output t) → (ts : List TerminalReplies) → map of_output (outputs.with_terminal n f ts) ≡ map of_output ts
+pub output_names : (n : List ℕ) (f : TerminalReplies → TerminalReplies) → ((t : TerminalReplies) → of_output (f t) ≡ of_output t) → (ts : List TerminalReplies) → map of_output (outputs.with_terminal n f ts) ≡ map of_output ts
 output_names n f same [] = refl
 output_names n f same (t ∷ ts) = by (outputs.is_of n t) (output_names n f same ts) where
   by : (b : Bool) → map of_output (outputs.with_terminal n f ts) ≡ map of_output ts → map of_output (cond b (f t ∷ ts) (t ∷ outputs.with_terminal n f ts)) ≡ map of_output (t ∷ ts)
   by true rec = ap (λ (m : List ℕ). m ∷ map of_output ts) (same t)
   by false rec = ap (λ (l : List (List ℕ)). of_output t ∷ l) rec
 
-conversation_names : (n : List ℕ) (f : TerminalConversation → TerminalConversation) → ((t : TerminalConversation) → of_conversation (f t) ≡ of_conversation t) → (ts : List TerminalConversation)
+pub conversation_names : (n : List ℕ) (f : TerminalConversation → TerminalConversation) → ((t : TerminalConversation) → of_conversation (f t) ≡ of_conversation t) → (ts : List TerminalConversation)
     → map of_conversation (conversations.with_terminal n f ts) ≡ map of_conversation ts
 conversation_names n f same [] = refl
 conversation_names n f same (t ∷ ts) = by (conversations.is_of n t) (conversation_names n f same ts) where
@@ -160,7 +160,7 @@ codes_again : (codes : List Code) → map of_setting (map first_setting codes) �
 codes_again [] = refl
 codes_again (c ∷ codes) = ap (λ (l : List (List ℕ)). c.transaction.code ∷ l) (codes_again codes)
 
-empty_named : (system : System) → AreNamed system (empty_state system)
+pub empty_named : (system : System) → AreNamed system (empty_state system)
 empty_named system = record {
   terminals = again of_state fresh_terminal_state (λ n. refl) system.terminals;
   outputs = again of_output outputs.fresh_terminal (λ n. refl) system.terminals;

@@ -25,6 +25,7 @@ returns-in-None-clause-always g c = record {
   valid = c.requires.valid;
   text_size = c.requires.text_size;
   behind = c.in-Ok.ensures.behind;
+  least = c.in-Ok.ensures.least;
   few = c.in-Ok.ensures.few;
   given = c.in-Ok.ensures.given;
   made = c.in-Ok.ensures.made;

@@ -1,10 +1,10 @@
-use Rattle.std.proofs.Common.{Err, refl, sym, ◌∙◌, subst, IsTrue}
+use Rattle.std.proofs.Common.{Err, refl, sym, ◌∙◌, subst, arith, IsTrue}
 use Rattle.model_disk.specs.Disk.{Image}
 use Rattle.model_disk.proofs.Words.{keeps_on}
 use Rattle.model_image.specs.Recovered.{Recovers}
 use Rattle.image_records.specs.Answers.{TellsLog}
 use Rattle.snapshot_reading.specs.Reading.{TellsSnapshotOf, IsRead}
-use Rattle.image_look.proofs.Rereading.{reread_good, reread_bad, told_fault, told_log}
+use Rattle.image_look.proofs.Rereading.{comes_behind, reread_good, reread_bad, told_fault, told_log}
 use Rattle.image_look.proofs.replaying.read_replayed.Goals as goal
 
 pub returns-in-Err-clause-value : goal.returns-in-Err-clause-value
@@ -51,3 +51,8 @@ returns-clause-keeps g c = keeps_on (g.D.Disk.state c.args.disk.now) (g.D.Disk.s
 
 pub replay_log-requires : goal.replay_log-requires
 replay_log-requires g c = (c.in-Ok-read_told.ensures.told.records, c.in-Ok-read_told.ensures.told.is_of)
+
+pub returns-in-Ok-replay_log-clause-behind : goal.returns-in-Ok-replay_log-clause-behind
+returns-in-Ok-replay_log-clause-behind g c =
+    let told = c.in-Ok-read_told.ensures.told in
+    comes_behind c.args.system.now c.as_slice.result.now told.records c.in-Ok-replay_log.replayed (λ i. omega (arith, c.as_slice.type_inv i)) told.valid (c.in-Ok-replay_log.ensures told.records told.images told.is_of)
