@@ -1,3 +1,8 @@
+pub mod Limits
+pub mod GivenSlots
+pub mod ShownIn
+pub mod MadeReady
 pub mod Renewed
 pub mod Reopened
+pub mod Laid
 pub mod Recovering

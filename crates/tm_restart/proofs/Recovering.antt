@@ -1,4 +1,4 @@
--- What a call leaves that reads an image and then begins it cold.
+-- What a call leaves that reads an image, and then opens it or begins it cold.
 use Rattle.std.proofs.Common.{◌≡◌, ℕ, false, sym, ◌∙◌, subst, inl, inr, ⊎_elim, arith, None, Ok, Err, IsTrue}
 use Rattle.std.specs.Prelude.{Result, List}
 use Rattle.std.proofs.lemmas.Bool.{cases_Bool}
@@ -28,6 +28,18 @@ module _ (system : System) (old mid : DiskState) (keeps : Keeps old mid) where
     from = λ time image early left.
         ⊎_elim (λ past. inl past) (λ now. inr (record { before = image; left = keeps.no_more image now; by = λ answer is. is })) (keeps.elapses.nothing_else time image early left);
     keeps = λ time image early left. keeps.elapses.keeps time image early left;
+  }
+
+  -- what recovers alike behind a reading does so before
+  pub read_then : (new : DiskState) → Within (RecoversAlike system) mid new → Within (RecoversAlike system) old new
+  read_then new after = record {
+    later = omega (arith, keeps.elapses.later, after.later);
+    from = λ time image early left.
+        ⊎_elim
+        (λ past. ⊎_elim (λ older. inl older) (λ now. inr (record { before = image; left = keeps.no_more image now; by = λ answer is. is })) (keeps.elapses.nothing_else time image early past))
+        (λ (w : ComesFrom (RecoversAlike system) mid image). inr (record { before = w.before; left = keeps.no_more w.before w.left; by = w.by }))
+        (after.from time image (omega (arith, early, keeps.elapses.later)) left);
+    keeps = λ time image early left. after.keeps time image (omega (arith, early, keeps.elapses.later)) (keeps.elapses.keeps time image early left);
   }
 
   module _ (new : DiskState) (is_disk : IsDisk old) (only : Only old.shown old) (zeros : IsTrue old.tells → restart_in (snapshot_area system) old.shown ≡ Ok None) where

@@ -54,7 +54,7 @@ bytes_same (suc n) a e at same =
     ap (λ (s : List ℕ). s ++ bytes_from n e (at + 1)) (same at (omega arith) (omega arith))
     ∙ ap (λ (rest : List ℕ). sector_at a at ++ rest) (bytes_same n a e (at + 1) (λ k low high. same k (omega (arith, low)) (omega (arith, high))))
 
-names_none : (system : System) (checkpoint unit : ℕ) (state : LastingState) (database number : ℕ) → named_by (snapshot_records checkpoint unit state []) [] database number ≡ None
+pub names_none : (system : System) (checkpoint unit : ℕ) (state : LastingState) (database number : ℕ) → named_by (snapshot_records checkpoint unit state []) [] database number ≡ None
 unfolding named_by
 names_none system checkpoint unit state database number = rw (none_named system checkpoint unit state database number) refl
 

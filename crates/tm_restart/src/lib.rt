@@ -1,11 +1,12 @@
 //! The beginning of a life: an image is begun cold, or recovered.
 //!
 //! Whenever a stop comes, each image recovers to what it recovered to before, or, where it is begun cold, to the empty
-//! state (specs/Opening of `opening_answers`). Once a call has answered, the restart sector names a new snapshot and an empty log. A refusal
-//! has written nothing. `recover` begins images of zeros so far, and tells why an image can't be opened; where one could be
-//! it answers want of memory.
+//! state (specs/Opening of `opening_answers`). Once a call has answered, the restart sector names a new snapshot and an empty
+//! log. A refusal has written nothing.
 #![tactic(auto)]
 
+mod preparing;
+mod reopening;
 mod restarting;
 mod starting;
 

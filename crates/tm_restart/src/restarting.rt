@@ -7,6 +7,7 @@ ghost use Rattle.opening_parts.specs.Parts.{AreOpeningParts};
 ghost use Rattle.opening_answers.specs.Renewal.{IsRenewed};
 ghost use Rattle.opening_answers.specs.Opening.{SizeFirst, TellsOpening, MayBegin, OpeningCause};
 
+use crate::reopening::reopen;
 use crate::starting::cold;
 use image_areas::sectors_needed;
 use image_finding::find;
@@ -51,7 +52,7 @@ pub fn recover<D: Disk>(
     }
     match find(alloc, disk, system, text) {
         Ok(None) => cold(alloc, disk, system, text),
-        Ok(Some(_)) => Err(OpenError::Memory),
+        Ok(Some(found)) => reopen(alloc, disk, system, text, found),
         Err(error) => Err(error),
     }
 }

@@ -1,6 +1,9 @@
 use Rattle.std.proofs.Common.{Ok, subst}
-use Rattle.image_finding.specs.Found.{TellsFind}
-use Rattle.tm_restart.proofs.Recovering.{cold_within}
+use Rattle.model_disk.specs.Disk.{Image}
+use Rattle.opening_answers.specs.Opening.{TellsOpening}
+use Rattle.opening_answers.proofs.Reading.{read_only, read_size, read_cause, told_before, told_behind}
+use Rattle.image_finding.specs.Found.{FindAlways, TellsFind, IsSeen}
+use Rattle.tm_restart.proofs.Recovering.{cold_within, read_then}
 use Rattle.tm_restart.proofs.restarting.recover.Goals as goal
 
 pub returns-in-Ok-None-clause-any_moment : goal.returns-in-Ok-None-clause-any_moment
@@ -9,3 +12,22 @@ returns-in-Ok-None-clause-any_moment g c =
     let old = g.D.Disk.state c.args.disk.now in
     cold_within system old (g.D.Disk.state c.find.new.disk) c.in-Ok-None.ensures.keeps (g.D.Disk.state c.cold.new.disk) (g.met.D.Disk.is_disk c.args.disk.now) c.requires.only
     (λ tells. subst (λ found. TellsFind system c.args.text.now old.shown (Ok found)) c.in-Ok-None.field-0-is (c.in-Ok-None.ensures.value tells)) c.cold.ensures.any_moment
+
+pub reopen-requires-clause-judged : goal.reopen-requires-clause-judged
+reopen-requires-clause-judged g c = subst (λ found. FindAlways c.args.system.now c.args.text.now (Ok found)) c.in-Ok-Some.field-0-is c.in-Ok-Some.ensures.always
+
+pub reopen-requires-clause-seen : goal.reopen-requires-clause-seen
+reopen-requires-clause-seen g c =
+    let system = c.args.system.now in
+    let text = c.args.text.now in
+    let old = g.D.Disk.state c.args.disk.now in
+    told_behind (λ (i : Image). IsSeen system text i c.in-Ok-Some.found) old (g.D.Disk.state c.find.new.disk) c.in-Ok-Some.ensures.keeps
+    (λ tells. subst (λ found. TellsFind system text old.shown (Ok found)) c.in-Ok-Some.field-0-is (c.in-Ok-Some.ensures.value tells))
+
+pub returns-in-Ok-Some-clause-value : goal.returns-in-Ok-Some-clause-value
+returns-in-Ok-Some-clause-value g c =
+    told_before (λ (i : Image). TellsOpening c.args.system.now c.args.text.now i c.reopen.result) (g.D.Disk.state c.args.disk.now) (g.D.Disk.state c.find.new.disk) c.in-Ok-Some.ensures.keeps c.reopen.ensures.value
+
+pub returns-in-Ok-Some-clause-any_moment : goal.returns-in-Ok-Some-clause-any_moment
+returns-in-Ok-Some-clause-any_moment g c =
+    read_then c.args.system.now (g.D.Disk.state c.args.disk.now) (g.D.Disk.state c.find.new.disk) c.in-Ok-Some.ensures.keeps (g.D.Disk.state c.reopen.new.disk) c.reopen.ensures.any_moment

@@ -1,0 +1,68 @@
+-- What the writes of a restart leave, for what was made of an image.
+use Rattle.std.proofs.Common.{◌≡◌, ℕ, ◌<◌, ◌≤◌, false, List, [], length, sym, subst, ⊎_elim, arith, Ok, IsTrue}
+use Rattle.std.proofs.lemmas.Bool.{cases_Bool}
+use Rattle.model_disk.specs.Disk.{Image, DiskState, IsDisk, Follows, Within, Only}
+use Rattle.model_disk.proofs.Words.{within_where, leaves_none}
+use Rattle.model_system.specs.System.{System}
+use Rattle.model_machine.specs.Machine.{LastingState}
+use Rattle.restart_data.specs.declared.restart.RestartSector.{RestartSector}
+use Rattle.model_image.specs.Alike.{RecoversAlike}
+use Rattle.model_image.specs.Areas.{snapshot_area}
+use Rattle.model_image.specs.Holding.{HoldsStores}
+use Rattle.snapshot_records.specs.Records.{snapshot_records}
+use Rattle.renewal.specs.Given.{Given}
+use Rattle.renewal.specs.Writing.{IsRewritten, Rewrites}
+use Rattle.renewal.proofs.Behind.{rows_found}
+use Rattle.renewal.proofs.Recovering.{IsNextLife}
+use Rattle.renewal.proofs.Stored.{stores_held}
+use Rattle.opening_parts.specs.Parts.{OpeningParts}
+use Rattle.opening_answers.specs.Renewal.{IsRenewed}
+use Rattle.tm_restart.specs.Prepared.{IsPrepared, IsMadeOf}
+use Rattle.tm_restart.proofs.Reopened.{is_renewed, names_none, rewrites_recover}
+
+module _ (system : System) (text : List ℕ) (given : Given) (parts : OpeningParts) (state : LastingState) (bytes : List ℕ) (now : RestartSector) (prepared : IsPrepared system text given parts state bytes now) where
+  has : (P : RestartSector → Type 0) → P parts.now → P now
+  has P is = subst P prepared.has_sector is
+
+  next_life : (a : Image) (made : IsMadeOf system text given parts state now a) → IsNextLife system made.restart now bytes
+  next_life a made = record {
+    is = prepared.valid;
+    epoch = made.epoch;
+    sectors = prepared.sectors;
+    fits = has (λ (r : RestartSector). r.sectors ≤ snapshot_area system) prepared.begins.sectors;
+  }
+
+  alike : (a e : Image) → IsMadeOf system text given parts state now a → Rewrites system given bytes now a e → RecoversAlike system a e
+  alike a e made rewrites =
+      rewrites_recover system made.restart made.snapshot given bytes now (next_life a made) parts.next_unit state prepared.whole.read prepared.whole.spelled a e made.before made.recovers rewrites
+
+  renewed : (a e : Image) → IsMadeOf system text given parts state now a → IsRewritten system given bytes now a e → IsRenewed system text parts.now parts.next_unit state e
+  renewed a e made done =
+      subst (λ (r : RestartSector). IsRenewed system text r parts.next_unit state e) (sym prepared.has_sector)
+      (is_renewed system made.restart made.snapshot given bytes now a e made.before done (next_life a made) parts.next_unit state prepared.whole.read prepared.whole.spelled made.recovers text made.same_text
+      (has (λ (r : RestartSector). r.text ≡ length text) prepared.begins.text_size) made.has_text)
+
+  held : (a e : Image) → IsMadeOf system text given parts state now a → IsRewritten system given bytes now a e → HoldsStores system parts.stores.stores e
+  held a e made done =
+      stores_held system made.restart made.snapshot given bytes now a e made.before done parts.stores.stores made.loaded (snapshot_records now.checkpoint parts.next_unit state []) (names_none system now.checkpoint parts.next_unit state) state.rows
+      (rows_found system a made.restart made.snapshot state made.before.restart made.before.has_snapshot made.recovers)
+
+  -- ---- of each image that may be left
+
+  module _ (old new : DiskState) (is_disk : IsDisk old) (only : Only old.shown old) (made_of : IsTrue old.tells → IsMadeOf system text given parts state now old.shown) where
+    each_made : (a : Image) → old.may_leave a → IsMadeOf system text given parts state now a
+    each_made a left =
+        ⊎_elim
+        (λ (tells : IsTrue old.tells). subst (IsMadeOf system text given parts state now) (sym (only a left)) (made_of tells))
+        (λ (silent : old.tells ≡ false). absurd (leaves_none old is_disk silent a left))
+        (cases_Bool old.tells)
+
+    pub laid_within : Within (Rewrites system given bytes now) old new → Within (RecoversAlike system) old new
+    laid_within within = within_where (Rewrites system given bytes now) (RecoversAlike system) old new (λ a e left rewrites. alike a e (each_made a left) rewrites) within
+
+    module _ (follows : Follows (IsRewritten system given bytes now) old new) where
+      pub all_renewed : (image : Image) → new.may_leave image → IsRenewed system text parts.now parts.next_unit state image
+      all_renewed image left = let from = follows.from image left in renewed from.before image (each_made from.before from.left) from.by
+
+      pub all_held : (image : Image) → new.may_leave image → HoldsStores system parts.stores.stores image
+      all_held image left = let from = follows.from image left in held from.before image (each_made from.before from.left) from.by
