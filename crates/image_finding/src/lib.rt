@@ -7,3 +7,4 @@ mod finding;
 mod spending;
 
 pub use finding::{Found, find};
+pub use spending::{Counts, spent_counter};

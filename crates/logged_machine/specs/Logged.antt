@@ -4,7 +4,7 @@ use Rattle.model_disk.specs.Disk.{Image, DiskState}
 use Rattle.model_machine.specs.declared.counts.Counter.{Counter}
 use Rattle.model_image.specs.Recovered.{Recovers}
 use Rattle.checkpointing.specs.Texts.{HasText}
-use Rattle.tm_restart.specs.Opening.{counters, first_spent}
+use Rattle.opening_answers.specs.Opening.{counters, first_spent}
 use Rattle.journal.specs.State.{JournalState}
 use Rattle.tm_machine.specs.Parts.{PartsState}
 

@@ -6,8 +6,8 @@ use Rattle.model_machine.specs.Machine.{LastingState, start_of}
 use Rattle.model_image.specs.Alike.{RecoversAlike}
 use Rattle.cold_start.specs.FirstImage.{KeepsOrEmpties, sectors_needed}
 use Rattle.opening_parts.specs.Parts.{OpeningParts}
-use Rattle.tm_restart.specs.declared.parts.OpenError.{OpenError}
-use Rattle.tm_restart.specs.Opening.{SizeFirst, TellsOpening, TellsCold, OpeningCause}
+use Rattle.opening_answers.specs.declared.refusals.OpenError.{OpenError}
+use Rattle.opening_answers.specs.Opening.{SizeFirst, TellsOpening, TellsCold, OpeningCause}
 use Rattle.logged_machine.specs.declared.how.How.{How}
 use Rattle.logged_machine.specs.declared.how.How.TheVariants.{Found, Cold}
 use Rattle.logged_machine.specs.Logged.{LoggedState}
