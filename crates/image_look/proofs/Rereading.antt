@@ -1,6 +1,6 @@
 -- The snapshot and the log of an image, by what reading them and doing the log again answer.
 use Rattle.std.proofs.Common.{◌≡◌, ◌⊎◌, ℕ, Bool, true, false, List, refl, sym, ◌∙◌, ap, subst, inl, inr, ⊎_elim, Some, None, Ok, Err}
-use Rattle.std.specs.Prelude.{Option, Result, Decides, if◌then◌else◌}
+use Rattle.std.specs.Prelude.{Option, Result, IfOk, Decides, if◌then◌else◌}
 use Rattle.std.specs.List.{list_all, AllByRecursion}
 use Rattle.model_disk.specs.Disk.{Image}
 use Rattle.model_system.specs.System.{System}
@@ -27,6 +27,7 @@ use Rattle.count_law.proofs.Replayed.{log_counted}
 use Rattle.count_law.proofs.Told.{snapshot_counted}
 use Rattle.name_law.proofs.Replayed.{snapshot_named, log_named}
 use Rattle.image_records.specs.Answers.{SnapshotState, ReplayedState, replayed_to, IsBehind, TellsLog}
+use Rattle.image_records.specs.declared.fault.RecordsFault.{RecordsFault}
 use Rattle.image_records.specs.declared.fault.RecordsFault.TheVariants.{Bad}
 use Rattle.snapshot_reading.specs.declared.fault.ReadFault.{ReadFault}
 use Rattle.snapshot_reading.specs.declared.fault.ReadFault.TheVariants as faults
@@ -110,7 +111,7 @@ told_log system image r snapshot read =
 
 -- ---- what holds on every disk
 
-pub comes_behind : (system : System) (bytes : List ℕ) (snapshot : List Record) (replayed : ReplayedState) → IsBytes bytes → AllByRecursion IsRecord snapshot → TellsLog system snapshot bytes (Ok replayed) → ComesBehind system replayed
+comes_behind : (system : System) (bytes : List ℕ) (snapshot : List Record) (replayed : ReplayedState) → IsBytes bytes → AllByRecursion IsRecord snapshot → TellsLog system snapshot bytes (Ok replayed) → ComesBehind system replayed
 comes_behind system bytes snapshot replayed are valid told =
     let lasting = told.comes.0 in
     let replays = (good_by told.is_cut_off (replay_of system (cut_of bytes).records (snapshot_state system snapshot)) lasting told.comes.1).1 in
@@ -123,3 +124,7 @@ comes_behind system bytes snapshot replayed are valid told =
       counted = log_counted system (cut_of bytes).records (snapshot_state system snapshot) lasting (all_valid bytes are) (snapshot_counted system snapshot valid) replays;
       named = record { terminals = named.terminals; outputs = named.outputs; conversations = named.conversations; codes = named.codes };
     }
+
+pub behind_of : (system : System) (bytes : List ℕ) (snapshot : List Record) (result : Result ReplayedState RecordsFault) → IsBytes bytes → AllByRecursion IsRecord snapshot → TellsLog system snapshot bytes result → IfOk result (ComesBehind system)
+behind_of system bytes snapshot (Ok replayed) are valid told = comes_behind system bytes snapshot replayed are valid told
+behind_of system bytes snapshot (Err fault) are valid told = tt

@@ -1,13 +1,18 @@
 //! The snapshot and the log of an image, read and done again.
-ghost use Rattle.std.specs.Prelude.{◌≡◌, ◌+◌, ◌≤◌, Some, Ok, IsTrue, IfOk, length};
+ghost use Rattle.std.specs.Prelude.{◌≡◌, ◌+◌, ◌≤◌, true, List, Some, Ok, IsTrue, IfOk, length};
+ghost use Rattle.std.specs.List.{list_all};
+ghost use Rattle.log_records.specs.declared.record.Record.{Record as OneRecord};
 ghost use Rattle.model_disk.specs.Disk.{Keeps};
 ghost use Rattle.restart_data.specs.Restart.{restart_in};
 ghost use Rattle.restart_data.specs.Images.{IsValid};
 ghost use Rattle.model_image.specs.Areas.{snapshot_area, data_first};
+ghost use Rattle.model_image.specs.Slots.{is_image_of};
+ghost use Rattle.image_records.specs.Answers.{IsOf, TellsLog};
+ghost use Rattle.snapshot_reading.specs.Reading.{ComesFromRecords};
 ghost use Rattle.image_look.specs.Replayed.{ComesBehind, TellsReplay, ReplayCause};
 
 use image_areas::log_first;
-use image_records::{RecordsFault, Replayed};
+use image_records::{RecordsFault, Replayed, Snapshot};
 use log_reading::{LogFault, read_log};
 use log_replay::replay_log;
 use restart_data::RestartSector;
@@ -21,6 +26,20 @@ use tm_disk::Disk;
 pub struct Reread {
     pub replayed: Replayed,
     pub next_sequence: u64,
+}
+
+// Does the log of these bytes again behind a snapshot that was read.
+fn replay(
+    alloc: Global,
+    system: &System,
+    snapshot: Snapshot,
+    bytes: &[u8],
+) -> Result<Replayed, RecordsFault>
+    requires { ComesFromRecords system.now snapshot }
+    ensures value { (records : List OneRecord) → list_all (is_image_of system.now) records ≡ true → IsOf system.now records snapshot → TellsLog system.now records bytes.now result }
+    ensures behind { IfOk result (ComesBehind system.now) }
+{
+    replay_log(alloc, system, snapshot, bytes)
 }
 
 /// Reads the snapshot and the log that this restart sector names, and does the log again. Nothing is written.
@@ -49,7 +68,7 @@ pub fn read_replayed<D: Disk>(
         Ok(snapshot) => snapshot,
         Err(fault) => return Err(fault),
     };
-    match replay_log(alloc, system, snapshot, log.payload.as_slice()) {
+    match replay(alloc, system, snapshot, log.payload.as_slice()) {
         Ok(replayed) => Ok(Reread {
             replayed,
             next_sequence: log.next_sequence,

@@ -1,6 +1,6 @@
 -- A snapshot's records, from its bytes.
-use Rattle.std.proofs.Common.{◌≡◌, ℕ, Bool, true, false, not, List, [], ◌∷◌, refl, subst, None, Some, Ok}
-use Rattle.std.specs.Prelude.{Option}
+use Rattle.std.proofs.Common.{◌≡◌, ℕ, Bool, true, false, not, List, [], ◌∷◌, refl, subst, None, Some, Ok, Err}
+use Rattle.std.specs.Prelude.{Option, Result, IfOk}
 use Rattle.std.specs.List.{list_all, AllByRecursion}
 use Rattle.model_system.specs.System.{System}
 use Rattle.log_records.specs.declared.record.Record.{Record}
@@ -11,7 +11,8 @@ use Rattle.model_image.specs.Cut.{records_of}
 use Rattle.model_image.specs.Slots.{is_image_of}
 use Rattle.model_image.specs.Snapshot.{snapshot_rules}
 use Rattle.count_law.proofs.Cut.{whole_valid}
-use Rattle.image_records.specs.Answers.{judged, snapshot_of, SnapshotState, IsOf}
+use Rattle.image_records.specs.declared.fault.RecordsFault.{RecordsFault}
+use Rattle.image_records.specs.Answers.{judged, snapshot_of, SnapshotState, IsOf, TellsRecords}
 use Rattle.snapshot_reading.specs.Reading.{ComesFromRecords}
 
 -- ---- what holds on every disk
@@ -40,5 +41,9 @@ by_cut system (Some found) records snapshot valid e of =
     let none : first_broken (snapshot_rules system records) ≡ None = subst (λ l. first_broken (snapshot_rules system l) ≡ None) both.1 both.0 in
     record { records = records; is_of = of; unbroken = none; images = images_kept system records none; valid = subst (λ (l : List Record). AllByRecursion IsRecord l) both.1 (valid found refl) }
 
-pub comes_from : (system : System) (bytes : List ℕ) (records : List Record) (snapshot : SnapshotState) → IsBytes bytes → snapshot_of system bytes ≡ Ok records → IsOf system records snapshot → ComesFromRecords system snapshot
+comes_from : (system : System) (bytes : List ℕ) (records : List Record) (snapshot : SnapshotState) → IsBytes bytes → snapshot_of system bytes ≡ Ok records → IsOf system records snapshot → ComesFromRecords system snapshot
 comes_from system bytes records snapshot are e of = by_cut system (records_of bytes) records snapshot (λ found is. whole_valid bytes found are is) e of
+
+pub told_of : (system : System) (bytes : List ℕ) (result : Result SnapshotState RecordsFault) → IsBytes bytes → TellsRecords system bytes result → IfOk result (ComesFromRecords system)
+told_of system bytes (Ok snapshot) are told = comes_from system bytes told.0 snapshot are told.1 told.2
+told_of system bytes (Err fault) are told = tt

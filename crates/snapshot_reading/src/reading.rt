@@ -3,6 +3,7 @@ ghost use Rattle.std.specs.Prelude.{◌≡◌, ◌≤◌, length, IsTrue, IfOk};
 ghost use Rattle.model_disk.specs.Disk.{Keeps};
 ghost use Rattle.restart_data.specs.Images.{IsValid};
 ghost use Rattle.model_image.specs.Areas.{snapshot_area, data_first};
+ghost use Rattle.image_records.specs.Answers.{TellsRecords};
 ghost use Rattle.snapshot_reading.specs.Reading.{ComesFromRecords, TellsSnapshotOf, ReadCause};
 
 use crate::ReadFault;
@@ -12,6 +13,14 @@ use restart_data::{RestartSector, SnapshotFault, read_snapshot};
 use std::alloc::Global;
 use system_types::System;
 use tm_disk::Disk;
+
+// Keeps what the records of these bytes tell, or judges them.
+fn judge(alloc: Global, system: &System, bytes: &[u8]) -> Result<Snapshot, RecordsFault>
+    ensures value { TellsRecords system.now bytes.now result }
+    ensures told { IfOk result (ComesFromRecords system.now) }
+{
+    read_records(alloc, system, bytes)
+}
 
 /// Reads the snapshot that this restart sector names, and keeps what its records tell. Rules 7 to 9 are on its sectors, 10 to
 /// 17 on its records.
@@ -35,7 +44,7 @@ pub fn read_told<D: Disk>(
         Err(SnapshotFault::Disk) => return Err(ReadFault::Disk),
         Err(SnapshotFault::Memory) => return Err(ReadFault::Memory),
     };
-    match read_records(alloc, system, bytes.as_slice()) {
+    match judge(alloc, system, bytes.as_slice()) {
         Ok(snapshot) => Ok(snapshot),
         Err(RecordsFault::Bad(rule)) => Err(ReadFault::Bad(rule, first)),
         Err(RecordsFault::Memory) => Err(ReadFault::Memory),
