@@ -2,7 +2,10 @@
 use Rattle.std.proofs.Common.{◌≡◌, ℕ, zero, suc, ◌+◌, Bool, true, false, not, ◌&&◌, List, [], ◌∷◌, ◌++◌, map, refl, ◌∙◌, subst, Some, None}
 use Rattle.std.specs.Prelude.{Option, ◌==◌, filter, if◌then◌else◌}
 use Rattle.std.specs.Option.{option_map, option_map_or, option_and_then, is_some}
+use Rattle.tm_types.specs.declared.command.LastingCommand.{LastingCommand}
+use Rattle.tm_types.specs.declared.command.LastingCommand.TheVariants.{StartTransaction, StopTransaction, StartTerminal, StopTerminal, DequeueFirst, DequeueAll, Exit}
 use Rattle.tm_types.specs.declared.message.Message.{Message}
+use Rattle.tm_types.specs.Commands.{command_in}
 use Rattle.tm_types.specs.declared.abend.AbendCode.{AbendCode}
 use Rattle.model_conversation.specs.declared.conversation.Conversation.{Conversation}
 use Rattle.model_conversation.specs.declared.conversation.PadChange.{PadChange}
@@ -13,14 +16,14 @@ use Rattle.model_queues.specs.Outputs.{with_terminal, with_reply, without_first,
 use Rattle.model_message.specs.declared.ended_message.EndedMessage.{EndedMessage}
 use Rattle.model_system.specs.System.{System}
 use Rattle.model_system.specs.Lists.{change_at}
-use Rattle.model_machine.specs.Machine.{LastingState, empty_state, message_at, output_at, terminal_at, terminal_place}
-use Rattle.model_machine.specs.Lasting.{KeptInput, applied, changed, sent, replied, switched, finished_by, with_pad_by, with_begun, with_last, padded, new_pad, conversing, without_message, abend_text, abend_outputs, discarded_pad}
-use Rattle.model_machine.specs.Lasting.LastingStep.{Accepts, Acknowledges, Discards}
+use Rattle.model_machine.specs.Machine.{LastingState, empty_state, message_at, output_at, terminal_at, terminal_place, setting_place}
+use Rattle.model_machine.specs.Lasting.{KeptInput, applied, changed, sent, replied, switched, finished_by, with_pad_by, with_begun, with_last, padded, new_pad, conversing, without_message, abend_text, abend_outputs, discarded_pad, without_replies, stopped_code, stopped_terminal}
+use Rattle.model_machine.specs.Lasting.LastingStep.{Accepts, Acknowledges, Discards, Commands}
 use Rattle.log_records.specs.declared.record.Record.{Record}
 use Rattle.log_records.specs.declared.record.Record.TheVariants.{Input, Command, Reply, Discarded, Completed, Acknowledged, SyncPoint, Checkpoint, Terminal, Code, Change}
-use Rattle.model_image.specs.Snapshot.{message_of, told, told_by, snapshot_state}
+use Rattle.model_image.specs.Snapshot.{code_names, message_of, told, told_by, snapshot_state}
 use Rattle.model_image.specs.States.{breaks_a_rule}
-use Rattle.model_image.specs.Replay.{Replay, done, all_done, kept_in_record, accepts, acknowledges, discards, completed_message, with_step, syncs, is_of_unit, with_waiting, with_lasting, without_unit, replayed, is_known, unless_it_breaks, replay_one, replay_all, replay_of}
+use Rattle.model_image.specs.Replay.{Replay, done, all_done, kept_in_record, accepts, acknowledges, discards, commands, completed_message, with_step, syncs, is_of_unit, with_waiting, with_lasting, without_unit, replayed, is_known, unless_it_breaks, replay_one, replay_all, replay_of}
 use Rattle.told_lasting.specs.Telling.{AreNamed, of_state, of_output, of_conversation, of_setting}
 use Rattle.told_lasting.proofs.Named.{change_names, output_names, conversation_names, told_named, empty_named}
 
@@ -124,6 +127,35 @@ module _ (system : System) where
     codes = is.codes;
   }
 
+  code_named : (stopped : Bool) (code : List ℕ) (lasting : LastingState) → AreNamed system lasting → map of_setting (change_at lasting.codes (setting_place lasting.codes code) (stopped_code stopped)) ≡ code_names system
+  code_named stopped code lasting is = change_names of_setting (stopped_code stopped) (λ c. refl) lasting.codes (setting_place lasting.codes code) ∙ is.codes
+
+  terminal_named : (stopped : Bool) (terminal : List ℕ) (lasting : LastingState) → AreNamed system lasting → map of_state (change_at lasting.terminals (terminal_place lasting.terminals terminal) (stopped_terminal stopped)) ≡ system.terminals
+  terminal_named stopped terminal lasting is = change_names of_state (stopped_terminal stopped) (λ t. refl) lasting.terminals (terminal_place lasting.terminals terminal) ∙ is.terminals
+
+  commanded_named : (command : LastingCommand) (lasting : LastingState) → AreNamed system lasting → AreNamed system (applied (Commands command) lasting)
+  commanded_named (StartTransaction code) lasting is = record { terminals = is.terminals; outputs = is.outputs; conversations = is.conversations; codes = code_named false code lasting is }
+  commanded_named (StopTransaction code) lasting is = record { terminals = is.terminals; outputs = is.outputs; conversations = is.conversations; codes = code_named true code lasting is }
+  commanded_named (StartTerminal terminal) lasting is = record { terminals = terminal_named false terminal lasting is; outputs = is.outputs; conversations = is.conversations; codes = is.codes }
+  commanded_named (StopTerminal terminal) lasting is = record { terminals = terminal_named true terminal lasting is; outputs = is.outputs; conversations = is.conversations; codes = is.codes }
+  commanded_named (DequeueFirst terminal) lasting is = acknowledged_named terminal lasting is
+  commanded_named (DequeueAll terminal) lasting is = record {
+    terminals = is.terminals;
+    outputs = output_names terminal without_replies (λ t. refl) lasting.outputs ∙ is.outputs;
+    conversations = is.conversations;
+    codes = is.codes;
+  }
+  commanded_named (Exit terminal) lasting is = record {
+    terminals = is.terminals;
+    outputs = is.outputs;
+    conversations = conversation_names terminal (with_conversation None) (λ t. refl) lasting.conversations ∙ is.conversations;
+    codes = is.codes;
+  }
+
+  commanded_left : (command : Option LastingCommand) (lasting : LastingState) → AreNamed system lasting → IfLeft (option_map (λ c. applied (Commands c) lasting) command)
+  commanded_left None lasting is = tt
+  commanded_left (Some command) lasting is = commanded_named command lasting is
+
   -- ---- the records of a unit, at its sync point
 
   done_named : (r : Record) (lasting : LastingState) → AreNamed system lasting → IfLeft (done r lasting)
@@ -196,7 +228,7 @@ module _ (system : System) where
       left_named (without_unit unit replay) (syncs pad records replay.lasting)
       (synced_named (completed_message records replay.lasting) pad (all_done records replay.lasting) (all_done_named records replay.lasting is))
   replayed_named (Change unit database slot before after) replay is = is
-  replayed_named (Command text) replay is = tt
+  replayed_named (Command text) replay is = left_named replay (commands text replay.lasting) (commanded_left (command_in text) replay.lasting is)
   replayed_named (Checkpoint checkpoint next_id next_unit steps) replay is = tt
   replayed_named (Terminal name last next stopped conversation) replay is = tt
   replayed_named (Code name stopped class priority) replay is = tt
