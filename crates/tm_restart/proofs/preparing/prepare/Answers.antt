@@ -1,4 +1,4 @@
-use Rattle.std.proofs.Common.{◌≡◌, ℕ, ◌+◌, List, [], length, map, ◌∙◌, ap, subst, arith}
+use Rattle.std.proofs.Common.{◌≡◌, ℕ, ◌+◌, ◌≤◌, List, [], length, map, ◌∙◌, ap, subst, arith}
 use Rattle.model_machine.specs.Machine.{LastingState}
 use Rattle.restart_data.specs.declared.restart.RestartSector.{RestartSector}
 use Rattle.seg_store.specs.Slots.{rows_of_slots}

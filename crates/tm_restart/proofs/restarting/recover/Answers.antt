@@ -1,7 +1,7 @@
 use Rattle.std.proofs.Common.{Ok, subst}
 use Rattle.model_disk.specs.Disk.{Image}
 use Rattle.opening_answers.specs.Opening.{TellsOpening}
-use Rattle.opening_answers.proofs.Reading.{read_only, read_size, read_cause, told_before, told_behind}
+use Rattle.opening_answers.proofs.Reading.{read_cause, told_before, told_behind}
 use Rattle.image_finding.specs.Found.{FindAlways, TellsFind, IsSeen}
 use Rattle.tm_restart.proofs.Recovering.{cold_within, read_then}
 use Rattle.tm_restart.proofs.restarting.recover.Goals as goal
@@ -31,3 +31,7 @@ returns-in-Ok-Some-clause-value g c =
 pub returns-in-Ok-Some-clause-any_moment : goal.returns-in-Ok-Some-clause-any_moment
 returns-in-Ok-Some-clause-any_moment g c =
     read_then c.args.system.now (g.D.Disk.state c.args.disk.now) (g.D.Disk.state c.find.new.disk) c.in-Ok-Some.ensures.keeps (g.D.Disk.state c.reopen.new.disk) c.reopen.ensures.any_moment
+
+pub returns-in-Ok-Some-clause-cause : goal.returns-in-Ok-Some-clause-cause
+returns-in-Ok-Some-clause-cause g c =
+    read_cause (g.D.Disk.state c.args.disk.now) (g.D.Disk.state c.find.new.disk) (g.D.Disk.state c.reopen.new.disk) c.reopen.result (g.met.D.Disk.is_disk c.args.disk.now) c.in-Ok-Some.ensures.keeps c.in-Ok-Some.ensures.cause c.reopen.ensures.cause
