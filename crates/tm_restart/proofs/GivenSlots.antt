@@ -1,11 +1,8 @@
 -- The slots that records name are slots of the system's databases, with bytes that fit their sectors.
-use Rattle.std.proofs.Common.{◌≡◌, ℕ, zero, suc, ◌+◌, ◌*◌, ◌<◌, ◌≤◌, Bool, true, false, List, [], ◌∷◌, length, refl, sym, ◌∙◌, ap, subst, arith, Some, None, nat_le, IsTrue}
+use Rattle.std.proofs.Common.{◌≡◌, ℕ, zero, suc, ◌+◌, ◌*◌, ◌<◌, ◌≤◌, Bool, true, false, List, [], ◌∷◌, length, refl, sym, ap, subst, Some, None, nat_le, IsTrue}
 use Rattle.std.specs.Prelude.{All, slice_get, if◌then◌else◌}
 use Rattle.std.specs.Option.{is_some}
 use Rattle.std.specs.List.{AllByRecursion, list_all}
-use Rattle.std.specs.List.Sorted.{IsStrictlySortedBy}
-use Rattle.std.specs.Map.{keys_of}
-use Rattle.std.specs.Ordering.{nat_cmp}
 use Rattle.std.proofs.lemmas.Bool.{leb-true}
 use Rattle.std.proofs.lemmas.List.Elements.{All-head, All-tail}
 use Rattle.std.proofs.lemmas.Option.{same_Some}
@@ -44,6 +41,7 @@ all_fit dbd [] one are = tt
 all_fit dbd (s ∷ slots) one are = (fits, all_fit dbd slots one are.1) where
   limit : record_limit dbd ≡ 4000
   limit = ap (λ n. 4000 * n) one
+
   fits : length s.1 ≤ 4000
   fits = subst (λ n. length s.1 ≤ n) limit (short_image dbd s.1 are.0.image)
 

@@ -1,5 +1,5 @@
 -- What the writes of a restart leave, for what was made of an image.
-use Rattle.std.proofs.Common.{◌≡◌, ℕ, ◌<◌, ◌≤◌, false, List, [], length, sym, subst, ⊎_elim, arith, Ok, IsTrue}
+use Rattle.std.proofs.Common.{◌≡◌, ℕ, ◌≤◌, false, List, [], length, sym, subst, ⊎_elim, IsTrue}
 use Rattle.std.proofs.lemmas.Bool.{cases_Bool}
 use Rattle.model_disk.specs.Disk.{Image, DiskState, IsDisk, Follows, Within, Only}
 use Rattle.model_disk.proofs.Words.{within_where, leaves_none}

@@ -1,6 +1,6 @@
 -- Where no counter is spent, each stands below its limit.
 use Rattle.std.proofs.Common.{◌≡◌, ℕ, ◌<◌, Bool, true, false, List, [], ◌∷◌, refl, Some, None, nat_le}
-use Rattle.std.specs.Prelude.{Option, find, if◌then◌else◌}
+use Rattle.std.specs.Prelude.{find, if◌then◌else◌}
 use Rattle.std.specs.Option.{option_map}
 use Rattle.std.specs.List.{AllByRecursion}
 use Rattle.std.proofs.lemmas.Bool.{leb-false}

@@ -1,24 +1,19 @@
 -- What is made of an image that was found: a life may begin with it, and it is that of the image.
-use Rattle.std.proofs.Common.{◌≡◌, ℕ, ◌+◌, ◌-◌, ◌*◌, ◌<◌, ◌≤◌, Bool, false, not, ◌&&◌, List, [], ◌∷◌, length, map, refl, sym, ◌∙◌, ap, subst, arith, Some, None, Ok, nat_lt}
+use Rattle.std.proofs.Common.{◌≡◌, ℕ, ◌+◌, ◌-◌, ◌<◌, ◌≤◌, Bool, not, ◌&&◌, List, [], length, map, refl, sym, ◌∙◌, ap, subst, arith, None, Ok, nat_lt}
 use Rattle.std.specs.List.{AllByRecursion}
 use Rattle.std.proofs.lemmas.Bool.{lt-ltb, ne_eqb}
 use Rattle.model_disk.specs.Disk.{Image}
-use Rattle.model_rows.specs.declared.row.Row.{Row}
-use Rattle.model_queues.specs.declared.replies.TerminalReplies.{TerminalReplies}
 use Rattle.model_system.specs.System.{System}
 use Rattle.model_machine.specs.declared.counts.Counter.{Counter}
 use Rattle.model_machine.specs.Machine.{LastingState}
-use Rattle.log_records.specs.declared.record.Record.{Record}
 use Rattle.restart_data.specs.declared.restart.RestartSector.{RestartSector}
 use Rattle.restart_data.specs.Restart.{IsRestart}
-use Rattle.restart_data.specs.Snapshot.{sectors_of}
 use Rattle.seg_store.specs.Slots.{Stored, rows_of_slots}
 use Rattle.seg_store.specs.Changed.{Kept, AllStores, stored, all_stores}
 use Rattle.system_types.specs.Valid.{IsSystem}
 use Rattle.model_image.specs.Areas.{snapshot_area}
-use Rattle.model_image.specs.Counters.{next_unit, next_sequence}
+use Rattle.model_image.specs.Counters.{next_sequence}
 use Rattle.model_image.specs.Recovered.{log_in, Recovers}
-use Rattle.model_image.specs.States.{breaks_a_rule, is_small, is_next}
 use Rattle.count_law.specs.Counted.{IsCounted}
 use Rattle.snapshot_records.specs.Records.{snapshot_records, IsOfSystem}
 use Rattle.snapshot_records.specs.Spelled.{Adds, IsWritable}
@@ -28,9 +23,8 @@ use Rattle.snapshot_records.proofs.Judged.{AreCounts}
 use Rattle.snapshot_records.proofs.Read.{no_changes}
 use Rattle.snapshot_records.proofs.Whole.{IsWhole, whole}
 use Rattle.image_records.specs.Kept.{KeptState, Keeps, kept_of}
-use Rattle.given_slots.specs.Giving.{AreNamedBytes}
 use Rattle.image_look.proofs.NamedSlots.{given_named}
-use Rattle.renewal.specs.Given.{Given, AreGiven}
+use Rattle.renewal.specs.Given.{AreGiven}
 use Rattle.renewal.specs.Before.{IsBefore}
 use Rattle.renewal.specs.Loaded.{AreLoaded}
 use Rattle.renewal.proofs.Rewriting.{sectors_fit}
@@ -38,7 +32,6 @@ use Rattle.opening_parts.specs.Parts.{OpeningParts, AreOpeningParts}
 use Rattle.opening_parts.specs.Shown.{shown}
 use Rattle.opening_parts.proofs.Made.{shown_back, kept_again, rows_stored}
 use Rattle.opening_answers.specs.Opening.{counters, first_spent, IsFound, IsReopened, MayBegin}
-use Rattle.opening_answers.specs.Renewal.{IsNext}
 use Rattle.image_finding.specs.declared.finding.Found.{Found}
 use Rattle.image_finding.specs.Found.{IsJudged, IsSeen}
 use Rattle.tm_restart.specs.Prepared.{state_in, sector_behind, IsPrepared, IsMadeOf}
@@ -180,6 +173,7 @@ module _ (system : System) (text : List ℕ) (found : Found) (judged : IsJudged 
       } where
         epoch_back : restart.epoch + 1 - 1 ≡ restart.epoch
         epoch_back = omega arith
+
         checkpoint_back : restart.checkpoint + 1 - 1 ≡ restart.checkpoint
         checkpoint_back = omega arith
 

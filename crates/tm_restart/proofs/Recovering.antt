@@ -1,5 +1,5 @@
 -- What a call leaves that reads an image, and then opens it or begins it cold.
-use Rattle.std.proofs.Common.{◌≡◌, ℕ, false, sym, ◌∙◌, subst, inl, inr, ⊎_elim, arith, None, Ok, Err, IsTrue}
+use Rattle.std.proofs.Common.{◌≡◌, ℕ, false, sym, subst, inl, inr, ⊎_elim, arith, None, Ok, Err, IsTrue}
 use Rattle.std.specs.Prelude.{Result, List}
 use Rattle.std.proofs.lemmas.Bool.{cases_Bool}
 use Rattle.model_disk.specs.Disk.{Image, DiskState, IsDisk, ComesFrom, Within, Only, Keeps}

@@ -1,5 +1,5 @@
 -- What is made of an image that was found, before anything is written.
-use Rattle.std.specs.Prelude.{◌≡◌, ℕ, ◌+◌, ◌-◌, false, List, [], length, map, None, Some, Ok}
+use Rattle.std.specs.Prelude.{◌≡◌, ℕ, ◌+◌, ◌-◌, List, [], length, map, None, Ok}
 use Rattle.model_disk.specs.Disk.{Image}
 use Rattle.model_queues.specs.Queue.{messages_of}
 use Rattle.model_system.specs.System.{System}

@@ -1,11 +1,9 @@
-use Rattle.std.proofs.Common.{◌≡◌, ℕ, ◌+◌, ◌≤◌, List, [], length, map, ◌∙◌, ap, subst, arith}
-use Rattle.model_machine.specs.Machine.{LastingState}
+use Rattle.std.proofs.Common.{ℕ, ◌≤◌, List, [], length, map, ◌∙◌, ap, subst, arith}
 use Rattle.restart_data.specs.declared.restart.RestartSector.{RestartSector}
 use Rattle.seg_store.specs.Slots.{rows_of_slots}
 use Rattle.seg_store.specs.Changed.{Kept, all_stores}
 use Rattle.snapshot_records.specs.Records.{snapshot_records}
 use Rattle.snapshot_records.specs.Spelled.{Adds}
-use Rattle.opening_parts.specs.Parts.{OpeningParts}
 use Rattle.opening_parts.specs.Shown.{shown}
 use Rattle.opening_parts.proofs.Made.{dbds_made, none_changed_made}
 use Rattle.tm_restart.specs.Prepared.{state_in, sector_behind}
