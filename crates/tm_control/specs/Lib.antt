@@ -1,4 +1,0 @@
-pub mod OnDisk
-pub mod Calls
-pub mod Closed
-pub mod Inside
