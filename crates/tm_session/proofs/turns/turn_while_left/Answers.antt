@@ -19,3 +19,13 @@ pub returns-in-Err-Memory-clause-err : goal.returns-in-Err-Memory-clause-err
 returns-in-Err-Memory-clause-err c =
     turns_break c.args.most c.loop-turns.turns c.args.control.now c.loop-turns.control c.turn.new.self c.loop-turns.invariant c.loop-turns-test.true
     (sym c.quiet.ensures ∙ c.if-quiet.false) c.in-Err-Memory.ensures
+
+pub returns-in-Err-Disk-clause-err : goal.returns-in-Err-Disk-clause-err
+returns-in-Err-Disk-clause-err c =
+    turns_break c.args.most c.loop-turns.turns c.args.control.now c.loop-turns.control c.turn.new.self c.loop-turns.invariant c.loop-turns-test.true
+    (sym c.quiet.ensures ∙ c.if-quiet.false) c.in-Err-Disk.ensures
+
+pub returns-in-Err-Spent-clause-err : goal.returns-in-Err-Spent-clause-err
+returns-in-Err-Spent-clause-err c =
+    turns_break c.args.most c.loop-turns.turns c.args.control.now c.loop-turns.control c.turn.new.self c.loop-turns.invariant c.loop-turns-test.true
+    (sym c.quiet.ensures ∙ c.if-quiet.false) c.in-Err-Spent.ensures
