@@ -1,9 +1,6 @@
 pub mod Begun
-pub mod Turned
 pub mod Driven
+pub mod Opened
+pub mod Reading
 pub mod Steps
 pub mod Taking
-pub mod Reading
-pub mod Opened
-pub mod Whole
-pub mod Answered

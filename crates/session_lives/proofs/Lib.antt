@@ -1,0 +1,4 @@
+pub mod Ends
+pub mod Leading
+pub mod Restarted
+pub mod Served
