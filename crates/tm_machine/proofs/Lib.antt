@@ -23,3 +23,4 @@ mod Finished
 mod Giving
 mod Breaking
 pub mod Telling
+mod Slotting

@@ -1,9 +1,12 @@
 //! The parts of a control region.
 ghost use Rattle.std.specs.Prelude.{◌≡◌, None, replicate, IfOk};
 ghost use Rattle.model_machine.specs.Machine.{empty_state, start_of};
+ghost use Rattle.program_rows.specs.OnSlots.{all_stores};
+ghost use Rattle.tm_machine.specs.OnSlots.{slots_now, HasSlots};
 
 use crate::region::Busy;
 use lasting_state::Tables;
+use seg_store::Stores;
 use std::alloc::Global;
 use std::marker::Model;
 use system_types::{Codes, System};
@@ -28,7 +31,7 @@ impl Model for Parts {
 
     ghost Value = { PartsState };
 
-    ghost view = { λ p. record { system = p.system; moment = moment_of p } };
+    ghost view = { λ p. record { system = p.system; moment = moment_of p; databases = p.tables.databases } };
 
     ghost invariant = { λ p. AreParts p.system p.tables p.codes p.regions.items };
 }
@@ -58,6 +61,21 @@ impl Parts {
         ensures { result.now ≡ self.now.system }
     {
         &self.system
+    }
+
+    /// The system that was served.
+    pub fn into_system(self) -> System
+        ensures { result ≡ self.system }
+    {
+        self.system
+    }
+
+    /// The stores of the databases, as they are, with the slots that were changed since they were written.
+    pub fn stores(&self) -> &Stores
+        ensures value { result.now ≡ all_stores (slots_now self.now) }
+        ensures has { HasSlots self.now }
+    {
+        self.tables.databases().stores()
     }
 }
 

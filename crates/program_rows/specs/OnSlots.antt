@@ -1,28 +1,24 @@
 -- What calls, commits and back outs do to the slots of the databases.
-use Rattle.std.specs.Prelude.{◌≡◌, ◌⊎◌, ◌<◌, ◌≤◌, ℕ, ◌-◌, true, false, List, [], ◌∷◌, length, map, sum_by, slice_index_or, slice_set, Some}
+use Rattle.std.specs.Prelude.{◌≡◌, ◌⊎◌, ◌<◌, ◌≤◌, ℕ, ◌-◌, Bool, true, false, List, [], ◌∷◌, length, map, sum_by, slice_index_or, slice_set, Option, None, Some}
 use Rattle.std.specs.List.{AllByRecursion, list_any}
 use Rattle.tm_types.specs.declared.dbd.Dbd.{Dbd}
 use Rattle.model_rows.specs.declared.row.Row.{Row}
+use Rattle.model_rows.specs.Path.{root_of}
 use Rattle.model_rows.specs.Record as rows
+use Rattle.model_enqueue.specs.Table.{EnqueueTable}
 use Rattle.log_records.specs.declared.record.Record.{Record}
 use Rattle.log_records.specs.declared.record.Record.TheVariants as told
 use Rattle.seg_store.specs.Slots.{Stored, AreSlots}
 use Rattle.seg_store.specs.Changed.{AllStores}
 use Rattle.unit_work.specs.declared.change.Change.{Change}
-use Rattle.unit_work.specs.Changes.{is_before, is_seen, with_slot}
+use Rattle.unit_work.specs.Changes.{Ascend, is_seen, with_slot}
 use Rattle.change_records.specs.Images.{slots_at, image_at, bytes_at, IsSlotOf}
-use Rattle.machine_life.specs.Marks.{is_marked, AreMarked}
+use Rattle.change_records.specs.Marks.{is_marked, AreMarked}
 use Rattle.change_records.specs.Told.{ChangesTold, is_told_of}
-use Rattle.tm_types.specs.declared.resource.Resource.{Resource}
-use Rattle.tm_types.specs.declared.resource.Mode.TheVariants.{Exclusive}
-use Rattle.model_enqueue.specs.Table.{EnqueueTable}
-use Rattle.pi_enqueue.specs.Kept.{held}
-
-abbrev pub HoldsAlone : EnqueueTable → ℕ → Resource → Type 0
-HoldsAlone table region resource = held region resource table.holds ≡ Some Exclusive
-
-abbrev pub slot_told : ℕ → List Stored → Change → Record
-slot_told unit stores s = told.Change unit s.db s.slot (bytes_at s.db s.slot stores) (rows.spelling s.before)
+use Rattle.program_rows.specs.Open.{HoldsAlone}
+use Rattle.pi_enqueue.specs.Kept.{IsKept}
+use Rattle.program_rows.specs.State.{DatabasesState, dbds_of}
+use Rattle.program_rows.specs.Telling.{slot_told}
 
 -- the slots as they are committed and as they are, the numbers of those that were changed since they were written, and the
 -- slots that each region has touched, by database and slot, each with its first image
@@ -31,6 +27,14 @@ pub record SlotsState : Type 0 where
   pub stores : List Stored
   pub changed : List (List ℕ)
   pub touched : List (List Change)
+
+abbrev pub slots_in : DatabasesState → SlotsState
+slots_in databases = record {
+  committed = databases.committed;
+  stores = databases.stores;
+  changed = databases.changed;
+  touched = databases.touched;
+}
 
 abbrev pub all_stores : SlotsState → AllStores
 all_stores s = record { stores = s.stores; changed = s.changed }
@@ -94,11 +98,6 @@ pub record GivesUpSo (region : ℕ) (old new : SlotsState) : Type 0 where
 
 -- ---- what always holds
 
--- each of these slots stands before all later ones, by database and number
-abbrev pub Ascend : List Change → Type 0
-Ascend [] = Unit {0}
-Ascend (c ∷ slots) = AllByRecursion (λ d. is_before d.db d.slot c ≡ true) slots × Ascend slots
-
 -- how many records an image has
 abbrev pub records_in : List Row → ℕ
 records_in [] = 0
@@ -118,6 +117,15 @@ pub record AreTouchedSlots (s : SlotsState) (slots : List Change) : Type 0 where
   pub few_before : sum_by (λ c. records_in c.before) slots ≤ 32
   pub few_now : sum_by (λ c. records_in (image_at c.db c.slot s.stores)) slots ≤ 32
 
+-- the root of the record in an image, none where there is no record
+abbrev pub root_in : List Row → Option (List ℕ)
+root_in [] = None
+root_in (row ∷ rows) = Some (root_of row.path)
+
+-- A region holds alone what it has touched: the record that was in the slot, or the sequence of the database where it was free.
+abbrev pub HoldsSlot : EnqueueTable → ℕ → Change → Type 0
+HoldsSlot table region c = HoldsAlone table region (record { db = c.db; root = root_in c.before })
+
 -- The slots of these databases, with what so many regions have touched: no slot is touched by two, and a slot that none has
 -- touched stands as it is committed. Marked slots are there.
 pub record HaveSlots (dbds : List Dbd) (regions : ℕ) (s : SlotsState) : Type 0 where
@@ -131,3 +139,9 @@ pub record HaveSlots (dbds : List Dbd) (regions : ℕ) (s : SlotsState) : Type 0
   pub untouched : (database slot : ℕ) → 1 ≤ database → ((region : ℕ) → is_seen database slot (touched_in region s) ≡ false)
       → image_at database slot s.committed ≡ image_at database slot s.stores
   pub marks : (database slot : ℕ) → 1 ≤ database → is_marked s.changed database slot ≡ true → slot < length (slots_at database s.stores)
+
+-- What always holds of the slots of databases.
+pub record AreOnSlots (databases : DatabasesState) : Type 0 where
+  pub have : HaveSlots (dbds_of databases) (length databases.regions) (slots_in databases)
+  pub holds : (region : ℕ) → 1 ≤ region → AllByRecursion (HoldsSlot databases.table region) (touched_in region (slots_in databases))
+  pub compatible : IsKept databases.table
