@@ -7,3 +7,5 @@ pub mod Victims
 pub mod Turns
 pub mod Ends
 pub mod Told
+pub mod Commands
+pub mod Lookups
