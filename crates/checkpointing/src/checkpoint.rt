@@ -5,7 +5,7 @@ ghost use Rattle.restart_data.specs.Restart.{IsRestart};
 ghost use Rattle.restart_data.specs.Snapshot as snapshot;
 ghost use Rattle.log_writer.specs.Log.{sectors_of, log_of, IsReady};
 ghost use Rattle.model_image.specs.Areas.{data_first};
-ghost use Rattle.seg_store.specs.WriteBack.{changed_count, all_written};
+ghost use Rattle.seg_store.specs.WriteBack.{changed_count};
 ghost use Rattle.checkpointing.specs.Parts.{parts_of, other_area, restart_behind, sequence_behind, next_restart, next_writer, AreFree, IsOver};
 ghost use Rattle.checkpointing.specs.Written.{AreOf};
 ghost use Rattle.checkpointing.specs.Checkpoint.{KeepsRecovery, IsCheckpointed};
@@ -55,7 +55,7 @@ pub fn take<D: Disk>(
     alloc: Global,
     disk: &mut D,
     log: &mut LogWriter,
-    stores: &mut Stores,
+    stores: &Stores,
     parts: &PartsView,
 ) -> Result<RestartSector, CheckFault>
     // All areas of the system lie on the disk.
@@ -69,8 +69,8 @@ pub fn take<D: Disk>(
     // The counters of the new restart sector are in their range.
     requires next { IsRestart (next_restart (parts_of parts.now) log.old) }
     // The stores are those of the system, and each slot that was changed is named by a record.
-    requires stores { AreOf parts.now.system.now stores.old }
-    requires named { ChangedAreNamed (parts_of parts.now) log.old stores.old (D.state disk.old) }
+    requires stores { AreOf parts.now.system.now stores.now }
+    requires named { ChangedAreNamed (parts_of parts.now) log.old stores.now (D.state disk.old) }
     // The writer is over the log area that holds, and neither area has a sector of what is to come.
     requires over { IsOver (parts_of parts.now) log.old }
     requires log_area { log.old.first + log.old.count ≤ (D.state disk.old).size }
@@ -78,7 +78,7 @@ pub fn take<D: Disk>(
     requires ahead { NoneIsAhead parts.now.system.now parts.now.now.now.epoch (sequence_behind log.old) (D.state disk.old) }
     // What lasts is the same within the force, and by the new snapshot.
     requires force_keeps { ForceKeeps (parts_of parts.now) log.old (D.state disk.old) }
-    requires snapshot_keeps { SnapshotKeeps (parts_of parts.now) log.old stores.old (D.state disk.old) }
+    requires snapshot_keeps { SnapshotKeeps (parts_of parts.now) log.old stores.now (D.state disk.old) }
 
     ensures stays { Stays (D.state disk.old) (D.state disk.new) }
     // Whenever a crash comes, the image recovers to what lasted before.
@@ -87,7 +87,7 @@ pub fn take<D: Disk>(
     ensures texts { Within (KeepsText parts.entry.now.system.now) (D.state disk.old) (D.state disk.new) }
     // Then each image is that of the checkpoint, and no other is left.
     ensures answer { IfOk result (λ restart. restart ≡ next_restart (parts_of parts.entry.now) log.old) }
-    ensures done { OnOk result (Follows (IsCheckpointed (parts_of parts.entry.now) log.old stores.old) (D.state disk.old) (D.state disk.new)) }
+    ensures done { OnOk result (Follows (IsCheckpointed (parts_of parts.entry.now) log.old stores.now) (D.state disk.old) (D.state disk.new)) }
     ensures restart { IfOk result (λ restart. HasRestart parts.entry.now.system.now restart (D.state disk.new)) }
     ensures synced { OnOk result (Only (D.state disk.new).shown (D.state disk.new)) }
     // The writer begins the other log area, which has nothing of its log.
@@ -95,10 +95,8 @@ pub fn take<D: Disk>(
     ensures ready { OnOk result (IsReady log.new (D.state disk.new)) }
     ensures ahead { OnOk result (NoneIsAhead parts.entry.now.system.now parts.entry.now.now.now.epoch (sequence_behind log.old) (D.state disk.new)) }
     ensures empty { OnOk result ((image : Image) → (D.state disk.new).may_leave image → log_of log.new image ≡ []) }
-    // Each slot is written.
-    ensures written { OnOk result (stores.new ≡ all_written stores.old) }
 
-    ensures writes { WritesAtMost (sectors_of (length log.old.appended) + changed_count stores.old.changed + snapshot.sectors_of (length parts.entry.now.snapshot.now) + 1) (D.state disk.old) (D.state disk.new) }
+    ensures writes { WritesAtMost (sectors_of (length log.old.appended) + changed_count stores.now.changed + snapshot.sectors_of (length parts.entry.now.snapshot.now) + 1) (D.state disk.old) (D.state disk.new) }
     ensures no_fault { OnOk result ((D.state disk.new).faults ≡ (D.state disk.old).faults) }
     ensures cause { OnErr result (FailedSince (D.state disk.old) (D.state disk.new)) }
     ensures memory { IsErrOf result CheckFault.Memory → ⊥ }

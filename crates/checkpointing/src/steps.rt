@@ -6,7 +6,7 @@ ghost use Rattle.restart_data.specs.Snapshot as snapshot;
 ghost use Rattle.restart_data.specs.Images.{ChangesOnly, Saves};
 ghost use Rattle.log_writer.specs.Log.{sectors_of, IsReady};
 ghost use Rattle.seg_store.specs.DataSectors.{MayPut, HasPut};
-ghost use Rattle.seg_store.specs.WriteBack.{slot_count, changed_count, changed_bytes, all_written};
+ghost use Rattle.seg_store.specs.WriteBack.{slot_count, changed_count, changed_bytes};
 ghost use Rattle.model_image.specs.Areas.{data_first};
 ghost use Rattle.checkpointing.specs.Parts.{parts_of, forced_writer};
 ghost use Rattle.checkpointing.specs.Written.{AreOf};
@@ -19,14 +19,13 @@ use seg_store::Stores;
 use tm_disk::{Disk, DiskFault};
 
 // Writes the slots that were changed, where the slots stand from the sector `first` on.
-fn write_slots<D: Disk>(disk: &mut D, stores: &mut Stores, first: u32) -> Result<(), DiskFault>
-    requires area { first + slot_count stores.old.stores ≤ (D.state disk.old).size }
-    requires sectors { AllByRecursion (λ s. s.dbd.sectors ≤ 1) stores.old.stores }
+fn write_slots<D: Disk>(disk: &mut D, stores: &Stores, first: u32) -> Result<(), DiskFault>
+    requires area { first + slot_count stores.now.stores ≤ (D.state disk.old).size }
+    requires sectors { AllByRecursion (λ s. s.dbd.sectors ≤ 1) stores.now.stores }
     ensures stays { Stays (D.state disk.old) (D.state disk.new) }
-    ensures any_moment { Within (MayPut first (changed_bytes stores.old)) (D.state disk.old) (D.state disk.new) }
-    ensures done { OnOk result (Follows (HasPut first (changed_bytes stores.old)) (D.state disk.old) (D.state disk.new)) }
-    ensures written { OnOk result (stores.new ≡ all_written stores.old) }
-    ensures writes { WritesAtMost (changed_count stores.old.changed) (D.state disk.old) (D.state disk.new) }
+    ensures any_moment { Within (MayPut first (changed_bytes stores.now)) (D.state disk.old) (D.state disk.new) }
+    ensures done { OnOk result (Follows (HasPut first (changed_bytes stores.now)) (D.state disk.old) (D.state disk.new)) }
+    ensures writes { WritesAtMost (changed_count stores.now.changed) (D.state disk.old) (D.state disk.new) }
     ensures no_fault { OnOk result ((D.state disk.new).faults ≡ (D.state disk.old).faults) }
     ensures cause { OnErr result (FailedSince (D.state disk.old) (D.state disk.new)) }
 {
@@ -67,27 +66,26 @@ pub fn save_snapshot<D: Disk>(
 pub(crate) fn prepare<D: Disk>(
     disk: &mut D,
     log: &mut LogWriter,
-    stores: &mut Stores,
+    stores: &Stores,
     first: u32,
     parts: &PartsView,
 ) -> Result<u32, DiskFault>
     requires log_area { log.old.first + log.old.count ≤ (D.state disk.old).size }
     requires sequences { log.old.sequence + log.old.count < 2 ^ 64 }
     requires ready { IsReady log.old (D.state disk.old) }
-    requires area { first + slot_count stores.old.stores ≤ (D.state disk.old).size }
+    requires area { first + slot_count stores.now.stores ≤ (D.state disk.old).size }
     requires first { first ≡ data_first parts.now.system.now 0 }
-    requires stores { AreOf parts.now.system.now stores.old }
+    requires stores { AreOf parts.now.system.now stores.now }
     requires within { parts.now.snapshot_at + parts.now.snapshot_sectors ≤ (D.state disk.old).size }
     requires some { 0 < length parts.now.snapshot.now }
     requires fits { length parts.now.snapshot.now ≤ parts.now.snapshot_sectors * 4064 }
     requires number { parts.now.now.now.checkpoint + 1 < 2 ^ 64 }
     ensures stays { Stays (D.state disk.old) (D.state disk.new) }
-    ensures any_moment { Within (Prepares (parts_of parts.entry.now) log.old stores.old) (D.state disk.old) (D.state disk.new) }
-    ensures done { OnOk result (Follows (WritesSnapshot (parts_of parts.entry.now) log.old stores.old) (D.state disk.old) (D.state disk.new)) }
+    ensures any_moment { Within (Prepares (parts_of parts.entry.now) log.old stores.now) (D.state disk.old) (D.state disk.new) }
+    ensures done { OnOk result (Follows (WritesSnapshot (parts_of parts.entry.now) log.old stores.now) (D.state disk.old) (D.state disk.new)) }
     ensures sectors { IfOk result (λ n. n ≡ snapshot.sectors_of (length parts.entry.now.snapshot.now)) }
     ensures forced { OnOk result (log.new ≡ forced_writer log.old) }
-    ensures written { OnOk result (stores.new ≡ all_written stores.old) }
-    ensures writes { WritesAtMost (sectors_of (length log.old.appended) + changed_count stores.old.changed + snapshot.sectors_of (length parts.entry.now.snapshot.now)) (D.state disk.old) (D.state disk.new) }
+    ensures writes { WritesAtMost (sectors_of (length log.old.appended) + changed_count stores.now.changed + snapshot.sectors_of (length parts.entry.now.snapshot.now)) (D.state disk.old) (D.state disk.new) }
     ensures no_fault { OnOk result ((D.state disk.new).faults ≡ (D.state disk.old).faults) }
     ensures cause { OnErr result (FailedSince (D.state disk.old) (D.state disk.new)) }
 {

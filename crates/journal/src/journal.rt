@@ -4,7 +4,7 @@ ghost use Rattle.model_disk.specs.Disk.{Stays, Within, Follows, Only, WritesAtMo
 ghost use Rattle.restart_data.specs.Restart.{IsRestart};
 ghost use Rattle.restart_data.specs.Snapshot as sectors;
 ghost use Rattle.model_image.specs.Areas.{data_first};
-ghost use Rattle.seg_store.specs.WriteBack.{changed_count, all_written};
+ghost use Rattle.seg_store.specs.WriteBack.{changed_count};
 ghost use Rattle.checkpointing.specs.Parts.{parts_of, sequence_behind, next_restart, next_writer, AreFree, IsOver};
 ghost use Rattle.checkpointing.specs.Written.{AreOf};
 ghost use Rattle.checkpointing.specs.Checkpoint.{KeepsRecovery, IsCheckpointed};
@@ -177,24 +177,23 @@ impl Journal {
         alloc: Global,
         disk: &mut D,
         system: &System,
-        stores: &mut Stores,
+        stores: &Stores,
         snapshot: &[u8],
     ) -> Result<(), DiskFault>
-        requires can { CanCheckpoint system.now self.old stores.old snapshot.now (D.state disk.old) }
+        requires can { CanCheckpoint system.now self.old stores.now snapshot.now (D.state disk.old) }
 
         ensures stays { Stays (D.state disk.old) (D.state disk.new) }
         ensures any_moment { Within (KeepsRecovery system.entry.now) (D.state disk.old) (D.state disk.new) }
         ensures texts { Within (KeepsText system.entry.now) (D.state disk.old) (D.state disk.new) }
-        ensures done { OnOk result (Follows (IsCheckpointed (parts_for system.entry.now self.old.restart snapshot.entry.now) self.old.log stores.old) (D.state disk.old) (D.state disk.new)) }
+        ensures done { OnOk result (Follows (IsCheckpointed (parts_for system.entry.now self.old.restart snapshot.entry.now) self.old.log stores.now) (D.state disk.old) (D.state disk.new)) }
         // Each image is one of the life behind the checkpoint.
-        ensures kept { OnOk result ((life : LifeOnDisk) → (touches : Touches) → (told : List Record) → IsOf system.entry.now self.old stores.old snapshot.entry.now touches told (D.state disk.old) life → AreKept (after_checkpoint snapshot.entry.now touches life) (D.state disk.new)) }
+        ensures kept { OnOk result ((life : LifeOnDisk) → (touches : Touches) → (told : List Record) → IsOf system.entry.now self.old stores.now snapshot.entry.now touches told (D.state disk.old) life → AreKept (after_checkpoint snapshot.entry.now touches life) (D.state disk.new)) }
         ensures restart { OnOk result (self.new.restart ≡ next_restart (parts_for system.entry.now self.old.restart snapshot.entry.now) self.old.log) }
         ensures log { OnOk result (self.new.log ≡ next_writer (parts_for system.entry.now self.old.restart snapshot.entry.now) self.old.log) }
         ensures ready { OnOk result (IsReady self.new.log (D.state disk.new)) }
         ensures synced { OnOk result (Only (D.state disk.new).shown (D.state disk.new)) }
-        ensures written { OnOk result (stores.new ≡ all_written stores.old) }
 
-        ensures writes { WritesAtMost (sectors_of (length self.old.log.appended) + changed_count stores.old.changed + sectors.sectors_of (length snapshot.entry.now) + 1) (D.state disk.old) (D.state disk.new) }
+        ensures writes { WritesAtMost (sectors_of (length self.old.log.appended) + changed_count stores.now.changed + sectors.sectors_of (length snapshot.entry.now) + 1) (D.state disk.old) (D.state disk.new) }
         ensures no_fault { OnOk result ((D.state disk.new).faults ≡ (D.state disk.old).faults) }
         ensures cause { OnErr result (FailedSince (D.state disk.old) (D.state disk.new)) }
     {
@@ -216,7 +215,7 @@ impl Journal {
         &mut self,
         alloc: Global,
         disk: &mut D,
-        stores: &mut Stores,
+        stores: &Stores,
         parts: &PartsView,
     ) -> Result<(), DiskFault>
         requires areas { data_first parts.now.system.now (length parts.now.system.now.databases) ≤ (D.state disk.old).size }
@@ -225,26 +224,25 @@ impl Journal {
         requires some { 0 < length parts.now.snapshot.now }
         requires fits { length parts.now.snapshot.now ≤ parts.now.snapshot_sectors * 4064 }
         requires next { IsRestart (next_restart (parts_of parts.now) self.old.log) }
-        requires stores { AreOf parts.now.system.now stores.old }
-        requires named { ChangedAreNamed (parts_of parts.now) self.old.log stores.old (D.state disk.old) }
+        requires stores { AreOf parts.now.system.now stores.now }
+        requires named { ChangedAreNamed (parts_of parts.now) self.old.log stores.now (D.state disk.old) }
         requires over { IsOver (parts_of parts.now) self.old.log }
         requires log_area { self.old.log.first + self.old.log.count ≤ (D.state disk.old).size }
         requires ready { IsReady self.old.log (D.state disk.old) }
         requires ahead { NoneIsAhead parts.now.system.now parts.now.now.now.epoch (sequence_behind self.old.log) (D.state disk.old) }
         requires force_keeps { ForceKeeps (parts_of parts.now) self.old.log (D.state disk.old) }
-        requires snapshot_keeps { SnapshotKeeps (parts_of parts.now) self.old.log stores.old (D.state disk.old) }
+        requires snapshot_keeps { SnapshotKeeps (parts_of parts.now) self.old.log stores.now (D.state disk.old) }
 
         ensures stays { Stays (D.state disk.old) (D.state disk.new) }
         ensures any_moment { Within (KeepsRecovery parts.entry.now.system.now) (D.state disk.old) (D.state disk.new) }
         ensures texts { Within (KeepsText parts.entry.now.system.now) (D.state disk.old) (D.state disk.new) }
-        ensures done { OnOk result (Follows (IsCheckpointed (parts_of parts.entry.now) self.old.log stores.old) (D.state disk.old) (D.state disk.new)) }
+        ensures done { OnOk result (Follows (IsCheckpointed (parts_of parts.entry.now) self.old.log stores.now) (D.state disk.old) (D.state disk.new)) }
         ensures restart { OnOk result (self.new.restart ≡ next_restart (parts_of parts.entry.now) self.old.log) }
         ensures log { OnOk result (self.new.log ≡ next_writer (parts_of parts.entry.now) self.old.log) }
         ensures ready { OnOk result (IsReady self.new.log (D.state disk.new)) }
         ensures synced { OnOk result (Only (D.state disk.new).shown (D.state disk.new)) }
-        ensures written { OnOk result (stores.new ≡ all_written stores.old) }
 
-        ensures writes { WritesAtMost (sectors_of (length self.old.log.appended) + changed_count stores.old.changed + sectors.sectors_of (length parts.entry.now.snapshot.now) + 1) (D.state disk.old) (D.state disk.new) }
+        ensures writes { WritesAtMost (sectors_of (length self.old.log.appended) + changed_count stores.now.changed + sectors.sectors_of (length parts.entry.now.snapshot.now) + 1) (D.state disk.old) (D.state disk.new) }
         ensures no_fault { OnOk result ((D.state disk.new).faults ≡ (D.state disk.old).faults) }
         ensures cause { OnErr result (FailedSince (D.state disk.old) (D.state disk.new)) }
     {

@@ -1,7 +1,9 @@
 -- The records of a step, by the queues' own look-up.
 use Rattle.std.proofs.Common.{◌≡◌, ℕ, ◌+◌, ◌<◌, ◌≤◌, List, [], ◌∷◌, ◌++◌, length, take, refl, sym, ap, ◌∙◌, subst, Some, arith}
-use Rattle.std.specs.Prelude.{Result, Ok, Err, IfErr}
-use Rattle.std.specs.List.{flat_map}
+use Rattle.std.specs.Prelude.{Bool, true, false, Option, None, Result, Ok, Err, IfErr, ◌==◌, ◌&&◌, nat_lt, if◌then◌else◌, slice_get}
+use Rattle.std.specs.Option.{option_map_or, is_some}
+use Rattle.std.proofs.lemmas.Bool.{false≢true, eqb-true, eq-eqb, le-ltb}
+use Rattle.std.specs.List.{flat_map, AllByRecursion}
 use Rattle.std.proofs.lemmas.List.{append-nil}
 use Rattle.std.proofs.Math.Seq.{take-append_seam}
 use Rattle.tm_types.specs.declared.message.Message.{Message}
@@ -9,57 +11,85 @@ use Rattle.tm_types.specs.declared.abend.AbendCode.{AbendCode}
 use Rattle.model_conversation.specs.declared.conversation.PadChange.{PadChange}
 use Rattle.model_rows.specs.declared.row.Row.{Row}
 use Rattle.model_queues.specs.Queue.{message_at}
-use Rattle.model_queues.specs.Outputs.{next_of}
+use Rattle.tm_types.specs.declared.message.Reply.{Reply}
+use Rattle.model_queues.specs.declared.replies.TerminalReplies.{TerminalReplies}
+use Rattle.model_queues.specs.Outputs.{first_number, next_of}
 use Rattle.model_queues.proofs.Laws.{found_message, message_found}
 use Rattle.model_message.specs.declared.ended_message.EndedMessage.{EndedMessage}
 use Rattle.model_machine.specs.declared.lasting.CodeSetting.{CodeSetting}
-use Rattle.model_machine.specs.Machine.{LastingState}
+use Rattle.model_machine.specs.declared.entry.Acked.{Acked}
+use Rattle.model_machine.specs.declared.entry.Acked.TheVariants.{Removed, Already}
+use Rattle.model_machine.specs.declared.entry.AckRefused.{AckRefused}
+use Rattle.model_machine.specs.declared.entry.AckRefused.TheVariants.{Unknown, Ahead, Fault}
+use Rattle.model_machine.specs.declared.entry.ControlFault.{ControlFault}
+use Rattle.model_machine.specs.Machine.{LastingState, output_at}
+use Rattle.model_machine.specs.Steps.{ack_by}
 use Rattle.model_machine.specs.Lasting.{KeptInput, LastingStep}
-use Rattle.model_machine.specs.Lasting.LastingStep.{Accepts, Completes, Discards}
-use Rattle.log_records.specs.declared.record.Record.TheVariants.{Input, Discarded, SyncPoint}
-use Rattle.log_records.specs.Spelling.{spelling}
+use Rattle.model_machine.specs.Lasting.LastingStep.{Accepts, Acknowledges, Completes, Discards}
+use Rattle.log_records.specs.declared.record.Record.{Record}
+use Rattle.log_records.specs.declared.record.Record.TheVariants.{Input, Acknowledged, Discarded, SyncPoint}
+use Rattle.log_records.specs.Spelling.{spelling, IsRecord}
 use Rattle.log_records.specs.declared.untold.Untold.{Untold}
 use Rattle.log_records.specs.declared.untold.Untold.TheVariants.{Memory, Full}
-use Rattle.step_records.specs.Records.{completion_records, completed_by, discarded_by}
+use Rattle.step_records.specs.Records.{acknowledged_record, completion_records, completed_by, discarded_by}
 use Rattle.step_telling.specs.Untold.{WhereFull}
 use Rattle.lasting_state.specs.Tables.{TablesState, lasting_of}
-use Rattle.lasting_state.specs.Telling.{AreBytesOf, IsLonger, Tells}
+use Rattle.lasting_state.specs.Telling.{AreBytesOf, IsLonger, Tells, TellsAcknowledged, is_first_of, removes_by}
 
 pub input_told : (old : TablesState) (terminal : List ℕ) (number : ℕ) (kept : KeptInput) (bytes : List ℕ)
-    → bytes ≡ spelling (Input 0 old.next_id terminal kept.code number kept.conversation kept.segments) → AreBytesOf 0 (Accepts terminal number kept) old bytes
-input_told old terminal number kept bytes is settings =
-    is ∙ sym (append-nil (spelling (Input 0 old.next_id terminal kept.code number kept.conversation kept.segments)))
+    → bytes ≡ spelling (Input 0 old.next_id terminal kept.code number kept.conversation kept.segments) → IsRecord (Input 0 old.next_id terminal kept.code number kept.conversation kept.segments)
+    → AreBytesOf 0 (Accepts terminal number kept) old bytes
+input_told old terminal number kept bytes is valid = record {
+  are = λ settings. is ∙ sym (append-nil (spelling (Input 0 old.next_id terminal kept.code number kept.conversation kept.segments)));
+  valid = λ settings. (valid, tt);
+}
 
 pub completion_told : (unit : ℕ) (old : TablesState) (id : ℕ) (outputs : List EndedMessage) (pad : PadChange) (message : Message) (bytes : List ℕ)
     → Some message ≡ message_at id old.queues.queued
     → ((lasting : LastingState) → lasting.outputs ≡ old.outputs → lasting.next_id ≡ old.next_id → bytes ≡ flat_map spelling (completion_records unit message.origin id outputs lasting ++ SyncPoint unit pad ∷ []))
+    → ((lasting : LastingState) → lasting.outputs ≡ old.outputs → lasting.next_id ≡ old.next_id → AllByRecursion IsRecord (completion_records unit message.origin id outputs lasting ++ SyncPoint unit pad ∷ []))
     → (rows : List (List Row)) → AreBytesOf unit (Completes id rows outputs pad) old bytes
-completion_told unit old id outputs pad message bytes found h rows settings =
-    let lasting : LastingState = lasting_of settings old in
-    h lasting refl refl
-    ∙ ap (λ i. flat_map spelling (completion_records unit message.origin i outputs lasting ++ SyncPoint unit pad ∷ [])) (sym (found_message id old.queues.queued message (sym found)))
-    ∙ ap (λ m. flat_map spelling (completed_by unit m outputs pad lasting)) (found ∙ sym (message_found id old.queues.queued))
+completion_told unit old id outputs pad message bytes found h all rows = record {
+  are = λ settings.
+      let lasting : LastingState = lasting_of settings old in
+      h lasting refl refl ∙ ap (λ (rs : List Record). flat_map spelling rs) (records_are settings);
+  valid = λ settings. subst (λ (rs : List Record). AllByRecursion IsRecord rs) (records_are settings) (all (lasting_of settings old) refl refl);
+} where
+  records_are : (settings : List CodeSetting) → completion_records unit message.origin id outputs (lasting_of settings old) ++ SyncPoint unit pad ∷ []
+      ≡ completed_by unit (Rattle.model_machine.specs.Machine.message_at (lasting_of settings old).messages id) outputs pad (lasting_of settings old)
+  records_are settings =
+      let lasting : LastingState = lasting_of settings old in
+      ap (λ i. completion_records unit message.origin i outputs lasting ++ SyncPoint unit pad ∷ []) (sym (found_message id old.queues.queued message (sym found)))
+      ∙ ap (λ m. completed_by unit m outputs pad lasting) (found ∙ sym (message_found id old.queues.queued))
 
 pub discarding_told : (unit : ℕ) (old : TablesState) (id : ℕ) (abend : AbendCode) (message : Message) (bytes : List ℕ)
-    → Some message ≡ message_at id old.queues.queued → bytes ≡ spelling (Discarded unit id abend (next_of message.origin old.outputs))
+    → Some message ≡ message_at id old.queues.queued → bytes ≡ spelling (Discarded unit id abend (next_of message.origin old.outputs)) → IsRecord (Discarded unit id abend (next_of message.origin old.outputs))
     → AreBytesOf unit (Discards id abend) old bytes
-discarding_told unit old id abend message bytes found is settings =
-    let lasting : LastingState = lasting_of settings old in
-    is
-    ∙ ap (λ i. spelling (Discarded unit i abend (next_of message.origin old.outputs))) (sym (found_message id old.queues.queued message (sym found)))
-    ∙ sym (append-nil (spelling (Discarded unit message.id abend (next_of message.origin old.outputs))))
-    ∙ ap (λ m. flat_map spelling (discarded_by unit m abend lasting)) (found ∙ sym (message_found id old.queues.queued))
+discarding_told unit old id abend message bytes found is valid = record {
+  are = λ settings.
+      is
+      ∙ sym (append-nil (spelling (Discarded unit id abend (next_of message.origin old.outputs))))
+      ∙ ap (λ (rs : List Record). flat_map spelling rs) (records_are settings);
+  valid = λ settings. subst (λ (rs : List Record). AllByRecursion IsRecord rs) (records_are settings) (valid, tt);
+} where
+  records_are : (settings : List CodeSetting) → Discarded unit id abend (next_of message.origin old.outputs) ∷ []
+      ≡ discarded_by unit (Rattle.model_machine.specs.Machine.message_at (lasting_of settings old).messages id) abend (lasting_of settings old)
+  records_are settings =
+      let lasting : LastingState = lasting_of settings old in
+      ap (λ i. Discarded unit i abend (next_of message.origin old.outputs) ∷ []) (sym (found_message id old.queues.queued message (sym found)))
+      ∙ ap (λ m. discarded_by unit m abend lasting) (found ∙ sym (message_found id old.queues.queued))
 
 -- what was appended is told
 module _ (unit room : ℕ) (step : LastingStep) (old : TablesState) (bytes : List ℕ) (are : AreBytesOf unit step old bytes) where
   pub tells : (before after : List ℕ) → after ≡ before ++ bytes → length bytes ≤ room → Tells unit room step old before after
   tells before after is fits = record {
-    told = λ settings. is ∙ ap (λ bs. before ++ bs) (are settings);
-    fits = λ settings. subst (λ bs. length bs ≤ room) (are settings) fits;
+    told = λ settings. is ∙ ap (λ bs. before ++ bs) (are.are settings);
+    valid = are.valid;
+    fits = λ settings. subst (λ bs. length bs ≤ room) (are.are settings) fits;
   }
 
   pub longer : room < length bytes → IsLonger unit room step old
-  longer less settings = subst (λ bs. room < length bs) (are settings) less
+  longer less settings = subst (λ bs. room < length bs) (are.are settings) less
 
 -- and taken back by the length before
 pub untold : (before told after : List ℕ) (bytes : List ℕ) (start : ℕ) → told ≡ before ++ bytes → start ≡ length before → after ≡ take start told → after ≡ before
@@ -74,3 +104,71 @@ where_full Full f h = f h
 pub err_where : {A P Q : Type 0} (result : Result A Untold) → (P → Q) → IfErr result (WhereFull P) → IfErr result (WhereFull Q)
 err_where (Ok value) f h = h
 err_where (Err error) f h = where_full error f h
+
+-- ---- acknowledgements
+
+acked_by : (kept : TerminalReplies) (number : ℕ) (first : Option Reply) → slice_get kept.replies 0 ≡ first → is_first_of number first ≡ true
+    → (ack_by (Some kept) number ≡ Ok Removed) × (first_number kept ≡ number)
+acked_by kept number None e f = let clash : false ≡ true = f in absurd (cc)
+acked_by kept number (Some reply) e f =
+    let same : reply.number ≡ number = eqb-true reply.number number f in
+    let first : first_number kept ≡ number = ap (λ o. option_map_or (λ (r : Reply). r.number) o kept.next) e ∙ same in (
+      ap (λ n. if nat_lt number n then Ok Already else (if (number == n) && is_some (slice_get kept.replies 0) then Ok Removed else Err (Ahead n))) first
+          ∙ ap (λ b. if b then Ok Already else (if (number == number) && is_some (slice_get kept.replies 0) then Ok Removed else Err (Ahead number))) (le-ltb number number (omega arith))
+          ∙ ap (λ b. if b && is_some (slice_get kept.replies 0) then Ok Removed else Err (Ahead number)) (eq-eqb number number refl)
+          ∙ ap (λ o. if is_some o then Ok Removed else Err (Ahead number)) e,
+      first,
+    )
+
+pub removes_so : (outputs : Option TerminalReplies) (number : ℕ) → removes_by outputs number ≡ true → (ack_by outputs number ≡ Ok Removed) × (option_map_or first_number outputs 1 ≡ number)
+removes_so None number f = let clash : false ≡ true = f in absurd (cc)
+removes_so (Some kept) number f = acked_by kept number (slice_get kept.replies 0) refl f
+
+pub acknowledged_told : (old : TablesState) (terminal : List ℕ) (number : ℕ) (bytes : List ℕ) → removes_by (output_at old.outputs terminal) number ≡ true
+    → bytes ≡ spelling (Acknowledged terminal number) → IsRecord (Acknowledged terminal number) → AreBytesOf 0 (Acknowledges terminal) old bytes
+acknowledged_told old terminal number bytes removes is valid = record {
+  are = λ settings.
+      is ∙ ap (λ n. spelling (Acknowledged terminal n)) (sym (removes_so (output_at old.outputs terminal) number removes).1)
+      ∙ sym (append-nil (spelling (acknowledged_record terminal (lasting_of settings old))));
+  valid = λ settings. (subst (λ n. IsRecord (Acknowledged terminal n)) (sym (removes_so (output_at old.outputs terminal) number removes).1) valid, tt);
+}
+
+-- an answer by which nothing is removed tells nothing
+not_removed : (outputs : Option TerminalReplies) (number : ℕ) → removes_by outputs number ≡ false → ack_by outputs number ≡ Ok Removed → ⊥
+not_removed None number f e = let clash : Err Unknown ≡ Ok Removed = e in cc
+not_removed (Some kept) number f e = by (nat_lt number (first_number kept)) (number == first_number kept) refl (slice_get kept.replies 0) refl e
+  where
+    by : (less same : Bool) → (number == first_number kept) ≡ same → (first : Option Reply) → slice_get kept.replies 0 ≡ first
+        → (if less then Ok Already else (if same && is_some (slice_get kept.replies 0) then Ok Removed else Err (Ahead (first_number kept)))) ≡ Ok Removed → ⊥
+    by true same q first g h = cc
+    by false false q first g h = cc
+    by false true q None g h =
+        let clash : Err (Ahead (first_number kept)) ≡ Ok Removed = sym (ap (λ o. if is_some o then Ok Removed else Err (Ahead (first_number kept))) g) ∙ h in
+        cc
+    by false true q (Some reply) g h =
+        let number_is : number ≡ first_number kept = eqb-true number (first_number kept) q in
+        let first_is : first_number kept ≡ reply.number = ap (λ o. option_map_or (λ (r : Reply). r.number) o kept.next) g in
+        false≢true (sym f ∙ (ap (is_first_of number) g ∙ eq-eqb reply.number number (sym (number_is ∙ first_is))))
+
+-- no fault is answered
+no_fault : (outputs : Option TerminalReplies) (number : ℕ) (fault : ControlFault) → ack_by outputs number ≡ Err (Fault fault) → ⊥
+no_fault None number fault e = let clash : Err Unknown ≡ Err (Fault fault) = e in cc
+no_fault (Some kept) number fault e = by (nat_lt number (first_number kept)) ((number == first_number kept) && is_some (slice_get kept.replies 0)) e
+  where
+    by : (less same : Bool) → (if less then Ok Already else (if same then Ok Removed else Err (Ahead (first_number kept)))) ≡ Err (Fault fault) → ⊥
+    by true same h = cc
+    by false true h = cc
+    by false false h = cc
+
+pub declined_told : (old : TablesState) (terminal : List ℕ) (number room : ℕ) (told : List ℕ) (answer : Result Acked AckRefused) → removes_by (output_at old.outputs terminal) number ≡ false
+    → answer ≡ ack_by (output_at old.outputs terminal) number → TellsAcknowledged old terminal room told told answer
+declined_told old terminal number room told (Ok Removed) none e = absurd (not_removed (output_at old.outputs terminal) number none (sym e))
+declined_told old terminal number room told (Ok Already) none e = refl
+declined_told old terminal number room told (Err Unknown) none e = refl
+declined_told old terminal number room told (Err (Ahead first)) none e = refl
+declined_told old terminal number room told (Err (Fault fault)) none e = no_fault (output_at old.outputs terminal) number fault (sym e)
+
+pub removed_told : (old : TablesState) (terminal : List ℕ) (number room : ℕ) (told now : List ℕ) (answer : Result Acked AckRefused) → removes_by (output_at old.outputs terminal) number ≡ true
+    → answer ≡ ack_by (output_at old.outputs terminal) number → Tells 0 room (Acknowledges terminal) old told now → TellsAcknowledged old terminal room told now answer
+removed_told old terminal number room told now answer removes e t =
+    subst (TellsAcknowledged old terminal room told now) (sym (e ∙ (removes_so (output_at old.outputs terminal) number removes).0)) t

@@ -1,20 +1,33 @@
 -- What the steps tell.
-use Rattle.std.specs.Prelude.{◌≡◌, ⊤, ℕ, ◌<◌, ◌≤◌, List, ◌++◌, length}
+use Rattle.std.specs.Prelude.{◌≡◌, ⊤, ℕ, ◌<◌, ◌≤◌, ◌==◌, Bool, false, List, ◌++◌, length, slice_get, Option, Some, None, Result, Ok, Err}
+use Rattle.std.specs.List.{AllByRecursion}
+use Rattle.log_records.specs.Spelling.{IsRecord}
 use Rattle.model_machine.specs.declared.lasting.CodeSetting.{CodeSetting}
 use Rattle.model_machine.specs.Lasting.{KeptInput, LastingStep}
-use Rattle.model_machine.specs.Lasting.LastingStep.{Accepts}
-use Rattle.step_records.specs.Records.{step_bytes}
+use Rattle.model_machine.specs.Lasting.LastingStep.{Accepts, Acknowledges}
+use Rattle.model_machine.specs.Machine.{output_at}
+use Rattle.model_machine.specs.Steps.{ack_by}
+use Rattle.model_machine.specs.declared.entry.Acked.{Acked}
+use Rattle.model_machine.specs.declared.entry.Acked.TheVariants.{Removed, Already}
+use Rattle.model_machine.specs.declared.entry.AckRefused.{AckRefused}
+use Rattle.model_machine.specs.declared.entry.AckRefused.TheVariants.{Unknown, Ahead, Fault}
+use Rattle.model_queues.specs.declared.replies.TerminalReplies.{TerminalReplies}
+use Rattle.tm_types.specs.declared.message.Reply.{Reply}
+use Rattle.step_records.specs.Records.{step_bytes, step_records}
 use Rattle.lasting_state.specs.declared.tables.Enqueued.{Enqueued}
 use Rattle.lasting_state.specs.declared.tables.Enqueued.TheVariants.{New, Full}
 use Rattle.lasting_state.specs.Tables.{TablesState, lasting_of, needs}
 
 -- These bytes are those of the records of a step in this state, whatever the settings of the codes are.
-abbrev pub AreBytesOf : ℕ → LastingStep → TablesState → List ℕ → Type 0
-AreBytesOf unit step old bytes = (settings : List CodeSetting) → bytes ≡ step_bytes unit step (lasting_of settings old)
+pub record AreBytesOf (unit : ℕ) (step : LastingStep) (old : TablesState) (bytes : List ℕ) : Type 0 where
+  pub are : (settings : List CodeSetting) → bytes ≡ step_bytes unit step (lasting_of settings old)
+  pub valid : (settings : List CodeSetting) → AllByRecursion IsRecord (step_records unit step (lasting_of settings old))
 
--- The records of a step in this state were appended, whatever the settings of the codes are. They fit the room.
+-- The records of a step in this state were appended, whatever the settings of the codes are. Each is one by the ranges of its
+-- fields, and they fit the room.
 pub record Tells (unit room : ℕ) (step : LastingStep) (old : TablesState) (before after : List ℕ) : Type 0 where
   pub told : (settings : List CodeSetting) → after ≡ before ++ step_bytes unit step (lasting_of settings old)
+  pub valid : (settings : List CodeSetting) → AllByRecursion IsRecord (step_records unit step (lasting_of settings old))
   pub fits : (settings : List CodeSetting) → length (step_bytes unit step (lasting_of settings old)) ≤ room
 
 -- the records of a step in this state are longer than the room
@@ -35,3 +48,27 @@ IsRefused (Full needed limit) = ⊤
 pub record WouldTell (old : TablesState) (terminal : List ℕ) (number : ℕ) (kept : KeptInput) (busy room : ℕ) : Type 0 where
   pub fits : needs old kept.segments busy ≤ old.queues.limit
   pub longer : IsLonger 0 room (Accepts terminal number kept) old
+
+-- ---- acknowledgements
+
+abbrev pub is_first_of : ℕ → Option Reply → Bool
+is_first_of number (Some reply) = reply.number == number
+is_first_of number None = false
+
+-- whether this number is that of the first reply that is kept
+abbrev pub removes_by : Option TerminalReplies → ℕ → Bool
+removes_by (Some kept) number = is_first_of number (slice_get kept.replies 0)
+removes_by None number = false
+
+-- a reply that is removed is told, and nothing else is; a fault isn't answered
+abbrev pub TellsAcknowledged : TablesState → List ℕ → ℕ → List ℕ → List ℕ → Result Acked AckRefused → Type 0
+TellsAcknowledged old terminal room before after (Ok Removed) = Tells 0 room (Acknowledges terminal) old before after
+TellsAcknowledged old terminal room before after (Ok Already) = after ≡ before
+TellsAcknowledged old terminal room before after (Err Unknown) = after ≡ before
+TellsAcknowledged old terminal room before after (Err (Ahead first)) = after ≡ before
+TellsAcknowledged old terminal room before after (Err (Fault fault)) = ⊥
+
+-- a reply that would be removed has a record that is longer than the room
+pub record WouldAcknowledge (old : TablesState) (terminal : List ℕ) (number room : ℕ) : Type 0 where
+  pub removes : ack_by (output_at old.outputs terminal) number ≡ Ok Removed
+  pub longer : IsLonger 0 room (Acknowledges terminal) old

@@ -15,6 +15,7 @@ mod abend;
 mod conversing;
 mod databases;
 mod limits;
+mod opening;
 mod sending;
 mod settings;
 mod shown;

@@ -3,6 +3,7 @@ ghost use Rattle.std.specs.Prelude.{◌≡◌, ◌<◌, ◌^◌, [], IfOk, OnOk,
 ghost use Rattle.std.specs.Borrow.{sem};
 ghost use Rattle.model_queues.specs.Queue.{AreInOrder, IsNewId, message_at, queued_at};
 ghost use Rattle.model_machine.specs.Machine.{output_at, empty_state, first_setting, terminal_place};
+ghost use Rattle.model_machine.specs.Steps.{ack_by};
 ghost use Rattle.model_machine.specs.Lasting.{abend_outputs, discarded_pad};
 ghost use Rattle.model_machine.specs.Lasting.LastingStep.{Completes, Discards};
 ghost use Rattle.model_enqueue.specs.Table.{empty_table};
@@ -21,7 +22,7 @@ use crate::settings::first_settings;
 use crate::terminals::{fresh_states, note_input};
 use conversation::{Conversations, without_conversations};
 use model_conversation::PadChange;
-use model_machine::{AckRefused, Acked, ControlFault, Lasting, TerminalState};
+use model_machine::{AckRefused, Acked, Lasting, TerminalState};
 use model_message::EndedMessage;
 use msg_queues::{QueueRefused, Queues};
 use out_queues::{AckAhead, Acked as OutputAcked, Outputs, fresh_terminals};
@@ -314,16 +315,18 @@ impl Tables {
         }
     }
 
-    /// Takes an acknowledgement, or says why not. A fault, which changes nothing, comes only where the
-    /// count of steps would pass its limit.
-    pub fn acknowledge(&mut self, terminal: &Name, number: u64) -> Result<Acked, AckRefused>
-        ensures { IsAcknowledged self.old self.new terminal.now number result }
+    /// Takes an acknowledgement, or says why not, and tells nothing.
+    pub(crate) fn take_acknowledgement(
+        &mut self,
+        terminal: &Name,
+        number: u64,
+    ) -> Result<Acked, AckRefused>
+        requires { self.old.steps < 2 ^ 60 }
+        ensures answer { result ≡ ack_by (output_at self.old.outputs terminal.now) number }
+        ensures state { IsAcknowledged self.old self.new terminal.now number result }
     {
         if self.outputs.terminal(terminal).is_none() {
             return Err(AckRefused::Unknown);
-        }
-        if self.steps >= COUNT_LIMIT {
-            return Err(AckRefused::Fault(ControlFault::Memory));
         }
         match self.outputs.acknowledge(terminal, number) {
             Ok(OutputAcked::Removed) => {

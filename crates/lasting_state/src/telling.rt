@@ -1,11 +1,12 @@
 //! Lasting steps that are told in records.
 //!
 //! What would be told is spelled before anything is changed, and so is looked at whether it fits.
-ghost use Rattle.std.specs.Prelude.{◌≡◌, ◌<◌, ◌≤◌, ◌++◌, IfOk, IfErr, IfSome, OnOk, OnErr, IsSome, IsSomeAnd, Some, List, length};
+ghost use Rattle.std.specs.Prelude.{◌≡◌, ◌<◌, ◌≤◌, ◌^◌, ◌++◌, true, IfOk, IfErr, IfSome, OnOk, OnErr, IsSome, IsSomeAnd, Some, List, length, slice_get};
+ghost use Rattle.std.specs.Option.{option_copied};
 ghost use Rattle.model_queues.specs.Queue.{IsNewId, message_at, queued_at};
 ghost use Rattle.model_queues.specs.Outputs.{next_of};
 ghost use Rattle.model_machine.specs.declared.lasting.CodeSetting.{CodeSetting};
-ghost use Rattle.model_machine.specs.Machine.{terminal_place};
+ghost use Rattle.model_machine.specs.Machine.{output_at, terminal_place};
 ghost use Rattle.model_machine.specs.Lasting.{abend_outputs, discarded_pad};
 ghost use Rattle.model_machine.specs.Lasting.LastingStep.{Accepts, Completes, Discards};
 ghost use Rattle.log_records.specs.Spelling.{IsAbend, IsCount};
@@ -14,20 +15,23 @@ ghost use Rattle.program_rows.specs.Answering.{IsCommitted, IsGivenUp};
 ghost use Rattle.step_records.specs.Records.{step_bytes};
 ghost use Rattle.step_telling.specs.Ranges.{HaveCounts, HasShortPad};
 ghost use Rattle.step_telling.specs.Untold.{WhereFull};
-ghost use Rattle.lasting_state.specs.Tables.{lasting_of, needs, Applies, IsEnqueued, IsClosed};
-ghost use Rattle.lasting_state.specs.Telling.{AreBytesOf, IsLonger, IsRefused, Tells, TellsInput, WouldTell};
+ghost use Rattle.lasting_state.specs.Tables.{lasting_of, needs, Applies, IsAcknowledged, IsEnqueued, IsClosed};
+ghost use Rattle.lasting_state.specs.Telling.{AreBytesOf, IsLonger, IsRefused, Tells, TellsAcknowledged, TellsInput, WouldAcknowledge, WouldTell, is_first_of, removes_by};
 
 use crate::conversing::KeptInput;
+use crate::limits::COUNT_LIMIT;
 use crate::sending::bytes_of;
 use crate::tables::{Enqueued, Tables};
 use log_records::Untold;
 use model_conversation::PadChange;
+use model_machine::{AckRefused, Acked};
 use model_message::EndedMessage;
+use model_queues::TerminalReplies;
 use msg_queues::SLOT_ROOM;
 use out_queues::Outputs;
 use std::alloc::Global;
 use std::collections::VecDeque;
-use step_telling::{completion_bytes, discarding_bytes, input_bytes, tell};
+use step_telling::{acknowledged_bytes, completion_bytes, discarding_bytes, input_bytes, tell};
 use tm_types::{AbendCode, Memory, Name};
 
 impl Tables {
@@ -159,6 +163,55 @@ impl Tables {
             &kept.segments,
         )?;
         Ok(bytes)
+    }
+
+    /// Takes an acknowledgement, or says why not. The record of a reply that is removed, of at most `room` bytes, is appended.
+    /// After an Err nothing has changed; `Memory` is answered too where the count of steps would pass its limit.
+    pub fn acknowledge(
+        &mut self,
+        alloc: Global,
+        terminal: &Name,
+        number: u64,
+        room: usize,
+        told: &mut Vec<u8>,
+    ) -> Result<Result<Acked, AckRefused>, Untold>
+        ensures state { IfOk result (IsAcknowledged self.old self.new terminal.now number) }
+        ensures told { IfOk result (TellsAcknowledged self.old terminal.now room told.old.items told.new.items) }
+        ensures err { OnErr result (self.new ≡ self.old) }
+        ensures untold { OnErr result (told.new.items ≡ told.old.items) }
+        ensures full { IfErr result (WhereFull (WouldAcknowledge self.old terminal.now number room)) }
+    {
+        if self.steps >= COUNT_LIMIT {
+            return Err(Untold::Memory);
+        }
+        if removes(self.outputs.terminal(terminal), number) {
+            return self.remove(alloc, terminal, number, room, told);
+        }
+        Ok(self.take_acknowledgement(terminal, number))
+    }
+
+    /// Takes the acknowledgement of the first reply that is kept, and tells it.
+    fn remove(
+        &mut self,
+        alloc: Global,
+        terminal: &Name,
+        number: u64,
+        room: usize,
+        told: &mut Vec<u8>,
+    ) -> Result<Result<Acked, AckRefused>, Untold>
+        requires steps { self.old.steps < 2 ^ 60 }
+        requires removes { removes_by (output_at self.old.outputs terminal.now) number ≡ true }
+        ensures state { IfOk result (IsAcknowledged self.old self.new terminal.now number) }
+        ensures told { IfOk result (TellsAcknowledged self.old terminal.now room told.old.items told.new.items) }
+        ensures err { OnErr result (self.new ≡ self.old) }
+        ensures untold { OnErr result (told.new.items ≡ told.old.items) }
+        ensures full { IfErr result (WhereFull (WouldAcknowledge self.old terminal.now number room)) }
+    {
+        let Ok(spelled) = acknowledged_bytes(alloc, terminal, number) else {
+            return Err(Untold::Memory);
+        };
+        tell(told, &spelled, room)?;
+        Ok(self.take_acknowledgement(terminal, number))
     }
 
     /// Completes the message of this id in a region: it goes, its outputs are sent in their order, this
@@ -305,5 +358,24 @@ fn next_number(outputs: &Outputs, name: &Name) -> u64
     match outputs.terminal(name) {
         Some(kept) => kept.next,
         None => 1,
+    }
+}
+
+/// Whether this number is that of the first reply that is kept.
+fn removes(kept: Option<&TerminalReplies>, number: u64) -> bool
+    ensures { result ≡ removes_by (option_copied kept.entry) number }
+{
+    match kept {
+        Some(kept) => is_first(kept, number),
+        None => false,
+    }
+}
+
+fn is_first(kept: &TerminalReplies, number: u64) -> bool
+    ensures { result ≡ is_first_of number (slice_get kept.now.replies 0) }
+{
+    match kept.replies.items.front() {
+        Some(reply) => reply.number == number,
+        None => false,
     }
 }

@@ -1,2 +1,3 @@
 mod Invariant
 mod Rings
+pub mod Acknowledged

@@ -162,7 +162,7 @@ impl Control {
         if self.history.reserve(1).is_err() {
             return Err(AckRefused::Fault(ControlFault::Memory));
         }
-        let answer = self.parts.acknowledge(terminal, number);
+        let answer = acknowledge(&mut self.parts, terminal, number, &mut self.told);
         note(&mut self.history, ack_entry(terminal, number, &answer));
         answer
     }
@@ -202,6 +202,23 @@ fn accept(
     match parts.accept(terminal, number, segments, usize::MAX, told) {
         Ok(answer) => answer,
         Err(_) => Err(InputRefused::Fault(ControlFault::Memory)),
+    }
+}
+
+/// Takes an acknowledgement, as `accept`.
+#[tactic(auto, using(crate::proofs::Acknowledged::answers_ack))]
+fn acknowledge(
+    parts: &mut Parts,
+    terminal: &Name,
+    number: u64,
+    told: &mut Vec<u8>,
+) -> Result<Acked, AckRefused>
+    ensures { Answers parts.old parts.new (AckedEntry terminal.now number result) }
+{
+    told.clear();
+    match parts.acknowledge(terminal, number, usize::MAX, told) {
+        Ok(answer) => answer,
+        Err(_) => Err(AckRefused::Fault(ControlFault::Memory)),
     }
 }
 

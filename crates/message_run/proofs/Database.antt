@@ -29,7 +29,7 @@ use Rattle.program_rows.specs.declared.answer.Answered.{Answered as DataAnswered
 use Rattle.system_types.specs.Valid.{IsDatabase}
 use Rattle.log_records.specs.declared.record.Record.{Record}
 use Rattle.log_records.specs.declared.untold.Untold.{Untold}
-use Rattle.change_records.specs.Told.{ChangesTold}
+use Rattle.program_rows.specs.OnSlots.{slots_in, CallsSo}
 use Rattle.program_rows.specs.Telling.{call_told, Tells, IsUntold}
 use Rattle.message_run.specs.Telling.{reach_told, TellsNext}
 use Rattle.message_run.proofs.Calls.{all_at}
@@ -171,10 +171,10 @@ module _ (system : System) (region : ℕ) (before : DatabasesState) (run : RunSt
       ∙ ap (λ (p : Position). call_told unit region number dbd made p before) at_is)
 
   pub tells_so : (unit room : ℕ) (after : DatabasesState) (old now : List ℕ) → Tells (call_told unit region number dbd made at before) room old now
-      → ChangesTold unit before.stores after.stores (call_told unit region number dbd made at before)
-      → TellsNext unit room before after old now (reach_told unit region before reaches (data_of region before run.positions) call)
-  tells_so unit room after old now tells changes =
-      subst (λ (rs : List Record). TellsNext unit room before after old now rs) (tells_are unit) (record { tells = tells; changes = changes })
+      → CallsSo unit region (slots_in before) (slots_in after) (call_told unit region number dbd made at before)
+      → TellsNext unit room region before after old now (reach_told unit region before reaches (data_of region before run.positions) call)
+  tells_so unit room after old now tells slots =
+      subst (λ (rs : List Record). TellsNext unit room region before after old now rs) (tells_are unit) (record { tells = tells; slots = slots })
 
   pub untold_so : (unit room : ℕ) (error : Untold) → IsUntold (call_told unit region number dbd made at before) room error
       → IsUntold (reach_told unit region before reaches (data_of region before run.positions) call) room error

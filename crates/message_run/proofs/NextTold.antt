@@ -1,6 +1,6 @@
 -- What a step of the work tells, by what its script needs next.
 use Rattle.std.proofs.Common.{◌≡◌, ℕ, ◌≤◌, ◌++◌, ◌∷◌, [], List, map, suc, refl, sym, ◌∙◌, ap, subst, Bool, true, false, arith}
-use Rattle.std.specs.Prelude.{Option, Some, Result, Ok, Err, IfOk, OnErr, ◌==◌, ◌&&◌, if◌then◌else◌, slice_get, replicate}
+use Rattle.std.specs.Prelude.{Option, Some, None, Result, Ok, Err, IfOk, OnErr, ◌==◌, ◌&&◌, if◌then◌else◌, slice_get, replicate}
 use Rattle.std.specs.List.{AllByRecursion}
 use Rattle.tm_types.specs.declared.dbd.Dbd.{Dbd}
 use Rattle.tm_types.specs.declared.function.Function.{Function}
@@ -23,9 +23,14 @@ use Rattle.model_system.specs.System.{System}
 use Rattle.log_records.specs.declared.record.Record.{Record}
 use Rattle.log_records.specs.declared.untold.Untold.{Untold}
 use Rattle.log_records.specs.declared.untold.Untold.TheVariants.{Memory, Full}
-use Rattle.change_records.specs.Told.{ChangesTold}
 use Rattle.program_rows.specs.State.{DatabasesState, data_of, dbds_of}
-use Rattle.program_rows.specs.Telling.{Tells, IsUntold}
+use Rattle.program_rows.specs.Answering.{told_blocked}
+use Rattle.program_rows.specs.Telling.{spelled, unless_stopped, Tells, IsUntold}
+use Rattle.tm_types.specs.declared.abend.AbendCode.{AbendCode}
+use Rattle.tm_types.specs.declared.resource.Resource.{Resource}
+use Rattle.model_enqueue.specs.declared.request.Request.{Request}
+use Rattle.program_rows.specs.OnSlots.{slots_in}
+use Rattle.program_rows.proofs.Slotted.{calls_none}
 use Rattle.message_run.specs.RunState.{RunState}
 use Rattle.message_run.specs.Ahead.{IsAhead}
 use Rattle.message_run.specs.Telling.{message_told, reach_told, need_told, next_told, TellsNext, TellsOn, IsUntoldOn}
@@ -43,16 +48,32 @@ append_nil [] = refl
 append_nil (x ∷ xs) = ap (λ ys. x ∷ ys) (append_nil xs)
 
 -- nothing is told, and no slot has changed
-pub tells_nothing : (unit room : ℕ) (before after : DatabasesState) (xs : List ℕ) → after.stores ≡ before.stores → TellsNext unit room before after xs xs []
-tells_nothing unit room before after xs e =
+pub tells_nothing : (unit room region : ℕ) (before after : DatabasesState) (xs : List ℕ) → slots_in after ≡ slots_in before → TellsNext unit room region before after xs xs []
+tells_nothing unit room region before after xs e =
     record {
       tells = record { told = sym (append_nil xs); valid = tt; fits = omega arith };
-      changes = record {
-        each = tt;
-        others = λ database slot least q. ap (Rattle.change_records.specs.Images.image_at database slot) e;
-        databases = ap (map (λ (s : Stored). s.dbd)) e;
-      };
+      slots = calls_none unit region (slots_in before) (slots_in after) [] refl e;
     }
+
+-- a call that leads to an abend tells nothing
+none_stopped : (blocked : Option (Request × ℕ)) (code : AbendCode) (records : List Record) → unless_stopped blocked (Some code) records ≡ []
+none_stopped None code records = refl
+none_stopped (Some blocked) code records = refl
+
+tells_none : (records : List Record) (room : ℕ) (told now : List ℕ) → records ≡ [] → Tells records room told now → now ≡ told
+tells_none records room told now none t = t.told ∙ (ap (λ rs. told ++ spelled rs) none ∙ append_nil told)
+
+pub quiet_abend : (blocked : Option (Request × ℕ)) (abend : Option AbendCode) (code : AbendCode) (records : List Record) (room : ℕ) (told now : List ℕ) → abend ≡ Some code
+    → Tells (unless_stopped blocked abend records) room told now → now ≡ told
+quiet_abend blocked abend code records room told now e t =
+    tells_none (unless_stopped blocked abend records) room told now (ap (λ a. unless_stopped blocked a records) e ∙ none_stopped blocked code records) t
+
+-- and so does one that is blocked
+pub quiet_blocked : (blocked : Option (Request × ℕ)) (at : Resource × ℕ) (abend : Option AbendCode) (records : List Record) (room : ℕ) (told now : List ℕ) → Some at ≡ told_blocked blocked
+    → Tells (unless_stopped blocked abend records) room told now → now ≡ told
+quiet_blocked None at abend records room told now e t = let clash : Some at ≡ None = e in absurd (cc)
+quiet_blocked (Some blocked) at None records room told now e t = tells_none [] room told now refl t
+quiet_blocked (Some blocked) at (Some code) records room told now e t = tells_none [] room told now refl t
 
 -- a further GU tells nothing
 by_pcb : (unit region : ℕ) (databases : DatabasesState) (dbds : List Dbd) (pcbs : List Pcb) (d : Data) (call : CallText) (first : Bool) → first ≡ true → is_get_unique call.function ≡ true
@@ -109,7 +130,7 @@ module _ (unit room : ℕ) (job : Job) (region : ℕ) (databases : DatabasesStat
   -- a script that needs no call tells nothing
   pub silent_on : (xs : List ℕ) → ((trial : Trial) → need_told unit region databases job trial need ≡ []) → TellsOn unit room job region databases databases run xs xs
   silent_on xs none given ahead =
-      subst (λ rs. TellsNext unit room databases databases xs xs rs) (sym (need_is given ahead ∙ none ahead.trial)) (tells_nothing unit room databases databases xs refl)
+      subst (λ rs. TellsNext unit room region databases databases xs xs rs) (sym (need_is given ahead ∙ none ahead.trial)) (tells_nothing unit room region databases databases xs refl)
 
   module _ (call : CallText) (e : need ≡ Call call) where
     call_is : (given : Given) (ahead : IsAhead job given region databases run)
@@ -121,14 +142,14 @@ module _ (unit room : ℕ) (job : Job) (region : ℕ) (databases : DatabasesStat
 
     pub sync_on : (xs : List ℕ) → is_sync run.work call ≡ true → TellsOn unit room job region databases databases run xs xs
     sync_on xs further given ahead =
-        subst (λ rs. TellsNext unit room databases databases xs xs rs)
+        subst (λ rs. TellsNext unit room region databases databases xs xs rs)
         (sym (call_is given ahead ∙ sync_tells unit region databases job.system.databases job.pcbs run.work (data_of region databases run.positions) call further))
-        (tells_nothing unit room databases databases xs refl)
+        (tells_nothing unit room region databases databases xs refl)
 
     pub told_on : (after : DatabasesState) (old now : List ℕ)
-        → TellsNext unit room databases after old now (reach_told unit region databases (reached job.system.databases job.pcbs call.pcb) (data_of region databases run.positions) call)
+        → TellsNext unit room region databases after old now (reach_told unit region databases (reached job.system.databases job.pcbs call.pcb) (data_of region databases run.positions) call)
         → TellsOn unit room job region databases after run old now
-    told_on after old now t given ahead = subst (λ rs. TellsNext unit room databases after old now rs) (sym (call_is given ahead)) t
+    told_on after old now t given ahead = subst (λ rs. TellsNext unit room region databases after old now rs) (sym (call_is given ahead)) t
 
     pub untold_on : (error : Untold) → IsUntold (reach_told unit region databases (reached job.system.databases job.pcbs call.pcb) (data_of region databases run.positions) call) room error
         → IsUntoldOn unit room job region databases run error

@@ -114,11 +114,11 @@ GoesOn job region before after old new advanced =
 abbrev pub StaysAhead : Job → ℕ → DatabasesState → RunState → RunState → Type 0
 StaysAhead job region databases old new = (given : Given) → IsAhead job given region databases old → IsAhead job given region databases new
 
--- The end of the work leaves the databases as they are, and a call that waits leaves what its region sees.
+-- The end of the work leaves the databases as they are, and a call that waits leaves all but what regions ask for.
 abbrev pub StaysUnlessCalled : DatabasesState → DatabasesState → Advanced → Type 0
 StaysUnlessCalled before after (Called function pcb status) = ⊤
 StaysUnlessCalled before after (Ended ending) = after ≡ before
-StaysUnlessCalled before after (Waits resource by) = after.regions ≡ before.regions
+StaysUnlessCalled before after (Waits resource by) = after ≡ record before { table = after.table }
 
 -- A region's step leaves what is committed, and what other regions see.
 pub record StayOthers (region : ℕ) (before after : DatabasesState) : Type 0 where

@@ -69,11 +69,17 @@ ComesTo region requests outcome before after old new (Abended abend) =
 ComesTo region requests outcome before after old new (Waits resource by) =
     AreBlocked region requests before after resource by × (new ≡ old)
 
--- A call that leads to an abend leaves the databases as they are, and one that waits leaves what its region sees.
+-- A call that leads to an abend leaves the databases as they are, and one that waits leaves all but what regions ask for.
 abbrev pub StaysUnlessAnswered : DatabasesState → DatabasesState → CallEnd → Type 0
 StaysUnlessAnswered before after (Answered status) = ⊤
 StaysUnlessAnswered before after (Abended abend) = after ≡ before
-StaysUnlessAnswered before after (Waits resource by) = after.regions ≡ before.regions
+StaysUnlessAnswered before after (Waits resource by) = after ≡ record before { table = after.table }
+
+-- only a call that is answered tells anything
+abbrev pub IsQuietUnlessAnswered : List ℕ → List ℕ → CallEnd → Type 0
+IsQuietUnlessAnswered told now (Answered status) = ⊤
+IsQuietUnlessAnswered told now (Abended abend) = now ≡ told
+IsQuietUnlessAnswered told now (Waits resource by) = now ≡ told
 
 -- The script was answered with this, and told its status, and the message's work is this one.
 pub record Serves (answer : Answer) (work : MessageWork) (old new : RunState) (status : Status) : Type 0 where

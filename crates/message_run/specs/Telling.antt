@@ -1,5 +1,5 @@
 -- What a step of the work on a message tells of the slots that it changes in the databases.
-use Rattle.std.specs.Prelude.{ℕ, List, []}
+use Rattle.std.specs.Prelude.{◌≡◌, ⊤, ℕ, List, []}
 use Rattle.tm_types.specs.declared.function.Function.{Function}
 use Rattle.tm_types.specs.declared.function.Function.TheVariants.{ROLB}
 use Rattle.model_script.specs.declared.need.CallText.{CallText}
@@ -11,9 +11,11 @@ use Rattle.model_machine.specs.Trial.{Given, Reached, Trial, reached, db_call, t
 use Rattle.model_machine.specs.Trial.Reached.{Messages, Rows, Nothing}
 use Rattle.log_records.specs.declared.record.Record.{Record}
 use Rattle.log_records.specs.declared.untold.Untold.{Untold}
-use Rattle.change_records.specs.Told.{ChangesTold}
 use Rattle.program_rows.specs.State.{DatabasesState}
+use Rattle.program_rows.specs.OnSlots.{slots_in, CallsSo}
 use Rattle.program_rows.specs.Telling.{back_told, call_told, Tells, IsUntold}
+use Rattle.message_run.specs.declared.run.Advanced.{Advanced}
+use Rattle.message_run.specs.declared.run.Advanced.TheVariants.{Called, Ended, Waits}
 use Rattle.message_run.specs.RunState.{RunState}
 use Rattle.message_run.specs.Ahead.{IsAhead}
 
@@ -39,13 +41,19 @@ abbrev pub next_told : ℕ → ℕ → DatabasesState → Job → Trial → List
 next_told unit region databases job trial = need_told unit region databases job trial (trial_need job trial)
 
 -- A region's step told what it made of the slots, whatever the message on which the work has come so far.
-pub record TellsNext (unit room : ℕ) (before after : DatabasesState) (old new : List ℕ) (records : List Record) : Type 0 where
+pub record TellsNext (unit room region : ℕ) (before after : DatabasesState) (old new : List ℕ) (records : List Record) : Type 0 where
   pub tells : Tells records room old new
-  pub changes : ChangesTold unit before.stores after.stores records
+  pub slots : CallsSo unit region (slots_in before) (slots_in after) records
 
 abbrev pub TellsOn : ℕ → ℕ → Job → ℕ → DatabasesState → DatabasesState → RunState → List ℕ → List ℕ → Type 0
 TellsOn unit room job region before after run old new =
-    (given : Given) (ahead : IsAhead job given region before run) → TellsNext unit room before after old new (next_told unit region before job ahead.trial)
+    (given : Given) (ahead : IsAhead job given region before run) → TellsNext unit room region before after old new (next_told unit region before job ahead.trial)
+
+-- only a call that is made tells anything
+abbrev pub IsQuietUnlessCalled : List ℕ → List ℕ → Advanced → Type 0
+IsQuietUnlessCalled told now (Called function pcb status) = ⊤
+IsQuietUnlessCalled told now (Ended ending) = now ≡ told
+IsQuietUnlessCalled told now (Waits resource by) = now ≡ told
 
 -- Its records are longer than the room for them, where that is the reason.
 abbrev pub IsUntoldOn : ℕ → ℕ → Job → ℕ → DatabasesState → RunState → Untold → Type 0

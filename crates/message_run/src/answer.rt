@@ -1,5 +1,5 @@
 //! How the calls of a script are answered.
-ghost use Rattle.change_records.specs.Told.{ChangesTold};
+ghost use Rattle.program_rows.specs.OnSlots.{slots_in, CallsSo};
 ghost use Rattle.std.specs.Prelude.{◌≡◌, ◌≤◌, ◌-◌, ℕ, false, Some, IfOk, IfErr, IfSome, IsOk, IsSome, OnOk, OnErr, length, replicate, slice_get};
 ghost use Rattle.std.specs.Option.{option_copied};
 ghost use Rattle.tm_types.specs.Segment.{IsSegmentText};
@@ -17,7 +17,7 @@ ghost use Rattle.message_run.specs.Ahead.{StayOthers};
 ghost use Rattle.message_run.specs.Telling.{reach_told, TellsNext};
 ghost use Rattle.program_rows.specs.Telling.{back_told, IsUntold};
 ghost use Rattle.std.specs.List.{AllByRecursion};
-ghost use Rattle.message_run.specs.Answering.{ComesTo, IsRolled, Serves, RollsBack, StaysUnlessAnswered, answered_machine, told_run, outcome_of, requests_by_run};
+ghost use Rattle.message_run.specs.Answering.{ComesTo, IsRolled, Serves, RollsBack, StaysUnlessAnswered, IsQuietUnlessAnswered, answered_machine, told_run, outcome_of, requests_by_run};
 ghost use Rattle.message_run.specs.declared.answer.CallEnd.TheVariants.{Answered as AnsweredWith};
 ghost use Rattle.message_run.specs.RunState.{AreStanding, IsCallBy, IsCallOf};
 
@@ -69,7 +69,8 @@ impl Run {
         ensures others { StayOthers region databases.old databases.new }
         ensures err { OnErr result (self.new ≡ self.old) }
         ensures kept { OnErr result (databases.new ≡ databases.old) }
-        ensures tells { OnOk result (TellsNext unit room databases.old databases.new told.old.items told.new.items (reach_told unit region databases.old (reached system.now.databases pcbs.now call.pcb) (data_of region databases.old self.old.positions) call)) }
+        ensures tells { OnOk result (TellsNext unit room region databases.old databases.new told.old.items told.new.items (reach_told unit region databases.old (reached system.now.databases pcbs.now call.pcb) (data_of region databases.old self.old.positions) call)) }
+        ensures quiet { IfOk result (IsQuietUnlessAnswered told.old.items told.new.items) }
         ensures untold { OnErr result (told.new.items ≡ told.old.items) }
         ensures full { IfErr result (IsUntold (reach_told unit region databases.old (reached system.now.databases pcbs.now call.pcb) (data_of region databases.old self.old.positions) call) room) }
     {
@@ -91,6 +92,7 @@ impl Run {
     }
 
     /// Does a call on PCB 0 or on an output PCB, and answers it.
+    #[tactic(auto, using(crate::proofs::NextTold::tells_nothing))]
     fn answer_message(
         &mut self,
         system: &System,
@@ -113,7 +115,8 @@ impl Run {
         ensures others { StayOthers region databases.old databases.new }
         ensures err { OnErr result (self.new ≡ self.old) }
         ensures kept { OnErr result (databases.new ≡ databases.old) }
-        ensures tells { OnOk result (TellsNext unit room databases.old databases.new told.old.items told.new.items (reach_told unit region databases.old (Messages) (data_of region databases.old self.old.positions) call.now)) }
+        ensures tells { OnOk result (TellsNext unit room region databases.old databases.new told.old.items told.new.items (reach_told unit region databases.old (Messages) (data_of region databases.old self.old.positions) call.now)) }
+        ensures quiet { IfOk result (IsQuietUnlessAnswered told.old.items told.new.items) }
         ensures untold { OnErr result (told.new.items ≡ told.old.items) }
         ensures full { IfErr result (IsUntold (reach_told unit region databases.old (Messages) (data_of region databases.old self.old.positions) call.now) room) }
     {
@@ -153,11 +156,12 @@ impl Run {
         requires region { IsRegionOf databases.old region }
         requires sectors { AllByRecursion (λ s. s.dbd.sectors ≤ 1) databases.old.stores }
         ensures ok { IfOk result (IsRolled region databases.old databases.new self.old self.new) }
-        ensures tells { OnOk result (TellsNext unit room databases.old databases.new told.old.items told.new.items (back_told unit region databases.old)) }
+        ensures tells { OnOk result (TellsNext unit room region databases.old databases.new told.old.items told.new.items (back_told unit region databases.old)) }
         ensures dbds { dbds_of databases.new ≡ dbds_of databases.old }
         ensures committed { databases.new.committed ≡ databases.old.committed }
         ensures err { OnErr result (self.new ≡ self.old) }
         ensures kept { OnErr result (databases.new ≡ databases.old) }
+        ensures quiet { IfOk result (IsQuietUnlessAnswered told.old.items told.new.items) }
         ensures untold { OnErr result (told.new.items ≡ told.old.items) }
         ensures full { IfErr result (IsUntold (back_told unit region databases.old) room) }
     {
@@ -272,7 +276,8 @@ impl Run {
         ensures others { StayOthers region databases.old databases.new }
         ensures err { OnErr result (self.new ≡ self.old) }
         ensures kept { OnErr result (databases.new ≡ databases.old) }
-        ensures tells { OnOk result (TellsNext unit room databases.old databases.new told.old.items told.new.items (reach_told unit region databases.old (reached_by system.now.databases (Some (Database number options))) (data_of region databases.old self.old.positions) call)) }
+        ensures tells { OnOk result (TellsNext unit room region databases.old databases.new told.old.items told.new.items (reach_told unit region databases.old (reached_by system.now.databases (Some (Database number options))) (data_of region databases.old self.old.positions) call)) }
+        ensures quiet { IfOk result (IsQuietUnlessAnswered told.old.items told.new.items) }
         ensures untold { OnErr result (told.new.items ≡ told.old.items) }
         ensures full { IfErr result (IsUntold (reach_told unit region databases.old (reached_by system.now.databases (Some (Database number options))) (data_of region databases.old self.old.positions) call) room) }
     {
@@ -338,7 +343,7 @@ fn rolled_back(status: Status, region: u32, databases: &mut Databases) -> CallEn
     ensures committed { databases.new.committed ≡ databases.old.committed }
     ensures dbds { dbds_of databases.new ≡ dbds_of databases.old }
     ensures table { databases.new.table ≡ waits_for_nothing region databases.old.table }
-    ensures changes { (unit : ℕ) → ChangesTold unit databases.old.stores databases.new.stores (back_told unit region databases.old) }
+    ensures slots { (unit : ℕ) → CallsSo unit region (slots_in databases.old) (slots_in databases.new) (back_told unit region databases.old) }
 {
     databases.back_out(region);
     answered(status, region, databases)

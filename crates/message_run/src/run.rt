@@ -11,7 +11,7 @@ ghost use Rattle.system_types.specs.Jobs.{lent_job};
 ghost use Rattle.system_types.specs.Valid.{IsServable};
 ghost use Rattle.message_run.specs.RunState.{AreStanding};
 ghost use Rattle.message_run.specs.Ahead.{given_with, IsStart, GoesOn, StaysAhead, StaysUnlessCalled, StayOthers};
-ghost use Rattle.message_run.specs.Telling.{TellsOn, IsUntoldOn};
+ghost use Rattle.message_run.specs.Telling.{TellsOn, IsQuietUnlessCalled, IsUntoldOn};
 
 use crate::answer::CallEnd;
 use io_pcb::{LentPad, Work};
@@ -128,6 +128,7 @@ impl Run {
         ensures kept { OnErr result (databases.new ≡ databases.old) }
         ensures ahead { OnErr result (StaysAhead (lent_job system.now job.now) region databases.old self.old self.new) }
         ensures tells { OnOk result (TellsOn unit room (lent_job system.now job.now) region databases.old databases.new self.old told.old.items told.new.items) }
+        ensures quiet { IfOk result (IsQuietUnlessCalled told.old.items told.new.items) }
         ensures untold { OnErr result (told.new.items ≡ told.old.items) }
         ensures full { IfErr result (IsUntoldOn unit room (lent_job system.now job.now) region databases.old self.old) }
     {

@@ -44,7 +44,7 @@ use Rattle.program_rows.specs.Calling.{Called}
 use Rattle.program_rows.specs.Telling.{call_told, changed_told, changed_touched, set_told, unless_stopped}
 use Rattle.change_records.specs.Images.{slots_at}
 use Rattle.log_records.specs.declared.record.Record.{Record}
-use Rattle.program_rows.specs.Open.{records_of, opened, regions_from, seen_by, HoldsAlone, AreUnits}
+use Rattle.program_rows.specs.Open.{records_of, slots_of, opened, regions_from, seen_by, HoldsAlone, AreUnits}
 use Rattle.program_rows.specs.Making.{seen, IsSame, WaitsAt, IsPut, TakesSlot, edit_told, kept_of}
 use Rattle.program_rows.specs.declared.answer.Answered as answer
 use Rattle.program_rows.specs.declared.answer.DataAnswer.{DataAnswer}
@@ -149,17 +149,17 @@ module _ (o : Opened) (h : AreUnits (records_of o.units.items) o.stores.stores o
 
   -- a call that waits
   pub waits : (a : DataAnswer) (new : Opened) → WaitsAt (map (request_of region number) (footprint dbd call at stored)) o.table a → records_of new.units.items ≡ records_of o.units.items
-      → new.stores.stores ≡ o.stores.stores → new.table ≡ after_asks region (map (request_of region number) (footprint dbd call at stored)) o.table → Called region number dbd call at (seen o) (seen new) a
-  waits (Answered a) new w u st t = absurd w
-  waits (Abend code) new w u st t = absurd w
-  waits (Blocked b) new w u st t =
+      → slots_of new.units.items ≡ slots_of o.units.items → new.stores.stores ≡ o.stores.stores → new.stores.changed ≡ o.stores.changed → new.table ≡ after_asks region (map (request_of region number) (footprint dbd call at stored)) o.table → Called region number dbd call at (seen o) (seen new) a
+  waits (Answered a) new w u sl st ch t = absurd w
+  waits (Abend code) new w u sl st ch t = absurd w
+  waits (Blocked b) new w u sl st ch t =
       record {
         blocked = sym w ∙ ap told_blocked same_asks.0;
         abend = tt;
         gives = tt;
         leaves = same_regions new u st;
         asks = t ∙ same_asks.1;
-        stays = tt;
+        stays = λ i. opened (u i) (sl i) (st i) (ch i) new.table;
         committed = same_committed new u st;
         dbds = ap (map (λ (x : Stored). x.dbd)) st;
       }
@@ -478,7 +478,7 @@ module _ (o : Opened) (h : AreUnits (records_of o.units.items) o.stores.stores o
           gives = tt;
           leaves = same_regions new same.units same.stores;
           asks = same.table;
-          stays = λ i. opened (same.units i) (same.slots i) (same.stores i) (same.table i);
+          stays = λ i. opened (same.units i) (same.slots i) (same.stores i) (same.changed i) (same.table i);
           committed = same_committed new same.units same.stores;
           dbds = ap (map (λ (x : Stored). x.dbd)) same.stores;
         }

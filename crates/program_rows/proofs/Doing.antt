@@ -61,15 +61,15 @@ module _ (o : Opened) (h : AreUnits (records_of o.units.items) o.stores.stores o
   module _ {E : Type 0} where
     -- a call that waits
     pub waited : (r : Result DataAnswer E) (requests : List Request) → requests ≡ map (request_of region number) (footprint dbd call at (rows_of_slots s.slots))
-        → records_of new.units.items ≡ records_of o.units.items → new.stores.stores ≡ o.stores.stores → IfOk r (WaitsAt requests o.table) → OnOk r (new.table ≡ after_asks region requests o.table) → IsKept new.table
+        → records_of new.units.items ≡ records_of o.units.items → slots_of new.units.items ≡ slots_of o.units.items → new.stores.stores ≡ o.stores.stores → new.stores.changed ≡ o.stores.changed → IfOk r (WaitsAt requests o.table) → OnOk r (new.table ≡ after_asks region requests o.table) → IsKept new.table
         → IfOk r (IsDone region number dbd call at o new)
-    waited (Err x) requests e u st w t kept = tt
-    waited (Ok (Answered a)) requests e u st w t kept = absurd w
-    waited (Ok (Abend code)) requests e u st w t kept = absurd w
-    waited (Ok (Blocked b)) requests e u st w t kept =
+    waited (Err x) requests e u sl st ch w t kept = tt
+    waited (Ok (Answered a)) requests e u sl st ch w t kept = absurd w
+    waited (Ok (Abend code)) requests e u sl st ch w t kept = absurd w
+    waited (Ok (Blocked b)) requests e u sl st ch w t kept =
         record {
           called = waits o h region number first last least dbd call at position ok s there same_dbd (Blocked b) new
-              (subst (λ qs. WaitsAt qs o.table (Blocked b)) (requests_are requests e) w) u st (t ∙ ap (λ qs. after_asks region qs o.table) (requests_are requests e));
+              (subst (λ qs. WaitsAt qs o.table (Blocked b)) (requests_are requests e) w) u sl st ch (t ∙ ap (λ qs. after_asks region qs o.table) (requests_are requests e));
           stands = tt;
           units = asked_units requests e u st t kept;
         }
@@ -138,13 +138,13 @@ module _ (o : Opened) (h : AreUnits (records_of o.units.items) o.stores.stores o
     pub read_done : (r : Result DataAnswer E) (asked : Asked) (p : Planned) → asked.region ≡ region → asked.number ≡ number
         → asked.requests.items ≡ map (request_of region number) (footprint dbd call at (rows_of_slots s.slots))
         → Plans dbd (rows_of_slots s.slots) (dli dbd call at (rows_of_slots s.slots)) p → IfSome p.area IsSegmentText → IsThere (rows_of_slots s.slots) p.edit → IsPosition dbd.types p.position
-        → p.edit ≡ None → records_of new.units.items ≡ records_of o.units.items → slots_of new.units.items ≡ slots_of o.units.items → new.stores.stores ≡ o.stores.stores → IfOk r (Reads asked.requests.items o.table p)
+        → p.edit ≡ None → records_of new.units.items ≡ records_of o.units.items → slots_of new.units.items ≡ slots_of o.units.items → new.stores.stores ≡ o.stores.stores → new.stores.changed ≡ o.stores.changed → IfOk r (Reads asked.requests.items o.table p)
         → OnOk r (new.table ≡ after_asks asked.region asked.requests.items o.table) → IsKept new.table
         → IfOk r (IsDone region number dbd call at o new)
-    read_done (Err x) asked p er en eq plans text exists stands none u sl st w t kept = tt
-    read_done (Ok (Abend code)) asked p er en eq plans text exists stands none u sl st w t kept = absurd w
-    read_done (Ok (Blocked b)) asked p er en eq plans text exists stands none u sl st w t kept =
-        waited (Ok (Blocked b)) asked.requests.items eq u st w (t ∙ ap (λ n. after_asks n asked.requests.items o.table) er) kept
-    read_done (Ok (Answered a)) asked p er en eq plans text exists stands none u sl st w t kept =
+    read_done (Err x) asked p er en eq plans text exists stands none u sl st ch w t kept = tt
+    read_done (Ok (Abend code)) asked p er en eq plans text exists stands none u sl st ch w t kept = absurd w
+    read_done (Ok (Blocked b)) asked p er en eq plans text exists stands none u sl st ch w t kept =
+        waited (Ok (Blocked b)) asked.requests.items eq u sl st ch w (t ∙ ap (λ n. after_asks n asked.requests.items o.table) er) kept
+    read_done (Ok (Answered a)) asked p er en eq plans text exists stands none u sl st ch w t kept =
         made (Ok (Answered a)) asked p er en eq w.free plans text exists stands
-        (record { status = w.status; area = w.area; position = w.position; edited = subst (IsEdited asked dbd o new) (sym none) (record { units = u; slots = sl; stores = st; asks = record { table = t; kept = kept } }) })
+        (record { status = w.status; area = w.area; position = w.position; edited = subst (IsEdited asked dbd o new) (sym none) (record { units = u; slots = sl; stores = st; changed = ch; asks = record { table = t; kept = kept } }) })

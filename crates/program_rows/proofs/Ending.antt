@@ -1,9 +1,9 @@
 -- The databases at their beginning, and when a region's changes are taken back or stay.
-use Rattle.std.proofs.Common.{◌≡◌, ◌≢◌, ℕ, ◌-◌, ◌≤◌, ◌<◌, List, [], ◌∷◌, length, map, refl, sym, ◌∙◌, ap, subst, Option, None, Some, set, get_or, zero, suc, arith, ⊎_elim}
-use Rattle.std.specs.List.{AllByRecursion, slice_get, IsDistinct}
+use Rattle.std.proofs.Common.{◌≡◌, ◌≢◌, ℕ, ◌-◌, ◌≤◌, ◌<◌, List, [], ◌∷◌, length, map, refl, sym, ◌∙◌, ap, subst, Option, None, Some, set, get_or, zero, suc, inr, arith, eqb, true, false, ⊎_elim}
+use Rattle.std.specs.List.{AllByRecursion, slice_get, list_any, IsDistinct}
 use Rattle.std.specs.List.Sorted.{IsStrictlySortedBy}
 use Rattle.std.specs.Prelude.{replicate}
-use Rattle.std.proofs.lemmas.Bool.{cases_eq}
+use Rattle.std.proofs.lemmas.Bool.{cases_eq, false≢true}
 use Rattle.std.proofs.lemmas.List.{length-set, length-map}
 use Rattle.tm_types.specs.declared.dbd.Dbd.{Dbd}
 use Rattle.tm_types.specs.SegTypes.{IsHierarchy}
@@ -11,22 +11,28 @@ use Rattle.model_enqueue.specs.Table.{EnqueueTable, empty_table}
 use Rattle.model_enqueue.specs.Ask.{released}
 use Rattle.model_enqueue.specs.Cycle.{IsRegion}
 use Rattle.pi_enqueue.specs.Kept.{IsKept}
+use Rattle.model_rows.proofs.Lists.{all_then}
 use Rattle.seg_store.specs.Slots.{Stored, rows_of_slots}
-use Rattle.seg_store.specs.Stores.{empty_store, empty_stores}
+use Rattle.seg_store.specs.Changed.{AllStores}
+use Rattle.seg_store.specs.Stores.{empty_store, empty_stores, no_changed}
 use Rattle.seg_store.proofs.SlotRows.{free_slots_valid}
 use Rattle.unit_work.specs.declared.change.Change.{Change}
-use Rattle.unit_work.specs.Changes.{Changes, no_changes}
-use Rattle.unit_work.specs.BackOut.{backed_out, CanBackOut}
+use Rattle.unit_work.specs.Changes.{Changes, no_changes, is_seen}
+use Rattle.unit_work.specs.BackOut.{backed_out, backs, CanBackOut}
 use Rattle.program_rows.specs.State.{DatabasesState, RegionRows, no_rows, roots_of, rows_of, rows_in, dbds_of, committed_rows, region_at, clean_region, AreRowsOf, IsRegionOf, IsClean}
 use Rattle.program_rows.specs.Isolation.{AgreeOnHeld}
 use Rattle.program_rows.specs.Answering.{regions_backed, IsBeside, IsCommitted}
-use Rattle.program_rows.specs.Open.{records_of, slots_of, backed_all, seen_by, regions_from, IsUnit, AreUnits, AreTouched, AllTouch}
+use Rattle.program_rows.specs.Open.{records_of, slots_of, backed_all, seen_by, regions_from, IsUnit, AreUnits, IsTouched, AreTouched, AllTouch}
 use Rattle.program_rows.specs.Telling.{slot_told, back_told, IsToldable}
-use Rattle.change_records.specs.Told.{ChangesTold}
-use Rattle.program_rows.specs.Making.{seen, IsOpen, HasTouched, changed_in, slots_in}
+use Rattle.change_records.specs.Images.{slots_at, image_at}
+use Rattle.change_records.specs.Marks.{is_marked, AreMarked}
+use Rattle.change_records.specs.Told.{ChangesTold, is_told_of}
+use Rattle.unit_work.proofs.Marking.{marks_more}
+use Rattle.program_rows.specs.OnSlots.{slots_in as slots_seen, CallsSo, CommitsSo, GivesUpSo}
+use Rattle.program_rows.specs.Making.{seen, IsOpen, IsWhole, AreThere, HasTouched, changed_in, slots_in}
 use Rattle.program_rows.specs.declared.opened.Opened.{Opened}
 use Rattle.program_rows.proofs.Together.{backed_none, get_set, get_set_else, set_twice}
-use Rattle.program_rows.proofs.Backed.{AreValid, valid_all, valid_back, dbds_all, backed_dbds}
+use Rattle.program_rows.proofs.Backed.{AreValid, valid_all, valid_back, dbds_all, backed_dbds, backed_lengths}
 use Rattle.program_rows.proofs.Apart.{all_beside, all_good}
 use Rattle.program_rows.proofs.BackUnits.{empty_unit, back_units, back_committed, back_others, back_own, keep_units, released_units}
 use Rattle.program_rows.proofs.Committing.{sees_then, held_then}
@@ -34,7 +40,8 @@ use Rattle.program_rows.proofs.Overlay.{store_rows, store_types}
 use Rattle.program_rows.proofs.Seen.{region_is, regions_length, same_list, get_put, get_put_else}
 use Rattle.program_rows.proofs.Setting.{unit_records, unit_slots}
 use Rattle.program_rows.proofs.Touching.{none_touched_yet, kept_touched, back_touched, released_touched}
-use Rattle.program_rows.proofs.ToldBack.{back_changes, toldable}
+use Rattle.program_rows.proofs.ToldBack.{back_changes, back_seen, back_told_of, each_back, toldable}
+use Rattle.program_rows.proofs.Untouched.{IsAmong, seen_among, stands_here, stands_else}
 
 -- a region of the databases has a unit, and is one of the table
 pub record HasUnit (o : Opened) (region : ℕ) : Type 0 where
@@ -190,15 +197,28 @@ module _ (o new : Opened) (h : IsOpen o) (region : ℕ) (u : HasUnit o region) (
       (ap (λ xs. get_or xs (region - 1) []) units ∙ get_set (records_of o.units.items) (region - 1) [] u.within) (subst IsKept is kept))
 
   -- the changes stay
-  module _ (stores : new.stores.stores ≡ o.stores.stores) where
+  module _ (stores : new.stores.stores ≡ o.stores.stores) (marked : new.stores.changed ≡ o.stores.changed) where
     pub kept_units : AreUnits (records_of new.units.items) new.stores.stores o.table
     kept_units =
         subst (λ xs. AreUnits xs new.stores.stores o.table) (sym units)
         (subst (λ ss. AreUnits (set (records_of o.units.items) (region - 1) []) ss o.table) (sym stores)
         (keep_units (records_of o.units.items) o.stores.stores o.table h (region - 1) u.within))
 
-    pub is_committed : slots_of new.units.items ≡ set (slots_of o.units.items) (region - 1) [] → new.table ≡ released region o.table → IsCommitted region (seen o) (seen new)
-    is_committed slots table =
+    commits_slots : HasTouched o → slots_of new.units.items ≡ set (slots_of o.units.items) (region - 1) [] → CommitsSo region (slots_seen (seen o)) (slots_seen (seen new))
+    commits_slots touched slots =
+        let committed : (seen new).committed ≡ backed_all (set (records_of o.units.items) (region - 1) []) o.stores.stores = λ i. backed_all (units i) (stores i) in
+        record {
+          stores = stores;
+          changed = marked;
+          touched = slots;
+          each = all_then (IsTouched o.table o.stores.stores (suc (region - 1)) (changed_in region o)) (λ c. image_at c.db c.slot (seen new).committed ≡ image_at c.db c.slot o.stores.stores) (slots_in region o)
+              (λ c t. ap (image_at c.db c.slot) committed ∙ stands_here (records_of o.units.items) (slots_of o.units.items) o.stores.stores o.table h touched (region - 1) u.within c t)
+              (touched (region - 1) u.within).each;
+          others = λ db slot least e. ap (image_at db slot) committed ∙ stands_else (records_of o.units.items) (slots_of o.units.items) o.stores.stores o.table h touched (region - 1) u.within db slot least e;
+        }
+
+    pub is_committed : HasTouched o → slots_of new.units.items ≡ set (slots_of o.units.items) (region - 1) [] → new.table ≡ released region o.table → IsCommitted region (seen o) (seen new)
+    is_committed touched slots table =
         record {
           stores = stores;
           rows = ap rows_of committed_is ∙ ap (λ (x : RegionRows). x.rows) (sym (region_is (region - 1) (records_of o.units.items) o.stores.stores u.within));
@@ -212,6 +232,7 @@ module _ (o new : Opened) (h : IsOpen o) (region : ℕ) (u : HasUnit o region) (
               ∙ (ap length units ∙ (length-set (records_of o.units.items) (region - 1) [] ∙ sym (regions_length 0 (records_of o.units.items) (records_of o.units.items) o.stores.stores)));
           others = λ other apart least most. beside other apart least (omega (arith, least, most, regions_length 0 (records_of o.units.items) (records_of o.units.items) o.stores.stores));
           touched = slots;
+          slots = commits_slots touched slots;
           table = table;
         }
       where
@@ -289,6 +310,61 @@ back_told_changes unit o new d touched view region u stores =
     (subst (λ ss. ChangesTold unit o.stores.stores ss (back_told unit region (seen o))) (sym stores)
     (back_changes unit o.stores.stores o.table (suc (region - 1)) (changed_in region o) (slots_in region o) (touched (region - 1) u.within)))
 
+-- what a back out makes of the slots, with the marks
+pub back_slots : (unit : ℕ) (o new : Opened) (d : DatabasesState) → HasTouched o → seen o ≡ d → (region : ℕ) → HasUnit o region → new.stores.stores ≡ backed_out (changed_in region o) o.stores.stores
+    → AreMarked (λ db slot. backs (changed_in region o) db slot (image_at db slot o.stores.stores)) o.stores new.stores → slots_of new.units.items ≡ set (slots_of o.units.items) (region - 1) []
+    → (seen new).committed ≡ (seen o).committed → CallsSo unit region (slots_seen d) (slots_seen (seen new)) (back_told unit region d)
+back_slots unit o new d touched view region u stores marks slots committed =
+    subst (λ (e : DatabasesState). CallsSo unit region (slots_seen e) (slots_seen (seen new)) (back_told unit region e)) view
+    (record {
+      told = back_told_changes unit o new (seen o) touched refl region u stores;
+      does = inr (inr (record {
+        all = refl;
+        each = subst (λ ss. AllByRecursion (λ c. image_at c.db c.slot ss ≡ c.before) (slots_in region o)) (sym stores)
+            (each_back unit o.stores.stores o.table (suc (region - 1)) (changed_in region o) (slots_in region o) (touched (region - 1) u.within).each);
+        touched = slots;
+      }));
+      marks = marks_more (λ db slot. backs (changed_in region o) db slot (image_at db slot o.stores.stores)) (λ db slot. list_any (is_told_of db slot) (back_told unit region (seen o)))
+          (back_told_of unit o.stores.stores o.table (suc (region - 1)) (changed_in region o) (slots_in region o) (touched (region - 1) u.within)) o.stores new.stores marks;
+      committed = committed;
+    })
+
+pub back_gives_up : (o new : Opened) (d : DatabasesState) → HasTouched o → seen o ≡ d → (region : ℕ) → HasUnit o region → new.stores.stores ≡ backed_out (changed_in region o) o.stores.stores
+    → AreMarked (λ db slot. backs (changed_in region o) db slot (image_at db slot o.stores.stores)) o.stores new.stores → slots_of new.units.items ≡ set (slots_of o.units.items) (region - 1) []
+    → (seen new).committed ≡ (seen o).committed → GivesUpSo region (slots_seen d) (slots_seen (seen new))
+back_gives_up o new d touched view region u stores marks slots committed =
+    subst (λ (e : DatabasesState). GivesUpSo region (slots_seen e) (slots_seen (seen new))) view
+    (record {
+      committed = committed;
+      databases = ap (map (λ (s : Stored). s.dbd)) stores ∙ backed_dbds (changed_in region o) o.stores.stores;
+      touched = slots;
+      each = subst (λ ss. AllByRecursion (λ c. image_at c.db c.slot ss ≡ c.before) (slots_in region o)) (sym stores)
+          (each_back 0 o.stores.stores o.table (suc (region - 1)) (changed_in region o) (slots_in region o) (touched (region - 1) u.within).each);
+      others = λ db slot least e. ap (image_at db slot) stores ∙ (touched (region - 1) u.within).others db slot least e;
+      marks = marks_more (λ db slot. backs (changed_in region o) db slot (image_at db slot o.stores.stores)) (λ db slot. is_seen db slot (slots_in region o))
+          (back_seen 0 o.stores.stores o.table (suc (region - 1)) (changed_in region o) (slots_in region o) (touched (region - 1) u.within)) o.stores new.stores marks;
+    })
+
+-- marked slots are there still
+pub there_back : (o new : Opened) → IsWhole o → (region : ℕ) (u : HasUnit o region) → new.stores.stores ≡ backed_out (changed_in region o) o.stores.stores
+    → AreMarked (λ db slot. backs (changed_in region o) db slot (image_at db slot o.stores.stores)) o.stores new.stores → AreThere new.stores
+there_back o new w region u stores marks db slot least e =
+    omega (
+      arith,
+      ap (λ ss. length (slots_at db ss)) stores,
+      backed_lengths o.stores.stores (changed_in region o) db least,
+      ⊎_elim (w.marks db slot least)
+          (λ (passes : backs (changed_in region o) db slot (image_at db slot o.stores.stores) ≡ true).
+          let seen_there = back_seen 0 o.stores.stores o.table (suc (region - 1)) (changed_in region o) (slots_in region o) (w.touched (region - 1) u.within) db slot least passes in
+          let among : IsAmong (IsTouched o.table o.stores.stores (suc (region - 1)) (changed_in region o)) db slot =
+          seen_among (IsTouched o.table o.stores.stores (suc (region - 1)) (changed_in region o)) db slot (slots_in region o) (w.touched (region - 1) u.within).each seen_there in
+          subst (λ n. n < length (slots_at db o.stores.stores)) among.same_slot
+          (subst (λ n. among.change.slot < length (slots_at n o.stores.stores)) among.same_db among.is.there.within)) (marks.only db slot least e),
+    )
+
+pub there_same : (o : Opened) (stores : AllStores) → IsWhole o → stores ≡ o.stores → AreThere stores
+there_same o stores w e = subst AreThere (sym e) w.marks
+
 pub back_toldable : (o : Opened) (d : DatabasesState) (region : ℕ) (us : List Changes) (x : Changes) (slots : List Change) (stores : List Stored) → IsOpen o → HasTouched o → seen o ≡ d → HasUnit o region
     → us ≡ o.units.items → slice_get us (region - 1) ≡ Some x → slots ≡ x.slots → stores ≡ o.stores.stores → AllByRecursion (λ s. s.dbd.sectors ≤ 1) d.stores
     → AllByRecursion (IsToldable stores) slots
@@ -348,6 +424,55 @@ module _ (dbds : List Dbd) (regions : ℕ) where
         once = tt;
       }
 
+  -- nor where other stores take their place
+  module _ (o : Opened) (units : o.units.items ≡ replicate regions no_changes) (good : AreValid o.stores.stores) (compatible : IsKept o.table) (regions_are : regions ≡ o.table.regions)
+      (numbered : AllByRecursion (λ hold. 1 ≤ hold.0.resource.db) o.table.holds) where
+    opens_us : records_of o.units.items ≡ replicate regions []
+    opens_us = ap records_of units ∙ records_none regions
+
+    pub opens : IsOpen o
+    opens =
+        subst (λ us. AreUnits us o.stores.stores o.table) (sym opens_us)
+        (record {
+          valid = good;
+          compatible = compatible;
+          count = count_none regions ∙ regions_are;
+          numbered = numbered;
+          each = λ place lt.
+              subst (IsUnit o.table o.stores.stores (suc place)) (sym (none_at regions place)) (empty_unit o.table o.stores.stores (suc place));
+        })
+
+    pub opens_slots : slots_of o.units.items ≡ replicate regions []
+    opens_slots = ap slots_of units ∙ slots_none regions
+
+    pub opens_touched : HasTouched o
+    opens_touched =
+        subst (λ us. AllTouch us (slots_of o.units.items) o.stores.stores o.table) (sym opens_us)
+        (subst (λ xs. AllTouch (replicate regions []) xs o.stores.stores o.table) (sym opens_slots)
+        (λ place lt.
+        subst (λ a. AreTouched o.table o.stores.stores (suc place) a (get_or (replicate regions []) place [])) (sym (none_at regions place))
+        (subst (λ b. AreTouched o.table o.stores.stores (suc place) [] b) (sym (none_at regions place)) (none_touched_yet o.table o.stores.stores (suc place)))))
+
+    pub opens_marks : o.stores.changed ≡ no_changed dbds → AreThere o.stores
+    opens_marks changed db slot least e = absurd (false≢true (sym (ap (λ c. is_marked c db slot) changed ∙ none dbds (db - 1)) ∙ e))
+      where
+        none : (ds : List Dbd) (i : ℕ) → list_any (λ n. eqb n slot) (get_or (no_changed ds) i []) ≡ false
+        none [] i = refl
+        none (d ∷ ds) zero = refl
+        none (d ∷ ds) (suc i) = none ds i
+
+    pub opens_committed : (seen o).committed ≡ o.stores.stores
+    opens_committed = ap (λ us. backed_all us o.stores.stores) opens_us ∙ none_backed regions o.stores.stores
+
+    pub opens_regions : (seen o).regions ≡ replicate regions (clean_region (rows_of o.stores.stores))
+    opens_regions =
+        (λ i. regions_from 0 (opens_us i) (opens_us i) o.stores.stores) ∙ all_opened 0 regions
+      where
+        all_opened : (n m : ℕ) → regions_from n (replicate m []) (replicate regions []) o.stores.stores ≡ replicate m (clean_region (rows_of o.stores.stores))
+        all_opened n zero = refl
+        all_opened n (suc m) =
+            λ i. record { rows = rows_of ((ap (λ us. backed_all us o.stores.stores) (none_set regions n) ∙ none_backed regions o.stores.stores) i); changed = [] } ∷ all_opened (suc n) m i
+
   module _ (o : Opened) (types : AllByRecursion (λ dbd. IsHierarchy dbd.types) dbds) (units : o.units.items ≡ replicate regions no_changes) (stores : o.stores.stores ≡ empty_stores dbds)
       (table : o.table ≡ empty_table regions) where
     us_are : records_of o.units.items ≡ replicate regions []
@@ -373,6 +498,14 @@ module _ (dbds : List Dbd) (regions : ℕ) where
           each = λ place lt.
               subst (IsUnit (empty_table regions) (empty_stores dbds) (suc place)) (sym (none_at regions place)) (empty_unit (empty_table regions) (empty_stores dbds) (suc place));
         })))
+
+    pub none_marked : o.stores.changed ≡ no_changed dbds → AreThere o.stores
+    none_marked changed db slot least e = absurd (false≢true (sym (ap (λ c. is_marked c db slot) changed ∙ none dbds (db - 1)) ∙ e))
+      where
+        none : (ds : List Dbd) (i : ℕ) → list_any (λ n. eqb n slot) (get_or (no_changed ds) i []) ≡ false
+        none [] i = refl
+        none (d ∷ ds) zero = refl
+        none (d ∷ ds) (suc i) = none ds i
 
     pub slots_are : slots_of o.units.items ≡ replicate regions []
     slots_are = ap slots_of units ∙ slots_none regions

@@ -27,8 +27,13 @@ pub mod Called
 pub mod Doing
 pub mod Ending
 pub mod Appending
-pub mod Ordered
 pub mod Touching
 pub mod ToldBack
+pub mod Untouched
+pub mod Few
+pub mod Having
 pub mod Placing
 pub mod Retold
+pub mod Slotted
+pub mod Settling
+pub mod Clearing

@@ -1,10 +1,11 @@
 -- A record that is set by a region's unit, and a unit that is put back.
-use Rattle.std.proofs.Common.{◌≡◌, ℕ, ◌-◌, List, refl, sym, ◌∙◌, ap, Bool, true, false, Option, Some, None, Result, Ok, Err, set}
+use Rattle.std.proofs.Common.{◌≡◌, ℕ, ◌-◌, List, refl, sym, ◌∙◌, ap, subst, Bool, true, false, Option, Some, None, Result, Ok, Err, set}
 use Rattle.std.specs.List.{slice_get}
 use Rattle.std.specs.Option.{option_map, is_some}
 use Rattle.std.specs.Prelude.{IfSome, OnOk, OnErr}
 use Rattle.seg_store.specs.Slots.{Stored}
-use Rattle.unit_work.specs.Changes.{Changes, is_full, no_changes, with_change, with_slot, with_touch}
+use Rattle.unit_work.specs.declared.change.Change.{Change}
+use Rattle.unit_work.specs.Changes.{Changes, AreInOrder, is_full, no_changes, with_change, with_slot, with_touch}
 use Rattle.unit_work.specs.Touching.{Touching}
 use Rattle.dli_calls.specs.declared.planned.Edit.{Edit}
 use Rattle.model_enqueue.specs.declared.request.Request.{Request}
@@ -15,7 +16,7 @@ use Rattle.tm_types.specs.declared.dbd.Dbd.{Dbd}
 use Rattle.log_records.specs.declared.untold.Untold.{Untold}
 use Rattle.log_records.specs.declared.untold.Untold.TheVariants as untold
 use Rattle.program_rows.specs.Telling.{IsUntold}
-use Rattle.program_rows.specs.Making.{IsPut, IsSame, IsSet, HasAskedIn, TakesSlot, IsUntoldEdit, changed_in, edit_abend, edit_told, kept_of}
+use Rattle.program_rows.specs.Making.{IsPut, IsSame, IsSet, HasAskedIn, MarksEdit, TakesSlot, IsUntoldEdit, changed_in, edit_abend, edit_told, kept_of}
 use Rattle.program_rows.specs.declared.asked.Asked.{Asked}
 use Rattle.program_rows.specs.declared.opened.Opened.{Opened}
 use Rattle.program_rows.proofs.Setting.{taken, unit_records, unit_slots, records_put, slots_put, put_back, put_twice}
@@ -29,10 +30,10 @@ module _ {R E : Type 0} where
       → slice_get old.units.items (asked.region - 1) ≡ Some u → units ≡ set old.units.items (asked.region - 1) no_changes → slice_get old.stores.stores (asked.number - 1) ≡ Some s
       → IfSome (slice_get old.stores.stores (asked.number - 1)) (λ s. TakesSlot s e slot) → is_full asked.number e.root (changed_in asked.region old) ≡ false
       → p.touched ≡ with_touch (kept_of asked.number slot e s) u
-      → OnOk r (IsPut asked.number e old.stores.stores new.stores.stores) → OnOk r (new.units.items ≡ set units (asked.region - 1) p.touched) → OnOk r (HasAskedIn asked old.table new.table)
+      → OnOk r (IsPut asked.number e old.stores.stores new.stores.stores) → OnOk r (new.units.items ≡ set units (asked.region - 1) p.touched) → OnOk r (AreInOrder p.touched.slots) → OnOk r (MarksEdit asked.number e old.stores new.stores) → OnOk r (HasAskedIn asked old.table new.table)
       → OnOk r (IsSet asked e old new)
-  set_done (Err x) asked e slot old new u s units p at out there takes room touched put kept asks = tt
-  set_done (Ok x) asked e slot old new u s units p at out there takes room touched put kept asks =
+  set_done (Err x) asked e slot old new u s units p at out there takes room touched put kept order marks asks = tt
+  set_done (Ok x) asked e slot old new u s units p at out there takes room touched put kept order marks asks =
       let both : Some put.s ≡ Some s = sym put.at ∙ there in
       let same : put.s ≡ s = cc in
       record {
@@ -50,29 +51,35 @@ module _ {R E : Type 0} where
             ∙ ap (set (slots_of old.units.items) (asked.region - 1))
             (ap (λ (c : Changes). c.slots) touched
             ∙ (λ t. with_slot (kept_of asked.number slot e (sym same t)) (sym (unit_slots old.units.items (asked.region - 1) u at) t))));
+        order = subst (λ (xs : List Change). AreInOrder xs)
+            (ap (λ (c : Changes). c.slots) touched
+            ∙ (λ t. with_slot (kept_of asked.number slot e (sym same t)) (sym (unit_slots old.units.items (asked.region - 1) u at) t))) order;
+        marks = marks;
         asks = asks;
       }
 
   pub set_left : (r : Result R E) (region : ℕ) (old new : Opened) (u : Changes) (units : List Changes) (p : Touching) → slice_get old.units.items (region - 1) ≡ Some u
-      → units ≡ set old.units.items (region - 1) no_changes → p.unit ≡ u → OnErr r (new.units.items ≡ set units (region - 1) p.unit) → OnErr r (new.stores.stores ≡ old.stores.stores) → OnErr r (new.table ≡ old.table)
+      → units ≡ set old.units.items (region - 1) no_changes → p.unit ≡ u → OnErr r (new.units.items ≡ set units (region - 1) p.unit) → OnErr r (new.stores.stores ≡ old.stores.stores) → OnErr r (new.stores.changed ≡ old.stores.changed) → OnErr r (new.table ≡ old.table)
       → OnErr r (IsSame old new)
-  set_left (Ok x) region old new u units p at out same left stores table = tt
-  set_left (Err x) region old new u units p at out same left stores table =
+  set_left (Ok x) region old new u units p at out same left stores changed table = tt
+  set_left (Err x) region old new u units p at out same left stores changed table =
       record {
         units = ap records_of (left_records old.units.items units new.units.items (region - 1) u no_changes at out (left ∙ ap (set units (region - 1)) same));
         slots = ap slots_of (left_records old.units.items units new.units.items (region - 1) u no_changes at out (left ∙ ap (set units (region - 1)) same));
         stores = stores;
+        changed = changed;
         table = table;
       }
 
 -- a unit for which there was no memory goes back
 pub put_left : (region : ℕ) (old new : Opened) (u v : Changes) (units : List Changes) → slice_get old.units.items (region - 1) ≡ Some u
-    → units ≡ set old.units.items (region - 1) no_changes → v ≡ u → new.units.items ≡ set units (region - 1) v → new.stores.stores ≡ old.stores.stores → new.table ≡ old.table → IsSame old new
-put_left region old new u v units at out same back stores table =
+    → units ≡ set old.units.items (region - 1) no_changes → v ≡ u → new.units.items ≡ set units (region - 1) v → new.stores.stores ≡ old.stores.stores → new.stores.changed ≡ old.stores.changed → new.table ≡ old.table → IsSame old new
+put_left region old new u v units at out same back stores changed table =
     record {
       units = ap records_of (left_records old.units.items units new.units.items (region - 1) u no_changes at out (back ∙ ap (set units (region - 1)) same));
       slots = ap slots_of (left_records old.units.items units new.units.items (region - 1) u no_changes at out (back ∙ ap (set units (region - 1)) same));
       stores = stores;
+      changed = changed;
       table = table;
     }
 

@@ -1,5 +1,5 @@
 -- What a call tells, and the slots that it touches: of one that waits, changes no record, sets one or leads to an abend.
-use Rattle.std.proofs.Common.{◌≡◌, ℕ, ◌-◌, ◌≤◌, ◌<◌, ◌∷◌, [], List, refl, sym, ◌∙◌, ap, subst, map, length, Option, None, Some, Result, Ok, Err, Bool, true, false, arith, get_or, set, suc, ◌&&◌, eqb, ◌||◌, ◌⊎◌, ⊎_elim, ◌++◌}
+use Rattle.std.proofs.Common.{◌≡◌, ℕ, ◌-◌, ◌≤◌, ◌<◌, ◌∷◌, [], List, refl, sym, ◌∙◌, ap, subst, map, length, Option, None, Some, Result, Ok, Err, Bool, true, false, arith, get_or, set, zero, suc, ◌&&◌, eqb, ◌||◌, ◌⊎◌, inl, inr, ⊎_elim, ◌++◌}
 use Rattle.std.specs.List.{slice_get, AllByRecursion, list_any}
 use Rattle.std.specs.Prelude.{IfOk, IfErr, OnOk, OnErr}
 use Rattle.std.proofs.lemmas.Bool.{false≢true, eqb-true, eq-eqb}
@@ -30,13 +30,15 @@ use Rattle.log_records.specs.declared.record.Record.TheVariants as told
 use Rattle.log_records.specs.declared.untold.Untold.{Untold}
 use Rattle.log_records.specs.declared.untold.Untold.TheVariants as untold
 use Rattle.change_records.specs.Images.{slots_at, image_at, bytes_at}
-use Rattle.change_records.specs.Told.{is_told_of, ChangesTold}
+use Rattle.change_records.specs.Marks.{is_marked, AreMarked}
+use Rattle.change_records.specs.Told.{is_told_of, IsTold, ChangesTold}
 use Rattle.program_rows.specs.State.{rows_in, rows_of, rows_numbered, touched_by}
 use Rattle.program_rows.specs.Isolation.{request_of, requests_of_call}
 use Rattle.program_rows.specs.Answering.{told_blocked}
-use Rattle.program_rows.specs.Open.{records_of, slots_of, HoldsAlone, AreUnits, AreTouched, AllTouch}
+use Rattle.program_rows.specs.OnSlots.{slots_in as slots_seen, all_stores, SlotsState, CallsSo}
+use Rattle.program_rows.specs.Open.{records_of, slots_of, backed_all, HoldsAlone, AreUnits, AreTouched, AllTouch}
 use Rattle.program_rows.specs.Calling.{IsDone}
-use Rattle.program_rows.specs.Making.{seen, IsWhole, HasTouched, IsSame, Reads, WaitsAt, IsPut, IsSet, HasAsked, IsEdited, LeadsTo, Makes, IsUntoldEdit, planned_abend, changed_in, edit_told, kept_of, made_told, slots_in}
+use Rattle.program_rows.specs.Making.{seen, IsWhole, AreThere, HasTouched, IsSame, Reads, WaitsAt, IsPut, IsSet, HasAsked, IsEdited, LeadsTo, Makes, IsUntoldEdit, planned_abend, changed_in, edit_told, kept_of, made_told, slots_in}
 use Rattle.program_rows.specs.Telling.{call_told, changed_touched, set_told, slot_touched, touched_after, unless_stopped, Tells, IsUntold}
 use Rattle.program_rows.specs.declared.answer.DataAnswer.{DataAnswer}
 use Rattle.program_rows.specs.declared.answer.DataAnswer.TheVariants.{Answered, Abend, Blocked}
@@ -45,15 +47,18 @@ use Rattle.program_rows.specs.declared.opened.Opened.{Opened}
 use Rattle.program_rows.proofs.Called.{same_asks, none_told, none_touched, led_told, edit_touched, edit_is_told, set_in, after_units, within}
 use Rattle.program_rows.proofs.Followed.{follows}
 use Rattle.program_rows.proofs.OneSlot.{OneSlot}
-use Rattle.program_rows.proofs.SetUnits.{Follows, one}
+use Rattle.program_rows.proofs.SetUnits.{Follows, one, set_committed}
+use Rattle.program_rows.proofs.Slotted.{calls_none}
 use Rattle.program_rows.proofs.Setting.{rows_at_is}
-use Rattle.program_rows.proofs.ToldBack.{stays_told}
 use Rattle.program_rows.proofs.Touching.{follows_touched, set_touched}
+use Rattle.program_rows.proofs.Backed.{AreValid}
+use Rattle.unit_work.proofs.Ordered.{same_is}
+use Rattle.std.specs.Option.{option_map_or}
 
 -- what a call tells and touches, where its plan tells these records
 pub record Retells (unit region number : ℕ) (dbd : Dbd) (call : DbCall) (at : Position) (o new : Opened) (records : List Record) (a : DataAnswer) : Type 0 where
   pub told : records ≡ call_told unit region number dbd call at (seen o)
-  pub changes : ChangesTold unit o.stores.stores new.stores.stores (call_told unit region number dbd call at (seen o))
+  pub slots : CallsSo unit region (slots_seen (seen o)) (slots_seen (seen new)) (call_told unit region number dbd call at (seen o))
   pub touched : slots_of new.units.items ≡ touched_after region number (dli dbd call at (rows_numbered region number (seen o))) (seen o) a
   pub touch : HasTouched new
 
@@ -65,7 +70,7 @@ blocked_told (Some blocked) x (Some code) records e = refl
 
 set_there : {A : Type 0} (xs : List A) (i : ℕ) (x : A) → set xs i (get_or xs i x) ≡ xs
 set_there [] i x = refl
-set_there (y ∷ xs) Rattle.std.proofs.Common.zero x = refl
+set_there (y ∷ xs) zero x = refl
 set_there (y ∷ xs) (suc i) x = ap (λ ys. y ∷ ys) (set_there xs i x)
 
 -- what is told of one slot
@@ -96,6 +101,10 @@ module _ (o : Opened) (h : AreUnits (records_of o.units.items) o.stores.stores o
       (λ k inside. follows_touched o.table new.table (suc k) (get_or (records_of o.units.items) k []) (get_or (slots_of o.units.items) k []) o.stores.stores
       ((follows region number (footprint dbd call at (rows_of_slots s.slots)) o.table new.table least h.numbered (t ∙ ap (λ qs. after_asks region qs o.table) e) kept).alone (suc k)) (touched k inside))))
 
+  same_slots : records_of new.units.items ≡ records_of o.units.items → slots_of new.units.items ≡ slots_of o.units.items → new.stores.stores ≡ o.stores.stores → new.stores.changed ≡ o.stores.changed
+      → slots_seen (seen new) ≡ slots_seen (seen o)
+  same_slots u sl st ch = λ i. record { committed = backed_all (u i) (st i); stores = st i; changed = ch i; touched = sl i }
+
   same_touched : IsSame o new → HasTouched new
   same_touched same =
       subst (λ us. AllTouch us (slots_of new.units.items) new.stores.stores new.table) (sym same.units)
@@ -106,13 +115,13 @@ module _ (o : Opened) (h : AreUnits (records_of o.units.items) o.stores.stores o
   module _ {E : Type 0} where
     -- a call that waits
     pub waits_told : (r : Result DataAnswer E) (requests : List Request) → requests ≡ map (request_of region number) (footprint dbd call at (rows_of_slots s.slots))
-        → records_of new.units.items ≡ records_of o.units.items → slots_of new.units.items ≡ slots_of o.units.items → new.stores.stores ≡ o.stores.stores
+        → records_of new.units.items ≡ records_of o.units.items → slots_of new.units.items ≡ slots_of o.units.items → new.stores.stores ≡ o.stores.stores → new.stores.changed ≡ o.stores.changed
         → IfOk r (WaitsAt requests o.table) → OnOk r (new.table ≡ after_asks region requests o.table) → IsKept new.table
         → IfOk r (Retells unit region number dbd call at o new [])
-    waits_told (Err x) requests e u sl st w t kept = tt
-    waits_told (Ok (Answered a)) requests e u sl st w t kept = absurd w
-    waits_told (Ok (Abend code)) requests e u sl st w t kept = absurd w
-    waits_told (Ok (Blocked b)) requests e u sl st w t kept =
+    waits_told (Err x) requests e u sl st ch w t kept = tt
+    waits_told (Ok (Answered a)) requests e u sl st ch w t kept = absurd w
+    waits_told (Ok (Abend code)) requests e u sl st ch w t kept = absurd w
+    waits_told (Ok (Blocked b)) requests e u sl st ch w t kept =
         let asks = same_asks o h region number first last least dbd call at position ok s there same_dbd in
         let blocked : told_blocked (first_blocked (requests_of_call region number dbd call at (seen o)) o.table) ≡ Some (b.resource, b.by) =
         sym (ap told_blocked asks.0) ∙ (ap (λ qs. told_blocked (first_blocked qs o.table)) (sym (requests_same requests e)) ∙ w) in
@@ -120,7 +129,7 @@ module _ (o : Opened) (h : AreUnits (records_of o.units.items) o.stores.stores o
         blocked_told (first_blocked (requests_of_call region number dbd call at (seen o)) o.table) (b.resource, b.by) _ _ blocked in
         record {
           told = sym none;
-          changes = subst (λ rs. ChangesTold unit o.stores.stores new.stores.stores rs) (sym none) (stays_told unit o.stores.stores new.stores.stores st);
+          slots = calls_none unit region (slots_seen (seen o)) (slots_seen (seen new)) (call_told unit region number dbd call at (seen o)) none (same_slots u sl st ch);
           touched = sl;
           touch = asked_touched requests e u sl st t kept;
         }
@@ -150,7 +159,7 @@ module _ (o : Opened) (h : AreUnits (records_of o.units.items) o.stores.stores o
             let none = none_told o h region number first last least dbd call at position ok s there same_dbd unblocked unit p pl in
             record {
               told = sym none;
-              changes = subst (λ rs. ChangesTold unit o.stores.stores new.stores.stores rs) (sym none) (stays_told unit o.stores.stores new.stores.stores edited.stores);
+              slots = calls_none unit region (slots_seen (seen o)) (slots_seen (seen new)) (call_told unit region number dbd call at (seen o)) none (same_slots edited.units edited.slots edited.stores edited.changed);
               touched = edited.slots
                   ∙ sym (ap (set (slots_of o.units.items) (region - 1))
                   (none_touched o h region number first last least dbd call at position ok s there same_dbd unblocked unit p (touched_by region (seen o)) pl)
@@ -174,9 +183,25 @@ module _ (o : Opened) (h : AreUnits (records_of o.units.items) o.stores.stores o
             ap (set_told unit number e.image o.stores.stores) place in
             record {
               told = sym is_told;
-              changes = subst (λ rs. ChangesTold unit o.stores.stores new.stores.stores rs) (sym (is_told ∙ records))
-                  (subst (λ ss. ChangesTold unit o.stores.stores ss (told.Change unit number edited.1.slot (bytes_at number edited.1.slot o.stores.stores) (rows.spelling e.image) ∷ [])) (sym edited.1.put.stores)
-                  (one_told unit number edited.1.slot (kept_of number edited.1.slot e edited.1.put.s).before e.image o.stores.stores (set o.stores.stores (number - 1) edited.1.put.t) is_one));
+              slots = record {
+                told = subst (λ rs. ChangesTold unit o.stores.stores new.stores.stores rs) (sym (is_told ∙ records))
+                    (subst (λ ss. ChangesTold unit o.stores.stores ss (told.Change unit number edited.1.slot (bytes_at number edited.1.slot o.stores.stores) (rows.spelling e.image) ∷ [])) (sym edited.1.put.stores)
+                    (one_told unit number edited.1.slot (kept_of number edited.1.slot e edited.1.put.s).before e.image o.stores.stores (set o.stores.stores (number - 1) edited.1.put.t) is_one));
+                does = inr (inl (record {
+                  slot = record { db = number; slot = edited.1.slot; root = e.root; before = image_at number edited.1.slot o.stores.stores };
+                  stood = refl;
+                  one = (is_told ∙ records)
+                      ∙ ap (λ (after : List ℕ). told.Change unit number edited.1.slot (bytes_at number edited.1.slot o.stores.stores) after ∷ [])
+                      (ap rows.spelling (sym is_one.here) ∙ ap (bytes_at number edited.1.slot) (sym edited.1.put.stores));
+                  touched = edited.1.slots
+                      ∙ sym (ap (set (slots_of o.units.items) (region - 1))
+                      (ap (λ (before : List Row). with_slot (record { db = number; slot = edited.1.slot; root = e.root; before = before }) (touched_by region (seen o))) is_one.before));
+                }));
+                marks = subst (λ (rs : List Record). AreMarked (λ database slot. list_any (is_told_of database slot) rs) o.stores new.stores) (sym is_told) (edited.1.marks unit);
+                committed = (λ i. backed_all (edited.1.units i) (edited.1.put.stores i))
+                    ∙ set_committed (records_of o.units.items) o.stores.stores o.table new.table h follow (region - 1) inside (kept_of number edited.1.slot e edited.1.put.s) edited.1.put.s
+                    edited.1.put.t e.image sets_in edited.1.room;
+              };
               touched = edited.1.slots
                   ∙ sym (ap (set (slots_of o.units.items) (region - 1))
                   (edit_touched o h region number first last least dbd call at position ok s there same_dbd unblocked unit p e pl (touched_by region (seen o))
@@ -187,7 +212,7 @@ module _ (o : Opened) (h : AreUnits (records_of o.units.items) o.stores.stores o
                   (subst (λ ss. AllTouch (set (records_of o.units.items) (region - 1) (with_change (kept_of number edited.1.slot e edited.1.put.s) (changed_in region o)))
                   (set (slots_of o.units.items) (region - 1) (with_slot (kept_of number edited.1.slot e edited.1.put.s) (slots_in region o))) ss new.table) (sym edited.1.put.stores)
                   (set_touched (records_of o.units.items) (slots_of o.units.items) o.stores.stores o.table new.table h follow (region - 1) inside (kept_of number edited.1.slot e edited.1.put.s) edited.1.put.s
-                  edited.1.put.t e.image sets_in edited.1.room touched (length-map o.units.items (λ (u : Changes). u.slots) ∙ sym (length-map o.units.items (λ (u : Changes). u.records))))));
+                  edited.1.put.t e.image sets_in edited.1.room touched edited.1.order (length-map o.units.items (λ (u : Changes). u.slots) ∙ sym (length-map o.units.items (λ (u : Changes). u.records))))));
             }
 
         led : (code : _) (oe : Option Edit) → PlansTo dbd (rows_in number (rows_of o.stores.stores)) (dli dbd call at (rows_in number (rows_of o.stores.stores))) p oe
@@ -197,7 +222,7 @@ module _ (o : Opened) (h : AreUnits (records_of o.units.items) o.stores.stores o
             let none = led_told o h region number first last least dbd call at position ok s there same_dbd unblocked unit p e pl code leads_to in
             record {
               told = sym none;
-              changes = subst (λ rs. ChangesTold unit o.stores.stores new.stores.stores rs) (sym none) (stays_told unit o.stores.stores new.stores.stores same.stores);
+              slots = calls_none unit region (slots_seen (seen o)) (slots_seen (seen new)) (call_told unit region number dbd call at (seen o)) none (same_slots same.units same.slots same.stores same.changed);
               touched = same.slots;
               touch = same_touched same;
             }
@@ -211,21 +236,21 @@ module _ (o : Opened) (h : AreUnits (records_of o.units.items) o.stores.stores o
     pub read_told : (r : Result DataAnswer E) (asked : Asked) (p : Planned) → asked.region ≡ region → asked.number ≡ number
         → asked.requests.items ≡ map (request_of region number) (footprint dbd call at (rows_of_slots s.slots))
         → Plans dbd (rows_of_slots s.slots) (dli dbd call at (rows_of_slots s.slots)) p → IsThere (rows_of_slots s.slots) p.edit
-        → p.edit ≡ None → records_of new.units.items ≡ records_of o.units.items → slots_of new.units.items ≡ slots_of o.units.items → new.stores.stores ≡ o.stores.stores
+        → p.edit ≡ None → records_of new.units.items ≡ records_of o.units.items → slots_of new.units.items ≡ slots_of o.units.items → new.stores.stores ≡ o.stores.stores → new.stores.changed ≡ o.stores.changed
         → IfOk r (Reads asked.requests.items o.table p)
         → OnOk r (new.table ≡ after_asks asked.region asked.requests.items o.table) → IsKept new.table
         → IfOk r (Retells unit region number dbd call at o new [])
-    read_told (Err x) asked p er en eq plans exists none u sl st w t kept = tt
-    read_told (Ok (Abend code)) asked p er en eq plans exists none u sl st w t kept = absurd w
-    read_told (Ok (Blocked b)) asked p er en eq plans exists none u sl st w t kept =
-        waits_told (Ok (Blocked b)) asked.requests.items eq u sl st w (t ∙ ap (λ n. after_asks n asked.requests.items o.table) er) kept
-    read_told (Ok (Answered a)) asked p er en eq plans exists none u sl st w t kept =
+    read_told (Err x) asked p er en eq plans exists none u sl st ch w t kept = tt
+    read_told (Ok (Abend code)) asked p er en eq plans exists none u sl st ch w t kept = absurd w
+    read_told (Ok (Blocked b)) asked p er en eq plans exists none u sl st ch w t kept =
+        waits_told (Ok (Blocked b)) asked.requests.items eq u sl st ch w (t ∙ ap (λ n. after_asks n asked.requests.items o.table) er) kept
+    read_told (Ok (Answered a)) asked p er en eq plans exists none u sl st ch w t kept =
         let made = made_told_so (Ok (Answered a)) asked p er en eq w.free plans exists
         (record {
           status = w.status;
           area = w.area;
           position = w.position;
-          edited = subst (IsEdited asked dbd o new) (sym none) (record { units = u; slots = sl; stores = st; asks = record { table = t; kept = kept } });
+          edited = subst (IsEdited asked dbd o new) (sym none) (record { units = u; slots = sl; stores = st; changed = ch; asks = record { table = t; kept = kept } });
         }) in
         subst (λ records. Retells unit region number dbd call at o new records (Answered a)) (ap (λ e. edit_told unit number e o.stores.stores) none) made
 
@@ -276,12 +301,12 @@ module _ (unit region number : ℕ) (dbd : Dbd) (call : DbCall) (at : Position) 
       by (Err e) k m = tt
 
   module _ (records : DataAnswer → List Record) (h : IfOk r (λ a. Retells unit region number dbd call at o new (records a) a)) where
-    pub changes_so : OnOk r (ChangesTold unit o.stores.stores new.stores.stores (call_told unit region number dbd call at (seen o)))
-    changes_so = by r h
+    pub slots_so : OnOk r (CallsSo unit region (slots_seen (seen o)) (slots_seen (seen new)) (call_told unit region number dbd call at (seen o)))
+    slots_so = by r h
       where
         by : (q : Result DataAnswer E) → IfOk q (λ a. Retells unit region number dbd call at o new (records a) a)
-            → OnOk q (ChangesTold unit o.stores.stores new.stores.stores (call_told unit region number dbd call at (seen o)))
-        by (Ok a) t = t.changes
+            → OnOk q (CallsSo unit region (slots_seen (seen o)) (slots_seen (seen new)) (call_told unit region number dbd call at (seen o)))
+        by (Ok a) t = t.slots
         by (Err e) t = tt
 
     pub touched_so : IfOk r (λ a. slots_of new.units.items ≡ touched_after region number (dli dbd call at (rows_numbered region number (seen o))) (seen o) a)
@@ -304,11 +329,66 @@ pub memory_untold : {A : Type 0} (r : Result A Untold) (records : List Record) (
 memory_untold (Ok x) records room h = tt
 memory_untold (Err e) records room h = subst (IsUntold records room) (sym h) tt
 
+-- marked slots are there still, where those that a call tells of are
+pub there_after : (unit region : ℕ) (old new : SlotsState) (records : List Record) → AreThere (all_stores old) → CallsSo unit region old new records
+    → ((db : ℕ) → 1 ≤ db → length (slots_at db new.stores) ≡ length (slots_at db old.stores)) → AreThere (all_stores new)
+there_after unit region old new records there calls lengths db slot least e =
+    omega (arith, lengths db least, ⊎_elim (λ (was : is_marked old.changed db slot ≡ true). there db slot least was) (λ tells. told_there records calls.told.each tells) (calls.marks.only db slot least e))
+  where
+    told_there : (rs : List Record) → AllByRecursion (IsTold unit old.stores new.stores) rs → list_any (is_told_of db slot) rs ≡ true → slot < length (slots_at db old.stores)
+    told_there [] h t = absurd (false≢true t)
+    told_there (r ∷ rs) h t = by (is_told_of db slot r) refl (told_there rs h.1)
+      where
+        one : (x : Record) → IsTold unit old.stores new.stores x → is_told_of db slot x ≡ true → slot < length (slots_at db old.stores)
+        one (told.Change u d s before after) g f =
+            let place = same_is d s db slot f in
+            subst (λ n. n < length (slots_at db old.stores)) place.1 (subst (λ n. s < length (slots_at n old.stores)) place.0 g.there.within)
+        one (told.Input u id origin code number conversation segments) g f = absurd g
+        one (told.Command text) g f = absurd g
+        one (told.Reply u terminal number segments) g f = absurd g
+        one (told.Discarded u id abend number) g f = absurd g
+        one (told.Completed u id) g f = absurd g
+        one (told.Acknowledged terminal number) g f = absurd g
+        one (told.SyncPoint u pad) g f = absurd g
+        one (told.Checkpoint checkpoint next_id next_unit steps) g f = absurd g
+        one (told.Terminal name last next stopped conversation) g f = absurd g
+        one (told.Code name stopped class priority) g f = absurd g
+
+        by : (b : Bool) → is_told_of db slot r ≡ b → (list_any (is_told_of db slot) rs ≡ true → slot < length (slots_at db old.stores)) → slot < length (slots_at db old.stores)
+        by true q rec = one r h.0 q
+        by false q rec = rec (sym (ap (λ b. b || list_any (is_told_of db slot) rs) q) ∙ t)
+
+-- valid stores of the same databases have as many slots
+pub lengths_same : (old new : List Stored) → AreValid old → AreValid new → map (λ (s : Stored). s.dbd) new ≡ map (λ (s : Stored). s.dbd) old → (db : ℕ) → length (slots_at db new) ≡ length (slots_at db old)
+lengths_same old new v w e db = by old new v w e (db - 1)
+  where
+    slots_by : List Stored → ℕ → List (List Row)
+    slots_by stores i = option_map_or (λ (s : Stored). s.slots) (slice_get stores i) []
+
+    by : (xs ys : List Stored) → AreValid xs → AreValid ys → map (λ (s : Stored). s.dbd) ys ≡ map (λ (s : Stored). s.dbd) xs → (i : ℕ) → length (slots_by ys i) ≡ length (slots_by xs i)
+    by [] [] v w e i = refl
+    by [] (y ∷ ys) v w e i = let clash : y.dbd ∷ map (λ (s : Stored). s.dbd) ys ≡ [] = e in absurd (cc)
+    by (x ∷ xs) [] v w e i = let clash : [] ≡ x.dbd ∷ map (λ (s : Stored). s.dbd) xs = e in absurd (cc)
+    by (x ∷ xs) (y ∷ ys) v w e zero =
+        let both : y.dbd ∷ map (λ (s : Stored). s.dbd) ys ≡ x.dbd ∷ map (λ (s : Stored). s.dbd) xs = e in
+        let head : y.dbd ≡ x.dbd = cc in
+        w.0.count ∙ (ap (λ (d : Dbd). d.roots) head ∙ sym v.0.count)
+    by (x ∷ xs) (y ∷ ys) v w e (suc i) =
+        let both : y.dbd ∷ map (λ (s : Stored). s.dbd) ys ≡ x.dbd ∷ map (λ (s : Stored). s.dbd) xs = e in
+        let tail : map (λ (s : Stored). s.dbd) ys ≡ map (λ (s : Stored). s.dbd) xs = cc in
+        by xs ys v.1 w.1 tail i
+
 -- the databases are whole again, whether or not the call was done
-pub whole_after : (region number : ℕ) (dbd : Dbd) (call : DbCall) (at : Position) (o new : Opened) {E : Type 0} (r : Result DataAnswer E) → IsWhole o → IfOk r (IsDone region number dbd call at o new)
-    → OnOk r (HasTouched new) → OnErr r (IsSame o new) → IsWhole new
-whole_after region number dbd call at o new (Ok a) h done touch same = record { units = done.units; touched = touch }
-whole_after region number dbd call at o new (Err e) h done touch same =
+pub whole_after : (unit region number : ℕ) (dbd : Dbd) (call : DbCall) (at : Position) (o new : Opened) {E : Type 0} (r : Result DataAnswer E) → IsWhole o → IfOk r (IsDone region number dbd call at o new)
+    → OnOk r (HasTouched new) → OnOk r (CallsSo unit region (slots_seen (seen o)) (slots_seen (seen new)) (call_told unit region number dbd call at (seen o))) → OnErr r (IsSame o new) → IsWhole new
+whole_after unit region number dbd call at o new (Ok a) h done touch slots same =
+    record {
+      units = done.units;
+      touched = touch;
+      marks = there_after unit region (slots_seen (seen o)) (slots_seen (seen new)) (call_told unit region number dbd call at (seen o)) h.marks slots
+          (λ db least. lengths_same o.stores.stores new.stores.stores h.units.valid done.units.valid slots.told.databases db);
+    }
+whole_after unit region number dbd call at o new (Err e) h done touch slots same =
     record {
       units = subst (λ us. AreUnits us new.stores.stores new.table) (sym same.units)
           (subst (λ ss. AreUnits (records_of o.units.items) ss new.table) (sym same.stores)
@@ -317,4 +397,6 @@ whole_after region number dbd call at o new (Err e) h done touch same =
           (subst (λ ss. AllTouch (records_of o.units.items) ss new.stores.stores new.table) (sym same.slots)
           (subst (λ ss. AllTouch (records_of o.units.items) (slots_of o.units.items) ss new.table) (sym same.stores)
           (subst (λ (t : EnqueueTable). AllTouch (records_of o.units.items) (slots_of o.units.items) o.stores.stores t) (sym same.table) h.touched)));
+      marks = λ db slot least e.
+          subst (λ ss. slot < length (slots_at db ss)) (sym same.stores) (h.marks db slot least (ap (λ changed. is_marked changed db slot) (sym same.changed) ∙ e));
     }

@@ -14,7 +14,7 @@ use Rattle.seg_rows.specs.StoreRefused.{set_refusal}
 use Rattle.seg_store.specs.Slots.{Stored, AreSlots, IsSlot}
 use Rattle.unit_work.specs.declared.change.Change.{Change}
 use Rattle.unit_work.specs.Changes.{is_before, is_slot, is_seen}
-use Rattle.unit_work.specs.BackOut.{backed_out}
+use Rattle.unit_work.specs.BackOut.{backed_out, backs}
 use Rattle.change_records.specs.Images.{slots_at, image_at, bytes_at, IsSlotOf}
 use Rattle.change_records.specs.Told.{is_told_of, IsTold, ChangesTold}
 use Rattle.program_rows.specs.Open.{IsTouched, AreTouched}
@@ -52,6 +52,29 @@ module _ (unit : ℕ) (stores : List Stored) (table : EnqueueTable) (region : �
         others = λ db slot least e. t.others db slot least (none_seen db slot slots e);
         databases = backed_dbds records stores;
       }
+
+  -- a slot that the unit sets when it is backed out is told of
+  seen_told : (db slot : ℕ) (slots : List Change) → is_seen db slot slots ≡ true → list_any (is_told_of db slot) (map (slot_told unit stores) slots) ≡ true
+  seen_told db slot slots e = by (list_any (is_told_of db slot) (map (slot_told unit stores) slots)) refl
+    where
+      by : (b : Bool) → list_any (is_told_of db slot) (map (slot_told unit stores) slots) ≡ b → list_any (is_told_of db slot) (map (slot_told unit stores) slots) ≡ true
+      by true q = q
+      by false q = absurd (false≢true (sym (none_seen db slot slots q) ∙ e))
+
+  pub back_seen : (slots : List Change) → AreTouched table stores region records slots → (db slot : ℕ) → 1 ≤ db → backs records db slot (image_at db slot stores) ≡ true → is_seen db slot slots ≡ true
+  back_seen slots t db slot least e = by (is_seen db slot slots) refl
+    where
+      by : (b : Bool) → is_seen db slot slots ≡ b → is_seen db slot slots ≡ true
+      by true q = q
+      by false q = absurd (false≢true (sym (t.idle db slot least q) ∙ e))
+
+  pub back_told_of : (slots : List Change) → AreTouched table stores region records slots → (db slot : ℕ) → 1 ≤ db → backs records db slot (image_at db slot stores) ≡ true
+      → list_any (is_told_of db slot) (map (slot_told unit stores) slots) ≡ true
+  back_told_of slots t db slot least e = seen_told db slot slots (back_seen slots t db slot least e)
+
+  pub each_back : (slots : List Change) → AllByRecursion (IsTouched table stores region records) slots → AllByRecursion (λ c. image_at c.db c.slot (backed_out records stores) ≡ c.before) slots
+  each_back [] h = tt
+  each_back (c ∷ slots) h = (h.0.first, each_back slots h.1)
 
 -- an image in a slot is short enough
 pub short_image : (dbd : Dbd) (slots : List (List Row)) (slot : ℕ) (image : List Row) → AreSlots dbd slots → dbd.sectors ≤ 1 → slice_get slots slot ≡ Some image → length (spelling image) ≤ 4000

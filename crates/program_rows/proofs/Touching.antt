@@ -1,7 +1,8 @@
 -- The slots that units have touched, once one of them has set a record, was backed out or stays, and once regions hold more or release all.
-use Rattle.std.proofs.Common.{◌≡◌, ◌≢◌, ℕ, ◌+◌, ◌-◌, ◌<◌, ◌≤◌, ◌++◌, ◌∷◌, [], List, length, suc, zero, refl, sym, ◌∙◌, ap, subst, Bool, true, false, cond, Option, None, Some, arith, get_or, set, not, ◌&&◌, ◌||◌, ◌⊎◌, inl, inr, ⊎_elim}
+use Rattle.std.proofs.Common.{◌≡◌, ◌≢◌, ℕ, ◌+◌, ◌-◌, ◌<◌, ◌≤◌, ◌++◌, ◌∷◌, [], List, length, suc, zero, refl, sym, ◌∙◌, ap, subst, Bool, true, false, cond, Option, None, Some, arith, get_or, set, not, eqb, ◌&&◌, ◌||◌, ◌⊎◌, inl, inr, ⊎_elim}
 use Rattle.std.specs.List.{AllByRecursion, slice_get, list_any}
-use Rattle.std.proofs.lemmas.Bool.{false≢true, cases_eq, cases_lt, eq-eqb}
+use Rattle.std.proofs.lemmas.Bool.{false≢true, cases_eq, cases_lt, eq-eqb, ne_eqb}
+use Rattle.std.proofs.lemmas.Option.{slice_get-get_or}
 use Rattle.std.proofs.lemmas.List.{length-set}
 use Rattle.model_rows.specs.declared.row.Row.{Row}
 use Rattle.model_rows.proofs.Lists.{all_then}
@@ -9,15 +10,15 @@ use Rattle.tm_types.specs.declared.resource.Resource.{Resource}
 use Rattle.model_enqueue.specs.Table.{EnqueueTable}
 use Rattle.model_enqueue.specs.Ask.{released}
 use Rattle.pi_enqueue.specs.Kept.{IsKept}
-use Rattle.seg_store.specs.Slots.{Stored, is_free}
+use Rattle.seg_store.specs.Slots.{Stored, has_root, is_free}
 use Rattle.unit_work.specs.declared.change.Change.{Change}
-use Rattle.unit_work.specs.Changes.{is_changed, is_seen, with_change, with_slot, is_full}
-use Rattle.unit_work.specs.BackOut.{was_in, backed_slot, cleared_slot, backed_out}
+use Rattle.unit_work.specs.Changes.{AreInOrder, is_changed, is_seen, with_change, with_slot, is_full}
+use Rattle.unit_work.specs.BackOut.{is_touched, was_in, backed_slot, cleared_slot, backed_out, backs}
 use Rattle.change_records.specs.Images.{slots_at, image_at, IsSlotOf}
 use Rattle.program_rows.specs.Open.{HoldsAlone, IsUnit, AreUnits, was_there, IsTouched, AreTouched, AllTouch}
 use Rattle.program_rows.proofs.Slotwise.{back, backed_is, image_at_each}
 use Rattle.program_rows.proofs.Beside.{IsIdle, AreBeside, idle_back, none_touched}
-use Rattle.program_rows.proofs.Aside.{ChangesAside, aside_back}
+use Rattle.program_rows.proofs.Aside.{ChangesAside, aside_back, slots_there}
 use Rattle.program_rows.proofs.Apart.{free_where}
 use Rattle.program_rows.proofs.Backed.{backed_lengths}
 use Rattle.program_rows.proofs.Together.{backed_none, get_set, get_set_else}
@@ -26,9 +27,10 @@ use Rattle.program_rows.proofs.Stepping.{any_push, own_gone}
 use Rattle.program_rows.proofs.SetUnits.{Follows, IsSetIn, some_or_none, has, one, stepped, idle_was, idle_image}
 use Rattle.program_rows.proofs.BackUnits.{beside_mine}
 use Rattle.program_rows.proofs.Holders.{held_released}
-use Rattle.program_rows.proofs.Ordered.{all_with, seen_with}
+use Rattle.unit_work.proofs.Ordered.{all_with, seen_with}
+use Rattle.program_rows.proofs.Bools.{no_right, or_left, or_right}
 
-past : (xs : List (List Row)) (m : ℕ) → length xs ≤ m → get_or xs m [] ≡ []
+pub past : (xs : List (List Row)) (m : ℕ) → length xs ≤ m → get_or xs m [] ≡ []
 past [] m le = refl
 past (x ∷ xs) zero le = absurd (omega arith)
 past (x ∷ xs) (suc m) le = past xs m (omega arith)
@@ -44,7 +46,7 @@ back_free records db slot unused = idle_back records db slot [] (record { untouc
 
 -- a unit that has changed nothing has touched nothing
 pub none_touched_yet : (table : EnqueueTable) (stores : List Stored) (region : ℕ) → AreTouched table stores region [] []
-none_touched_yet table stores region = record { each = tt; others = λ db slot least e. ap (image_at db slot) (backed_none stores) }
+none_touched_yet table stores region = record { each = tt; order = record { ascend = tt; few = omega arith }; idle = λ db slot least e. refl; others = λ db slot least e. ap (image_at db slot) (backed_none stores) }
 
 -- changes aside of a unit leave what it has touched, where free slots of a database stay free whose sequence it has alone
 module _ (table then_table : EnqueueTable) (region : ℕ) (records slots : List Change) (old new : List Stored) (aside : ChangesAside records old new)
@@ -81,9 +83,21 @@ module _ (table then_table : EnqueueTable) (region : ℕ) (records slots : List 
   stays_touched h =
       record {
         each = all_then (IsTouched table old region records) (IsTouched then_table new region records) slots one_stays h.each;
+        order = h.order;
+        idle = idle;
         others = others;
       }
     where
+      idle : (db slot : ℕ) → 1 ≤ db → is_seen db slot slots ≡ false → backs records db slot (image_at db slot new) ≡ false
+      idle db slot least e =
+          ⊎_elim
+          (λ lt.
+          ⊎_elim (λ same. ap (backs records db slot) same ∙ h.idle db slot least e) (λ i. (λ t. i.1.untouched t || i.1.unused t)) (aside.images db slot least lt))
+          (λ le.
+          ap (backs records db slot) (past (slots_at db new) slot (omega (arith, le, aside.lengths db least)))
+          ∙ (λ t. none_touched records db t || or_right (is_touched records db (image_at db slot old)) (was_there records db slot) (h.idle db slot least e) t))
+          (cases_lt slot (length (slots_at db old)))
+
       others : (db slot : ℕ) → 1 ≤ db → is_seen db slot slots ≡ false → image_at db slot (backed_out records new) ≡ image_at db slot new
       others db slot least e =
           ⊎_elim
@@ -103,6 +117,8 @@ follows_touched table then_table region records slots stores alone h =
     record {
       each = all_then (IsTouched table stores region records) (IsTouched then_table stores region records) slots
           (λ s t. record { there = t.there; first = t.first; sits = ⊎_elim (λ w. inl w) (λ p. inr (p.0, alone (record { db = s.db; root = None }) p.1)) t.sits }) h.each;
+      order = h.order;
+      idle = h.idle;
       others = h.others;
     }
 
@@ -169,8 +185,43 @@ module _ (units slots : List (List Change)) (stores : List Stored) (table after 
       by false q =
           any_push (was_in c.db c.slot) (get_or units place []) c ∙ (ap (λ b. was_there (get_or units place []) c.db c.slot || b) own ∙ or_true (was_there (get_or units place []) c.db c.slot))
 
-  touched_own : AreTouched after (set stores (c.db - 1) new) (suc place) (with_change c (get_or units place [])) (with_slot c (get_or slots place []))
-  touched_own =
+  -- what stands in another slot is of another record
+  else_root : (db slot : ℕ) → 1 ≤ db → (c.db ≡ db → c.slot ≡ slot → ⊥) → (eqb c.db db && has_root c.root (image_at db slot stores)) ≡ false
+  else_root db slot least apart =
+      ⊎_elim
+      (λ (d : db ≡ c.db).
+      let other : slot ≢ c.slot = λ q. apart (sym d) (sym q) in
+      let store : slots_at c.db stores ≡ s.slots = slots_there c.db stores s i.at in
+      let at_slot : image_at db slot stores ≡ get_or s.slots slot [] = ap (λ n. image_at n slot stores) d ∙ ap (λ xs. get_or xs slot []) store in
+      let none : has_root c.root (image_at db slot stores) ≡ false =
+      ap (has_root c.root) at_slot
+      ∙ ⊎_elim
+      (λ (inside : slot < length s.slots). (has units stores table after h f place lt c s new image i room).others slot (get_or s.slots slot []) other (slice_get-get_or s.slots slot [] inside))
+      (λ (le : length s.slots ≤ slot). ap (has_root c.root) (past s.slots slot le)) (cases_lt slot (length s.slots)) in
+      ap (λ b. eqb c.db db && b) none ∙ no_right (eqb c.db db))
+      (λ other. ap (λ b. b && has_root c.root (image_at db slot stores)) (ne_eqb c.db db (λ q. other (sym q)))) (cases_eq db c.db)
+
+  else_was : (db slot : ℕ) → (c.db ≡ db → c.slot ≡ slot → ⊥) → was_in db slot c ≡ false
+  else_was db slot apart =
+      ⊎_elim
+      (λ (d : c.db ≡ db). ap (λ b. eqb c.db db && (b && not (is_free c.before))) (ne_eqb c.slot slot (apart d)) ∙ no_right (eqb c.db db))
+      (λ other. ap (λ b. b && (eqb c.slot slot && not (is_free c.before))) (ne_eqb c.db db other)) (cases_eq c.db db)
+
+  still_idle : (db slot : ℕ) → 1 ≤ db → is_seen db slot (get_or slots place []) ≡ false → (c.db ≡ db → c.slot ≡ slot → ⊥)
+      → (b : Bool) → backs (cond b (get_or units place []) (get_or units place [] ++ c ∷ [])) db slot (image_at db slot stores) ≡ false
+  still_idle db slot least e apart true = (touched place lt).idle db slot least e
+  still_idle db slot least e apart false =
+      let idle = (touched place lt).idle db slot least e in
+      let untouched : is_touched (get_or units place []) db (image_at db slot stores) ≡ false = or_left (is_touched (get_or units place []) db (image_at db slot stores)) (was_there (get_or units place []) db slot) idle in
+      let unused : was_there (get_or units place []) db slot ≡ false = or_right (is_touched (get_or units place []) db (image_at db slot stores)) (was_there (get_or units place []) db slot) idle in
+      let touched_more : is_touched (get_or units place [] ++ c ∷ []) db (image_at db slot stores) ≡ false =
+      any_push (λ x. eqb x.db db && has_root x.root (image_at db slot stores)) (get_or units place []) c ∙ (λ t. untouched t || else_root db slot least apart t) in
+      let was_more_than : was_there (get_or units place [] ++ c ∷ []) db slot ≡ false =
+      any_push (was_in db slot) (get_or units place []) c ∙ (λ t. unused t || else_was db slot apart t) in
+      λ t. touched_more t || was_more_than t
+
+  touched_own : AreInOrder (with_slot c (get_or slots place [])) → AreTouched after (set stores (c.db - 1) new) (suc place) (with_change c (get_or units place [])) (with_slot c (get_or slots place []))
+  touched_own order =
       record {
         each = all_with (IsTouched after (set stores (c.db - 1) new) (suc place) (with_change c (get_or units place [])))
             (λ x root t. record { there = t.there; first = t.first; sits = t.sits }) c (get_or slots place [])
@@ -186,6 +237,11 @@ module _ (units slots : List (List Change)) (stores : List Stored) (table after 
               first = ap (image_at c.db c.slot) same_back ∙ ((touched place lt).others c.db c.slot i.least e ∙ is_one.before);
               sits = ⊎_elim (λ none. inr (none, i.comes (inl none))) (λ some. inl (fresh_used e some)) (some_or_none c.before);
             });
+        order = order;
+        idle = λ db slot least e.
+            let found = seen_with db slot c (get_or slots place []) e in
+            ap (backs (with_change c (get_or units place [])) db slot) (is_one.else db slot least (λ d p. found.1 (sym d) (sym p)))
+            ∙ still_idle db slot least found.0 found.1 (is_changed c.db c.root (get_or units place []));
         others = λ db slot least e.
             let found = seen_with db slot c (get_or slots place []) e in
             ap (image_at db slot) same_back
@@ -214,16 +270,16 @@ module _ (units slots : List (List Change)) (stores : List Stored) (table after 
           (λ apart. is_one.else db slot least (λ d p. apart d) ∙ none) (cases_eq db c.db)
 
   -- the units have touched so much again
-  pub set_touched : length slots ≡ length units
+  pub set_touched : AreInOrder (with_slot c (get_or slots place [])) → length slots ≡ length units
       → AllTouch (set units place (with_change c (get_or units place []))) (set slots place (with_slot c (get_or slots place []))) (set stores (c.db - 1) new) after
-  set_touched count k inside =
+  set_touched order count k inside =
       let known : k < length units = omega (arith, inside, length-set units place (with_change c (get_or units place []))) in
       ⊎_elim
       (λ same.
       subst (λ n. AreTouched after (set stores (c.db - 1) new) (suc n) (get_or (set units place (with_change c (get_or units place []))) n []) (get_or (set slots place (with_slot c (get_or slots place []))) n [])) (sym same)
       (subst (λ a. AreTouched after (set stores (c.db - 1) new) (suc place) a (get_or (set slots place (with_slot c (get_or slots place []))) place [])) (sym (get_set units place (with_change c (get_or units place [])) lt))
       (subst (λ b. AreTouched after (set stores (c.db - 1) new) (suc place) (with_change c (get_or units place [])) b) (sym (get_set slots place (with_slot c (get_or slots place [])) (omega (arith, lt, count))))
-      touched_own)))
+      (touched_own order))))
       (λ other.
       subst (λ a. AreTouched after (set stores (c.db - 1) new) (suc k) a (get_or (set slots place (with_slot c (get_or slots place []))) k [])) (sym (get_set_else units place k (with_change c (get_or units place [])) other))
       (subst (λ b. AreTouched after (set stores (c.db - 1) new) (suc k) (get_or units k []) b) (sym (get_set_else slots place k (with_slot c (get_or slots place [])) other))

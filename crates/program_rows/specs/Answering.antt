@@ -11,6 +11,7 @@ use Rattle.model_enqueue.specs.declared.request.Request.{Request}
 use Rattle.model_enqueue.specs.Table.{EnqueueTable}
 use Rattle.model_enqueue.specs.Ask.{after_asks, released}
 use Rattle.program_rows.specs.Isolation.{AgreeOnHeld}
+use Rattle.program_rows.specs.OnSlots.{slots_in, AreOnSlots, CommitsSo, GivesUpSo}
 use Rattle.program_rows.specs.State.{DatabasesState, RegionRows, region_at, committed_rows, clean_region, with_records_from}
 use Rattle.program_rows.specs.declared.answer.Answered as answer
 use Rattle.program_rows.specs.declared.answer.DataAnswer.{DataAnswer}
@@ -77,11 +78,11 @@ table_left region requests table (Answered a) = after_asks region requests table
 table_left region requests table (Abend code) = table
 table_left region requests table (Blocked blocked) = after_asks region requests table
 
--- a call that leads to an abend changes nothing at all
-abbrev pub StaysAtAbend : DatabasesState → DatabasesState → DataAnswer → Type 0
-StaysAtAbend old new (Answered a) = Unit {0}
-StaysAtAbend old new (Abend code) = new ≡ old
-StaysAtAbend old new (Blocked blocked) = Unit {0}
+-- a call that leads to an abend changes nothing at all, and one that is blocked only what is asked for
+abbrev pub StaysUnlessMade : DatabasesState → DatabasesState → DataAnswer → Type 0
+StaysUnlessMade old new (Answered a) = Unit {0}
+StaysUnlessMade old new (Abend code) = new ≡ old
+StaysUnlessMade old new (Blocked blocked) = new ≡ record old { table = new.table }
 
 -- the region has taken back all its changes
 abbrev pub regions_backed : ℕ → DatabasesState → List RegionRows
@@ -103,6 +104,7 @@ pub record IsCommitted (region : ℕ) (old new : DatabasesState) : Type 0 where
   pub count : length new.regions ≡ length old.regions
   pub others : (other : ℕ) → (other ≡ region → ⊥) → 1 ≤ other → other ≤ length old.regions → IsBeside other old new
   pub touched : new.touched ≡ slice_set old.touched (region - 1) []
+  pub slots : CommitsSo region (slots_in old) (slots_in new)
   pub table : new.table ≡ released region old.table
 
 -- The region's changes are taken back, and all that it holds and waits for is given up.
@@ -110,4 +112,6 @@ pub record IsGivenUp (region : ℕ) (old new : DatabasesState) : Type 0 where
   pub committed : new.committed ≡ old.committed
   pub regions : new.regions ≡ regions_backed region old
   pub touched : new.touched ≡ slice_set old.touched (region - 1) []
+  pub slots : GivesUpSo region (slots_in old) (slots_in new)
+  pub on_slots : AreOnSlots new
   pub table : new.table ≡ released region old.table

@@ -8,7 +8,7 @@ use Rattle.model_dli.specs.Dli.{dli}
 use Rattle.model_enqueue.specs.Ask.{first_blocked}
 use Rattle.program_rows.specs.State.{DatabasesState, dbds_of, data_of, rows_numbered}
 use Rattle.program_rows.specs.Isolation.{requests_of_call}
-use Rattle.program_rows.specs.Answering.{blocked_of, told_blocked, Gives, LeadsToAbend, Stands, regions_after, table_left, StaysAtAbend}
+use Rattle.program_rows.specs.Answering.{blocked_of, told_blocked, Gives, LeadsToAbend, Stands, regions_after, table_left, StaysUnlessMade}
 use Rattle.program_rows.specs.Making.{seen, IsOpen}
 use Rattle.program_rows.specs.declared.answer.DataAnswer.{DataAnswer}
 use Rattle.program_rows.specs.declared.opened.Opened.{Opened}
@@ -20,7 +20,7 @@ pub record Called (region number : ℕ) (dbd : Dbd) (call : DbCall) (at : Positi
   pub gives : Gives (dli dbd call at (rows_numbered region number old)) a
   pub leaves : new.regions ≡ regions_after region number (dli dbd call at (rows_numbered region number old)) old a
   pub asks : new.table ≡ table_left region (requests_of_call region number dbd call at old) old.table a
-  pub stays : StaysAtAbend old new a
+  pub stays : StaysUnlessMade old new a
   pub committed : new.committed ≡ old.committed
   pub dbds : dbds_of new ≡ dbds_of old
 

@@ -5,3 +5,4 @@ pub mod Open
 pub mod Making
 pub mod Telling
 pub mod Calling
+pub mod OnSlots

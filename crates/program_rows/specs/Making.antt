@@ -1,5 +1,5 @@
 -- What is made of the plan of a call that nothing blocks.
-use Rattle.std.specs.Prelude.{◌≡◌, ◌<◌, ℕ, ◌-◌, false, List, Option, None, Some, [], length, slice_get, slice_index_or, slice_set}
+use Rattle.std.specs.Prelude.{◌≡◌, ◌<◌, ◌≤◌, ℕ, ◌-◌, true, false, List, Option, None, Some, [], length, slice_get, slice_index_or, slice_set}
 use Rattle.tm_types.specs.declared.abend.AbendCode.{AbendCode}
 use Rattle.tm_types.specs.declared.dbd.Dbd.{Dbd}
 use Rattle.model_rows.specs.Rows.{record_of, IsImage}
@@ -11,7 +11,7 @@ use Rattle.pi_enqueue.specs.Kept.{IsKept}
 use Rattle.seg_rows.specs.StoreRefused.{set_refusal}
 use Rattle.seg_store.specs.Slots.{Stored, AreSlots, rows_of_slots, slot_for, with_root}
 use Rattle.unit_work.specs.declared.change.Change.{Change}
-use Rattle.unit_work.specs.Changes.{is_full, with_change, with_slot}
+use Rattle.unit_work.specs.Changes.{AreInOrder, is_full, with_change, with_slot}
 use Rattle.dli_calls.specs.declared.planned.Edit.{Edit}
 use Rattle.dli_calls.specs.declared.planned.Planned.{Planned}
 use Rattle.dli_calls.specs.Plans.{limit_of}
@@ -22,6 +22,10 @@ use Rattle.log_records.specs.declared.record.Record.{Record}
 use Rattle.log_records.specs.declared.untold.Untold.{Untold}
 use Rattle.log_records.specs.declared.untold.Untold.TheVariants.{Memory, Full}
 use Rattle.change_records.specs.Images.{slots_at}
+use Rattle.change_records.specs.Marks.{is_marked, AreMarked}
+use Rattle.change_records.specs.Told.{is_told_of}
+use Rattle.seg_store.specs.Changed.{AllStores}
+use Rattle.std.specs.List.{list_any}
 use Rattle.program_rows.specs.Open.{records_of, slots_of, opened, AreUnits, AllTouch}
 use Rattle.program_rows.specs.declared.answer.Answered as answer
 use Rattle.program_rows.specs.declared.answer.DataAnswer.{DataAnswer}
@@ -31,7 +35,7 @@ use Rattle.program_rows.specs.declared.opened.Opened.{Opened}
 
 -- the databases with what is open, as they are seen
 abbrev pub seen : Opened → DatabasesState
-seen o = opened (records_of o.units.items) (slots_of o.units.items) o.stores.stores o.table
+seen o = opened (records_of o.units.items) (slots_of o.units.items) o.stores.stores o.stores.changed o.table
 
 abbrev pub IsOpen : Opened → Type 0
 IsOpen o = AreUnits (records_of o.units.items) o.stores.stores o.table
@@ -40,9 +44,14 @@ IsOpen o = AreUnits (records_of o.units.items) o.stores.stores o.table
 abbrev pub HasTouched : Opened → Type 0
 HasTouched o = AllTouch (records_of o.units.items) (slots_of o.units.items) o.stores.stores o.table
 
+-- the slots that are marked as changed are there
+abbrev pub AreThere : AllStores → Type 0
+AreThere all = (database slot : ℕ) → 1 ≤ database → is_marked all.changed database slot ≡ true → slot < length (slots_at database all.stores)
+
 pub record IsWhole (o : Opened) : Type 0 where
   pub units : IsOpen o
   pub touched : HasTouched o
+  pub marks : AreThere o.stores
 
 -- the records that a region has changed
 abbrev pub changed_in : ℕ → Opened → List Change
@@ -57,6 +66,7 @@ pub record IsSame (old new : Opened) : Type 0 where
   pub units : records_of new.units.items ≡ records_of old.units.items
   pub slots : slots_of new.units.items ≡ slots_of old.units.items
   pub stores : new.stores.stores ≡ old.stores.stores
+  pub changed : new.stores.changed ≡ old.stores.changed
   pub table : new.table ≡ old.table
 
 -- the region waits at the first of these requests that is blocked
@@ -104,6 +114,16 @@ pub record HasAskedIn (asked : Asked) (old new : EnqueueTable) : Type 0 where
   pub table : new ≡ after_asks asked.region asked.requests.items old
   pub kept : IsKept new
 
+-- the slot that is set, with the bytes there and those of the image
+abbrev pub edit_told : ℕ → ℕ → Option Edit → List Stored → List Record
+edit_told unit number (Some e) stores = set_told unit number e.image stores (slot_for e.root (slots_at number stores))
+edit_told unit number None stores = []
+
+-- the slot that is told of counts as changed then, whatever the unit's number
+abbrev pub MarksEdit : ℕ → Edit → AllStores → AllStores → Type 0
+MarksEdit number e old new =
+    (unit : ℕ) → AreMarked (λ database slot. list_any (is_told_of database slot) (edit_told unit number (Some e) old.stores)) old new
+
 -- a record is set, and its image before kept; the region has asked for what that needs
 pub record IsSet (asked : Asked) (e : Edit) (old new : Opened) : Type 0 where
   pub slot : ℕ
@@ -114,6 +134,8 @@ pub record IsSet (asked : Asked) (e : Edit) (old new : Opened) : Type 0 where
       ≡ slice_set (records_of old.units.items) (asked.region - 1) (with_change (kept_of asked.number slot e put.s) (changed_in asked.region old))
   pub slots : slots_of new.units.items
       ≡ slice_set (slots_of old.units.items) (asked.region - 1) (with_slot (kept_of asked.number slot e put.s) (slots_in asked.region old))
+  pub order : AreInOrder (with_slot (kept_of asked.number slot e put.s) (slots_in asked.region old))
+  pub marks : MarksEdit asked.number e old.stores new.stores
   pub asks : HasAskedIn asked old.table new.table
 
 -- no record is set; the region has asked for what the call needs
@@ -121,6 +143,7 @@ pub record HasAsked (asked : Asked) (old new : Opened) : Type 0 where
   pub units : records_of new.units.items ≡ records_of old.units.items
   pub slots : slots_of new.units.items ≡ slots_of old.units.items
   pub stores : new.stores.stores ≡ old.stores.stores
+  pub changed : new.stores.changed ≡ old.stores.changed
   pub asks : HasAskedIn asked old.table new.table
 
 -- the abend to which an edit leads, if it leads to one
@@ -154,13 +177,6 @@ Makes asked dbd p old new (Blocked b) = ⊥
 abbrev pub EditMade : Asked → Edit → Opened → Opened → Option AbendCode → Type 0
 EditMade asked e old new None = IsSet asked e old new
 EditMade asked e old new (Some code) = IsSame old new
-
--- ---- what is told of an edit
-
--- the slot that is set, with the bytes there and those of the image
-abbrev pub edit_told : ℕ → ℕ → Option Edit → List Stored → List Record
-edit_told unit number (Some e) stores = set_told unit number e.image stores (slot_for e.root (slots_at number stores))
-edit_told unit number None stores = []
 
 -- nothing where it leads to an abend
 abbrev pub told_unless : Option AbendCode → List Record → List Record

@@ -8,8 +8,8 @@ use Rattle.pi_enqueue.specs.Kept.{IsKept, held}
 use Rattle.seg_store.specs.Slots.{Stored, AreSlots, has_root}
 use Rattle.change_records.specs.Images.{image_at, IsSlotOf}
 use Rattle.unit_work.specs.declared.change.Change.{Change}
-use Rattle.unit_work.specs.Changes.{Changes, is_seen, AreKept}
-use Rattle.unit_work.specs.BackOut.{was_in, backed_out, CanBackOut}
+use Rattle.unit_work.specs.Changes.{Changes, is_seen, AreInOrder, AreKept}
+use Rattle.unit_work.specs.BackOut.{was_in, backed_out, backs, CanBackOut}
 use Rattle.program_rows.specs.State.{DatabasesState, RegionRows, roots_of, rows_of}
 
 -- the records that each unit has changed
@@ -35,11 +35,12 @@ regions_from place [] all stores = []
 regions_from place (records ∷ units) all stores =
     record { rows = rows_of (seen_by place all stores); changed = roots_of records } ∷ regions_from (suc place) units all stores
 
--- the databases with these open units, whose slots these are
-abbrev pub opened : List (List Change) → List (List Change) → List Stored → EnqueueTable → DatabasesState
-opened units slots stores table = record {
+-- the databases with these open units, whose slots these are; these slots of the stores are changed
+abbrev pub opened : List (List Change) → List (List Change) → List Stored → List (List ℕ) → EnqueueTable → DatabasesState
+opened units slots stores changed table = record {
   committed = backed_all units stores;
   stores = stores;
+  changed = changed;
   regions = regions_from 0 units units stores;
   touched = slots;
   table = table;
@@ -84,9 +85,11 @@ pub record IsTouched (table : EnqueueTable) (stores : List Stored) (region : ℕ
   pub first : image_at s.db s.slot (backed_out records stores) ≡ s.before
   pub sits : (was_there records s.db s.slot ≡ true) ⊎ ((s.before ≡ []) × HoldsAlone table region (record { db = s.db; root = None }))
 
--- the slots that a unit with these records has touched: backing it out changes no other
+-- the slots that a unit with these records has touched: backing it out sets and changes no other
 pub record AreTouched (table : EnqueueTable) (stores : List Stored) (region : ℕ) (records slots : List Change) : Type 0 where
   pub each : AllByRecursion (IsTouched table stores region records) slots
+  pub order : AreInOrder slots
+  pub idle : (db slot : ℕ) → 1 ≤ db → is_seen db slot slots ≡ false → backs records db slot (image_at db slot stores) ≡ false
   pub others : (db slot : ℕ) → 1 ≤ db → is_seen db slot slots ≡ false → image_at db slot (backed_out records stores) ≡ image_at db slot stores
 
 -- so for each unit, the first of them in region 1

@@ -17,15 +17,20 @@ pub record RegionRows : Type 0 where
   pub changed : List (ℕ × List ℕ)
 
 -- The stores as they were committed, which backing out all regions would leave, slots included; the stores as
--- they are, with the changes of all regions; what each region sees and has changed; the slots that each region has
--- touched, by database and slot, each with its first image and the root last touched in it; and what the regions hold
--- and wait for.
+-- they are, with the changes of all regions; of each store the numbers of the slots that were changed since they were
+-- written; what each region sees and has changed; the slots that each region has touched, by database and slot, each with
+-- its first image and the root last touched in it; and what the regions hold and wait for.
 pub record DatabasesState : Type 0 where
   pub committed : List Stored
   pub stores : List Stored
+  pub changed : List (List ℕ)
   pub regions : List RegionRows
   pub touched : List (List Change)
   pub table : EnqueueTable
+
+-- as they are once each changed slot is written
+abbrev pub settled : DatabasesState → DatabasesState
+settled databases = record databases { changed = map (λ numbers. []) databases.changed }
 
 -- the records of these changes
 abbrev pub roots_of : List Change → List (ℕ × List ℕ)

@@ -3,7 +3,7 @@ ghost use Rattle.std.specs.Prelude.{◌≡◌, ◌≤◌, ◌-◌, Some, All, If
 ghost use Rattle.model_dli.specs.Conditions.{IsDbCall, IsPosition};
 ghost use Rattle.program_rows.specs.Calling.{IsDone};
 ghost use Rattle.model_dli.specs.Dli.{dli};
-ghost use Rattle.change_records.specs.Told.{ChangesTold};
+ghost use Rattle.program_rows.specs.OnSlots.{slots_in, CallsSo};
 ghost use Rattle.program_rows.specs.State.{rows_numbered};
 ghost use Rattle.program_rows.specs.Open.{slots_of};
 ghost use Rattle.program_rows.specs.Telling.{call_told, touched_after, Tells, IsUntold};
@@ -49,7 +49,7 @@ pub fn call(
     requires call { IsDbCall dbd.now.types call.now }
     ensures done { IfOk result (IsDone region number dbd.now call.now at.now opened.old opened.new) }
     ensures tells { OnOk result (Tells (call_told unit region number dbd.now call.now at.now (seen opened.old)) room told.old.items told.new.items) }
-    ensures changes { OnOk result (ChangesTold unit opened.old.stores.stores opened.new.stores.stores (call_told unit region number dbd.now call.now at.now (seen opened.old))) }
+    ensures slots { OnOk result (CallsSo unit region (slots_in (seen opened.old)) (slots_in (seen opened.new)) (call_told unit region number dbd.now call.now at.now (seen opened.old))) }
     ensures touched { IfOk result (λ a. slots_of opened.new.units.items ≡ touched_after region number (dli dbd.now call.now at.now (rows_numbered region number (seen opened.old))) (seen opened.old) a) }
     ensures touch { OnOk result (HasTouched opened.new) }
     ensures kept { OnErr result (IsSame opened.old opened.new) }

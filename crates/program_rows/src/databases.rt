@@ -9,17 +9,19 @@ ghost use Rattle.std.specs.List.{AllByRecursion};
 ghost use Rattle.tm_types.specs.SegTypes.{IsHierarchy};
 ghost use Rattle.model_enqueue.specs.Cycle.{IsRegion};
 ghost use Rattle.pi_enqueue.specs.Kept.{IsKept};
-ghost use Rattle.unit_work.specs.BackOut.{CanBackOut, backed_out};
+ghost use Rattle.unit_work.specs.BackOut.{CanBackOut, backed_out, backs};
 ghost use Rattle.program_rows.specs.Open.{records_of, slots_of};
-ghost use Rattle.change_records.specs.Told.{ChangesTold};
+ghost use Rattle.change_records.specs.Images.{image_at};
+ghost use Rattle.change_records.specs.Marks.{AreMarked};
+ghost use Rattle.program_rows.specs.OnSlots.{slots_in, all_stores, AreOnSlots, CallsSo};
 ghost use Rattle.program_rows.specs.Telling.{back_told, call_told, touched_after, Tells, IsUntold};
 ghost use Rattle.program_rows.specs.Making.{changed_in};
-ghost use Rattle.seg_store.specs.Stores.{empty_stores};
-ghost use Rattle.program_rows.specs.State.{clean_region, committed_rows, data_of, dbds_of, region_at, rows_numbered, rows_of, AreRowsOf, IsClean, IsRegionOf};
+ghost use Rattle.seg_store.specs.Stores.{empty_stores, no_changed};
+ghost use Rattle.program_rows.specs.State.{clean_region, committed_rows, data_of, dbds_of, region_at, rows_numbered, rows_of, settled, touched_by, AreRowsOf, IsClean, IsRegionOf};
 ghost use Rattle.program_rows.specs.Isolation.{requests_of_call};
-ghost use Rattle.program_rows.specs.Answering.{blocked_of, told_blocked, regions_after, regions_backed, Gives, IsCommitted, IsGivenUp, LeadsToAbend, Stands, StaysAtAbend, table_left};
+ghost use Rattle.program_rows.specs.Answering.{blocked_of, told_blocked, regions_after, regions_backed, Gives, IsCommitted, IsGivenUp, LeadsToAbend, Stands, StaysUnlessMade, table_left};
 
-use crate::opened::{Opened, put_unit, take_unit, unit_of, units_of};
+use crate::opened::{Opened, clear_units, put_unit, take_unit, unit_of, units_of};
 use crate::telling::tell_slots;
 use crate::{DataAnswer, calling};
 use log_records::Untold;
@@ -77,11 +79,33 @@ impl Databases {
         })
     }
 
-    /// The stores, as they are.
+    /// The stores, as they are, with the slots that were changed since they were written.
     pub fn stores(&self) -> &Stores
-        ensures { result.now.stores ≡ self.now.stores }
+        ensures value { result.now ≡ all_stores (slots_in self.now) }
+        ensures on_slots { AreOnSlots self.now }
     {
         &self.opened.stores
+    }
+
+    /// No slot counts as changed any more: what stands in the sectors is the caller's.
+    pub fn settle(&mut self)
+        ensures { self.new ≡ settled self.old }
+    {
+        self.opened.stores.settle();
+    }
+
+    /// The databases have these stores, and no region has changed anything. What the regions hold and wait for stays. This
+    /// takes no memory.
+    pub fn open(&mut self, stores: Stores)
+        requires { stores.changed ≡ no_changed (map (λ s. s.dbd) stores.stores) }
+        ensures slots { slots_in self.new ≡ record { stores = stores.stores; changed = stores.changed; committed = stores.stores; touched = replicate (length self.old.regions) [] } }
+        ensures regions { self.new.regions ≡ replicate (length self.old.regions) (clean_region (rows_of stores.stores)) }
+        ensures table { self.new.table ≡ self.old.table }
+        ensures rows { AreRowsOf (dbds_of self.new) (committed_rows self.new) }
+    {
+        stores.slots_valid();
+        clear_units(self.alloc, &mut self.opened.units);
+        self.opened.stores = stores;
     }
 
     /// What the regions hold and wait for.
@@ -89,6 +113,14 @@ impl Databases {
         ensures { result.now ≡ self.now.table }
     {
         &self.opened.table
+    }
+
+    /// The unit that a region has open.
+    pub fn unit(&self, region: u32) -> &Unit
+        requires { IsRegionOf self.now region }
+        ensures { result.now.slots ≡ touched_by region self.now }
+    {
+        unit_of(&self.opened.units, region)
     }
 
     /// How many records a region has changed since its last commit.
@@ -134,11 +166,11 @@ impl Databases {
         ensures stands { IfOk result (Stands dbd.now.types) }
         ensures leaves { IfOk result (λ a. self.new.regions ≡ regions_after region number (dli dbd.now call.now at.now (rows_numbered region number self.old)) self.old a) }
         ensures asks { IfOk result (λ a. self.new.table ≡ table_left region (requests_of_call region number dbd.now call.now at.now self.old) self.old.table a) }
-        ensures stays { IfOk result (StaysAtAbend self.old self.new) }
+        ensures stays { IfOk result (StaysUnlessMade self.old self.new) }
         ensures committed { self.new.committed ≡ self.old.committed }
         ensures databases { dbds_of self.new ≡ dbds_of self.old }
         ensures tells { OnOk result (Tells (call_told unit region number dbd.now call.now at.now self.old) room told.old.items told.new.items) }
-        ensures changes { OnOk result (ChangesTold unit self.old.stores self.new.stores (call_told unit region number dbd.now call.now at.now self.old)) }
+        ensures slots { OnOk result (CallsSo unit region (slots_in self.old) (slots_in self.new) (call_told unit region number dbd.now call.now at.now self.old)) }
         ensures touched { IfOk result (λ a. self.new.touched ≡ touched_after region number (dli dbd.now call.now at.now (rows_numbered region number self.old)) self.old a) }
         ensures kept { OnErr result (self.new ≡ self.old) }
         ensures untold { OnErr result (told.new.items ≡ told.old.items) }
@@ -203,7 +235,7 @@ impl Databases {
         ensures databases { dbds_of self.new ≡ dbds_of self.old }
         ensures touched { self.new.touched ≡ slice_set self.old.touched (region - 1) [] }
         // `tell_back` tells what this makes of the slots.
-        ensures changes { (unit : ℕ) → ChangesTold unit self.old.stores self.new.stores (back_told unit region self.old) }
+        ensures slots { (unit : ℕ) → CallsSo unit region (slots_in self.old) (slots_in self.new) (back_told unit region self.old) }
     {
         take_back(self.alloc, region, &mut self.opened);
     }
@@ -250,6 +282,7 @@ fn take_back(alloc: Global, region: u32, opened: &mut Opened)
     ensures units { records_of opened.new.units.items ≡ slice_set (records_of opened.old.units.items) (region - 1) [] }
     ensures slots { slots_of opened.new.units.items ≡ slice_set (slots_of opened.old.units.items) (region - 1) [] }
     ensures stores { opened.new.stores.stores ≡ backed_out (changed_in region opened.old) opened.old.stores.stores }
+    ensures marks { AreMarked (λ db slot. backs (changed_in region opened.old) db slot (image_at db slot opened.old.stores.stores)) opened.old.stores opened.new.stores }
     ensures table { opened.new.table ≡ opened.old.table }
 {
     let mut unit = take_unit(alloc, &mut opened.units, region);

@@ -8,11 +8,11 @@ ghost use Rattle.model_enqueue.specs.Ask.{first_blocked};
 ghost use Rattle.model_enqueue.specs.Cycle.{IsRegion};
 ghost use Rattle.seg_rows.specs.StoreRefused.{set_refusal};
 ghost use Rattle.seg_store.specs.Slots.{AreSlots, rows_of_slots, slot_for};
-ghost use Rattle.unit_work.specs.Changes.{is_full, no_changes, with_touch};
+ghost use Rattle.unit_work.specs.Changes.{is_full, no_changes, with_touch, AreInOrder};
 ghost use Rattle.dli_calls.specs.Plans.{IsThere, limit_of};
 ghost use Rattle.program_rows.specs.State.{rows_in, rows_of};
 ghost use Rattle.program_rows.specs.Telling.{Tells, IsUntold};
-ghost use Rattle.program_rows.specs.Making.{IsPut, IsSame, IsSet, EditMade, HasAskedIn, Makes, TakesSlot, IsUntoldEdit, changed_in, edit_abend, edit_told, kept_of, made_told, told_unless};
+ghost use Rattle.program_rows.specs.Making.{IsPut, IsSame, IsSet, EditMade, HasAskedIn, Makes, MarksEdit, TakesSlot, IsUntoldEdit, changed_in, edit_abend, edit_told, kept_of, made_told, told_unless};
 
 use crate::asked::{Asked, ask};
 use crate::opened::{Opened, put_unit, take_unit, unit_of};
@@ -262,12 +262,16 @@ fn keep(asked: &Asked, edit: Edit, prepared: Prepared, opened: &mut Opened) -> R
     ensures units { OnOk result (opened.new.units.items ≡ slice_set opened.old.units.items (asked.now.region - 1) prepared.touched) }
     ensures asked { OnOk result (HasAskedIn asked.now opened.old.table opened.new.table) }
     ensures left { OnErr result (opened.new.units.items ≡ slice_set opened.old.units.items (asked.now.region - 1) prepared.unit) }
+    ensures order { OnOk result (AreInOrder prepared.touched.slots) }
+    ensures marks { OnOk result (MarksEdit asked.now.number edit opened.old.stores opened.new.stores) }
     ensures stores { OnErr result (opened.new.stores.stores ≡ opened.old.stores.stores) }
+    ensures changed { OnErr result (opened.new.stores.changed ≡ opened.old.stores.changed) }
     ensures table { OnErr result (opened.new.table ≡ opened.old.table) }
 {
     match ask(asked, &mut opened.table) {
         Ok(()) => {
-            put_unit(&mut opened.units, asked.region, prepared.keep());
+            let unit = prepared.keep();
+            put_unit(&mut opened.units, asked.region, unit);
             put_record(asked.number, edit, &mut opened.stores);
             Ok(())
         }
@@ -283,7 +287,8 @@ fn put_record(number: u8, edit: Edit, stores: &mut Stores)
     requires most { number ≤ length stores.old.stores }
     requires accepted { IfSome (slice_get stores.old.stores (number - 1)) (λ s. set_refusal s.dbd edit.root edit.image (rows_of_slots s.slots) ≡ None) }
     requires image { IfSome (slice_get stores.old.stores (number - 1)) (λ s. IsImage s.dbd edit.root edit.image) }
-    ensures { IsPut number edit stores.old.stores stores.new.stores }
+    ensures put { IsPut number edit stores.old.stores stores.new.stores }
+    ensures marks { MarksEdit number edit stores.old stores.new }
 {
     let root = edit.root;
     match stores.store_mut(number).set(&root, edit.image) {

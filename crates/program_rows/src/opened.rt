@@ -56,3 +56,12 @@ pub fn put_unit(units: &mut Vec<Unit>, region: u32, unit: Unit)
 {
     units[region as usize - 1] = unit;
 }
+
+/// No unit has changed anything any more.
+pub fn clear_units(alloc: Global, units: &mut Vec<Unit>)
+    ensures { units.new.items ≡ replicate (length units.old.items) no_changes }
+{
+    for place in 0..units.len() {
+        units[place] = Unit::new(alloc);
+    }
+}

@@ -9,7 +9,7 @@ use Rattle.model_rows.specs.declared.row.Row.{Row}
 use Rattle.model_rows.specs.Record.{spelling}
 use Rattle.model_disk.specs.Disk.{Image, DiskState, sector_at, Follows, Within}
 use Rattle.model_disk.proofs.Words.{follows_on, follows_more, within_more, within_within}
-use Rattle.seg_store.specs.Slots.{Stored}
+use Rattle.seg_store.specs.Slots.{Stored, AreSlots}
 use Rattle.seg_store.specs.Changed.{Kept, AllStores, stored, all_stores}
 use Rattle.seg_store.specs.DataSectors.{data_sector, IsGivenAt, given_at, MayPut, HasPut, bytes_of}
 use Rattle.seg_store.specs.WriteBack.{slot_count, changed_count, bytes_behind, all_bytes, all_written, kept_bytes, kept_slots, kept_count, written_kept}
@@ -224,6 +224,10 @@ count_seen (k ∷ kept) = omega (arith, count_seen kept, sum_by-cons (λ (x : Ke
 pub sectors_seen : (kept : List Kept) → AllByRecursion (λ (s : Stored). s.dbd.sectors ≤ 1) (map stored kept) → AllByRecursion (λ (k : Kept). k.dbd.sectors ≤ 1) kept
 sectors_seen [] all = tt
 sectors_seen (k ∷ kept) all = (all.0, sectors_seen kept all.1)
+
+pub valid_seen : (kept : List Kept) → AllByRecursion (λ (k : Kept). AreSlots k.dbd k.slots) kept → AllByRecursion (λ (s : Stored). AreSlots s.dbd s.slots) (map stored kept)
+valid_seen [] all = tt
+valid_seen (k ∷ kept) all = (all.0, valid_seen kept all.1)
 
 changed_gone : (kept : List Kept) → map (λ (k : Kept). k.changed) (map written_kept kept) ≡ map (λ numbers. []) (map (λ (k : Kept). k.changed) kept)
 changed_gone [] = refl

@@ -104,31 +104,27 @@ impl Store {
     }
 
     /// Writes the records of the changed slots into their sectors, in ascending order, where slot 0 has the sector
-    /// `first`; the answer is how many they are, and none is changed then. Nothing is synced. `Disk` comes exactly where
-    /// the disk failed in the call; then all of them still count as changed. The records and slots stay in any case.
-    pub fn write_back<D: Disk>(&mut self, disk: &mut D, first: u32) -> Result<u32, DiskFault>
-        requires area { first + self.old.dbd.roots ≤ (D.state disk.old).size }
-        requires sectors { self.old.dbd.sectors ≤ 1 }
+    /// `first`; the answer is how many they are. They still count as changed, until `settle`. Nothing is synced. `Disk` comes
+    /// exactly where the disk failed in the call.
+    pub fn write_back<D: Disk>(&self, disk: &mut D, first: u32) -> Result<u32, DiskFault>
+        requires area { first + self.now.dbd.roots ≤ (D.state disk.old).size }
+        requires sectors { self.now.dbd.sectors ≤ 1 }
         ensures stays { Stays (D.state disk.old) (D.state disk.new) }
         // Whenever a crash comes, each sector is as it was or has the record of its changed slot.
-        ensures any_moment { Within (MayPut first (bytes_of self.old.slots self.old.changed)) (D.state disk.old) (D.state disk.new) }
-        ensures follows { Follows (MayPut first (bytes_of self.old.slots self.old.changed)) (D.state disk.old) (D.state disk.new) }
+        ensures any_moment { Within (MayPut first (bytes_of self.now.slots self.now.changed)) (D.state disk.old) (D.state disk.new) }
+        ensures follows { Follows (MayPut first (bytes_of self.now.slots self.now.changed)) (D.state disk.old) (D.state disk.new) }
         // Then each of them is read, and a sync makes it last.
-        ensures shown { OnOk result (IsTrue (D.state disk.old).tells → HasPut first (bytes_of self.old.slots self.old.changed) (D.state disk.old).shown (D.state disk.new).shown) }
-        ensures count { IfOk result (λ n. n ≡ length self.old.changed) }
-        ensures few { length self.old.changed ≤ self.old.dbd.roots }
-        ensures written { OnOk result (self.new ≡ record self.old { changed = [] }) }
-        ensures kept { OnErr result (self.new ≡ self.old) }
-        ensures writes { WritesAtMost (length self.old.changed) (D.state disk.old) (D.state disk.new) }
+        ensures shown { OnOk result (IsTrue (D.state disk.old).tells → HasPut first (bytes_of self.now.slots self.now.changed) (D.state disk.old).shown (D.state disk.new).shown) }
+        ensures count { IfOk result (λ n. n ≡ length self.now.changed) }
+        ensures few { length self.now.changed ≤ self.now.dbd.roots }
+        ensures writes { WritesAtMost (length self.now.changed) (D.state disk.old) (D.state disk.new) }
         ensures no_fault { OnOk result ((D.state disk.new).faults ≡ (D.state disk.old).faults) }
         ensures cause { OnErr result (FailedSince (D.state disk.old) (D.state disk.new)) }
     {
         if put_slots(disk, first, &self.slots, &self.changed).is_err() {
             return Err(DiskFault::Disk);
         }
-        let count = self.dirty();
-        self.changed.clear();
-        Ok(count)
+        Ok(self.dirty())
     }
 
     /// The slot of the record with this root, or else the lowest free slot, which the next `set` of

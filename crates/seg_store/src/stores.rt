@@ -3,11 +3,12 @@ ghost use Rattle.std.specs.Prelude.{◌≡◌, ◌+◌, ◌≤◌, ◌-◌, IfOk
 ghost use Rattle.std.specs.Borrow.{sem};
 ghost use Rattle.std.specs.List.{AllByRecursion};
 ghost use Rattle.model_disk.specs.Disk.{Stays, Within, Follows, WritesAtMost, FailedSince};
+ghost use Rattle.seg_store.specs.Slots.{AreSlots};
 ghost use Rattle.seg_store.specs.DataSectors.{MayPut, HasPut};
 ghost use Rattle.seg_store.specs.WriteBack.{slot_count, changed_count, changed_bytes, all_written};
 
 use crate::Store;
-use crate::write_back::write_all;
+use crate::write_back::{settle_all, write_all};
 use std::alloc::Global;
 use std::marker::Model;
 use tm_disk::{Disk, DiskFault};
@@ -51,26 +52,37 @@ impl Stores {
     }
 
     /// Writes the records of the changed slots of all databases into their sectors, in ascending order, where the
-    /// databases' slots stand one behind the other from the sector `first` on; the answer is how many they are, and none is
-    /// changed then. Nothing is synced. `Disk` comes exactly where the disk failed in the call. The records and slots stay
-    /// in any case.
-    pub fn write_back<D: Disk>(&mut self, disk: &mut D, first: u32) -> Result<u32, DiskFault>
-        requires area { first + slot_count self.old.stores ≤ (D.state disk.old).size }
-        requires sectors { AllByRecursion (λ s. s.dbd.sectors ≤ 1) self.old.stores }
+    /// databases' slots stand one behind the other from the sector `first` on; the answer is how many they are. They still
+    /// count as changed, until `settle`. Nothing is synced. `Disk` comes exactly where the disk failed in the call.
+    pub fn write_back<D: Disk>(&self, disk: &mut D, first: u32) -> Result<u32, DiskFault>
+        requires area { first + slot_count self.now.stores ≤ (D.state disk.old).size }
+        requires sectors { AllByRecursion (λ s. s.dbd.sectors ≤ 1) self.now.stores }
         ensures stays { Stays (D.state disk.old) (D.state disk.new) }
         // Whenever a crash comes, each sector is as it was or has the record of its changed slot.
-        ensures any_moment { Within (MayPut first (changed_bytes self.old)) (D.state disk.old) (D.state disk.new) }
-        ensures follows { Follows (MayPut first (changed_bytes self.old)) (D.state disk.old) (D.state disk.new) }
+        ensures any_moment { Within (MayPut first (changed_bytes self.now)) (D.state disk.old) (D.state disk.new) }
+        ensures follows { Follows (MayPut first (changed_bytes self.now)) (D.state disk.old) (D.state disk.new) }
         // Then each of them is read, and a sync makes it last.
-        ensures shown { OnOk result (IsTrue (D.state disk.old).tells → HasPut first (changed_bytes self.old) (D.state disk.old).shown (D.state disk.new).shown) }
-        ensures count { IfOk result (λ n. n ≡ changed_count self.old.changed) }
-        ensures written { OnOk result (self.new ≡ all_written self.old) }
-        ensures kept { self.new.stores ≡ self.old.stores }
-        ensures writes { WritesAtMost (changed_count self.old.changed) (D.state disk.old) (D.state disk.new) }
+        ensures shown { OnOk result (IsTrue (D.state disk.old).tells → HasPut first (changed_bytes self.now) (D.state disk.old).shown (D.state disk.new).shown) }
+        ensures count { IfOk result (λ n. n ≡ changed_count self.now.changed) }
+        ensures writes { WritesAtMost (changed_count self.now.changed) (D.state disk.old) (D.state disk.new) }
         ensures no_fault { OnOk result ((D.state disk.new).faults ≡ (D.state disk.old).faults) }
         ensures cause { OnErr result (FailedSince (D.state disk.old) (D.state disk.new)) }
     {
-        write_all(disk, first, &mut self.items)
+        write_all(disk, first, &self.items)
+    }
+
+    /// No slot counts as changed any more: what stands in the sectors is the caller's.
+    pub fn settle(&mut self)
+        ensures { self.new ≡ all_written self.old }
+    {
+        settle_all(&mut self.items)
+    }
+
+    /// Each store has slots of its database.
+    pub fn slots_valid(&self)
+        ensures { AllByRecursion (λ s. AreSlots s.dbd s.slots) self.now.stores }
+    {
+        are_slots(&self.items);
     }
 
     /// How many stores these are.
@@ -103,5 +115,14 @@ impl Stores {
         ensures* writes_back { sem 𝓛 (LendsStore self.entry db result) }
     {
         &mut self.items[db as usize - 1]
+    }
+}
+
+// Each of these stores has slots of its database.
+fn are_slots(stores: &[Store])
+    ensures { AllByRecursion (λ k. AreSlots k.dbd k.slots) stores.now }
+{
+    for store in stores {
+        let _image = store.image(0);
     }
 }

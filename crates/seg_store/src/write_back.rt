@@ -2,7 +2,7 @@
 ghost use Rattle.std.specs.Prelude.{◌≡◌, ◌+◌, ◌<◌, ◌≤◌, [], length, take, map, IsTrue, IfOk, OnOk, OnErr, Some, slice_get, slice_set};
 ghost use Rattle.std.specs.List.{AllByRecursion};
 ghost use Rattle.model_disk.specs.Disk.{Stays, Within, Follows, WritesAtMost, FailedSince};
-ghost use Rattle.seg_store.specs.Changed.{Kept, stored};
+ghost use Rattle.seg_store.specs.Changed.{Kept};
 ghost use Rattle.seg_store.specs.DataSectors.{MayPut, HasPut, bytes_of};
 ghost use Rattle.seg_store.specs.WriteBack.{kept_slots, kept_bytes, kept_count, written_kept};
 
@@ -13,44 +13,53 @@ use tm_disk::{Disk, DiskFault};
 fn write_one<D: Disk>(
     disk: &mut D,
     first: u32,
-    stores: &mut Vec<Store>,
+    stores: &Vec<Store>,
     place: usize,
 ) -> Result<u32, DiskFault>
-    requires there { place < length stores.old.items }
-    requires area { (one : Kept) → slice_get stores.old.items place ≡ Some one → first + one.dbd.roots ≤ (D.state disk.old).size }
-    requires sectors { (one : Kept) → slice_get stores.old.items place ≡ Some one → one.dbd.sectors ≤ 1 }
+    requires there { place < length stores.now.items }
+    requires area { (one : Kept) → slice_get stores.now.items place ≡ Some one → first + one.dbd.roots ≤ (D.state disk.old).size }
+    requires sectors { (one : Kept) → slice_get stores.now.items place ≡ Some one → one.dbd.sectors ≤ 1 }
     ensures stays { Stays (D.state disk.old) (D.state disk.new) }
-    ensures any_moment { (one : Kept) → slice_get stores.old.items place ≡ Some one → Within (MayPut first (bytes_of one.slots one.changed)) (D.state disk.old) (D.state disk.new) }
-    ensures follows { (one : Kept) → slice_get stores.old.items place ≡ Some one → Follows (MayPut first (bytes_of one.slots one.changed)) (D.state disk.old) (D.state disk.new) }
-    ensures shown { (one : Kept) → slice_get stores.old.items place ≡ Some one → OnOk result (IsTrue (D.state disk.old).tells → HasPut first (bytes_of one.slots one.changed) (D.state disk.old).shown (D.state disk.new).shown) }
-    ensures count { (one : Kept) → slice_get stores.old.items place ≡ Some one → IfOk result (λ n. n ≡ length one.changed) }
-    ensures few { (one : Kept) → slice_get stores.old.items place ≡ Some one → length one.changed ≤ one.dbd.roots }
-    ensures written { (one : Kept) → slice_get stores.old.items place ≡ Some one → OnOk result (stores.new.items ≡ slice_set stores.old.items place (written_kept one)) }
-    ensures kept { OnErr result (stores.new.items ≡ stores.old.items) }
-    ensures writes { (one : Kept) → slice_get stores.old.items place ≡ Some one → WritesAtMost (length one.changed) (D.state disk.old) (D.state disk.new) }
+    ensures any_moment { (one : Kept) → slice_get stores.now.items place ≡ Some one → Within (MayPut first (bytes_of one.slots one.changed)) (D.state disk.old) (D.state disk.new) }
+    ensures follows { (one : Kept) → slice_get stores.now.items place ≡ Some one → Follows (MayPut first (bytes_of one.slots one.changed)) (D.state disk.old) (D.state disk.new) }
+    ensures shown { (one : Kept) → slice_get stores.now.items place ≡ Some one → OnOk result (IsTrue (D.state disk.old).tells → HasPut first (bytes_of one.slots one.changed) (D.state disk.old).shown (D.state disk.new).shown) }
+    ensures count { (one : Kept) → slice_get stores.now.items place ≡ Some one → IfOk result (λ n. n ≡ length one.changed) }
+    ensures few { (one : Kept) → slice_get stores.now.items place ≡ Some one → length one.changed ≤ one.dbd.roots }
+    ensures writes { (one : Kept) → slice_get stores.now.items place ≡ Some one → WritesAtMost (length one.changed) (D.state disk.old) (D.state disk.new) }
     ensures no_fault { OnOk result ((D.state disk.new).faults ≡ (D.state disk.old).faults) }
     ensures cause { OnErr result (FailedSince (D.state disk.old) (D.state disk.new)) }
 {
     stores[place].write_back(disk, first)
 }
 
+// No slot of one of the stores counts as changed any more.
+fn settle_one(stores: &mut Vec<Store>, place: usize)
+    requires { place < length stores.old.items }
+    ensures { (one : Kept) → slice_get stores.old.items place ≡ Some one → stores.new.items ≡ slice_set stores.old.items place (written_kept one) }
+{
+    stores[place].settle()
+}
+
+/// No slot of the stores counts as changed any more.
+pub fn settle_all(stores: &mut Vec<Store>)
+    ensures { stores.new.items ≡ map written_kept stores.old.items }
+{
+    for place in 0..stores.len() {
+        settle_one(stores, place);
+    }
+}
+
 /// Writes the changed slots of the stores in ascending order, where the databases' slots stand one behind the other from the
 /// sector `first` on. The answer is how many they are.
-pub fn write_all<D: Disk>(
-    disk: &mut D,
-    first: u32,
-    stores: &mut Vec<Store>,
-) -> Result<u32, DiskFault>
-    requires area { first + kept_slots stores.old.items ≤ (D.state disk.old).size }
-    requires sectors { AllByRecursion (λ one. one.dbd.sectors ≤ 1) stores.old.items }
+pub fn write_all<D: Disk>(disk: &mut D, first: u32, stores: &Vec<Store>) -> Result<u32, DiskFault>
+    requires area { first + kept_slots stores.now.items ≤ (D.state disk.old).size }
+    requires sectors { AllByRecursion (λ one. one.dbd.sectors ≤ 1) stores.now.items }
     ensures stays { Stays (D.state disk.old) (D.state disk.new) }
-    ensures any_moment { Within (MayPut first (kept_bytes 0 stores.old.items)) (D.state disk.old) (D.state disk.new) }
-    ensures follows { Follows (MayPut first (kept_bytes 0 stores.old.items)) (D.state disk.old) (D.state disk.new) }
-    ensures shown { OnOk result (IsTrue (D.state disk.old).tells → HasPut first (kept_bytes 0 stores.old.items) (D.state disk.old).shown (D.state disk.new).shown) }
-    ensures count { IfOk result (λ n. n ≡ kept_count stores.old.items) }
-    ensures written { OnOk result (stores.new.items ≡ map written_kept stores.old.items) }
-    ensures kept { map stored stores.new.items ≡ map stored stores.old.items }
-    ensures writes { WritesAtMost (kept_count stores.old.items) (D.state disk.old) (D.state disk.new) }
+    ensures any_moment { Within (MayPut first (kept_bytes 0 stores.now.items)) (D.state disk.old) (D.state disk.new) }
+    ensures follows { Follows (MayPut first (kept_bytes 0 stores.now.items)) (D.state disk.old) (D.state disk.new) }
+    ensures shown { OnOk result (IsTrue (D.state disk.old).tells → HasPut first (kept_bytes 0 stores.now.items) (D.state disk.old).shown (D.state disk.new).shown) }
+    ensures count { IfOk result (λ n. n ≡ kept_count stores.now.items) }
+    ensures writes { WritesAtMost (kept_count stores.now.items) (D.state disk.old) (D.state disk.new) }
     ensures no_fault { OnOk result ((D.state disk.new).faults ≡ (D.state disk.old).faults) }
     ensures cause { OnErr result (FailedSince (D.state disk.old) (D.state disk.new)) }
 {

@@ -1,7 +1,7 @@
 -- Numbers that are counted on are those that the machine gives.
 use Rattle.std.proofs.Common.{◌≡◌, ℕ, ◌+◌, ◌<◌, Bool, true, false, cond, List, [], ◌∷◌, ◌++◌, length, take, drop, get_or, refl, sym, ap, ◌∙◌, subst, Some, arith}
 use Rattle.std.specs.Prelude.{count_by, if◌then◌else◌, Option}
-use Rattle.std.specs.List.{flat_map}
+use Rattle.std.specs.List.{flat_map, AllByRecursion}
 use Rattle.std.specs.Option.{is_some, option_map_or}
 use Rattle.std.specs.Str.{bytes_eq}
 use Rattle.std.proofs.lemmas.Slice.Eq.{bytes_eq-Decides}
@@ -16,7 +16,7 @@ use Rattle.model_machine.specs.Machine.{LastingState}
 use Rattle.model_machine.specs.Lasting.{replied, switched}
 use Rattle.log_records.specs.declared.record.Record.{Record}
 use Rattle.log_records.specs.declared.record.Record.TheVariants.{Input, Reply, Completed, SyncPoint}
-use Rattle.log_records.specs.Spelling.{spelling}
+use Rattle.log_records.specs.Spelling.{spelling, IsRecord}
 use Rattle.step_records.specs.Records.{output_records, completion_records}
 use Rattle.step_telling.specs.Ranges.{HaveCounts}
 use Rattle.step_telling.specs.Counted.{goes_to, counted_record, counted_records, id_after}
@@ -197,3 +197,39 @@ put_more unit origin terminals outputs place id next earlier output before after
           ∙ so,
       (subst HaveCounts rest counts).1,
     )
+
+-- and it is a record, so that all are where those to come are
+pub valid_more : (unit : ℕ) (origin : List ℕ) (terminals : List TerminalReplies) (outputs : List EndedMessage) (place id next earlier : ℕ) (output : EndedMessage) (whole : Type 0)
+    → place < length outputs → output ≡ get_or outputs place output
+    → (AllByRecursion IsRecord (counted_records unit origin (take place outputs) (drop place outputs) terminals id) → whole)
+    → earlier ≡ count_by (goes_to output.to) (take place outputs)
+    → IsRecord (counted_record unit origin earlier output terminals id) → next ≡ id_after output terminals id
+    → AllByRecursion IsRecord (counted_records unit origin (take (place + 1) outputs) (drop (place + 1) outputs) terminals next) → whole
+valid_more unit origin terminals outputs place id next earlier output whole below here so counted valid moved later =
+    let rest : drop place outputs ≡ output ∷ drop (place + 1) outputs = drop_more outputs place output below ∙ ap (λ o. o ∷ drop (place + 1) outputs) (sym here) in
+    let done : take (place + 1) outputs ≡ take place outputs ++ output ∷ [] = take_more outputs place output below ∙ ap (λ o. take place outputs ++ o ∷ []) (sym here) in
+    so
+    (subst (λ (os : List EndedMessage). AllByRecursion IsRecord (counted_records unit origin (take place outputs) os terminals id)) (sym rest) (
+      subst (λ n. IsRecord (counted_record unit origin n output terminals id)) counted valid,
+      subst (λ n. AllByRecursion IsRecord (counted_records unit origin (take place outputs ++ output ∷ []) (drop (place + 1) outputs) terminals n)) moved
+          (subst (λ (os : List EndedMessage). AllByRecursion IsRecord (counted_records unit origin os (drop (place + 1) outputs) terminals next)) done later),
+    ))
+
+all_then : (some more : List Record) → AllByRecursion IsRecord some → AllByRecursion IsRecord more → AllByRecursion IsRecord (some ++ more)
+all_then [] more a b = b
+all_then (r ∷ some) more a b = (a.0, all_then some more a.1 b)
+
+-- the records of a completion are records
+pub completion_valid : (unit : ℕ) (origin : List ℕ) (id : ℕ) (outputs : List EndedMessage) (pad : PadChange) (terminals : List TerminalReplies) (next : ℕ)
+    → AllByRecursion IsRecord (counted_records unit origin [] outputs terminals next) → IsRecord (Completed unit id) → IsRecord (SyncPoint unit pad)
+    → (lasting : LastingState) → lasting.outputs ≡ terminals → lasting.next_id ≡ next → AllByRecursion IsRecord (completion_records unit origin id outputs lasting ++ SyncPoint unit pad ∷ [])
+completion_valid unit origin id outputs pad terminals next all completed synced lasting same_outputs same_next =
+    let records : List Record = output_records unit origin outputs lasting in
+    let agrees : Agrees terminals [] next lasting = record {
+      there = λ name. ap (λ ts. is_some (replies_at name ts)) same_outputs;
+      numbers = λ name there. ap (next_of name) same_outputs ∙ omega arith;
+      next_id = same_next;
+    } in
+    all_then (records ++ Completed unit id ∷ []) (SyncPoint unit pad ∷ [])
+    (all_then records (Completed unit id ∷ []) (subst (λ (rs : List Record). AllByRecursion IsRecord rs) (sym (counted_is unit origin terminals [] outputs next lasting agrees)) all) (completed, tt))
+    (synced, tt)

@@ -1,14 +1,16 @@
 //! The records of each step, spelled.
-ghost use Rattle.std.specs.Prelude.{◌≡◌, ◌++◌, ◌∷◌, [], IfOk};
-ghost use Rattle.std.specs.List.{flat_map};
-ghost use Rattle.log_records.specs.declared.record.Record.TheVariants.{Input, Discarded, SyncPoint};
-ghost use Rattle.log_records.specs.Spelling.{spelling, IsCount, IsAbend};
+ghost use Rattle.std.specs.Prelude.{◌≡◌, ◌++◌, ◌∷◌, [], IfOk, OnOk};
+ghost use Rattle.std.specs.List.{flat_map, AllByRecursion};
+ghost use Rattle.log_records.specs.declared.record.Record.TheVariants.{Input, Acknowledged, Discarded, SyncPoint};
+ghost use Rattle.log_records.specs.Spelling.{spelling, IsCount, IsAbend, IsRecord};
 ghost use Rattle.model_machine.specs.Machine.{LastingState};
 ghost use Rattle.step_records.specs.Records.{completion_records};
 ghost use Rattle.step_telling.specs.Ranges.{HaveCounts, HasShortPad};
 
 use crate::outputs::put_outputs;
-use log_records::{append_completed, append_discarded, append_input, append_sync_point};
+use log_records::{
+    append_acknowledged, append_completed, append_discarded, append_input, append_sync_point,
+};
 use model_conversation::PadChange;
 use model_message::EndedMessage;
 use out_queues::Outputs;
@@ -30,7 +32,8 @@ pub fn completion_bytes(
 ) -> Result<Vec<u8>, Memory>
     requires counts { HaveCounts outputs.now.items }
     requires pad { HasShortPad pad.now }
-    ensures { IfOk result (λ bytes. (lasting : LastingState) → lasting.outputs ≡ terminals.now → lasting.next_id ≡ next_id → bytes.items ≡ flat_map spelling (completion_records unit origin.now id outputs.now.items lasting ++ SyncPoint unit pad.now ∷ [])) }
+    ensures ok { IfOk result (λ bytes. (lasting : LastingState) → lasting.outputs ≡ terminals.now → lasting.next_id ≡ next_id → bytes.items ≡ flat_map spelling (completion_records unit origin.now id outputs.now.items lasting ++ SyncPoint unit pad.now ∷ [])) }
+    ensures valid { OnOk result ((lasting : LastingState) → lasting.outputs ≡ terminals.now → lasting.next_id ≡ next_id → AllByRecursion IsRecord (completion_records unit origin.now id outputs.now.items lasting ++ SyncPoint unit pad.now ∷ [])) }
 {
     let mut bytes = Vec::new(alloc);
     put_outputs(&mut bytes, unit, terminals, next_id, origin, outputs)?;
@@ -48,7 +51,8 @@ pub fn discarding_bytes(
     number: u64,
 ) -> Result<Vec<u8>, Memory>
     requires { IsAbend abend.number }
-    ensures { IfOk result (λ bytes. bytes.items ≡ spelling (Discarded unit id abend number)) }
+    ensures ok { IfOk result (λ bytes. bytes.items ≡ spelling (Discarded unit id abend number)) }
+    ensures valid { OnOk result (IsRecord (Discarded unit id abend number)) }
 {
     let mut bytes = Vec::new(alloc);
     append_discarded(&mut bytes, unit, id, abend, number)?;
@@ -66,7 +70,8 @@ pub fn input_bytes(
     segments: &Segments,
 ) -> Result<Vec<u8>, Memory>
     requires { IsCount segments.now }
-    ensures { IfOk result (λ bytes. bytes.items ≡ spelling (Input 0 id terminal.now code.now number conversation segments.now)) }
+    ensures ok { IfOk result (λ bytes. bytes.items ≡ spelling (Input 0 id terminal.now code.now number conversation segments.now)) }
+    ensures valid { OnOk result (IsRecord (Input 0 id terminal.now code.now number conversation segments.now)) }
 {
     let mut bytes = Vec::new(alloc);
     append_input(
@@ -79,5 +84,15 @@ pub fn input_bytes(
         conversation,
         segments,
     )?;
+    Ok(bytes)
+}
+
+/// The record of an acknowledged reply.
+pub fn acknowledged_bytes(alloc: Global, terminal: &Name, number: u64) -> Result<Vec<u8>, Memory>
+    ensures ok { IfOk result (λ bytes. bytes.items ≡ spelling (Acknowledged terminal.now number)) }
+    ensures valid { OnOk result (IsRecord (Acknowledged terminal.now number)) }
+{
+    let mut bytes = Vec::new(alloc);
+    append_acknowledged(&mut bytes, terminal, number)?;
     Ok(bytes)
 }

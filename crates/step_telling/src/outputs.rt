@@ -1,9 +1,9 @@
 //! The records of what a unit sends.
 ghost use Rattle.std.specs.Prelude.{◌≡◌, ◌≤◌, ◌++◌, ◌∷◌, [], take, length, count_by, IfOk, OnOk};
-ghost use Rattle.std.specs.List.{flat_map};
+ghost use Rattle.std.specs.List.{flat_map, AllByRecursion};
 ghost use Rattle.std.specs.Option.{is_some};
 ghost use Rattle.model_queues.specs.Outputs.{replies_at};
-ghost use Rattle.log_records.specs.Spelling.{spelling, IsCount};
+ghost use Rattle.log_records.specs.Spelling.{spelling, IsCount, IsRecord};
 ghost use Rattle.step_telling.specs.Counted.{goes_to, counted_record, counted_records, id_after};
 ghost use Rattle.step_telling.specs.Ranges.{HaveCounts};
 
@@ -53,6 +53,7 @@ fn put_output(
 ) -> Result<u64, Memory>
     requires { IsCount output.now.segments }
     ensures ok { OnOk result (bytes.new.items ≡ bytes.old.items ++ spelling (counted_record unit origin.now earlier output.now terminals.now id)) }
+    ensures valid { OnOk result (IsRecord (counted_record unit origin.now earlier output.now terminals.now id)) }
     ensures next { IfOk result (λ next. next ≡ id_after output.now terminals.now id) }
 {
     if is_terminal(terminals, &output.to) {
@@ -89,7 +90,8 @@ pub fn put_outputs(
     outputs: &VecDeque<EndedMessage>,
 ) -> Result<(), Memory>
     requires { HaveCounts outputs.now.items }
-    ensures { OnOk result (bytes.new.items ≡ bytes.old.items ++ flat_map spelling (counted_records unit origin.now [] outputs.now.items terminals.now next_id)) }
+    ensures ok { OnOk result (bytes.new.items ≡ bytes.old.items ++ flat_map spelling (counted_records unit origin.now [] outputs.now.items terminals.now next_id)) }
+    ensures valid { OnOk result (AllByRecursion IsRecord (counted_records unit origin.now [] outputs.now.items terminals.now next_id)) }
 {
     let mut id = next_id;
     for place in 0..outputs.len() {

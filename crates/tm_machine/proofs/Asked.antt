@@ -1,6 +1,6 @@
 -- What an input and an acknowledgement are answered.
 use Rattle.std.proofs.Common.{◌≡◌, ℕ, ◌+◌, ◌<◌, ◌≤◌, Bool, true, false, not, List, [], ◌∷◌, map, length, refl, sym, ap, ◌∙◌, subst, arith}
-use Rattle.std.specs.Prelude.{Option, Some, None, IsSomeAnd, Result, Ok, Err, cond, if◌then◌else◌, ◌==◌, nat_lt, nat_le, slice_get}
+use Rattle.std.specs.Prelude.{Option, Some, None, IsSomeAnd, IfOk, IfErr, OnOk, OnErr, Result, Ok, Err, cond, if◌then◌else◌, ◌==◌, nat_lt, nat_le, slice_get}
 use Rattle.std.specs.Option.{option_map, option_map_or, option_and_then, unwrap_or, is_some}
 use Rattle.std.specs.Str.{bytes_eq}
 use Rattle.std.specs.List.{position, prefix_len}
@@ -30,7 +30,12 @@ use Rattle.model_machine.specs.declared.lasting.TerminalState.{TerminalState}
 use Rattle.model_machine.specs.Machine.{Moment, terminal_at, terminal_place, output_at, moment_with}
 use Rattle.model_machine.specs.Lasting.{KeptInput, applied, code_word, kept_alone, kept_by, kept_by_code, kept_first, kept_input, without_word}
 use Rattle.model_machine.specs.Lasting.LastingStep.{Acknowledges}
-use Rattle.model_machine.specs.Steps.{Refusal, busy_by, first_of, by_number, by_count, most_segments, accepts, acknowledges, ack_by, input_answer, no_room, stopped_by, stopped_code}
+use Rattle.model_machine.specs.declared.entry.ControlCall.TheVariants.{Acknowledge}
+use Rattle.model_machine.specs.Steps.{Refusal, busy_by, first_of, by_number, by_count, most_segments, accepts, acknowledges, ack_by, input_answer, lasting_step, no_room, stopped_by, stopped_code}
+use Rattle.log_records.specs.declared.untold.Untold.{Untold}
+use Rattle.lasting_state.specs.Telling.{TellsAcknowledged, WouldAcknowledge}
+use Rattle.tm_machine.specs.Told.{IsLonger, Tells}
+use Rattle.tm_machine.proofs.Telling.{unlasting_tells, tells_step, longer_step}
 use Rattle.lasting_state.specs.Tables.{TablesState, lasting_of, IsAcknowledged}
 use Rattle.tm_machine.specs.declared.region.Busy.{Busy}
 use Rattle.tm_machine.specs.Answers.{IsAnswered, Answers}
@@ -272,7 +277,7 @@ module _ (system : System) (tables : TablesState) (states : List CodeState) (reg
   moment_now = record { lasting = lasting_of (settings_of states) tables; slots = slots_of regions; enqueues = tables.databases.table; raised = flags_of states }
 
   abbrev state_now : PartsState
-  state_now = record { system = system; moment = moment_now }
+  state_now = record { system = system; moment = moment_now; databases = tables.databases }
 
   answered : (terminal : List ℕ) (number : ℕ) (segments : List (List ℕ)) (answer : Result Taken InputRefused) → 0 < length segments
       → answer ≡ input_answer system moment_now terminal number segments → accepts terminal number (kept_input system moment_now.lasting terminal segments) answer ≡ None
@@ -300,7 +305,7 @@ module _ (system : System) (tables : TablesState) (states : List CodeState) (reg
 
   -- an acknowledgement
   abbrev state_with : TablesState → PartsState
-  state_with t = record { system = system; moment = record { lasting = lasting_of (settings_of states) t; slots = slots_of regions; enqueues = t.databases.table; raised = flags_of states } }
+  state_with t = record { system = system; moment = record { lasting = lasting_of (settings_of states) t; slots = slots_of regions; enqueues = t.databases.table; raised = flags_of states }; databases = t.databases }
 
   unchanged : (tables' : TablesState) (terminal : List ℕ) (number : ℕ) (answer : Result Acked AckRefused) → ack_by (output_at tables.outputs terminal) number ≡ answer
       → acknowledges terminal answer ≡ None → tables' ≡ tables → IsAnswered state_now (state_with tables') (AckedEntry terminal number answer)
@@ -312,9 +317,9 @@ module _ (system : System) (tables : TablesState) (states : List CodeState) (reg
     system = refl;
   }
 
-  pub acknowledged_is : (tables' : TablesState) (terminal : List ℕ) (number : ℕ) (answer : Result Acked AckRefused) → IsAcknowledged tables tables' terminal number answer
-      → Answers state_now (state_with tables') (AckedEntry terminal number answer)
-  acknowledged_is tables' terminal number (Ok Removed) h = record {
+  pub acknowledged_is : (tables' : TablesState) (terminal : List ℕ) (number room : ℕ) (told now : List ℕ) (answer : Result Acked AckRefused) → TellsAcknowledged tables terminal room told now answer
+      → IsAcknowledged tables tables' terminal number answer → IsAnswered state_now (state_with tables') (AckedEntry terminal number answer)
+  acknowledged_is tables' terminal number room told now (Ok Removed) t h = record {
     may = record { call = tt; victims = refl; answer = ap (AckedEntry terminal number) (sym h.0) };
     after =
         moment_is system (applied (Acknowledges terminal) moment_now.lasting) (slots_of regions) tables' states states regions tables.databases.table
@@ -323,10 +328,43 @@ module _ (system : System) (tables : TablesState) (states : List CodeState) (reg
         ∙ ap (λ a. moment_with system (option_map_or (λ s. applied s moment_now.lasting) (acknowledges terminal a) moment_now.lasting) (slots_of regions) tables.databases.table (flags_of states)) (sym h.0);
     system = refl;
   }
-  acknowledged_is tables' terminal number (Ok AckAlready) h = unchanged tables' terminal number (Ok AckAlready) h.0 refl h.1
-  acknowledged_is tables' terminal number (Err Unknown) h = unchanged tables' terminal number (Err Unknown) h.0 refl h.1
-  acknowledged_is tables' terminal number (Err (Ahead first)) h = unchanged tables' terminal number (Err (Ahead first)) h.0 refl h.1
-  acknowledged_is tables' terminal number (Err (AckFault fault)) h = ap state_with h
+  acknowledged_is tables' terminal number room told now (Ok AckAlready) t h = unchanged tables' terminal number (Ok AckAlready) h.0 refl h.1
+  acknowledged_is tables' terminal number room told now (Err Unknown) t h = unchanged tables' terminal number (Err Unknown) h.0 refl h.1
+  acknowledged_is tables' terminal number room told now (Err (Ahead first)) t h = unchanged tables' terminal number (Err (Ahead first)) h.0 refl h.1
+  acknowledged_is tables' terminal number room told now (Err (AckFault fault)) t h = absurd t
+
+  -- what it tells
+  acked_step : (terminal : List ℕ) (number : ℕ) (answer : Result Acked AckRefused) → ack_by (output_at tables.outputs terminal) number ≡ answer
+      → lasting_step system moment_now (Acknowledge terminal number) ≡ acknowledges terminal answer
+  acked_step terminal number answer says = ap (acknowledges terminal) says
+
+  silent : (terminal : List ℕ) (number room : ℕ) (told now : List ℕ) (answer : Result Acked AckRefused) → ack_by (output_at tables.outputs terminal) number ≡ answer → acknowledges terminal answer ≡ None
+      → now ≡ told → Tells system moment_now 0 room (Acknowledge terminal number) told now
+  silent terminal number room told now answer says none same =
+      subst (Tells system moment_now 0 room (Acknowledge terminal number) told) (sym same)
+      (unlasting_tells system moment_now 0 room (Acknowledge terminal number) told (acked_step terminal number answer says ∙ none))
+
+  pub acknowledged_tells : (tables' : TablesState) (terminal : List ℕ) (number room : ℕ) (told now : List ℕ) (answer : Result Acked AckRefused) → IsAcknowledged tables tables' terminal number answer
+      → TellsAcknowledged tables terminal room told now answer → Tells system moment_now 0 room (Acknowledge terminal number) told now
+  acknowledged_tells tables' terminal number room told now (Ok Removed) h t =
+      tells_step system moment_now 0 room (Acknowledge terminal number) (Acknowledges terminal) tables (settings_of states) refl (acked_step terminal number (Ok Removed) h.0) told now t
+  acknowledged_tells tables' terminal number room told now (Ok AckAlready) h t = silent terminal number room told now (Ok AckAlready) h.0 refl t
+  acknowledged_tells tables' terminal number room told now (Err Unknown) h t = silent terminal number room told now (Err Unknown) h.0 refl t
+  acknowledged_tells tables' terminal number room told now (Err (Ahead first)) h t = silent terminal number room told now (Err (Ahead first)) h.0 refl t
+  acknowledged_tells tables' terminal number room told now (Err (AckFault fault)) h t = absurd t
+
+  pub acknowledged_longer : (terminal : List ℕ) (number room : ℕ) → WouldAcknowledge tables terminal number room → IsLonger system moment_now 0 room (Acknowledge terminal number)
+  acknowledged_longer terminal number room w =
+      longer_step system moment_now 0 room (Acknowledge terminal number) (Acknowledges terminal) tables (settings_of states) refl (acked_step terminal number (Ok Removed) w.removes) w.longer
+
+  -- the databases stay
+  pub acknowledged_databases : (tables' : TablesState) (terminal : List ℕ) (number : ℕ) (answer : Result Acked AckRefused) → IsAcknowledged tables tables' terminal number answer
+      → tables'.databases ≡ tables.databases
+  acknowledged_databases tables' terminal number (Ok Removed) h = ap (λ t. t.databases) h.1
+  acknowledged_databases tables' terminal number (Ok AckAlready) h = ap (λ t. t.databases) h.1
+  acknowledged_databases tables' terminal number (Err Unknown) h = ap (λ t. t.databases) h.1
+  acknowledged_databases tables' terminal number (Err (Ahead first)) h = ap (λ t. t.databases) h.1
+  acknowledged_databases tables' terminal number (Err (AckFault fault)) h = ap (λ t. t.databases) h
 
   parts_same : (tables' : TablesState) → tables' ≡ tables → AreParts system tables' states regions
   parts_same tables' same = subst (λ t. AreParts system t states regions) (sym same) parts
@@ -349,6 +387,17 @@ module _ (system : System) (tables : TablesState) (states : List CodeState) (reg
   parts_acknowledged tables' terminal number (Err Unknown) h = parts_same tables' h.1
   parts_acknowledged tables' terminal number (Err (Ahead first)) h = parts_same tables' h.1
   parts_acknowledged tables' terminal number (Err (AckFault fault)) h = parts_same tables' h
+
+  -- whether or not it is answered
+  pub parts_acked : (tables' : TablesState) (terminal : List ℕ) (number : ℕ) (made : Result (Result Acked AckRefused) Untold) → IfOk made (IsAcknowledged tables tables' terminal number)
+      → OnErr made (tables' ≡ tables) → AreParts system tables' states regions
+  parts_acked tables' terminal number (Ok answer) h e = parts_acknowledged tables' terminal number answer h
+  parts_acked tables' terminal number (Err untold) h e = parts_same tables' e
+
+  pub databases_acked : (tables' : TablesState) (terminal : List ℕ) (number : ℕ) (made : Result (Result Acked AckRefused) Untold) → IfOk made (IsAcknowledged tables tables' terminal number)
+      → OnErr made (tables' ≡ tables) → tables'.databases ≡ tables.databases
+  databases_acked tables' terminal number (Ok answer) h e = acknowledged_databases tables' terminal number answer h
+  databases_acked tables' terminal number (Err untold) h e = ap (λ t. t.databases) e
 
 most_few : (kind : SegmentKind) → most_segments kind ≤ 16
 most_few Multiple = omega arith
@@ -461,7 +510,7 @@ module _ (system : System) (tables : TablesState) (states : List CodeState) (reg
 
           pub new_input : size ≤ most → (input : NewInput) → input.place ≡ place → place < length system.terminals → input.way ≡ way_by conversation found.transaction.scratch_pad
               → input.code ≡ found.transaction.code → found.transaction.code ≡ code_for conversation segments → IsName input.code
-              → IsNewInput (record { system = system; moment = moment_here }) terminal number segments input
+              → IsNewInput (record { system = system; moment = moment_here; databases = tables.databases }) terminal number segments input
           new_input fits input placed within way code named name = record {
             answer = room_left terminal_here last number (busy_by conversation_here busy_here) (code_at system.codes kept_here.code) found halted_here (length kept_here.segments) room_here tables.next_id most size there next idle
                 (ap (code_at system.codes) goes ∙ sym coded) free_code limit (count ∙ sym (kept_count system conversation_here segments)) fits;

@@ -120,7 +120,10 @@ module _ (system : System) (tables : TablesState) (states : List CodeState) (reg
   moment_now = moment_of_tables tables states regions
 
   abbrev state_with : Moment → PartsState
-  state_with m = record { system = system; moment = m }
+  state_with m = record { system = system; moment = m; databases = tables.databases }
+
+  abbrev state_on : TablesState → List CodeState → List (Option Busy) → PartsState
+  state_on t ss rs = record { system = system; moment = moment_of_tables t ss rs; databases = t.databases }
 
   abbrev slot_now : Slot
   slot_now = record { code = busy.code; taken = busy.taken; id = busy.id; calls = calls_made busy.unit }
@@ -404,7 +407,7 @@ module _ (system : System) (tables : TablesState) (states : List CodeState) (reg
 
     pub done_turned : (states' : List CodeState) → IsFollowed system (λ name. free_count name tables'.queues.queued) states states'
         → EndsSo (state_with moment_now) region Ends
-        → IsTurned (state_with moment_now) (state_with (moment_of_tables tables' states' left)) region (Done busy.code busy.id)
+        → IsTurned (state_with moment_now) (state_on tables' states' left) region (Done busy.code busy.id)
     done_turned states' follows h = record {
       victims = nobody_breaks system moment_now region slot_now slot_here (free_here Ends h);
       answer = sym (answer_here Ends h);
@@ -446,7 +449,7 @@ module _ (system : System) (tables : TablesState) (states : List CodeState) (reg
 
     pub none_turned : (states' : List CodeState) → IsFollowed system (λ name. free_count name tables'.queues.queued) states states'
         → turn_answer system moment_now region [] ≡ QC busy.code busy.id → EndsSo (state_with moment_now) region Syncs
-        → IsTurned (state_with moment_now) (state_with (moment_of_tables tables' states' left)) region (QC busy.code busy.id)
+        → IsTurned (state_with moment_now) (state_on tables' states' left) region (QC busy.code busy.id)
     none_turned states' follows says h = record {
       victims = nobody_breaks system moment_now region slot_now slot_here (free_here Syncs h);
       answer = sym says;
@@ -488,7 +491,7 @@ module _ (system : System) (tables : TablesState) (states : List CodeState) (reg
       pub next_turned : (middle states' : List CodeState) → IsFollowed system (λ name. free_count name tables'.queues.queued) states middle
           → IsFollowed system (λ name. free_count name tables''.queues.queued) states states' → new.taken ≡ busy.taken + 1
           → turn_answer system moment_now region [] ≡ Next busy.code busy.id new.id → EndsSo (state_with moment_now) region Syncs
-          → IsTurned (state_with moment_now) (state_with (moment_of_tables tables'' states' (slice_set left (region - 1) (Some new)))) region (Next busy.code busy.id new.id)
+          → IsTurned (state_with moment_now) (state_on tables'' states' (slice_set left (region - 1) (Some new))) region (Next busy.code busy.id new.id)
       next_turned middle states' before follows taken says h = record {
         victims = nobody_breaks system moment_now region slot_now slot_here (free_here Syncs h);
         answer = sym says;
@@ -551,7 +554,7 @@ module _ (system : System) (tables : TablesState) (states : List CodeState) (reg
 
     pub abended_turned : (states' : List CodeState) → IsFollowed system (λ name. free_count name tables'.queues.queued) states states'
         → EndsSo (state_with moment_now) region (Abends abend)
-        → IsTurned (state_with moment_now) (state_with (moment_of_tables tables' states' left)) region (Abended busy.code busy.id abend)
+        → IsTurned (state_with moment_now) (state_on tables' states' left) region (Abended busy.code busy.id abend)
     abended_turned states' follows h = record {
       victims = nobody_breaks system moment_now region slot_now slot_here (free_here (Abends abend) h);
       answer = sym (answer_here (Abends abend) h);

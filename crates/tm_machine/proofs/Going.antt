@@ -1,6 +1,6 @@
 -- What a turn of a region that is at work comes to.
 use Rattle.std.proofs.Common.{◌≡◌, ℕ, ◌+◌, ◌-◌, ◌≤◌, List, [], refl, sym, ap, ◌∙◌, subst}
-use Rattle.std.specs.Prelude.{Option, Some, None, IsSomeAnd, Result, Ok, Err, IfOk, IfSome, OnErr, slice_get, slice_set}
+use Rattle.std.specs.Prelude.{Option, Some, None, IsSomeAnd, Result, Ok, Err, IfOk, IfErr, IfSome, OnOk, OnErr, slice_get, slice_set}
 use Rattle.tm_types.specs.declared.message.Message.{Message}
 use Rattle.model_queues.specs.Queue.{message_at, free_count}
 use Rattle.model_system.specs.declared.code_state.CodeState.{CodeState}
@@ -52,7 +52,7 @@ module _ (system : System) (tables : TablesState) (states : List CodeState) (reg
   moment_of rs = moment_at system tables states regions region parts rs
 
   abbrev state_of : DatabasesState → List (Option Busy) → PartsState
-  state_of left rs = record { system = system; moment = record (moment_of rs) { enqueues = left.table } }
+  state_of left rs = record { system = system; moment = record (moment_of rs) { enqueues = left.table }; databases = left }
 
   abbrev slot_for : Busy → Slot
   slot_for busy = record { code = busy.code; taken = busy.taken; id = busy.id; calls = calls_made busy.unit }
@@ -81,7 +81,7 @@ module _ (system : System) (tables : TablesState) (states : List CodeState) (reg
       (λ name. sym (free_count_is name (slice_set (slots_of regions) (region - 1) (Some slot)) tables.queues.queued
       (slot_told tables.queues.queued regions (region - 1) old slot e same parts.told))))
 
-  settled_here : IsSettled (record { system = system; moment = moment_of regions })
+  settled_here : IsSettled (record { system = system; moment = moment_of regions; databases = tables.databases })
   settled_here =
       now_same (waiting_now (moment_of regions).lasting (slots_of regions)) (λ name. free_count name tables.queues.queued) system.codes (flags_of states)
       (λ name. free_count_is name (slots_of regions) tables.queues.queued parts.told)
@@ -115,7 +115,7 @@ module _ (system : System) (tables : TablesState) (states : List CodeState) (reg
     stays_here is calls = same_slots old new e (slot_same old new (calls_made old.unit) s.same (ap calls_made is ∙ calls ∙ s.calls))
 
     by : (a : Advanced) → StaysUnlessCalled tables.databases left a → Advances s.steps.job (given_in tables.conversations message) region tables.databases left s.steps.ahead.trial s.before s.after a
-        → Goes (record { system = system; moment = moment_of regions }) (state_of left (slice_set regions (region - 1) (Some new))) region (Some a)
+        → Goes (record { system = system; moment = moment_of regions; databases = tables.databases }) (state_of left (slice_set regions (region - 1) (Some new))) region (Some a)
     by (Called function pcb status) stays a = record {
       victims = nobody_breaks system (moment_of regions) region (slot_for old) here_slot free;
       answer = sym answer;
@@ -142,8 +142,8 @@ module _ (system : System) (tables : TablesState) (states : List CodeState) (reg
         free = blocked_is ∙ a.free;
         stops = some_and _ (slot_work system (moment_of regions).lasting (slot_for old)) work_here works a.stops;
       }),
-      ap (λ ss. record { system = system; moment = record (moment_of regions) { slots = ss; enqueues = left.table } }) (stays_here s.is a.calls)
-          ∙ ap (λ (d : DatabasesState). record { system = system; moment = record (moment_of regions) { enqueues = d.table } }) stays,
+      ap (λ ss. record { system = system; moment = record (moment_of regions) { slots = ss; enqueues = left.table }; databases = left }) (stays_here s.is a.calls)
+          ∙ ap (λ (d : DatabasesState). record { system = system; moment = record (moment_of regions) { enqueues = d.table }; databases = d }) stays,
     )
     by (Waits resource blocker) stays a = record {
       slot = slot_for old;
@@ -154,15 +154,16 @@ module _ (system : System) (tables : TablesState) (states : List CodeState) (reg
           ∙ ap (λ t. record (moment_of regions) { enqueues = t }) (a.asked ∙ sym table_is ∙ sym (ap (table_by system (moment_of regions) region) here_slot));
       settled = settled_here;
       system = refl;
+      databases = stays;
     }
 
   goes_by : (left : DatabasesState) (old new : Option Busy) (advanced : Option Advanced) → slice_get regions (region - 1) ≡ Some old
       → IfSome advanced (StaysUnlessCalled tables.databases left) → Steps system region tables left old new advanced
-      → Goes (record { system = system; moment = moment_of regions }) (state_of left (slice_set regions (region - 1) new)) region advanced
+      → Goes (record { system = system; moment = moment_of regions; databases = tables.databases }) (state_of left (slice_set regions (region - 1) new)) region advanced
   goes_by left None new None e stays h = (
     slot_is system tables states regions region parts None e,
-    ap (λ rs. record { system = system; moment = record (moment_of rs) { enqueues = left.table } }) (ap (slice_set regions (region - 1)) h.0 ∙ set_same regions (region - 1) None e)
-        ∙ ap (λ (d : DatabasesState). record { system = system; moment = record (moment_of regions) { enqueues = d.table } }) h.1,
+    ap (λ rs. record { system = system; moment = record (moment_of rs) { enqueues = left.table }; databases = left }) (ap (slice_set regions (region - 1)) h.0 ∙ set_same regions (region - 1) None e)
+        ∙ ap (λ (d : DatabasesState). record { system = system; moment = record (moment_of regions) { enqueues = d.table }; databases = d }) h.1,
   )
   goes_by left None new (Some advanced) e stays h = absurd h
   goes_by left (Some old) None None e stays h = absurd h
@@ -171,18 +172,18 @@ module _ (system : System) (tables : TablesState) (states : List CodeState) (reg
   goes_by left (Some old) (Some new) (Some advanced) e stays h = by_found (message_at old.id tables.queues.queued) refl h
     where
       by_found : (found : Option Message) → message_at old.id tables.queues.queued ≡ found → IsSomeAnd found (λ message. StepsOn system region tables.databases left (given_in tables.conversations message) old new advanced)
-          → Goes (record { system = system; moment = moment_of regions }) (state_of left (slice_set regions (region - 1) (Some new))) region (Some advanced)
+          → Goes (record { system = system; moment = moment_of regions; databases = tables.databases }) (state_of left (slice_set regions (region - 1) (Some new))) region (Some advanced)
       by_found (Some message) f s = by left old new message advanced e f s advanced stays s.steps.advances
       by_found None f s = absurd s
 
   pub goes_is : (tables' : TablesState) (old new : Option Busy) (advanced : Option Advanced) → slice_get regions (region - 1) ≡ Some old
       → tables' ≡ record tables { databases = tables'.databases } → tables'.databases.committed ≡ tables.databases.committed → IfSome advanced (StaysUnlessCalled tables.databases tables'.databases)
       → Steps system region tables tables'.databases old new advanced
-      → Goes (record { system = system; moment = moment_of regions })
-      (record { system = system; moment = record { lasting = lasting_of (settings_of states) tables'; slots = slots_of (slice_set regions (region - 1) new); enqueues = tables'.databases.table; raised = flags_of states } }) region advanced
+      → Goes (record { system = system; moment = moment_of regions; databases = tables.databases })
+      (record { system = system; moment = record { lasting = lasting_of (settings_of states) tables'; slots = slots_of (slice_set regions (region - 1) new); enqueues = tables'.databases.table; raised = flags_of states }; databases = tables'.databases }) region advanced
   goes_is tables' old new advanced e is committed stays h =
-      subst (λ l. Goes (record { system = system; moment = moment_of regions })
-      (record { system = system; moment = record { lasting = l; slots = slots_of (slice_set regions (region - 1) new); enqueues = tables'.databases.table; raised = flags_of states } }) region advanced)
+      subst (λ l. Goes (record { system = system; moment = moment_of regions; databases = tables.databases })
+      (record { system = system; moment = record { lasting = l; slots = slots_of (slice_set regions (region - 1) new); enqueues = tables'.databases.table; raised = flags_of states }; databases = tables'.databases }) region advanced)
       (sym (lasting_stays (settings_of states) tables tables' is committed))
       (goes_by tables'.databases old new advanced e stays h)
 
@@ -191,6 +192,18 @@ module _ (system : System) (tables : TablesState) (states : List CodeState) (reg
   same_moment None new e h = absurd h
   same_moment (Some old) None e h = absurd h
   same_moment (Some old) (Some new) e h = same_slots old new e (slot_same old new (calls_made old.unit) h.0 h.1)
+
+pub on_both : {X E : Type 0} {P Q : X → Type 0} {R : Type 0} (r : Result X E) → ((x : X) → P x → Q x → R) → IfOk r P → IfOk r Q → OnOk r R
+on_both (Ok x) f h k = f x h k
+on_both (Err e) f h k = tt
+
+pub on_map : {X E : Type 0} {P Q : Type 0} (r : Result X E) → (P → Q) → OnOk r P → OnOk r Q
+on_map (Ok x) f h = f h
+on_map (Err e) f h = tt
+
+pub if_err_map : {X E : Type 0} {P Q : E → Type 0} (r : Result X E) → ((e : E) → P e → Q e) → IfErr r P → IfErr r Q
+if_err_map (Ok x) f h = tt
+if_err_map (Err e) f h = f e h
 
 pub err_map : {X E : Type 0} {P Q : Type 0} (r : Result X E) → (P → Q) → OnErr r P → OnErr r Q
 err_map (Ok x) f h = tt

@@ -52,11 +52,11 @@ blanks_many : (n : ℕ) → length (replicate {A = ℕ} n 32) ≡ n
 blanks_many zero = refl
 blanks_many (suc n) = let rest = blanks_many n in omega (arith, rest)
 
-blanks_print : (n : ℕ) → list_all is_printable (replicate n 32) ≡ true
+pub blanks_print : (n : ℕ) → list_all is_printable (replicate n 32) ≡ true
 blanks_print zero = refl
 blanks_print (suc n) = blanks_print n
 
-field_is : (code : List ℕ) → IsName code → code_field code ≡ code ++ replicate (8 - length code) 32
+pub field_is : (code : List ℕ) → IsName code → code_field code ≡ code ++ replicate (8 - length code) 32
 field_is code named = ap (λ front. front ++ replicate (8 - length code) 32) (take_all 8 code named.1)
 
 field_length : (code : List ℕ) → IsName code → length (code_field code) ≡ 8

@@ -23,3 +23,6 @@ mod Finished
 mod Giving
 mod Breaking
 pub mod Telling
+mod Slotting
+mod Settled
+mod Opened

@@ -37,7 +37,7 @@ use Rattle.tm_machine.proofs.Started.{moment_enqueued, moment_refused}
 module _ (system : System) (tables : TablesState) (states : List CodeState) (regions : List (Option Busy)) (parts : AreParts system tables states regions)
     (terminal : List ℕ) (number : ℕ) (segments : List (List ℕ)) (kept : KeptInput) (kept_is : kept ≡ kept_input system (lasting_of (settings_of states) tables) terminal segments) (input : NewInput) (some : 0 < length segments) (busy : ℕ) (counted : busy ≡ count_by is_some regions) where
   abbrev state_with : TablesState → List CodeState → PartsState
-  state_with t ss = record { system = system; moment = record { lasting = lasting_of (settings_of ss) t; slots = slots_of regions; enqueues = t.databases.table; raised = flags_of ss } }
+  state_with t ss = record { system = system; moment = record { lasting = lasting_of (settings_of ss) t; slots = slots_of regions; enqueues = t.databases.table; raised = flags_of ss }; databases = t.databases }
 
   room_is : no_room system (state_with tables states).moment kept.segments
       ≡ (if nat_lt system.qbytes (needs tables kept.segments busy) then Some (Err (QueueFull (needs tables kept.segments busy) system.qbytes)) else None)
@@ -121,7 +121,7 @@ kept_code (Begins pad) code segments = refl
 
 module _ (system : System) (tables : TablesState) (states : List CodeState) (regions : List (Option Busy)) (parts : AreParts system tables states regions)
     (terminal : List ℕ) (number : ℕ) (segments : List (List ℕ)) (input : NewInput) (kept : KeptInput)
-    (new : IsNewInput (record { system = system; moment = record { lasting = lasting_of (settings_of states) tables; slots = slots_of regions; enqueues = tables.databases.table; raised = flags_of states } }) terminal number segments input)
+    (new : IsNewInput (record { system = system; moment = record { lasting = lasting_of (settings_of states) tables; slots = slots_of regions; enqueues = tables.databases.table; raised = flags_of states }; databases = tables.databases }) terminal number segments input)
     (is : kept ≡ kept_so input.way input.code segments) where
   pub kept_here : kept ≡ kept_input system (lasting_of (settings_of states) tables) terminal segments
   kept_here = is ∙ new.kept

@@ -139,12 +139,12 @@ module _ (system : System) (tables : TablesState) (states : List CodeState) (reg
     nobody : BreaksAt system moment_now region [] (slot_at moment_now region)
     nobody = rw empty_slot refl
 
-    pub idle_turned : pick_now system moment_now region ≡ None → IsTurned (record { system = system; moment = moment_now }) (record { system = system; moment = moment_now }) region Idle
+    pub idle_turned : pick_now system moment_now region ≡ None → IsTurned (record { system = system; moment = moment_now; databases = tables.databases }) (record { system = system; moment = moment_now; databases = tables.databases }) region Idle
     idle_turned e = record { victims = nobody; answer = idle_answer e; after = stays_empty Idle (idle_answer e) refl refl; system = refl }
 
     pub held_turned : (p : Pick) (need limit : ℕ) → IsSomeAnd (pick_now system moment_now region) (λ c. (c.code ≡ p.code) × (c.id ≡ p.id))
         → need ≡ need_now moment_now → limit ≡ system.qbytes → limit < need
-        → IsTurned (record { system = system; moment = moment_now }) (record { system = system; moment = moment_now }) region (Held need limit)
+        → IsTurned (record { system = system; moment = moment_now; databases = tables.databases }) (record { system = system; moment = moment_now; databases = tables.databases }) region (Held need limit)
     held_turned p need limit h n l less = record {
       victims = nobody;
       answer = held_answer p need limit h n l less;
@@ -227,8 +227,8 @@ module _ (system : System) (tables : TablesState) (states : List CodeState) (reg
     pub scheduled_turned : (tables' : TablesState) (states' : List CodeState) → tables' ≡ held tables busy.id region → busy.taken ≡ 1 → calls_made busy.unit ≡ 0
         → IsFollowed system (λ name. free_count name tables'.queues.queued) states states'
         → Scheduled busy.code busy.id ≡ turn_answer system moment_now region []
-        → IsTurned (record { system = system; moment = moment_now })
-        (record { system = system; moment = record { lasting = lasting_of (settings_of states') tables'; slots = slots_of (slice_set regions (region - 1) (Some busy)); enqueues = tables'.databases.table; raised = flags_of states' } })
+        → IsTurned (record { system = system; moment = moment_now; databases = tables.databases })
+        (record { system = system; moment = record { lasting = lasting_of (settings_of states') tables'; slots = slots_of (slice_set regions (region - 1) (Some busy)); enqueues = tables'.databases.table; raised = flags_of states' }; databases = tables'.databases })
         region (Scheduled busy.code busy.id)
     scheduled_turned tables' states' is one none follows says = record {
       victims = nobody empty;

@@ -36,24 +36,24 @@ use Rattle.tm_machine.proofs.Leaving.{moment_is, moment_stays}
 use Rattle.tm_machine.proofs.Linked.{new_told, new_free, new_at_work}
 use Rattle.tm_machine.proofs.Raising.{IsFollowed, followed_all, followed_settled}
 
-none_busy : (n place : ℕ) (busy : Busy) → slice_get (replicate n None) place ≡ Some (Some busy) → ⊥
+pub none_busy : (n place : ℕ) (busy : Busy) → slice_get (replicate n None) place ≡ Some (Some busy) → ⊥
 none_busy zero place busy e = cc
 none_busy (suc n) zero busy e = cc
 none_busy (suc n) (suc place) busy e = none_busy n place busy e
 
-none_slots : (n : ℕ) → slots_of (replicate n None) ≡ replicate n None
+pub none_slots : (n : ℕ) → slots_of (replicate n None) ≡ replicate n None
 none_slots zero = refl
 none_slots (suc n) = ap (λ ss. None ∷ ss) (none_slots n)
 
-none_length : (n : ℕ) → length (replicate {A = Option Busy} n None) ≡ n
+pub none_length : (n : ℕ) → length (replicate {A = Option Busy} n None) ≡ n
 none_length zero = refl
 none_length (suc n) = ap suc (none_length n)
 
-rows_length : (n : ℕ) (rows : RegionRows) → length (replicate n rows) ≡ n
+pub rows_length : (n : ℕ) (rows : RegionRows) → length (replicate n rows) ≡ n
 rows_length zero rows = refl
 rows_length (suc n) rows = ap suc (rows_length n rows)
 
-below_none : (n place : ℕ) → ◌≡◌ {A = Option (Option Busy)} (slice_get (replicate n None) place) (Some None) → place < n
+pub below_none : (n place : ℕ) → ◌≡◌ {A = Option (Option Busy)} (slice_get (replicate n None) place) (Some None) → place < n
 below_none zero place e = cc
 below_none (suc n) zero e = omega arith
 below_none (suc n) (suc place) e = let rest = below_none n place e in omega (arith, rest)
@@ -64,7 +64,7 @@ get_rows (suc n) zero rows d h = refl
 get_rows (suc n) (suc place) rows d h = get_rows n place rows d (omega (arith, h))
 
 -- a region of a fresh control region has changed nothing
-clean_first : (databases : DatabasesState) (n place : ℕ) → databases.regions ≡ replicate n (clean_region (committed_rows databases)) → place < n → IsClean (place + 1) databases
+pub clean_first : (databases : DatabasesState) (n place : ℕ) → databases.regions ≡ replicate n (clean_region (committed_rows databases)) → place < n → IsClean (place + 1) databases
 clean_first databases n place e below = record { sees = ap (λ r. r.rows) here; changed = ap (λ r. r.changed) here }
   where
     same : place + 1 - 1 ≡ place

@@ -10,15 +10,20 @@ use Rattle.model_system.specs.Jobs.{Job, job_of}
 use Rattle.model_system.specs.System.{System}
 use Rattle.system_types.specs.declared.job.Job.{Job as Lent}
 use Rattle.system_types.specs.Jobs.{lent_job}
-use Rattle.model_machine.specs.Trial.{Given}
-use Rattle.program_rows.specs.State.{DatabasesState}
+use Rattle.model_machine.specs.Trial.{Given, trial_of}
+use Rattle.log_records.specs.declared.record.Record.{Record}
+use Rattle.log_records.specs.declared.untold.Untold.{Untold}
+use Rattle.log_records.specs.declared.untold.Untold.TheVariants.{Memory, Full}
+use Rattle.step_telling.specs.Untold.{WhereFull}
+use Rattle.program_rows.specs.State.{DatabasesState, committed_rows}
 use Rattle.message_run.specs.declared.run.Advanced.{Advanced}
-use Rattle.message_run.specs.Ahead.{IsStart, GoesOn}
+use Rattle.message_run.specs.Ahead.{IsStart, IsAhead, GoesOn}
+use Rattle.message_run.specs.Telling.{next_told, TellsOn, IsUntoldOn}
 use Rattle.message_run.specs.RunState.{RunState}
 use Rattle.lasting_state.specs.Tables.{TablesState}
 use Rattle.tm_machine.specs.declared.region.Busy.{Busy}
 use Rattle.tm_machine.proofs.Conversing.{all_found}
-use Rattle.tm_machine.specs.Region.{given_in, HasPad, HavePads, GoesSo, IsTakenOn, IsTaken, StepsOn, Steps}
+use Rattle.tm_machine.specs.Region.{given_in, HasPad, HavePads, GoesSo, TellsSo, IsLongerSo, HasNext, NextTells, IsTakenOn, IsTaken, StepsOn, Steps}
 
 -- a work that is started serves the code's job
 pub starts : {E : Type 0} (system : System) (code : List ℕ) (given : Given) (lent : Lent) (made : Result RunState E) → job_of system code ≡ Some (lent_job system lent)
@@ -39,6 +44,39 @@ goes_so system region code lent before after old new (Ok advanced) e h = λ give
   advances = subst (λ j. GoesOn j region before after old new advanced) (some_same (lent_job system lent) job (sym e ∙ serves)) h given ahead;
 }
 goes_so system region code lent before after old new (Err error) e h = tt
+
+-- what is told by the job that is lent is told by the code's
+pub tells_so : (system : System) (region : ℕ) (code : List ℕ) (lent : Lent) (before after : DatabasesState) (old : RunState) (unit room : ℕ) (told now : List ℕ)
+    → job_of system code ≡ Some (lent_job system lent) → TellsOn unit room (lent_job system lent) region before after old told now → TellsSo system region code before after old unit room told now
+tells_so system region code lent before after old unit room told now e h = λ given job serves ahead.
+    subst (λ j. TellsOn unit room j region before after old told now) (some_same (lent_job system lent) job (sym e ∙ serves)) h given ahead
+
+pub longer_so : (system : System) (region : ℕ) (code : List ℕ) (lent : Lent) (before : DatabasesState) (old : RunState) (unit room : ℕ) (error : Untold)
+    → job_of system code ≡ Some (lent_job system lent) → IsUntoldOn unit room (lent_job system lent) region before old error → WhereFull (IsLongerSo system region code before old unit room) error
+longer_so system region code lent before old unit room Memory e h = tt
+longer_so system region code lent before old unit room Full e h = λ given job serves ahead.
+    subst (λ j. IsUntoldOn unit room j region before old Full) (some_same (lent_job system lent) job (sym e ∙ serves)) h given ahead
+
+-- of a work that was taken out what its next call tells is so
+pub next_from : (system : System) (region unit : ℕ) (tables : TablesState) (old middle : Busy) (before : RunState) (holds : List Record → Type 0) → IsTaken system tables region old before
+    → middle ≡ record old { unit = None }
+    → ((given : Given) (job : Job) → job_of system middle.code ≡ Some job → (ahead : IsAhead job given region tables.databases before) → holds (next_told unit region tables.databases job ahead.trial))
+    → NextTells system region unit tables holds (Some old)
+next_from system region unit tables old middle before holds taken out all = by (message_at old.id tables.queues.queued) taken
+  where
+    one : (given : Given) → IsTakenOn system tables.databases region given old before → HasNext system region unit tables.databases given old holds
+    one given t = record {
+      job = t.job;
+      serves = t.serves;
+      trial = t.ahead.trial;
+      made = subst (λ n. trial_of t.job (committed_rows tables.databases) given n ≡ Some t.ahead.trial) t.calls t.ahead.made;
+      is = all given t.job (ap (λ (b : Busy). job_of system b.code) out ∙ t.serves) t.ahead;
+    }
+
+    by : (found : Option Message) → IsSomeAnd found (λ message. IsTakenOn system tables.databases region (given_in tables.conversations message) old before)
+        → IsSomeAnd found (λ message. HasNext system region unit tables.databases (given_in tables.conversations message) old holds)
+    by (Some message) t = one (given_in tables.conversations message) t
+    by None t = absurd t
 
 -- a work that was taken out made a step
 pub steps_from : (system : System) (region : ℕ) (tables : TablesState) (left databases : DatabasesState) (old middle new : Busy) (before after : RunState) (advanced : Advanced) → IsTaken system tables region old before

@@ -1,7 +1,7 @@
 -- What a call tells is what its answer says.
 use Rattle.std.proofs.Common.{◌≡◌, ℕ, ◌-◌, ◌<◌, ◌≤◌, Bool, true, false, List, [], ◌∷◌, ◌++◌, length, refl, sym, ap, ◌∙◌, subst, arith}
 use Rattle.std.specs.Prelude.{Option, Some, None, Result, Ok, Err, if◌then◌else◌, nat_lt, slice_get}
-use Rattle.std.specs.List.{flat_map}
+use Rattle.std.specs.List.{flat_map, AllByRecursion}
 use Rattle.std.specs.Option.{option_map_or, option_and_then}
 use Rattle.std.proofs.lemmas.List.{append-nil}
 use Rattle.model_enqueue.specs.declared.request.Request.{Request}
@@ -35,28 +35,33 @@ use Rattle.io_pcb.specs.Pads.{Suits}
 use Rattle.message_run.specs.RunState.{RunState}
 use Rattle.step_telling.specs.Ranges.{HasShortPad}
 use Rattle.tm_machine.specs.Region.{SuitsUnit, pad_by}
-use Rattle.log_records.specs.Spelling.{spelling}
+use Rattle.log_records.specs.declared.record.Record.{Record}
+use Rattle.log_records.specs.Spelling.{spelling, IsRecord}
 use Rattle.step_records.specs.Records.{step_records, step_bytes}
 use Rattle.lasting_state.specs.Tables.{TablesState, lasting_of}
 use Rattle.lasting_state.specs.Telling.{Tells as TablesTell, IsLonger as IsLongerStep}
 use Rattle.tm_machine.specs.Inputs.{IsRefusal}
 use Rattle.tm_machine.specs.Parts.{PartsState}
-use Rattle.tm_machine.specs.Told.{bytes_of, ends_work, IsLonger, Tells, TellsUnless}
+use Rattle.tm_machine.specs.Told.{bytes_of, ends_work, records_of, IsLonger, Tells, TellsUnless}
 use Rattle.tm_machine.specs.Turns.{IsTurned}
 
 -- ---- by the step that lasts
-step_none : (system : System) (moment : Moment) (unit : ℕ) (call : ControlCall) → lasting_step system moment call ≡ None → bytes_of system moment unit call ≡ []
-step_none system moment unit call none = ap (λ s. flat_map spelling (option_map_or (λ step. step_records unit step moment.lasting) s [])) none
+step_none : (system : System) (moment : Moment) (unit : ℕ) (call : ControlCall) → lasting_step system moment call ≡ None → records_of system moment unit call ≡ []
+step_none system moment unit call none = ap (λ s. option_map_or (λ step. step_records unit step moment.lasting) s []) none
 
 pub step_some : (system : System) (moment : Moment) (unit : ℕ) (call : ControlCall) (step : LastingStep) → lasting_step system moment call ≡ Some step
     → bytes_of system moment unit call ≡ step_bytes unit step moment.lasting
 step_some system moment unit call step some = ap (λ s. flat_map spelling (option_map_or (λ step. step_records unit step moment.lasting) s [])) some
 
-tells_none : (system : System) (moment : Moment) (unit room : ℕ) (call : ControlCall) (told : List ℕ) → bytes_of system moment unit call ≡ [] → Tells system moment unit room call told told
+tells_none : (system : System) (moment : Moment) (unit room : ℕ) (call : ControlCall) (told : List ℕ) → records_of system moment unit call ≡ [] → Tells system moment unit room call told told
 tells_none system moment unit room call told none = record {
-  told = sym (append-nil told) ∙ ap (λ bs. told ++ bs) (sym none);
-  fits = subst (λ bs. length bs ≤ room) (sym none) (omega arith);
+  told = sym (append-nil told) ∙ ap (λ (rs : List Record). told ++ flat_map spelling rs) (sym none);
+  valid = subst (λ (rs : List Record). AllByRecursion IsRecord rs) (sym none) tt;
+  fits = subst (λ (rs : List Record). length (flat_map spelling rs) ≤ room) (sym none) (omega arith);
 }
+
+pub unlasting_tells : (system : System) (moment : Moment) (unit room : ℕ) (call : ControlCall) (told : List ℕ) → lasting_step system moment call ≡ None → Tells system moment unit room call told told
+unlasting_tells system moment unit room call told none = tells_none system moment unit room call told (step_none system moment unit call none)
 
 -- ---- turns
 module _ (system : System) (moment : Moment) (slot : Slot) (trial : Trial) where
@@ -139,9 +144,13 @@ module _ (system : System) (moment : Moment) (unit room : ℕ) (call : ControlCa
   bytes_are : bytes_of system moment unit call ≡ step_bytes unit step (lasting_of settings tables)
   bytes_are = step_some system moment unit call step does ∙ ap (step_bytes unit step) lasts
 
+  records_are : records_of system moment unit call ≡ step_records unit step (lasting_of settings tables)
+  records_are = ap (λ s. option_map_or (λ step. step_records unit step moment.lasting) s []) does ∙ ap (step_records unit step) lasts
+
   pub tells_step : (before after : List ℕ) → TablesTell unit room step tables before after → Tells system moment unit room call before after
   tells_step before after h = record {
     told = h.told settings ∙ ap (λ bs. before ++ bs) (sym bytes_are);
+    valid = subst (λ (rs : List Record). AllByRecursion IsRecord rs) (sym records_are) (h.valid settings);
     fits = subst (λ bs. length bs ≤ room) (sym bytes_are) (h.fits settings);
   }
 

@@ -7,3 +7,4 @@ pub mod Victims
 pub mod Turns
 pub mod Ends
 pub mod Told
+pub mod OnSlots

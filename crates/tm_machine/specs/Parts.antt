@@ -21,10 +21,11 @@ use Rattle.lasting_state.specs.Tables.{TablesState}
 use Rattle.tm_machine.specs.declared.region.Busy.{Busy}
 use Rattle.tm_machine.specs.Region.{IsWork, calls_made, given_in}
 
--- the system, and the moment that its machine has come to
+-- the system, the moment that its machine has come to, and the databases, with what each region has changed
 pub record PartsState : Type 0 where
   pub system : System
   pub moment : Moment
+  pub databases : DatabasesState
 
 -- the slot that a region's work stands for
 abbrev pub slot_of : Option Busy → Option Slot

@@ -1,5 +1,5 @@
 -- What a region's work does in a turn.
-use Rattle.std.specs.Prelude.{◌≡◌, ⊤, ℕ, Option, Some, None, IsSomeAnd, List, [], if◌then◌else◌, IfSome}
+use Rattle.std.specs.Prelude.{◌≡◌, ◌<◌, ⊤, ℕ, length, Option, Some, None, IsSomeAnd, List, [], if◌then◌else◌, IfSome}
 use Rattle.std.specs.List.{AllByRecursion}
 use Rattle.std.specs.Option.{option_map_or}
 use Rattle.tm_types.specs.declared.message.Message.{Message}
@@ -7,16 +7,19 @@ use Rattle.model_conversation.specs.declared.conversation.PadChange.{PadChange}
 use Rattle.model_conversation.specs.declared.conversation.PadChange.TheVariants.{Stays}
 use Rattle.model_conversation.specs.declared.conversation.TerminalConversation.{TerminalConversation}
 use Rattle.model_conversation.specs.Terminals.{conversation_at, pad_at}
-use Rattle.model_machine.specs.Trial.{Given}
+use Rattle.model_machine.specs.Trial.{Given, Trial, trial_of}
+use Rattle.log_records.specs.declared.record.Record.{Record}
 use Rattle.io_pcb.specs.Pads.{IsPadText, Suits}
 use Rattle.model_queues.specs.Queue.{message_at}
 use Rattle.model_system.specs.System.{System}
 use Rattle.model_message.specs.declared.ended_message.EndedMessage.{EndedMessage}
 use Rattle.model_message.specs.Calls.{finish_work, pad_change}
 use Rattle.model_system.specs.Jobs.{Job, job_of}
-use Rattle.program_rows.specs.State.{DatabasesState, IsClean}
+use Rattle.program_rows.specs.State.{DatabasesState, IsClean, committed_rows}
+use Rattle.program_rows.specs.Telling.{spelled}
 use Rattle.message_run.specs.declared.run.Advanced.{Advanced}
 use Rattle.message_run.specs.Ahead.{IsAhead, Advances, given_with}
+use Rattle.message_run.specs.Telling.{next_told, TellsNext}
 use Rattle.message_run.specs.RunState.{RunState}
 use Rattle.lasting_state.specs.Tables.{TablesState}
 use Rattle.tm_machine.specs.declared.region.Busy.{Busy}
@@ -90,6 +93,32 @@ abbrev pub GoesSo : System → ℕ → List ℕ → DatabasesState → Databases
 GoesSo system region code databases left before after advanced =
     (given : Given) (job : Job) → job_of system code ≡ Some job → IsAhead job given region databases before
     → UnitSteps system region databases left given code before after advanced
+
+-- The step told what it made of the slots, whatever the message on which the work has come so far.
+abbrev pub TellsSo : System → ℕ → List ℕ → DatabasesState → DatabasesState → RunState → ℕ → ℕ → List ℕ → List ℕ → Type 0
+TellsSo system region code databases left before unit room told now =
+    (given : Given) (job : Job) → job_of system code ≡ Some job → (ahead : IsAhead job given region databases before)
+    → TellsNext unit room region databases left told now (next_told unit region databases job ahead.trial)
+
+-- what it tells is longer than the room
+abbrev pub IsLongerSo : System → ℕ → List ℕ → DatabasesState → RunState → ℕ → ℕ → Type 0
+IsLongerSo system region code databases before unit room =
+    (given : Given) (job : Job) → job_of system code ≡ Some job → (ahead : IsAhead job given region databases before)
+    → room < length (spelled (next_told unit region databases job ahead.trial))
+
+-- This is so of what the next call of a work's script tells: of the trial that the calls so far lead to.
+pub record HasNext (system : System) (region unit : ℕ) (databases : DatabasesState) (given : Given) (busy : Busy) (holds : List Record → Type 0) : Type 0 where
+  pub job : Job
+  pub serves : job_of system busy.code ≡ Some job
+  pub trial : Trial
+  pub made : trial_of job (committed_rows databases) given (calls_made busy.unit) ≡ Some trial
+  pub is : holds (next_told unit region databases job trial)
+
+-- A region that is empty tells nothing; of another one it is the work on its message.
+abbrev pub NextTells : System → ℕ → ℕ → TablesState → (List Record → Type 0) → Option Busy → Type 0
+NextTells system region unit tables holds None = holds []
+NextTells system region unit tables holds (Some busy) =
+    IsSomeAnd (message_at busy.id tables.queues.queued) (λ message. HasNext system region unit tables.databases (given_in tables.conversations message) busy holds)
 
 -- a step of a region's work on a message, which was started at the latest now
 pub record StepsOn (system : System) (region : ℕ) (databases left : DatabasesState) (given : Given) (old new : Busy) (advanced : Advanced) : Type 0 where

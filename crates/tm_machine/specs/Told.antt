@@ -1,6 +1,6 @@
 -- What a call tells: the records of its lasting step.
 use Rattle.std.specs.Prelude.{◌≡◌, ℕ, ◌<◌, ◌≤◌, Bool, true, false, List, [], ◌++◌, length}
-use Rattle.std.specs.List.{flat_map}
+use Rattle.std.specs.List.{flat_map, AllByRecursion}
 use Rattle.std.specs.Option.{option_map_or}
 use Rattle.model_system.specs.System.{System}
 use Rattle.model_machine.specs.declared.entry.ControlCall.{ControlCall}
@@ -9,7 +9,7 @@ use Rattle.model_machine.specs.declared.entry.Turned.TheVariants.{Scheduled, Cal
 use Rattle.model_machine.specs.Machine.{Moment}
 use Rattle.model_machine.specs.Steps.{lasting_step}
 use Rattle.log_records.specs.declared.record.Record.{Record}
-use Rattle.log_records.specs.Spelling.{spelling}
+use Rattle.log_records.specs.Spelling.{spelling, IsRecord}
 use Rattle.step_records.specs.Records.{step_records}
 
 -- the records of the step that lasts of a call at this moment, in this unit; none where nothing lasts
@@ -19,9 +19,10 @@ records_of system moment unit call = option_map_or (λ step. step_records unit s
 abbrev pub bytes_of : System → Moment → ℕ → ControlCall → List ℕ
 bytes_of system moment unit call = flat_map spelling (records_of system moment unit call)
 
--- They were appended, and fit the room.
+-- They were appended, each one by the ranges of its fields, and fit the room.
 pub record Tells (system : System) (moment : Moment) (unit room : ℕ) (call : ControlCall) (before after : List ℕ) : Type 0 where
   pub told : after ≡ before ++ bytes_of system moment unit call
+  pub valid : AllByRecursion IsRecord (records_of system moment unit call)
   pub fits : length (bytes_of system moment unit call) ≤ room
 
 -- a call that met a fault tells nothing

@@ -36,6 +36,7 @@ pub record WaitsSo (old new : PartsState) (region : ℕ) (resource : Resource) (
   pub moment : new.moment ≡ record old.moment { enqueues = asked_table old.system old.moment region }
   pub settled : IsSettled old
   pub system : new.system ≡ old.system
+  pub databases : new.databases ≡ record old.databases { table = new.databases.table }
 
 -- An empty region goes nowhere. Another one's script makes its next call, or its work has ended, or the
 -- region waits.

@@ -7,6 +7,7 @@ ghost use Rattle.model_machine.specs.Trial.WorkEnd.{Ends, Syncs, Abends};
 ghost use Rattle.message_run.specs.Ahead.{end_of};
 ghost use Rattle.tm_machine.specs.Ends.{EndsSo};
 ghost use Rattle.step_telling.specs.Untold.{WhereFull};
+ghost use Rattle.tm_machine.specs.OnSlots.{TurnsSo};
 ghost use Rattle.tm_machine.specs.Told.{IsLonger, Tells};
 ghost use Rattle.tm_machine.specs.Turns.{IsTurned};
 
@@ -35,6 +36,7 @@ impl Parts {
         requires region { IsRegion self.old.system region }
         requires ends { EndsSo self.old region (end_of ending) }
         ensures turned { IfOk result (IsTurned self.old self.new region) }
+        ensures slots { IfOk result (TurnsSo self.old self.new unit region) }
         ensures told { OnOk result (Tells self.old.system self.old.moment unit room (Turn region) told.old.items told.new.items) }
         ensures err { OnErr result (self.new ≡ self.old) }
         ensures untold { OnErr result (told.new.items ≡ told.old.items) }
@@ -58,6 +60,7 @@ impl Parts {
         requires region { IsRegion self.old.system region }
         requires ends { EndsSo self.old region Ends }
         ensures turned { IfOk result (IsTurned self.old self.new region) }
+        ensures slots { IfOk result (TurnsSo self.old self.new unit region) }
         ensures told { OnOk result (Tells self.old.system self.old.moment unit room (Turn region) told.old.items told.new.items) }
         ensures err { OnErr result (self.new ≡ self.old) }
         ensures untold { OnErr result (told.new.items ≡ told.old.items) }
@@ -106,6 +109,7 @@ impl Parts {
         requires region { IsRegion self.old.system region }
         requires ends { EndsSo self.old region Syncs }
         ensures turned { IfOk result (IsTurned self.old self.new region) }
+        ensures slots { IfOk result (TurnsSo self.old self.new unit region) }
         ensures told { OnOk result (Tells self.old.system self.old.moment unit room (Turn region) told.old.items told.new.items) }
         ensures err { OnErr result (self.new ≡ self.old) }
         ensures untold { OnErr result (told.new.items ≡ told.old.items) }
@@ -171,6 +175,7 @@ impl Parts {
         requires region { IsRegion self.old.system region }
         requires ends { EndsSo self.old region (Abends abend) }
         ensures turned { IfOk result (IsTurned self.old self.new region) }
+        ensures slots { IfOk result (TurnsSo self.old self.new unit region) }
         ensures told { OnOk result (Tells self.old.system self.old.moment unit room (Turn region) told.old.items told.new.items) }
         ensures err { OnErr result (self.new ≡ self.old) }
         ensures untold { OnErr result (told.new.items ≡ told.old.items) }

@@ -109,7 +109,7 @@ fn is_code_stopped(system: &System, codes: &Codes, code: &Name) -> bool
     }
 }
 
-fn named(code: &Code) -> Name
+pub(crate) fn named(code: &Code) -> Name
     ensures value { result ≡ code.now.transaction.code }
     ensures name { IsName result }
 {
@@ -156,6 +156,7 @@ impl Parts {
         requires { 0 < length segments }
         ensures answer { IfOk result (λ answer. Answers self.old self.new (Accept terminal.now number segments answer)) }
         ensures told { IfOk result (λ answer. TellsUnless (is_fault (Accept terminal.now number segments answer)) self.old.system self.old.moment 0 room (Input terminal.now number segments) told.old.items told.new.items) }
+        ensures databases { self.new.databases ≡ self.old.databases }
         ensures err { OnErr result (self.new ≡ self.old) }
         ensures untold { OnErr result (told.new.items ≡ told.old.items) }
         ensures full { IfErr result (WhereFull (IsLonger self.old.system self.old.moment 0 room (Input terminal.now number segments))) }
@@ -231,6 +232,7 @@ impl Parts {
         requires segment { 0 < length segments }
         ensures answer { IfOk result (λ answer. Answers self.old self.new (Accept terminal.now number segments answer)) }
         ensures told { IfOk result (λ answer. TellsUnless (is_fault (Accept terminal.now number segments answer)) self.old.system self.old.moment 0 room (Input terminal.now number segments) told.old.items told.new.items) }
+        ensures databases { self.new.databases ≡ self.old.databases }
         ensures err { OnErr result (self.new ≡ self.old) }
         ensures untold { OnErr result (told.new.items ≡ told.old.items) }
         ensures full { IfErr result (WhereFull (IsLonger self.old.system self.old.moment 0 room (Input terminal.now number segments))) }

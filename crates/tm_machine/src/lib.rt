@@ -14,6 +14,7 @@ mod flags;
 mod input;
 mod lookup;
 mod next;
+mod opening;
 mod output;
 mod parts;
 mod quiet;

@@ -1,13 +1,16 @@
 //! Replies that terminals see and acknowledge.
-ghost use Rattle.std.specs.Prelude.{◌≡◌};
+ghost use Rattle.std.specs.Prelude.{◌≡◌, IfOk, IfErr, OnOk, OnErr};
+ghost use Rattle.model_machine.specs.declared.entry.ControlCall.TheVariants.{Acknowledge};
 ghost use Rattle.model_machine.specs.declared.entry.Entry.TheVariants.{Acked as AckedEntry, Show as ShowEntry};
 ghost use Rattle.model_machine.specs.Machine.{output_at, terminal_at};
 ghost use Rattle.model_machine.specs.Steps.{show_answer};
 ghost use Rattle.lasting_state.specs.Showing.{IsShownTo};
-ghost use Rattle.tm_machine.specs.Answers.{Answers};
+ghost use Rattle.step_telling.specs.Untold.{WhereFull};
+ghost use Rattle.tm_machine.specs.Answers.{Answers, IsAnswered};
+ghost use Rattle.tm_machine.specs.Told.{IsLonger, Tells};
 
 use crate::parts::Parts;
-use lasting_state::Shown;
+use lasting_state::{Shown, Untold};
 use model_machine::{AckRefused, Acked, ShowAnswer};
 use tm_types::Name;
 
@@ -53,10 +56,23 @@ impl Parts {
         self.tables.steps()
     }
 
-    /// Takes an acknowledgement, or says why not. A fault changes nothing.
-    pub fn acknowledge(&mut self, terminal: &Name, number: u64) -> Result<Acked, AckRefused>
-        ensures { Answers self.old self.new (AckedEntry terminal.now number result) }
+    /// Takes an acknowledgement, or says why not. The record of a reply that is removed, of at most `room` bytes, is
+    /// appended. After an Err nothing has changed; `Memory` is answered too where the count of steps would pass its limit.
+    pub fn acknowledge(
+        &mut self,
+        terminal: &Name,
+        number: u64,
+        room: usize,
+        told: &mut Vec<u8>,
+    ) -> Result<Result<Acked, AckRefused>, Untold>
+        ensures answer { IfOk result (λ answer. IsAnswered self.old self.new (AckedEntry terminal.now number answer)) }
+        ensures told { OnOk result (Tells self.old.system self.old.moment 0 room (Acknowledge terminal.now number) told.old.items told.new.items) }
+        ensures databases { self.new.databases ≡ self.old.databases }
+        ensures err { OnErr result (self.new ≡ self.old) }
+        ensures untold { OnErr result (told.new.items ≡ told.old.items) }
+        ensures full { IfErr result (WhereFull (IsLonger self.old.system self.old.moment 0 room (Acknowledge terminal.now number))) }
     {
-        self.tables.acknowledge(terminal, number)
+        self.tables
+            .acknowledge(self.alloc, terminal, number, room, told)
     }
 }

@@ -1,13 +1,18 @@
 //! The parts of a control region.
 ghost use Rattle.std.specs.Prelude.{◌≡◌, None, replicate, IfOk};
-ghost use Rattle.model_machine.specs.Machine.{empty_state, start_of};
+ghost use Rattle.model_machine.specs.Machine.{empty_state, start_of, IsRegion};
+ghost use Rattle.program_rows.specs.OnSlots.{all_stores, touched_in};
+ghost use Rattle.program_rows.specs.State.{settled};
+ghost use Rattle.tm_machine.specs.OnSlots.{slots_now, HasSlots};
 
 use crate::region::Busy;
 use lasting_state::Tables;
+use seg_store::Stores;
 use std::alloc::Global;
 use std::marker::Model;
 use system_types::{Codes, System};
 use tm_types::Memory;
+use unit_work::Unit;
 
 /// The state of a control region, as its calls change it.
 #[derive(Debug, Drop)]
@@ -28,7 +33,7 @@ impl Model for Parts {
 
     ghost Value = { PartsState };
 
-    ghost view = { λ p. record { system = p.system; moment = moment_of p } };
+    ghost view = { λ p. record { system = p.system; moment = moment_of p; databases = p.tables.databases } };
 
     ghost invariant = { λ p. AreParts p.system p.tables p.codes p.regions.items };
 }
@@ -58,6 +63,36 @@ impl Parts {
         ensures { result.now ≡ self.now.system }
     {
         &self.system
+    }
+
+    /// The system that was served.
+    pub fn into_system(self) -> System
+        ensures { result ≡ self.system }
+    {
+        self.system
+    }
+
+    /// The stores of the databases, as they are, with the slots that were changed since they were written.
+    pub fn stores(&self) -> &Stores
+        ensures value { result.now ≡ all_stores (slots_now self.now) }
+        ensures has { HasSlots self.now }
+    {
+        self.tables.databases().stores()
+    }
+
+    /// What the work in a region has changed.
+    pub fn unit(&self, region: u32) -> &Unit
+        requires { IsRegion self.now.system region }
+        ensures { result.now.slots ≡ touched_in region (slots_now self.now) }
+    {
+        self.tables.databases().unit(region)
+    }
+
+    /// No slot counts as changed any more: what stands in the sectors is the caller's.
+    pub fn settle(&mut self)
+        ensures { self.new ≡ record self.old { databases = settled self.old.databases } }
+    {
+        self.tables.databases_mut().settle();
     }
 }
 

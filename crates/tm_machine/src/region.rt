@@ -1,5 +1,5 @@
 //! What a region works on.
-ghost use Rattle.std.specs.Prelude.{◌≡◌, ◌≤◌, ◌-◌, None, slice_set, ◌<◌, ◌^◌, length, count_by, is_some, IfOk, OnErr, OnOk, IfSome, Some, IsSome, IsSomeAnd};
+ghost use Rattle.std.specs.Prelude.{◌≡◌, ◌≤◌, ◌-◌, None, slice_set, ◌<◌, ◌^◌, length, count_by, is_some, IfOk, IfErr, OnErr, OnOk, IfSome, Some, IsSome, IsSomeAnd};
 ghost use Rattle.std.specs.Option.{option_copied};
 ghost use Rattle.io_pcb.specs.Pads.{lent_pad};
 ghost use Rattle.model_queues.specs.Queue.{messages_of, queued_at};
@@ -10,10 +10,13 @@ ghost use Rattle.lasting_state.specs.Tables.{held};
 ghost use Rattle.program_rows.specs.State.{dbds_of, IsRegionOf};
 ghost use Rattle.message_run.specs.RunState.{AreStanding};
 ghost use Rattle.message_run.specs.Ahead.{IsStart, StaysAhead, StaysUnlessCalled, StayOthers};
-ghost use Rattle.tm_machine.specs.Region.{given_in, HasPad, HavePads, IsQueuedWork, IsTaken, GoesSo, Steps, SameWork, SuitsUnit, outputs_by, pad_by, pad_in};
+ghost use Rattle.message_run.specs.Telling.{TellsNext, IsQuietUnlessCalled};
+ghost use Rattle.program_rows.specs.Telling.{spelled};
+ghost use Rattle.step_telling.specs.Untold.{WhereFull};
+ghost use Rattle.tm_machine.specs.Region.{given_in, HasPad, HavePads, IsQueuedWork, IsTaken, GoesSo, TellsSo, IsLongerSo, NextTells, Steps, SameWork, SuitsUnit, outputs_by, pad_by, pad_in};
 
 use io_pcb::LentPad;
-use lasting_state::Tables;
+use lasting_state::{Tables, Untold};
 use message_run::{Advanced, Run};
 use model_conversation::PadChange;
 use model_message::EndedMessage;
@@ -102,31 +105,37 @@ fn take_unit(
     }
 }
 
-/// Lets the script of a code go on to its next call, and answers that. After want of memory the work is
-/// as far as before. What the call tells is for a log, and there is none yet.
+/// Lets the script of a code go on to its next call, and answers that. After an Err the work is as far as before. What the
+/// call changes in the databases is told of by the unit's number in the log; where that is longer than `room`, the answer
+/// is `Full`.
 fn advance_unit(
-    alloc: Global,
     system: &System,
     region: u32,
     code: &Name,
     databases: &mut Databases,
-    unit: &mut Run,
-) -> Result<Advanced, Memory>
+    run: &mut Run,
+    unit: u64,
+    room: usize,
+    told: &mut Vec<u8>,
+) -> Result<Advanced, Untold>
     requires region { IsRegionOf databases.old region }
     requires databases { dbds_of databases.old ≡ system.now.databases }
-    requires code { IsSomeAnd (job_of system.now code.now) (λ job. AreStanding system.now.databases job.pcbs unit.old.positions) }
-    ensures advances { IfOk result (GoesSo system.now region code.now databases.old databases.new unit.old unit.new) }
+    requires code { IsSomeAnd (job_of system.now code.now) (λ job. AreStanding system.now.databases job.pcbs run.old.positions) }
+    ensures advances { IfOk result (GoesSo system.now region code.now databases.old databases.new run.old run.new) }
     ensures stays { IfOk result (StaysUnlessCalled databases.old databases.new) }
-    ensures calls { OnErr result (unit.new.calls ≡ unit.old.calls) }
-    ensures ahead { OnErr result (IsSomeAnd (job_of system.now code.now) (λ job. StaysAhead job region databases.old unit.old unit.new)) }
+    ensures calls { OnErr result (run.new.calls ≡ run.old.calls) }
+    ensures ahead { OnErr result (IsSomeAnd (job_of system.now code.now) (λ job. StaysAhead job region databases.old run.old run.new)) }
     ensures kept { OnErr result (databases.new ≡ databases.old) }
     ensures others { StayOthers region databases.old databases.new }
+    ensures tells { OnOk result (TellsSo system.now region code.now databases.old databases.new run.old unit room told.old.items told.new.items) }
+    ensures quiet { IfOk result (IsQuietUnlessCalled told.old.items told.new.items) }
+    ensures untold { OnErr result (told.new.items ≡ told.old.items) }
+    ensures full { IfErr result (WhereFull (IsLongerSo system.now region code.now databases.old run.old unit room)) }
 {
     let job = job_of(system, code);
-    let mut told = Vec::new(alloc);
-    match unit.advance(system, &job, region, databases, 1, usize::MAX, &mut told) {
+    match run.advance(system, &job, region, databases, unit, room, told) {
         Ok(advanced) => Ok(advanced),
-        Err(_) => Err(Memory),
+        Err(untold) => Err(untold),
     }
 }
 
@@ -137,7 +146,10 @@ fn advance_busy(
     region: u32,
     tables: &mut Tables,
     busy: &mut Busy,
-) -> Result<Advanced, Memory>
+    unit: u64,
+    room: usize,
+    told: &mut Vec<u8>,
+) -> Result<Advanced, Untold>
     requires region { IsRegionOf tables.old.databases region }
     requires work { IsQueuedWork system.now tables.old region busy.old }
     requires pads { HavePads tables.old.conversations (messages_of tables.old.queues.queued) }
@@ -148,32 +160,42 @@ fn advance_busy(
     ensures others { StayOthers region tables.old.databases tables.new.databases }
     ensures err { OnErr result (SameWork system.now region tables.old (Some busy.old) (Some busy.new)) }
     ensures kept { OnErr result (tables.new ≡ tables.old) }
+    ensures tells { OnOk result (NextTells system.now region unit tables.old (TellsNext unit room region tables.old.databases tables.new.databases told.old.items told.new.items) (Some busy.old)) }
+    ensures quiet { IfOk result (IsQuietUnlessCalled told.old.items told.new.items) }
+    ensures untold { OnErr result (told.new.items ≡ told.old.items) }
+    ensures full { IfErr result (WhereFull (NextTells system.now region unit tables.old (λ records. room < length (spelled records)) (Some busy.old))) }
 {
-    let mut unit = match take_unit(alloc, system, region, tables, busy) {
-        Ok(unit) => unit,
-        Err(error) => return Err(error),
+    let mut run = match take_unit(alloc, system, region, tables, busy) {
+        Ok(run) => run,
+        Err(_) => return Err(Untold::Memory),
     };
     let advanced = advance_unit(
-        alloc,
         system,
         region,
         &busy.code,
         tables.databases_mut(),
-        &mut unit,
+        &mut run,
+        unit,
+        room,
+        told,
     );
-    busy.unit = Some(unit);
+    busy.unit = Some(run);
     advanced
 }
 
 /// Lets the script of a region go on to its next call, and answers that; nothing where the region
-/// is empty. After want of memory the work is as far as before.
+/// is empty. After an Err the work is as far as before. What the call changes in the databases is told of by the unit's
+/// number in the log; where that is longer than `room`, the answer is `Full`.
 pub fn advance(
     alloc: Global,
     system: &System,
     region: u32,
     tables: &mut Tables,
     work: &mut Option<Busy>,
-) -> Result<Option<Advanced>, Memory>
+    unit: u64,
+    room: usize,
+    told: &mut Vec<u8>,
+) -> Result<Option<Advanced>, Untold>
     requires region { IsRegionOf tables.old.databases region }
     requires work { IfSome work.old (IsQueuedWork system.now tables.old region) }
     requires pads { HavePads tables.old.conversations (messages_of tables.old.queues.queued) }
@@ -184,11 +206,15 @@ pub fn advance(
     ensures others { StayOthers region tables.old.databases tables.new.databases }
     ensures err { OnErr result (SameWork system.now region tables.old work.old work.new) }
     ensures kept { OnErr result (tables.new ≡ tables.old) }
+    ensures tells { OnOk result (NextTells system.now region unit tables.old (TellsNext unit room region tables.old.databases tables.new.databases told.old.items told.new.items) work.old) }
+    ensures quiet { IfOk result (λ advanced. IfSome advanced (IsQuietUnlessCalled told.old.items told.new.items)) }
+    ensures untold { OnErr result (told.new.items ≡ told.old.items) }
+    ensures full { IfErr result (WhereFull (NextTells system.now region unit tables.old (λ records. room < length (spelled records)) work.old)) }
 {
     let Some(busy) = work else {
         return Ok(None);
     };
-    match advance_busy(alloc, system, region, tables, busy) {
+    match advance_busy(alloc, system, region, tables, busy, unit, room, told) {
         Ok(advanced) => Ok(Some(advanced)),
         Err(error) => Err(error),
     }

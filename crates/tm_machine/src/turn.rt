@@ -1,12 +1,14 @@
 //! The turns of the regions.
-ghost use Rattle.std.specs.Prelude.{◌≡◌, false, Ok, IfOk, IfErr, OnOk, OnErr, None};
+ghost use Rattle.std.specs.Prelude.{◌≡◌, ◌<◌, ℕ, length, false, Ok, IfOk, IfErr, IfSome, OnOk, OnErr, None};
 ghost use Rattle.model_machine.specs.declared.entry.Entry.TheVariants.{Turn as TurnEntry};
-ghost use Rattle.model_machine.specs.declared.entry.ControlCall.TheVariants.{Turn as TurnCall};
 ghost use Rattle.model_machine.specs.Machine.{IsRegion, slot_at};
 ghost use Rattle.model_machine.specs.Steps.{need_now};
 ghost use Rattle.step_telling.specs.Untold.{WhereFull};
 ghost use Rattle.tm_machine.specs.Answers.{Answers};
-ghost use Rattle.tm_machine.specs.Told.{ends_work, IsLonger, Tells};
+ghost use Rattle.message_run.specs.Telling.{TellsNext, IsQuietUnlessCalled};
+ghost use Rattle.program_rows.specs.Telling.{spelled};
+ghost use Rattle.tm_machine.specs.OnSlots.{changes_told, IsTurnLonger, TellByCall, TurnTells, TurnsSo};
+ghost use Rattle.tm_machine.specs.Told.{ends_work};
 ghost use Rattle.tm_machine.specs.Turns.{Goes, IsTurned, waited};
 
 use crate::flags::follow;
@@ -17,12 +19,13 @@ use lasting_state::Untold;
 use message_run::Advanced;
 use model_enqueue::Victims;
 use model_machine::Turned;
-use tm_types::{Memory, Resource};
+use tm_types::Resource;
 use tran_pick::pick;
 
 impl Parts {
-    /// Lets a region do its next step. The records of what lasts of it, in this unit and of at most `room` bytes, are
-    /// appended. A refusal changes nothing; `Memory` is answered too where a count would pass its limit.
+    /// Lets a region do its next step. The records of what it changes in the databases or of what lasts of it, in this unit
+    /// and of at most `room` bytes, are appended. A refusal changes nothing; `Memory` is answered too where a count would
+    /// pass its limit.
     pub fn turn(
         &mut self,
         region: u32,
@@ -32,10 +35,12 @@ impl Parts {
     ) -> Result<Turned, Untold>
         requires { IsRegion self.old.system region }
         ensures answer { IfOk result (λ turned. Answers self.old self.new (TurnEntry region (Ok turned))) }
-        ensures told { OnOk result (Tells self.old.system self.old.moment unit room (TurnCall region) told.old.items told.new.items) }
+        ensures told { OnOk result (TurnTells self.old unit room region told.old.items told.new.items) }
+        ensures slots { IfOk result (TurnsSo self.old self.new unit region) }
+        ensures calls { IfOk result (TellByCall (changes_told self.old unit region)) }
         ensures err { OnErr result (self.new ≡ self.old) }
         ensures untold { OnErr result (told.new.items ≡ told.old.items) }
-        ensures full { IfErr result (WhereFull (IsLonger self.old.system self.old.moment unit room (TurnCall region))) }
+        ensures full { IfErr result (WhereFull (IsTurnLonger self.old unit room region)) }
     {
         match self.step(region, unit, room, told) {
             Ok(turned) => Ok(turned),
@@ -44,7 +49,6 @@ impl Parts {
     }
 
     /// The same by the region's own steps.
-    #[tactic(auto, using(crate::proofs::Telling::quiet_rules))]
     fn step(
         &mut self,
         region: u32,
@@ -54,13 +58,15 @@ impl Parts {
     ) -> Result<Turned, Untold>
         requires { IsRegion self.old.system region }
         ensures turned { IfOk result (IsTurned self.old self.new region) }
-        ensures told { OnOk result (Tells self.old.system self.old.moment unit room (TurnCall region) told.old.items told.new.items) }
+        ensures told { OnOk result (TurnTells self.old unit room region told.old.items told.new.items) }
+        ensures slots { IfOk result (TurnsSo self.old self.new unit region) }
+        ensures calls { IfOk result (TellByCall (changes_told self.old unit region)) }
         ensures err { OnErr result (self.new ≡ self.old) }
         ensures untold { OnErr result (told.new.items ≡ told.old.items) }
-        ensures full { IfErr result (WhereFull (IsLonger self.old.system self.old.moment unit room (TurnCall region))) }
+        ensures full { IfErr result (WhereFull (IsTurnLonger self.old unit room region)) }
     {
-        match self.advance(region) {
-            Ok(None) => Ok(self.schedule(region)?),
+        match self.advance(region, unit, room, told) {
+            Ok(None) => Ok(self.schedule(region)),
             Ok(Some(Advanced::Called(function, pcb, status))) => {
                 Ok(Turned::Called(function, pcb, status))
             }
@@ -69,16 +75,26 @@ impl Parts {
                 let victims = self.break_rings(region);
                 Ok(waited(resource, by, victims))
             }
-            Err(_) => Err(Untold::Memory),
+            Err(untold) => Err(untold),
         }
     }
 
     /// Lets the script of a region go on to its next call, and answers that; nothing where the region
-    /// is empty.
-    fn advance(&mut self, region: u32) -> Result<Option<Advanced>, Memory>
+    /// is empty. What the call changes in the databases is told.
+    fn advance(
+        &mut self,
+        region: u32,
+        unit: u64,
+        room: usize,
+        told: &mut Vec<u8>,
+    ) -> Result<Option<Advanced>, Untold>
         requires { IsRegion self.old.system region }
         ensures ok { IfOk result (Goes self.old self.new region) }
+        ensures tells { OnOk result (TellsNext unit room region self.old.databases self.new.databases told.old.items told.new.items (changes_told self.old unit region)) }
+        ensures quiet { IfOk result (λ advanced. IfSome advanced (IsQuietUnlessCalled told.old.items told.new.items)) }
         ensures err { OnErr result (self.new ≡ self.old) }
+        ensures untold { OnErr result (told.new.items ≡ told.old.items) }
+        ensures full { IfErr result (WhereFull (room < length (spelled (changes_told self.old unit region)))) }
     {
         advance(
             self.alloc,
@@ -86,6 +102,9 @@ impl Parts {
             region,
             &mut self.tables,
             &mut self.regions[region as usize - 1],
+            unit,
+            room,
+            told,
         )
     }
 
@@ -97,21 +116,21 @@ impl Parts {
         self.tables.content() + SLOT_ROOM * (busy + 1)
     }
 
-    /// Takes the message that is picked, if the region is empty.
-    fn schedule(&mut self, region: u32) -> Result<Turned, Memory>
+    /// Takes the message that is picked, if the region is empty. This takes no memory.
+    fn schedule(&mut self, region: u32) -> Turned
         requires region { IsRegion self.old.system region }
         requires empty { slot_at self.old.moment region ≡ None }
-        ensures turned { IfOk result (IsTurned self.old self.new region) }
-        ensures quiet { IfOk result (λ turned. ends_work turned ≡ false) }
-        ensures err { OnErr result (self.new ≡ self.old) }
+        ensures turned { IsTurned self.old self.new region result }
+        ensures quiet { ends_work result ≡ false }
+        ensures slots { (unit : ℕ) → TurnsSo self.old self.new unit region result }
     {
         let Some(picked) = pick(&self.system, region, &self.codes, self.tables.queues()) else {
-            return Ok(Turned::Idle);
+            return Turned::Idle;
         };
         let need = self.slot_need();
         let limit = u64::from(self.tables.queues().limit());
         if need > limit {
-            return Ok(Turned::Held(need, limit));
+            return Turned::Held(need, limit);
         }
         let (code, id) = (picked.code, picked.id);
         let busy = Busy {
@@ -123,7 +142,7 @@ impl Parts {
         take(&mut self.tables, &mut self.regions, region, busy);
         let waiting = self.tables.queues().waiting(&code);
         follow(&mut self.codes, &self.system, &code, waiting);
-        Ok(Turned::Scheduled(code, id))
+        Turned::Scheduled(code, id)
     }
 }
 

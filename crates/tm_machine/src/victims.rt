@@ -3,6 +3,8 @@ ghost use Rattle.std.specs.Prelude.{◌≡◌, ◌≤◌, length, map, IsSome, M
 ghost use Rattle.model_enqueue.specs.Cycle.{HasNoCycle};
 ghost use Rattle.model_machine.specs.Machine.{IsRegion, busy_slots, slot_at};
 ghost use Rattle.model_machine.specs.Requests.{changes_now};
+ghost use Rattle.program_rows.specs.OnSlots.{GivesUpSo, HaveSlots};
+ghost use Rattle.tm_machine.specs.OnSlots.{slots_now, VictimsGiveUp};
 ghost use Rattle.tm_machine.specs.Victims.{gave_way, BreaksRings, GivesWay};
 
 use crate::close::{busy_at, code_of, give_up};
@@ -17,7 +19,8 @@ impl Parts {
     /// told in their order. This takes no memory.
     pub fn break_rings(&mut self, region: u32) -> Victims
         requires { IsRegion self.old.system region }
-        ensures { BreaksRings self.old self.new region result }
+        ensures breaks { BreaksRings self.old self.new region result }
+        ensures slots { VictimsGiveUp self.old result (slots_now self.old) (slots_now self.new) }
     {
         let changes = self.changes();
         let mut victims = Victims::new();
@@ -58,6 +61,8 @@ impl Parts {
         requires busy { IsSome (slot_at self.old.moment region) }
         ensures moment { self.new.moment ≡ gave_way self.old.system self.old.moment region }
         ensures system { self.new.system ≡ self.old.system }
+        ensures slots { GivesUpSo region (slots_now self.old) (slots_now self.new) }
+        ensures have { HaveSlots self.new.system.databases (length self.new.system.regions) (slots_now self.new) }
     {
         let id = busy_at(&self.regions, region).id;
         let code = code_of(&self.tables, id);

@@ -117,7 +117,7 @@ was_not_there c db m free = ap (λ b. eqb c.db db && (eqb c.slot m && not b)) fr
     by true false = refl
     by false b = refl
 
-was_there : (c : Change) (db m : ℕ) → c.db ≡ db → c.slot ≡ m → is_free c.before ≡ false → was_in db m c ≡ true
+pub was_there : (c : Change) (db m : ℕ) → c.db ≡ db → c.slot ≡ m → is_free c.before ≡ false → was_in db m c ≡ true
 was_there c db m d s t = λ k. eq-eqb c.db db d k && (eq-eqb c.slot m s k && not (t k))
 
 own_back : (front : List Change) (c : Change) (db n i : ℕ) (slots : List (List Row)) → c.db ≡ db → c.slot ≡ n + i → is_free c.before ≡ false → i < length slots
@@ -309,7 +309,7 @@ drop_past (x ∷ xs) zero h = absurd (omega arith)
 drop_past (x ∷ xs) (suc i) h = drop_past xs i (omega arith)
 
 -- clearing leaves as many stores
-cleared_length : (records : List Change) (n : ℕ) (stores : List Stored) → length (cleared_from records n stores) ≡ length stores
+pub cleared_length : (records : List Change) (n : ℕ) (stores : List Stored) → length (cleared_from records n stores) ≡ length stores
 cleared_length records n [] = refl
 cleared_length records n (s ∷ stores) = ap (λ m. suc m) (cleared_length records (suc n) stores)
 

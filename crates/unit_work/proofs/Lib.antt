@@ -1,2 +1,4 @@
 pub mod Keeping
 pub mod Backing
+pub mod Marking
+pub mod Ordered

@@ -1,5 +1,5 @@
 -- What backing out needs, and what it leaves in the stores.
-use Rattle.std.specs.Prelude.{◌≡◌, ℕ, ◌-◌, ◌≤◌, ◌⊎◌, Bool, true, ◌==◌, ◌&&◌, not, List, [], ◌∷◌, Option, None, Some, if◌then◌else◌, length, suc, slice_get, slice_set}
+use Rattle.std.specs.Prelude.{◌≡◌, ℕ, ◌-◌, ◌≤◌, ◌⊎◌, Bool, true, ◌==◌, ◌&&◌, ◌||◌, not, List, [], ◌∷◌, Option, None, Some, if◌then◌else◌, length, suc, slice_get, slice_set}
 use Rattle.std.specs.List.{AllByRecursion, list_any}
 use Rattle.model_rows.specs.declared.row.Row.{Row}
 use Rattle.model_rows.specs.Record.{IsRecord}
@@ -96,3 +96,7 @@ with_back c (Some s) stores = slice_set stores (c.db - 1) (with_image_back c s)
 
 abbrev pub with_record_back : Change → List Stored → List Stored
 with_record_back c stores = with_back c (slice_get stores (c.db - 1)) stores
+
+-- whether backing out sets a slot in which this image stands: it is of a changed record, or one of them was there
+abbrev pub backs : List Change → ℕ → ℕ → List Row → Bool
+backs records db slot image = is_touched records db image || list_any (was_in db slot) records

@@ -1,5 +1,5 @@
 -- What a unit of work keeps: the records and the slots that it changed.
-use Rattle.std.specs.Prelude.{◌≡◌, ◌≤◌, ℕ, Bool, false, ◌==◌, ◌&&◌, ◌||◌, nat_lt, nat_le, List, [], ◌∷◌, ◌++◌, if◌then◌else◌, length}
+use Rattle.std.specs.Prelude.{◌≡◌, ◌≤◌, ℕ, Bool, true, false, ◌==◌, ◌&&◌, ◌||◌, nat_lt, nat_le, List, [], ◌∷◌, ◌++◌, if◌then◌else◌, length}
 use Rattle.std.specs.List.{AllByRecursion, list_any}
 use Rattle.std.specs.Ordering.{is_eq}
 use Rattle.model_rows.specs.Path.{key_cmp}
@@ -73,3 +73,22 @@ is_seen db slot (s ∷ slots) = if is_before db slot s then is_seen db slot slot
 pub record AreKept (records : List Change) : Type 0 where
   pub once : AreOnce records
   pub few : length records ≤ 32
+
+-- each of these slots stands before all later ones, by database and slot
+abbrev pub Ascend : List Change → Type 0
+Ascend [] = Unit {0}
+Ascend (c ∷ slots) = AllByRecursion (λ d. is_before d.db d.slot c ≡ true) slots × Ascend slots
+
+-- the slots of a unit: each once, in order, and at most 64
+pub record AreInOrder (slots : List Change) : Type 0 where
+  pub ascend : Ascend slots
+  pub few : length slots ≤ 64
+
+-- what always holds of a unit
+pub record AreAllKept (changes : Changes) : Type 0 where
+  pub records : AreKept changes.records
+  pub slots : AreInOrder changes.slots
+
+-- a slot more has a place among them, or is there already
+abbrev pub has_place : ℕ → ℕ → List Change → Bool
+has_place db slot slots = is_seen db slot slots || nat_lt (length slots) 64

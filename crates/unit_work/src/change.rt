@@ -1,9 +1,9 @@
 //! A changed record and a touched slot, and how they are kept.
-ghost use Rattle.std.specs.Prelude.{◌≡◌, ◌<◌, [], IfOk, OnOk, OnErr, if◌then◌else◌, slice_get};
+ghost use Rattle.std.specs.Prelude.{◌≡◌, ◌<◌, true, [], IfOk, OnOk, OnErr, if◌then◌else◌, slice_get};
 ghost use Rattle.std.specs.Option.{option_copied};
 ghost use Rattle.std.specs.List.{prefix_len};
 ghost use Rattle.std.specs.Vec.{vec_len, vec_capacity};
-ghost use Rattle.unit_work.specs.Changes.{is_of, is_changed, is_before, is_slot, is_seen, with_change, with_slot};
+ghost use Rattle.unit_work.specs.Changes.{is_of, is_changed, is_before, is_slot, is_seen, has_place, with_change, with_slot};
 
 use seg_rows::RecordImage;
 use std::alloc::Global;
@@ -49,6 +49,7 @@ pub fn keep(
     root: Key,
     before: &RecordImage,
 ) -> Result<(), Memory>
+    ensures place { OnOk result (has_place db slot slots.old.items ≡ true) }
     ensures records { OnOk result (records.new.items ≡ with_change (record { db = db; slot = slot; root = root; before = before.now }) records.old.items) }
     ensures slots { OnOk result (slots.new.items ≡ with_slot (record { db = db; slot = slot; root = root; before = before.now }) slots.old.items) }
     ensures records_stay { OnErr result (records.new.items ≡ records.old.items) }
@@ -60,7 +61,7 @@ pub fn keep(
     Ok(())
 }
 
-/// Makes room for one change more of each kind, and what is kept of it. All changes stay.
+/// Makes room for one change more of each kind, and what is kept of it. All changes stay. There is none for a 65th slot.
 pub fn ready(
     alloc: Global,
     records: &mut Vec<Change>,
@@ -74,9 +75,13 @@ pub fn ready(
     ensures slots_stay { slots.new.items ≡ slots.old.items }
     ensures record_room { OnOk result (vec_len records.new < vec_capacity records.new) }
     ensures slot_room { OnOk result (vec_len slots.new < vec_capacity slots.new) }
+    ensures place { OnOk result (has_place db slot slots.old.items ≡ true) }
     ensures record { IfOk result (λ t. with_change t.record records.old.items ≡ with_change (record { db = db; slot = slot; root = root; before = before.now }) records.old.items) }
     ensures slot { IfOk result (λ t. with_slot t.slot slots.old.items ≡ with_slot (record { db = db; slot = slot; root = root; before = before.now }) slots.old.items) }
 {
+    if !has_place(slots, db, slot) {
+        return Err(Memory);
+    }
     let first = image_unless(alloc, is_changed(records, db, &root), before)?;
     let touched = image_unless(alloc, is_seen(slots, db, slot), before)?;
     records.reserve(1)?;
@@ -94,6 +99,13 @@ pub fn ready(
         before: touched,
     };
     Ok(Touch { record, slot })
+}
+
+/// Whether a touched slot more has a place, or is there already.
+fn has_place(slots: &[Change], db: u8, slot: u16) -> bool
+    ensures { result ≡ has_place db slot slots.now }
+{
+    is_seen(slots, db, slot) || slots.len() < 64
 }
 
 /// Whether the record of this root is among the changes.

@@ -1,9 +1,11 @@
 //! The changes of a unit of work.
 ghost use Rattle.std.specs.Prelude.{◌≡◌, false, [], length, slice_get, IfOk, IfErr, OnOk, OnErr};
 ghost use Rattle.std.specs.Option.{option_map};
-ghost use Rattle.std.specs.List.{AllByRecursion};
-ghost use Rattle.unit_work.specs.Changes.{is_full, AreOnce, Pairs};
-ghost use Rattle.unit_work.specs.BackOut.{IsStored, CanGoBack, AreApart, CanBackOut, cleared, backed_from, backed_out, with_record_back};
+ghost use Rattle.std.specs.List.{AllByRecursion, list_any};
+ghost use Rattle.change_records.specs.Images.{image_at};
+ghost use Rattle.change_records.specs.Marks.{AreMarked};
+ghost use Rattle.unit_work.specs.Changes.{is_full, AreInOrder, AreOnce, Pairs};
+ghost use Rattle.unit_work.specs.BackOut.{IsStored, CanGoBack, AreApart, CanBackOut, is_touched, was_in, backs, cleared, backed_from, backed_out, with_record_back};
 ghost use Rattle.unit_work.specs.TouchRefused.{RefusesTouch};
 
 use crate::change::{Change, Touch, UnitSlot, add_change, add_slot, is_changed, keep, ready};
@@ -35,13 +37,13 @@ pub struct Unit {
 }
 
 impl Model for Unit {
-    ghost use Rattle.unit_work.specs.Changes.{Changes, AreKept};
+    ghost use Rattle.unit_work.specs.Changes.{Changes, AreAllKept};
 
     ghost Value = { Changes };
 
     ghost view = { λ u. record { records = u.records.items; slots = u.slots.items } };
 
-    ghost invariant = { λ u. AreKept u.records.items };
+    ghost invariant = { λ u. AreAllKept (record { records = u.records.items; slots = u.slots.items }) };
 }
 
 /// A unit that has all the memory which its next touch takes. The touch is then kept or left.
@@ -68,7 +70,8 @@ impl Model for Prepared {
 impl Prepared {
     /// Keeps the touch. This takes no memory.
     pub fn keep(self) -> Unit
-        ensures { result ≡ self.touched }
+        ensures value { result ≡ self.touched }
+        ensures order { AreInOrder self.touched.slots }
     {
         let Prepared {
             alloc,
@@ -116,7 +119,7 @@ impl Unit {
     /// each slot the first one, and of each slot the last root.
     ///
     /// It is refused as `TooMany(33)` exactly where 32 other records are changed already, and as
-    /// `Memory`.
+    /// `Memory`, also for a 65th slot.
     pub fn touch(
         &mut self,
         db: u8,
@@ -196,7 +199,8 @@ impl Unit {
 
     /// The touched slots, by database and slot, each with the image that it had before the unit.
     pub fn touched(&self) -> &[Change]
-        ensures { result.now ≡ self.now.slots }
+        ensures value { result.now ≡ self.now.slots }
+        ensures order { AreInOrder self.now.slots }
     {
         &self.slots
     }
@@ -223,6 +227,8 @@ impl Unit {
         requires { CanBackOut self.old.records stores.old.stores }
         ensures unit { self.new ≡ no_changes }
         ensures stores { stores.new.stores ≡ backed_out self.old.records stores.old.stores }
+        // The slots that it sets count as changed then.
+        ensures marks { AreMarked (λ db slot. backs self.old.records db slot (image_at db slot stores.old.stores)) stores.old stores.new }
     {
         remove_all(&self.records, stores);
         put_all(&mut self.records, stores);
@@ -242,7 +248,8 @@ fn is_full(records: &[Change], db: u8, root: &Key) -> bool
 
 fn remove_all(records: &[Change], stores: &mut Stores)
     requires { AllByRecursion (IsStored stores.old.stores) records.now }
-    ensures { stores.new.stores ≡ cleared records.now stores.old.stores }
+    ensures stores { stores.new.stores ≡ cleared records.now stores.old.stores }
+    ensures marks { AreMarked (λ db slot. is_touched records.now db (image_at db slot stores.old.stores)) stores.old stores.new }
 {
     for change in records {
         stores.store_mut(change.db).remove(&change.root);
@@ -257,6 +264,7 @@ fn put_all(records: &mut Vec<Change>, stores: &mut Stores)
     requires once { AreOnce records.old.items }
     ensures records { records.new.items ≡ [] }
     ensures stores { stores.new.stores ≡ backed_from records.old.items 1 stores.old.stores }
+    ensures marks { AreMarked (λ db slot. list_any (was_in db slot) records.old.items) stores.old stores.new }
 {
     while let Some(change) = records.pop() {
         put_one(change, stores);
@@ -266,7 +274,8 @@ fn put_all(records: &mut Vec<Change>, stores: &mut Stores)
 fn put_one(change: Change, stores: &mut Stores)
     requires stored { IsStored stores.old.stores change }
     requires fits { CanGoBack stores.old.stores change }
-    ensures { stores.new.stores ≡ with_record_back change stores.old.stores }
+    ensures stores { stores.new.stores ≡ with_record_back change stores.old.stores }
+    ensures marks { AreMarked (λ db slot. was_in db slot change) stores.old stores.new }
 {
     if change.before.is_empty() {
         return;

@@ -20,7 +20,7 @@ use Rattle.log_records.specs.declared.record.Record.{Record}
 use Rattle.program_rows.specs.declared.answer.DataAnswer.{DataAnswer}
 use Rattle.program_rows.specs.Making.{seen, made_told}
 use Rattle.program_rows.specs.Telling.{call_told}
-use Rattle.program_rows.proofs.Retold.{waits_told, made_told_so, read_told, untold_so, tells_none, tells_made, changes_so, touched_so, touch_so, memory_untold}
+use Rattle.program_rows.proofs.Retold.{waits_told, made_told_so, read_told, untold_so, tells_none, tells_made, slots_so, touched_so, touch_so, memory_untold}
 use Rattle.program_rows.proofs.calling.call.Goals as goal
 
 pub store-requires-clause-most : goal.store-requires-clause-most
@@ -60,7 +60,7 @@ returns-then-is_none-clause-done c =
     (stored c.store.result.now) c.store.ensures.stored_is (dbd_there c.args.opened.now.stores.stores (c.args.number - 1) (stored c.store.result.now) c.args.dbd.now c.store.ensures.stored_is c.requires.database)
     (record { units = c.args.opened.now.units; stores = c.args.opened.now.stores; table = c.read.new.table }) c.read.result c.in_ok-asked.asked c.in_ok-needed.needed.planned
     c.in_ok-asked.ensures.region c.in_ok-asked.ensures.number requests c.in_ok-needed.ensures.planned (c.in_ok-needed.ensures.text c.requires.short) c.in_ok-needed.ensures.there
-    c.in_ok-needed.ensures.position (is_none_is c.in_ok-needed.needed.planned.edit c.is_none.result c.is_none.ensures c.if-is_none.true) refl refl refl c.read.ensures.reads c.read.ensures.table c.read.ensures.held
+    c.in_ok-needed.ensures.position (is_none_is c.in_ok-needed.needed.planned.edit c.is_none.result c.is_none.ensures c.if-is_none.true) refl refl refl refl c.read.ensures.reads c.read.ensures.table c.read.ensures.held
 
 pub returns-then-is_some-clause-done : goal.returns-then-is_some-clause-done
 returns-then-is_some-clause-done c =
@@ -69,7 +69,7 @@ returns-then-is_some-clause-done c =
     c.in_ok-asked.ensures.requests ∙ ap (map (request_of c.args.region c.args.number)) (c.as_slice.ensures ∙ c.in_ok-needed.ensures.needs) in
     waited c.args.opened.now c.requires.open c.args.region c.args.number c.requires.first last c.requires.number c.args.dbd.now c.args.call.now c.args.at.now c.requires.position c.requires.call
     (stored c.store.result.now) c.store.ensures.stored_is (dbd_there c.args.opened.now.stores.stores (c.args.number - 1) (stored c.store.result.now) c.args.dbd.now c.store.ensures.stored_is c.requires.database)
-    (record { units = c.args.opened.now.units; stores = c.args.opened.now.stores; table = c.wait.new.table }) c.wait.result c.in_ok-asked.asked.requests.items requests refl refl
+    (record { units = c.args.opened.now.units; stores = c.args.opened.now.stores; table = c.wait.new.table }) c.wait.result c.in_ok-asked.asked.requests.items requests refl refl refl refl
     c.wait.ensures.waits (subst (λ n. Rattle.std.specs.Prelude.OnOk c.wait.result (c.wait.new.table ≡ Rattle.model_enqueue.specs.Ask.after_asks n c.in_ok-asked.asked.requests.items c.args.opened.now.table)) c.in_ok-asked.ensures.region c.wait.ensures.table)
     c.wait.ensures.held
 
@@ -95,19 +95,19 @@ returns-then-is_none-clause-tells c =
     (stored c.store.result.now) c.store.ensures.stored_is (dbd_there c.args.opened.now.stores.stores (c.args.number - 1) (stored c.store.result.now) c.args.dbd.now c.store.ensures.stored_is c.requires.database)
     (record { units = c.args.opened.now.units; stores = c.args.opened.now.stores; table = c.read.new.table }) c.args.unit c.requires.touched c.read.result c.in_ok-asked.asked c.in_ok-needed.needed.planned
     c.in_ok-asked.ensures.region c.in_ok-asked.ensures.number requests c.in_ok-needed.ensures.planned c.in_ok-needed.ensures.there
-    (is_none_is c.in_ok-needed.needed.planned.edit c.is_none.result c.is_none.ensures c.if-is_none.true) refl refl refl c.read.ensures.reads c.read.ensures.table c.read.ensures.held)
+    (is_none_is c.in_ok-needed.needed.planned.edit c.is_none.result c.is_none.ensures c.if-is_none.true) refl refl refl refl c.read.ensures.reads c.read.ensures.table c.read.ensures.held)
 
-pub returns-then-is_none-clause-changes : goal.returns-then-is_none-clause-changes
-returns-then-is_none-clause-changes c =
+pub returns-then-is_none-clause-slots : goal.returns-then-is_none-clause-slots
+returns-then-is_none-clause-slots c =
     let last : c.args.region ≤ length (records_of c.args.opened.now.units.items) = omega (arith, c.requires.last, length-map c.args.opened.now.units.items (λ (u : Changes). u.records)) in
     let requests : c.in_ok-asked.asked.requests.items ≡ map (request_of c.args.region c.args.number) (footprint c.args.dbd.now c.args.call.now c.args.at.now (rows_of_slots c.store.result.now.slots)) =
     c.in_ok-asked.ensures.requests ∙ ap (map (request_of c.args.region c.args.number)) (c.as_slice.ensures ∙ c.in_ok-needed.ensures.needs) in
-    changes_so c.args.unit c.args.region c.args.number c.args.dbd.now c.args.call.now c.args.at.now c.args.opened.now (record { units = c.args.opened.now.units; stores = c.args.opened.now.stores; table = c.read.new.table }) c.read.result (λ (a : DataAnswer). let none : List Record = [] in none)
+    slots_so c.args.unit c.args.region c.args.number c.args.dbd.now c.args.call.now c.args.at.now c.args.opened.now (record { units = c.args.opened.now.units; stores = c.args.opened.now.stores; table = c.read.new.table }) c.read.result (λ (a : DataAnswer). let none : List Record = [] in none)
     (read_told c.args.opened.now c.requires.open c.args.region c.args.number c.requires.first last c.requires.number c.args.dbd.now c.args.call.now c.args.at.now c.requires.position c.requires.call
     (stored c.store.result.now) c.store.ensures.stored_is (dbd_there c.args.opened.now.stores.stores (c.args.number - 1) (stored c.store.result.now) c.args.dbd.now c.store.ensures.stored_is c.requires.database)
     (record { units = c.args.opened.now.units; stores = c.args.opened.now.stores; table = c.read.new.table }) c.args.unit c.requires.touched c.read.result c.in_ok-asked.asked c.in_ok-needed.needed.planned
     c.in_ok-asked.ensures.region c.in_ok-asked.ensures.number requests c.in_ok-needed.ensures.planned c.in_ok-needed.ensures.there
-    (is_none_is c.in_ok-needed.needed.planned.edit c.is_none.result c.is_none.ensures c.if-is_none.true) refl refl refl c.read.ensures.reads c.read.ensures.table c.read.ensures.held)
+    (is_none_is c.in_ok-needed.needed.planned.edit c.is_none.result c.is_none.ensures c.if-is_none.true) refl refl refl refl c.read.ensures.reads c.read.ensures.table c.read.ensures.held)
 
 pub returns-then-is_none-clause-touched : goal.returns-then-is_none-clause-touched
 returns-then-is_none-clause-touched c =
@@ -119,7 +119,7 @@ returns-then-is_none-clause-touched c =
     (stored c.store.result.now) c.store.ensures.stored_is (dbd_there c.args.opened.now.stores.stores (c.args.number - 1) (stored c.store.result.now) c.args.dbd.now c.store.ensures.stored_is c.requires.database)
     (record { units = c.args.opened.now.units; stores = c.args.opened.now.stores; table = c.read.new.table }) c.args.unit c.requires.touched c.read.result c.in_ok-asked.asked c.in_ok-needed.needed.planned
     c.in_ok-asked.ensures.region c.in_ok-asked.ensures.number requests c.in_ok-needed.ensures.planned c.in_ok-needed.ensures.there
-    (is_none_is c.in_ok-needed.needed.planned.edit c.is_none.result c.is_none.ensures c.if-is_none.true) refl refl refl c.read.ensures.reads c.read.ensures.table c.read.ensures.held)
+    (is_none_is c.in_ok-needed.needed.planned.edit c.is_none.result c.is_none.ensures c.if-is_none.true) refl refl refl refl c.read.ensures.reads c.read.ensures.table c.read.ensures.held)
 
 pub returns-then-is_none-clause-touch : goal.returns-then-is_none-clause-touch
 returns-then-is_none-clause-touch c =
@@ -131,7 +131,7 @@ returns-then-is_none-clause-touch c =
     (stored c.store.result.now) c.store.ensures.stored_is (dbd_there c.args.opened.now.stores.stores (c.args.number - 1) (stored c.store.result.now) c.args.dbd.now c.store.ensures.stored_is c.requires.database)
     (record { units = c.args.opened.now.units; stores = c.args.opened.now.stores; table = c.read.new.table }) c.args.unit c.requires.touched c.read.result c.in_ok-asked.asked c.in_ok-needed.needed.planned
     c.in_ok-asked.ensures.region c.in_ok-asked.ensures.number requests c.in_ok-needed.ensures.planned c.in_ok-needed.ensures.there
-    (is_none_is c.in_ok-needed.needed.planned.edit c.is_none.result c.is_none.ensures c.if-is_none.true) refl refl refl c.read.ensures.reads c.read.ensures.table c.read.ensures.held)
+    (is_none_is c.in_ok-needed.needed.planned.edit c.is_none.result c.is_none.ensures c.if-is_none.true) refl refl refl refl c.read.ensures.reads c.read.ensures.table c.read.ensures.held)
 
 pub returns-then-is_none-clause-full : goal.returns-then-is_none-clause-full
 returns-then-is_none-clause-full c =
@@ -145,19 +145,19 @@ returns-then-is_some-clause-tells c =
     tells_none c.args.unit c.args.region c.args.number c.args.dbd.now c.args.call.now c.args.at.now c.args.opened.now (record { units = c.args.opened.now.units; stores = c.args.opened.now.stores; table = c.wait.new.table }) c.wait.result c.args.room c.args.told.now.items
     (waits_told c.args.opened.now c.requires.open c.args.region c.args.number c.requires.first last c.requires.number c.args.dbd.now c.args.call.now c.args.at.now c.requires.position c.requires.call
     (stored c.store.result.now) c.store.ensures.stored_is (dbd_there c.args.opened.now.stores.stores (c.args.number - 1) (stored c.store.result.now) c.args.dbd.now c.store.ensures.stored_is c.requires.database)
-    (record { units = c.args.opened.now.units; stores = c.args.opened.now.stores; table = c.wait.new.table }) c.args.unit c.requires.touched c.wait.result c.in_ok-asked.asked.requests.items requests refl refl refl
+    (record { units = c.args.opened.now.units; stores = c.args.opened.now.stores; table = c.wait.new.table }) c.args.unit c.requires.touched c.wait.result c.in_ok-asked.asked.requests.items requests refl refl refl refl
     c.wait.ensures.waits (subst (λ n. Rattle.std.specs.Prelude.OnOk c.wait.result (c.wait.new.table ≡ Rattle.model_enqueue.specs.Ask.after_asks n c.in_ok-asked.asked.requests.items c.args.opened.now.table)) c.in_ok-asked.ensures.region c.wait.ensures.table)
     c.wait.ensures.held)
 
-pub returns-then-is_some-clause-changes : goal.returns-then-is_some-clause-changes
-returns-then-is_some-clause-changes c =
+pub returns-then-is_some-clause-slots : goal.returns-then-is_some-clause-slots
+returns-then-is_some-clause-slots c =
     let last : c.args.region ≤ length (records_of c.args.opened.now.units.items) = omega (arith, c.requires.last, length-map c.args.opened.now.units.items (λ (u : Changes). u.records)) in
     let requests : c.in_ok-asked.asked.requests.items ≡ map (request_of c.args.region c.args.number) (footprint c.args.dbd.now c.args.call.now c.args.at.now (rows_of_slots c.store.result.now.slots)) =
     c.in_ok-asked.ensures.requests ∙ ap (map (request_of c.args.region c.args.number)) (c.as_slice.ensures ∙ c.in_ok-needed.ensures.needs) in
-    changes_so c.args.unit c.args.region c.args.number c.args.dbd.now c.args.call.now c.args.at.now c.args.opened.now (record { units = c.args.opened.now.units; stores = c.args.opened.now.stores; table = c.wait.new.table }) c.wait.result (λ (a : DataAnswer). let none : List Record = [] in none)
+    slots_so c.args.unit c.args.region c.args.number c.args.dbd.now c.args.call.now c.args.at.now c.args.opened.now (record { units = c.args.opened.now.units; stores = c.args.opened.now.stores; table = c.wait.new.table }) c.wait.result (λ (a : DataAnswer). let none : List Record = [] in none)
     (waits_told c.args.opened.now c.requires.open c.args.region c.args.number c.requires.first last c.requires.number c.args.dbd.now c.args.call.now c.args.at.now c.requires.position c.requires.call
     (stored c.store.result.now) c.store.ensures.stored_is (dbd_there c.args.opened.now.stores.stores (c.args.number - 1) (stored c.store.result.now) c.args.dbd.now c.store.ensures.stored_is c.requires.database)
-    (record { units = c.args.opened.now.units; stores = c.args.opened.now.stores; table = c.wait.new.table }) c.args.unit c.requires.touched c.wait.result c.in_ok-asked.asked.requests.items requests refl refl refl
+    (record { units = c.args.opened.now.units; stores = c.args.opened.now.stores; table = c.wait.new.table }) c.args.unit c.requires.touched c.wait.result c.in_ok-asked.asked.requests.items requests refl refl refl refl
     c.wait.ensures.waits (subst (λ n. Rattle.std.specs.Prelude.OnOk c.wait.result (c.wait.new.table ≡ Rattle.model_enqueue.specs.Ask.after_asks n c.in_ok-asked.asked.requests.items c.args.opened.now.table)) c.in_ok-asked.ensures.region c.wait.ensures.table)
     c.wait.ensures.held)
 
@@ -169,7 +169,7 @@ returns-then-is_some-clause-touched c =
     touched_so c.args.unit c.args.region c.args.number c.args.dbd.now c.args.call.now c.args.at.now c.args.opened.now (record { units = c.args.opened.now.units; stores = c.args.opened.now.stores; table = c.wait.new.table }) c.wait.result (λ (a : DataAnswer). let none : List Record = [] in none)
     (waits_told c.args.opened.now c.requires.open c.args.region c.args.number c.requires.first last c.requires.number c.args.dbd.now c.args.call.now c.args.at.now c.requires.position c.requires.call
     (stored c.store.result.now) c.store.ensures.stored_is (dbd_there c.args.opened.now.stores.stores (c.args.number - 1) (stored c.store.result.now) c.args.dbd.now c.store.ensures.stored_is c.requires.database)
-    (record { units = c.args.opened.now.units; stores = c.args.opened.now.stores; table = c.wait.new.table }) c.args.unit c.requires.touched c.wait.result c.in_ok-asked.asked.requests.items requests refl refl refl
+    (record { units = c.args.opened.now.units; stores = c.args.opened.now.stores; table = c.wait.new.table }) c.args.unit c.requires.touched c.wait.result c.in_ok-asked.asked.requests.items requests refl refl refl refl
     c.wait.ensures.waits (subst (λ n. Rattle.std.specs.Prelude.OnOk c.wait.result (c.wait.new.table ≡ Rattle.model_enqueue.specs.Ask.after_asks n c.in_ok-asked.asked.requests.items c.args.opened.now.table)) c.in_ok-asked.ensures.region c.wait.ensures.table)
     c.wait.ensures.held)
 
@@ -181,7 +181,7 @@ returns-then-is_some-clause-touch c =
     touch_so c.args.unit c.args.region c.args.number c.args.dbd.now c.args.call.now c.args.at.now c.args.opened.now (record { units = c.args.opened.now.units; stores = c.args.opened.now.stores; table = c.wait.new.table }) c.wait.result (λ (a : DataAnswer). let none : List Record = [] in none)
     (waits_told c.args.opened.now c.requires.open c.args.region c.args.number c.requires.first last c.requires.number c.args.dbd.now c.args.call.now c.args.at.now c.requires.position c.requires.call
     (stored c.store.result.now) c.store.ensures.stored_is (dbd_there c.args.opened.now.stores.stores (c.args.number - 1) (stored c.store.result.now) c.args.dbd.now c.store.ensures.stored_is c.requires.database)
-    (record { units = c.args.opened.now.units; stores = c.args.opened.now.stores; table = c.wait.new.table }) c.args.unit c.requires.touched c.wait.result c.in_ok-asked.asked.requests.items requests refl refl refl
+    (record { units = c.args.opened.now.units; stores = c.args.opened.now.stores; table = c.wait.new.table }) c.args.unit c.requires.touched c.wait.result c.in_ok-asked.asked.requests.items requests refl refl refl refl
     c.wait.ensures.waits (subst (λ n. Rattle.std.specs.Prelude.OnOk c.wait.result (c.wait.new.table ≡ Rattle.model_enqueue.specs.Ask.after_asks n c.in_ok-asked.asked.requests.items c.args.opened.now.table)) c.in_ok-asked.ensures.region c.wait.ensures.table)
     c.wait.ensures.held)
 
@@ -202,14 +202,14 @@ returns-clause-tells c =
     c.make.new.opened c.args.unit c.requires.touched c.make.result c.in_ok-asked.asked c.in_ok-needed.needed.planned c.in_ok-asked.ensures.region c.in_ok-asked.ensures.number requests free
     c.in_ok-needed.ensures.planned c.in_ok-needed.ensures.there c.make.ensures.made) c.make.ensures.tells
 
-pub returns-clause-changes : goal.returns-clause-changes
-returns-clause-changes c =
+pub returns-clause-slots : goal.returns-clause-slots
+returns-clause-slots c =
     let last : c.args.region ≤ length (records_of c.args.opened.now.units.items) = omega (arith, c.requires.last, length-map c.args.opened.now.units.items (λ (u : Changes). u.records)) in
     let requests : c.in_ok-asked.asked.requests.items ≡ map (request_of c.args.region c.args.number) (footprint c.args.dbd.now c.args.call.now c.args.at.now (rows_of_slots c.store.result.now.slots)) =
     c.in_ok-asked.ensures.requests ∙ ap (map (request_of c.args.region c.args.number)) (c.as_slice.ensures ∙ c.in_ok-needed.ensures.needs) in
     let free : first_blocked c.in_ok-asked.asked.requests.items c.args.opened.now.table ≡ None =
     ap (λ qs. first_blocked qs c.args.opened.now.table) (sym c.deref.ensures.value) ∙ none_told c.first_blocked.result c.is_some.result (first_blocked c.deref.result.now c.args.opened.now.table) c.first_blocked.ensures c.is_some.ensures c.if-is_some.false in
-    changes_so c.args.unit c.args.region c.args.number c.args.dbd.now c.args.call.now c.args.at.now c.args.opened.now c.make.new.opened c.make.result (λ a. made_told c.args.unit c.args.number c.in_ok-needed.needed.planned.edit c.args.opened.now.stores.stores a)
+    slots_so c.args.unit c.args.region c.args.number c.args.dbd.now c.args.call.now c.args.at.now c.args.opened.now c.make.new.opened c.make.result (λ a. made_told c.args.unit c.args.number c.in_ok-needed.needed.planned.edit c.args.opened.now.stores.stores a)
     (made_told_so c.args.opened.now c.requires.open c.args.region c.args.number c.requires.first last c.requires.number c.args.dbd.now c.args.call.now c.args.at.now c.requires.position c.requires.call
     (stored c.store.result.now) c.store.ensures.stored_is (dbd_there c.args.opened.now.stores.stores (c.args.number - 1) (stored c.store.result.now) c.args.dbd.now c.store.ensures.stored_is c.requires.database)
     c.make.new.opened c.args.unit c.requires.touched c.make.result c.in_ok-asked.asked c.in_ok-needed.needed.planned c.in_ok-asked.ensures.region c.in_ok-asked.ensures.number requests free

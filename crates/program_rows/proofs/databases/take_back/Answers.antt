@@ -1,6 +1,9 @@
-use Rattle.std.proofs.Common.{◌-◌, sym, ap, ◌∙◌}
+use Rattle.std.proofs.Common.{◌-◌, List, sym, ap, subst, ◌∙◌}
+use Rattle.change_records.specs.Images.{image_at}
+use Rattle.change_records.specs.Marks.{AreMarked}
+use Rattle.unit_work.specs.declared.change.Change.{Change}
 use Rattle.unit_work.specs.Changes.{no_changes}
-use Rattle.unit_work.specs.BackOut.{backed_out}
+use Rattle.unit_work.specs.BackOut.{backed_out, backs}
 use Rattle.program_rows.specs.Open.{records_of, slots_of}
 use Rattle.program_rows.proofs.Setting.{unit_records, records_put, slots_put}
 use Rattle.program_rows.proofs.databases.take_back.Goals as goal
@@ -17,3 +20,8 @@ pub returns-clause-slots : goal.returns-clause-slots
 returns-clause-slots c =
     ap slots_of c.take_unit-unit.ensures.left
     ∙ (slots_put c.args.opened.now.units.items (c.args.region - 1) no_changes)
+
+pub returns-clause-marks : goal.returns-clause-marks
+returns-clause-marks c =
+    subst (λ (rs : List Change). AreMarked (λ db slot. backs rs db slot (image_at db slot c.args.opened.now.stores.stores)) c.args.opened.now.stores c.back_out.new.stores)
+    (sym (unit_records c.args.opened.now.units.items (c.args.region - 1) c.take_unit-unit.result c.take_unit-unit.ensures.taken)) c.back_out.ensures.marks

@@ -2,16 +2,14 @@ use Rattle.std.proofs.Common.{◌≡◌, ◌+◌, ◌≤◌, take, IsTrue}
 use Rattle.model_disk.specs.Disk.{Stays, Within, Follows}
 use Rattle.seg_store.specs.DataSectors.{MayPut, HasPut}
 use Rattle.seg_store.specs.WriteBack.{kept_slots, kept_count, kept_bytes}
-use Rattle.seg_store.proofs.WritingBack.{partly}
 use Rattle.seg_store.proofs.write_back.write_all.Given as goal
 
 abbrev pub invariant-loop-place : goal.invariant-loop-place
 invariant-loop-place g l =
     let old = g.D.Disk.state l.initial.disk in
     let now = g.D.Disk.state l.disk in
-    let kept = l.initial.stores.items in
+    let kept = l.stores.items in
     record {
-      items : l.stores.items ≡ partly kept l.place;
       at : l.at ≡ l.first + kept_slots (take l.place kept);
       few : kept_count (take l.place kept) ≤ kept_slots (take l.place kept);
       count : l.count ≡ kept_count (take l.place kept);

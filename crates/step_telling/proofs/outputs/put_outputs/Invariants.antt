@@ -1,13 +1,15 @@
 use Rattle.std.proofs.Common.{◌≡◌, ◌++◌, [], take, drop}
-use Rattle.std.specs.List.{flat_map}
-use Rattle.log_records.specs.Spelling.{spelling}
+use Rattle.std.specs.List.{flat_map, AllByRecursion}
+use Rattle.log_records.specs.Spelling.{spelling, IsRecord}
 use Rattle.step_telling.specs.Counted.{counted_records}
 use Rattle.step_telling.specs.Ranges.{HaveCounts}
 use Rattle.step_telling.proofs.outputs.put_outputs.Given as goal
 
--- the records so far, and those of the outputs to come
+-- the records so far, and those of the outputs to come, which are records if these are
 abbrev pub invariant-loop-place : goal.invariant-loop-place
 invariant-loop-place l =
     (l.bytes.items ++ flat_map spelling (counted_records l.unit l.origin (take l.place l.outputs.items) (drop l.place l.outputs.items) l.terminals l.id)
     ≡ l.initial.bytes.items ++ flat_map spelling (counted_records l.unit l.origin [] l.outputs.items l.terminals l.next_id))
     × HaveCounts (drop l.place l.outputs.items)
+    × (AllByRecursion IsRecord (counted_records l.unit l.origin (take l.place l.outputs.items) (drop l.place l.outputs.items) l.terminals l.id)
+    → AllByRecursion IsRecord (counted_records l.unit l.origin [] l.outputs.items l.terminals l.next_id))

@@ -1,5 +1,7 @@
-use Rattle.std.proofs.Common.{◌≡◌, ◌++◌, ◌∷◌, [], sym, ap, ◌∙◌, subst, arith}
-use Rattle.unit_work.specs.BackOut.{backed_from}
+use Rattle.std.proofs.Common.{◌≡◌, ◌++◌, ◌∷◌, [], true, sym, ap, ◌∙◌, subst, arith}
+use Rattle.std.specs.List.{list_any}
+use Rattle.unit_work.specs.BackOut.{was_in, backed_from}
+use Rattle.unit_work.proofs.Marking.{any_front, any_last, marks_more, marks_then}
 use Rattle.unit_work.proofs.Backing.{CanPut, put_next, put_ahead, none_backed, empty_list}
 use Rattle.unit_work.proofs.unit.put_all.Goals as goal
 
@@ -8,8 +10,13 @@ loop-change-preserved c =
     let is : c.loop-change.records.items ≡ c.pop.new.self.items ++ c.in-Some.change ∷ [] = c.in-Some.ensures.items in
     let can : CanPut (c.pop.new.self.items ++ c.in-Some.change ∷ []) c.loop-change.stores.stores = subst (λ xs. CanPut xs c.loop-change.stores.stores) is c.loop-change.invariant.can in
     record {
-      can = subst (CanPut c.pop.new.self.items) (sym c.put_one.ensures) (put_next c.pop.new.self.items c.in-Some.change c.loop-change.stores.stores can);
-      ahead = ap (backed_from c.pop.new.self.items 1) c.put_one.ensures
+      can = subst (CanPut c.pop.new.self.items) (sym c.put_one.ensures.stores) (put_next c.pop.new.self.items c.in-Some.change c.loop-change.stores.stores can);
+      among = λ db slot e. c.loop-change.invariant.among db slot (subst (λ xs. list_any (was_in db slot) xs ≡ true) (sym is) (any_front (was_in db slot) c.pop.new.self.items c.in-Some.change e));
+      marks = marks_then (λ db slot. list_any (was_in db slot) c.args.records.now.items) c.args.stores.now c.loop-change.stores c.put_one.new.stores c.loop-change.invariant.marks
+          (marks_more (λ db slot. was_in db slot c.in-Some.change) (λ db slot. list_any (was_in db slot) c.args.records.now.items)
+          (λ db slot least e. c.loop-change.invariant.among db slot (subst (λ xs. list_any (was_in db slot) xs ≡ true) (sym is) (any_last (was_in db slot) c.pop.new.self.items c.in-Some.change e)))
+          c.loop-change.stores c.put_one.new.stores c.put_one.ensures.marks);
+      ahead = ap (backed_from c.pop.new.self.items 1) c.put_one.ensures.stores
           ∙ (sym (put_ahead c.pop.new.self.items c.in-Some.change c.loop-change.stores.stores can)
           ∙ (ap (λ xs. backed_from xs 1 c.loop-change.stores.stores) (sym is) ∙ c.loop-change.invariant.ahead));
     }

@@ -1,8 +1,12 @@
-use Rattle.std.proofs.Common.{◌≡◌, ◌+◌, ◌-◌, ◌∷◌, sym, ap, ◌∙◌, subst, arith, drop}
+use Rattle.std.proofs.Common.{◌≡◌, ◌+◌, ◌-◌, ◌∷◌, List, true, refl, sym, ap, ◌∙◌, subst, arith, drop}
 use Rattle.std.proofs.lemmas.List.{length-set, drop_more}
 use Rattle.unit_work.specs.declared.change.Change.{Change}
+use Rattle.model_rows.specs.declared.row.Row.{Row}
 use Rattle.seg_store.specs.Changed.{stored}
-use Rattle.unit_work.specs.BackOut.{cleared, IsStored}
+use Rattle.seg_store.specs.Slots.{has_root}
+use Rattle.change_records.specs.Images.{image_at}
+use Rattle.unit_work.specs.BackOut.{cleared, is_touched, IsStored}
+use Rattle.unit_work.proofs.Marking.{among_these, marks_then, removed_marks, removed_partly}
 use Rattle.unit_work.proofs.Backing.{step_cleared, none_cleared, all_at, drop_past}
 use Rattle.unit_work.proofs.unit.remove_all.Goals as goal
 
@@ -14,14 +18,24 @@ loop-change-preserved c =
     let rest : drop c.loop-change.change-index c.args.records.now ≡ c.change-item.result ∷ drop (c.loop-change.change-index + 1) c.args.records.now =
     drop_more c.args.records.now c.loop-change.change-index c.change-item.result c.loop-change-test.true
     ∙ ap (λ (x : Change). x ∷ drop (c.loop-change.change-index + 1) c.args.records.now) (sym c.change-item.is) in
+    let among : (image : List Row) → has_root c.change-item.result.root image ≡ true → is_touched c.args.records.now c.change-item.result.db image ≡ true =
+    among_these c.args.records.now c.loop-change.change-index c.change-item.result.db c.change-item.result c.change-item.result c.loop-change-test.true c.change-item.is refl in
     record {
       count = length-set c.loop-change.stores.stores (c.change-item.result.db - 1) (stored c.remove.new.self) ∙ c.loop-change.invariant.count;
       ahead = step_cleared c.change-item.result (drop (c.loop-change.change-index + 1) c.args.records.now) 1 (c.change-item.result.db - 1) c.loop-change.stores.stores (stored c.store_mut.result.now) (stored c.remove.new.self)
           at c.store_mut.ensures.value.stored_is c.remove.ensures.database c.remove.ensures.freed
           ∙ (ap (λ xs. cleared xs c.loop-change.stores.stores) (sym rest) ∙ c.loop-change.invariant.ahead);
+      partly = removed_partly c.args.stores.now c.loop-change.stores c.args.records.now c.change-item.result.db c.change-item.result.root c.store_mut.result.now c.remove.new.self there.least
+          c.store_mut.ensures.value among c.loop-change.invariant.partly c.remove.ensures.changed c.remove.ensures.slots;
+      marks = marks_then (λ db slot. is_touched c.args.records.now db (image_at db slot c.args.stores.now.stores)) c.args.stores.now c.loop-change.stores _ c.loop-change.invariant.marks
+          (removed_marks c.args.stores.now c.loop-change.stores c.args.records.now c.change-item.result.db c.change-item.result.root c.store_mut.result.now c.remove.new.self there.least
+          c.store_mut.ensures.value among c.loop-change.invariant.partly c.remove.ensures.changed c.remove.ensures.slots);
     }
 
-pub returns : goal.returns
-returns c =
+pub returns-clause-stores : goal.returns-clause-stores
+returns-clause-stores c =
     sym (none_cleared 1 c.loop-change.stores.stores)
     ∙ (ap (λ xs. cleared xs c.loop-change.stores.stores) (sym (drop_past c.args.records.now c.loop-change.change-index c.loop-change-test.false)) ∙ c.loop-change.invariant.ahead)
+
+pub returns-clause-marks : goal.returns-clause-marks
+returns-clause-marks c = c.loop-change.invariant.marks

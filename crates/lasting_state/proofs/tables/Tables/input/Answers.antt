@@ -8,4 +8,4 @@ returns c =
     (rw (sym c.kept.view_is)
     (input_told
     (record { databases = c.self.inside.databases; queues = c.self.inside.queues; next_id = c.self.inside.next_id; terminals = c.self.inside.terminals.items; outputs = c.self.inside.outputs; conversations = c.self.inside.conversations; steps = c.self.inside.steps })
-    c.args.terminal.now c.args.number (record { code = c.kept.inside.code; conversation = c.kept.inside.conversation; segments = c.kept.inside.segments; begins = c.kept.inside.begins }) c.in_ok-bytes.bytes.items c.in_ok-bytes.ensures))
+    c.args.terminal.now c.args.number (record { code = c.kept.inside.code; conversation = c.kept.inside.conversation; segments = c.kept.inside.segments; begins = c.kept.inside.begins }) c.in_ok-bytes.bytes.items c.in_ok-bytes.ensures.ok c.in_ok-bytes.ensures.valid))

@@ -1,6 +1,7 @@
 use Rattle.std.proofs.Common.{◌+◌, sym, ap, refl, ◌∙◌}
 use Rattle.system_types.specs.Jobs.{lent_job}
 use Rattle.model_machine.specs.Trial.WorkEnd.{Ends, Abends}
+use Rattle.program_rows.specs.State.{DatabasesState}
 use Rattle.message_run.proofs.Calls.{is_call}
 use Rattle.message_run.proofs.Steps.{stops_so, syncs, abends, waits_for, goes_by, same_run_ahead}
 use Rattle.message_run.proofs.NextTold.{silent_on, sync_on, told_on, untold_on}
@@ -62,7 +63,7 @@ returns-in-Ok-Waits-clause-advances c =
     (record { calls = c.self.inside.calls; machine = c.self.inside.machine; work = c.self.inside.work; positions = c.self.inside.positions.items })
     c.next.new.self ahead c.in-Ok.ensures.limit c.in-Ok.need c.in-Ok.ensures.script c.in-Ok.ensures.need
     c.answer.new.databases c.in-Call.call c.in-Call.is c.in-Ok-Waits.resource c.in-Ok-Waits.by comes.0
-    c.in-Ok-Waits.ensures.others.committed (rw c.in-Ok-Waits.field-0-is at c.in-Ok-Waits.ensures.stays) c.in-Ok-Waits.ensures.others.dbds)
+    c.in-Ok-Waits.ensures.others.committed (ap (λ (d : DatabasesState). d.regions) (rw c.in-Ok-Waits.field-0-is at c.in-Ok-Waits.ensures.stays)) c.in-Ok-Waits.ensures.others.dbds)
 
 pub returns-in-Ok-Abended-clause-advances : goal.returns-in-Ok-Abended-clause-advances
 returns-in-Ok-Abended-clause-advances c =

@@ -1,7 +1,7 @@
 use Rattle.std.proofs.Common.{◌-◌, [], ap, ◌∙◌, set}
 use Rattle.program_rows.specs.State.{DatabasesState, dbds_of}
 use Rattle.program_rows.specs.Answering.{regions_backed}
-use Rattle.program_rows.proofs.Ending.{has_unit, can_back_out, taken_back_units, taken_back_touched, back_told_changes, taken_back_committed, taken_back_dbds, taken_back_regions}
+use Rattle.program_rows.proofs.Ending.{has_unit, can_back_out, taken_back_units, taken_back_touched, back_slots, taken_back_committed, taken_back_dbds, taken_back_regions, there_back}
 use Rattle.program_rows.proofs.databases.Databases.back_out.Goals as goal
 
 pub take_back-requires-clause-most : goal.take_back-requires-clause-most
@@ -22,6 +22,9 @@ invariant_of-self c =
           taken_back_touched c.self.inside.opened c.take_back.new.opened c.self.invariant.units c.self.invariant.touched c.args.region
           (has_unit c.self.inside.opened c.args.self.now c.args.region c.self.invariant.units c.self.view_is c.requires)
           c.take_back.ensures.units c.take_back.ensures.slots c.take_back.ensures.stores c.take_back.new.opened.table c.take_back.ensures.table;
+      marks =
+          there_back c.self.inside.opened c.take_back.new.opened c.self.invariant c.args.region
+          (has_unit c.self.inside.opened c.args.self.now c.args.region c.self.invariant.units c.self.view_is c.requires) c.take_back.ensures.stores c.take_back.ensures.marks;
     }
 
 pub returns-clause-regions : goal.returns-clause-regions
@@ -45,7 +48,9 @@ returns-clause-databases c =
 pub returns-clause-touched : goal.returns-clause-touched
 returns-clause-touched c = c.take_back.ensures.slots ∙ ap (λ (d : DatabasesState). set d.touched (c.args.region - 1) []) c.self.view_is
 
-pub returns-clause-changes : goal.returns-clause-changes
-returns-clause-changes c = λ unit.
-    back_told_changes unit c.self.inside.opened c.take_back.new.opened c.args.self.now c.self.invariant.touched c.self.view_is c.args.region
-    (has_unit c.self.inside.opened c.args.self.now c.args.region c.self.invariant.units c.self.view_is c.requires) c.take_back.ensures.stores
+pub returns-clause-slots : goal.returns-clause-slots
+returns-clause-slots c = λ unit.
+    back_slots unit c.self.inside.opened c.take_back.new.opened c.args.self.now c.self.invariant.touched c.self.view_is c.args.region
+    (has_unit c.self.inside.opened c.args.self.now c.args.region c.self.invariant.units c.self.view_is c.requires) c.take_back.ensures.stores c.take_back.ensures.marks c.take_back.ensures.slots
+    (taken_back_committed c.self.inside.opened c.take_back.new.opened c.self.invariant.units c.args.region (has_unit c.self.inside.opened c.args.self.now c.args.region c.self.invariant.units c.self.view_is c.requires)
+    c.take_back.ensures.units c.take_back.ensures.stores)

@@ -25,13 +25,14 @@ invariant_of-self c =
           given_up_units c.self.inside.opened (record { units = c.put_unit.new.units; stores = c.self.inside.opened.stores; table = c.release.new.table }) c.self.invariant.units c.args.region
           (has_unit c.self.inside.opened c.args.self.now c.args.region c.self.invariant.units c.self.view_is c.requires) units c.self.inside.opened.stores.stores c.self.inside.opened.table c.release.new.table
           (kept_units c.self.inside.opened (record { units = c.put_unit.new.units; stores = c.self.inside.opened.stores; table = c.release.new.table }) c.self.invariant.units c.args.region
-          (has_unit c.self.inside.opened c.args.self.now c.args.region c.self.invariant.units c.self.view_is c.requires) units refl)
+          (has_unit c.self.inside.opened c.args.self.now c.args.region c.self.invariant.units c.self.view_is c.requires) units refl refl)
           c.release.ensures.table c.release.ensures.kept;
       touched =
           given_up_touched c.self.inside.opened (record { units = c.put_unit.new.units; stores = c.self.inside.opened.stores; table = c.release.new.table }) c.self.invariant.units c.self.invariant.touched c.args.region (has_unit c.self.inside.opened c.args.self.now c.args.region c.self.invariant.units c.self.view_is c.requires) units slots
           c.self.inside.opened.stores.stores c.self.inside.opened.table c.release.new.table
           (kept_touched_so c.self.inside.opened (record { units = c.put_unit.new.units; stores = c.self.inside.opened.stores; table = c.release.new.table }) c.self.invariant.units c.self.invariant.touched c.args.region (has_unit c.self.inside.opened c.args.self.now c.args.region c.self.invariant.units c.self.view_is c.requires) units slots refl)
           c.release.ensures.table;
+      marks = c.self.invariant.marks;
     }
 
 pub returns-clause-value : goal.returns-clause-value
@@ -42,7 +43,7 @@ returns-clause-value c =
     ap slots_of c.put_unit.ensures ∙ (slots_put c.self.inside.opened.units.items (c.args.region - 1) c.new.result ∙ ap (λ (u : Changes). set (slots_of c.self.inside.opened.units.items) (c.args.region - 1) u.slots) c.new.ensures) in
     subst (λ (d : DatabasesState). IsCommitted c.args.region d (seen (record { units = c.put_unit.new.units; stores = c.self.inside.opened.stores; table = c.release.new.table }))) c.self.view_is
     (is_committed c.self.inside.opened (record { units = c.put_unit.new.units; stores = c.self.inside.opened.stores; table = c.release.new.table }) c.self.invariant.units c.args.region
-    (has_unit c.self.inside.opened c.args.self.now c.args.region c.self.invariant.units c.self.view_is c.requires) units refl slots c.release.ensures.table)
+    (has_unit c.self.inside.opened c.args.self.now c.args.region c.self.invariant.units c.self.view_is c.requires) units refl refl c.self.invariant.touched slots c.release.ensures.table)
 
 pub returns-clause-rows : goal.returns-clause-rows
 returns-clause-rows c =
@@ -52,5 +53,5 @@ returns-clause-rows c =
     (given_up_units c.self.inside.opened (record { units = c.put_unit.new.units; stores = c.self.inside.opened.stores; table = c.release.new.table }) c.self.invariant.units c.args.region
     (has_unit c.self.inside.opened c.args.self.now c.args.region c.self.invariant.units c.self.view_is c.requires) units c.self.inside.opened.stores.stores c.self.inside.opened.table c.release.new.table
     (kept_units c.self.inside.opened (record { units = c.put_unit.new.units; stores = c.self.inside.opened.stores; table = c.release.new.table }) c.self.invariant.units c.args.region
-    (has_unit c.self.inside.opened c.args.self.now c.args.region c.self.invariant.units c.self.view_is c.requires) units refl)
+    (has_unit c.self.inside.opened c.args.self.now c.args.region c.self.invariant.units c.self.view_is c.requires) units refl refl)
     c.release.ensures.table c.release.ensures.kept)

@@ -13,17 +13,17 @@ pub tell_slots-requires : goal.tell_slots-requires
 tell_slots-requires c =
     back_toldable c.self.inside.opened c.args.self.now c.args.region c.deref.result.now c.unit_of.result.now c.touched.result.now c.self.inside.opened.stores.stores
     c.self.invariant.units c.self.invariant.touched c.self.view_is
-    (has_unit c.self.inside.opened c.args.self.now c.args.region c.self.invariant.units c.self.view_is c.requires.region) c.deref.ensures.value c.unit_of.ensures c.touched.ensures refl
+    (has_unit c.self.inside.opened c.args.self.now c.args.region c.self.invariant.units c.self.view_is c.requires.region) c.deref.ensures.value c.unit_of.ensures c.touched.ensures.value refl
     c.requires.sectors
 
 pub returns-clause-tells : goal.returns-clause-tells
 returns-clause-tells c =
     subst (λ (rs : List Record). OnOk c.tell_slots.result (Tells rs c.args.room c.args.told.now.items c.tell_slots.new.told.items))
     (back_told_is c.args.unit c.self.inside.opened c.args.self.now c.args.region c.deref.result.now c.unit_of.result.now c.touched.result.now c.self.inside.opened.stores.stores
-    c.self.view_is c.deref.ensures.value c.unit_of.ensures c.touched.ensures refl) c.tell_slots.ensures.tells
+    c.self.view_is c.deref.ensures.value c.unit_of.ensures c.touched.ensures.value refl) c.tell_slots.ensures.tells
 
 pub returns-clause-full : goal.returns-clause-full
 returns-clause-full c =
     subst (λ (rs : List Record). IfErr c.tell_slots.result (IsUntold rs c.args.room))
     (back_told_is c.args.unit c.self.inside.opened c.args.self.now c.args.region c.deref.result.now c.unit_of.result.now c.touched.result.now c.self.inside.opened.stores.stores
-    c.self.view_is c.deref.ensures.value c.unit_of.ensures c.touched.ensures refl) c.tell_slots.ensures.full
+    c.self.view_is c.deref.ensures.value c.unit_of.ensures c.touched.ensures.value refl) c.tell_slots.ensures.full

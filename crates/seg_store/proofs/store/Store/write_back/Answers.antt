@@ -1,15 +1,7 @@
 use Rattle.seg_store.specs.Changed.{Kept}
-use Rattle.seg_store.proofs.Changes.{changed_none, changed_few}
+use Rattle.seg_store.proofs.Changes.{changed_few}
 use Rattle.seg_store.proofs.store.Store.write_back.Goals as goal
-use Rattle.std.proofs.Common.{◌≤◌, length, arith, subst}
-
-pub invariant_of-self : goal.invariant_of-self
-invariant_of-self g c =
-    record {
-      indexed = c.self.invariant.indexed;
-      changes = changed_none c.self.inside.dbd.roots c.clear.new.self.items c.clear.ensures.items;
-      changed_enough = omega (arith, c.self.invariant.changed_enough, c.clear.ensures.capacity);
-    }
+use Rattle.std.proofs.Common.{◌≤◌, length, subst}
 
 pub returns-then-is_err-clause-few : goal.returns-then-is_err-clause-few
 returns-then-is_err-clause-few g c =

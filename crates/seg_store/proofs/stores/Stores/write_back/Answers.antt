@@ -1,12 +1,12 @@
 use Rattle.std.proofs.Common.{◌≡◌, ℕ, ◌≤◌, List, sym, ◌∙◌, ap, subst, IsTrue}
-use Rattle.std.specs.Prelude.{map, OnOk}
+use Rattle.std.specs.Prelude.{OnOk}
 use Rattle.std.specs.List.{AllByRecursion}
 use Rattle.model_disk.specs.Disk.{Within, Follows}
 use Rattle.seg_store.specs.Slots.{Stored}
-use Rattle.seg_store.specs.Changed.{Kept, AllStores, all_stores}
+use Rattle.seg_store.specs.Changed.{Kept, AllStores}
 use Rattle.seg_store.specs.DataSectors.{MayPut, HasPut}
-use Rattle.seg_store.specs.WriteBack.{changed_bytes, all_written, kept_bytes, written_kept}
-use Rattle.seg_store.proofs.WritingBack.{bytes_seen, sectors_seen, written_seen, on_ok}
+use Rattle.seg_store.specs.WriteBack.{changed_bytes, kept_bytes}
+use Rattle.seg_store.proofs.WritingBack.{bytes_seen, sectors_seen}
 use Rattle.seg_store.proofs.stores.Stores.write_back.Goals as goal
 
 pub write_all-requires-clause-sectors : goal.write_all-requires-clause-sectors
@@ -32,9 +32,3 @@ returns-clause-shown g c =
     let kept : List Kept = c.self.inside.items.items in
     let bytes : kept_bytes 0 kept ≡ changed_bytes c.args.self.now = bytes_seen 0 kept ∙ ap changed_bytes c.self.view_is in
     subst (λ (l : List (ℕ × List ℕ)). OnOk c.write_all.result (IsTrue old.tells → HasPut c.args.first l old.shown new.shown)) bytes c.write_all.ensures.shown
-
-pub returns-clause-written : goal.returns-clause-written
-returns-clause-written g c =
-    let kept : List Kept = c.self.inside.items.items in
-    on_ok c.write_all.result (c.write_all.new.stores.items ≡ map written_kept kept) (all_stores c.write_all.new.stores.items ≡ all_written c.args.self.now)
-    (λ e. ap all_stores e ∙ written_seen kept ∙ ap all_written c.self.view_is) c.write_all.ensures.written

@@ -6,7 +6,11 @@ use Rattle.tm_machine.specs.Parts.{slots_of, settings_of, flags_of}
 use Rattle.model_queues.specs.Queue.{messages_of}
 use Rattle.tm_machine.proofs.Conversing.{have_pads}
 use Rattle.tm_machine.proofs.Stepped.{queued_work, parts_step}
-use Rattle.tm_machine.proofs.Going.{goes_is, same_moment, ok_both, keeps_by, err_map_2}
+use Rattle.message_run.specs.Telling.{TellsNext}
+use Rattle.program_rows.specs.Telling.{spelled}
+use Rattle.tm_machine.proofs.Going.{goes_is, same_moment, ok_both, keeps_by, err_map_2, on_map, if_err_map}
+use Rattle.tm_machine.proofs.Slotting.{next_of}
+use Rattle.lasting_state.proofs.Told.{where_full}
 use Rattle.tm_machine.proofs.parts.Parts.advance.Goals as goal
 
 pub advance-requires-clause-region : goal.advance-requires-clause-region
@@ -56,8 +60,31 @@ returns-clause-err c =
     slice_get-get_or c.self.inside.regions.items (c.args.region - 1) _ within ∙ ap Some (sym c.index_mut.ensures.value) in
     rw (sym c.self.view_is)
     (err_map_2 c.advance.result
-    (λ h k. ap (λ t. record { system = c.self.inside.system; moment = record { lasting = lasting_of (settings_of c.self.inside.codes) t; slots = slots_of (slice_set c.self.inside.regions.items (c.args.region - 1) c.advance.new.work); enqueues = t.databases.table; raised = flags_of c.self.inside.codes } }) k
-    ∙ ap (λ ss. record { system = c.self.inside.system; moment = record { lasting = lasting_of (settings_of c.self.inside.codes) c.self.inside.tables; slots = ss; enqueues = c.self.inside.tables.databases.table; raised = flags_of c.self.inside.codes } })
+    (λ h k. ap (λ t. record { system = c.self.inside.system; moment = record { lasting = lasting_of (settings_of c.self.inside.codes) t; slots = slots_of (slice_set c.self.inside.regions.items (c.args.region - 1) c.advance.new.work); enqueues = t.databases.table; raised = flags_of c.self.inside.codes }; databases = t.databases }) k
+    ∙ ap (λ ss. record { system = c.self.inside.system; moment = record { lasting = lasting_of (settings_of c.self.inside.codes) c.self.inside.tables; slots = ss; enqueues = c.self.inside.tables.databases.table; raised = flags_of c.self.inside.codes }; databases = c.self.inside.tables.databases })
     (same_moment c.self.inside.system c.self.inside.tables c.self.inside.codes c.self.inside.regions.items c.args.region c.self.invariant region
     c.index_mut.result.now c.advance.new.work get h))
     c.advance.ensures.err c.advance.ensures.kept)
+
+pub returns-clause-tells : goal.returns-clause-tells
+returns-clause-tells c =
+    let region = (rw (← c.self.view_is) at c.requires) in
+    let within : c.args.region - 1 < length c.self.inside.regions.items = omega (arith, region.0, region.1, c.self.invariant.regions_are) in
+    let get : slice_get c.self.inside.regions.items (c.args.region - 1) ≡ Some c.index_mut.result.now =
+    slice_get-get_or c.self.inside.regions.items (c.args.region - 1) _ within ∙ ap Some (sym c.index_mut.ensures.value) in
+    rw (sym c.self.view_is)
+    (on_map c.advance.result
+    (next_of c.self.inside.system c.self.inside.tables c.self.inside.codes c.self.inside.regions.items c.args.region c.self.invariant
+    (TellsNext c.args.unit c.args.room c.args.region c.self.inside.tables.databases c.advance.new.tables.databases c.args.told.now.items c.advance.new.told.items)
+    c.args.unit c.index_mut.result.now get) c.advance.ensures.tells)
+
+pub returns-clause-full : goal.returns-clause-full
+returns-clause-full c =
+    let region = (rw (← c.self.view_is) at c.requires) in
+    let within : c.args.region - 1 < length c.self.inside.regions.items = omega (arith, region.0, region.1, c.self.invariant.regions_are) in
+    let get : slice_get c.self.inside.regions.items (c.args.region - 1) ≡ Some c.index_mut.result.now =
+    slice_get-get_or c.self.inside.regions.items (c.args.region - 1) _ within ∙ ap Some (sym c.index_mut.ensures.value) in
+    rw (sym c.self.view_is)
+    (if_err_map c.advance.result
+    (λ error. where_full error (next_of c.self.inside.system c.self.inside.tables c.self.inside.codes c.self.inside.regions.items c.args.region c.self.invariant
+    (λ records. c.args.room < length (spelled records)) c.args.unit c.index_mut.result.now get)) c.advance.ensures.full)

@@ -2,6 +2,7 @@ use Rattle.std.proofs.Common.{◌≡◌, ◌+◌, ◌≤◌, ◌++◌, List, len
 use Rattle.model_enqueue.specs.declared.victim.Victim.{Victim}
 use Rattle.model_enqueue.specs.Cycle.{Breaks}
 use Rattle.model_machine.specs.Machine.{busy_slots}
+use Rattle.tm_machine.specs.OnSlots.{slots_now, VictimsGiveUp}
 use Rattle.tm_machine.specs.Victims.{all_gave_way}
 use Rattle.tm_machine.proofs.parts.Parts.break_rings.Given as goal
 
@@ -9,6 +10,7 @@ abbrev pub invariant-loop-victim : goal.invariant-loop-victim
 invariant-loop-victim l = record {
   system : l.self.system ≡ l.initial.self.system;
   moment : l.self.moment ≡ all_gave_way l.initial.self.system l.initial.self.moment l.victims;
+  slots : VictimsGiveUp l.initial.self l.victims (slots_now l.initial.self) (slots_now l.self);
   right : (more : List Victim) → Breaks l.changes l.region l.self.moment.enqueues more → Breaks l.changes l.region l.initial.self.moment.enqueues (l.victims ++ more);
   few : length l.victims + busy_slots l.self.moment.slots ≤ 8;
 }

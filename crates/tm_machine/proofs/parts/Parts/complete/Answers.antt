@@ -61,3 +61,6 @@ returns-in_err-complete-clause-full c =
     let region = (rw (← c.self.view_is) at c.requires.region) in
     let ends = (rw (← c.self.view_is) at c.requires.ends) in
     rw (sym c.self.view_is) (err_where c.from_residual.result (completed_longer c.self.inside.system c.self.inside.tables c.self.inside.codes c.self.inside.regions.items c.args.region c.self.invariant c.busy_at-busy.result.now e region c.args.unit c.args.room c.in-Ok.outputs.items c.in-Ok.ensures c.in-Ok-pad_by.pad c.in-Ok-pad_by.ensures.value (ends_step c.self.inside.system c.self.inside.tables c.self.inside.codes c.self.inside.regions.items c.args.region c.self.invariant c.busy_at-busy.result.now e region Ends ends)) (search rules))
+
+pub returns-clause-slots : goal.returns-clause-slots
+returns-clause-slots c = rw (sym c.self.view_is) c.in_ok-complete.ensures.databases.slots

@@ -62,3 +62,13 @@ returns-in-Err-clause-full c =
     let new = (rw (← c.self.view_is) at c.requires.new) in
     let kept = kept_here c.self.inside.system c.self.inside.tables c.self.inside.codes c.self.inside.regions.items c.self.invariant c.args.terminal.now c.args.number c.args.segments c.args.input c.in-Ok.kept new c.in-Ok.ensures in
     rw (sym c.self.view_is) (where_full c.in-Err.untold (new_longer c.self.inside.system c.self.inside.tables c.self.inside.codes c.self.inside.regions.items c.self.invariant c.args.terminal.now c.args.number c.args.segments c.in-Ok.kept kept c.args.input c.requires.segment c.count_busy-busy.result (c.count_busy-busy.ensures ∙ ap (count_by is_some) c.deref.ensures.value) new c.args.room) c.in-Err.ensures.full)
+
+pub returns-in-Ok-New-clause-databases : goal.returns-in-Ok-New-clause-databases
+returns-in-Ok-New-clause-databases c =
+    let ok = (rw c.in-Ok-New.field-0-is at c.in-Ok-New.ensures.ok) in
+    rw (sym c.self.view_is) (ap (λ t. t.databases) ok.2)
+
+pub returns-in-Ok-Full-clause-databases : goal.returns-in-Ok-Full-clause-databases
+returns-in-Ok-Full-clause-databases c =
+    let ok = (rw c.in-Ok-Full.field-0-is at c.in-Ok-Full.ensures.ok) in
+    rw (sym c.self.view_is) (ap (λ t. t.databases) ok.3)

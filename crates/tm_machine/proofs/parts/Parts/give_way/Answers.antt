@@ -3,6 +3,7 @@ use Rattle.std.specs.Prelude.{Some, slice_get}
 use Rattle.tm_machine.proofs.Raising.{follow_one}
 use Rattle.tm_machine.proofs.Finished.{found_here, works_there}
 use Rattle.tm_machine.proofs.Giving.{held_there, follows_given, parts_given, moment_given}
+use Rattle.tm_machine.proofs.Slotting.{have_by}
 use Rattle.tm_machine.proofs.parts.Parts.give_way.Goals as goal
 
 pub code_of-code-requires : goal.code_of-code-requires
@@ -46,3 +47,9 @@ returns-clause-moment c =
     let follows = follows_given c.self.inside.system c.self.inside.tables c.self.inside.codes c.self.inside.regions.items c.args.region c.self.invariant c.busy_at.result.now e region c.give_up.new.tables c.give_up.ensures.tables c.give_up.ensures.databases c.give_up.ensures.dbds c.follow.new.codes c.code_of-code.result c.give_up.ensures.ordered c.code_of-code.ensures follow in
     let given = moment_given c.self.inside.system c.self.inside.tables c.self.inside.codes c.self.inside.regions.items c.args.region c.self.invariant c.busy_at.result.now e region c.give_up.new.tables c.give_up.ensures.tables c.give_up.ensures.databases c.give_up.ensures.dbds c.follow.new.codes follows in
     rw (sym c.self.view_is) (rw c.give_up.ensures.regions given)
+
+pub returns-clause-slots : goal.returns-clause-slots
+returns-clause-slots c = rw (sym c.self.view_is) c.give_up.ensures.databases.slots
+
+pub returns-clause-have : goal.returns-clause-have
+returns-clause-have c = have_by c.self.inside.system c.give_up.new.tables.databases (invariant_of-self c).databases c.give_up.ensures.databases.on_slots

@@ -1,9 +1,10 @@
-use Rattle.std.proofs.Common.{rules, ◌≡◌, ◌+◌, ◌-◌, ◌∷◌, refl, sym, ap, ◌∙◌}
+use Rattle.std.proofs.Common.{rules, ◌≡◌, ◌+◌, ◌-◌, ◌∷◌, refl, sym, ap, subst, ◌∙◌}
 use Rattle.std.specs.Prelude.{Some, None, slice_get, slice_set}
 use Rattle.std.specs.List.{count_by}
 use Rattle.std.specs.Option.{is_some}
 use Rattle.model_queues.specs.Queue.{free_count}
 use Rattle.model_machine.specs.Flags.{all_followed}
+use Rattle.program_rows.specs.OnSlots.{slots_in, CommitsSo}
 use Rattle.tm_machine.specs.Ends.{destinations}
 use Rattle.tm_machine.proofs.Raising.{follow_is, followed_settled}
 use Rattle.model_machine.specs.Trial.WorkEnd.{Syncs}
@@ -99,3 +100,11 @@ returns-in_err-complete-clause-full c =
     let region = (rw (← c.self.view_is) at c.requires.region) in
     let ends = (rw (← c.self.view_is) at c.requires.ends) in
     rw (sym c.self.view_is) (err_where c.from_residual.result (completed_longer c.self.inside.system c.self.inside.tables c.self.inside.codes c.self.inside.regions.items c.args.region c.self.invariant c.busy_at-busy.result.now e region c.args.unit c.args.room c.in-Ok.outputs.items c.in-Ok.ensures c.in-Ok-pad_by.pad c.in-Ok-pad_by.ensures.value (ends_step c.self.inside.system c.self.inside.tables c.self.inside.codes c.self.inside.regions.items c.args.region c.self.invariant c.busy_at-busy.result.now e region Syncs ends)) (search rules))
+
+pub returns-in_default-next_message-clause-slots : goal.returns-in_default-next_message-clause-slots
+returns-in_default-next_message-clause-slots c = rw (sym c.self.view_is) c.in_ok-complete.ensures.databases.slots
+
+pub returns-clause-slots : goal.returns-clause-slots
+returns-clause-slots c =
+    rw (sym c.self.view_is)
+    (subst (λ s. CommitsSo c.args.region (slots_in c.self.inside.tables.databases) s) (ap (λ t. slots_in t.databases) (sym c.take.ensures.tables)) c.in_ok-complete.ensures.databases.slots)

@@ -1,11 +1,22 @@
-use Rattle.std.proofs.Common.{sym, subst}
-use Rattle.std.specs.List.{AllByRecursion}
+use Rattle.std.proofs.Common.{List, sym, subst}
+use Rattle.std.specs.List.{AllByRecursion, list_any}
+use Rattle.change_records.specs.Images.{image_at}
+use Rattle.change_records.specs.Marks.{AreMarked}
+use Rattle.unit_work.specs.declared.change.Change.{Change}
 use Rattle.unit_work.specs.Changes.{Changes}
-use Rattle.unit_work.specs.BackOut.{IsStored}
+use Rattle.unit_work.specs.BackOut.{is_touched, backs, IsStored}
 use Rattle.unit_work.proofs.Backing.{still_stored}
+use Rattle.unit_work.proofs.Marking.{marks_first}
 use Rattle.unit_work.proofs.unit.Unit.back_out.Goals as goal
 
 pub put_all-requires-clause-stored : goal.put_all-requires-clause-stored
 put_all-requires-clause-stored c =
-    still_stored c.self.inside.records.items c.deref.result.now c.args.stores.now.stores c.remove_all.new.stores.stores c.remove_all.ensures
+    still_stored c.self.inside.records.items c.deref.result.now c.args.stores.now.stores c.remove_all.new.stores.stores c.remove_all.ensures.stores
     (subst (λ (u : Changes). AllByRecursion (IsStored c.args.stores.now.stores) u.records) (sym c.self.view_is) c.requires.stored)
+
+pub returns-clause-marks : goal.returns-clause-marks
+returns-clause-marks c =
+    subst (λ (u : Changes). AreMarked (λ db slot. backs u.records db slot (image_at db slot c.args.stores.now.stores)) c.args.stores.now c.put_all.new.stores) c.self.view_is
+    (marks_first c.args.stores.now c.remove_all.new.stores c.put_all.new.stores c.self.inside.records.items
+    (subst (λ (rs : List Change). AreMarked (λ db slot. is_touched rs db (image_at db slot c.args.stores.now.stores)) c.args.stores.now c.remove_all.new.stores) c.deref.ensures.value c.remove_all.ensures.marks)
+    c.put_all.ensures.marks)

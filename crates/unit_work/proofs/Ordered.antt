@@ -1,9 +1,9 @@
 -- Slots by database and number, and one more among them.
-use Rattle.std.proofs.Common.{◌≡◌, ◌≢◌, ℕ, ◌<◌, ◌≤◌, ◌∷◌, [], List, refl, sym, ◌∙◌, ap, Bool, true, false, cond, arith, eqb, ltb, ◌&&◌, ◌||◌, ◌⊎◌, inl, inr, ⊎_elim}
+use Rattle.std.proofs.Common.{◌≡◌, ◌≢◌, ℕ, ◌<◌, ◌≤◌, ◌∷◌, [], List, length, suc, refl, sym, ◌∙◌, ap, Bool, true, false, cond, arith, eqb, ltb, ◌&&◌, ◌||◌, ◌⊎◌, inl, inr, ⊎_elim}
 use Rattle.std.specs.List.{AllByRecursion}
 use Rattle.std.proofs.lemmas.Bool.{false≢true, eqb-true, eq-eqb, cases_eq, cases_lt, ltb-true, lt-ltb}
 use Rattle.unit_work.specs.declared.change.Change.{Change}
-use Rattle.unit_work.specs.Changes.{is_before, is_slot, is_seen, with_slot}
+use Rattle.unit_work.specs.Changes.{Ascend, AreInOrder, AreAllKept, has_place, is_before, is_slot, is_seen, with_slot}
 
 abbrev pub before : ℕ → ℕ → ℕ → ℕ → Bool
 before a b c d = ltb a c || (eqb a c && ltb b d)
@@ -140,3 +140,43 @@ seen_with db slot c (s ∷ slots) e =
     by true a p q h rec = later p (is_before db slot s) refl h rec
     by false true p q h rec = here q h
     by false false p q h rec = earlier p q (is_before db slot c) refl h
+
+-- ---- in order
+
+-- a slot more, or another root, leaves them in order
+pub ascend_with : (c : Change) (slots : List Change) → Ascend slots → Ascend (with_slot c slots)
+ascend_with c [] h = (tt, tt)
+ascend_with c (s ∷ slots) h = by (is_before c.db c.slot s) (is_slot c.db c.slot s) refl refl (ascend_with c slots h.1)
+  where
+    behind : is_before c.db c.slot s ≡ false → is_slot c.db c.slot s ≡ false → (ds : List Change) → AllByRecursion (λ d. is_before d.db d.slot s ≡ true) ds → AllByRecursion (λ d. is_before d.db d.slot c ≡ true) ds
+    behind p q [] g = tt
+    behind p q (d ∷ ds) g =
+        (is_less c.db c.slot d.db d.slot (then_less c.db c.slot s.db s.slot d.db d.slot (after s.db s.slot c.db c.slot p q) (less_is s.db s.slot d.db d.slot g.0)), behind p q ds g.1)
+
+    by : (b a : Bool) → is_before c.db c.slot s ≡ b → is_slot c.db c.slot s ≡ a → Ascend (with_slot c slots)
+        → Ascend (cond b (s ∷ with_slot c slots) (cond a (record s { root = c.root } ∷ slots) (c ∷ s ∷ slots)))
+    by true a p q rec = (all_with (λ d. is_before d.db d.slot s ≡ true) (λ d root g. g) c slots h.0 (λ e. p), rec)
+    by false true p q rec = (h.0, h.1)
+    by false false p q rec = ((is_less c.db c.slot s.db s.slot (after s.db s.slot c.db c.slot p q), behind p q slots h.0), (h.0, h.1))
+
+-- they are as many as before where it was there, and one more else
+length_with : (c : Change) (slots : List Change) → length (with_slot c slots) ≡ cond (is_seen c.db c.slot slots) (length slots) (suc (length slots))
+length_with c [] = refl
+length_with c (s ∷ slots) = by (is_before c.db c.slot s) (is_slot c.db c.slot s) (is_seen c.db c.slot slots) (length_with c slots)
+  where
+    by : (b a t : Bool) → length (with_slot c slots) ≡ cond t (length slots) (suc (length slots))
+        → length (cond b (s ∷ with_slot c slots) (cond a (record s { root = c.root } ∷ slots) (c ∷ s ∷ slots))) ≡ cond (cond b t a) (suc (length slots)) (suc (suc (length slots)))
+    by true a true e = ap (λ n. suc n) e
+    by true a false e = ap (λ n. suc n) e
+    by false true t e = refl
+    by false false t e = refl
+
+pub order_with : (c : Change) (slots : List Change) → AreInOrder slots → has_place c.db c.slot slots ≡ true → AreInOrder (with_slot c slots)
+order_with c slots h place = record { ascend = ascend_with c slots h.ascend; few = by (is_seen c.db c.slot slots) place (length_with c slots) }
+  where
+    by : (t : Bool) → (t || ltb (length slots) 64) ≡ true → length (with_slot c slots) ≡ cond t (length slots) (suc (length slots)) → length (with_slot c slots) ≤ 64
+    by true p e = omega (arith, e, h.few)
+    by false p e = omega (arith, e, ltb-true (length slots) 64 p)
+
+pub none_kept : AreAllKept (record { records = []; slots = [] })
+none_kept = record { records = record { once = tt; few = omega arith }; slots = record { ascend = tt; few = omega arith } }

@@ -1,0 +1,71 @@
+-- What calls do to slots and to the marks of those that were changed.
+use Rattle.std.proofs.Common.{◌≡◌, ◌≢◌, ℕ, ◌-◌, ◌<◌, ◌≤◌, ◌++◌, ◌∷◌, [], List, map, refl, sym, ◌∙◌, ap, subst, Bool, true, false, Option, None, Some, get_or, set, eqb, ◌&&◌, ◌||◌, inl, inr}
+use Rattle.std.specs.List.{AllByRecursion, slice_get, list_any}
+use Rattle.std.specs.Option.{option_map_or}
+use Rattle.std.proofs.lemmas.Bool.{eq-eqb}
+use Rattle.model_rows.specs.declared.row.Row.{Row}
+use Rattle.model_rows.specs.Record as rows
+use Rattle.log_records.specs.declared.record.Record.{Record}
+use Rattle.seg_store.specs.Slots.{Stored, slot_of, slot_for, lowest_free, first_of, with_root, with_image}
+use Rattle.seg_store.specs.Changed.{Kept, AllStores, stored, with_changed, slot_changed}
+use Rattle.seg_store.specs.Stores.{IsStoreOf, with_store}
+use Rattle.seg_store.proofs.SlotRows.{free_at, set_itself}
+use Rattle.change_records.specs.Images.{slots_at, image_at}
+use Rattle.change_records.specs.Marks.{AreMarked}
+use Rattle.change_records.specs.Told.{is_told_of, ChangesTold}
+use Rattle.unit_work.proofs.Marking.{marks_none, marks_same, marks_one}
+use Rattle.program_rows.specs.OnSlots.{SlotsState, all_stores, CallsSo}
+use Rattle.program_rows.specs.Telling.{set_told}
+use Rattle.program_rows.proofs.ToldBack.{stays_told}
+
+-- a call that changes nothing
+pub calls_none : (unit region : ℕ) (old new : SlotsState) (records : List Record) → records ≡ [] → new ≡ old → CallsSo unit region old new records
+calls_none unit region old new records none same =
+    subst (λ (s : SlotsState). CallsSo unit region old s records) (sym same)
+    (record {
+      told = subst (λ rs. ChangesTold unit old.stores old.stores rs) (sym none) (stays_told unit old.stores old.stores refl);
+      does = inl (record { none = none; same = refl });
+      marks = marks_none (λ database slot. list_any (is_told_of database slot) records) (all_stores old);
+      committed = refl;
+    })
+
+-- the slot of a root that has none, where an image without rows is set
+none_set : (root : List ℕ) (slots : List (List Row)) (o : Option ℕ) → lowest_free slots ≡ o → with_image o [] slots ≡ slots
+none_set root slots None e = refl
+none_set root slots (Some n) e = set_itself slots n [] (free_at slots n e)
+
+-- a record is set, whose slot is told of
+module _ (unit : ℕ) (all : AllStores) (number : ℕ) (s t : Kept) (least : 1 ≤ number) (of : IsStoreOf all number s) (root : List ℕ) (image : List Row)
+    (changed : t.changed ≡ with_changed (slot_changed root image s.slots) s.changed) (slots : t.slots ≡ with_root root image s.slots) where
+  abbrev records : List Record
+  records = set_told unit number image all.stores (slot_for root (slots_at number all.stores))
+
+  abbrev passing : ℕ → ℕ → Bool
+  passing database slot = list_any (is_told_of database slot) records
+
+  slots_are : slots_at number all.stores ≡ s.slots
+  slots_are = ap (λ o. option_map_or (λ (x : Stored). x.slots) o []) of.stored_is
+
+  told_here : (n : ℕ) → slot_for root s.slots ≡ Some n → passing number n ≡ true
+  told_here n e =
+      ap (λ o. list_any (is_told_of number n) (set_told unit number image all.stores o)) (ap (slot_for root) slots_are ∙ e)
+      ∙ (λ i. (eq-eqb number number refl i && eq-eqb n n refl i) || false)
+
+  one_set : (n : ℕ) → slot_for root s.slots ≡ Some n → slot_changed root image s.slots ≡ Some n → AreMarked passing all (with_store all number t)
+  one_set n e c =
+      marks_one passing all number s t least of n (changed ∙ ap (λ o. with_changed o s.changed) c) image (slots ∙ ap (λ o. with_image o image s.slots) e) (told_here n e)
+
+  none_changed : slot_changed root image s.slots ≡ None → with_root root image s.slots ≡ s.slots → AreMarked passing all (with_store all number t)
+  none_changed c same = marks_same passing all number s t least of (changed ∙ ap (λ o. with_changed o s.changed) c) (slots ∙ same)
+
+  pub marks_set : AreMarked passing all (with_store all number t)
+  marks_set = by image refl (slot_of root s.slots) refl (slot_for root s.slots) refl
+    where
+      by : (rows : List Row) → image ≡ rows → (o : Option ℕ) → slot_of root s.slots ≡ o → (p : Option ℕ) → slot_for root s.slots ≡ p → AreMarked passing all (with_store all number t)
+      by [] i (Some n) e p f =
+          one_set n (ap (λ o. first_of o (lowest_free s.slots)) e) (ap (λ im. slot_changed root im s.slots) i ∙ e)
+      by [] i None e p f =
+          none_changed (ap (λ im. slot_changed root im s.slots) i ∙ e)
+          (ap (λ o. with_image (first_of o (lowest_free s.slots)) image s.slots) e ∙ (ap (λ im. with_image (lowest_free s.slots) im s.slots) i ∙ none_set root s.slots (lowest_free s.slots) refl))
+      by (row ∷ rows) i o e (Some n) f = one_set n f (ap (λ im. slot_changed root im s.slots) i ∙ f)
+      by (row ∷ rows) i o e None f = none_changed (ap (λ im. slot_changed root im s.slots) i ∙ f) (ap (λ o. with_image o image s.slots) f)
