@@ -25,7 +25,7 @@ use Rattle.disk_law.specs.Life.{LifeOnDisk}
 use Rattle.disk_law.specs.Kept.{IsKept}
 use Rattle.disk_law.proofs.Front.{recovers}
 use Rattle.machine_life.specs.Counts.{AreUnspent}
-use Rattle.machine_life.specs.OnSlots.{SlotsState}
+use Rattle.program_rows.specs.OnSlots.{SlotsState}
 use Rattle.machine_life.specs.Carried.{IsCarriedBy, IsLifeOf}
 use Rattle.machine_life.specs.Going.{Continues, GoesOn}
 use Rattle.machine_life.proofs.Inputs.{HasRoom, has_terminals, accept_goes, acknowledge_goes}

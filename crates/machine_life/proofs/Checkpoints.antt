@@ -43,8 +43,9 @@ use Rattle.checkpoint_law.proofs.Stored.{store_of}
 use Rattle.unit_law.specs.Units.{KeptUnit, AreOnce, HaveNumbers, IsOpen, KeepTouches, kept_touches, touch_of, unit_kept}
 use Rattle.unit_law.proofs.Told.{forgets}
 use Rattle.unit_law.proofs.Snapshots.{is_snapshot}
-use Rattle.machine_life.specs.Marks.{is_marked}
-use Rattle.machine_life.specs.OnSlots.{SlotsState, HaveSlots, Ascend, AreTouchedSlots, IsTouchedSlot, all_stores, records_in, touched_in}
+use Rattle.change_records.specs.Marks.{is_marked}
+use Rattle.unit_work.specs.Changes.{Ascend}
+use Rattle.program_rows.specs.OnSlots.{SlotsState, HaveSlots, AreTouchedSlots, IsTouchedSlot, all_stores, records_in, touched_in}
 use Rattle.machine_life.specs.Opens.{IsUnitOf, AreUnitsOf, written}
 use Rattle.machine_life.specs.Turning.{unit_of}
 use Rattle.machine_life.specs.Carried.{HoldTouched, IsTouchedBy, IsCarriedBy}

@@ -45,7 +45,7 @@ use Rattle.step_law.specs.Steps.{HasRoomFor, IsStep, StepOnDisk, after_step}
 use Rattle.step_law.specs.Lasting.{MayAccept, MayAcknowledge, accepting, acknowledging, input_record, input_of}
 use Rattle.step_law.proofs.LastingSteps.{accept_step, acknowledge_step}
 use Rattle.machine_life.specs.Counts.{AreUnspent}
-use Rattle.machine_life.specs.OnSlots.{SlotsState}
+use Rattle.program_rows.specs.OnSlots.{SlotsState}
 use Rattle.machine_life.specs.Carried.{IsCarriedBy}
 use Rattle.machine_life.specs.Going.{StepsOn}
 use Rattle.machine_life.proofs.Counting.{accepts_fits, acknowledges_fits}

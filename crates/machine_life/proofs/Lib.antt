@@ -16,3 +16,4 @@ pub mod Turns
 pub mod Answered
 pub mod Checkpoints
 pub mod Openings
+pub mod Listed

@@ -28,8 +28,8 @@ use Rattle.slot_law.specs.Committed.{Touch, changes_of}
 use Rattle.disk_law.specs.Life.{LifeOnDisk, IsLife, SpellRows}
 use Rattle.checkpoint_law.specs.Opening.{MayOpen, bytes_in_stores, no_touches, opened_life}
 use Rattle.unit_law.proofs.Snapshots.{only_changes}
-use Rattle.machine_life.specs.Marks.{is_marked}
-use Rattle.machine_life.specs.OnSlots.{SlotsState, HaveSlots, touched_in}
+use Rattle.change_records.specs.Marks.{is_marked}
+use Rattle.program_rows.specs.OnSlots.{SlotsState, HaveSlots, touched_in}
 use Rattle.machine_life.specs.Turning.{AreNumbered, unit_of}
 use Rattle.machine_life.specs.Carried.{IsCarriedBy}
 use Rattle.machine_life.proofs.Places.{bytes_of_place}

@@ -1,0 +1,4 @@
+pub mod Pads
+pub mod Holding
+pub mod Turning
+pub mod Answering
