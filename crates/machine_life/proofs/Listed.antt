@@ -2,7 +2,7 @@
 use Rattle.std.proofs.Common.{◌≡◌, ℕ, zero, suc, ◌+◌, ◌-◌, ◌<◌, ◌≤◌, Bool, true, false, nat_lt, List, [], ◌∷◌, length, refl, sym, ◌∙◌, ap, subst, arith, Some, None}
 use Rattle.std.specs.Prelude.{map, slice_get, if◌then◌else◌}
 use Rattle.std.specs.List.{AllByRecursion}
-use Rattle.std.proofs.lemmas.Bool.Decides.{nat_tests}
+use Rattle.std.proofs.lemmas.Bool.{ltb-true, ltb-false}
 use Rattle.unit_work.specs.declared.change.Change.{Change}
 use Rattle.model_machine.specs.Machine.{Slot}
 use Rattle.snapshot_records.specs.declared.touches.OpenUnit.{OpenUnit}
@@ -17,10 +17,10 @@ use Rattle.machine_life.specs.Opens.{AreUnitsOf, IsUnitOf}
 
 insert_all : (P : Numbered → Type 0) (unit : Numbered) (units : List Numbered) → P unit → AllByRecursion P units → AllByRecursion P (insert_unit unit units)
 insert_all P unit [] one all = (one, all)
-insert_all P unit (other ∷ units) one all = by (nat_lt unit.0 other.0) where
-  by : (b : Bool) → AllByRecursion P (if b then unit ∷ other ∷ units else other ∷ insert_unit unit units)
-  by true = (one, all)
-  by false = (all.0, insert_all P unit units one all.1)
+insert_all P unit (other ∷ units) one all = by (nat_lt unit.0 other.0) (insert_all P unit units one all.1) where
+  by : (b : Bool) → AllByRecursion P (insert_unit unit units) → AllByRecursion P (if b then unit ∷ other ∷ units else other ∷ insert_unit unit units)
+  by true later = (one, all)
+  by false later = (all.0, later)
 
 -- Numbers ascend.
 abbrev Ascends : List Numbered → Type 0
@@ -31,18 +31,18 @@ above : (least : ℕ) (other : Numbered) (units : List Numbered) → least < oth
 above least other [] less all = all
 above least other (v ∷ units) less all = (omega (arith, less, all.0), above least other units less all.1)
 
+between : (a b : ℕ) → a ≤ b → (a ≡ b → ⊥) → a < b
+between a b most differ = by (nat_lt a b) refl where
+  by : (t : Bool) → nat_lt a b ≡ t → a < b
+  by true e = ltb-true a b e
+  by false e = absurd (differ (omega (arith, most, ltb-false a b e)))
+
 insert_ascends : (unit : Numbered) (units : List Numbered) → AllByRecursion (λ (v : Numbered). v.0 ≡ unit.0 → ⊥) units → Ascends units → Ascends (insert_unit unit units)
 insert_ascends unit [] apart up = (up, up)
-insert_ascends unit (other ∷ units) apart up = by (nat_lt unit.0 other.0) refl where
-  by : (b : Bool) → nat_lt unit.0 other.0 ≡ b → Ascends (if b then unit ∷ other ∷ units else other ∷ insert_unit unit units)
-  by true is = ((nat_tests is, above unit.0 other units (nat_tests is) up.0), up)
-  by false is =
-      (insert_all (λ (v : Numbered). other.0 < v.0) unit units (between other.0 unit.0 (nat_tests is) apart.0) up.0, insert_ascends unit units apart.1 up.1) where
-    between : (a b : ℕ) → a ≤ b → (a ≡ b → ⊥) → a < b
-    between a b most differ = by (nat_lt a b) refl where
-      by : (t : Bool) → nat_lt a b ≡ t → a < b
-      by true e = nat_tests e
-      by false e = let low : b ≤ a = nat_tests e in absurd (differ (omega (arith, most, low)))
+insert_ascends unit (other ∷ units) apart up = by (nat_lt unit.0 other.0) refl (insert_ascends unit units apart.1 up.1) where
+  by : (b : Bool) → nat_lt unit.0 other.0 ≡ b → Ascends (insert_unit unit units) → Ascends (if b then unit ∷ other ∷ units else other ∷ insert_unit unit units)
+  by true is later = ((ltb-true unit.0 other.0 is, above unit.0 other units (ltb-true unit.0 other.0 is) up.0), up)
+  by false is later = (insert_all (λ (v : Numbered). other.0 < v.0) unit units (between other.0 unit.0 (ltb-false unit.0 other.0 is) apart.0) up.0, later)
 
 -- one has this number
 record IsAmong (number : ℕ) (units : List Numbered) : Type 0 where
@@ -56,18 +56,18 @@ behind number other units a = record { place = suc a.place; unit = a.unit; found
 
 among_inserted : (unit : Numbered) (units : List Numbered) → IsAmong unit.0 (insert_unit unit units)
 among_inserted unit [] = record { place = 0; unit = unit; found = refl; is = refl }
-among_inserted unit (other ∷ units) = by (nat_lt unit.0 other.0) where
-  by : (b : Bool) → IsAmong unit.0 (if b then unit ∷ other ∷ units else other ∷ insert_unit unit units)
-  by true = record { place = 0; unit = unit; found = refl; is = refl }
-  by false = behind unit.0 other (insert_unit unit units) (among_inserted unit units)
+among_inserted unit (other ∷ units) = by (nat_lt unit.0 other.0) (among_inserted unit units) where
+  by : (b : Bool) → IsAmong unit.0 (insert_unit unit units) → IsAmong unit.0 (if b then unit ∷ other ∷ units else other ∷ insert_unit unit units)
+  by true later = record { place = 0; unit = unit; found = refl; is = refl }
+  by false later = behind unit.0 other (insert_unit unit units) later
 
 among_still : (number : ℕ) (unit : Numbered) (units : List Numbered) → IsAmong number units → IsAmong number (insert_unit unit units)
 among_still number unit [] a = absurd (let none : None ≡ Some a.unit = a.found in cc)
-among_still number unit (other ∷ units) a = by (nat_lt unit.0 other.0) a.place a.found where
-  by : (b : Bool) (place : ℕ) → slice_get (other ∷ units) place ≡ Some a.unit → IsAmong number (if b then unit ∷ other ∷ units else other ∷ insert_unit unit units)
-  by true place found = record { place = suc place; unit = a.unit; found = found; is = a.is }
-  by false zero found = record { place = 0; unit = a.unit; found = found; is = a.is }
-  by false (suc place) found = behind number other (insert_unit unit units) (among_still number unit units (record { place = place; unit = a.unit; found = found; is = a.is }))
+among_still number unit (other ∷ units) a = by (nat_lt unit.0 other.0) a.place a.found (among_still number unit units) where
+  by : (b : Bool) (place : ℕ) → slice_get (other ∷ units) place ≡ Some a.unit → (IsAmong number units → IsAmong number (insert_unit unit units)) → IsAmong number (if b then unit ∷ other ∷ units else other ∷ insert_unit unit units)
+  by true place found later = record { place = suc place; unit = a.unit; found = found; is = a.is }
+  by false zero found later = record { place = 0; unit = a.unit; found = found; is = a.is }
+  by false (suc place) found later = behind number other (insert_unit unit units) (later (record { place = place; unit = a.unit; found = found; is = a.is }))
 
 -- ---- the units of regions
 
@@ -83,7 +83,7 @@ module _ (Good : ℕ → List Change → Type 0) where
       let rest = each_good units touched (λ place. good (suc place)) in
       by (nat_lt 0 unit) refl rest where
         by : (b : Bool) → nat_lt 0 unit ≡ b → AllByRecursion IsGood (units_open units touched) → AllByRecursion IsGood (if b then insert_unit (unit, some) (units_open units touched) else units_open units touched)
-        by true is rest = insert_all IsGood (unit, some) (units_open units touched) (good 0 unit some refl refl (nat_tests is)) rest
+        by true is rest = insert_all IsGood (unit, some) (units_open units touched) (good 0 unit some refl refl (ltb-true 0 unit is)) rest
         by false is rest = rest
 
 abbrev Apart : List ℕ → Type 0
@@ -102,7 +102,7 @@ units_ascend (unit ∷ units) (some ∷ touched) apart =
           let clash : 0 ≡ suc place = apart 0 (suc place) unit refl (found ∙ ap (λ (k : ℕ). Some k) same) least in
           cc
       by : (b : Bool) → nat_lt 0 unit ≡ b → Ascends (units_open units touched) → Ascends (if b then insert_unit (unit, some) (units_open units touched) else units_open units touched)
-      by true is rest = insert_ascends (unit, some) (units_open units touched) (each_good (λ n some. n ≡ unit → ⊥) units touched (differs (nat_tests is))) rest
+      by true is rest = insert_ascends (unit, some) (units_open units touched) (each_good (λ n some. n ≡ unit → ⊥) units touched (differs (ltb-true 0 unit is))) rest
       by false is rest = rest
 
 shorter : (a b : ℕ) → suc a ≡ suc b → a ≡ b
@@ -111,16 +111,18 @@ shorter a b e = cc
 all_among : (units : List ℕ) (touched : List (List Change)) → length touched ≡ length units → (place unit : ℕ) → slice_get units place ≡ Some unit → 0 < unit → IsAmong unit (units_open units touched)
 all_among [] touched same place unit found least = absurd cc
 all_among (other ∷ units) [] same place unit found least = absurd cc
-all_among (other ∷ units) (some ∷ touched) same place unit found least = by (nat_lt 0 other) refl place found where
-  by : (b : Bool) → nat_lt 0 other ≡ b → (place : ℕ) → slice_get (other ∷ units) place ≡ Some unit → IsAmong unit (if b then insert_unit (other, some) (units_open units touched) else units_open units touched)
-  by true is zero found = subst (λ (n : ℕ). IsAmong n (insert_unit (other, some) (units_open units touched))) (let e : Some other ≡ Some unit = found in cc) (among_inserted (other, some) (units_open units touched))
-  by true is (suc place) found = among_still unit (other, some) (units_open units touched) (all_among units touched (shorter (length touched) (length units) same) place unit found least)
-  by false is zero found =
-      let e : Some other ≡ Some unit = found in
-      let none : other ≤ 0 = nat_tests is in
-      let equal : other ≡ unit = cc in
-      absurd (omega (arith, none, equal, least))
-  by false is (suc place) found = all_among units touched (shorter (length touched) (length units) same) place unit found least
+all_among (other ∷ units) (some ∷ touched) same place unit found least =
+    by (nat_lt 0 other) refl place found (λ p f. all_among units touched (shorter (length touched) (length units) same) p unit f least) where
+      by : (b : Bool) → nat_lt 0 other ≡ b → (place : ℕ) → slice_get (other ∷ units) place ≡ Some unit → ((p : ℕ) → slice_get units p ≡ Some unit → IsAmong unit (units_open units touched))
+          → IsAmong unit (if b then insert_unit (other, some) (units_open units touched) else units_open units touched)
+      by true is zero found later =
+          subst (λ (n : ℕ). IsAmong n (insert_unit (other, some) (units_open units touched))) (let e : Some other ≡ Some unit = found in cc) (among_inserted (other, some) (units_open units touched))
+      by true is (suc place) found later = among_still unit (other, some) (units_open units touched) (later place found)
+      by false is zero found later =
+          let e : Some other ≡ Some unit = found in
+          let equal : other ≡ unit = cc in
+          absurd (omega (arith, ltb-false 0 other is, equal, least))
+      by false is (suc place) found later = later place found
 
 -- ---- as a checkpoint takes them
 
@@ -142,24 +144,28 @@ is_open_in (u ∷ opens) number (suc place) unit found is =
     let more = is_open_in opens number place unit found is in
     record { place = suc more.place; unit = more.unit; found = more.found; is = more.is }
 
+-- a unit is that of the region at some place, and these are the slots that the region has touched
+record IsRegions (slots : SlotsState) (units : List ℕ) (unit : ℕ) (some : List Change) : Type 0 where
+  place : ℕ
+  found : slice_get units place ≡ Some unit
+  least : 0 < unit
+  is : some ≡ touched_in (suc place) slots
+
 -- Where each region's touched slots stand at its place, they are those of the regions.
 pub units_listed : (slots : SlotsState) (regions : List (Rattle.std.specs.Prelude.Option Slot)) (units : List ℕ) (next : ℕ) → AreNumbered regions units next → (touched : List (List Change)) → length touched ≡ length units
     → ((place : ℕ) (some : List Change) → slice_get touched place ≡ Some some → some ≡ touched_in (suc place) slots)
     → (opens : List OpenUnit) → map numbered opens ≡ units_open units touched → AreUnitsOf slots units opens
 units_listed slots regions units next n touched same keeps opens are = record { each = each_open opens good; all = all_open; ascending = opens_ascend opens (subst Ascends (sym are) (units_ascend units touched n.apart)) } where
-  record IsRegions (unit : ℕ) (some : List Change) : Type 0 where
-    place : ℕ
-    found : slice_get units place ≡ Some unit
-    least : 0 < unit
-    is : some ≡ touched_in (suc place) slots
+  good : AllByRecursion (λ (v : Numbered). IsRegions slots units v.0 v.1) (map numbered opens)
+  good = subst (λ (l : List Numbered). AllByRecursion (λ (v : Numbered). IsRegions slots units v.0 v.1) l) (sym are)
+      (each_good (IsRegions slots units) units touched (λ place unit some found there least. record { place = place; found = found; least = least; is = keeps place some there }))
 
-  good : AllByRecursion (λ (v : Numbered). IsRegions v.0 v.1) (map numbered opens)
-  good = subst (λ (l : List Numbered). AllByRecursion (λ (v : Numbered). IsRegions v.0 v.1) l) (sym are)
-      (each_good IsRegions units touched (λ place unit some found there least. record { place = place; found = found; least = least; is = keeps place some there }))
+  back : (place : ℕ) → suc place - 1 ≡ place
+  back place = omega arith
 
-  each_open : (opens : List OpenUnit) → AllByRecursion (λ (v : Numbered). IsRegions v.0 v.1) (map numbered opens) → AllByRecursion (IsUnitOf slots units) opens
+  each_open : (opens : List OpenUnit) → AllByRecursion (λ (v : Numbered). IsRegions slots units v.0 v.1) (map numbered opens) → AllByRecursion (IsUnitOf slots units) opens
   each_open [] all = all
-  each_open (u ∷ opens) all = (record { region = suc all.0.place; least = omega arith; found = all.0.found; some = all.0.least; keeps = all.0.is }, each_open opens all.1)
+  each_open (u ∷ opens) all = (record { region = suc all.0.place; least = omega arith; found = ap (λ k. slice_get units k) (back all.0.place) ∙ all.0.found; some = all.0.least; keeps = all.0.is }, each_open opens all.1)
 
   all_open : (place unit : ℕ) → slice_get units place ≡ Some unit → 0 < unit → IsOpen (map unit_kept opens) unit
   all_open place unit found least =
