@@ -152,7 +152,7 @@ unit_at [] k u found P all = absurd cc
 unit_at (o ∷ opens) zero u found P all = let same : unit_kept o ≡ u = cc in (o, same, all.0)
 unit_at (o ∷ opens) (suc k) u found P all = unit_at opens k u found P all.1
 
-none_marked : (changed : List (List ℕ)) (d s : ℕ) → is_marked (map (λ numbers. []) changed) d s ≡ false
+pub none_marked : (changed : List (List ℕ)) (d s : ℕ) → is_marked (map (λ numbers. []) changed) d s ≡ false
 none_marked changed d s = by changed (d - 1) where
   by : (some : List (List ℕ)) (k : ℕ) → list_any (λ n. n == s) (slice_index_or (map (λ (numbers : List ℕ). []) some) k []) ≡ false
   by [] k = refl

@@ -171,3 +171,28 @@ units_listed slots regions units next n touched same keeps opens are = record { 
   all_open place unit found least =
       let a = subst (λ (l : List Numbered). IsAmong unit l) (sym are) (all_among units touched same place unit found least) in
       is_open_in opens unit a.place a.unit a.found a.is
+
+-- ---- how many they are
+
+length_inserted : (unit : Numbered) (units : List Numbered) → length (insert_unit unit units) ≡ suc (length units)
+length_inserted unit [] = refl
+length_inserted unit (other ∷ units) = by (nat_lt unit.0 other.0) (length_inserted unit units) where
+  by : (b : Bool) → length (insert_unit unit units) ≡ suc (length units) → length (if b then unit ∷ other ∷ units else other ∷ insert_unit unit units) ≡ suc (suc (length units))
+  by true later = refl
+  by false later = ap (λ n. suc n) later
+
+few_open : (units : List ℕ) (touched : List (List Change)) → length (units_open units touched) ≤ length touched
+few_open [] touched = omega arith
+few_open (unit ∷ units) [] = omega arith
+few_open (unit ∷ units) (some ∷ touched) = by (nat_lt 0 unit) (few_open units touched) where
+  by : (b : Bool) → length (units_open units touched) ≤ length touched → length (if b then insert_unit (unit, some) (units_open units touched) else units_open units touched) ≤ suc (length touched)
+  by true later = omega (arith, length_inserted (unit, some) (units_open units touched), later)
+  by false later = omega (arith, later)
+
+same_many : (opens : List OpenUnit) → length (map numbered opens) ≡ length opens
+same_many [] = refl
+same_many (u ∷ opens) = ap (λ n. suc n) (same_many opens)
+
+-- No more units are open than there are regions.
+pub few_listed : (units : List ℕ) (touched : List (List Change)) (opens : List OpenUnit) → map numbered opens ≡ units_open units touched → length opens ≤ length touched
+few_listed units touched opens are = omega (arith, same_many opens, ap (λ (l : List Numbered). length l) are, few_open units touched)

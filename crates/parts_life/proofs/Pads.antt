@@ -4,8 +4,7 @@ use Rattle.std.specs.Prelude.{IfSome, IsSomeAnd, IsTrue, ◌==◌}
 use Rattle.std.specs.List.{list_all, AllByRecursion}
 use Rattle.std.specs.Option.{option_map_or}
 use Rattle.std.specs.Str.{bytes_eq}
-use Rattle.std.proofs.lemmas.Bool.{eq-eqb}
-use Rattle.std.proofs.lemmas.Bool.Decides.{nat_tests}
+use Rattle.std.proofs.lemmas.Bool.{eq-eqb, ne_eqb}
 use Rattle.std.proofs.lemmas.Slice.Eq.{bytes_eq-Decides}
 use Rattle.tm_types.specs.Segment.{is_printable}
 use Rattle.model_conversation.specs.declared.conversation.Conversation.{Conversation}
@@ -32,7 +31,7 @@ pad_of_size : (size : ℕ) (c : Conversation) → 1 ≤ size → length c.pad + 
 pad_of_size size c some is front prints =
     both (not (size == 0) && (length c.pad + 6 == size) && bytes_eq (take 8 c.pad) (code_field c.code)) (list_all states.is_printable (drop 8 c.pad))
     (both (not (size == 0) && (length c.pad + 6 == size)) (bytes_eq (take 8 c.pad) (code_field c.code))
-    (both (not (size == 0)) (length c.pad + 6 == size) (ap (λ b. not b) (grind (arith, nat_tests, some))) (eq-eqb (length c.pad + 6) size is))
+    (both (not (size == 0)) (length c.pad + 6 == size) (ap not (ne_eqb size 0 (λ e. omega (arith, e, some)))) (eq-eqb (length c.pad + 6) size is))
     ((bytes_eq-Decides (take 8 c.pad) (code_field c.code)).1 front))
     (all_dropped 8 c.pad prints)
 
