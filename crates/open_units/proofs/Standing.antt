@@ -1,5 +1,5 @@
 -- A unit stands at its place.
-use Rattle.std.proofs.Common.{◌≡◌, ℕ, zero, suc, Bool, true, false, List, [], ◌∷◌, ◌++◌, take, drop, refl, sym, ◌∙◌, ap}
+use Rattle.std.proofs.Common.{◌≡◌, ℕ, suc, Bool, true, false, List, [], ◌∷◌, ◌++◌, take, drop, refl, ◌∙◌, ap}
 use Rattle.std.specs.Prelude.{nat_lt, if◌then◌else◌, map}
 use Rattle.std.specs.List.{insert}
 use Rattle.snapshot_records.specs.declared.touches.OpenUnit.{OpenUnit}

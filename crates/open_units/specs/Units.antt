@@ -1,5 +1,5 @@
 -- The open units of regions, by their numbers.
-use Rattle.std.specs.Prelude.{ℕ, zero, suc, nat_lt, if◌then◌else◌, List, [], ◌∷◌, map}
+use Rattle.std.specs.Prelude.{ℕ, suc, nat_lt, if◌then◌else◌, List, [], ◌∷◌}
 use Rattle.unit_work.specs.declared.change.Change.{Change}
 use Rattle.snapshot_records.specs.declared.touches.OpenUnit.{OpenUnit}
 

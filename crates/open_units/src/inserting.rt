@@ -21,7 +21,7 @@ fn place_in(number: u64, units: &[OpenUnit<'_>]) -> usize
 /// Adds a unit to others that stand by their numbers.
 #[tactic(auto, using(crate::proofs::Standing::inserted))]
 pub fn insert<'a>(units: &mut Vec<OpenUnit<'a>>, unit: OpenUnit<'a>) -> Result<(), Memory>
-    ensures { OnOk result (map numbered units.new.items ≡ insert_unit (numbered unit) (map numbered units.old.items)) }
+    ensures { OnOk result (map numbered units.new.items ≡ insert_unit (numbered unit.entry) (map numbered units.old.items)) }
 {
     let place = place_in(unit.number, units);
     units.insert(place, unit)?;

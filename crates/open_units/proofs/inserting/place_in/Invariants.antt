@@ -4,4 +4,4 @@ use Rattle.open_units.specs.Units.{numbered, place_in}
 use Rattle.open_units.proofs.inserting.place_in.Given as goal
 
 abbrev pub invariant-loop-place : goal.invariant-loop-place
-invariant-loop-place l = l.place-index + place_in l.number (map numbered (drop l.place-index l.units)) ≡ place_in l.number (map numbered l.units)
+invariant-loop-place l = l.place + place_in l.number (map numbered (drop l.place l.units)) ≡ place_in l.number (map numbered l.units)
