@@ -55,4 +55,3 @@ returns-clause-rows c =
     (kept_units c.self.inside.opened (record { units = c.put_unit.new.units; stores = c.self.inside.opened.stores; table = c.release.new.table }) c.self.invariant.units c.args.region
     (has_unit c.self.inside.opened c.args.self.now c.args.region c.self.invariant.units c.self.view_is c.requires) units refl refl)
     c.release.ensures.table c.release.ensures.kept)
-
