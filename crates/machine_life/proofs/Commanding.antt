@@ -1,5 +1,5 @@
 -- A command is answered: the life takes the step of one that lasts, and else nothing happens.
-use Rattle.std.proofs.Common.{◌≡◌, ℕ, ◌≤◌, Bool, true, false, ◌||◌, List, [], ◌∷◌, find, map, Option, Some, None, Ok, Err, refl, sym, ◌∙◌, ap, subst, arith}
+use Rattle.std.proofs.Common.{◌≡◌, ℕ, ◌≤◌, Bool, true, false, ◌||◌, List, [], ◌∷◌, find, Option, Some, None, Ok, Err, refl, sym, ◌∙◌, ap, subst, arith}
 use Rattle.std.specs.Prelude.{if◌then◌else◌, IfSome}
 use Rattle.std.specs.List.{list_all, list_any, flat_map}
 use Rattle.std.specs.Option.{is_some, option_map, option_map_or}
@@ -19,7 +19,6 @@ use Rattle.model_queues.specs.declared.replies.TerminalReplies.{TerminalReplies}
 use Rattle.model_system.specs.Codes.{code_at}
 use Rattle.model_system.specs.System.{System}
 use Rattle.model_machine.specs.declared.entry.CommandRefused.TheVariants.{UnknownName}
-use Rattle.model_machine.specs.declared.entry.ControlCall.{ControlCall}
 use Rattle.model_machine.specs.declared.entry.ControlCall.TheVariants.{Command as CommandCall, Checkpoint as CheckpointCall}
 use Rattle.model_machine.specs.declared.lasting.TerminalState.{TerminalState}
 use Rattle.model_machine.specs.Commands.{CommandAnswer, all_dequeued, command_answer, command_step, exited, first_dequeued, lasting_command, of_code, of_terminal, steps_by}
@@ -29,7 +28,6 @@ use Rattle.model_machine.specs.Lasting.LastingStep.{Commands}
 use Rattle.model_machine.specs.Steps.{After, lasting_step}
 use Rattle.model_image.specs.Replay.{names_known}
 use Rattle.model_image.specs.States.{breaks_a_rule, has_right_pad, is_terminal}
-use Rattle.log_records.specs.declared.record.Record.{Record}
 use Rattle.log_records.specs.Spelling.{spelling}
 use Rattle.system_types.specs.Valid.{IsSystem}
 use Rattle.replay_law.specs.Sound.{Fits}

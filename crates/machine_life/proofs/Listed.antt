@@ -1,5 +1,5 @@
 -- Open units that are listed by their numbers, as `open_units` puts them together, are those of the regions.
-use Rattle.std.proofs.Common.{◌≡◌, ℕ, zero, suc, ◌+◌, ◌-◌, ◌<◌, ◌≤◌, Bool, true, false, nat_lt, List, [], ◌∷◌, length, refl, sym, ◌∙◌, ap, subst, arith, Some, None}
+use Rattle.std.proofs.Common.{◌≡◌, ℕ, zero, suc, ◌-◌, ◌<◌, ◌≤◌, Bool, true, false, nat_lt, List, [], ◌∷◌, length, refl, sym, ◌∙◌, ap, subst, arith, Some, None}
 use Rattle.std.specs.Prelude.{map, slice_get, if◌then◌else◌}
 use Rattle.std.specs.List.{AllByRecursion}
 use Rattle.std.proofs.lemmas.Bool.{ltb-true, ltb-false}
@@ -101,6 +101,7 @@ units_ascend (unit ∷ units) (some ∷ touched) apart =
       differs least place n some found there more same =
           let clash : 0 ≡ suc place = apart 0 (suc place) unit refl (found ∙ ap (λ (k : ℕ). Some k) same) least in
           cc
+
       by : (b : Bool) → nat_lt 0 unit ≡ b → Ascends (units_open units touched) → Ascends (if b then insert_unit (unit, some) (units_open units touched) else units_open units touched)
       by true is rest = insert_ascends (unit, some) (units_open units touched) (each_good (λ n some. n ≡ unit → ⊥) units touched (differs (ltb-true 0 unit is))) rest
       by false is rest = rest
@@ -138,8 +139,8 @@ is_open_in : (opens : List OpenUnit) (number place : ℕ) (unit : Numbered) → 
 is_open_in [] number place unit found is = absurd cc
 is_open_in (u ∷ opens) number zero unit found is =
     record { place = 0; unit = unit_kept u; found = refl; is = (let e : Some (numbered u) ≡ Some unit = found in first e) ∙ is } where
-  first : Some (numbered u) ≡ Some unit → u.number ≡ unit.0
-  first e = ap (λ (o : Rattle.std.specs.Prelude.Option Numbered). Rattle.std.specs.Option.option_map_or (λ (n : Numbered). n.0) o 0) e
+      first : Some (numbered u) ≡ Some unit → u.number ≡ unit.0
+      first e = ap (λ (o : Rattle.std.specs.Prelude.Option Numbered). Rattle.std.specs.Option.option_map_or (λ (n : Numbered). n.0) o 0) e
 is_open_in (u ∷ opens) number (suc place) unit found is =
     let more = is_open_in opens number place unit found is in
     record { place = suc more.place; unit = more.unit; found = more.found; is = more.is }
