@@ -8,3 +8,5 @@ pub mod Turns
 pub mod Ends
 pub mod Told
 pub mod OnSlots
+pub mod Commands
+pub mod Lookups

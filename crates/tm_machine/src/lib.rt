@@ -9,10 +9,12 @@ pub use model_machine::Turned;
 pub use parts::Parts;
 
 mod close;
+mod command;
 mod finish;
 mod flags;
 mod input;
 mod lookup;
+mod lookups;
 mod next;
 mod opening;
 mod output;
