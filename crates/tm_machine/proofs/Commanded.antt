@@ -233,14 +233,14 @@ module _ (system : System) (tables : TablesState) (states : List CodeState) (reg
   same_queues (DequeueAll terminal) = refl
   same_queues (Exit terminal) = refl
 
-  same_table : (command : LastingCommand) → (command_done command tables).databases.table ≡ tables.databases.table
-  same_table (StartTransaction code) = refl
-  same_table (StopTransaction code) = refl
-  same_table (StartTerminal terminal) = refl
-  same_table (StopTerminal terminal) = refl
-  same_table (DequeueFirst terminal) = refl
-  same_table (DequeueAll terminal) = refl
-  same_table (Exit terminal) = refl
+  pub same_databases : (command : LastingCommand) → (command_done command tables).databases ≡ tables.databases
+  same_databases (StartTransaction code) = refl
+  same_databases (StopTransaction code) = refl
+  same_databases (StartTerminal terminal) = refl
+  same_databases (StopTerminal terminal) = refl
+  same_databases (DequeueFirst terminal) = refl
+  same_databases (DequeueAll terminal) = refl
+  same_databases (Exit terminal) = refl
 
   module _ (command : LastingCommand) (free : EndsNoneBusy command (lasting_of (settings_of states) tables)) (tables' : TablesState) (states' : List CodeState)
       (done : tables' ≡ command_done command tables) (applies : AppliesCommand command tables tables') (set : states' ≡ states_set command states) where
@@ -255,7 +255,7 @@ module _ (system : System) (tables : TablesState) (states : List CodeState) (reg
       moment =
           moment_is system (applied (Commands command) (lasting_of (settings_of states) tables)) (slots_of regions) tables' states' states' regions tables.databases.table
           (followed_none system (λ name. free_count name tables'.queues.queued) (λ name. free_count name tables'.queues.queued) states' parts_commanded.settled (λ name. refl))
-          parts_commanded.told lasts refl (ap (λ t. t.databases.table) done ∙ same_table command)
+          parts_commanded.told lasts refl (ap (λ t. t.databases.table) done ∙ ap (λ d. d.table) (same_databases command))
           ∙ ap (λ f. moment_with system (applied (Commands command) (lasting_of (settings_of states) tables)) (slots_of regions) tables.databases.table f) (ap flags_of set ∙ flags_then command states);
       system = refl;
     }
