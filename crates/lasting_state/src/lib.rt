@@ -15,6 +15,7 @@ mod abend;
 mod commanding;
 mod conversing;
 mod databases;
+mod lending;
 mod limits;
 mod opening;
 mod sending;

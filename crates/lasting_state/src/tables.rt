@@ -103,21 +103,6 @@ impl Tables {
         self.queues.content() + self.outputs.content()
     }
 
-    /// What lasts of the terminal at this place.
-    pub fn terminal(&self, place: usize) -> &TerminalState
-        requires { place < length self.now.terminals }
-        ensures { slice_get self.now.terminals place ≡ Some result.now }
-    {
-        &self.terminals[place]
-    }
-
-    /// The replies of the terminals.
-    pub fn outputs(&self) -> &Outputs
-        ensures { result.now ≡ self.now.outputs }
-    {
-        &self.outputs
-    }
-
     /// Whether the terminal at a place is stopped.
     pub fn is_stopped(&self, place: usize) -> bool
         requires { place < length self.now.terminals }

@@ -10,3 +10,4 @@ pub mod Told
 pub mod OnSlots
 pub mod Commands
 pub mod Lookups
+pub mod Opening

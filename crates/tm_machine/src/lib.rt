@@ -13,6 +13,7 @@ mod command;
 mod finish;
 mod flags;
 mod input;
+mod lending;
 mod lookup;
 mod lookups;
 mod next;

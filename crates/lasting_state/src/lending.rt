@@ -1,0 +1,37 @@
+//! What lasts, lent.
+ghost use Rattle.std.specs.Prelude.{◌≡◌, ◌<◌, Some, length, slice_get};
+
+use crate::tables::Tables;
+use model_machine::TerminalState;
+use out_queues::Outputs;
+
+impl Tables {
+    /// The id of the next message.
+    pub fn next_id(&self) -> u64
+        ensures { result ≡ self.now.next_id }
+    {
+        self.next_id
+    }
+
+    /// The terminals, in the order of the definition.
+    pub fn terminals(&self) -> &[TerminalState]
+        ensures { result.now ≡ self.now.terminals }
+    {
+        self.terminals.as_slice()
+    }
+
+    /// What lasts of the terminal at this place.
+    pub fn terminal(&self, place: usize) -> &TerminalState
+        requires { place < length self.now.terminals }
+        ensures { slice_get self.now.terminals place ≡ Some result.now }
+    {
+        &self.terminals[place]
+    }
+
+    /// The replies of each terminal.
+    pub fn outputs(&self) -> &Outputs
+        ensures { result.now ≡ self.now.outputs }
+    {
+        &self.outputs
+    }
+}
