@@ -35,7 +35,7 @@ use Rattle.tm_machine.proofs.Asked.{length_map}
 use Rattle.tm_machine.proofs.Conversing.{all_both, all_found, all_map, all_with, belongs_still, names_stay, no_both, other_terminal}
 use Rattle.tm_machine.proofs.Joining.{none_conversing}
 use Rattle.tm_machine.proofs.Leaving.{moment_is}
-use Rattle.tm_machine.proofs.Linked.{message_found}
+use Rattle.model_queues.proofs.Laws.{message_found}
 use Rattle.tm_machine.proofs.Raising.{followed_none}
 
 -- ---- lists of which one element changes
@@ -77,7 +77,7 @@ map_changed {X} {Y} f change other same xs (Some place) = at xs place where
 
 length_kept : {X : Type 0} (change : X → X) (xs : List X) (place : Option ℕ) → length (change_at xs place change) ≡ length xs
 length_kept change xs place =
-    sym (length_map (λ _. 0) (change_at xs place change)) ∙ ap length (map_kept (λ _. 0) change (λ x. refl) xs place) ∙ length_map (λ _. 0) xs
+    sym (length_map {Y = ℕ} (λ _. 0) (change_at xs place change)) ∙ ap length (map_kept {Y = ℕ} (λ _. 0) change (λ x. refl) xs place) ∙ length_map {Y = ℕ} (λ _. 0) xs
 
 prefix_of : {X Y : Type 0} (q : Y → Bool) (f : X → Y) (xs : List X) → prefix_len q (map f xs) ≡ prefix_len (λ x. q (f x)) xs
 prefix_of q f [] = refl
@@ -136,7 +136,7 @@ module _ (system : System) (conversations : List TerminalConversation) (ms : Lis
   apart : AllByRecursion (λ n. is_conversing terminal n ≡ false) ms
   apart = none_conversing terminal ms (none_found (find (is_conversing terminal) ms) free)
 
-  made : Message → Option Conversation → Given
+  abbrev made : Message → Option Conversation → Given
   made n c = record { message = n; conversation = c }
 
   given_same : (n : Message) → is_conversing terminal n ≡ false → given_in (conversing terminal None conversations) n ≡ given_in conversations n
@@ -178,7 +178,7 @@ module _ (system : System) (tables : TablesState) (states : List CodeState) (reg
   moment_by t ss = record { lasting = lasting_of (settings_of ss) t; slots = slots_of regions; enqueues = t.databases.table; raised = flags_of ss }
 
   abbrev state_by : TablesState → List CodeState → PartsState
-  state_by t ss = record { system = system; moment = moment_by t ss }
+  state_by t ss = record { system = system; moment = moment_by t ss; databases = t.databases }
 
   -- a change of terminals, replies or the count alone
   tables_then : (t : TablesState) (ss : List CodeState) → t.databases ≡ tables.databases → t.queues ≡ tables.queues → map (λ n. n.name) t.terminals ≡ map (λ n. n.name) tables.terminals → t.conversations ≡ tables.conversations

@@ -1,5 +1,5 @@
 //! What an operator is shown is looked up here.
-ghost use Rattle.std.specs.Prelude.{◌≡◌, length};
+ghost use Rattle.std.specs.Prelude.{◌≡◌, ◌<◌, Some, length, slice_get};
 ghost use Rattle.std.specs.Option.{option_copied, option_map};
 ghost use Rattle.conversation.specs.Refusals.{input_answer as conversation_answer};
 ghost use Rattle.model_conversation.specs.Input.{busy_id};
@@ -26,7 +26,7 @@ impl Parts {
         let Some(place) = self.system.code_place(code) else {
             return None;
         };
-        Some(&self.codes.states()[place])
+        Some(state_at(self.codes.states(), place))
     }
 
     /// How many messages of a code no region has.
@@ -92,6 +92,13 @@ impl Parts {
     {
         self.tables.databases().table().by(region)
     }
+}
+
+fn state_at(states: &[CodeState], place: usize) -> &CodeState
+    requires { place < length states.now }
+    ensures { slice_get states.now place ≡ Some result.now }
+{
+    &states[place]
 }
 
 fn message_in(busy: &Option<BusyRegion>) -> Option<(Name, u64)>

@@ -5,8 +5,8 @@ use Rattle.tm_machine.proofs.Commanded.{parts_commanded, commanded_is, same_data
 use Rattle.lasting_state.proofs.Told.{err_where}
 use Rattle.tm_machine.proofs.parts.Parts.do_command.Goals as goal
 
-pub invariant_of-self : goal.invariant_of-self
-invariant_of-self c =
+pub invariant_of-self-2 : goal.invariant_of-self-2
+invariant_of-self-2 c =
     let free = subst (λ (p : PartsState). EndsNoneBusy c.args.command.now p.moment.lasting) (sym c.self.view_is) c.requires in
     parts_commanded c.self.inside.system c.self.inside.tables c.self.inside.codes c.self.inside.regions.items c.self.invariant c.args.command.now free
     c.command.new.tables c.in-Ok.codes c.in_ok-command.ensures.done c.in_ok-command.ensures.applies c.in-Ok.ensures
@@ -32,4 +32,4 @@ returns-clause-databases c =
 
 pub returns-in_err-command-clause-full : goal.returns-in_err-command-clause-full
 returns-in_err-command-clause-full c =
-    rw (sym c.self.view_is) (err_where c.from_residual.result (λ h. h (settings_of c.self.inside.codes)) (search rules))
+    err_where c.from_residual.result (λ h. h (settings_of c.self.inside.codes)) (search rules)
