@@ -18,7 +18,7 @@ exited_none name None busy e = refl
 exited_none name (Some c) None e = cc
 exited_none name (Some c) (Some id) e = cc
 
-id_in : Result (Option (List ℕ)) BusyMessage → ℕ
+abbrev id_in : Result (Option (List ℕ)) BusyMessage → ℕ
 id_in (Err busy) = busy.id
 id_in (Ok code) = 0
 

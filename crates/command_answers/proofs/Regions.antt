@@ -80,13 +80,13 @@ busy_at region [] place slot h e = absurd (omega (arith, h))
 busy_at region (s ∷ slots) zero slot h e = ap (λ o. first_busy region (o ∷ slots)) e
 busy_at region (s ∷ slots) (suc place) slot h e = busy_at region slots place slot (omega (arith, h)) e
 
-pub busy_found : (slots : List (Option Slot)) (place : ℕ) (code : List ℕ) (id : ℕ) → place < length slots → Some (code, id) ≡ message_of (slot_in slots (place + 1))
-    → Some (place + 1, id) ≡ first_busy (place + 1) (drop place slots)
-busy_found slots place code id h e = by (slot_in slots (place + 1)) refl e where
-  by : (slot : Option Slot) → slot_in slots (place + 1) ≡ slot → Some (code, id) ≡ message_of slot → Some (place + 1, id) ≡ first_busy (place + 1) (drop place slots)
+pub busy_found : (slots : List (Option Slot)) (place : ℕ) (work : List ℕ × ℕ) → place < length slots → Some work ≡ message_of (slot_in slots (place + 1))
+    → Some (place + 1, work.1) ≡ first_busy (place + 1) (drop place slots)
+busy_found slots place work h e = by (slot_in slots (place + 1)) refl e where
+  by : (slot : Option Slot) → slot_in slots (place + 1) ≡ slot → Some work ≡ message_of slot → Some (place + 1, work.1) ≡ first_busy (place + 1) (drop place slots)
   by None is f = cc
   by (Some s) is f =
-      let same = taken (code, id) (s.code, s.id) f in
+      let same = taken work (s.code, s.id) f in
       ap (λ n. Some (place + 1, n)) (ap (λ x. x.1) same)
       ∙ sym (busy_at (place + 1) slots place (Some s) h (sym (slot_from slots place) ∙ is))
 

@@ -66,7 +66,14 @@ fn wait_on(databases: &[Dbd], code: Name, id: u64, resource: &Resource, by: u32)
     wait_for(databases, place as usize, code, id, resource, by)
 }
 
-fn wait_for(databases: &[Dbd], place: usize, code: Name, id: u64, resource: &Resource, by: u32) -> RegionWork
+fn wait_for(
+    databases: &[Dbd],
+    place: usize,
+    code: Name,
+    id: u64,
+    resource: &Resource,
+    by: u32,
+) -> RegionWork
     requires { place ≡ resource.now.db - 1 }
     ensures { result ≡ wait_on databases.now code id resource.now by }
 {

@@ -9,8 +9,8 @@ pub fn busy_region(parts: &Parts) -> Option<(u32, u64)>
     ensures { result ≡ first_busy 1 parts.now.moment.slots }
 {
     for place in 0..parts.region_count() {
-        if let Some((_code, id)) = parts.work(place + 1) {
-            return Some((place + 1, id));
+        if let Some(work) = parts.work(place + 1) {
+            return Some((place + 1, work.1));
         }
     }
     None
