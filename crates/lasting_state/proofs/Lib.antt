@@ -4,3 +4,4 @@ pub mod Sent
 pub mod Finished
 mod Fresh
 pub mod Told
+pub mod Commanded

@@ -4,3 +4,4 @@ pub mod Telling
 pub mod Lending
 pub mod Showing
 pub mod Kept
+pub mod Commands

@@ -1,5 +1,5 @@
 //! What lasts, lent.
-ghost use Rattle.std.specs.Prelude.{◌≡◌};
+ghost use Rattle.std.specs.Prelude.{◌≡◌, ◌<◌, Some, length, slice_get};
 
 use crate::tables::Tables;
 use model_machine::TerminalState;
@@ -18,6 +18,14 @@ impl Tables {
         ensures { result.now ≡ self.now.terminals }
     {
         self.terminals.as_slice()
+    }
+
+    /// What lasts of the terminal at this place.
+    pub fn terminal(&self, place: usize) -> &TerminalState
+        requires { place < length self.now.terminals }
+        ensures { slice_get self.now.terminals place ≡ Some result.now }
+    {
+        &self.terminals[place]
     }
 
     /// The replies of each terminal.

@@ -1,6 +1,6 @@
 //! What lasts of a control region: databases, messages, replies, conversations, and the numbers of inputs and steps.
 //!
-//! `Tables` does the four steps that last, each as `specs/Lasting.antt` of model_machine says by
+//! `Tables` does the steps that last, each as `specs/Lasting.antt` of model_machine says by
 //! `applied`; it keeps beside what lasts the changes of the work on one message, and which region has
 //! a message. After want of memory nothing has changed.
 #![tactic(auto)]
@@ -12,6 +12,7 @@ pub use shown::Shown;
 pub use tables::{Enqueued, Tables, empty_lasting};
 
 mod abend;
+mod commanding;
 mod conversing;
 mod databases;
 mod lending;

@@ -121,7 +121,7 @@ pub record Joined (system : System) (before after : List TerminalConversation) (
   pub given : AllByRecursion (λ n. given_in after n ≡ given_in before n) ms
   pub are : AreConversations system after (ms ++ new ∷ [])
 
-none_conversing : (terminal : List ℕ) (ms : List Message) → find (is_conversing terminal) ms ≡ None → AllByRecursion (λ n. is_conversing terminal n ≡ false) ms
+pub none_conversing : (terminal : List ℕ) (ms : List Message) → find (is_conversing terminal) ms ≡ None → AllByRecursion (λ n. is_conversing terminal n ≡ false) ms
 none_conversing terminal [] e = tt
 none_conversing terminal (m ∷ ms) e = by (is_conversing terminal m) refl e (none_conversing terminal ms)
   where

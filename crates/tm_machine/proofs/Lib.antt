@@ -19,6 +19,7 @@ mod Started
 mod Asked
 pub mod ShownTo
 mod Roomed
+mod Commanded
 mod Finished
 mod Giving
 mod Breaking

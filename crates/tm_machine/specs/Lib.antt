@@ -8,4 +8,6 @@ pub mod Turns
 pub mod Ends
 pub mod Told
 pub mod OnSlots
+pub mod Commands
+pub mod Lookups
 pub mod Opening

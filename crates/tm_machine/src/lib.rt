@@ -9,11 +9,13 @@ pub use model_machine::Turned;
 pub use parts::Parts;
 
 mod close;
+mod command;
 mod finish;
 mod flags;
 mod input;
 mod lending;
 mod lookup;
+mod lookups;
 mod next;
 mod opening;
 mod output;

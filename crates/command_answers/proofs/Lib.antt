@@ -1,0 +1,4 @@
+pub mod Dequeued
+pub mod Ended
+pub mod Regions
+pub mod Performed

@@ -1,0 +1,84 @@
+//! Commands of an operator that last.
+ghost use Rattle.std.specs.Prelude.{◌≡◌, ◌<◌, ◌^◌, IfErr, IfOk, OnErr, OnOk};
+ghost use Rattle.model_machine.specs.Lasting.LastingStep.{Commands};
+ghost use Rattle.step_telling.specs.Untold.{WhereFull};
+ghost use Rattle.lasting_state.specs.Commands.{AppliesCommand, command_done, commanded};
+ghost use Rattle.lasting_state.specs.Telling.{AreBytesOf, IsLonger, Tells};
+
+use crate::conversing::change_pad;
+use crate::limits::COUNT_LIMIT;
+use crate::tables::Tables;
+use command_changes::{dequeue_all, dequeue_first, stop_terminal};
+use log_records::Untold;
+use model_conversation::PadChange;
+use std::alloc::Global;
+use step_telling::{command_bytes, tell};
+use tm_types::{LastingCommand, Memory};
+
+impl Tables {
+    /// Does a command: it changes these tables, and what it changes in the settings of the codes is the caller's to do. Its
+    /// record, of at most so many bytes, is appended. A refusal changes nothing; `Memory` is answered too where the count of
+    /// steps would pass its limit.
+    pub fn command(
+        &mut self,
+        alloc: Global,
+        command: &LastingCommand,
+        room: usize,
+        told: &mut Vec<u8>,
+    ) -> Result<(), Untold>
+        ensures done { OnOk result (self.new ≡ command_done command.now self.old) }
+        ensures applies { OnOk result (AppliesCommand command.now self.old self.new) }
+        ensures told { OnOk result (Tells 0 room (Commands command.now) self.old told.old.items told.new.items) }
+        ensures err { OnErr result (self.new ≡ self.old) }
+        ensures untold { OnErr result (told.new.items ≡ told.old.items) }
+        ensures full { IfErr result (WhereFull (IsLonger 0 room (Commands command.now) self.old)) }
+    {
+        if self.steps >= COUNT_LIMIT {
+            return Err(Untold::Memory);
+        }
+        let Ok(spelled) = self.command_record(alloc, command) else {
+            return Err(Untold::Memory);
+        };
+        tell(told, &spelled, room)?;
+        self.do_command(command);
+        Ok(())
+    }
+
+    /// The record of a command, spelled.
+    fn command_record(&self, alloc: Global, command: &LastingCommand) -> Result<Vec<u8>, Memory>
+        ensures { IfOk result (λ bytes. AreBytesOf 0 (Commands command.now) self.now bytes.items) }
+    {
+        let _ = &self.steps;
+        let bytes = command_bytes(alloc, command)?;
+        Ok(bytes)
+    }
+
+    fn do_command(&mut self, command: &LastingCommand)
+        requires { self.old.steps < 2 ^ 62 }
+        ensures { self.new ≡ command_done command.now self.old }
+    {
+        self.change(command);
+        self.steps += 1;
+    }
+
+    // What the command changes but for the count of steps.
+    fn change(&mut self, command: &LastingCommand)
+        ensures { self.new ≡ commanded command.now self.old }
+    {
+        match command {
+            LastingCommand::StartTransaction(_) => {}
+            LastingCommand::StopTransaction(_) => {}
+            LastingCommand::StartTerminal(terminal) => {
+                stop_terminal(&mut self.terminals, terminal, false);
+            }
+            LastingCommand::StopTerminal(terminal) => {
+                stop_terminal(&mut self.terminals, terminal, true);
+            }
+            LastingCommand::DequeueFirst(terminal) => dequeue_first(&mut self.outputs, terminal),
+            LastingCommand::DequeueAll(terminal) => dequeue_all(&mut self.outputs, terminal),
+            LastingCommand::Exit(terminal) => {
+                change_pad(&mut self.conversations, terminal, PadChange::Ends);
+            }
+        }
+    }
+}
