@@ -3,5 +3,5 @@ use Rattle.memory_control.proofs.control.Control.start.Goals as goal
 
 pub invariant_of-result : goal.invariant_of-result
 invariant_of-result c =
-    IsControl-start c.args.system c.in_ok-parts.parts c.in_ok-opening.opening c.new-2.result.items
-    c.in_ok-parts.ensures.system c.in_ok-parts.ensures.moment c.in_ok-opening.ensures c.new-2.ensures.items
+    IsControl-start c.args.system c.in-Ok.parts c.in_ok-opening.opening c.new-2.result.items
+    c.in-Ok.ensures.system c.in-Ok.ensures.moment c.in_ok-opening.ensures c.new-2.ensures.items
