@@ -1,7 +1,7 @@
 //! `tm_restart`: what a cold start writes, in which order, and what a stop at one of its writes leaves.
-use crate::images::plain;
-use crate::small_system::{DATA, LOG_A, SECTORS, SNAPSHOT_A, TEXT, TEXT_AT, small_system};
-use crate::spelled::{got, has, joined, put, snapshot_sector};
+use small_images::images::plain;
+use small_images::small_system::{DATA, LOG_A, SECTORS, SNAPSHOT_A, TEXT, TEXT_AT, small_system};
+use small_images::spelled::{got, has, joined, put, snapshot_sector};
 use std::alloc::Global;
 use std::test::Fail;
 use system_types::System;
@@ -122,6 +122,20 @@ fn a_cold_start_wants_its_sectors(rt: HostRuntime) -> Result<(), Fail> {
         assert_eq!(rt; is_first(alloc, &mut disk)?, true);
         assert_eq!(rt; are(&mut disk, SECTORS, sectors, b'x')?, true);
     }
+    Ok(())
+}
+
+#[test]
+fn other_sectors_stay(rt: HostRuntime) -> Result<(), Fail> {
+    let alloc = rt.alloc();
+    let system = small_system(alloc)?;
+    let mut disk = dirty(alloc, SECTORS)?;
+    let is_begun = begun(alloc, &mut disk, &system)?.is_ok();
+    assert_eq!(rt; is_begun, true);
+    disk.cut(0);
+    assert_eq!(rt; is_first(alloc, &mut disk)?, true);
+    assert_eq!(rt; are(&mut disk, TEXT_AT + 1, SNAPSHOT_A, b'x')?, true);
+    assert_eq!(rt; are(&mut disk, SNAPSHOT_A + 1, LOG_A, b'x')?, true);
     Ok(())
 }
 
