@@ -5,12 +5,11 @@ use small_images::images::{
 };
 use small_images::small_system::{LOG_A, SNAPSHOT_B, TEXT, small_system};
 use small_images::spelled::{got, joined, log_sector, poke, put};
-use small_lives::lives::recovered;
+use small_lives::lives::{Refused, recovered};
 use std::alloc::Global;
 use std::test::Fail;
 use system_types::System;
 use tm_disk::{Disk, MemDisk, SECTOR_BYTES};
-use tm_restart::{Counter, OpenError};
 
 // T1 with the next output 3; T2 with the next output 2, in a conversation.
 const FIRST: &[u8] = b"\0\x1b\x40\x01\x02T1\0\0\0\0\0\0\0\x02\0\0\0\0\0\0\0\x03\0\0\0\0";
@@ -59,38 +58,19 @@ fn hostile(alloc: Global) -> Result<MemDisk, Fail> {
     Ok(disk)
 }
 
-// The place of a counter among all.
-fn place_of(counter: Counter) -> u8 {
-    match counter {
-        Counter::Epoch => 0,
-        Counter::Sequence => 1,
-        Counter::Checkpoint => 2,
-        Counter::NextId => 3,
-        Counter::NextUnit => 4,
-        Counter::Steps => 5,
-        Counter::NextOutput(name) => {
-            if name.as_bytes() == b"T1".as_slice() {
-                6
-            } else {
-                7
-            }
-        }
-    }
-}
-
 // What an opening of the disk answers.
 fn answer(alloc: Global, disk: &mut MemDisk, system: &System) -> Result<Answer, Fail> {
     match recovered(alloc, disk, system, TEXT, 0)? {
-        Ok((parts, _)) => Ok(Answer::Opens([
-            parts.now.epoch,
-            parts.now.sequence,
-            parts.next_id,
-            parts.next_unit,
-            parts.steps,
+        Ok((begun, _)) => Ok(Answer::Opens([
+            begun.now.epoch,
+            begun.now.sequence,
+            begun.next_id,
+            begun.next_unit,
+            begun.steps,
         ])),
-        Err(OpenError::BadImage(rule, sector)) => Ok(Answer::Bad(rule, sector)),
-        Err(OpenError::WrongDefinition(place)) => Ok(Answer::Differs(place as u64)),
-        Err(OpenError::Spent(counter)) => Ok(Answer::Spent(place_of(counter))),
+        Err(Refused::Bad(rule, sector)) => Ok(Answer::Bad(rule, sector)),
+        Err(Refused::Differs(place)) => Ok(Answer::Differs(place as u64)),
+        Err(Refused::Spent(counter)) => Ok(Answer::Spent(counter)),
         Err(_) => Err("no answer of an image".into()),
     }
 }

@@ -8,14 +8,10 @@ use small_images::small_system::{DATA, LOG_A, LOG_B, SECTORS, SNAPSHOT_A, TEXT};
 use small_images::spelled::{
     data_sector, got, has, joined, log_sector, poke, put, record, snapshot_sector,
 };
-use small_lives::lives::{life, lines, recovered, told_with};
+use small_lives::lives::{Refused, life, lines, opened, refusal, told_with};
 use std::alloc::Global;
 use std::test::Fail;
-use sysdef_check::check;
-use sysdef_text::read_definition;
-use system_types::System;
 use tm_disk::{Disk, MemDisk, SECTOR_BYTES, Sector};
-use tm_restart::OpenError;
 
 // T2 with the last input 1 and a conversation, and message 4, which is of it.
 const TALKING: &[u8] =
@@ -175,7 +171,7 @@ const DOINGS: [(&[&[u8]], [&[u8]; 7]); 11] = [
     ),
 ];
 
-// The lines of these parts.
+// The lines of these begun.
 fn told(alloc: Global, parts: [&[u8]; 7]) -> Result<Vec<u8>, Fail> {
     let [first, one, two, third, fourth, fifth, row] = parts;
     joined(
@@ -258,7 +254,7 @@ fn two_units_on_one_slot(rt: HostRuntime) -> Result<(), Fail> {
             let mut disk = two_units(alloc, first, second)?;
             poke(&mut disk, LOG_B + 1, place, byte)?;
             disk.sync()?;
-            let (parts, told) = life(alloc, &mut disk, 0)?;
+            let (begun, told) = life(alloc, &mut disk, 0)?;
             let is_whole = byte == 4;
             let (steps, account) = if is_whole { whole } else { torn };
             let expected = told_with(alloc, steps, account)?;
@@ -268,7 +264,7 @@ fn two_units_on_one_slot(rt: HostRuntime) -> Result<(), Fail> {
                 "{first} {second} {place}"
             );
             let counters = if is_whole { (11, 13) } else { (10, 12) };
-            assert_eq!(rt; (parts.next_unit, parts.now.sequence), counters);
+            assert_eq!(rt; (begun.next_unit, begun.now.sequence), counters);
             // The slot is written.
             let spelled = data_sector(alloc, account)?;
             assert_eq!(rt; got(&mut disk, DATA)? == spelled, true);
@@ -348,7 +344,7 @@ fn a_chain_that_fills_its_area(rt: HostRuntime) -> Result<(), Fail> {
         put(&mut disk, LOG_B + place, &spelled)?;
     }
     disk.sync()?;
-    let (parts, told) = life(alloc, &mut disk, 0)?;
+    let (begun, told) = life(alloc, &mut disk, 0)?;
     let front = b"NEXT 69 STEPS 70 \nT1 2 2 \nOUT 1 HI\nT2 64 1 \n";
     assert_eq!(rt; told.starts_with(front), true);
     assert_eq!(rt;
@@ -356,7 +352,7 @@ fn a_chain_that_fills_its_area(rt: HostRuntime) -> Result<(), Fail> {
         true
     );
     assert_eq!(rt;
-        (parts.now.sequence, parts.next_id, parts.steps),
+        (begun.now.sequence, begun.next_id, begun.steps),
         (75, 69, 70)
     );
     Ok(())
@@ -379,8 +375,8 @@ fn a_chain_that_is_broken_off(rt: HostRuntime) -> Result<(), Fail> {
             };
             put(&mut disk, LOG_B.saturating_add(place), &other)?;
             disk.sync()?;
-            let (parts, _) = life(alloc, &mut disk, 0)?;
-            let counts = (parts.steps, parts.next_id, parts.now.sequence);
+            let (begun, _) = life(alloc, &mut disk, 0)?;
+            let counts = (begun.steps, begun.next_id, begun.now.sequence);
             let next_id = steps.saturating_sub(1);
             assert_eq!(rt;
                 counts,
@@ -434,7 +430,7 @@ fn is_renewed(alloc: Global, disk: &mut MemDisk) -> Result<bool, Fail> {
 fn a_recovery_of_a_recovery(rt: HostRuntime) -> Result<(), Fail> {
     let alloc = rt.alloc();
     let mut disk = two_units(alloc, true, false)?;
-    let (parts, first) = life(alloc, &mut disk, 0)?;
+    let (begun, first) = life(alloc, &mut disk, 0)?;
     let now = RestartSector {
         epoch: 5,
         snapshot: 0,
@@ -444,15 +440,15 @@ fn a_recovery_of_a_recovery(rt: HostRuntime) -> Result<(), Fail> {
         checkpoint: 4,
         text: u32::try_from(TEXT.len()).ok().ok_or("too long")?,
     };
-    assert_eq!(rt; parts.now, now);
-    assert_eq!(rt; (parts.next_id, parts.next_unit, parts.steps), (5, 11, 7));
+    assert_eq!(rt; begun.now, now);
+    assert_eq!(rt; (begun.next_id, begun.next_unit, begun.steps), (5, 11, 7));
     disk.cut(0);
     assert_eq!(rt; is_renewed(alloc, &mut disk)?, true);
     for epoch in 6..9u64 {
-        let (parts, told) = life(alloc, &mut disk, epoch)?;
+        let (begun, told) = life(alloc, &mut disk, epoch)?;
         assert_eq!(rt; told.as_slice(), first.as_slice());
-        assert_eq!(rt; parts.now.epoch, epoch);
-        assert_eq!(rt; (parts.now.sequence, parts.next_unit), (13, 11));
+        assert_eq!(rt; begun.now.epoch, epoch);
+        assert_eq!(rt; (begun.now.sequence, begun.next_unit), (13, 11));
     }
     Ok(())
 }
@@ -494,13 +490,12 @@ END
 ";
 
 // Begins a blank disk of that system cold, and puts these records into its log.
-fn begun(alloc: Global, system: &System, log: &[u8]) -> Result<MemDisk, Fail> {
+fn begun(alloc: Global, log: &[u8]) -> Result<MemDisk, Fail> {
     let mut disk = MemDisk::new(alloc, SECTORS + 2, Vec::new(alloc))?;
-    if recovered(alloc, &mut disk, system, TWO, 0)?.is_err() {
+    if refusal(alloc, &mut disk, TWO, TWO)?.is_some() {
         return Err("refused".into());
     }
     put(&mut disk, LOG_A, &log_sector(alloc, 1, 1, log)?)?;
-    disk.sync()?;
     Ok(disk)
 }
 
@@ -508,7 +503,6 @@ fn begun(alloc: Global, system: &System, log: &[u8]) -> Result<MemDisk, Fail> {
 #[test]
 fn two_databases(rt: HostRuntime) -> Result<(), Fail> {
     let alloc = rt.alloc();
-    let system = check(alloc, read_definition(alloc, TWO)?)?;
     let log = joined(
         alloc,
         &[
@@ -517,14 +511,14 @@ fn two_databases(rt: HostRuntime) -> Result<(), Fail> {
             &sync_point(alloc, 1)?,
         ],
     )?;
-    let mut disk = begun(alloc, &system, &log)?;
+    let mut disk = begun(alloc, &log)?;
     let expected = b"NEXT 1 STEPS 1 \nT1 0 1 \nROW 000700001000\nROW 0007AAAA\n";
     for epoch in 2..4u64 {
-        let Ok((parts, lines)) = recovered(alloc, &mut disk, &system, TWO, 0)? else {
+        let Ok((begun, lines)) = opened(alloc, &mut disk, TWO, TWO)? else {
             return Err("refused".into());
         };
         assert_eq!(rt; lines.as_slice(), expected.as_slice());
-        assert_eq!(rt; (parts.now.epoch, parts.next_unit), (epoch, 2));
+        assert_eq!(rt; (begun.now.epoch, begun.next_unit), (epoch, 2));
     }
     let second = data_sector(alloc, b"\x010007AAAA")?;
     assert_eq!(rt; got(&mut disk, DATA + 3)? == second, true);
@@ -532,12 +526,8 @@ fn two_databases(rt: HostRuntime) -> Result<(), Fail> {
     poke(&mut disk, DATA, 1, 1)?;
     poke(&mut disk, DATA + 2, 4095, 1)?;
     for (rule, sector) in [(20, DATA + 2), (21, DATA)] {
-        disk.sync()?;
-        let found = match recovered(alloc, &mut disk, &system, TWO, 0)? {
-            Err(OpenError::BadImage(rule, sector)) => (rule, sector),
-            _ => (0, 0),
-        };
-        assert_eq!(rt; found, (rule, sector));
+        let found = refusal(alloc, &mut disk, TWO, TWO)?;
+        assert_eq!(rt; found, Some(Refused::Bad(rule, sector)));
         poke(&mut disk, DATA + 2, 4095, 0)?;
     }
     Ok(())

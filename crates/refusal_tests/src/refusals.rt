@@ -1,15 +1,11 @@
 //! Refusals besides broken rules: another text, a disk that is too small, and a counter that is spent.
 use small_images::images::plain;
-use small_images::small_system::{LOG_A, LOG_B, SECTORS, SNAPSHOT_B, TEXT, TEXT_AT, small_system};
+use small_images::small_system::{LOG_A, LOG_B, SECTORS, SNAPSHOT_B, TEXT, TEXT_AT};
 use small_images::spelled::{got, joined, log_sector, poke, put, sector};
-use small_lives::lives::{fault, life, recovered, refusal};
+use small_lives::lives::{Refused, fault, life, refusal};
 use std::alloc::Global;
 use std::test::Fail;
-use sysdef_check::check;
-use sysdef_text::read_definition;
-use tm_disk::{Disk, MemDisk, SECTOR_BYTES, Sector};
-use tm_restart::{Counter, OpenError};
-use tm_types::Name;
+use tm_disk::{MemDisk, SECTOR_BYTES, Sector};
 
 // Comments of 80 bytes before the definition, so that it goes on in the second sector.
 fn long_text(alloc: Global) -> Result<Vec<u8>, Fail> {
@@ -50,12 +46,10 @@ fn put_bytes(disk: &mut MemDisk, at: u32, place: usize, bytes: &[u8]) -> Result<
 
 // The first place that differs, where the image is refused for it; nothing where it recovers.
 fn difference(alloc: Global, disk: &mut MemDisk, text: &[u8]) -> Result<Option<u32>, Fail> {
-    let system = small_system(alloc)?;
-    disk.sync()?;
-    match recovered(alloc, disk, &system, text, 0)? {
-        Ok(_) => Ok(None),
-        Err(OpenError::WrongDefinition(place)) => Ok(Some(place)),
-        Err(_) => Err("refused".into()),
+    match refusal(alloc, disk, TEXT, text)? {
+        None => Ok(None),
+        Some(Refused::Differs(place)) => Ok(Some(place)),
+        Some(_) => Err("refused".into()),
     }
 }
 
@@ -91,15 +85,15 @@ fn the_order_of_refusals(rt: HostRuntime) -> Result<(), Fail> {
     let shorter = TEXT.get(..20).ok_or("a short text")?;
     let mut disk = plain(alloc)?;
     poke(&mut disk, SNAPSHOT_B, 0, 0)?;
-    let refused = refusal(alloc, &mut disk, shorter)?;
-    assert!(rt; matches!(refused, OpenError::WrongDefinition(20)));
+    let refused = refusal(alloc, &mut disk, TEXT, shorter)?;
+    assert_eq!(rt; refused, Some(Refused::Differs(20)));
     poke(&mut disk, 0, 4095, 1)?;
-    let refused = refusal(alloc, &mut disk, shorter)?;
-    assert!(rt; matches!(refused, OpenError::BadImage(6, 0)));
+    let refused = refusal(alloc, &mut disk, TEXT, shorter)?;
+    assert_eq!(rt; refused, Some(Refused::Bad(6, 0)));
     let mut disk = MemDisk::new(alloc, SECTORS - 1, Vec::new(alloc))?;
     put(&mut disk, 0, &Sector::from_bytes([7; 4096]))?;
-    let refused = refusal(alloc, &mut disk, TEXT)?;
-    assert!(rt; matches!(refused, OpenError::TooSmall(455, 454)));
+    let refused = refusal(alloc, &mut disk, TEXT, TEXT)?;
+    assert_eq!(rt; refused, Some(Refused::TooSmall(455, 454)));
     // A counter that is spent, and a broken rule.
     let mut disk = plain(alloc)?;
     poke(&mut disk, 0, 8, 0x0e)?;
@@ -114,12 +108,11 @@ fn the_order_of_refusals(rt: HostRuntime) -> Result<(), Fail> {
 
 // How many sectors are needed and are there, where there are too few; nothing where a blank disk is begun.
 fn needed(alloc: Global, text: &[u8], sectors: u32) -> Result<Option<(u32, u32)>, Fail> {
-    let system = check(alloc, read_definition(alloc, text)?)?;
     let mut disk = MemDisk::new(alloc, sectors, Vec::new(alloc))?;
-    match recovered(alloc, &mut disk, &system, text, 0)? {
-        Ok(_) => Ok(None),
-        Err(OpenError::TooSmall(needs, has)) => Ok(Some((needs, has))),
-        Err(_) => Err("refused".into()),
+    match refusal(alloc, &mut disk, text, text)? {
+        None => Ok(None),
+        Some(Refused::TooSmall(needs, has)) => Ok(Some((needs, has))),
+        Some(_) => Err("refused".into()),
     }
 }
 
@@ -152,7 +145,6 @@ fn disks_that_are_too_small(rt: HostRuntime) -> Result<(), Fail> {
 #[test]
 fn rules_of_a_larger_system(rt: HostRuntime) -> Result<(), Fail> {
     let alloc = rt.alloc();
-    let system = check(alloc, read_definition(alloc, LARGER)?)?;
     let rows = [
         (0, 0, b'J', 1),
         (0, 7, 9, 2),
@@ -167,18 +159,13 @@ fn rules_of_a_larger_system(rt: HostRuntime) -> Result<(), Fail> {
     ];
     for (at, place, byte, rule) in rows {
         let mut disk = MemDisk::new(alloc, 1517, Vec::new(alloc))?;
-        let is_begun = recovered(alloc, &mut disk, &system, LARGER, 0)?.is_ok();
-        assert_eq!(rt; is_begun, true);
+        assert_eq!(rt; refusal(alloc, &mut disk, LARGER, LARGER)?, None);
         if rule == 24 {
             put(&mut disk, at, &log_sector(alloc, 1, 1, b"x")?)?;
         }
         poke(&mut disk, at, place, byte)?;
-        disk.sync()?;
-        let found = match recovered(alloc, &mut disk, &system, LARGER, 0)? {
-            Err(OpenError::BadImage(rule, sector)) => (rule, sector),
-            _ => (0, 0),
-        };
-        assert_eq!(rt; found, (rule, at), "{place}");
+        let found = refusal(alloc, &mut disk, LARGER, LARGER)?;
+        assert_eq!(rt; found, Some(Refused::Bad(rule, at)), "{place}");
     }
     Ok(())
 }
@@ -186,29 +173,17 @@ fn rules_of_a_larger_system(rt: HostRuntime) -> Result<(), Fail> {
 const LIMIT: u64 = 1_000_000_000_000_000_000;
 
 // Where a counter stands in the plain image: a sector and the place of its 8 bytes there. The checkpoint stands in the
-// snapshot's sector too. Then how much of it the log of a sync point of unit 9, with a sector of its own, adds.
-const COUNTS: [(u32, usize, u64); 7] = [
-    (0, 8, 0),
-    (0, 24, 1),
-    (0, 32, 0),
-    (SNAPSHOT_B, 44, 0),
-    (SNAPSHOT_B, 52, 0),
-    (SNAPSHOT_B, 60, 1),
-    (SNAPSHOT_B, 110, 0),
+// snapshot's sector too. Then how much of it the log of a sync point of unit 9, with a sector of its own, adds; and the place
+// of the counter among all.
+const COUNTS: [(u32, usize, u64, u8); 7] = [
+    (0, 8, 0, 0),
+    (0, 24, 1, 1),
+    (0, 32, 0, 2),
+    (SNAPSHOT_B, 44, 0, 3),
+    (SNAPSHOT_B, 52, 0, 4),
+    (SNAPSHOT_B, 60, 1, 5),
+    (SNAPSHOT_B, 110, 0, 7),
 ];
-
-fn counters() -> Result<[Counter; 7], Fail> {
-    let terminal = Name::read(b"T2").ok_or("no name")?;
-    Ok([
-        Counter::Epoch,
-        Counter::Sequence,
-        Counter::Checkpoint,
-        Counter::NextId,
-        Counter::NextUnit,
-        Counter::Steps,
-        Counter::NextOutput(terminal),
-    ])
-}
 
 // Sets a counter of the plain image.
 fn set(disk: &mut MemDisk, at: u32, place: usize, count: u64) -> Result<(), Fail> {
@@ -218,14 +193,12 @@ fn set(disk: &mut MemDisk, at: u32, place: usize, count: u64) -> Result<(), Fail
     put_bytes(disk, at, place, &count.to_be_bytes())
 }
 
-// The counter that is spent; nothing where the image recovers.
-fn spent(alloc: Global, disk: &mut MemDisk) -> Result<Option<Counter>, Fail> {
-    let system = small_system(alloc)?;
-    disk.sync()?;
-    match recovered(alloc, disk, &system, TEXT, 0)? {
-        Ok(_) => Ok(None),
-        Err(OpenError::Spent(counter)) => Ok(Some(counter)),
-        Err(_) => Err("refused".into()),
+// The place of the counter that is spent; nothing where the image recovers.
+fn spent(alloc: Global, disk: &mut MemDisk) -> Result<Option<u8>, Fail> {
+    match refusal(alloc, disk, TEXT, TEXT)? {
+        None => Ok(None),
+        Some(Refused::Spent(counter)) => Ok(Some(counter)),
+        Some(_) => Err("refused".into()),
     }
 }
 
@@ -233,52 +206,59 @@ fn spent(alloc: Global, disk: &mut MemDisk) -> Result<Option<Counter>, Fail> {
 #[test]
 fn counters_at_their_limit(rt: HostRuntime) -> Result<(), Fail> {
     let alloc = rt.alloc();
-    for ((at, place, _), counter) in COUNTS.iter().zip(counters()?) {
+    for (at, place, _, counter) in COUNTS {
         for count in [LIMIT, LIMIT + 1, 2 * LIMIT - 1] {
             let mut disk = plain(alloc)?;
-            set(&mut disk, *at, *place, count)?;
+            set(&mut disk, at, place, count)?;
             assert_eq!(rt; spent(alloc, &mut disk)?, Some(counter), "{place} {count}");
         }
         let mut disk = plain(alloc)?;
-        set(&mut disk, *at, *place, LIMIT - 1)?;
+        set(&mut disk, at, place, LIMIT - 1)?;
         assert_eq!(rt; spent(alloc, &mut disk)?, None, "{place}");
-        let rises = *place == 8 || *place == 32;
+        let rises = place == 8 || place == 32;
         let then = if rises { Some(counter) } else { None };
         assert_eq!(rt; spent(alloc, &mut disk)?, then, "{place}");
     }
     Ok(())
 }
 
-// The counters are those behind the log; and of several the first is told.
+// The counters are those behind the log.
 #[test]
 fn counters_behind_the_log(rt: HostRuntime) -> Result<(), Fail> {
     let alloc = rt.alloc();
     let end = b"\0\x0e\x37\0\0\0\0\0\0\0\x09\0\0\0";
-    for ((at, place, added), counter) in COUNTS.iter().zip(counters()?) {
+    for (at, place, added, counter) in COUNTS {
         let mut disk = plain(alloc)?;
-        set(&mut disk, *at, *place, LIMIT - 1)?;
+        set(&mut disk, at, place, LIMIT - 1)?;
         let (epoch, sequence) = match place {
             8 => (LIMIT - 1, 11),
             24 => (4, LIMIT - 1),
             _ => (4, 11),
         };
         put(&mut disk, LOG_B, &log_sector(alloc, epoch, sequence, end)?)?;
-        let expected = if *added == 1 { Some(counter) } else { None };
+        let expected = if added == 1 { Some(counter) } else { None };
         assert_eq!(rt; spent(alloc, &mut disk)?, expected, "{place}");
     }
     // The next unit is one behind the last of the log.
-    for (unit, expected) in [(LIMIT - 1, Some(Counter::NextUnit)), (LIMIT - 2, None)] {
+    for (unit, expected) in [(LIMIT - 1, Some(4)), (LIMIT - 2, None)] {
         let mut disk = plain(alloc)?;
         let record = joined(alloc, &[b"\0\x0e\x37", &unit.to_be_bytes(), b"\0\0\0"])?;
         put(&mut disk, LOG_B, &log_sector(alloc, 4, 11, &record)?)?;
         assert_eq!(rt; spent(alloc, &mut disk)?, expected);
     }
+    Ok(())
+}
+
+// Of several counters that are spent the first is told.
+#[test]
+fn several_counters(rt: HostRuntime) -> Result<(), Fail> {
+    let alloc = rt.alloc();
     let mut disk = plain(alloc)?;
-    for ((at, place, _), counter) in COUNTS.iter().zip(counters()?).rev() {
+    for (at, place, _, counter) in COUNTS.iter().rev() {
         set(&mut disk, *at, *place, LIMIT)?;
-        assert_eq!(rt; spent(alloc, &mut disk)?, Some(counter), "{place}");
+        assert_eq!(rt; spent(alloc, &mut disk)?, Some(*counter), "{place}");
     }
-    let (parts, _) = life(alloc, &mut plain(alloc)?, 0)?;
-    assert_eq!(rt; (parts.now.epoch, parts.now.checkpoint), (5, 4));
+    let (begun, _) = life(alloc, &mut plain(alloc)?, 0)?;
+    assert_eq!(rt; (begun.now.epoch, begun.now.checkpoint), (5, 4));
     Ok(())
 }

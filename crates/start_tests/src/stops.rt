@@ -103,13 +103,13 @@ fn a_checkpoint_that_is_stopped(rt: HostRuntime) -> Result<(), Fail> {
     for n in 0..6usize {
         for pick in 0..4u64 {
             let mut disk = checkpointed(alloc, n)?;
-            let (parts, told) = life(alloc, &mut disk, pick)?;
+            let (begun, told) = life(alloc, &mut disk, pick)?;
             assert_eq!(rt; told.as_slice(), expected.as_slice(), "{n} {pick}");
             // Once the log has it, unit 9 is used up.
             let is_logged = n > 1 || n == 1 && pick & 1 == 1;
             let counters = if is_logged { (10, 12) } else { (9, 11) };
             assert_eq!(rt;
-                (parts.next_unit, parts.now.sequence),
+                (begun.next_unit, begun.now.sequence),
                 counters,
                 "{n} {pick}"
             );
@@ -151,13 +151,13 @@ fn an_image_of_zeros_is_begun_cold(rt: HostRuntime) -> Result<(), Fail> {
     put(&mut disk, 0, &Sector::blank())?;
     disk.sync()?;
     for (epoch, checkpoint) in [(1, 1), (2, 2), (3, 3u64)] {
-        let (parts, told) = life(alloc, &mut disk, 0)?;
+        let (begun, told) = life(alloc, &mut disk, 0)?;
         assert_eq!(rt; told.as_slice(), EMPTY_TOLD);
         assert_eq!(rt;
-            (parts.now.epoch, parts.now.checkpoint),
+            (begun.now.epoch, begun.now.checkpoint),
             (epoch, checkpoint)
         );
-        assert_eq!(rt; (parts.now.sequence, parts.next_unit), (1, 1));
+        assert_eq!(rt; (begun.now.sequence, begun.next_unit), (1, 1));
     }
     Ok(())
 }
