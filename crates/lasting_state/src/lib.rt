@@ -14,6 +14,7 @@ pub use tables::{Enqueued, Tables, empty_lasting};
 mod abend;
 mod conversing;
 mod databases;
+mod lending;
 mod limits;
 mod opening;
 mod sending;

@@ -1,5 +1,5 @@
 -- Inputs, acknowledgements and what is shown: the life goes on with each, whatever the answer.
-use Rattle.std.proofs.Common.{◌≡◌, ℕ, Bool, true, false, List, [], ◌∷◌, Option, Some, None, Result, Ok, Err, refl, sym, ◌∙◌, ap, subst}
+use Rattle.std.proofs.Common.{◌≡◌, ℕ, true, List, [], Option, None, Result, Ok, Err, refl, sym, ◌∙◌, ap, subst}
 use Rattle.std.specs.List.{list_all, flat_map}
 use Rattle.std.specs.Option.{option_map_or}
 use Rattle.model_disk.specs.Disk.{Image}
@@ -25,9 +25,9 @@ use Rattle.disk_law.specs.Life.{LifeOnDisk}
 use Rattle.disk_law.specs.Kept.{IsKept}
 use Rattle.disk_law.proofs.Front.{recovers}
 use Rattle.machine_life.specs.Counts.{AreUnspent}
-use Rattle.machine_life.specs.OnSlots.{SlotsState}
+use Rattle.program_rows.specs.OnSlots.{SlotsState}
 use Rattle.machine_life.specs.Carried.{IsCarriedBy, IsLifeOf}
-use Rattle.machine_life.specs.Going.{Continues, GoesOn}
+use Rattle.machine_life.specs.Going.{GoesOn}
 use Rattle.machine_life.proofs.Inputs.{HasRoom, has_terminals, accept_goes, acknowledge_goes}
 use Rattle.machine_life.proofs.Staying.{no_bytes}
 use Rattle.machine_life.proofs.Turns.{GoesBy, told_by}

@@ -18,8 +18,11 @@ use Rattle.unit_work.specs.Changes.{is_before, is_slot, with_slot}
 use Rattle.change_records.specs.Images.{image_at, bytes_at}
 use Rattle.change_records.specs.Told.{is_told_of, IsTold}
 use Rattle.disk_law.specs.Life.{LifeOnDisk}
-use Rattle.machine_life.specs.Marks.{is_marked, AreMarked}
-use Rattle.machine_life.specs.OnSlots.{SlotsState, HaveSlots, IsTouchedSlot, Ascend, CallsSo, ChangesNone, ChangesOne, TakesBack, HoldsAlone, all_stores, slot_told, touched_in}
+use Rattle.change_records.specs.Marks.{is_marked, AreMarked}
+use Rattle.unit_work.specs.Changes.{Ascend}
+use Rattle.program_rows.specs.Open.{HoldsAlone}
+use Rattle.program_rows.specs.Telling.{slot_told}
+use Rattle.program_rows.specs.OnSlots.{SlotsState, HaveSlots, IsTouchedSlot, CallsSo, ChangesNone, ChangesOne, TakesBack, all_stores, touched_in}
 use Rattle.machine_life.specs.Turning.{AreNumbered}
 use Rattle.machine_life.specs.Carried.{resource_of, HoldTouched, IsLifeOf}
 use Rattle.machine_life.specs.Going.{Continues}

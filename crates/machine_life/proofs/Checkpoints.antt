@@ -1,10 +1,9 @@
 -- A checkpoint of a life that goes with the machine.
-use Rattle.std.proofs.Common.{◌≡◌, ◌⊎◌, inl, inr, ⊎_elim, ℕ, zero, suc, ◌+◌, ◌-◌, ◌*◌, ◌/◌, ◌≤◌, ◌<◌, nat_lt, Bool, true, false, ◌||◌, ◌&&◌, List, [], ◌∷◌, ◌++◌, length, map, Option, Some, None, IsSome, refl, sym, ◌∙◌, ap, subst, arith}
+use Rattle.std.proofs.Common.{◌≡◌, inl, inr, ℕ, zero, suc, ◌+◌, ◌-◌, ◌≤◌, ◌<◌, nat_lt, Bool, true, false, ◌||◌, ◌&&◌, List, [], ◌∷◌, length, map, Option, Some, None, IsSome, refl, sym, ◌∙◌, ap, subst, arith}
 use Rattle.std.specs.Prelude.{slice_get, slice_index_or, sum_by, find, ◌==◌, if◌then◌else◌}
 use Rattle.std.specs.List.{list_any, flat_map, AllByRecursion}
-use Rattle.std.specs.Option.{is_some, option_map, option_map_or}
+use Rattle.std.specs.Option.{option_map, option_map_or}
 use Rattle.std.proofs.lemmas.Bool.{eq-eqb, eqb-true, ltb-true, ne_eqb}
-use Rattle.std.proofs.lemmas.Bool.Decides.{nat_tests}
 use Rattle.std.proofs.lemmas.List.Sums.{sum_by-cons}
 use Rattle.tm_types.specs.declared.dbd.Dbd.{Dbd}
 use Rattle.model_rows.specs.declared.row.Row.{Row}
@@ -19,10 +18,9 @@ use Rattle.log_writer.specs.Log.{sectors_of}
 use Rattle.restart_data.specs.Restart.{IsRestart}
 use Rattle.restart_data.specs.Snapshot as snapshot
 use Rattle.seg_store.specs.Slots.{Stored, AreSlots, IsSlot}
-use Rattle.seg_store.specs.Changed.{AllStores}
 use Rattle.unit_work.specs.declared.change.Change.{Change}
 use Rattle.unit_work.specs.Changes.{is_before, is_slot}
-use Rattle.change_records.specs.Images.{image_at, bytes_at, IsSlotOf}
+use Rattle.change_records.specs.Images.{image_at, IsSlotOf}
 use Rattle.checkpointing.specs.Parts.{next_restart}
 use Rattle.snapshot_records.specs.declared.touches.OpenUnit.{OpenUnit}
 use Rattle.snapshot_records.specs.Records.{snapshot_records}
@@ -34,17 +32,18 @@ use Rattle.snapshot_records.proofs.Whole.{IsWhole, whole}
 use Rattle.system_types.specs.Valid.{IsSystem}
 use Rattle.touch_law.proofs.Touched.{open_changes, open_size}
 use Rattle.slot_law.specs.Committed.{Touch, Touches}
-use Rattle.disk_law.specs.Life.{LifeOnDisk, IsLife}
+use Rattle.disk_law.specs.Life.{LifeOnDisk}
 use Rattle.disk_law.proofs.Changing.{IsKnownSlot}
 use Rattle.disk_law.proofs.Recovering.{all_at, index_found}
-use Rattle.checkpoint_law.specs.Checkpointing.{Forgets, IsSnapshotOf, MayCheckpoint, after_checkpoint, parts_with}
+use Rattle.checkpoint_law.specs.Checkpointing.{IsSnapshotOf, MayCheckpoint, after_checkpoint, parts_with}
 use Rattle.checkpoint_law.proofs.Checkpointed.{checkpoint_life}
 use Rattle.checkpoint_law.proofs.Stored.{store_of}
 use Rattle.unit_law.specs.Units.{KeptUnit, AreOnce, HaveNumbers, IsOpen, KeepTouches, kept_touches, touch_of, unit_kept}
 use Rattle.unit_law.proofs.Told.{forgets}
 use Rattle.unit_law.proofs.Snapshots.{is_snapshot}
-use Rattle.machine_life.specs.Marks.{is_marked}
-use Rattle.machine_life.specs.OnSlots.{SlotsState, HaveSlots, Ascend, AreTouchedSlots, IsTouchedSlot, all_stores, records_in, touched_in}
+use Rattle.change_records.specs.Marks.{is_marked}
+use Rattle.unit_work.specs.Changes.{Ascend}
+use Rattle.program_rows.specs.OnSlots.{SlotsState, HaveSlots, AreTouchedSlots, IsTouchedSlot, all_stores, records_in, touched_in}
 use Rattle.machine_life.specs.Opens.{IsUnitOf, AreUnitsOf, written}
 use Rattle.machine_life.specs.Turning.{unit_of}
 use Rattle.machine_life.specs.Carried.{HoldTouched, IsTouchedBy, IsCarriedBy}
@@ -151,7 +150,7 @@ unit_at [] k u found P all = absurd cc
 unit_at (o ∷ opens) zero u found P all = let same : unit_kept o ≡ u = cc in (o, same, all.0)
 unit_at (o ∷ opens) (suc k) u found P all = unit_at opens k u found P all.1
 
-none_marked : (changed : List (List ℕ)) (d s : ℕ) → is_marked (map (λ numbers. []) changed) d s ≡ false
+pub none_marked : (changed : List (List ℕ)) (d s : ℕ) → is_marked (map (λ numbers. []) changed) d s ≡ false
 none_marked changed d s = by changed (d - 1) where
   by : (some : List (List ℕ)) (k : ℕ) → list_any (λ n. n == s) (slice_index_or (map (λ (numbers : List ℕ). []) some) k []) ≡ false
   by [] k = refl

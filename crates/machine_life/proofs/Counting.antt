@@ -1,5 +1,5 @@
 -- A step leaves counts in their range where they were far from its end.
-use Rattle.std.proofs.Common.{◌≡◌, ℕ, zero, suc, ◌+◌, ◌*◌, ◌<◌, ◌≤◌, nat_lt, Bool, true, false, not, ◌&&◌, List, [], ◌∷◌, length, refl, sym, ◌∙◌, subst, arith, Some, None}
+use Rattle.std.proofs.Common.{◌≡◌, ℕ, zero, suc, ◌+◌, ◌*◌, ◌<◌, ◌≤◌, nat_lt, Bool, true, false, not, ◌&&◌, List, [], ◌∷◌, length, refl, sym, ◌∙◌, ap, subst, arith, Some, None}
 use Rattle.std.specs.Prelude.{Option, ◌==◌, if◌then◌else◌}
 use Rattle.std.specs.List.{list_all}
 use Rattle.std.specs.Option.{is_some}
@@ -7,6 +7,8 @@ use Rattle.std.proofs.lemmas.Bool.{ltb-true}
 use Rattle.std.proofs.lemmas.Bool.Decides.{nat_tests}
 use Rattle.std.proofs.lemmas.List.Sums.{sum_by-cons}
 use Rattle.tm_types.specs.declared.abend.AbendCode.{AbendCode}
+use Rattle.tm_types.specs.declared.command.LastingCommand.{LastingCommand}
+use Rattle.tm_types.specs.declared.command.LastingCommand.TheVariants.{StartTransaction, StopTransaction, StartTerminal, StopTerminal, DequeueFirst, DequeueAll, Exit}
 use Rattle.tm_types.specs.declared.message.Message.{Message}
 use Rattle.model_conversation.specs.declared.conversation.PadChange.{PadChange}
 use Rattle.model_queues.specs.declared.replies.TerminalReplies.{TerminalReplies}
@@ -14,9 +16,9 @@ use Rattle.model_queues.specs.Outputs.{is_of, with_terminal, with_reply, without
 use Rattle.model_message.specs.declared.ended_message.EndedMessage.{EndedMessage}
 use Rattle.model_rows.specs.declared.row.Row.{Row}
 use Rattle.model_system.specs.System.{System}
-use Rattle.model_machine.specs.Machine.{LastingState, message_at, output_at, content}
-use Rattle.model_machine.specs.Lasting.{LastingStep, KeptInput, abend_outputs, all_sent, applied, finished, finished_by, replied, sent, switched, with_pad_by, with_last}
-use Rattle.model_machine.specs.Lasting.LastingStep.{Accepts, Acknowledges, Completes, Discards}
+use Rattle.model_machine.specs.Machine.{LastingState, message_at, output_at, content, terminal_place}
+use Rattle.model_machine.specs.Lasting.{LastingStep, KeptInput, abend_outputs, all_sent, applied, finished, finished_by, replied, sent, stopped_terminal, switched, with_pad_by, with_last, without_replies}
+use Rattle.model_machine.specs.Lasting.LastingStep.{Accepts, Acknowledges, Commands, Completes, Discards}
 use Rattle.model_image.specs.States.{is_small, is_next}
 use Rattle.replay_law.specs.Sound.{Fits}
 use Rattle.replay_law.proofs.Bools.{both, first_of, second_of}
@@ -171,16 +173,42 @@ module _ (system : System) (lasting : LastingState) (fits : Fits system lasting)
         inputs_small (Some place) = all_changed (λ t. is_small t.last) lasting.terminals place (with_last number) fits.inputs (λ t is. small)
 
   -- an acknowledgement
-  without_below : (most : ℕ) (name : List ℕ) (outputs : List TerminalReplies) → are_below most outputs ≡ true → are_below most (with_terminal name without_first outputs) ≡ true
-  without_below most name [] are = refl
-  without_below most name (t ∷ ts) are = by (is_of name t) (without_below most name ts) where
-    by : (b : Bool) → (are_below most ts ≡ true → are_below most (with_terminal name without_first ts) ≡ true) → are_below most (if b then without_first t ∷ ts else t ∷ with_terminal name without_first ts) ≡ true
-    by true later = are
+  changed_below : (most : ℕ) (name : List ℕ) (change : TerminalReplies → TerminalReplies) → ((t : TerminalReplies) → (change t).next ≡ t.next) → (outputs : List TerminalReplies)
+      → are_below most outputs ≡ true → are_below most (with_terminal name change outputs) ≡ true
+  changed_below most name change same [] are = refl
+  changed_below most name change same (t ∷ ts) are = by (is_of name t) (changed_below most name change same ts) where
+    by : (b : Bool) → (are_below most ts ≡ true → are_below most (with_terminal name change ts) ≡ true) → are_below most (if b then change t ∷ ts else t ∷ with_terminal name change ts) ≡ true
+    by true later = ap (λ n. nat_lt n most && are_below most ts) (same t) ∙ are
     by false later =
-        both (nat_lt t.next most) (are_below most (with_terminal name without_first ts)) (first_of (nat_lt t.next most) (are_below most ts) are)
+        both (nat_lt t.next most) (are_below most (with_terminal name change ts)) (first_of (nat_lt t.next most) (are_below most ts) are)
         (later (second_of (nat_lt t.next most) (are_below most ts) are))
 
   pub acknowledges_fits : (terminal : List ℕ) → Stands system (applied (Acknowledges terminal) lasting) → content (applied (Acknowledges terminal) lasting) ≤ system.qbytes → Fits system (applied (Acknowledges terminal) lasting)
   acknowledges_fits terminal stands room =
       fits_behind system 0 lasting (applied (Acknowledges terminal) lasting) (omega arith) fits unspent stands (omega arith) (omega arith) refl fits.inputs
-      (wider 1000000000000000000 (1000000000000000000 + 0) (with_terminal terminal without_first lasting.outputs) (omega arith) (without_below 1000000000000000000 terminal lasting.outputs unspent.outputs)) room
+      (wider 1000000000000000000 (1000000000000000000 + 0) (with_terminal terminal without_first lasting.outputs) (omega arith) (changed_below 1000000000000000000 terminal without_first (λ t. refl) lasting.outputs unspent.outputs)) room
+
+  -- a command
+  as_before : are_below (1000000000000000000 + 0) lasting.outputs ≡ true
+  as_before = wider 1000000000000000000 (1000000000000000000 + 0) lasting.outputs (omega arith) unspent.outputs
+
+  stopped_small : (stopped : Bool) (place : Option ℕ) → list_all (λ t. is_small t.last) (Rattle.model_system.specs.Lists.change_at lasting.terminals place (stopped_terminal stopped)) ≡ true
+  stopped_small stopped None = fits.inputs
+  stopped_small stopped (Some place) = all_changed (λ t. is_small t.last) lasting.terminals place (stopped_terminal stopped) fits.inputs (λ t is. is)
+
+  replies_below : (terminal : List ℕ) (change : TerminalReplies → TerminalReplies) → ((t : TerminalReplies) → (change t).next ≡ t.next) → are_below (1000000000000000000 + 0) (with_terminal terminal change lasting.outputs) ≡ true
+  replies_below terminal change same =
+      wider 1000000000000000000 (1000000000000000000 + 0) (with_terminal terminal change lasting.outputs) (omega arith) (changed_below 1000000000000000000 terminal change same lasting.outputs unspent.outputs)
+
+  pub commands_fits : (command : LastingCommand) → Stands system (applied (Commands command) lasting) → content (applied (Commands command) lasting) ≤ system.qbytes → Fits system (applied (Commands command) lasting)
+  commands_fits (StartTransaction code) stands room = fits_behind system 0 lasting (applied (Commands (StartTransaction code)) lasting) (omega arith) fits unspent stands (omega arith) (omega arith) refl fits.inputs as_before room
+  commands_fits (StopTransaction code) stands room = fits_behind system 0 lasting (applied (Commands (StopTransaction code)) lasting) (omega arith) fits unspent stands (omega arith) (omega arith) refl fits.inputs as_before room
+  commands_fits (StartTerminal terminal) stands room =
+      fits_behind system 0 lasting (applied (Commands (StartTerminal terminal)) lasting) (omega arith) fits unspent stands (omega arith) (omega arith) refl (stopped_small false (terminal_place lasting.terminals terminal)) as_before room
+  commands_fits (StopTerminal terminal) stands room =
+      fits_behind system 0 lasting (applied (Commands (StopTerminal terminal)) lasting) (omega arith) fits unspent stands (omega arith) (omega arith) refl (stopped_small true (terminal_place lasting.terminals terminal)) as_before room
+  commands_fits (DequeueFirst terminal) stands room =
+      fits_behind system 0 lasting (applied (Commands (DequeueFirst terminal)) lasting) (omega arith) fits unspent stands (omega arith) (omega arith) refl fits.inputs (replies_below terminal without_first (λ t. refl)) room
+  commands_fits (DequeueAll terminal) stands room =
+      fits_behind system 0 lasting (applied (Commands (DequeueAll terminal)) lasting) (omega arith) fits unspent stands (omega arith) (omega arith) refl fits.inputs (replies_below terminal without_replies (λ t. refl)) room
+  commands_fits (Exit terminal) stands room = fits_behind system 0 lasting (applied (Commands (Exit terminal)) lasting) (omega arith) fits unspent stands (omega arith) (omega arith) refl fits.inputs as_before room

@@ -19,8 +19,9 @@ use Rattle.disk_law.specs.Life.{LifeOnDisk}
 use Rattle.disk_law.specs.Changes.{put_back, MarksBack}
 use Rattle.disk_law.proofs.Changing.{IsKnownSlot}
 use Rattle.disk_law.proofs.Recovering.{index_found}
-use Rattle.machine_life.specs.Marks.{is_marked}
-use Rattle.machine_life.specs.OnSlots.{SlotsState, HaveSlots, IsTouchedSlot, CommitsSo, GivesUpSo, touched_in, with_touched, HoldsAlone}
+use Rattle.change_records.specs.Marks.{is_marked}
+use Rattle.program_rows.specs.Open.{HoldsAlone}
+use Rattle.program_rows.specs.OnSlots.{SlotsState, HaveSlots, IsTouchedSlot, CommitsSo, GivesUpSo, touched_in, with_touched}
 use Rattle.machine_life.specs.Turning.{unit_of, with_unit}
 use Rattle.machine_life.specs.Carried.{resource_of, HoldTouched, IsTouchedBy, AreTouchedBy, MaySync, IsLifeOf}
 use Rattle.machine_life.proofs.Holding.{one_holder}

@@ -41,8 +41,9 @@ use Rattle.step_law.specs.Steps.{StepOnDisk, after_step}
 use Rattle.step_law.specs.Lasting.{MayComplete, MayDiscard, completing, discarding, unit_records}
 use Rattle.step_law.proofs.LastingSteps.{complete_step, discard_step}
 use Rattle.machine_life.specs.Counts.{AreUnspent}
-use Rattle.machine_life.specs.Marks.{is_marked}
-use Rattle.machine_life.specs.OnSlots.{SlotsState, HaveSlots, CommitsSo, GivesUpSo, HoldsAlone}
+use Rattle.change_records.specs.Marks.{is_marked}
+use Rattle.program_rows.specs.Open.{HoldsAlone}
+use Rattle.program_rows.specs.OnSlots.{SlotsState, HaveSlots, CommitsSo, GivesUpSo}
 use Rattle.machine_life.specs.Turning.{AreNumbered, with_unit}
 use Rattle.machine_life.specs.Carried.{resource_of, HoldTouched, IsCarriedBy}
 use Rattle.machine_life.specs.Going.{StepsOn}

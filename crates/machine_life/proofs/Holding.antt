@@ -11,7 +11,7 @@ use Rattle.model_enqueue.specs.Table.{EnqueueTable}
 use Rattle.model_enqueue.specs.Ask.{after_asks, released}
 use Rattle.pi_enqueue.specs.Kept.{IsKept, held}
 use Rattle.pi_enqueue.proofs.Laws.{all_stay, released_others}
-use Rattle.machine_life.specs.OnSlots.{HoldsAlone}
+use Rattle.program_rows.specs.Open.{HoldsAlone}
 
 alone_by : (o : Option Mode) → option_map_or (λ m. serves m Exclusive) o false ≡ true → o ≡ Some Exclusive
 alone_by None e = absurd cc

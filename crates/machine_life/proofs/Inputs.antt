@@ -45,7 +45,7 @@ use Rattle.step_law.specs.Steps.{HasRoomFor, IsStep, StepOnDisk, after_step}
 use Rattle.step_law.specs.Lasting.{MayAccept, MayAcknowledge, accepting, acknowledging, input_record, input_of}
 use Rattle.step_law.proofs.LastingSteps.{accept_step, acknowledge_step}
 use Rattle.machine_life.specs.Counts.{AreUnspent}
-use Rattle.machine_life.specs.OnSlots.{SlotsState}
+use Rattle.program_rows.specs.OnSlots.{SlotsState}
 use Rattle.machine_life.specs.Carried.{IsCarriedBy}
 use Rattle.machine_life.specs.Going.{StepsOn}
 use Rattle.machine_life.proofs.Counting.{accepts_fits, acknowledges_fits}
@@ -135,10 +135,10 @@ module _ (system : System) (valid : IsSystem system) (moment : Moment) (slots : 
   names : HasTerminals system moment.lasting
   names = has_terminals system moment.lasting c.is.names
 
-  fits_now : Fits system moment.lasting
+  pub fits_now : Fits system moment.lasting
   fits_now = lasting_fits system moment.lasting life c.is.of_system c.is.lasts c.is.is_life
 
-  counted_then : (step : StepOnDisk) → IsStep life step → (after : LastingState) → step.lasting ≡ after → IsCounted after
+  pub counted_then : (step : StepOnDisk) → IsStep life step → (after : LastingState) → step.lasting ≡ after → IsCounted after
   counted_then step s after same =
       subst (λ (l : LastingState). IsCounted l) same (step_counted life step s (subst (λ (l : LastingState). IsCounted l) (sym c.is.lasts) c.is.counted))
 

@@ -14,5 +14,7 @@ pub mod Calls
 pub mod Victims
 pub mod Turns
 pub mod Answered
+pub mod Commanding
 pub mod Checkpoints
 pub mod Openings
+pub mod Listed

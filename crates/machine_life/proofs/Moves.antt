@@ -32,8 +32,9 @@ use Rattle.disk_law.specs.Changes.{SlotChange, with_bytes, with_slot_changes, Ma
 use Rattle.disk_law.proofs.Changing.{IsKnownSlot, changes_life, changes_kept}
 use Rattle.disk_law.proofs.Recovering.{all_at}
 use Rattle.checkpoint_law.proofs.Stored.{store_of}
-use Rattle.machine_life.specs.Marks.{is_marked, AreMarked}
-use Rattle.machine_life.specs.OnSlots.{SlotsState, HaveSlots, all_stores, touched_in, HoldsAlone}
+use Rattle.change_records.specs.Marks.{is_marked, AreMarked}
+use Rattle.program_rows.specs.Open.{HoldsAlone}
+use Rattle.program_rows.specs.OnSlots.{SlotsState, HaveSlots, all_stores, touched_in}
 use Rattle.machine_life.specs.Turning.{AreNumbered, unit_of}
 use Rattle.machine_life.specs.Carried.{resource_of, HoldTouched, IsTouchedBy, IsLifeOf}
 use Rattle.machine_life.specs.Going.{Continues}

@@ -1,9 +1,7 @@
 -- A step keeps the names of terminals and codes, and leaves messages and replies of 1 to 32 segments.
-use Rattle.std.proofs.Common.{◌≡◌, ℕ, zero, suc, Bool, true, false, List, [], ◌∷◌, map, Option, Some, None, refl, sym, ◌∙◌, ap, subst}
+use Rattle.std.proofs.Common.{◌≡◌, ℕ, zero, suc, Bool, true, false, List, [], ◌∷◌, map, Option, Some, None, refl, ◌∙◌, ap}
 use Rattle.std.specs.Prelude.{if◌then◌else◌, slice_get, slice_set}
-use Rattle.std.specs.List.{AllByRecursion}
 use Rattle.std.specs.Option.{is_some, option_map, option_map_or}
-use Rattle.tm_types.specs.declared.abend.AbendCode.{AbendCode}
 use Rattle.tm_types.specs.declared.command.LastingCommand.{LastingCommand}
 use Rattle.tm_types.specs.declared.command.LastingCommand.TheVariants.{StartTransaction, StopTransaction, StartTerminal, StopTerminal, DequeueFirst, DequeueAll, Exit}
 use Rattle.tm_types.specs.declared.message.Message.{Message}
@@ -20,10 +18,9 @@ use Rattle.model_system.specs.System.{System}
 use Rattle.model_machine.specs.declared.lasting.CodeSetting.{CodeSetting}
 use Rattle.model_machine.specs.declared.lasting.TerminalState.{TerminalState}
 use Rattle.model_machine.specs.Machine.{LastingState, message_at, output_at, setting_place, terminal_place}
-use Rattle.model_machine.specs.Lasting.{KeptInput, LastingStep, abend_outputs, all_sent, applied, commanded, conversing, discarded_pad, finished, finished_by, new_pad, padded, replied, sent, stopped_code, stopped_terminal, switched, with_begun, with_last, with_pad_by, without_message, without_replies}
+use Rattle.model_machine.specs.Lasting.{LastingStep, abend_outputs, all_sent, applied, commanded, discarded_pad, finished_by, new_pad, padded, replied, sent, stopped_code, stopped_terminal, switched, with_begun, with_last, with_pad_by, without_message, without_replies}
 use Rattle.model_machine.specs.Lasting.LastingStep.{Accepts, Acknowledges, Completes, Discards, Commands}
-use Rattle.log_records.specs.declared.record.Record.{Record}
-use Rattle.model_image.specs.Replay.{Replay, replay_all, replay_of}
+use Rattle.model_image.specs.Replay.{Replay, replay_all}
 use Rattle.snapshot_records.specs.Records.{IsOfSystem}
 use Rattle.count_law.specs.Counted.{IsCounted}
 use Rattle.count_law.proofs.Replayed.{log_counted}

@@ -7,7 +7,9 @@ use Rattle.std.proofs.lemmas.Bool.Decides.{nat_tests}
 use Rattle.model_enqueue.specs.declared.victim.Victim.{Victim}
 use Rattle.model_machine.specs.Machine.{Slot}
 use Rattle.model_machine.specs.Requests.{without_victims}
-use Rattle.machine_life.specs.Turning.{with_unit, without_units, AreNumbered}
+use Rattle.model_machine.specs.declared.entry.Turned.{Turned}
+use Rattle.model_machine.specs.declared.entry.Turned.TheVariants.{Scheduled, Called, Next, QC, Done, Abended, Idle, Held, Waits, Backed}
+use Rattle.machine_life.specs.Turning.{with_unit, without_units, units_after, AreNumbered}
 
 -- ---- an element set
 
@@ -132,3 +134,22 @@ pub numbered_victims : (victims : List Victim) (slots : List (Option Slot)) (uni
 numbered_victims [] slots units next n = n
 numbered_victims (v ∷ victims) slots units next n =
     numbered_victims victims (slice_set slots (v.region - 1) None) (with_unit v.region 0 units) next (numbered_ended slots units next (v.region - 1) n)
+
+-- ---- how many they are
+
+without_stay : (victims : List Victim) (units : List ℕ) → length (without_units victims units) ≡ length units
+without_stay [] units = refl
+without_stay (v ∷ victims) units = without_stay victims (with_unit v.region 0 units) ∙ set_length units (v.region - 1) 0
+
+-- A turn leaves as many numbers.
+pub units_stay : (turned : Turned) (region next : ℕ) (units : List ℕ) → length (units_after turned region next units) ≡ length units
+units_stay (Scheduled code id) region next units = set_length units (region - 1) next
+units_stay (Called function pcb status) region next units = refl
+units_stay (Next code id further) region next units = set_length units (region - 1) next
+units_stay (QC code id) region next units = set_length units (region - 1) 0
+units_stay (Done code id) region next units = set_length units (region - 1) 0
+units_stay (Abended code id abend) region next units = set_length units (region - 1) 0
+units_stay Idle region next units = refl
+units_stay (Held need limit) region next units = refl
+units_stay (Waits resource by) region next units = refl
+units_stay (Backed victims) region next units = without_stay victims units

@@ -1,35 +1,32 @@
 -- A life that begins goes with the machine as it starts.
-use Rattle.std.proofs.Common.{◌≡◌, ℕ, zero, suc, ◌+◌, ◌-◌, ◌*◌, ◌≤◌, ◌<◌, ◌^◌, nat_lt, Bool, true, false, List, [], ◌∷◌, length, map, Option, Some, None, Ok, IsSome, refl, sym, ◌∙◌, ap, subst, arith, replicate}
-use Rattle.std.specs.Prelude.{slice_get, count_by}
+use Rattle.std.proofs.Common.{◌≡◌, ℕ, zero, suc, ◌+◌, ◌≤◌, ◌<◌, nat_lt, false, List, [], length, map, Option, Some, None, IsSome, refl, sym, ◌∙◌, ap, subst, arith, replicate}
+use Rattle.std.specs.Prelude.{slice_get}
 use Rattle.std.specs.List.{AllByRecursion}
 use Rattle.std.specs.Option.{is_some}
 use Rattle.std.proofs.lemmas.Bool.{ltb-false}
-use Rattle.tm_types.specs.declared.dbd.Dbd.{Dbd}
 use Rattle.model_rows.specs.declared.row.Row.{Row}
 use Rattle.model_rows.specs.Record as rows
-use Rattle.model_disk.specs.Disk.{Image}
 use Rattle.model_system.specs.System.{System}
-use Rattle.model_machine.specs.Machine.{LastingState, Moment, Slot, busy_slots, content, start_of}
-use Rattle.model_image.specs.Holding.{HoldsStores}
+use Rattle.model_machine.specs.Machine.{LastingState, Slot, busy_slots, content, start_of}
 use Rattle.model_image.specs.States.{breaks_a_rule}
 use Rattle.log_records.specs.declared.record.Record.{Record}
 use Rattle.restart_data.specs.declared.restart.RestartSector.{RestartSector}
 use Rattle.restart_data.specs.Restart.{IsRestart}
-use Rattle.seg_store.specs.Slots.{Stored, rows_of_slots}
+use Rattle.seg_store.specs.Slots.{rows_of_slots}
 use Rattle.unit_work.specs.declared.change.Change.{Change}
-use Rattle.change_records.specs.Images.{image_at, bytes_at}
+use Rattle.change_records.specs.Images.{bytes_at}
 use Rattle.snapshot_records.specs.Records.{IsOfSystem, snapshot_records}
 use Rattle.count_law.specs.Counted.{IsCounted}
 use Rattle.system_types.specs.Valid.{IsSystem}
 use Rattle.replay_law.proofs.Kept.{stands}
 use Rattle.replay_law.proofs.SoundLaws.{is_sound}
 use Rattle.sound_law.specs.Rooms.{StaysSound}
-use Rattle.slot_law.specs.Committed.{Touch, changes_of}
+use Rattle.slot_law.specs.Committed.{Touch}
 use Rattle.disk_law.specs.Life.{LifeOnDisk, IsLife, SpellRows}
 use Rattle.checkpoint_law.specs.Opening.{MayOpen, bytes_in_stores, no_touches, opened_life}
 use Rattle.unit_law.proofs.Snapshots.{only_changes}
-use Rattle.machine_life.specs.Marks.{is_marked}
-use Rattle.machine_life.specs.OnSlots.{SlotsState, HaveSlots, touched_in}
+use Rattle.change_records.specs.Marks.{is_marked}
+use Rattle.program_rows.specs.OnSlots.{SlotsState, HaveSlots, touched_in}
 use Rattle.machine_life.specs.Turning.{AreNumbered, unit_of}
 use Rattle.machine_life.specs.Carried.{IsCarriedBy}
 use Rattle.machine_life.proofs.Places.{bytes_of_place}

@@ -15,8 +15,9 @@ use Rattle.slot_law.specs.Committed.{Touch}
 use Rattle.disk_law.specs.Life.{LifeOnDisk}
 use Rattle.disk_law.specs.Changes.{with_bytes, without_unit}
 use Rattle.disk_law.proofs.Changing.{IsKnownSlot, without_life, without_kept}
-use Rattle.machine_life.specs.Marks.{is_marked}
-use Rattle.machine_life.specs.OnSlots.{SlotsState, HaveSlots, GivesUpSo, HoldsAlone, touched_in}
+use Rattle.change_records.specs.Marks.{is_marked}
+use Rattle.program_rows.specs.Open.{HoldsAlone}
+use Rattle.program_rows.specs.OnSlots.{SlotsState, HaveSlots, GivesUpSo, touched_in}
 use Rattle.machine_life.specs.Turning.{AreNumbered, unit_of, with_unit}
 use Rattle.machine_life.specs.Carried.{resource_of, HoldTouched, IsTouchedBy, IsLifeOf}
 use Rattle.machine_life.specs.Going.{Continues}

@@ -15,8 +15,8 @@ use Rattle.checkpoint_law.specs.Checkpointing.{is_changed, HasStores}
 use Rattle.disk_law.specs.Life as life
 use Rattle.disk_law.proofs.Changing.{IsKnownSlot}
 use Rattle.disk_law.proofs.Recovering.{all_at, index_found}
-use Rattle.machine_life.specs.Marks.{is_marked}
-use Rattle.machine_life.specs.OnSlots.{SlotsState, HaveSlots, all_stores}
+use Rattle.change_records.specs.Marks.{is_marked}
+use Rattle.program_rows.specs.OnSlots.{SlotsState, HaveSlots, all_stores}
 use Rattle.machine_life.proofs.Places.{there_of, known_of, bytes_of_place}
 
 -- a number that is listed is found by a test on all

@@ -47,7 +47,8 @@ use Rattle.sound_law.proofs.Works.{SendsWell, work_sends}
 use Rattle.disk_law.specs.Life.{LifeOnDisk}
 use Rattle.disk_law.proofs.Recovering.{index_found}
 use Rattle.machine_life.specs.Counts.{AreUnspent}
-use Rattle.machine_life.specs.OnSlots.{SlotsState, HaveSlots, CommitsSo, HoldsAlone}
+use Rattle.program_rows.specs.Open.{HoldsAlone}
+use Rattle.program_rows.specs.OnSlots.{SlotsState, HaveSlots, CommitsSo}
 use Rattle.machine_life.specs.Doing.{DoesSo, QuietUnlessCalled}
 use Rattle.machine_life.specs.Turning.{AreNumbered, next_after, unit_of, units_after, with_unit, without_units}
 use Rattle.machine_life.specs.Carried.{resource_of, HoldTouched, IsCarriedBy, IsLifeOf}

@@ -18,7 +18,8 @@ use Rattle.log_writer.specs.Writer.{Writer}
 use Rattle.unit_work.specs.declared.change.Change.{Change}
 use Rattle.disk_law.specs.Life.{LifeOnDisk}
 use Rattle.disk_law.specs.Changes.{with_bytes}
-use Rattle.machine_life.specs.OnSlots.{SlotsState, HaveSlots, GivesUpSo, HoldsAlone, touched_in}
+use Rattle.program_rows.specs.Open.{HoldsAlone}
+use Rattle.program_rows.specs.OnSlots.{SlotsState, HaveSlots, GivesUpSo, touched_in}
 use Rattle.machine_life.specs.Doing.{GiveUpSo}
 use Rattle.machine_life.specs.Turning.{AreNumbered, unit_of, with_unit, without_units}
 use Rattle.machine_life.specs.Carried.{resource_of, HoldTouched, IsLifeOf}

@@ -1,28 +1,22 @@
 -- What a life on its disk has of the machine that goes on.
-use Rattle.std.specs.Prelude.{◌≡◌, ℕ, ◌+◌, ◌-◌, ◌<◌, ◌≤◌, Bool, true, List, [], ◌∷◌, Option, None, Some, IsSome, slice_get}
+use Rattle.std.specs.Prelude.{◌≡◌, ℕ, ◌+◌, ◌-◌, ◌<◌, ◌≤◌, Bool, true, List, Option, Some, IsSome, slice_get}
 use Rattle.std.specs.List.{AllByRecursion}
 use Rattle.tm_types.specs.declared.resource.Resource.{Resource}
 use Rattle.model_rows.specs.declared.row.Row.{Row}
-use Rattle.model_rows.specs.Path.{root_of}
 use Rattle.model_enqueue.specs.Table.{EnqueueTable}
 use Rattle.model_system.specs.System.{System}
 use Rattle.model_machine.specs.Machine.{LastingState, Moment, Slot}
 use Rattle.pi_enqueue.specs.Kept.{IsKept}
 use Rattle.change_records.specs.Images.{image_at, bytes_at, IsSlotOf}
-use Rattle.machine_life.specs.OnSlots.{HoldsAlone}
+use Rattle.program_rows.specs.Open.{HoldsAlone}
 use Rattle.snapshot_records.specs.Records.{IsOfSystem}
 use Rattle.count_law.specs.Counted.{IsCounted}
 use Rattle.slot_law.specs.Committed.{Touch, Touches}
 use Rattle.disk_law.specs.Life.{LifeOnDisk, IsLife, EachSlot}
 use Rattle.checkpoint_law.specs.Checkpointing.{HasStores}
 use Rattle.sound_law.specs.Rooms.{StaysSound}
-use Rattle.machine_life.specs.OnSlots.{SlotsState, all_stores, touched_in}
+use Rattle.program_rows.specs.OnSlots.{SlotsState, all_stores, root_in, touched_in}
 use Rattle.machine_life.specs.Turning.{AreNumbered, unit_of}
-
--- the root of the record in an image; none where there is no record
-abbrev pub root_in : List Row → Option (List ℕ)
-root_in [] = None
-root_in (row ∷ rows) = Some (root_of row.path)
 
 -- what a region holds that has touched a slot where this image stood first: its record, or the sequence of the database
 abbrev pub resource_of : ℕ → List Row → Resource

@@ -6,7 +6,7 @@ use Rattle.model_machine.specs.declared.entry.Turned.{Turned}
 use Rattle.model_machine.specs.declared.entry.Turned.TheVariants.{Scheduled, Called, Next, QC, Done, Abended, Idle, Held, Waits, Backed}
 use Rattle.model_machine.specs.Machine.{Slot, slot_in}
 use Rattle.log_records.specs.declared.record.Record.{Record}
-use Rattle.machine_life.specs.OnSlots.{SlotsState, CallsSo, CommitsSo, GivesUpSo, HaveSlots}
+use Rattle.program_rows.specs.OnSlots.{SlotsState, CallsSo, CommitsSo, GivesUpSo, HaveSlots}
 
 -- Victims give up what they have changed, one after another. Each has a message until it does.
 pub record GivesUpThen (dbds : List Dbd) (regions : ℕ) (taken : List (Option Slot)) (region : ℕ) (later : SlotsState → SlotsState → Type 0) (old new : SlotsState) : Type 0 where

@@ -9,7 +9,7 @@ use Rattle.disk_law.specs.Life.{LifeOnDisk}
 use Rattle.disk_law.specs.Kept.{IsKept}
 use Rattle.disk_law.specs.Changes.{with_bytes}
 use Rattle.step_law.specs.Steps.{StepOnDisk, IsStep, after_step}
-use Rattle.machine_life.specs.OnSlots.{SlotsState}
+use Rattle.program_rows.specs.OnSlots.{SlotsState}
 use Rattle.machine_life.specs.Carried.{IsCarriedBy}
 
 -- These bytes are appended, and nothing is written: each image of the life is one of the life behind that, of which this holds.

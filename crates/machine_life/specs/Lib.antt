@@ -1,5 +1,3 @@
-pub mod Marks
-pub mod OnSlots
 pub mod Turning
 pub mod Counts
 pub mod Doing

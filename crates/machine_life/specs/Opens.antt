@@ -4,7 +4,7 @@ use Rattle.std.specs.List.{AllByRecursion}
 use Rattle.snapshot_records.specs.declared.touches.OpenUnit.{OpenUnit}
 use Rattle.snapshot_records.specs.Touches.{UnitsAscend}
 use Rattle.unit_law.specs.Units.{IsOpen, unit_kept}
-use Rattle.machine_life.specs.OnSlots.{SlotsState, touched_in}
+use Rattle.program_rows.specs.OnSlots.{SlotsState, touched_in}
 
 -- It is a region's, with its number, and keeps the slots that the region has touched.
 pub record IsUnitOf (slots : SlotsState) (units : List ℕ) (u : OpenUnit) : Type 0 where

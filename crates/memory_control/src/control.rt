@@ -61,7 +61,9 @@ impl Control {
         ensures history { IfOk result (λ control. control.history ≡ []) }
     {
         let opening = empty_lasting(alloc, &system)?;
-        let parts = Parts::new(alloc, system)?;
+        let Ok(parts) = Parts::new(alloc, system) else {
+            return Err(Memory);
+        };
         Ok(Control {
             parts,
             opening,

@@ -10,7 +10,7 @@ use Rattle.model_machine.specs.Machine.{LastingState}
 use Rattle.log_records.specs.declared.record.Record.{Record}
 use Rattle.log_records.specs.declared.record.Record.TheVariants.{Input, Command, Reply, Discarded, Completed, Acknowledged, SyncPoint, Checkpoint, Terminal, Code, Change}
 use Rattle.model_image.specs.States.{breaks_a_rule}
-use Rattle.model_image.specs.Replay.{Replay, is_of_unit, with_waiting, without_unit, with_lasting, replayed, is_known, unless_it_breaks, replay_one, accepts}
+use Rattle.model_image.specs.Replay.{Replay, is_of_unit, with_waiting, without_unit, with_lasting, replayed, is_known, unless_it_breaks, replay_one, accepts, commands}
 use Rattle.record_replay.specs.Judged.{lasting_in, AreFree, Leaves}
 use Rattle.record_replay.specs.Waiting.{of_unit, ChangesUnit}
 use Rattle.record_replay.specs.Working.{WorkState, IsAt, Comes, Waits, IsDone, waits_for, of_unit_of, does_now, LeavesUnits}
@@ -207,3 +207,7 @@ done_now system r replay old new at known is fine done = comes system r replay o
 pub input_done : (system : System) (unit id : ℕ) (origin code : List ℕ) (number : ℕ) (conversation : Bool) (segments : List (List ℕ)) (old new : WorkState) (fine : Bool) →
     Leaves system (accepts system id origin code number conversation segments (lasting_in system old.kept)) new.kept fine → new.units ≡ old.units → IsDone system (Input unit id origin code number conversation segments) old new fine
 input_done system unit id origin code number conversation segments old new fine leaves same = record { lasting = leaves; units = same }
+
+pub command_done : (system : System) (text : List ℕ) (old new : WorkState) (fine : Bool) →
+    Leaves system (commands text (lasting_in system old.kept)) new.kept fine → new.units ≡ old.units → IsDone system (Command text) old new fine
+command_done system text old new fine leaves same = record { lasting = leaves; units = same }

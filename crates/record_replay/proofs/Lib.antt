@@ -11,3 +11,4 @@ pub mod Copies
 pub mod Placed
 pub mod Stepped
 pub mod Usual
+pub mod Commands

@@ -33,7 +33,7 @@ module _ (system : System) where
   abbrev IsRight : KeptState → Type 0
   IsRight kept = are_right system kept ≡ true
 
-  right_before : (kept : KeptState) → AreSound system kept → IsRight kept
+  pub right_before : (kept : KeptState) → AreSound system kept → IsRight kept
   right_before kept before =
       let s = is_sound system (lasting_in system kept) before.sound in
       both (list_all (knows system kept.conversations) (messages_of kept.queues.queued)) (are_alone (messages_of kept.queues.queued)) s.known s.alone

@@ -1,10 +1,13 @@
 -- What the records of a log do to the tables of what lasts: the steps of the definition of a replay, on the tables.
-use Rattle.std.specs.Prelude.{ℕ, ◌+◌, ◌-◌, ◌==◌, Bool, false, not, ◌&&◌, ◌||◌, if◌then◌else◌, List, [], ◌∷◌, Option, Some, None}
+use Rattle.std.specs.Prelude.{ℕ, ◌+◌, ◌-◌, ◌==◌, Bool, true, false, not, ◌&&◌, ◌||◌, if◌then◌else◌, List, [], ◌∷◌, Option, Some, None}
 use Rattle.std.specs.List.{list_any}
 use Rattle.std.specs.Option.{is_some, option_map, option_map_or, option_and_then, option_or}
 use Rattle.tm_types.specs.declared.abend.AbendCode.{AbendCode}
+use Rattle.tm_types.specs.declared.command.LastingCommand.{LastingCommand}
+use Rattle.tm_types.specs.declared.command.LastingCommand.TheVariants.{StartTransaction, StopTransaction, StartTerminal, StopTerminal, DequeueFirst, DequeueAll, Exit}
 use Rattle.tm_types.specs.declared.message.Message.{Message}
 use Rattle.model_conversation.specs.declared.conversation.PadChange.{PadChange}
+use Rattle.model_conversation.specs.declared.conversation.PadChange.TheVariants.{Ends}
 use Rattle.model_conversation.specs.declared.conversation.Conversation.{Conversation}
 use Rattle.model_conversation.specs.declared.conversation.TerminalConversation.{TerminalConversation}
 use Rattle.model_conversation.specs.Pads.{begun}
@@ -13,8 +16,8 @@ use Rattle.model_system.specs.System.{System}
 use Rattle.model_system.specs.Lists.{change_at}
 use Rattle.model_queues.specs.Queue.{message_at, with_message, without}
 use Rattle.model_queues.specs.Outputs.{replies_at, with_terminal, with_reply, without_first, next_of, reply_at}
-use Rattle.model_machine.specs.Machine.{terminal_at, terminal_place}
-use Rattle.model_machine.specs.Lasting.{KeptInput, with_last, with_begun, padded, discarded_pad, abend_text, input_message}
+use Rattle.model_machine.specs.Machine.{setting_place, terminal_at, terminal_place}
+use Rattle.model_machine.specs.Lasting.{KeptInput, with_last, with_begun, padded, discarded_pad, abend_text, input_message, stopped_code, stopped_terminal, without_replies}
 use Rattle.log_records.specs.declared.record.Record.{Record}
 use Rattle.log_records.specs.declared.record.Record.TheVariants.{Input, Reply, Completed}
 use Rattle.model_image.specs.States.{is_small}
@@ -131,3 +134,23 @@ abbrev pub step_discards : ℕ → AbendCode → ℕ → KeptState → Option Ke
 step_discards id abend number kept =
     option_and_then (λ message. if next_of message.origin kept.outputs == number then Some (with_discarded id abend message kept) else None)
     (message_at id kept.queues.queued)
+
+-- ---- a command
+
+-- what it changes, but for the count of steps
+abbrev pub commanded : LastingCommand → KeptState → KeptState
+commanded (StartTransaction code) kept = record kept { codes = change_at kept.codes (setting_place kept.codes code) (stopped_code false) }
+commanded (StopTransaction code) kept = record kept { codes = change_at kept.codes (setting_place kept.codes code) (stopped_code true) }
+commanded (StartTerminal terminal) kept = record kept { terminals = change_at kept.terminals (terminal_place kept.terminals terminal) (stopped_terminal false) }
+commanded (StopTerminal terminal) kept = record kept { terminals = change_at kept.terminals (terminal_place kept.terminals terminal) (stopped_terminal true) }
+commanded (DequeueFirst terminal) kept = record kept { outputs = with_terminal terminal without_first kept.outputs }
+commanded (DequeueAll terminal) kept = record kept { outputs = with_terminal terminal without_replies kept.outputs }
+commanded (Exit terminal) kept = record kept { conversations = padded Ends terminal kept.conversations }
+
+abbrev pub step_commands : LastingCommand → KeptState → KeptState
+step_commands command kept = with_counted (commanded command kept)
+
+-- no command but the end of a conversation touches messages that belong to one
+abbrev pub ends_none : LastingCommand → Bool
+ends_none (Exit terminal) = false
+ends_none _ = true

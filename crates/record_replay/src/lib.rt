@@ -5,6 +5,7 @@ pub use replaying::replay_record;
 pub use working::Working;
 
 mod abend;
+mod commanding;
 mod doing;
 mod images;
 mod judging;

@@ -1,11 +1,14 @@
 //! One record of a log, done again.
-ghost use Rattle.std.specs.Prelude.{◌≡◌, None, false, IfOk};
+ghost use Rattle.std.specs.Prelude.{◌≡◌, None, Some, false, IfOk};
 ghost use Rattle.std.specs.Option.{option_map_or};
 ghost use Rattle.tm_types.specs.Commands.{command_in};
-ghost use Rattle.model_image.specs.Replay.{Replay, accepts, acknowledges, discards, syncs, is_known, names_known, replay_one};
+ghost use Rattle.model_image.specs.Replay.{Replay, accepts, acknowledges, commands, discards, syncs, is_known, names_known, replay_one};
+ghost use Rattle.model_machine.specs.Lasting.{applied};
+ghost use Rattle.model_machine.specs.Lasting.LastingStep.{Commands};
 ghost use Rattle.record_replay.specs.Judged.{lasting_in, AreSound, Leaves};
 ghost use Rattle.record_replay.specs.Working.{IsAt, Comes, IsDone, Waits, waits_for};
 
+use crate::commanding::{command, ends_none};
 use crate::doing::is_small;
 use crate::images::is_image_of;
 use crate::judging::{are_usual, has_pad_at, has_pad_of, is_plain, is_sound};
@@ -105,7 +108,9 @@ fn do_now(alloc: Global, system: &System, working: &mut Working, r: Record) -> R
             replay_sync_point(alloc, system, &mut working.kept, records, pad)
         }
         Record::Change { .. } => Ok(true),
-        Record::Command { .. } => Err(Memory),
+        Record::Command { text } => {
+            replay_command(alloc, system, &mut working.kept, text.as_slice())
+        }
         _ => Ok(false),
     }
 }
@@ -145,6 +150,35 @@ fn replay_acknowledged(
         return Ok(false);
     }
     is_sound(alloc, system, kept, true, true, true)
+}
+
+fn replay_command(
+    alloc: Global,
+    system: &System,
+    kept: &mut Kept,
+    text: &[u8],
+) -> Result<bool, Memory>
+    requires { AreSound system.now kept.old }
+    ensures { IfOk result (Leaves system.now (commands text.now (lasting_in system.now kept.old)) kept.new) }
+{
+    match LastingCommand::read(text) {
+        Some(spelled) => do_spelled(alloc, system, kept, &spelled),
+        None => Ok(false),
+    }
+}
+
+fn do_spelled(
+    alloc: Global,
+    system: &System,
+    kept: &mut Kept,
+    spelled: &LastingCommand,
+) -> Result<bool, Memory>
+    requires { AreSound system.now kept.old }
+    ensures { IfOk result (Leaves system.now (Some (applied (Commands spelled.now) (lasting_in system.now kept.old))) kept.new) }
+{
+    let plain = ends_none(spelled);
+    command(kept, spelled);
+    is_sound(alloc, system, kept, true, true, plain)
 }
 
 fn replay_discarded(

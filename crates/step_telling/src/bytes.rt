@@ -1,7 +1,9 @@
 //! The records of each step, spelled.
-ghost use Rattle.std.specs.Prelude.{◌≡◌, ◌++◌, ◌∷◌, [], IfOk, OnOk};
+ghost use Rattle.std.specs.Prelude.{◌≡◌, ◌≤◌, ◌++◌, ◌∷◌, [], IfOk, OnOk, length};
 ghost use Rattle.std.specs.List.{flat_map, AllByRecursion};
-ghost use Rattle.log_records.specs.declared.record.Record.TheVariants.{Input, Acknowledged, Discarded, SyncPoint};
+ghost use Rattle.tm_types.specs.Commands as command_text;
+ghost use Rattle.tm_types.specs.Name.{IsName};
+ghost use Rattle.log_records.specs.declared.record.Record.TheVariants.{Input, Command, Acknowledged, Discarded, SyncPoint};
 ghost use Rattle.log_records.specs.Spelling.{spelling, IsCount, IsAbend, IsRecord};
 ghost use Rattle.model_machine.specs.Machine.{LastingState};
 ghost use Rattle.step_records.specs.Records.{completion_records};
@@ -9,14 +11,15 @@ ghost use Rattle.step_telling.specs.Ranges.{HaveCounts, HasShortPad};
 
 use crate::outputs::put_outputs;
 use log_records::{
-    append_acknowledged, append_completed, append_discarded, append_input, append_sync_point,
+    Record, append_acknowledged, append_completed, append_discarded, append_input,
+    append_sync_point, encode,
 };
 use model_conversation::PadChange;
 use model_message::EndedMessage;
 use out_queues::Outputs;
 use std::alloc::Global;
 use std::collections::VecDeque;
-use tm_types::{AbendCode, Memory, Name, Segments};
+use tm_types::{AbendCode, Bytes, LastingCommand, Memory, Name, Segments};
 
 /// The records of a completion: the outputs of a message with this origin and id, that it is completed, and the sync
 /// point. `Memory` is answered too where a number would have more than 64 bits.
@@ -57,6 +60,47 @@ pub fn discarding_bytes(
     let mut bytes = Vec::new(alloc);
     append_discarded(&mut bytes, unit, id, abend, number)?;
     Ok(bytes)
+}
+
+/// The record of a command that lasts.
+#[tactic(auto, using(crate::proofs::Limits::commands_short))]
+pub fn command_bytes(alloc: Global, command: &LastingCommand) -> Result<Vec<u8>, Memory>
+    ensures bytes { IfOk result (λ bytes. bytes.items ≡ spelling (Command (command_text.spelling command.now))) }
+    ensures valid { OnOk result (IsRecord (Command (command_text.spelling command.now))) }
+    ensures named { IsName (command_text.name_in command.now) }
+{
+    let _name = name_in(command).as_bytes();
+    let mut text = Vec::new(alloc);
+    command.write(&mut text)?;
+    command_record(alloc, text)
+}
+
+fn command_record(alloc: Global, text: Vec<u8>) -> Result<Vec<u8>, Memory>
+    requires { length text.items ≤ 80 }
+    ensures ok { IfOk result (λ bytes. bytes.items ≡ spelling (Command text.items)) }
+    ensures valid { OnOk result (IsRecord (Command text.items)) }
+{
+    let record = Record::Command {
+        text: Bytes::from_vec(text),
+    };
+    let mut bytes = Vec::new(alloc);
+    encode(alloc, &record, &mut bytes)?;
+    Ok(bytes)
+}
+
+/// The code or terminal that a command names.
+fn name_in(command: &LastingCommand) -> &Name
+    ensures { result.now ≡ command_text.name_in command.now }
+{
+    match command {
+        LastingCommand::StartTransaction(code) => code,
+        LastingCommand::StopTransaction(code) => code,
+        LastingCommand::StartTerminal(terminal) => terminal,
+        LastingCommand::StopTerminal(terminal) => terminal,
+        LastingCommand::DequeueFirst(terminal) => terminal,
+        LastingCommand::DequeueAll(terminal) => terminal,
+        LastingCommand::Exit(terminal) => terminal,
+    }
 }
 
 /// The record of an input as it is kept.

@@ -1,10 +1,10 @@
 -- A control region that goes on with what lasts.
-use Rattle.std.proofs.Common.{◌≡◌, ℕ, zero, suc, ◌+◌, ◌<◌, ◌≤◌, Bool, true, false, not, List, [], ◌∷◌, ◌++◌, map, take, drop, length, replicate, refl, sym, ap, ◌∙◌, subst, arith, ◌&&◌, ◌||◌}
+use Rattle.std.proofs.Common.{◌≡◌, ℕ, zero, suc, ◌+◌, ◌-◌, ◌<◌, ◌≤◌, Bool, true, false, not, List, [], ◌∷◌, ◌++◌, map, take, drop, length, replicate, refl, sym, ap, ◌∙◌, subst, arith, ◌&&◌, ◌||◌}
 use Rattle.std.specs.Prelude.{Option, Some, None, IfSome, IsSomeAnd, All, find, slice_get, if◌then◌else◌, ◌==◌, nat_lt}
 use Rattle.std.specs.Option.{is_some, option_map_or}
 use Rattle.std.specs.List.{AllByRecursion, list_all, list_any}
 use Rattle.std.specs.Str.{bytes_eq}
-use Rattle.std.proofs.lemmas.Bool.{false≢true, and_parts, eqb-true}
+use Rattle.std.proofs.lemmas.Bool.{false≢true, and_parts, eqb-true, ltb-true}
 use Rattle.std.proofs.lemmas.List.{length-map, take-append-drop}
 use Rattle.std.proofs.lemmas.Slice.Eq.{bytes_eq-Decides}
 use Rattle.tm_types.specs.Name.{IsName}
@@ -67,11 +67,12 @@ last_of true true true true false f h = absurd (no_rule h)
 
 all_below : (next : ℕ) (ms : List Message) → ascend_below next ms ≡ true → IsNewId next (map waiting ms)
 all_below next [] h = tt
-all_below next (m ∷ []) h = (omega (arith, h), tt)
+all_below next (m ∷ []) h = (ltb-true m.id next h, tt)
 all_below next (m ∷ later ∷ ms) h =
     let p = and_parts (nat_lt m.id later.id) (ascend_below next (later ∷ ms)) h in
     let rest = all_below next (later ∷ ms) p.1 in
-    (omega (arith, p.0, rest.0), rest)
+    let less = ltb-true m.id later.id p.0 in
+    (omega (arith, less, rest.0), rest)
 
 -- ---- the conversations
 module _ (system : System) (names : AllByRecursion (λ code. IsName code.transaction.code) system.codes) where

@@ -8,3 +8,4 @@ pub mod Turns
 pub mod Ends
 pub mod Told
 pub mod OnSlots
+pub mod Opening

@@ -12,6 +12,7 @@ mod close;
 mod finish;
 mod flags;
 mod input;
+mod lending;
 mod lookup;
 mod next;
 mod opening;

@@ -1,12 +1,10 @@
 //! A control region that goes on with what lasts.
-ghost use Rattle.std.specs.Prelude.{◌≡◌, [], false, length, map, replicate};
+ghost use Rattle.std.specs.Prelude.{◌≡◌, [], length, replicate};
 ghost use Rattle.std.specs.List.{AllByRecursion};
 ghost use Rattle.tm_types.specs.Name.{IsName};
-ghost use Rattle.model_image.specs.States.{breaks_a_rule};
 ghost use Rattle.model_machine.specs.Machine.{LastingState, empty_state, start_of};
-ghost use Rattle.snapshot_records.specs.Records.{IsOfSystem};
-ghost use Rattle.opening_parts.specs.Parts.{AreOpeningParts};
 ghost use Rattle.tm_machine.specs.OnSlots.{slots_now};
+ghost use Rattle.tm_machine.specs.Opening.{IsOpenedWith};
 
 use crate::input::named;
 use crate::parts::Parts;
@@ -15,13 +13,10 @@ use model_system::Code;
 impl Parts {
     /// What lasts is what these parts are of; no region has a message. The parts were new. This takes no memory.
     pub fn open(&mut self, parts: opening_parts::Parts)
-        ghost state: { LastingState }
         requires fresh { self.old.moment ≡ start_of self.old.system (empty_state self.old.system) }
-        requires opening { AreOpeningParts self.old.system state parts }
-        requires rules { breaks_a_rule self.old.system state ≡ false }
-        requires of_system { IsOfSystem self.old.system state }
+        requires some { (state : LastingState) × IsOpenedWith self.old.system state parts }
         ensures system { self.new.system ≡ self.old.system }
-        ensures moment { self.new.moment ≡ start_of self.old.system state }
+        ensures moment { (state : LastingState) → IsOpenedWith self.old.system state parts → self.new.moment ≡ start_of self.old.system state }
         ensures slots { slots_now self.new ≡ record { stores = parts.stores.stores; changed = parts.stores.changed; committed = parts.stores.stores; touched = replicate (length self.old.system.regions) [] } }
     {
         valid_names(self.system.codes());

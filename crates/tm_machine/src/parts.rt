@@ -1,5 +1,5 @@
 //! The parts of a control region.
-ghost use Rattle.std.specs.Prelude.{◌≡◌, None, replicate, IfOk};
+ghost use Rattle.std.specs.Prelude.{◌≡◌, None, replicate, IfErr, IfOk};
 ghost use Rattle.model_machine.specs.Machine.{empty_state, start_of, IsRegion};
 ghost use Rattle.program_rows.specs.OnSlots.{all_stores, touched_in};
 ghost use Rattle.program_rows.specs.State.{settled};
@@ -39,14 +39,21 @@ impl Model for Parts {
 }
 
 impl Parts {
-    /// The parts of an empty control region of this system.
-    pub fn new(alloc: Global, system: System) -> Result<Parts, Memory>
+    /// The parts of an empty control region of this system. Where there is no memory, the system is handed back.
+    pub fn new(alloc: Global, system: System) -> Result<Parts, System>
         ensures system { IfOk result (λ parts. parts.system ≡ system) }
         ensures moment { IfOk result (λ parts. parts.moment ≡ start_of system (empty_state system)) }
+        ensures back { IfErr result (λ back. back ≡ system) }
     {
-        let regions = empty_regions(alloc, system.regions().len())?;
-        let tables = Tables::new(alloc, &system)?;
-        let codes = Codes::of(alloc, &system)?;
+        let Ok(regions) = empty_regions(alloc, system.regions().len()) else {
+            return Err(system);
+        };
+        let Ok(tables) = Tables::new(alloc, &system) else {
+            return Err(system);
+        };
+        let Ok(codes) = Codes::of(alloc, &system) else {
+            return Err(system);
+        };
         Ok(Parts {
             alloc,
             tables,

@@ -1,4 +1,4 @@
-use Rattle.std.proofs.Common.{◌≡◌, ◌∙◌, ap, sym, length, map, replicate}
+use Rattle.std.proofs.Common.{◌≡◌, ◌∙◌, [], ap, sym, length, map, replicate}
 use Rattle.tm_types.specs.declared.dbd.Dbd.{Dbd}
 use Rattle.model_enqueue.specs.Table.{EnqueueTable}
 use Rattle.program_rows.specs.State.{DatabasesState, rows_of, clean_region}

@@ -1,0 +1,9 @@
+pub mod Pads
+pub mod Holding
+pub mod Turning
+pub mod Answering
+pub mod Writing
+pub mod Storing
+pub mod Opening
+pub mod Checking
+pub mod Closing
