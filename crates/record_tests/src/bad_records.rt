@@ -1,7 +1,7 @@
 //! Snapshots and logs whose records break a rule.
 use small_images::images::{
-    ACCOUNT, CONV, COUNTS, ECHO, FIRST, MESSAGE, OTHER, REPLY, SECOND, change, image, long_message,
-    plain, snapshot,
+    ACCOUNT, CONV, COUNTS, ECHO, FIRST, MESSAGE, REPLY, SECOND, image, long_message, plain,
+    snapshot,
 };
 use small_images::small_system::{LOG_B, SNAPSHOT_B};
 use small_images::spelled::{joined, log_sector, put, record};
@@ -149,7 +149,7 @@ fn snapshots_that_break_a_rule(rt: HostRuntime) -> Result<(), Fail> {
 // Unit 9's sync point.
 const SYNC: &[u8] = b"\0\x0e\x37\0\0\0\0\0\0\0\x09\0\0\0";
 
-const LOGS: [(&[&[u8]], u8); 18] = [
+const LOGS: [(&[&[u8]], u8); 19] = [
     (&[SYNC], 0),
     // No record, one that is longer than its fields, and one that is shorter.
     (&[b"\0\x05\x04\0\0"], 18),
@@ -187,9 +187,10 @@ const LOGS: [(&[&[u8]], u8); 18] = [
         &[b"\0\x1d\x07\0\0\0\0\0\0\0\x09\0\0\0\0\0\0\0\x03\0\x64\0\0\0\0\0\0\0\x03"],
         19,
     ),
-    // What is no lasting command, and one of a terminal that isn't there.
+    // What is no lasting command, and one of a terminal that isn't there; an end of a conversation where there is none.
     (&[b"\0\x09\x02\0\x04/XYZ"], 19),
     (&[b"\0\x13\x02\0\x0e/STOP LTERM T9"], 19),
+    (&[b"\0\x0d\x02\0\x08/EXIT T1"], 0),
 ];
 
 #[test]
@@ -270,26 +271,32 @@ fn messages_that_break_a_rule(rt: HostRuntime) -> Result<(), Fail> {
     Ok(())
 }
 
+// What unit 8 did to the first slot and to the second.
+const ONE: &[u8] =
+    b"\0\x2c\x50\0\0\0\0\0\0\0\x08\x01\0\0\0\x0d\x01000100001000\0\x0d\x01000100001001";
+
+const OTHER_SLOT: &[u8] = b"\0\x1f\x50\0\0\0\0\0\0\0\x08\x01\0\x01\0\0\0\x0d\x01000200000001";
+
+const CHANGES: [(&[&[u8]], u8); 7] = [
+    (&[ONE, OTHER_SLOT], 0),
+    (&[OTHER_SLOT, ONE], 11),
+    (&[ONE, ONE], 11),
+    // A slot and a database that aren't there, and what is no record.
+    (&[b"\0\x12\x50\0\0\0\0\0\0\0\x08\x01\0\x02\0\0\0\0"], 17),
+    (&[b"\0\x12\x50\0\0\0\0\0\0\0\x08\x02\0\0\0\0\0\0"], 17),
+    (&[b"\0\x13\x50\0\0\0\0\0\0\0\x08\x01\0\0\0\x01\x02\0\0"], 17),
+    (
+        &[b"\0\x15\x50\0\0\0\0\0\0\0\x08\x01\0\0\0\0\0\x03\x0100"],
+        17,
+    ),
+];
+
 #[test]
 fn changes_in_a_snapshot(rt: HostRuntime) -> Result<(), Fail> {
     let alloc = rt.alloc();
-    let first = change(alloc, 8, 0, ACCOUNT, OTHER)?;
-    let second = change(alloc, 8, 1, b"", b"\x01000200000001")?;
-    let rows: [(&[&[u8]], u8); 7] = [
-        (&[&first, &second], 0),
-        (&[&second, &first], 11),
-        (&[&first, &first], 11),
-        // A slot and a database that aren't there, and what is no record.
-        (&[b"\0\x12\x50\0\0\0\0\0\0\0\x08\x01\0\x02\0\0\0\0"], 17),
-        (&[b"\0\x12\x50\0\0\0\0\0\0\0\x08\x02\0\0\0\0\0\0"], 17),
-        (&[b"\0\x13\x50\0\0\0\0\0\0\0\x08\x01\0\0\0\x01\x02\0\0"], 17),
-        (
-            &[b"\0\x15\x50\0\0\0\0\0\0\0\x08\x01\0\0\0\0\0\x03\x0100"],
-            17,
-        ),
-    ];
-    for (changes, rule) in rows {
-        let bytes = snapshot(alloc, &joined(alloc, changes)?)?;
+    for (changes, rule) in CHANGES {
+        let behind = joined(alloc, changes)?;
+        let bytes = snapshot(alloc, &behind)?;
         let mut disk = image(alloc, &bytes, &[], [ACCOUNT, b""])?;
         let found = fault(alloc, &mut disk)?;
         assert_eq!(rt; found.0, rule, "{changes:?}");

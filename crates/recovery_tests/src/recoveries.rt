@@ -8,7 +8,7 @@ use small_images::small_system::{DATA, LOG_A, LOG_B, SECTORS, SNAPSHOT_A, TEXT};
 use small_images::spelled::{
     data_sector, got, has, joined, log_sector, poke, put, record, snapshot_sector,
 };
-use small_lives::lives::{Refused, life, lines, opened, refusal, told_with};
+use small_lives::lives::{Begun, Refused, life, lines, opened, refusal, told_with};
 use std::alloc::Global;
 use std::test::Fail;
 use tm_disk::{Disk, MemDisk, SECTOR_BYTES, Sector};
@@ -21,10 +21,12 @@ const MORE: &[u8] =
     b"\0\x2b\x01\0\0\0\0\0\0\0\0\0\0\0\0\0\0\0\x04\x02T2\x04CONV\0\0\0\0\0\0\0\0\x01\x01\0\x04MORE";
 // What unit 9 does on message 4 but for its sync point.
 const DONE: &[u8] = b"\0\x14\x36\0\0\0\0\0\0\0\0\x09\0\0\0\0\0\0\0\x04";
-// What is told of T1, of T2, of the messages and of the account before.
+// What is told of T1, of T2, of the codes, of the messages and of the account before.
 const T1: &[u8] = b"T1 2 2 \nOUT 1 HI\n";
 
 const T2: &[u8] = b"T2 1 1 \nPAD CONV    ABCDEF\n";
+
+const CODES: &[u8] = b"ECHO 1 5 \nCONV 1 1 \n";
 
 const IN3: &[u8] = b"IN 3 T1 ECHO ECHO A\n";
 
@@ -32,9 +34,9 @@ const IN4: &[u8] = b"IN 4 T2 CONV CONVERSING MORE\n";
 
 const ROW: &[u8] = b"ROW 000100001000\n";
 
-// A log, a sector each; and what is told of the counts, T1, T2, the messages and the account once all of it is there. A
-// front of it does nothing.
-const DOINGS: [(&[&[u8]], [&[u8]; 7]); 11] = [
+// A log, a sector each; and what is told of the counts, T1, T2, the codes, the messages and the account once all of it is
+// there. A front of its sectors does nothing.
+const DOINGS: [(&[&[u8]], [&[u8]; 8]); 15] = [
     // Input 3 of T1, with two segments.
     (
         &[
@@ -44,6 +46,7 @@ const DOINGS: [(&[&[u8]], [&[u8]; 7]); 11] = [
             b"NEXT 6 STEPS 7 \n",
             b"T1 3 2 \nOUT 1 HI\n",
             T2,
+            CODES,
             IN3,
             IN4,
             b"IN 5 T1 ECHO ECHO B+C\n",
@@ -60,6 +63,7 @@ const DOINGS: [(&[&[u8]], [&[u8]; 7]); 11] = [
             b"NEXT 6 STEPS 7 \n",
             b"T1 3 2 \nOUT 1 HI\n",
             T2,
+            CODES,
             IN3,
             IN4,
             b"IN 5 T1 ECHO ECHO B+C\n",
@@ -75,6 +79,7 @@ const DOINGS: [(&[&[u8]], [&[u8]; 7]); 11] = [
             b"NEXT 6 STEPS 7 \n",
             b"T1 3 2 \nPAD CONV          \nOUT 1 HI\n",
             T2,
+            CODES,
             IN3,
             IN4,
             b"IN 5 T1 CONV CONVERSING HELLO\n",
@@ -84,7 +89,16 @@ const DOINGS: [(&[&[u8]], [&[u8]; 7]); 11] = [
     // T1 has seen reply 1.
     (
         &[b"\0\x0f\x36\x01\x02T1\0\0\0\0\0\0\0\x01"],
-        [b"NEXT 5 STEPS 7 \n", b"T1 2 2 \n", T2, IN3, IN4, b"", ROW],
+        [
+            b"NEXT 5 STEPS 7 \n",
+            b"T1 2 2 \n",
+            T2,
+            CODES,
+            IN3,
+            IN4,
+            b"",
+            ROW,
+        ],
     ),
     // Unit 9 on message 3: a reply to T1, a message to ECHO, and the end.
     (
@@ -98,6 +112,7 @@ const DOINGS: [(&[&[u8]], [&[u8]; 7]); 11] = [
             b"NEXT 6 STEPS 7 \n",
             b"T1 2 3 \nOUT 1 HI\nOUT 2 OK\n",
             T2,
+            CODES,
             b"",
             IN4,
             b"IN 5 T1 ECHO ECHO C\n",
@@ -107,7 +122,7 @@ const DOINGS: [(&[&[u8]], [&[u8]; 7]); 11] = [
     // Unit 9 on message 4: its pad stays, is another, or ends.
     (
         &[DONE, b"\0\x0e\x37\0\0\0\0\0\0\0\x09\0\0\0"],
-        [b"NEXT 5 STEPS 7 \n", T1, T2, IN3, b"", b"", ROW],
+        [b"NEXT 5 STEPS 7 \n", T1, T2, CODES, IN3, b"", b"", ROW],
     ),
     (
         &[
@@ -118,6 +133,7 @@ const DOINGS: [(&[&[u8]], [&[u8]; 7]); 11] = [
             b"NEXT 5 STEPS 7 \n",
             T1,
             b"T2 1 1 \nPAD CONV    GHIJKL\n",
+            CODES,
             IN3,
             b"",
             b"",
@@ -126,7 +142,16 @@ const DOINGS: [(&[&[u8]], [&[u8]; 7]); 11] = [
     ),
     (
         &[DONE, b"\0\x0e\x37\0\0\0\0\0\0\0\x09\x02\0\0"],
-        [b"NEXT 5 STEPS 7 \n", T1, b"T2 1 1 \n", IN3, b"", b"", ROW],
+        [
+            b"NEXT 5 STEPS 7 \n",
+            T1,
+            b"T2 1 1 \n",
+            CODES,
+            IN3,
+            b"",
+            b"",
+            ROW,
+        ],
     ),
     // An abend discards message 4, whose conversation ends, or message 3.
     (
@@ -135,6 +160,7 @@ const DOINGS: [(&[&[u8]], [&[u8]; 7]); 11] = [
             b"NEXT 5 STEPS 7 \n",
             T1,
             b"T2 1 2 \nOUT 1 DFS555I TRAN CONV ABEND U0100\n",
+            CODES,
             IN3,
             b"",
             b"",
@@ -147,6 +173,7 @@ const DOINGS: [(&[&[u8]], [&[u8]; 7]); 11] = [
             b"NEXT 5 STEPS 7 \n",
             b"T1 2 3 \nOUT 1 HI\nOUT 2 DFS555I TRAN ECHO ABEND U4095\n",
             T2,
+            CODES,
             b"",
             IN4,
             b"",
@@ -163,31 +190,70 @@ const DOINGS: [(&[&[u8]], [&[u8]; 7]); 11] = [
             b"NEXT 5 STEPS 7 \n",
             T1,
             T2,
+            CODES,
             IN3,
             IN4,
             b"",
             b"ROW 000100001001\n",
         ],
     ),
-];
-
-// The lines of these begun.
-fn told(alloc: Global, parts: [&[u8]; 7]) -> Result<Vec<u8>, Fail> {
-    let [first, one, two, third, fourth, fifth, row] = parts;
-    joined(
-        alloc,
-        &[
-            first,
-            one,
-            two,
-            b"ECHO 1 5 \nCONV 1 1 \n",
-            third,
-            fourth,
-            fifth,
-            row,
+    // An operator stops a code, stops a terminal, and takes the first reply from one.
+    (
+        &[b"\0\x1b\x02\0\x16/STOP TRANSACTION ECHO"],
+        [
+            b"NEXT 5 STEPS 7 \n",
+            T1,
+            T2,
+            b"ECHO 1 5 STOPPED \nCONV 1 1 \n",
+            IN3,
+            IN4,
+            b"",
+            ROW,
         ],
-    )
-}
+    ),
+    (
+        &[b"\0\x13\x02\0\x0e/STOP LTERM T2"],
+        [
+            b"NEXT 5 STEPS 7 \n",
+            T1,
+            b"T2 1 1 STOPPED \nPAD CONV    ABCDEF\n",
+            CODES,
+            IN3,
+            IN4,
+            b"",
+            ROW,
+        ],
+    ),
+    (
+        &[b"\0\x1d\x02\0\x18/DEQUEUE LTERM T1 PURGE1"],
+        [
+            b"NEXT 5 STEPS 7 \n",
+            b"T1 2 2 \n",
+            T2,
+            CODES,
+            IN3,
+            IN4,
+            b"",
+            ROW,
+        ],
+    ),
+    // Unit 9 completes message 4, and then an operator ends its conversation.
+    (
+        &[
+            b"\0\x14\x36\0\0\0\0\0\0\0\0\x09\0\0\0\0\0\0\0\x04\0\x0e\x37\0\0\0\0\0\0\0\x09\0\0\0\0\x0d\x02\0\x08/EXIT T2",
+        ],
+        [
+            b"NEXT 5 STEPS 8 \n",
+            T1,
+            b"T2 1 1 \n",
+            CODES,
+            IN3,
+            b"",
+            b"",
+            ROW,
+        ],
+    ),
+];
 
 // A disk that recovers to the lines before, on which these sectors of the log were written and not synced.
 fn written(alloc: Global, log: &[&[u8]]) -> Result<MemDisk, Fail> {
@@ -208,9 +274,12 @@ fn written(alloc: Global, log: &[&[u8]]) -> Result<MemDisk, Fail> {
 #[test]
 fn what_each_record_does(rt: HostRuntime) -> Result<(), Fail> {
     let alloc = rt.alloc();
-    let before = told(alloc, [b"NEXT 5 STEPS 6 \n", T1, T2, IN3, IN4, b"", ROW])?;
+    let before = joined(
+        alloc,
+        &[b"NEXT 5 STEPS 6 \n", T1, T2, CODES, IN3, IN4, b"", ROW],
+    )?;
     for (log, parts) in DOINGS {
-        let after = told(alloc, parts)?;
+        let after = joined(alloc, &parts)?;
         let all: u64 = match log.len() {
             1 => 1,
             2 => 3,
@@ -273,45 +342,53 @@ fn two_units_on_one_slot(rt: HostRuntime) -> Result<(), Fail> {
     Ok(())
 }
 
+// Unit 8 changes the account, and changes it further; its sync point.
+const OPEN: &[u8] =
+    b"\0\x2c\x50\0\0\0\0\0\0\0\x08\x01\0\0\0\x0d\x01000100001000\0\x0d\x01000100001001";
+
+const FURTHER: &[u8] =
+    b"\0\x2c\x50\0\0\0\0\0\0\0\x08\x01\0\0\0\x0d\x01000100001001\0\x0d\x01000100001002";
+
+const END: &[u8] = b"\0\x0e\x37\0\0\0\0\0\0\0\x08\0\0\0";
+// Unit 9 changes the account, changes it from what another change left, empties its slot, and fills the other slot; its sync
+// point.
+const ONCE: &[u8] =
+    b"\0\x2c\x50\0\0\0\0\0\0\0\x09\x01\0\0\0\x0d\x01000100001000\0\x0d\x01000100001001";
+
+const AGAIN: &[u8] =
+    b"\0\x2c\x50\0\0\0\0\0\0\0\x09\x01\0\0\0\x0d\x01000100001001\0\x0d\x01000100001002";
+
+const EMPTIED: &[u8] = b"\0\x1f\x50\0\0\0\0\0\0\0\x09\x01\0\0\0\x0d\x01000100001000\0\0";
+
+const FILLED: &[u8] = b"\0\x1f\x50\0\0\0\0\0\0\0\x09\x01\0\x01\0\0\0\x0d\x01000200000005";
+
+const LAST: &[u8] = b"\0\x0e\x37\0\0\0\0\0\0\0\x09\0\0\0";
+
 const NEW: &[u8] = b"\x01000200000005";
 
-// Changes in the snapshot and in the log, what the sectors have, and what is recovered then.
+// Changes in the snapshot, the records of the log, what the sectors have, and the steps and the record that is recovered then.
+const VALUES: [(&[u8], &[&[u8]], [&[u8]; 2], u8, &[u8]); 10] = [
+    // A unit that was open at the snapshot: its sync point stands in the log, or nowhere.
+    (OPEN, &[], [OTHER, b""], 6, ACCOUNT),
+    (OPEN, &[END], [OTHER, b""], 7, OTHER),
+    (OPEN, &[FURTHER, END], [OTHER, b""], 7, THIRD),
+    (OPEN, &[FURTHER], [THIRD, b""], 6, ACCOUNT),
+    (OPEN, &[END, AGAIN], [THIRD, b""], 7, OTHER),
+    (OPEN, &[END, AGAIN, LAST], [OTHER, b""], 8, THIRD),
+    // A slot that is filled, and one that is emptied.
+    (b"", &[FILLED, EMPTIED], [b"", NEW], 6, ACCOUNT),
+    (b"", &[FILLED, EMPTIED, LAST], [ACCOUNT, b""], 7, NEW),
+    // Two changes of one unit.
+    (b"", &[ONCE, AGAIN], [THIRD, b""], 6, ACCOUNT),
+    // The sector of a slot that a record names may have anything.
+    (b"", &[ONCE, LAST], [b"\x02", b""], 7, OTHER),
+];
+
 #[test]
 fn the_values_of_slots(rt: HostRuntime) -> Result<(), Fail> {
     let alloc = rt.alloc();
-    let open = change(alloc, 8, 0, ACCOUNT, OTHER)?;
-    let end = sync_point(alloc, 8)?;
-    let first = change(alloc, 9, 0, ACCOUNT, OTHER)?;
-    let second = change(alloc, 9, 0, OTHER, THIRD)?;
-    let last = sync_point(alloc, 9)?;
-    let more = change(alloc, 8, 0, OTHER, THIRD)?;
-    let filled = change(alloc, 9, 1, b"", NEW)?;
-    let emptied = change(alloc, 9, 0, ACCOUNT, b"")?;
-    let none: &[u8] = b"";
-    let rows: [(&[u8], [&[u8]; 3], [&[u8]; 2], u8, &[u8]); 10] = [
-        // A unit that was open at the snapshot: its sync point stands in the log, or nowhere.
-        (&open, [none, none, none], [OTHER, none], 6, ACCOUNT),
-        (&open, [&end, none, none], [OTHER, none], 7, OTHER),
-        (&open, [&more, &end, none], [OTHER, none], 7, THIRD),
-        (&open, [&more, none, none], [THIRD, none], 6, ACCOUNT),
-        (&open, [&end, &second, none], [THIRD, none], 7, OTHER),
-        (&open, [&end, &second, &last], [OTHER, none], 8, THIRD),
-        // A slot that is filled, and one that is emptied.
-        (none, [&filled, &emptied, none], [none, NEW], 6, ACCOUNT),
-        (none, [&filled, &emptied, &last], [ACCOUNT, none], 7, NEW),
-        // Two changes of one unit.
-        (none, [&first, &second, none], [THIRD, none], 6, ACCOUNT),
-        // The sector of a slot that a record names may have anything.
-        (none, [&first, &last, none], [b"\x02", none], 7, OTHER),
-    ];
-    for (behind, log, slots, steps, account) in rows {
-        let payload = joined(alloc, &log)?;
-        let records = snapshot(alloc, behind)?;
-        let mut disk = if payload.is_empty() {
-            image(alloc, &records, &[], slots)?
-        } else {
-            image(alloc, &records, &[&payload], slots)?
-        };
+    for (behind, log, slots, steps, account) in VALUES {
+        let mut disk = image(alloc, &snapshot(alloc, behind)?, log, slots)?;
         let told = lines(alloc, &mut disk, 0)?;
         let expected = told_with(alloc, steps, account)?;
         assert_eq!(rt; told.as_slice(), expected.as_slice(), "{log:?}");
@@ -490,7 +567,7 @@ END
 ";
 
 // Begins a blank disk of that system cold, and puts these records into its log.
-fn begun(alloc: Global, log: &[u8]) -> Result<MemDisk, Fail> {
+fn with_log(alloc: Global, log: &[u8]) -> Result<MemDisk, Fail> {
     let mut disk = MemDisk::new(alloc, SECTORS + 2, Vec::new(alloc))?;
     if refusal(alloc, &mut disk, TWO, TWO)?.is_some() {
         return Err("refused".into());
@@ -499,36 +576,46 @@ fn begun(alloc: Global, log: &[u8]) -> Result<MemDisk, Fail> {
     Ok(disk)
 }
 
-// The slots of a second database stand behind those of the first; and of two databases the lowest rule is told.
+// A unit fills the second slot of each.
+const BOTH: &[u8] =
+    b"\0\x1b\x50\0\0\0\0\0\0\0\x01\x02\0\x01\0\0\0\x09\x010007AAAA\0\x1f\x50\0\0\0\0\0\0\0\x01\x01\0\x01\0\0\0\x0d\x01000700001000\0\x0e\x37\0\0\0\0\0\0\0\x01\0\0\0";
+
+// What a life of that system begins with, and its lines.
+fn of_two(alloc: Global, disk: &mut MemDisk) -> Result<(Begun, Vec<u8>), Fail> {
+    match opened(alloc, disk, TWO, TWO)? {
+        Ok(opened) => Ok(opened),
+        Err(_) => Err("refused".into()),
+    }
+}
+
+// The slots of a second database stand behind those of the first.
 #[test]
 fn two_databases(rt: HostRuntime) -> Result<(), Fail> {
     let alloc = rt.alloc();
-    let log = joined(
-        alloc,
-        &[
-            b"\0\x1b\x50\0\0\0\0\0\0\0\x01\x02\0\x01\0\0\0\x09\x010007AAAA",
-            b"\0\x1f\x50\0\0\0\0\0\0\0\x01\x01\0\x01\0\0\0\x0d\x01000700001000",
-            &sync_point(alloc, 1)?,
-        ],
-    )?;
-    let mut disk = begun(alloc, &log)?;
+    let mut disk = with_log(alloc, BOTH)?;
     let expected = b"NEXT 1 STEPS 1 \nT1 0 1 \nROW 000700001000\nROW 0007AAAA\n";
     for epoch in 2..4u64 {
-        let Ok((begun, lines)) = opened(alloc, &mut disk, TWO, TWO)? else {
-            return Err("refused".into());
-        };
+        let (begun, lines) = of_two(alloc, &mut disk)?;
         assert_eq!(rt; lines.as_slice(), expected.as_slice());
         assert_eq!(rt; (begun.now.epoch, begun.next_unit), (epoch, 2));
     }
     let second = data_sector(alloc, b"\x010007AAAA")?;
     assert_eq!(rt; got(&mut disk, DATA + 3)? == second, true);
-    // No record in the first, and a byte behind the rows in the second.
+    Ok(())
+}
+
+// Of two databases the lowest rule is told: no record in the first, and a byte behind the rows in the second.
+#[test]
+fn rules_of_two_databases(rt: HostRuntime) -> Result<(), Fail> {
+    let alloc = rt.alloc();
+    let mut disk = with_log(alloc, BOTH)?;
+    assert_eq!(rt; refusal(alloc, &mut disk, TWO, TWO)?, None);
     poke(&mut disk, DATA, 1, 1)?;
     poke(&mut disk, DATA + 2, 4095, 1)?;
-    for (rule, sector) in [(20, DATA + 2), (21, DATA)] {
-        let found = refusal(alloc, &mut disk, TWO, TWO)?;
-        assert_eq!(rt; found, Some(Refused::Bad(rule, sector)));
-        poke(&mut disk, DATA + 2, 4095, 0)?;
-    }
+    let found = refusal(alloc, &mut disk, TWO, TWO)?;
+    assert_eq!(rt; found, Some(Refused::Bad(20, DATA + 2)));
+    poke(&mut disk, DATA + 2, 4095, 0)?;
+    let found = refusal(alloc, &mut disk, TWO, TWO)?;
+    assert_eq!(rt; found, Some(Refused::Bad(21, DATA)));
     Ok(())
 }

@@ -44,18 +44,19 @@ fn a_recovery_that_is_stopped(rt: HostRuntime) -> Result<(), Fail> {
 
 const NEW: &[u8] = b"\x01000200000005";
 
-// The restart sector and the snapshot of a checkpoint of the plain image, while unit 9 has changed both slots.
-fn checkpoint(alloc: Global) -> Result<[Sector; 2], Fail> {
+// The snapshot of a checkpoint of the plain image, while unit 9 has changed both slots.
+fn snapshot_of(alloc: Global, changes: &[u8]) -> Result<Sector, Fail> {
     let counts =
         b"\0\x24\x40\0\0\0\0\0\0\0\0\x04\0\0\0\0\0\0\0\x05\0\0\0\0\0\0\0\x0a\0\0\0\0\0\0\0\x06";
-    let first = change(alloc, 9, 0, ACCOUNT, OTHER)?;
-    let second = change(alloc, 9, 1, b"", NEW)?;
     let records = joined(
         alloc,
-        &[
-            counts, FIRST, SECOND, ECHO, CONV, MESSAGE, REPLY, &first, &second,
-        ],
+        &[counts, FIRST, SECOND, ECHO, CONV, MESSAGE, REPLY, changes],
     )?;
+    snapshot_sector(alloc, 4, 0, &records)
+}
+
+// The restart sector of that checkpoint.
+fn restart_of(alloc: Global) -> Result<Sector, Fail> {
     let text = u32::try_from(TEXT.len()).ok().ok_or("too long")?;
     let fields: [&[u8]; 6] = [
         b"IMSR\0\0\0\x01\0\0\0\0\0\0\0\x04",
@@ -65,10 +66,7 @@ fn checkpoint(alloc: Global) -> Result<[Sector; 2], Fail> {
         b"\0\0\0\0\0\0\0\x04",
         &text.to_be_bytes(),
     ];
-    Ok([
-        sector(alloc, &fields)?,
-        snapshot_sector(alloc, 4, 0, &records)?,
-    ])
+    sector(alloc, &fields)
 }
 
 // The plain image with the first n writes of that checkpoint: the log, the slots, the snapshot and the restart sector, with
@@ -77,11 +75,15 @@ fn checkpointed(alloc: Global, n: usize) -> Result<MemDisk, Fail> {
     let first = change(alloc, 9, 0, ACCOUNT, OTHER)?;
     let second = change(alloc, 9, 1, b"", NEW)?;
     let changes = joined(alloc, &[&first, &second])?;
-    let [restart, snapshot] = checkpoint(alloc)?;
+    let log = log_sector(alloc, 4, 11, &changes)?;
+    let one = data_sector(alloc, OTHER)?;
+    let two = data_sector(alloc, NEW)?;
+    let snapshot = snapshot_of(alloc, &changes)?;
+    let restart = restart_of(alloc)?;
     let writes = [
-        (LOG_B, log_sector(alloc, 4, 11, &changes)?, true),
-        (DATA, data_sector(alloc, OTHER)?, false),
-        (DATA + 1, data_sector(alloc, NEW)?, true),
+        (LOG_B, log, true),
+        (DATA, one, false),
+        (DATA + 1, two, true),
         (SNAPSHOT_A, snapshot, true),
         (0, restart, true),
     ];
