@@ -3,12 +3,11 @@ use image_rules::answers::{Answer, expected};
 use small_images::images::{
     ACCOUNT, CONV, COUNTS, ECHO, MESSAGE, OTHER, REPLY, change, image, sync_point,
 };
-use small_images::small_system::{LOG_A, SNAPSHOT_B, TEXT, small_system};
+use small_images::small_system::{LOG_A, SNAPSHOT_B, TEXT};
 use small_images::spelled::{got, joined, log_sector, poke, put};
-use small_lives::lives::{Refused, recovered};
+use small_lives::lives::{Refused, opened};
 use std::alloc::Global;
 use std::test::Fail;
-use system_types::System;
 use tm_disk::{Disk, MemDisk, SECTOR_BYTES};
 
 // T1 with the next output 3; T2 with the next output 2, in a conversation.
@@ -59,8 +58,8 @@ fn hostile(alloc: Global) -> Result<MemDisk, Fail> {
 }
 
 // What an opening of the disk answers.
-fn answer(alloc: Global, disk: &mut MemDisk, system: &System) -> Result<Answer, Fail> {
-    match recovered(alloc, disk, system, TEXT, 0)? {
+fn answer(alloc: Global, disk: &mut MemDisk) -> Result<Answer, Fail> {
+    match opened(alloc, disk, TEXT, TEXT)? {
         Ok((begun, _)) => Ok(Answer::Opens([
             begun.now.epoch,
             begun.now.sequence,
@@ -85,7 +84,7 @@ fn others(place: usize, byte: u8) -> [u8; 4] {
 }
 
 // Whether this value comes there for the first time, and is another one.
-fn is_new(values: [u8; 4], at: usize, byte: u8) -> bool {
+fn is_new(values: &[u8], at: usize, byte: u8) -> bool {
     match values.get(at) {
         Some(value) => *value != byte && !values.iter().take(at).any(|other| other == value),
         None => false,
@@ -99,7 +98,6 @@ type Difference = (usize, u8, Answer, Answer);
 fn compared(
     alloc: Global,
     disk: &mut MemDisk,
-    system: &System,
     at: u32,
     place: usize,
     value: u8,
@@ -108,7 +106,7 @@ fn compared(
     poke(disk, at, place, value)?;
     disk.sync()?;
     let wanted = expected(alloc, disk)?;
-    let found = answer(alloc, disk, system)?;
+    let found = answer(alloc, disk)?;
     if let Answer::Opens(_) = found {
         *disk = hostile(alloc)?;
     } else {
@@ -126,7 +124,6 @@ fn difference(
     to: usize,
     every: usize,
 ) -> Result<Option<Difference>, Fail> {
-    let system = small_system(alloc)?;
     let mut disk = hostile(alloc)?;
     let sector = got(&mut disk, at)?;
     for (place, byte) in sector.bytes().iter().enumerate() {
@@ -135,8 +132,8 @@ fn difference(
         }
         let values = others(place, *byte);
         for (value, count) in values.iter().zip(0..4usize) {
-            if is_new(values, count, *byte) {
-                let told = compared(alloc, &mut disk, &system, at, place, *value)?;
+            if is_new(&values, count, *byte) {
+                let told = compared(alloc, &mut disk, at, place, *value)?;
                 if told.2 != told.3 {
                     return Ok(Some(told));
                 }
@@ -149,11 +146,10 @@ fn difference(
 #[test]
 fn the_image_itself(rt: HostRuntime) -> Result<(), Fail> {
     let alloc = rt.alloc();
-    let system = small_system(alloc)?;
     let mut disk = hostile(alloc)?;
     let opens = Answer::Opens([5, 12, 5, 9, 7]);
     assert_eq!(rt; expected(alloc, &mut disk)?, opens);
-    assert_eq!(rt; answer(alloc, &mut disk, &system)?, opens);
+    assert_eq!(rt; answer(alloc, &mut disk)?, opens);
     Ok(())
 }
 

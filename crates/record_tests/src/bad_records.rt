@@ -8,6 +8,7 @@ use small_images::spelled::{joined, log_sector, put, record};
 use small_lives::lives::fault;
 use std::alloc::Global;
 use std::test::Fail;
+use tm_disk::MemDisk;
 
 // The counts with next id 0, next unit 0, and steps that are too many.
 const NO_ID: &[u8] =
@@ -234,12 +235,24 @@ const MESSAGES: [(u8, u8, &[u8], u8, u8, [u8; 3]); 14] = [
     (9, 5, T1_NONE, 0, 0, [11, 19, 19]),
 ];
 
-// The image of this place in that table.
-fn with_message(alloc: Global, place: usize, message: &[u8]) -> Result<Vec<u8>, Fail> {
+// An image with this message in its snapshot.
+fn in_snapshot(alloc: Global, message: &[u8]) -> Result<MemDisk, Fail> {
+    let records = joined(alloc, &[COUNTS, FIRST, SECOND, ECHO, CONV, message, REPLY])?;
+    image(alloc, &records, &[], [ACCOUNT, b""])
+}
+
+// An image whose log has these records.
+fn in_log(alloc: Global, log: &[&[u8]]) -> Result<MemDisk, Fail> {
+    let records = snapshot(alloc, b"")?;
+    image(alloc, &records, log, [ACCOUNT, b""])
+}
+
+// An image with this message in its snapshot, alone in the log, or with the sync point of unit 9 behind it.
+fn image_with(alloc: Global, place: usize, message: &[u8]) -> Result<MemDisk, Fail> {
     match place {
-        0 => joined(alloc, &[COUNTS, FIRST, SECOND, ECHO, CONV, message, REPLY]),
-        1 => joined(alloc, &[message]),
-        _ => joined(alloc, &[message, SYNC]),
+        0 => in_snapshot(alloc, message),
+        1 => in_log(alloc, &[message]),
+        _ => in_log(alloc, &[message, SYNC]),
     }
 }
 
@@ -258,12 +271,7 @@ fn messages_that_break_a_rule(rt: HostRuntime) -> Result<(), Fail> {
             ],
         )?;
         for (rule, place) in rules.iter().zip(0..3usize) {
-            let bytes = with_message(alloc, place, &message)?;
-            let mut disk = if place == 0 {
-                image(alloc, &bytes, &[], [ACCOUNT, b""])?
-            } else {
-                image(alloc, &snapshot(alloc, b"")?, &[&bytes], [ACCOUNT, b""])?
-            };
+            let mut disk = image_with(alloc, place, &message)?;
             let found = fault(alloc, &mut disk)?;
             assert_eq!(rt; found.0, *rule, "{unit} {id} {number} {conversing} {place}");
         }
