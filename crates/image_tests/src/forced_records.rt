@@ -1,9 +1,9 @@
 //! Each kind of record through the log: what is read after a stop is a front of what was written, and all of it
 //! once it was forced.
-use crate::spelled::joined;
 use log_records::{decode, encode};
 use log_sectors::read_chain;
 use log_writer::LogWriter;
+use small_images::spelled::joined;
 use std::alloc::Global;
 use std::test::Fail;
 use tm_disk::{Disk, MemDisk};

@@ -1,12 +1,14 @@
 //! The images that the other tests build by hand, as the calls of the low crates read them.
-use crate::images::{
-    ACCOUNT, OTHER, REPLY, THIRD, change, image, plain, snapshot, sync_point, two_units,
-};
-use crate::small_system::{DATA, LOG_B, SNAPSHOT_AREA, SNAPSHOT_B, TEXT, TEXT_AT, small_system};
-use crate::spelled::{got, has, joined};
 use log_records::decode;
 use log_sectors::read_chain;
 use restart_data::{RestartSector, read_restart, read_snapshot};
+use small_images::images::{
+    ACCOUNT, OTHER, REPLY, THIRD, change, image, plain, snapshot, sync_point, two_units,
+};
+use small_images::small_system::{
+    DATA, LOG_B, SNAPSHOT_AREA, SNAPSHOT_B, TEXT, TEXT_AT, small_system,
+};
+use small_images::spelled::{got, has, joined};
 use std::alloc::Global;
 use std::test::Fail;
 use tm_disk::{Disk, MemDisk};

@@ -1,8 +1,8 @@
 //! Sectors as they are laid out, beside bytes that are written down.
-use crate::spelled::{got, has, sector};
 use log_sectors::{seal, unseal};
 use log_writer::LogWriter;
 use restart_data::{RestartSector, read_restart, write_restart, write_snapshot};
+use small_images::spelled::{got, has, sector};
 use std::test::Fail;
 use tm_disk::{Disk, MemDisk, SECTOR_BYTES};
 

@@ -110,6 +110,27 @@ pub fn image(
     Ok(disk)
 }
 
+/// A message of T1 to ECHO of 32 segments of 1,996 bytes, which counts 64,048.
+pub fn long_message(alloc: Global, id: u8, number: u8) -> Result<Vec<u8>, Fail> {
+    let text = vec![in alloc; b'x'; 1996]?;
+    let mut segments = Vec::new(alloc);
+    for _ in 0..32u8 {
+        segments.extend_from_slice(b"\x07\xcc")?;
+        segments.extend_from_slice(&text)?;
+    }
+    record(
+        alloc,
+        &[
+            b"\x01\0\0\0\0\0\0\0\0\0\0\0\0\0\0\0",
+            &[id],
+            b"\x02T1\x04ECHO",
+            b"\0\0\0\0\0\0\0",
+            &[number, 0, 32],
+            &segments,
+        ],
+    )
+}
+
 /// An image with a message, a reply and an account; its log is empty.
 pub fn plain(alloc: Global) -> Result<MemDisk, Fail> {
     image(alloc, &snapshot(alloc, b"")?, &[], [ACCOUNT, b""])

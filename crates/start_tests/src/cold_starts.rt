@@ -1,12 +1,11 @@
 //! `tm_restart`: what a cold start writes, in which order, and what a stop at one of its writes leaves.
-use crate::images::plain;
-use crate::small_system::{DATA, LOG_A, SECTORS, SNAPSHOT_A, TEXT, TEXT_AT, small_system};
-use crate::spelled::{got, has, joined, put, snapshot_sector};
+use small_images::images::plain;
+use small_images::small_system::{DATA, LOG_A, SECTORS, SNAPSHOT_A, TEXT, TEXT_AT};
+use small_images::spelled::{got, has, joined, put, snapshot_sector};
+use small_lives::lives::{Refused, begins_cold, stops_cold};
 use std::alloc::Global;
 use std::test::Fail;
-use system_types::System;
 use tm_disk::{Disk, MemDisk, SECTOR_BYTES, Sector};
-use tm_restart::{Lasting, OpenError, Parts, cold};
 
 // How many writes a cold start makes: sector 0, the text, two log areas of 64 sectors, two slots, the snapshot, and the
 // restart sector.
@@ -20,29 +19,6 @@ fn dirty(alloc: Global, sectors: u32) -> Result<MemDisk, Fail> {
     }
     disk.sync()?;
     Ok(disk)
-}
-
-// Begins the disk cold, as a crash by pick 0 leaves it.
-fn begun(
-    alloc: Global,
-    disk: &mut MemDisk,
-    system: &System,
-) -> Result<Result<(Parts, Lasting), OpenError>, Fail> {
-    disk.cut(0);
-    Ok(cold(alloc, disk, system, TEXT))
-}
-
-// Whether the disk stops a cold start at its n-th write.
-fn stops(alloc: Global, disk: &mut MemDisk, system: &System, n: u64) -> Result<bool, Fail> {
-    disk.cut(0);
-    if n == 0 || !disk.arm(n) {
-        return Err("not armed".into());
-    }
-    match cold(alloc, disk, system, TEXT) {
-        Ok(_) => Ok(false),
-        Err(OpenError::Disk) => Ok(true),
-        Err(_) => Err("refused".into()),
-    }
 }
 
 // The snapshot of the empty system: its counts, two terminals and two codes.
@@ -107,21 +83,28 @@ fn are_alike(one: &mut MemDisk, other: &mut MemDisk) -> Result<bool, Fail> {
 #[test]
 fn a_cold_start_wants_its_sectors(rt: HostRuntime) -> Result<(), Fail> {
     let alloc = rt.alloc();
-    let system = small_system(alloc)?;
     let mut disk = dirty(alloc, SECTORS - 1)?;
-    let refused = match begun(alloc, &mut disk, &system)? {
-        Err(OpenError::TooSmall(needed, has)) => (needed, has),
-        _ => (0, 0),
-    };
-    assert_eq!(rt; refused, (455, 454));
+    let refused = begins_cold(alloc, &mut disk)?;
+    assert_eq!(rt; refused, Some(Refused::TooSmall(455, 454)));
     assert_eq!(rt; are(&mut disk, 0, SECTORS - 1, b'x')?, true);
     for sectors in [SECTORS, SECTORS + 1] {
         let mut disk = dirty(alloc, sectors)?;
-        let opened = begun(alloc, &mut disk, &system)?.is_ok();
-        assert_eq!(rt; opened, true);
+        assert_eq!(rt; begins_cold(alloc, &mut disk)?, None);
         assert_eq!(rt; is_first(alloc, &mut disk)?, true);
         assert_eq!(rt; are(&mut disk, SECTORS, sectors, b'x')?, true);
     }
+    Ok(())
+}
+
+#[test]
+fn other_sectors_stay(rt: HostRuntime) -> Result<(), Fail> {
+    let alloc = rt.alloc();
+    let mut disk = dirty(alloc, SECTORS)?;
+    assert_eq!(rt; begins_cold(alloc, &mut disk)?, None);
+    disk.cut(0);
+    assert_eq!(rt; is_first(alloc, &mut disk)?, true);
+    assert_eq!(rt; are(&mut disk, TEXT_AT + 1, SNAPSHOT_A, b'x')?, true);
+    assert_eq!(rt; are(&mut disk, SNAPSHOT_A + 1, LOG_A, b'x')?, true);
     Ok(())
 }
 
@@ -129,11 +112,10 @@ fn a_cold_start_wants_its_sectors(rt: HostRuntime) -> Result<(), Fail> {
 #[test]
 fn the_order_of_the_writes(rt: HostRuntime) -> Result<(), Fail> {
     let alloc = rt.alloc();
-    let system = small_system(alloc)?;
     let rows = [(2, TEXT_AT), (3, LOG_A), (4, LOG_A + 1), (64, LOG_A + 61)];
     for (n, at) in rows {
         let mut disk = dirty(alloc, SECTORS)?;
-        assert_eq!(rt; stops(alloc, &mut disk, &system, n)?, true, "{n}");
+        assert_eq!(rt; stops_cold(alloc, &mut disk, n)?, true, "{n}");
         disk.cut(u64::MAX);
         assert_eq!(rt; are(&mut disk, 0, 1, 0)?, true, "{n}");
         assert_eq!(rt; are(&mut disk, at, at + 1, b'x')?, false, "{n}");
@@ -147,7 +129,7 @@ fn the_order_of_the_writes(rt: HostRuntime) -> Result<(), Fail> {
     // No sync stands between the text and the snapshot, and one stands behind the snapshot.
     for (n, written) in [(133, false), (WRITES, true)] {
         let mut disk = dirty(alloc, SECTORS)?;
-        assert_eq!(rt; stops(alloc, &mut disk, &system, n)?, true, "{n}");
+        assert_eq!(rt; stops_cold(alloc, &mut disk, n)?, true, "{n}");
         disk.cut(0);
         assert_eq!(rt; are(&mut disk, 0, 1, 0)?, true, "{n}");
         assert_eq!(rt; are(&mut disk, DATA, SECTORS, 0)?, written, "{n}");
@@ -158,7 +140,7 @@ fn the_order_of_the_writes(rt: HostRuntime) -> Result<(), Fail> {
         );
     }
     let mut disk = dirty(alloc, SECTORS)?;
-    assert_eq!(rt; stops(alloc, &mut disk, &system, WRITES + 1)?, false);
+    assert_eq!(rt; stops_cold(alloc, &mut disk, WRITES + 1)?, false);
     Ok(())
 }
 
@@ -167,13 +149,12 @@ fn the_order_of_the_writes(rt: HostRuntime) -> Result<(), Fail> {
 #[test]
 fn a_stop_leaves_the_image_before_or_an_empty_one(rt: HostRuntime) -> Result<(), Fail> {
     let alloc = rt.alloc();
-    let system = small_system(alloc)?;
     let mut before = plain(alloc)?;
     before.cut(0);
     for pick in [0, 1, 2, 0x5555_5555_5555_5555, u64::MAX] {
         for n in 1..=WRITES {
             let mut disk = plain(alloc)?;
-            assert_eq!(rt; stops(alloc, &mut disk, &system, n)?, true, "{n}");
+            assert_eq!(rt; stops_cold(alloc, &mut disk, n)?, true, "{n}");
             disk.cut(pick);
             let kept = n == 1 && pick & 1 == 0;
             let whole = n == WRITES && pick & 1 == 1;
