@@ -256,20 +256,32 @@ fn image_with(alloc: Global, place: usize, message: &[u8]) -> Result<MemDisk, Fa
     }
 }
 
+// The record of a message with the text HI, of this unit, id, origin and code, input number and flag.
+fn message_of(
+    alloc: Global,
+    unit: u8,
+    id: u8,
+    names: &[u8],
+    number: u8,
+    conversing: u8,
+) -> Result<Vec<u8>, Fail> {
+    record(
+        alloc,
+        &[
+            b"\x01\0\0\0\0\0\0\0",
+            &[unit, 0, 0, 0, 0, 0, 0, 0, id],
+            names,
+            &[0, 0, 0, 0, 0, 0, 0, number, conversing],
+            b"\x01\0\x02HI",
+        ],
+    )
+}
+
 #[test]
 fn messages_that_break_a_rule(rt: HostRuntime) -> Result<(), Fail> {
     let alloc = rt.alloc();
     for (unit, id, names, number, conversing, rules) in MESSAGES {
-        let message = record(
-            alloc,
-            &[
-                b"\x01\0\0\0\0\0\0\0",
-                &[unit, 0, 0, 0, 0, 0, 0, 0, id],
-                names,
-                &[0, 0, 0, 0, 0, 0, 0, number, conversing],
-                b"\x01\0\x02HI",
-            ],
-        )?;
+        let message = message_of(alloc, unit, id, names, number, conversing)?;
         for (rule, place) in rules.iter().zip(0..3usize) {
             let mut disk = image_with(alloc, place, &message)?;
             let found = fault(alloc, &mut disk)?;

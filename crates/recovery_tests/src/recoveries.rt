@@ -36,13 +36,13 @@ const ROW: &[u8] = b"ROW 000100001000\n";
 
 // A log, a sector each; and what is told of the counts, T1, T2, the codes, the messages and the account once all of it is
 // there. A front of its sectors does nothing.
-const DOINGS: [(&[&[u8]], [&[u8]; 8]); 15] = [
+const DOINGS: [(&[&[u8]], &[&[u8]]); 15] = [
     // Input 3 of T1, with two segments.
     (
         &[
             b"\0\x30\x01\0\0\0\0\0\0\0\0\0\0\0\0\0\0\0\x05\x02T1\x04ECHO\0\0\0\0\0\0\0\x03\0\x02\0\x06ECHO B\0\x01C",
         ],
-        [
+        &[
             b"NEXT 6 STEPS 7 \n",
             b"T1 3 2 \nOUT 1 HI\n",
             T2,
@@ -59,7 +59,7 @@ const DOINGS: [(&[&[u8]], [&[u8]; 8]); 15] = [
             b"\0\x30\x01\0\0\0\0\0\0\0\0\0\0\0\0\0\0\0\x05\x02T",
             b"1\x04ECHO\0\0\0\0\0\0\0\x03\0\x02\0\x06ECHO B\0\x01C",
         ],
-        [
+        &[
             b"NEXT 6 STEPS 7 \n",
             b"T1 3 2 \nOUT 1 HI\n",
             T2,
@@ -75,7 +75,7 @@ const DOINGS: [(&[&[u8]], [&[u8]; 8]); 15] = [
         &[
             b"\0\x2c\x01\0\0\0\0\0\0\0\0\0\0\0\0\0\0\0\x05\x02T1\x04CONV\0\0\0\0\0\0\0\x03\x01\x01\0\x05HELLO",
         ],
-        [
+        &[
             b"NEXT 6 STEPS 7 \n",
             b"T1 3 2 \nPAD CONV          \nOUT 1 HI\n",
             T2,
@@ -89,7 +89,7 @@ const DOINGS: [(&[&[u8]], [&[u8]; 8]); 15] = [
     // T1 has seen reply 1.
     (
         &[b"\0\x0f\x36\x01\x02T1\0\0\0\0\0\0\0\x01"],
-        [
+        &[
             b"NEXT 5 STEPS 7 \n",
             b"T1 2 2 \n",
             T2,
@@ -108,7 +108,7 @@ const DOINGS: [(&[&[u8]], [&[u8]; 8]); 15] = [
             b"\0\x14\x36\0\0\0\0\0\0\0\0\x09\0\0\0\0\0\0\0\x03",
             b"\0\x0e\x37\0\0\0\0\0\0\0\x09\0\0\0",
         ],
-        [
+        &[
             b"NEXT 6 STEPS 7 \n",
             b"T1 2 3 \nOUT 1 HI\nOUT 2 OK\n",
             T2,
@@ -129,7 +129,7 @@ const DOINGS: [(&[&[u8]], [&[u8]; 8]); 15] = [
             DONE,
             b"\0\x1c\x37\0\0\0\0\0\0\0\x09\x01\0\x0eCONV    GHIJKL",
         ],
-        [
+        &[
             b"NEXT 5 STEPS 7 \n",
             T1,
             b"T2 1 1 \nPAD CONV    GHIJKL\n",
@@ -142,7 +142,7 @@ const DOINGS: [(&[&[u8]], [&[u8]; 8]); 15] = [
     ),
     (
         &[DONE, b"\0\x0e\x37\0\0\0\0\0\0\0\x09\x02\0\0"],
-        [
+        &[
             b"NEXT 5 STEPS 7 \n",
             T1,
             b"T2 1 1 \n",
@@ -156,7 +156,7 @@ const DOINGS: [(&[&[u8]], [&[u8]; 8]); 15] = [
     // An abend discards message 4, whose conversation ends, or message 3.
     (
         &[b"\0\x1d\x07\0\0\0\0\0\0\0\x09\0\0\0\0\0\0\0\x04\0\x64\0\0\0\0\0\0\0\x01"],
-        [
+        &[
             b"NEXT 5 STEPS 7 \n",
             T1,
             b"T2 1 2 \nOUT 1 DFS555I TRAN CONV ABEND U0100\n",
@@ -169,7 +169,7 @@ const DOINGS: [(&[&[u8]], [&[u8]; 8]); 15] = [
     ),
     (
         &[b"\0\x1d\x07\0\0\0\0\0\0\0\x09\0\0\0\0\0\0\0\x03\x0f\xff\0\0\0\0\0\0\0\x02"],
-        [
+        &[
             b"NEXT 5 STEPS 7 \n",
             b"T1 2 3 \nOUT 1 HI\nOUT 2 DFS555I TRAN ECHO ABEND U4095\n",
             T2,
@@ -186,7 +186,7 @@ const DOINGS: [(&[&[u8]], [&[u8]; 8]); 15] = [
             b"\0\x2c\x50\0\0\0\0\0\0\0\x09\x01\0\0\0\x0d\x01000100001000\0\x0d\x01000100001001",
             b"\0\x0e\x37\0\0\0\0\0\0\0\x09\0\0\0",
         ],
-        [
+        &[
             b"NEXT 5 STEPS 7 \n",
             T1,
             T2,
@@ -200,7 +200,7 @@ const DOINGS: [(&[&[u8]], [&[u8]; 8]); 15] = [
     // An operator stops a code, stops a terminal, and takes the first reply from one.
     (
         &[b"\0\x1b\x02\0\x16/STOP TRANSACTION ECHO"],
-        [
+        &[
             b"NEXT 5 STEPS 7 \n",
             T1,
             T2,
@@ -213,7 +213,7 @@ const DOINGS: [(&[&[u8]], [&[u8]; 8]); 15] = [
     ),
     (
         &[b"\0\x13\x02\0\x0e/STOP LTERM T2"],
-        [
+        &[
             b"NEXT 5 STEPS 7 \n",
             T1,
             b"T2 1 1 STOPPED \nPAD CONV    ABCDEF\n",
@@ -226,7 +226,7 @@ const DOINGS: [(&[&[u8]], [&[u8]; 8]); 15] = [
     ),
     (
         &[b"\0\x1d\x02\0\x18/DEQUEUE LTERM T1 PURGE1"],
-        [
+        &[
             b"NEXT 5 STEPS 7 \n",
             b"T1 2 2 \n",
             T2,
@@ -242,7 +242,7 @@ const DOINGS: [(&[&[u8]], [&[u8]; 8]); 15] = [
         &[
             b"\0\x14\x36\0\0\0\0\0\0\0\0\x09\0\0\0\0\0\0\0\x04\0\x0e\x37\0\0\0\0\0\0\0\x09\0\0\0\0\x0d\x02\0\x08/EXIT T2",
         ],
-        [
+        &[
             b"NEXT 5 STEPS 8 \n",
             T1,
             b"T2 1 1 \n",
@@ -279,7 +279,7 @@ fn what_each_record_does(rt: HostRuntime) -> Result<(), Fail> {
         &[b"NEXT 5 STEPS 6 \n", T1, T2, CODES, IN3, IN4, b"", ROW],
     )?;
     for (log, parts) in DOINGS {
-        let after = joined(alloc, &parts)?;
+        let after = joined(alloc, parts)?;
         let all: u64 = match log.len() {
             1 => 1,
             2 => 3,
