@@ -122,7 +122,7 @@ const DOINGS: [(&[&[u8]], &[&[u8]]); 15] = [
     // Unit 9 on message 4: its pad stays, is another, or ends.
     (
         &[DONE, b"\0\x0e\x37\0\0\0\0\0\0\0\x09\0\0\0"],
-        [b"NEXT 5 STEPS 7 \n", T1, T2, CODES, IN3, b"", b"", ROW],
+        &[b"NEXT 5 STEPS 7 \n", T1, T2, CODES, IN3, b"", b"", ROW],
     ),
     (
         &[
