@@ -13,6 +13,7 @@ use Rattle.model_image.specs.Counters.{next_unit, next_sequence}
 use Rattle.model_image.specs.Recovered.{snapshot_from, log_in, Recovers}
 use Rattle.model_image.specs.States.{breaks_a_rule}
 use Rattle.snapshot_records.specs.Records.{IsOfSystem}
+use Rattle.count_law.specs.Counted.{IsCounted}
 use Rattle.model_machine.specs.declared.counts.Counter.{Counter}
 use Rattle.model_machine.specs.declared.counts.Counter.TheVariants as counter
 use Rattle.opening_answers.specs.declared.refusals.OpenError.{OpenError}
@@ -136,14 +137,16 @@ TellsCold system (Err Disk) = Unit {0}
 TellsCold system (Err Memory) = Unit {0}
 
 -- What is judged before a life begins, on every disk, also on one that doesn't tell its contents: the state keeps the rules
--- and is one of the system; the restart sector is one of the system with this text; and no counter was spent before the
--- life took its epoch and its checkpoint.
+-- and is one of the system, and its messages and replies have 1 to 32 segments; the restart sector is one of the system with
+-- this text; units are numbered from 1; and no counter was spent before the life took its epoch and its checkpoint.
 pub record MayBegin (system : System) (text : List ℕ) (parts : OpeningParts) (state : LastingState) : Type 0 where
   pub keeps_rules : breaks_a_rule system state ≡ false
   pub of_system : IsOfSystem system state
+  pub counted : IsCounted state
   pub restart : IsRestart parts.now
   pub sectors : parts.now.sectors ≤ snapshot_area system
   pub text_size : parts.now.text ≡ length text
+  pub some_unit : 0 < parts.next_unit
   pub unspent : first_spent (counters (parts.now.epoch - 1) parts.now.sequence (parts.now.checkpoint - 1) parts.next_unit state) ≡ None
 
 -- nothing was written, and the disk didn't fail

@@ -165,9 +165,11 @@ module _ (system : System) (text : List ℕ) (found : Found) (judged : IsJudged 
       begins = record {
         keeps_rules = keeps.sound;
         of_system = of_system;
+        counted = counted;
         restart = next_restart (length bytes) is_whole.some short;
         sectors = sectors_fit (length bytes) (snapshot_area system) is_whole.fits;
         text_size = refl;
+        some_unit = omega (arith, unit_is);
         unspent =
             (λ i. first_spent (counters (epoch_back i) sequence (checkpoint_back i) (unit_is i) state)) ∙ unspent;
       } where

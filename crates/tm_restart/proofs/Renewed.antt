@@ -39,6 +39,7 @@ use Rattle.cold_start.proofs.FirstWritten.{has_first, first_recovers}
 use Rattle.model_machine.specs.declared.counts.Counter.{Counter}
 use Rattle.model_machine.specs.declared.counts.Counter.TheVariants as counter
 use Rattle.model_image.specs.Text.{text_in}
+use Rattle.count_law.proofs.Told.{empty_counted}
 use Rattle.first_parts.specs.Made.{IsMade}
 use Rattle.opening_answers.specs.Opening.{IsBegun, MayBegin, counters, first_spent}
 use Rattle.opening_parts.specs.Parts.{OpeningParts}
@@ -111,9 +112,11 @@ module _ (system : System) (text bytes : List ℕ) (parts : OpeningParts) (state
       record {
         keeps_rules = rw (made.state_is) (empty_sound system made.defined);
         of_system = rw (made.state_is) (empty_is system);
+        counted = rw (made.state_is) (empty_counted system);
         restart = first_has IsRestart made.valid;
         sectors = rw (sector) (omega (arith, made.sectors, made.few));
         text_size = rw (sector) made.text_size;
+        some_unit = omega (arith, made.next_unit);
         unspent = rw (sector, made.first.epoch, made.first.sequence, made.first.checkpoint, made.next_unit, made.state_is) (unspent system);
       }
 
