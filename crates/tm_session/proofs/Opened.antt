@@ -7,7 +7,7 @@ use Rattle.model_session.specs.Blocks.{Block}
 use Rattle.tm_edge.specs.Lines.{CutLine, HasServed, IsTooLong, ServesTold, unread, cut_lines, lines_of, line_size, line_text, behind_line, is_short}
 use Rattle.tm_edge.proofs.ServedSoFar.{none_served, one_served, long_first}
 use Rattle.tm_session.specs.declared.outcome.Ended.{Ended}
-use Rattle.tm_session.specs.declared.outcome.Ended.TheVariants.{Done, Words, BadLine, BadCross, Read, Write, Memory, Limit}
+use Rattle.tm_session.specs.declared.outcome.Ended.TheVariants.{Done, Words, BadLine, BadCross, Down, Read, Write, Image, Memory, Limit, Spent}
 use Rattle.std.specs.Prelude.{◌||◌, nat_lt}
 use Rattle.std.proofs.lemmas.Bool.Decides.{nat_tests}
 use Rattle.sysdef_text.specs.Ends.{is_end, ends_definition, stays_inside, definition_from, behind_from, definition_lines, lines_behind}
@@ -136,6 +136,9 @@ reading_stops Write told now texts inside room held r r' far h = absurd h
 reading_stops (Words word rule) told now texts inside room held r r' far h = absurd h
 reading_stops (BadLine line rule) told now texts inside room held r r' far h = absurd h
 reading_stops (BadCross line rule) told now texts inside room held r r' far h = absurd h
+reading_stops Down told now texts inside room held r r' far h = absurd h
+reading_stops Spent told now texts inside room held r r' far h = absurd h
+reading_stops (Image refusal) told now texts inside room held r r' far h = absurd h
 
 -- ---- a definition and a session
 

@@ -1,4 +1,3 @@
-pub mod Serving
 pub mod Source
 pub mod Outcome
 pub mod Opening

@@ -1,0 +1,6 @@
+//! stub
+#![tactic(auto)]
+
+pub use shown::Shown;
+
+mod shown;

@@ -1,0 +1,4 @@
+-- stub
+use Rattle.std.specs.Prelude.{ℕ}
+abbrev pub Fault : Type 0
+Fault = ℕ × ℕ

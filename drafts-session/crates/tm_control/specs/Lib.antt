@@ -1,0 +1,3 @@
+pub mod OnDisk
+pub mod Calls
+pub mod Closed

@@ -1,0 +1,5 @@
+//! stub
+
+/// There is none.
+#[derive(Debug, Drop)]
+pub enum Never {}
