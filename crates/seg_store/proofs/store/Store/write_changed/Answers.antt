@@ -1,6 +1,6 @@
 use Rattle.seg_store.specs.Changed.{Kept}
 use Rattle.seg_store.proofs.Changes.{changed_few}
-use Rattle.seg_store.proofs.store.Store.write_back.Goals as goal
+use Rattle.seg_store.proofs.store.Store.write_changed.Goals as goal
 use Rattle.std.proofs.Common.{◌≤◌, length, subst}
 
 pub returns-then-is_err-clause-few : goal.returns-then-is_err-clause-few

@@ -7,7 +7,7 @@ use Rattle.seg_store.specs.Changed.{Kept, AllStores}
 use Rattle.seg_store.specs.DataSectors.{MayPut, HasPut}
 use Rattle.seg_store.specs.WriteBack.{changed_bytes, kept_bytes}
 use Rattle.seg_store.proofs.WritingBack.{bytes_seen, sectors_seen}
-use Rattle.seg_store.proofs.stores.Stores.write_back.Goals as goal
+use Rattle.seg_store.proofs.stores.Stores.write_changed.Goals as goal
 
 pub write_all-requires-clause-sectors : goal.write_all-requires-clause-sectors
 write_all-requires-clause-sectors g c =
