@@ -1,0 +1,55 @@
+//! Checkpoints.
+ghost use Rattle.std.specs.Prelude.{◌≡◌, ◌+◌, List, ℕ, OnOk, OnErr, IfErr};
+ghost use Rattle.model_disk.specs.Disk.{Stays, Within, Only};
+ghost use Rattle.checkpointing.specs.Checkpoint.{KeepsRecovery};
+ghost use Rattle.checkpointing.specs.Parts.{sequence_behind};
+ghost use Rattle.checkpointing.specs.Texts.{KeepsText};
+ghost use Rattle.machine_checkpoint.specs.Counted.{IsCounted};
+ghost use Rattle.machine_checkpoint.specs.Logged.{IsLogged};
+ghost use Rattle.machine_checkpoint.specs.Taking.{Untaken};
+
+use crate::snapshots::snapshot;
+use journal::Journal;
+use model_machine::ControlFault;
+use std::alloc::Global;
+use tm_disk::Disk;
+use tm_machine::Parts;
+
+/// Takes a checkpoint. The machine stands where it stood, and no slot counts as changed. Where it answers `Memory`, nothing was
+/// written.
+pub fn checkpoint<D: Disk>(
+    alloc: Global,
+    parts: &mut Parts,
+    journal: &mut Journal,
+    disk: &mut D,
+    units: &[u64],
+    next_unit: u64,
+) -> Result<(), ControlFault>
+    requires logged { (text : List ℕ) × IsLogged parts.old units.now next_unit journal.old text (D.state disk.old) }
+    requires counted { IsCounted 0 parts.old.moment.lasting next_unit journal.old }
+    ensures system { parts.new.system ≡ parts.old.system }
+    ensures moment { parts.new.moment ≡ parts.old.moment }
+    ensures logged { OnOk result ((text : List ℕ) → IsLogged parts.old units.entry.now next_unit journal.old text (D.state disk.old) → IsLogged parts.new units.entry.now next_unit journal.new text (D.state disk.new)) }
+    ensures stays { Stays (D.state disk.old) (D.state disk.new) }
+    ensures any_moment { Within (KeepsRecovery parts.old.system) (D.state disk.old) (D.state disk.new) }
+    ensures texts { Within (KeepsText parts.old.system) (D.state disk.old) (D.state disk.new) }
+    ensures number { OnOk result (journal.new.restart.checkpoint ≡ journal.old.restart.checkpoint + 1) }
+    ensures epoch { OnOk result (journal.new.restart.epoch ≡ journal.old.restart.epoch) }
+    ensures sequence { OnOk result (journal.new.log.sequence ≡ sequence_behind journal.old.log) }
+    ensures place { OnOk result (journal.new.log.place ≡ 0) }
+    ensures synced { OnOk result (Only (D.state disk.new).shown (D.state disk.new)) }
+    ensures no_fault { OnOk result ((D.state disk.new).faults ≡ (D.state disk.old).faults) }
+    ensures cause { IfErr result (Untaken D.state parts.old parts.new journal.old journal.new disk.old disk.new) }
+{
+    let number = journal.restart().checkpoint + 1;
+    let Ok(bytes) = snapshot(alloc, parts, units, next_unit, number) else {
+        return Err(ControlFault::Memory);
+    };
+    match journal.checkpoint(alloc, disk, parts.system(), parts.stores(), bytes.as_slice()) {
+        Ok(()) => {
+            parts.settle();
+            Ok(())
+        }
+        Err(_) => Err(ControlFault::Disk),
+    }
+}
