@@ -6,16 +6,17 @@ use Rattle.model_command.specs.declared.command.Command.{Command}
 use Rattle.model_command.specs.declared.command.Command.TheVariants.{StartTransaction, StopTransaction, StartTerminal, StopTerminal, DisplayTransaction, DisplayTerminal, DisplayActive, Checkpoint, Freeze, DequeueFirst, DequeueAll, Exit, EmergencyRestart, NormalRestart, ColdStart}
 use Rattle.model_command.specs.declared.answer.Answer.{Answer}
 use Rattle.model_command.specs.declared.answer.Answer.TheVariants.{Started, Stopped}
-use Rattle.model_conversation.specs.declared.conversation.Conversation.{Conversation}
+use Rattle.model_conversation.specs.declared.conversation.Conversation.{Conversation as TerminalsConversation}
 use Rattle.model_conversation.specs.Input.{busy_id}
 use Rattle.model_conversation.specs.Terminals.{conversation_at}
-use Rattle.model_system.specs.declared.code.Code.{Code}
+use Rattle.model_system.specs.declared.code.Code.{Code as SystemCode}
 use Rattle.model_system.specs.declared.code_state.CodeState.{CodeState}
 use Rattle.model_system.specs.Codes.{code_at}
 use Rattle.model_system.specs.System.{System}
 use Rattle.model_queues.specs.declared.replies.TerminalReplies.{TerminalReplies}
 use Rattle.model_machine.specs.Machine.{Moment, output_at, terminal_at, waiting_now}
-use Rattle.model_machine.specs.Steps.{ack_by, ack_answer, first_number}
+use Rattle.model_machine.specs.Steps.{ack_by, ack_answer}
+use Rattle.model_queues.specs.Outputs.{first_number}
 use Rattle.model_machine.specs.Commands.{all_dequeued, command_answer, exited, first_dequeued, shown_code, shown_terminal, state_now}
 use Rattle.model_machine.specs.History.{May}
 use Rattle.model_machine.specs.declared.entry.Acked.{Acked}
@@ -85,7 +86,7 @@ known : (command : Command) (b : Bool) (name : List ℕ) (answer : Result Answer
 known command true name answer e = e
 known command false name answer e = refl
 
-code_none : (command : Command) (name : List ℕ) (queued : ℕ) (code : Option Code) (state : Option CodeState) → IsNone command (shown_code name queued code state)
+code_none : (command : Command) (name : List ℕ) (queued : ℕ) (code : Option SystemCode) (state : Option CodeState) → IsNone command (shown_code name queued code state)
 code_none command name queued None None = refl
 code_none command name queued None (Some state) = refl
 code_none command name queued (Some code) None = refl
@@ -105,7 +106,7 @@ all_none : (command : Command) (name : List ℕ) (output : Option TerminalReplie
 all_none command name None = refl
 all_none command name (Some output) = refl
 
-exit_none : (command : Command) (name : List ℕ) (c : Option Conversation) (id : Option ℕ) → IsNone command (exited name c id)
+exit_none : (command : Command) (name : List ℕ) (c : Option TerminalsConversation) (id : Option ℕ) → IsNone command (exited name c id)
 exit_none command name None None = refl
 exit_none command name None (Some id) = refl
 exit_none command name (Some c) None = refl

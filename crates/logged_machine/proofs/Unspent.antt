@@ -35,17 +35,17 @@ first_low c cs e =
 outputs_low : (outputs : List TerminalReplies) → first_spent (output_counters outputs) ≡ None → list_all (λ terminal. nat_lt terminal.next 1000000000000000000) outputs ≡ true
 outputs_low [] e = refl
 outputs_low (t ∷ outputs) e =
-    let s = first_low _ (output_counters outputs) e in
+    let s = first_low (counter.NextOutput t.terminal, t.next) (output_counters outputs) e in
     ap (λ (b : Bool). b && list_all (λ (terminal : TerminalReplies). nat_lt terminal.next 1000000000000000000) outputs) (lt-ltb t.next 1000000000000000000 s.0) ∙ outputs_low outputs s.1
 
 pub none_spent : (epoch sequence checkpoint unit : ℕ) (lasting : LastingState) → first_spent (counters epoch sequence checkpoint unit lasting) ≡ None → NoneSpent epoch sequence checkpoint unit lasting
 none_spent epoch sequence checkpoint unit lasting e =
-    let a = first_low _ _ e in
-    let b = first_low _ _ a.1 in
-    let c = first_low _ _ b.1 in
-    let d = first_low _ _ c.1 in
-    let f = first_low _ _ d.1 in
-    let g = first_low _ _ f.1 in
+    let a = first_low (counter.Epoch, epoch) ((counter.Sequence, sequence) ∷ (counter.Checkpoint, checkpoint) ∷ (counter.NextId, lasting.next_id) ∷ (counter.NextUnit, unit) ∷ (counter.Steps, lasting.steps) ∷ output_counters lasting.outputs) e in
+    let b = first_low (counter.Sequence, sequence) ((counter.Checkpoint, checkpoint) ∷ (counter.NextId, lasting.next_id) ∷ (counter.NextUnit, unit) ∷ (counter.Steps, lasting.steps) ∷ output_counters lasting.outputs) a.1 in
+    let c = first_low (counter.Checkpoint, checkpoint) ((counter.NextId, lasting.next_id) ∷ (counter.NextUnit, unit) ∷ (counter.Steps, lasting.steps) ∷ output_counters lasting.outputs) b.1 in
+    let d = first_low (counter.NextId, lasting.next_id) ((counter.NextUnit, unit) ∷ (counter.Steps, lasting.steps) ∷ output_counters lasting.outputs) c.1 in
+    let f = first_low (counter.NextUnit, unit) ((counter.Steps, lasting.steps) ∷ output_counters lasting.outputs) d.1 in
+    let g = first_low (counter.Steps, lasting.steps) (output_counters lasting.outputs) f.1 in
     record {
       epoch_low = a.0;
       sequence_low = b.0;

@@ -2,7 +2,7 @@
 
 use system_types::System;
 use tm_disk::Disk;
-use tm_restart::OpenError;
+use opening_answers::OpenError;
 use tm_types::Bytes;
 
 /// An opening was refused. All that was given is handed back.
