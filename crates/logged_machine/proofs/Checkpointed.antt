@@ -17,11 +17,11 @@ use Rattle.machine_life.specs.Counts.{AreUnspent}
 use Rattle.tm_machine.specs.Parts.{PartsState}
 use Rattle.machine_checkpoint.specs.Counted.{IsCounted}
 use Rattle.machine_checkpoint.specs.Logged.{IsLogged}
-use Rattle.machine_checkpoint.specs.Taking.{SameAll}
+use Rattle.machine_checkpoint.specs.Taking.{SameAll, Untaken}
 use Rattle.logged_machine.specs.Logged.{LoggedState}
 use Rattle.logged_machine.specs.Goes.{Keeps, StoodStill}
 use Rattle.logged_machine.specs.Leaving.{Brings, Leaves}
-use Rattle.logged_machine.specs.Doing.{Broke, Did, LeavesSo, Refreshed, Unrefreshed, lasting_with}
+use Rattle.logged_machine.specs.Doing.{Broke, Did, LeavesSo, Refreshed, Unrefreshed, is_memory, lasting_with}
 use Rattle.logged_machine.proofs.Leaving.{leaves_same}
 use Rattle.logged_machine.proofs.Logging.{recover, have_text}
 
@@ -162,3 +162,25 @@ module _ {D : Type 0} (state : D → DiskState) (parts parts' : PartsState) (tex
       ap (λ (p : PartsState). logged_of up p journal' disk') same.parts_are
       ∙ ap (λ (j : JournalState). logged_of up parts j disk') same.journal_is
       ∙ ap (λ (d : D). logged_of up parts journal d) same.disk_is
+
+-- ---- what a refusal leaves
+
+module _ {D : Type 0} (state : D → DiskState) (parts parts' : PartsState) (text : List ℕ) (journal journal' : JournalState) (units : List ℕ) (next : ℕ) (disk disk' : D) (up : Bool)
+    (h : IsLogged parts units next journal text (state disk)) (system : parts'.system ≡ parts.system) (moment : parts'.moment ≡ parts.moment) (stays : Stays (state disk) (state disk'))
+    (any : Within (KeepsRecovery parts.system) (state disk) (state disk')) (texts : Within (KeepsText parts.system) (state disk) (state disk')) where
+  pub unrefreshed_by : (fault : ControlFault) → Untaken state parts parts' journal journal' disk disk' fault → up ≡ true
+      → Unrefreshed state (was state parts parts' text journal journal' units next disk disk' up h system moment stays any texts)
+      (is state parts parts' text journal journal' units next disk disk' up h system moment stays any texts (is_memory fault)) fault
+  unrefreshed_by Memory same served =
+      same_all state parts parts' text journal journal' units next disk disk' same true
+      ∙ ap (λ (b : Bool). logged_of state parts parts' text journal journal' units next disk disk' same b parts journal disk) (sym served)
+  unrefreshed_by Disk cause served = broke state parts parts' text journal journal' units next disk disk' up h system moment stays any texts cause
+  unrefreshed_by (Spent counter) none served = absurd none
+
+  pub logged_by : (fault : ControlFault) → Untaken state parts parts' journal journal' disk disk' fault → is_memory fault ≡ true → IsLogged parts' units next journal' text (state disk')
+  logged_by Memory same e = same_logged state parts parts' text journal journal' units next disk disk' same h
+  logged_by Disk cause e = absurd (apart e)
+    where
+      apart : false ≡ true → ⊥
+      apart e = cc
+  logged_by (Spent counter) none e = absurd none

@@ -1,5 +1,5 @@
 -- What one attempt of a call leaves, and what a checkpoint does.
-use Rattle.std.specs.Prelude.{◌≡◌, ◌+◌, true, false, Option, Some, None}
+use Rattle.std.specs.Prelude.{◌≡◌, ◌+◌, Bool, true, false, Option, Some, None}
 use Rattle.model_disk.specs.Disk.{DiskState, FailedSince, Only}
 use Rattle.machine_checkpoint.specs.Counted.{IsCounted}
 use Rattle.model_machine.specs.Machine.{LastingState}
@@ -49,3 +49,9 @@ abbrev pub Unrefreshed : {D : Type 0} → (D → DiskState) → LoggedState D �
 Unrefreshed state old new Memory = new ≡ old
 Unrefreshed state old new Disk = Broke state old new × LeavesSo state old new old.machine.moment.lasting × Keeps state old new
 Unrefreshed state old new (Spent counter) = ⊥
+
+-- the fault is want of memory
+abbrev pub is_memory : ControlFault → Bool
+is_memory Memory = true
+is_memory Disk = false
+is_memory (Spent counter) = false

@@ -1,7 +1,7 @@
 //! Checkpoints.
 ghost use Rattle.std.specs.Prelude.{◌≡◌, true, OnOk, IfErr};
 ghost use Rattle.machine_checkpoint.specs.Counted.{IsCounted};
-ghost use Rattle.logged_machine.specs.Doing.{Refreshed, Unrefreshed};
+ghost use Rattle.logged_machine.specs.Doing.{Refreshed, Unrefreshed, is_memory};
 
 use crate::logged::LoggedMachine;
 use machine_checkpoint::checkpoint;
@@ -25,12 +25,21 @@ impl<D: Disk> LoggedMachine<D> {
             self.next_unit,
         ) {
             Ok(()) => Ok(()),
-            Err(ControlFault::Disk) => {
-                self.served = false;
-                Err(ControlFault::Disk)
+            Err(fault) => {
+                self.served = is_memory(&fault);
+                Err(fault)
             }
-            Err(ControlFault::Memory) => Err(ControlFault::Memory),
-            Err(ControlFault::Spent(counter)) => Err(ControlFault::Spent(counter)),
         }
+    }
+}
+
+/// Whether a fault is want of memory.
+fn is_memory(fault: &ControlFault) -> bool
+    ensures { result ≡ is_memory fault.now }
+{
+    match fault {
+        ControlFault::Memory => true,
+        ControlFault::Disk => false,
+        ControlFault::Spent(_) => false,
     }
 }

@@ -1,5 +1,5 @@
 -- Records that are told behind what was appended to a log.
-use Rattle.std.specs.Prelude.{◌≡◌, ℕ, ◌+◌, ◌≤◌, Bool, true, false, List, ◌++◌, length, Result, Ok, Err}
+use Rattle.std.specs.Prelude.{◌≡◌, ℕ, ◌+◌, ◌<◌, ◌≤◌, Bool, true, false, List, ◌++◌, length, Result, Ok, Err}
 use Rattle.std.specs.List.{flat_map, AllByRecursion}
 use Rattle.log_records.specs.declared.record.Record.{Record}
 use Rattle.log_records.specs.Spelling.{spelling, IsRecord}
@@ -19,6 +19,10 @@ HasRoom room log = (own : ℕ) → own ≤ room → log.place + sectors_of (leng
 -- So many bytes are all with which 32 sectors stay free.
 abbrev pub IsAllBut : ℕ → Writer → Type 0
 IsAllBut room log = (own : ℕ) → LeavesSectors log own → own ≤ room
+
+-- With a call's own bytes, if it has some and so many at most, 32 sectors stay free.
+abbrev pub StayFree : ℕ → Writer → Type 0
+StayFree room log = (own : ℕ) → 0 < own → own ≤ room → LeavesSectors log own
 
 -- These records were appended, each one by the ranges of its fields, and they fit the log's area.
 pub record Appends (records : List Record) (old new : JournalState) : Type 0 where

@@ -1,6 +1,6 @@
 //! Room in the log.
 ghost use Rattle.journal.specs.State.{LeavesSectors};
-ghost use Rattle.machine_telling.specs.Telling.{HasRoom, IsAllBut};
+ghost use Rattle.machine_telling.specs.Telling.{HasRoom, IsAllBut, StayFree};
 
 use journal::Journal;
 
@@ -8,6 +8,7 @@ use journal::Journal;
 pub fn room_left(journal: &Journal) -> usize
     ensures room { HasRoom result journal.now.log }
     ensures all { IsAllBut result journal.now.log }
+    ensures kept { StayFree result journal.now.log }
 {
     let _all = journal.all_room();
     match journal.room() {

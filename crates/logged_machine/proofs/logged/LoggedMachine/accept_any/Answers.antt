@@ -6,11 +6,11 @@ use Rattle.model_machine.specs.declared.entry.Entry.TheVariants.{Accept}
 use Rattle.logged_machine.proofs.Checkpointed.{nothing}
 use Rattle.logged_machine.proofs.logged.LoggedMachine.accept_any.Goals as goal
 
-pub returns-then-is_past-clause-did : goal.returns-then-is_past-clause-did
-returns-then-is_past-clause-did g c = nothing g.D.Disk.state c.args.self.now (Accept c.args.terminal.now c.args.number c.args.segments (Err (Fault Memory))) c.requires.served
+pub returns-then-is_past : goal.returns-then-is_past
+returns-then-is_past g c = nothing g.D.Disk.state c.args.self.now (Accept c.args.terminal.now c.args.number c.args.segments (Err (Fault Memory))) c.requires.served
 
 pub accept_first-requires-clause-small : goal.accept_first-requires-clause-small
 accept_first-requires-clause-small g c = leb-false 2000000000000000000 c.args.number (sym c.is_past.ensures ∙ c.if-is_past.false)
 
-pub returns-in-Err-clause-did : goal.returns-in-Err-clause-did
-returns-in-Err-clause-did g c = nothing g.D.Disk.state c.args.self.now (Accept c.args.terminal.now c.args.number c.args.segments (Err (Fault Memory))) c.requires.served
+pub returns-in-Err : goal.returns-in-Err
+returns-in-Err g c = nothing g.D.Disk.state c.args.self.now (Accept c.args.terminal.now c.args.number c.args.segments (Err (Fault Memory))) c.requires.served

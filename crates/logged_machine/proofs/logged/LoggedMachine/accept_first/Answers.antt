@@ -17,14 +17,14 @@ accept_behind-requires-clause-served g c = served_same c.args.self.now c.accept_
 pub accept_behind-requires-clause-counted : goal.accept_behind-requires-clause-counted
 accept_behind-requires-clause-counted g c = counted_same 0 c.args.self.now c.accept_once.new.self c.in-Err-Full.ensures.same c.requires.counted
 
-pub returns-in-Ok-clause-did : goal.returns-in-Ok-clause-did
-returns-in-Ok-clause-did g c = c.in-Ok.ensures.did
+pub returns-in-Ok : goal.returns-in-Ok
+returns-in-Ok g c = c.in-Ok.ensures.did
 
-pub returns-in-Err-Memory-clause-did : goal.returns-in-Err-Memory-clause-did
-returns-in-Err-Memory-clause-did g c = nothing_done g.D.Disk.state c.args.self.now c.accept_once.new.self (Accept c.args.terminal.now c.args.number c.args.segments (Err (Fault Memory))) c.in-Err-Memory.ensures.same c.requires.served
+pub returns-in-Err-Memory : goal.returns-in-Err-Memory
+returns-in-Err-Memory g c = nothing_done g.D.Disk.state c.args.self.now c.accept_once.new.self (Accept c.args.terminal.now c.args.number c.args.segments (Err (Fault Memory))) c.in-Err-Memory.ensures.same c.requires.served
 
-pub returns-in-Err-Full-clause-did : goal.returns-in-Err-Full-clause-did
-returns-in-Err-Full-clause-did g c =
+pub returns-in-Err-Full : goal.returns-in-Err-Full
+returns-in-Err-Full g c =
     subst
     (λ (segments : List (List ℕ)).
     Did g.D.Disk.state (fault_in (Accept c.args.terminal.now c.args.number segments c.accept_behind.result)) c.args.self.now c.accept_behind.new.self (Accept c.args.terminal.now c.args.number segments c.accept_behind.result))

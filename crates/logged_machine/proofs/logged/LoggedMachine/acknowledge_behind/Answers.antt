@@ -13,9 +13,9 @@ acknowledge_fresh-requires-clause-served g c = c.in-Ok.ensures.done.stood.served
 pub acknowledge_fresh-requires-clause-counted : goal.acknowledge_fresh-requires-clause-counted
 acknowledge_fresh-requires-clause-counted g c = c.in-Ok.ensures.done.counted
 
-pub returns-in-Ok-clause-did : goal.returns-in-Ok-clause-did
-returns-in-Ok-clause-did g c =
+pub returns-in-Ok : goal.returns-in-Ok
+returns-in-Ok g c =
     did_behind g.D.Disk.state c.args.self.now c.refresh.new.self c.acknowledge_fresh.new.self (Acked c.args.terminal.now c.args.number c.acknowledge_fresh.result) c.in-Ok.ensures.done (fault_in (Acked c.args.terminal.now c.args.number c.acknowledge_fresh.result)) c.acknowledge_fresh.ensures.did
 
-pub returns-in-Err-clause-did : goal.returns-in-Err-clause-did
-returns-in-Err-clause-did g c = unrefreshed g.D.Disk.state c.args.self.now c.refresh.new.self (Acked c.args.terminal.now c.args.number (Err (Fault c.in-Err.fault))) c.in-Err.fault c.requires.served c.in-Err.ensures.fault
+pub returns-in-Err : goal.returns-in-Err
+returns-in-Err g c = unrefreshed g.D.Disk.state c.args.self.now c.refresh.new.self (Acked c.args.terminal.now c.args.number (Err (Fault c.in-Err.fault))) c.in-Err.fault c.requires.served c.in-Err.ensures.fault

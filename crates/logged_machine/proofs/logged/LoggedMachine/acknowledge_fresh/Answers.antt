@@ -6,8 +6,8 @@ use Rattle.model_machine.specs.declared.entry.Entry.TheVariants.{Acked}
 use Rattle.logged_machine.proofs.Checkpointed.{nothing_done}
 use Rattle.logged_machine.proofs.logged.LoggedMachine.acknowledge_fresh.Goals as goal
 
-pub returns-in-Ok-clause-did : goal.returns-in-Ok-clause-did
-returns-in-Ok-clause-did g c = c.in-Ok.ensures.did
+pub returns-in-Ok : goal.returns-in-Ok
+returns-in-Ok g c = c.in-Ok.ensures.did
 
-pub returns-in-Err-clause-did : goal.returns-in-Err-clause-did
-returns-in-Err-clause-did g c = nothing_done g.D.Disk.state c.args.self.now c.acknowledge_once.new.self (Acked c.args.terminal.now c.args.number (Err (Fault Memory))) c.in-Err.ensures.same c.requires.served
+pub returns-in-Err : goal.returns-in-Err
+returns-in-Err g c = nothing_done g.D.Disk.state c.args.self.now c.acknowledge_once.new.self (Acked c.args.terminal.now c.args.number (Err (Fault Memory))) c.in-Err.ensures.same c.requires.served
