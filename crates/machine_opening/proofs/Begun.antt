@@ -1,6 +1,6 @@
 -- A machine that is opened goes with a life.
 use Rattle.std.proofs.Common.{◌≡◌, ℕ, zero, suc, ◌≤◌, List, length, Result, Ok, Err, refl, sym, ◌∙◌, ap, subst}
-use Rattle.std.specs.Prelude.{IfOk}
+use Rattle.std.specs.Prelude.{IfOk, IsTrue}
 use Rattle.model_disk.specs.Disk.{DiskState, Image}
 use Rattle.model_system.specs.System.{System}
 use Rattle.model_machine.specs.Machine.{LastingState, start_of}
@@ -10,7 +10,7 @@ use Rattle.log_writer.specs.Log.{IsReady}
 use Rattle.log_writer.specs.Writer.{Writer}
 use Rattle.checkpoint_law.specs.Opening.{opened_life}
 use Rattle.opening_answers.specs.declared.refusals.OpenError.{OpenError}
-use Rattle.opening_answers.specs.Opening.{MayBegin, SizeFirst}
+use Rattle.opening_answers.specs.Opening.{MayBegin, OpeningCause, SizeFirst, TellsCold, TellsOpening}
 use Rattle.opening_answers.specs.Renewal.{IsRenewed, first_writer}
 use Rattle.opening_parts.specs.Parts.{AreOpeningParts, OpeningParts}
 use Rattle.journal.specs.State.{JournalState}
@@ -21,7 +21,9 @@ use Rattle.machine_life.proofs.Openings.{no_units}
 use Rattle.parts_life.proofs.Opening.{opened_by, opened_kept, opened_ready, slots_of_opening}
 use Rattle.parts_life.specs.Carried.{IsCarried}
 use Rattle.machine_checkpoint.specs.Logged.{IsLogged}
-use Rattle.machine_opening.specs.Opened.{BeginsOn}
+use Rattle.machine_opening.specs.declared.how.How.{How}
+use Rattle.machine_opening.specs.declared.how.How.TheVariants.{Found, Cold}
+use Rattle.machine_opening.specs.Opened.{BeginsOn, OpensOn}
 
 -- ---- what was found, or begun
 
@@ -72,3 +74,28 @@ module _ (system : System) (parts : PartsState) (text : List ℕ) (opening : Ope
     counted = zeros (length system.regions) ∙ ap (λ (y : System). length y.regions) (sym same);
     ready = subst (λ (w : Writer). IsReady w disk) own_log (opened_ready parts text opening state own.are own.may has own_start own_slots disk own.renewed own.stored);
   }
+
+-- ---- as the calls have it
+
+-- What was looked at is the machine's system.
+pub opens_on : (how : How) (seen system : System) (text : List ℕ) (old new : DiskState) (machine : PartsState) (opening : OpeningParts) (state : LastingState) → seen ≡ system → BeginsOn seen text opening state new
+    → SizeFirst seen old.size (Ok (opening, state)) → OpeningCause (Ok (opening, state)) old new → (how ≡ Found → IsTrue old.tells → TellsOpening seen text old.shown (Ok (opening, state)))
+    → (how ≡ Cold → TellsCold seen (Ok (opening, state))) → ((some : LastingState) → IsOpenedWith system some opening → machine.moment ≡ start_of system some) → OpensOn how system text old new machine state
+opens_on how seen system text old new machine opening state same b size cause by_found by_cold moment = record {
+  moment = moment state (opened_with system text opening state new (subst (λ (y : System). BeginsOn y text opening state new) same b));
+  no_fault = cause;
+  size = subst (λ (y : System). sectors_needed y ≤ old.size) same size;
+  begins = record {
+    parts = opening;
+    found = λ is tells. subst (λ (y : System). TellsOpening y text old.shown (Ok (opening, state))) same (by_found is tells);
+    cold = λ is. subst (λ (y : System). TellsCold y (Ok (opening, state))) same (by_cold is);
+  };
+}
+
+pub logged_on : (seen system : System) → seen ≡ system → (parts : PartsState) (text : List ℕ) (opening : OpeningParts) (state : LastingState) (disk : DiskState) → BeginsOn seen text opening state disk → parts.system ≡ system
+    → HasSlots parts → ((some : LastingState) → IsOpenedWith system some opening → parts.moment ≡ start_of system some) → slots_now parts ≡ slots_of_opening opening (length system.regions) → (journal : JournalState)
+    → journal.log ≡ first_writer system opening.now → journal.restart ≡ opening.now → (next : ℕ) → next ≡ opening.next_unit → IsLogged parts (no_units (length system.regions)) next journal text disk
+logged_on seen system looked parts text opening state disk found same has moment slots journal log restart next is =
+    let b : BeginsOn system text opening state disk = subst (λ (y : System). BeginsOn y text opening state disk) looked found in
+    subst (λ (n : ℕ). IsLogged parts (no_units (length system.regions)) n journal text disk) (sym is)
+    (begun system parts text opening state disk b same has (moment state (opened_with system text opening state disk b)) slots journal log restart)

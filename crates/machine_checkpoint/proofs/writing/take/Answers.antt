@@ -7,10 +7,12 @@ use Rattle.journal.specs.Checkpoints.{CanCheckpoint}
 use Rattle.machine_checkpoint.proofs.Taken.{goes_on}
 use Rattle.machine_checkpoint.proofs.writing.take.Goals as goal
 
-pub checkpoint-requires-clause-can : goal.checkpoint-requires-clause-can
-checkpoint-requires-clause-can g c =
-    subst (λ (a : AllStores). CanCheckpoint c.system.result.now c.args.journal.now a c.args.bytes.now (g.D.Disk.state c.args.disk.now)) (sym c.stores.ensures.value)
-    (subst (λ (y : System). CanCheckpoint y c.args.journal.now (all_stores (slots_now c.args.parts.now)) c.args.bytes.now (g.D.Disk.state c.args.disk.now)) (sym c.system.ensures) c.requires.can)
+pub checkpoint-requires : goal.checkpoint-requires
+checkpoint-requires g c = record {
+  can =
+      subst (λ (a : AllStores). CanCheckpoint c.system.result.now c.args.journal.now a c.args.bytes.now (g.D.Disk.state c.args.disk.now)) (sym c.stores.ensures.value)
+      (subst (λ (y : System). CanCheckpoint y c.args.journal.now (all_stores (slots_now c.args.parts.now)) c.args.bytes.now (g.D.Disk.state c.args.disk.now)) (sym c.system.ensures) c.requires.can);
+}
 
 pub returns-clause-logged : goal.returns-clause-logged
 returns-clause-logged g c = λ text units next h counted s.
