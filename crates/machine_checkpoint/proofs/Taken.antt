@@ -9,6 +9,7 @@ use Rattle.log_records.specs.declared.record.Record.{Record}
 use Rattle.log_writer.specs.Log.{IsReady, sectors_of}
 use Rattle.log_writer.specs.Writer.{Writer}
 use Rattle.restart_data.specs.declared.restart.RestartSector.{RestartSector}
+use Rattle.seg_store.specs.Changed.{AllStores}
 use Rattle.slot_law.specs.Committed.{Touches}
 use Rattle.checkpointing.specs.Parts.{next_restart, next_writer}
 use Rattle.snapshot_records.specs.Records.{snapshot_records}
@@ -115,3 +116,24 @@ module _ (parts : PartsState) (units : List ℕ) (next : ℕ) (journal : Journal
         ready = ready;
         counted = h.counted;
       })
+
+-- ---- as the journal is called
+
+-- It goes on so with the system and the stores that the journal was given.
+pub goes_on : (parts : PartsState) (units : List ℕ) (next : ℕ) (journal : JournalState) (text : List ℕ) (disk : DiskState) → IsLogged parts units next journal text disk → HasSlots parts
+    → IsCounted 0 parts.moment.lasting next journal → (bytes : List ℕ) → IsSnapshot parts units next (journal.restart.checkpoint + 1) bytes
+    → (system : System) → system ≡ parts.system → (stores : AllStores) → stores ≡ all_stores (slots_now parts)
+    → (parts' : PartsState) → parts' ≡ record parts { databases = settled parts.databases } → (journal' : JournalState) → journal'.log ≡ next_writer (parts_for system journal.restart bytes) journal.log
+    → journal'.restart ≡ next_restart (parts_for system journal.restart bytes) journal.log → (disk' : DiskState)
+    → ((life : LifeOnDisk) → (touches : Touches) → (told : List Record) → IsOf system journal stores bytes touches told disk life → AreKept (after_checkpoint bytes touches life) disk')
+    → IsReady journal'.log disk' → disk'.size ≡ disk.size → IsLogged parts' units next journal' text disk'
+goes_on parts units next journal text disk h has c bytes s system same stores are parts' is journal' log restart disk' kept ready size =
+    behind parts units next journal text disk h has c bytes s parts' is journal'
+    (log ∙ ap (λ (y : System). next_writer (parts_for y journal.restart bytes) journal.log) same)
+    (restart ∙ ap (λ (y : System). next_restart (parts_for y journal.restart bytes) journal.log) same)
+    disk'
+    (λ life touches told of_life.
+    kept life touches told
+    (subst (λ (a : AllStores). IsOf system journal a bytes touches told disk life) (sym are)
+    (subst (λ (y : System). IsOf y journal (all_stores (slots_now parts)) bytes touches told disk life) (sym same) of_life)))
+    ready size

@@ -1,6 +1,6 @@
 -- A machine that is opened goes with a life.
-use Rattle.std.proofs.Common.{◌≡◌, ℕ, zero, suc, ◌≤◌, List, [], length, replicate, Result, Ok, Err, refl, sym, ◌∙◌, ap, subst}
-use Rattle.std.specs.Prelude.{IfOk}
+use Rattle.std.proofs.Common.{◌≡◌, ℕ, zero, suc, ◌≤◌, List, length, Result, Ok, Err, refl, sym, ◌∙◌, ap, subst}
+use Rattle.std.specs.Prelude.{IfOk, IsTrue}
 use Rattle.model_disk.specs.Disk.{DiskState, Image}
 use Rattle.model_system.specs.System.{System}
 use Rattle.model_machine.specs.Machine.{LastingState, start_of}
@@ -8,14 +8,9 @@ use Rattle.model_image.specs.Holding.{HoldsStores}
 use Rattle.cold_start.specs.FirstImage.{sectors_needed}
 use Rattle.log_writer.specs.Log.{IsReady}
 use Rattle.log_writer.specs.Writer.{Writer}
-use Rattle.disk_law.specs.Life.{LifeOnDisk}
-use Rattle.checkpoint_law.specs.Opening.{IsOpened, MayOpen, opened_life}
-use Rattle.checkpoint_law.proofs.OnDisk as on_disk
-use Rattle.disk_law.specs.Kept.{AreKept}
-use Rattle.program_rows.specs.OnSlots.{SlotsState}
-use Rattle.snapshot_records.specs.Records.{snapshot_records}
+use Rattle.checkpoint_law.specs.Opening.{opened_life}
 use Rattle.opening_answers.specs.declared.refusals.OpenError.{OpenError}
-use Rattle.opening_answers.specs.Opening.{MayBegin, SizeFirst}
+use Rattle.opening_answers.specs.Opening.{MayBegin, OpeningCause, SizeFirst, TellsCold, TellsOpening}
 use Rattle.opening_answers.specs.Renewal.{IsRenewed, first_writer}
 use Rattle.opening_parts.specs.Parts.{AreOpeningParts, OpeningParts}
 use Rattle.journal.specs.State.{JournalState}
@@ -23,43 +18,12 @@ use Rattle.tm_machine.specs.Opening.{IsOpenedWith}
 use Rattle.tm_machine.specs.OnSlots.{HasSlots, slots_now}
 use Rattle.tm_machine.specs.Parts.{PartsState}
 use Rattle.machine_life.proofs.Openings.{no_units}
-use Rattle.parts_life.proofs.Opening.{may_open_parts, opened, opening_slots}
+use Rattle.parts_life.proofs.Opening.{opened_by, opened_kept, opened_ready, slots_of_opening}
 use Rattle.parts_life.specs.Carried.{IsCarried}
 use Rattle.machine_checkpoint.specs.Logged.{IsLogged}
-use Rattle.machine_opening.specs.Opened.{BeginsOn, slots_of_opening}
-
--- ---- what an opening gives
-
-module _ (parts : PartsState) (text : List ℕ) (opening : OpeningParts) (state : LastingState) (are : AreOpeningParts parts.system state opening) (begins : MayBegin parts.system text opening state)
-    (has : HasSlots parts) (starts : parts.moment ≡ start_of parts.system state) (slots_are : slots_now parts ≡ slots_of_opening opening (length parts.system.regions)) where
-  slots_so : slots_now parts ≡ opening_slots opening.stores.stores parts.system.databases (length parts.system.regions)
-  slots_so =
-      slots_are
-      ∙ ap (λ (changed : List (List ℕ)). record { committed = opening.stores.stores; stores = opening.stores.stores; changed = changed; touched = replicate (length parts.system.regions) [] }) are.written
-
-  may : MayOpen parts.system opening.now opening.stores.stores state (snapshot_records opening.now.checkpoint opening.next_unit state [])
-  may =
-      may_open_parts parts text opening.now state opening.stores.stores opening.next_unit has starts slots_so begins.restart begins.keeps_rules begins.of_system begins.counted begins.some_unit
-
-  -- The life that begins goes with the parts that were opened.
-  pub opened_by : IsCarried parts (no_units (length parts.system.regions)) opening.next_unit (opened_life parts.system text opening.now opening.stores.stores state)
-  opened_by =
-      opened parts text opening.now state opening.stores.stores opening.next_unit has starts slots_so begins.restart begins.keeps_rules begins.of_system begins.counted begins.some_unit
-
-  module _ (disk : DiskState) (renewed : (image : Image) → disk.may_leave image → IsRenewed parts.system text opening.now opening.next_unit state image)
-      (stored : (image : Image) → disk.may_leave image → HoldsStores parts.system opening.stores.stores image) where
-    opens : (image : Image) → disk.may_leave image → IsOpened parts.system text opening.now opening.stores.stores state (snapshot_records opening.now.checkpoint opening.next_unit state []) image
-    opens image left =
-        let is = renewed image left in
-        record { restart = is.restart; has_text = is.has_text; has_snapshot = is.has_snapshot; recovers = is.recovers; none_ahead = is.none_ahead; holds = stored image left }
-
-    -- Each image that a crash may leave is one of it.
-    pub opened_kept : AreKept (opened_life parts.system text opening.now opening.stores.stores state) disk
-    opened_kept = on_disk.opened_done parts.system text opening.now opening.stores.stores state (snapshot_records opening.now.checkpoint opening.next_unit state []) may disk opens
-
-    -- Its writer stands where the log ends.
-    pub opened_ready : IsReady (opened_life parts.system text opening.now opening.stores.stores state).log disk
-    opened_ready = on_disk.opened_ready parts.system text opening.now opening.stores.stores state (snapshot_records opening.now.checkpoint opening.next_unit state []) may disk opens
+use Rattle.machine_opening.specs.declared.how.How.{How}
+use Rattle.machine_opening.specs.declared.how.How.TheVariants.{Found, Cold}
+use Rattle.machine_opening.specs.Opened.{BeginsOn, OpensOn}
 
 -- ---- what was found, or begun
 
@@ -110,3 +74,28 @@ module _ (system : System) (parts : PartsState) (text : List ℕ) (opening : Ope
     counted = zeros (length system.regions) ∙ ap (λ (y : System). length y.regions) (sym same);
     ready = subst (λ (w : Writer). IsReady w disk) own_log (opened_ready parts text opening state own.are own.may has own_start own_slots disk own.renewed own.stored);
   }
+
+-- ---- as the calls have it
+
+-- What was looked at is the machine's system.
+pub opens_on : (how : How) (seen system : System) (text : List ℕ) (old new : DiskState) (machine : PartsState) (opening : OpeningParts) (state : LastingState) → seen ≡ system → BeginsOn seen text opening state new
+    → SizeFirst seen old.size (Ok (opening, state)) → OpeningCause (Ok (opening, state)) old new → (how ≡ Found → IsTrue old.tells → TellsOpening seen text old.shown (Ok (opening, state)))
+    → (how ≡ Cold → TellsCold seen (Ok (opening, state))) → ((some : LastingState) → IsOpenedWith system some opening → machine.moment ≡ start_of system some) → OpensOn how system text old new machine state
+opens_on how seen system text old new machine opening state same b size cause by_found by_cold moment = record {
+  moment = moment state (opened_with system text opening state new (subst (λ (y : System). BeginsOn y text opening state new) same b));
+  no_fault = cause;
+  size = subst (λ (y : System). sectors_needed y ≤ old.size) same size;
+  begins = record {
+    parts = opening;
+    found = λ is tells. subst (λ (y : System). TellsOpening y text old.shown (Ok (opening, state))) same (by_found is tells);
+    cold = λ is. subst (λ (y : System). TellsCold y (Ok (opening, state))) same (by_cold is);
+  };
+}
+
+pub logged_on : (seen system : System) → seen ≡ system → (parts : PartsState) (text : List ℕ) (opening : OpeningParts) (state : LastingState) (disk : DiskState) → BeginsOn seen text opening state disk → parts.system ≡ system
+    → HasSlots parts → ((some : LastingState) → IsOpenedWith system some opening → parts.moment ≡ start_of system some) → slots_now parts ≡ slots_of_opening opening (length system.regions) → (journal : JournalState)
+    → journal.log ≡ first_writer system opening.now → journal.restart ≡ opening.now → (next : ℕ) → next ≡ opening.next_unit → IsLogged parts (no_units (length system.regions)) next journal text disk
+logged_on seen system looked parts text opening state disk found same has moment slots journal log restart next is =
+    let b : BeginsOn system text opening state disk = subst (λ (y : System). BeginsOn y text opening state disk) looked found in
+    subst (λ (n : ℕ). IsLogged parts (no_units (length system.regions)) n journal text disk) (sym is)
+    (begun system parts text opening state disk b same has (moment state (opened_with system text opening state disk b)) slots journal log restart)

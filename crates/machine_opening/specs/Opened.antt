@@ -10,7 +10,6 @@ use Rattle.opening_parts.specs.Parts.{AreOpeningParts, OpeningParts}
 use Rattle.opening_answers.specs.declared.refusals.OpenError.{OpenError}
 use Rattle.opening_answers.specs.Opening.{MayBegin, OpeningCause, SizeFirst, TellsCold, TellsOpening}
 use Rattle.opening_answers.specs.Renewal.{IsRenewed}
-use Rattle.program_rows.specs.OnSlots.{SlotsState}
 use Rattle.tm_machine.specs.Parts.{PartsState}
 use Rattle.machine_opening.specs.declared.how.How.{How}
 use Rattle.machine_opening.specs.declared.how.How.TheVariants.{Found, Cold}
@@ -40,10 +39,6 @@ pub record Refuses (how : How) (system : System) (text : List ℕ) (disk : DiskS
   pub cold : how ≡ Cold → TellsCold system (Err error)
 
 -- ---- what it begins with
-
--- the slots of what a life begins with
-abbrev pub slots_of_opening : OpeningParts → ℕ → SlotsState
-slots_of_opening opening regions = record { stores = opening.stores.stores; changed = opening.stores.changed; committed = opening.stores.stores; touched = replicate regions [] }
 
 -- Each image that a crash may leave has what a life begins with, and all areas of the system are on the disk.
 pub record BeginsOn (system : System) (text : List ℕ) (parts : OpeningParts) (state : LastingState) (disk : DiskState) : Type 0 where

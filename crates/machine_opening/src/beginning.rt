@@ -5,7 +5,7 @@ ghost use Rattle.restart_data.specs.Restart.{IsRestart};
 ghost use Rattle.opening_answers.specs.Renewal.{first_writer};
 ghost use Rattle.tm_machine.specs.OnSlots.{HasSlots, slots_now};
 ghost use Rattle.tm_machine.specs.Opening.{IsOpenedWith};
-ghost use Rattle.machine_opening.specs.Opened.{slots_of_opening};
+ghost use Rattle.parts_life.proofs.Opening.{slots_of_opening};
 
 use image_areas::log_first;
 use journal::Journal;

@@ -15,7 +15,6 @@ use tm_disk::Disk;
 use tm_restart::{cold, recover};
 
 /// Recovers what the disk has, or begins it cold.
-#[tactic(auto, using(crate::proofs::Begun::begins_on))]
 pub(crate) fn look<D: Disk>(
     alloc: Global,
     disk: &mut D,

@@ -19,7 +19,6 @@ use tm_machine::Parts;
 
 /// Opens the machine of these parts, which are new, with what the disk has, or cold. It answers the journal, the number of the
 /// next unit, and what lasts. A refusal leaves the parts as they were.
-#[tactic(auto, using(crate::proofs::Begun::opened_with, crate::proofs::Begun::begun))]
 pub fn open<D: Disk>(
     alloc: Global,
     disk: &mut D,
