@@ -1,6 +1,7 @@
 -- A checkpoint of a machine with its log.
 use Rattle.std.proofs.Common.{◌≡◌, ◌⊎◌, ◌≤◌, ◌<◌, ◌+◌, ◌^◌, ℕ, Bool, true, false, List, length, inl, inr, ⊎_elim, refl, sym, ◌∙◌, ap, subst, arith}
-use Rattle.std.specs.Prelude.{Option, Some}
+use Rattle.std.specs.Prelude.{None, Option, Some}
+use Rattle.tm_machine.specs.Answers.{IsAnswered}
 use Rattle.model_disk.specs.Disk.{Image, DiskState, Stays, Within, ComesFrom, FailedSince, Only}
 use Rattle.model_system.specs.System.{System}
 use Rattle.model_machine.specs.Machine.{LastingState, Moment}
@@ -76,6 +77,7 @@ module _ {D : Type 0} (state : D → DiskState) (parts parts' : PartsState) (tex
       checkpoint = omega (arith, number, counted.checkpoint);
     };
     synced = synced;
+    place = place;
   }
 
   pub broke : FailedSince (state disk) (state disk') → Broke state was (is false) × LeavesSo state was (is false) parts.moment.lasting × Keeps state was (is false)
@@ -99,6 +101,16 @@ nothing state l entry served = record {
     later = omega arith;
     numbers = λ now. omega arith;
   };
+}
+
+-- a call was answered by an entry that leaves the machine as it was
+pub answered_still : {D : Type 0} (state : D → DiskState) (l : LoggedState D) (entry : Entry) → IsAnswered l.machine l.machine entry → l.served ≡ true → Did state None l l entry
+answered_still state l entry answered served = record {
+  did = (
+    record { answered = answered; served = served; no_fault = refl },
+    leaves_same (Brings l.machine.system l.text l.machine.moment.lasting (lasting_with l entry)) (state l.disk),
+  );
+  keeps = (nothing state l entry served).keeps;
 }
 
 -- what left all as it was did nothing

@@ -7,3 +7,5 @@ pub mod Answered
 pub mod Attempts
 pub mod Checkpointed
 pub mod Serving
+pub mod Checked
+pub mod Handed

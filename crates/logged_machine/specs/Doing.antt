@@ -34,7 +34,8 @@ pub record Did {D : Type 0} (state : D → DiskState) (fault : Option ControlFau
   pub did : DidBy state fault old new entry
   pub keeps : Keeps state old new
 
--- A checkpoint was taken: the machine stands where it stood. Its number is the next one, and a crash leaves what is shown.
+-- A checkpoint was taken: the machine stands where it stood. Its number is the next one, its log
+-- area is empty, and a crash leaves what is shown.
 pub record Refreshed {D : Type 0} (state : D → DiskState) (old new : LoggedState D) : Type 0 where
   pub stood : StoodStill state old new
   pub leaves : LeavesSo state old new old.machine.moment.lasting
@@ -42,6 +43,7 @@ pub record Refreshed {D : Type 0} (state : D → DiskState) (old new : LoggedSta
   pub number : new.journal.restart.checkpoint ≡ old.journal.restart.checkpoint + 1
   pub counted : IsCounted 4294967296 new.machine.moment.lasting new.next_unit new.journal
   pub synced : Only (state new.disk).shown (state new.disk)
+  pub place : new.journal.log.place ≡ 0
 
 -- None was taken: there was no memory, and nothing happened; or the disk failed, and whatever a crash leaves recovers to what
 -- lasted.

@@ -5,15 +5,16 @@
 //! served any more.
 #![tactic(auto)]
 
-pub use how::How;
 pub use logged::LoggedMachine;
+pub use machine_opening::How;
 pub use refused::OpenRefused;
 
 mod accepting;
 mod acknowledging;
+mod checking;
 mod commanding;
-mod how;
 mod logged;
+mod opening;
 mod refreshing;
 mod refused;
 mod spending;
