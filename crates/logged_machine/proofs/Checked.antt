@@ -4,7 +4,7 @@ use Rattle.model_disk.specs.Disk.{DiskState, Image, sector_at}
 use Rattle.model_system.specs.System.{System}
 use Rattle.model_machine.specs.Commands.{checkpoint_answer, unless_busy}
 use Rattle.model_machine.specs.History.{number_in}
-use Rattle.model_machine.specs.Machine.{Moment, moment_with}
+use Rattle.model_machine.specs.Machine.{Moment}
 use Rattle.model_machine.specs.declared.entry.CheckpointRefused.{CheckpointRefused}
 use Rattle.model_machine.specs.declared.entry.CheckpointRefused.TheVariants.{BusyRegion}
 use Rattle.model_machine.specs.declared.entry.Entry.TheVariants.{Checked}
@@ -20,7 +20,7 @@ use Rattle.journal.specs.State.{JournalState}
 use Rattle.tm_machine.specs.Answers.{IsAnswered}
 use Rattle.tm_machine.specs.Parts.{PartsState}
 use Rattle.machine_checkpoint.specs.Logged.{IsLogged}
-use Rattle.logged_machine.specs.Taken.{HasNumber, IsTaken}
+use Rattle.logged_machine.specs.Taken.{HasNumber, IsTaken, again}
 use Rattle.logged_machine.specs.Doing.{Did, Refreshed}
 use Rattle.logged_machine.specs.Logged.{LoggedState}
 
@@ -53,10 +53,6 @@ has_number parts units next journal text disk h empty image left =
     }
 
 -- ---- answers
-
--- the moment with its own flags
-abbrev pub again : PartsState → Moment
-again parts = moment_with parts.system parts.moment.lasting parts.moment.slots parts.moment.enqueues parts.moment.raised
 
 -- A checkpoint that may be taken is answered by its number, and the machine stands where it stood.
 pub taken_answer : (parts parts' : PartsState) (freeze : Bool) (number : ℕ) → again parts ≡ parts.moment → ((n : ℕ) → checkpoint_answer parts.moment freeze n ≡ Ok n) → parts'.system ≡ parts.system → parts'.moment ≡ parts.moment

@@ -6,8 +6,7 @@ ghost use Rattle.machine_checkpoint.specs.Counted.{IsCounted};
 ghost use Rattle.logged_machine.specs.Doing.{Did};
 ghost use Rattle.logged_machine.specs.Goes.{Keeps, GoesBy, CrashesBy, fault_in};
 ghost use Rattle.logged_machine.specs.Logged.{LastsNow, spent_now};
-ghost use Rattle.logged_machine.specs.Taken.{IsTaken};
-ghost use Rattle.logged_machine.proofs.Checked.{again};
+ghost use Rattle.logged_machine.specs.Taken.{IsTaken, again};
 
 use crate::logged::LoggedMachine;
 use command_answers::busy_region;

@@ -114,6 +114,7 @@ impl<D: Disk> LoggedMachine<D> {
         match self.journal.force(&mut self.disk) {
             Ok(()) => Ok(answer),
             Err(_) => {
+                drop(answer);
                 self.served = false;
                 Ok(Err(CommandRefused::Fault(ControlFault::Disk)))
             }

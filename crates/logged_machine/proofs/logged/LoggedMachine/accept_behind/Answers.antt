@@ -14,8 +14,13 @@ pub accept_fresh-requires-clause-counted : goal.accept_fresh-requires-clause-cou
 accept_fresh-requires-clause-counted g c = c.in-Ok.ensures.done.counted
 
 pub returns-in-Ok : goal.returns-in-Ok
-returns-in-Ok g c =
-    did_behind g.D.Disk.state c.args.self.now c.refresh.new.self c.accept_fresh.new.self (Accept c.args.terminal.now c.args.number c.args.segments c.accept_fresh.result) c.in-Ok.ensures.done (fault_in (Accept c.args.terminal.now c.args.number c.args.segments c.accept_fresh.result)) c.accept_fresh.ensures.did
+returns-in-Ok g c = record {
+  did =
+      did_behind g.D.Disk.state c.args.self.now c.refresh.new.self c.accept_fresh.new.self (Accept c.args.terminal.now c.args.number c.args.segments c.accept_fresh.result) c.in-Ok.ensures.done (fault_in (Accept c.args.terminal.now c.args.number c.args.segments c.accept_fresh.result)) c.accept_fresh.ensures.did;
+}
 
 pub returns-in-Err : goal.returns-in-Err
-returns-in-Err g c = unrefreshed g.D.Disk.state c.args.self.now c.refresh.new.self (Accept c.args.terminal.now c.args.number c.args.segments (Err (Fault c.in-Err.fault))) c.in-Err.fault c.requires.served c.in-Err.ensures.fault
+returns-in-Err g c = record {
+  did =
+      unrefreshed g.D.Disk.state c.args.self.now c.refresh.new.self (Accept c.args.terminal.now c.args.number c.args.segments (Err (Fault c.in-Err.fault))) c.in-Err.fault c.requires.served c.in-Err.ensures.fault;
+}

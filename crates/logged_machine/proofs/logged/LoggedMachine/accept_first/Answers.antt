@@ -18,19 +18,27 @@ pub accept_behind-requires-clause-counted : goal.accept_behind-requires-clause-c
 accept_behind-requires-clause-counted g c = counted_same 0 c.args.self.now c.accept_once.new.self c.in-Err-Full.ensures.same c.requires.counted
 
 pub returns-in-Ok : goal.returns-in-Ok
-returns-in-Ok g c = c.in-Ok.ensures.did
+returns-in-Ok g c = record {
+  did =
+      c.in-Ok.ensures.did;
+}
 
 pub returns-in-Err-Memory : goal.returns-in-Err-Memory
-returns-in-Err-Memory g c = nothing_done g.D.Disk.state c.args.self.now c.accept_once.new.self (Accept c.args.terminal.now c.args.number c.args.segments (Err (Fault Memory))) c.in-Err-Memory.ensures.same c.requires.served
+returns-in-Err-Memory g c = record {
+  did =
+      nothing_done g.D.Disk.state c.args.self.now c.accept_once.new.self (Accept c.args.terminal.now c.args.number c.args.segments (Err (Fault Memory))) c.in-Err-Memory.ensures.same c.requires.served;
+}
 
 pub returns-in-Err-Full : goal.returns-in-Err-Full
-returns-in-Err-Full g c =
-    subst
-    (λ (segments : List (List ℕ)).
-    Did g.D.Disk.state (fault_in (Accept c.args.terminal.now c.args.number segments c.accept_behind.result)) c.args.self.now c.accept_behind.new.self (Accept c.args.terminal.now c.args.number segments c.accept_behind.result))
-    c.requires.again
-    (did_same g.D.Disk.state (fault_in (Accept c.args.terminal.now c.args.number c.args.again c.accept_behind.result)) c.args.self.now c.accept_once.new.self c.accept_behind.new.self
-    (Accept c.args.terminal.now c.args.number c.args.again c.accept_behind.result) c.in-Err-Full.ensures.same c.accept_behind.ensures.did)
+returns-in-Err-Full g c = record {
+  did =
+      subst
+      (λ (segments : List (List ℕ)).
+      Did g.D.Disk.state (fault_in (Accept c.args.terminal.now c.args.number segments c.accept_behind.result)) c.args.self.now c.accept_behind.new.self (Accept c.args.terminal.now c.args.number segments c.accept_behind.result))
+      c.requires.again
+      (did_same g.D.Disk.state (fault_in (Accept c.args.terminal.now c.args.number c.args.again c.accept_behind.result)) c.args.self.now c.accept_once.new.self c.accept_behind.new.self
+      (Accept c.args.terminal.now c.args.number c.args.again c.accept_behind.result) c.in-Err-Full.ensures.same c.accept_behind.ensures.did);
+}
 
 pub accept_behind-requires-clause-some : goal.accept_behind-requires-clause-some
 accept_behind-requires-clause-some g c = subst (λ (segments : List (List ℕ)). 0 < length segments) (sym c.requires.again) c.requires.some

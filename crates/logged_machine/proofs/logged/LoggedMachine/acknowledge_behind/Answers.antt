@@ -14,8 +14,13 @@ pub acknowledge_fresh-requires-clause-counted : goal.acknowledge_fresh-requires-
 acknowledge_fresh-requires-clause-counted g c = c.in-Ok.ensures.done.counted
 
 pub returns-in-Ok : goal.returns-in-Ok
-returns-in-Ok g c =
-    did_behind g.D.Disk.state c.args.self.now c.refresh.new.self c.acknowledge_fresh.new.self (Acked c.args.terminal.now c.args.number c.acknowledge_fresh.result) c.in-Ok.ensures.done (fault_in (Acked c.args.terminal.now c.args.number c.acknowledge_fresh.result)) c.acknowledge_fresh.ensures.did
+returns-in-Ok g c = record {
+  did =
+      did_behind g.D.Disk.state c.args.self.now c.refresh.new.self c.acknowledge_fresh.new.self (Acked c.args.terminal.now c.args.number c.acknowledge_fresh.result) c.in-Ok.ensures.done (fault_in (Acked c.args.terminal.now c.args.number c.acknowledge_fresh.result)) c.acknowledge_fresh.ensures.did;
+}
 
 pub returns-in-Err : goal.returns-in-Err
-returns-in-Err g c = unrefreshed g.D.Disk.state c.args.self.now c.refresh.new.self (Acked c.args.terminal.now c.args.number (Err (Fault c.in-Err.fault))) c.in-Err.fault c.requires.served c.in-Err.ensures.fault
+returns-in-Err g c = record {
+  did =
+      unrefreshed g.D.Disk.state c.args.self.now c.refresh.new.self (Acked c.args.terminal.now c.args.number (Err (Fault c.in-Err.fault))) c.in-Err.fault c.requires.served c.in-Err.ensures.fault;
+}

@@ -7,7 +7,13 @@ use Rattle.logged_machine.proofs.Checkpointed.{nothing_done}
 use Rattle.logged_machine.proofs.logged.LoggedMachine.acknowledge_fresh.Goals as goal
 
 pub returns-in-Ok : goal.returns-in-Ok
-returns-in-Ok g c = c.in-Ok.ensures.did
+returns-in-Ok g c = record {
+  did =
+      c.in-Ok.ensures.did;
+}
 
 pub returns-in-Err : goal.returns-in-Err
-returns-in-Err g c = nothing_done g.D.Disk.state c.args.self.now c.acknowledge_once.new.self (Acked c.args.terminal.now c.args.number (Err (Fault Memory))) c.in-Err.ensures.same c.requires.served
+returns-in-Err g c = record {
+  did =
+      nothing_done g.D.Disk.state c.args.self.now c.acknowledge_once.new.self (Acked c.args.terminal.now c.args.number (Err (Fault Memory))) c.in-Err.ensures.same c.requires.served;
+}

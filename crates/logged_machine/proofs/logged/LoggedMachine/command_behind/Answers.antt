@@ -14,8 +14,13 @@ pub command_fresh-requires-clause-counted : goal.command_fresh-requires-clause-c
 command_fresh-requires-clause-counted g c = c.in-Ok.ensures.done.counted
 
 pub returns-in-Ok : goal.returns-in-Ok
-returns-in-Ok g c =
-    did_behind g.D.Disk.state c.args.self.now c.refresh.new.self c.command_fresh.new.self (Commanded c.args.command.now c.command_fresh.result) c.in-Ok.ensures.done (fault_in (Commanded c.args.command.now c.command_fresh.result)) c.command_fresh.ensures.did
+returns-in-Ok g c = record {
+  did =
+      did_behind g.D.Disk.state c.args.self.now c.refresh.new.self c.command_fresh.new.self (Commanded c.args.command.now c.command_fresh.result) c.in-Ok.ensures.done (fault_in (Commanded c.args.command.now c.command_fresh.result)) c.command_fresh.ensures.did;
+}
 
 pub returns-in-Err : goal.returns-in-Err
-returns-in-Err g c = unrefreshed g.D.Disk.state c.args.self.now c.refresh.new.self (Commanded c.args.command.now (Err (Fault c.in-Err.fault))) c.in-Err.fault c.requires.served c.in-Err.ensures.fault
+returns-in-Err g c = record {
+  did =
+      unrefreshed g.D.Disk.state c.args.self.now c.refresh.new.self (Commanded c.args.command.now (Err (Fault c.in-Err.fault))) c.in-Err.fault c.requires.served c.in-Err.ensures.fault;
+}

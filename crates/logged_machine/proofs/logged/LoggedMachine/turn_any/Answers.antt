@@ -21,11 +21,19 @@ pub turn_behind-requires-clause-counted : goal.turn_behind-requires-clause-count
 turn_behind-requires-clause-counted g c = counted_same 0 c.args.self.now c.turn_once.new.self c.in-Err-Full.ensures.same c.requires.counted
 
 pub returns-in-Ok : goal.returns-in-Ok
-returns-in-Ok g c = c.in-Ok.ensures.did
+returns-in-Ok g c = record {
+  did =
+      c.in-Ok.ensures.did;
+}
 
 pub returns-in-Err-Memory : goal.returns-in-Err-Memory
-returns-in-Err-Memory g c = nothing_done g.D.Disk.state c.args.self.now c.turn_once.new.self (Turn c.args.region (Err Memory)) c.in-Err-Memory.ensures.same c.requires.served
+returns-in-Err-Memory g c = record {
+  did =
+      nothing_done g.D.Disk.state c.args.self.now c.turn_once.new.self (Turn c.args.region (Err Memory)) c.in-Err-Memory.ensures.same c.requires.served;
+}
 
 pub returns-in-Err-Full : goal.returns-in-Err-Full
-returns-in-Err-Full g c =
-    did_same g.D.Disk.state (fault_in (Turn c.args.region c.turn_behind.result)) c.args.self.now c.turn_once.new.self c.turn_behind.new.self (Turn c.args.region c.turn_behind.result) c.in-Err-Full.ensures.same c.turn_behind.ensures.did
+returns-in-Err-Full g c = record {
+  did =
+      did_same g.D.Disk.state (fault_in (Turn c.args.region c.turn_behind.result)) c.args.self.now c.turn_once.new.self c.turn_behind.new.self (Turn c.args.region c.turn_behind.result) c.in-Err-Full.ensures.same c.turn_behind.ensures.did;
+}

@@ -18,8 +18,13 @@ pub turn_fresh-requires-clause-counted : goal.turn_fresh-requires-clause-counted
 turn_fresh-requires-clause-counted g c = c.in-Ok.ensures.done.counted
 
 pub returns-in-Ok : goal.returns-in-Ok
-returns-in-Ok g c =
-    did_behind g.D.Disk.state c.args.self.now c.refresh.new.self c.turn_fresh.new.self (Turn c.args.region c.turn_fresh.result) c.in-Ok.ensures.done (fault_in (Turn c.args.region c.turn_fresh.result)) c.turn_fresh.ensures.did
+returns-in-Ok g c = record {
+  did =
+      did_behind g.D.Disk.state c.args.self.now c.refresh.new.self c.turn_fresh.new.self (Turn c.args.region c.turn_fresh.result) c.in-Ok.ensures.done (fault_in (Turn c.args.region c.turn_fresh.result)) c.turn_fresh.ensures.did;
+}
 
 pub returns-in-Err : goal.returns-in-Err
-returns-in-Err g c = unrefreshed g.D.Disk.state c.args.self.now c.refresh.new.self (Turn c.args.region (Err c.in-Err.fault)) c.in-Err.fault c.requires.served c.in-Err.ensures.fault
+returns-in-Err g c = record {
+  did =
+      unrefreshed g.D.Disk.state c.args.self.now c.refresh.new.self (Turn c.args.region (Err c.in-Err.fault)) c.in-Err.fault c.requires.served c.in-Err.ensures.fault;
+}
