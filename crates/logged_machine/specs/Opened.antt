@@ -1,0 +1,32 @@
+-- What opening a machine with its log answers.
+use Rattle.std.specs.Prelude.{◌≡◌, ℕ, ◌≤◌, true, List, Err}
+use Rattle.model_disk.specs.Disk.{DiskState, Stays, Within}
+use Rattle.model_system.specs.System.{System}
+use Rattle.model_machine.specs.Machine.{LastingState, start_of}
+use Rattle.cold_start.specs.FirstImage.{sectors_needed}
+use Rattle.opening_answers.specs.declared.refusals.OpenError.{OpenError}
+use Rattle.opening_answers.specs.Opening.{OpeningCause}
+use Rattle.machine_opening.specs.declared.how.How.{How}
+use Rattle.machine_opening.specs.Opened.{Begins, KeepsBy, Refuses}
+use Rattle.logged_machine.specs.Logged.{LoggedState}
+
+-- The machine stands where that begins.
+pub record Opens {D : Type 0} (state : D → DiskState) (how : How) (system : System) (text : List ℕ) (disk : D) (new : LoggedState D) (opening : LastingState) : Type 0 where
+  pub system_is : new.machine.system ≡ system
+  pub moment : new.machine.moment ≡ start_of system opening
+  pub text_is : new.text ≡ text
+  pub served : new.served ≡ true
+  pub no_fault : (state new.disk).faults ≡ (state disk).faults
+  pub stays : Stays (state disk) (state new.disk)
+  pub size : sectors_needed system ≤ (state disk).size
+  pub begins : Begins how system text (state disk) opening
+  pub any_moment : Within (KeepsBy how system) (state disk) (state new.disk)
+
+-- All is handed back.
+pub record HandsBack {D : Type 0} (state : D → DiskState) (how : How) (system : System) (text : List ℕ) (disk : D) (error : OpenError) (disk_back : D) (system_back : System) (text_back : List ℕ) : Type 0 where
+  pub refuses : Refuses how system text (state disk) error
+  pub system_is : system_back ≡ system
+  pub text_is : text_back ≡ text
+  pub stays : Stays (state disk) (state disk_back)
+  pub cause : OpeningCause (Err error) (state disk) (state disk_back)
+  pub any_moment : Within (KeepsBy how system) (state disk) (state disk_back)
