@@ -56,11 +56,15 @@ later_or false at rest behind = refl
 
 pub later_in_both : (one two : ℕ) (image : Image) (at epoch : ℕ) → first_later (one + two) image at epoch ≡ in_both (first_later one image at epoch) (first_later two image (at + one) epoch)
 later_in_both zero two image at epoch =
-    ap (λ k. first_later k image at epoch) (omega arith) ∙ ap (λ k. first_later two image k epoch) (omega arith)
+    let count : 0 + two ≡ two = omega arith in
+    let place : at ≡ at + 0 = omega arith in
+    ap (λ k. first_later k image at epoch) count ∙ ap (λ k. first_later two image k epoch) place
 later_in_both (suc one) two image at epoch =
-    ap (λ k. first_later k image at epoch) (omega arith)
+    let count : suc one + two ≡ suc (one + two) = omega arith in
+    let place : at + 1 + one ≡ at + suc one = omega arith in
+    ap (λ k. first_later k image at epoch) count
     ∙ ap (λ (rest : Option ℕ). if is_later epoch (sector_at image at) then Some at else rest)
-    (later_in_both one two image (at + 1) epoch ∙ ap (λ k. in_both (first_later one image (at + 1) epoch) (first_later two image k epoch)) (omega arith))
+    (later_in_both one two image (at + 1) epoch ∙ ap (λ k. in_both (first_later one image (at + 1) epoch) (first_later two image k epoch)) place)
     ∙ sym (later_or (is_later epoch (sector_at image at)) at (first_later one image (at + 1) epoch) (first_later two image (at + suc one) epoch))
 
 -- ---- bytes

@@ -1,5 +1,5 @@
 -- What has been read of an area, and what is still to come.
-use Rattle.std.proofs.Common.{◌≡◌, ℕ, ◌+◌, ◌-◌, ◌<◌, ◌≤◌, ◌^◌, false, List, ◌++◌, length, sym, ◌∙◌, ap, subst, arith, Some, None, IsSome}
+use Rattle.std.proofs.Common.{◌≡◌, ℕ, ◌+◌, ◌-◌, ◌<◌, ◌≤◌, ◌^◌, false, List, ◌++◌, length, refl, sym, ◌∙◌, ap, subst, arith, Some, None, IsSome}
 use Rattle.std.specs.Prelude.{Option}
 use Rattle.model_disk.specs.Disk.{Image, sector_at}
 use Rattle.log_sectors.specs.Sealed.{opened}
@@ -18,7 +18,7 @@ pub record IsReadTo (count : ℕ) (image : Image) (first sequence epoch place : 
   pub later : first_later count image first epoch ≡ first_later (count - place) image (first + place) epoch
 
 some_is : (o : Option (List ℕ)) (bytes : List ℕ) → o ≡ Some bytes → IsSome o
-some_is (Some x) bytes is = tt
+some_is (Some x) bytes is = refl
 some_is None bytes is = cc
 
 module _ (count : ℕ) (image : Image) (first sequence epoch place : ℕ) (payload : List ℕ) (so_far : IsReadTo count image first sequence epoch place payload) where
