@@ -78,4 +78,4 @@ later_sector-requires-clause-held g c tells =
     let old = g.D.Disk.state c.args.disk.now in
     let both = keeps_on old (g.D.Disk.state c.read_replayed.new.disk) (g.D.Disk.state c.load_named.new.disk) (g.met.D.Disk.is_disk c.args.disk.now) c.in-Ok.ensures.keeps c.in-Ok-load_named.ensures.keeps in
     let held = (c.in-Ok.ensures.value (subst IsTrue both.stays.tells tells)).later in
-    held ∙ ap (λ (i : Image). first_later system.logs i (log_first system r.log) r.epoch) (sym both.shown)
+    ap (λ (x : Reread). x.later) c.reread.view_is ∙ held ∙ ap (λ (i : Image). first_later system.logs i (log_first system r.log) r.epoch) (sym both.shown)
