@@ -1,0 +1,4 @@
+pub mod Logged
+pub mod Goes
+pub mod Opened
+pub mod Taken
