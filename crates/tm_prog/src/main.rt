@@ -6,6 +6,8 @@ ghost use Rattle.model_disk.specs.Disk.{Only};
 ghost use Rattle.tm_prog.specs.Status.{status_number};
 
 #[cfg(test)]
+mod command_tests;
+#[cfg(test)]
 mod conversation_tests;
 #[cfg(test)]
 mod database_tests;
