@@ -37,7 +37,7 @@ fn main(rt: HostRuntime) -> ExitCode {
     let alloc = rt.alloc();
     let mut source = StdSource::new(rt.reader());
     let mut sink = StdSink::new(std::io::writer(&rt));
-    let Ok(words) = words(&rt) else {
+    let Ok(words) = called_with(&rt) else {
         return no_memory(&mut sink);
     };
     match disk_words(&words) {
@@ -81,7 +81,7 @@ const WORD_COUNT: usize = 8;
 
 /// The words that the program is called with, without its own name. One that isn't UTF-8 stands with a mark in place of
 /// what isn't, and a word that is too long as a mark alone, so that neither is a word of the grammar.
-fn words<R: Env + AllocGlobal>(rt: &R) -> Result<Vec<String>, Memory> {
+fn called_with<R: Env + AllocGlobal>(rt: &R) -> Result<Vec<String>, Memory> {
     let alloc = rt.alloc();
     let mut words = Vec::new(alloc);
     let mut bytes = [0; WORD_ROOM];

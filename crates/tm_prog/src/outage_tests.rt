@@ -108,7 +108,7 @@ fn power(rt: HostRuntime) -> Result<(), Fail> {
 fn refused_disks(rt: HostRuntime) -> Result<(), Fail> {
     let alloc = rt.alloc();
     let small = MemDisk::new(alloc, 1000, Vec::new(alloc))?;
-    let printed = b"STATUS 6 SIZE 1517 1000\n";
+    let printed = b"STATUS 6 SIZE 1417 1000\n";
     let _ = serve(&rt, alloc, &[SYSTEM, PROGRAMS], small, (6, printed))?;
     // A disk that another definition's system has begun.
     let disk = MemDisk::new(alloc, 1517, Vec::new(alloc))?;
