@@ -22,12 +22,12 @@ use model_machine::{
     AckRefused, Acked, CheckpointRefused, CommandRefused, ControlFault, Counter, InputRefused,
     Lasting, ShowAnswer, Taken, Turned,
 };
+use opening_answers::OpenError;
 use std::alloc::Global;
 use std::marker::Model;
 use system_types::System;
 use tm_disk::Disk;
 use tm_machine::Parts;
-use opening_answers::OpenError;
 use tm_types::{Bytes, Memory, Name, Segments};
 
 /// A machine with its log on a disk.

@@ -1,8 +1,8 @@
 //! A refused opening.
 
+use opening_answers::OpenError;
 use system_types::System;
 use tm_disk::Disk;
-use opening_answers::OpenError;
 use tm_types::Bytes;
 
 /// An opening was refused. All that was given is handed back.

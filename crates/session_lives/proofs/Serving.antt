@@ -205,12 +205,11 @@ module _ {D : Type 0} (state : D → DiskState) (system : System) (handed : D) (
   rose_in ColdStart never = absurd never
 
   powers : (asked : Asked) (pick : ℕ) → PowersOff state asked pick a b text → HasEndedLife state b kept false session → IsServedUp asked setting before (last_up a) (session_of session) text
-  powers (AskedPower asked) pick (same, added, printed) over =
-      (
-        ap (λ p. session_at p session.kept) over.place
+  powers (AskedPower asked) pick (same, added, printed) over = (
+    ap (λ p. session_at p session.kept) over.place
         ∙ ended_state state a b old kept session.kept over.idle [] over.down lives stops stays.opening (added.adds.history ∙ sym (append-nil a.control.history)),
-        printed,
-      )
+    printed,
+  )
   powers (Bad rule) pick never over = absurd never
   powers (BadCommand rule) pick never over = absurd never
   powers (Stopped terminal number reason) pick never over = absurd never

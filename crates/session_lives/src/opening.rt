@@ -14,12 +14,7 @@ use tm_control::{Closed, Control, How, Life, OpenError, OpenRefused};
 use tm_disk::Disk;
 
 /// Ends a life, since the disk failed in it or power fails. The disk is cut with this pick.
-pub fn go_down<D: Disk>(
-    control: Control<D>,
-    kept: &mut Kept,
-    pick: u64,
-    stopped: bool,
-) -> Idle<D>
+pub fn go_down<D: Disk>(control: Control<D>, kept: &mut Kept, pick: u64, stopped: bool) -> Idle<D>
     requires text { length control.text ≤ 262144 }
     requires life_room { vec_len kept.old.lives < vec_capacity kept.old.lives }
     requires stop_room { vec_len kept.old.stops < vec_capacity kept.old.stops }
@@ -84,12 +79,7 @@ fn note_stop(stops: &mut Vec<(u64, u64)>, stopped: bool, began: u64, ended: u64)
 }
 
 /// Opens a life. Where the disk fails it is cut; else the system is up, or it is down as it was.
-pub fn open<D: Disk>(
-    alloc: Global,
-    idle: Idle<D>,
-    kept: Kept,
-    cold: bool,
-) -> (Session<D>, Opening)
+pub fn open<D: Disk>(alloc: Global, idle: Idle<D>, kept: Kept, cold: bool) -> (Session<D>, Opening)
     requires ready { IsDownReady D.state idle kept }
     ensures gone { HasGone D.state idle kept cold result.0 result.1 }
     ensures ready { IsReady D.state result.0 }

@@ -34,12 +34,7 @@ fn serve<D: Disk>(
 }
 
 /// A session of the system over a new disk in memory.
-fn expect(
-    rt: &impl Abort,
-    alloc: Global,
-    lines: &[u8],
-    wanted: (u8, &[u8]),
-) -> Result<(), Fail> {
+fn expect(rt: &impl Abort, alloc: Global, lines: &[u8], wanted: (u8, &[u8])) -> Result<(), Fail> {
     let disk = MemDisk::new(alloc, 1517, Vec::new(alloc))?;
     let _ = serve(rt, alloc, &[SYSTEM, PROGRAMS, lines], disk, wanted)?;
     Ok(())
@@ -122,18 +117,25 @@ fn refused_disks(rt: HostRuntime) -> Result<(), Fail> {
     let disk = serve(&rt, alloc, &[&other, PROGRAMS], disk, (6, printed))?;
     // Its own system goes on with it.
     let lines = b"IN T1 1 ECHO A\n";
-    let disk = serve(&rt, alloc, &[SYSTEM, PROGRAMS, lines], disk, (0, b"ACK T1 1\n"))?;
-    let _ = serve(&rt, alloc, &[SYSTEM, PROGRAMS, lines], disk, (0, b"ALREADY T1 1\n"))?;
+    let disk = serve(
+        &rt,
+        alloc,
+        &[SYSTEM, PROGRAMS, lines],
+        disk,
+        (0, b"ACK T1 1\n"),
+    )?;
+    let _ = serve(
+        &rt,
+        alloc,
+        &[SYSTEM, PROGRAMS, lines],
+        disk,
+        (0, b"ALREADY T1 1\n"),
+    )?;
     Ok(())
 }
 
 /// A bank's session over a new disk in memory.
-fn expect_bank(
-    rt: &impl Abort,
-    alloc: Global,
-    lines: &[u8],
-    wanted: &[u8],
-) -> Result<(), Fail> {
+fn expect_bank(rt: &impl Abort, alloc: Global, lines: &[u8], wanted: &[u8]) -> Result<(), Fail> {
     let disk = MemDisk::new(alloc, 1517, Vec::new(alloc))?;
     let _ = serve(rt, alloc, &[BANK, BANK_PROGRAMS, lines], disk, (0, wanted))?;
     Ok(())
@@ -160,9 +162,11 @@ const HALF_PRINTED: &[u8] =
     b"ACK T1 1\nR1 SCHEDULED XFER 3\nR1 GU 0 OK\nR1 GHU 1 OK\nR1 REPL 1 OK\n";
 
 /// Behind a stop the transfer is done anew.
-const AGAIN: &[u8] = b"/ERESTART\n/DISPLAY TRANSACTION XFER\nQUIET 100\nRECV T1\nIN T2 1 BAL 0001\nQUIET 100\nRECV T2\n";
+const AGAIN: &[u8] =
+    b"/ERESTART\n/DISPLAY TRANSACTION XFER\nQUIET 100\nRECV T1\nIN T2 1 BAL 0001\nQUIET 100\nRECV T2\n";
 
-const AGAIN_PRINTED: &[u8] = b"RESTARTED\nTRANSACTION XFER CLASS 1 PRIORITY 1 QUEUED 1 STARTED\nQUIET 8\nOUT T1 1 MOVED 00000005\nACK T2 1\nQUIET 5\nOUT T2 1 0001 00000995\n";
+const AGAIN_PRINTED: &[u8] =
+    b"RESTARTED\nTRANSACTION XFER CLASS 1 PRIORITY 1 QUEUED 1 STARTED\nQUIET 8\nOUT T1 1 MOVED 00000005\nACK T2 1\nQUIET 5\nOUT T2 1 0001 00000995\n";
 
 /// A checkpoint with an open unit writes five sectors. Whichever of them fails, the unit is taken back and its message is there.
 #[test]
@@ -175,7 +179,13 @@ fn stopped_checkpoints(rt: HostRuntime) -> Result<(), Fail> {
             let told = armed(alloc, write)?;
             let wanted = joined(
                 alloc,
-                &[OPENED_PRINTED, HALF_PRINTED, &told, b"STOPPED\n", AGAIN_PRINTED],
+                &[
+                    OPENED_PRINTED,
+                    HALF_PRINTED,
+                    &told,
+                    b"STOPPED\n",
+                    AGAIN_PRINTED,
+                ],
             )?;
             expect_bank(&rt, alloc, &lines, &wanted)?;
         }
@@ -196,7 +206,8 @@ const SHORT_PRINTED: &[u8] = b"ACK T9 1\nQUIET 5\nOUT T9 1 OPENED 0001\nACKED T9
 /// What is there of it in the end, whatever was stopped.
 const THERE: &[u8] = b"/DISPLAY LTERM T9\nIN T2 1 BAL 0001\nQUIET 100\nRECV T2\n";
 
-const THERE_PRINTED: &[u8] = b"LTERM T9 IN 1 OUT 1 KEPT 0 STARTED\nACK T2 1\nQUIET 5\nOUT T2 1 0001 00001000\n";
+const THERE_PRINTED: &[u8] =
+    b"LTERM T9 IN 1 OUT 1 KEPT 0 STARTED\nACK T2 1\nQUIET 5\nOUT T2 1 0001 00001000\n";
 
 /// One write of the session fails, and behind a restart all its lines are sent again.
 fn ends_so(rt: &impl Abort, alloc: Global, write: u8, pick: u8) -> Result<(), Fail> {
@@ -207,7 +218,15 @@ fn ends_so(rt: &impl Abort, alloc: Global, write: u8, pick: u8) -> Result<(), Fa
     }
     let source = joined(
         alloc,
-        &[BANK, BANK_PROGRAMS, &power, SHORT, b"/ERESTART\n", SHORT, THERE],
+        &[
+            BANK,
+            BANK_PROGRAMS,
+            &power,
+            SHORT,
+            b"/ERESTART\n",
+            SHORT,
+            THERE,
+        ],
     )?;
     let mut source = MemSource::new(source, Vec::new(alloc));
     let mut sink = MemSink::new(alloc, Vec::new(alloc));

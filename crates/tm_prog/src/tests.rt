@@ -320,7 +320,10 @@ fn words(rt: HostRuntime) -> Result<(), Fail> {
         (&["drill", "MEM", "9", "9"], b"STATUS 1 WORD 4 RULE 3\n"),
         (&["drill", "FILE"], b"STATUS 1 WORD 3 RULE 2\n"),
         (&["drill", "FILE", "disk"], b"STATUS 1 WORD 4 RULE 2\n"),
-        (&["drill", "FILE", "disk", "9", "9"], b"STATUS 1 WORD 5 RULE 3\n"),
+        (
+            &["drill", "FILE", "disk", "9", "9"],
+            b"STATUS 1 WORD 5 RULE 3\n",
+        ),
     ];
     for (words, printed) in &table {
         expect(&rt, rt.alloc(), words, FIRST, (&[], &[]), (1, printed))?;

@@ -100,11 +100,13 @@ module _ {D : Type 0} (state : D → DiskState) (is_disk : (disk : D) → IsDisk
 
   idles_by : (opening : Opening) (why : Ended) → HasGone state b.idle b.kept false session opening → refusal opening ≡ Some why
       → StaysIdle state b.idle b.kept session × IsRefusal system text (state handed) why
-  idles_by (Refused refused) why gone is =
-      (gone.0, subst (λ e. IsRefusal system text (state handed) e) (some_is (BadImage refused) why is)
-      (subst (λ d. Refuses Found system text (state d) (error_of refused)) b.disk_is
-      (subst (λ t. Refuses Found system t (state b.idle.disk) (error_of refused)) b.text_is
-      (subst (λ s. Refuses Found s b.idle.text (state b.idle.disk) (error_of refused)) b.system_is gone.1))))
+  idles_by (Refused refused) why gone is = (
+    gone.0,
+    subst (λ e. IsRefusal system text (state handed) e) (some_is (BadImage refused) why is)
+        (subst (λ d. Refuses Found system text (state d) (error_of refused)) b.disk_is
+        (subst (λ t. Refuses Found system t (state b.idle.disk) (error_of refused)) b.text_is
+        (subst (λ s. Refuses Found s b.idle.text (state b.idle.disk) (error_of refused)) b.system_is gone.1))),
+  )
     where
       some_is : (a b : Ended) → Some a ≡ Some b → a ≡ b
       some_is a b e = cc

@@ -17,5 +17,5 @@ returns-clause-step g c =
     sym (ap takes_further (c.line.ensures ∙ ap (λ b. b.line) c.alone-block.ensures)) ∙ sym c.takes_further.ensures ∙ c.if-takes_further.false in
     leads_map g.D.Disk.state _ _ c.args.session c.serve_whole.result.0
     (λ setting x y one. alone_step setting c.serve_whole.result.1 c.args.line c.alone-block.result c.args.pending.now (g.K.Sink.written c.args.sink.now) (g.K.Sink.written c.serve_whole.new.sink) x y
-        c.requires.seen plain c.alone-block.ensures c.requires.none one)
+    c.requires.seen plain c.alone-block.ensures c.requires.none one)
     c.serve_whole.ensures.step

@@ -7,7 +7,7 @@ pub returns-in-None-clause-step : goal.returns-in-None-clause-step
 returns-in-None-clause-step g c =
     leads_then g.D.Disk.state _ _ _ c.args.session c.serve_whole.result.0 c.begin_block.result.0
     (λ setting x y z one two. both_step setting c.args.block c.args.line (g.K.Sink.written c.args.sink.now) (g.K.Sink.written c.serve_whole.new.sink) (g.K.Sink.written c.begin_block.new.sink) x y z
-        c.requires.seen c.requires.plain c.begin_block.result.1 c.begin_block.new.pending one two)
+    c.requires.seen c.requires.plain c.begin_block.result.1 c.begin_block.new.pending one two)
     (rw c.in-None.is at c.serve_whole.ensures.step) c.begin_block.ensures.step
 
 pub returns-in-Some-clause-step : goal.returns-in-Some-clause-step

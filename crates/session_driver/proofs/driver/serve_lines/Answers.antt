@@ -20,7 +20,7 @@ pub returns-in-Some-clause-driven : goal.returns-in-Some-clause-driven
 returns-in-Some-clause-driven g c =
     leads_then g.D.Disk.state _ _ _ c.args.session c.loop-count.session c.serve_next.result.0
     (λ setting x y z far one. driven_here setting c.args.before c.loop-count._count (unread c.args.lines.now (g.S.Source.left c.args.source.now)) (unread c.loop-count.lines (g.S.Source.left c.loop-count.source)) (unread c.serve_next.new.lines (g.S.Source.left c.serve_next.new.source)) c.loop-count.pending
-        (g.K.Sink.written c.args.sink.now) (g.K.Sink.written c.loop-count.sink) (g.K.Sink.written c.serve_next.new.sink) x y z c.in-Some.ended far (omega arith) (one c.loop-count._count (omega arith)))
+    (g.K.Sink.written c.args.sink.now) (g.K.Sink.written c.loop-count.sink) (g.K.Sink.written c.serve_next.new.sink) x y z c.in-Some.ended far (omega arith) (one c.loop-count._count (omega arith)))
     c.loop-count.invariant.so_far (rw c.in-Some.is at c.serve_next.ensures.step)
 
 pub returns-in-Some-clause-taken : goal.returns-in-Some-clause-taken
@@ -30,7 +30,7 @@ pub loop-count-preserved : goal.loop-count-preserved
 loop-count-preserved g c = record {
   so_far = leads_then g.D.Disk.state _ _ _ c.args.session c.loop-count.session c.serve_next.result.0
       (λ setting x y z far one. so_far_next setting c.args.before c.loop-count._count (unread c.args.lines.now (g.S.Source.left c.args.source.now)) (unread c.loop-count.lines (g.S.Source.left c.loop-count.source)) (unread c.serve_next.new.lines (g.S.Source.left c.serve_next.new.source)) c.loop-count.pending c.serve_next.new.pending
-          (g.K.Sink.written c.args.sink.now) (g.K.Sink.written c.loop-count.sink) (g.K.Sink.written c.serve_next.new.sink) x y z far one)
+      (g.K.Sink.written c.args.sink.now) (g.K.Sink.written c.loop-count.sink) (g.K.Sink.written c.serve_next.new.sink) x y z far one)
       c.loop-count.invariant.so_far (rw c.in-None.is at c.serve_next.ensures.step);
   ready = c.serve_next.ensures.ready;
   begun = c.serve_next.ensures.begun;
@@ -43,7 +43,7 @@ pub returns-clause-driven : goal.returns-clause-driven
 returns-clause-driven g c =
     leads_then g.D.Disk.state _ _ _ c.args.session c.loop-count.session c.end_of.result.0
     (λ setting x y z far one. driven_end setting c.args.before c.loop-count._count (unread c.args.lines.now (g.S.Source.left c.args.source.now)) (unread c.loop-count.lines (g.S.Source.left c.loop-count.source)) (unread c.end_of.new.lines (g.S.Source.left c.end_of.new.source)) c.loop-count.pending
-        (g.K.Sink.written c.args.sink.now) (g.K.Sink.written c.loop-count.sink) (g.K.Sink.written c.end_of.new.sink) x y z c.end_of.result.1 far (omega arith) one)
+    (g.K.Sink.written c.args.sink.now) (g.K.Sink.written c.loop-count.sink) (g.K.Sink.written c.end_of.new.sink) x y z c.end_of.result.1 far (omega arith) one)
     c.loop-count.invariant.so_far c.end_of.ensures.step
 
 pub returns-clause-taken : goal.returns-clause-taken

@@ -30,8 +30,8 @@ returns-then-lengthen-clause-step g c =
     let longer : c.lengthen.new.pending ≡ Some (and_line c.in-Some.block c.args.line) = c.lengthen.ensures.added c.if-lengthen.true in
     leads_same g.D.Disk.state _ c.args.session
     (λ setting x. subst (λ p. Goes setting p c.args.line c.lengthen.new.pending (g.K.Sink.written c.args.sink.now) (g.K.Sink.written c.args.sink.now) x x) (sym some)
-        (subst (λ q. Goes setting (Some c.in-Some.block) c.args.line q (g.K.Sink.written c.args.sink.now) (g.K.Sink.written c.args.sink.now) x x) (sym longer)
-        (goes_longer setting c.in-Some.block c.args.line (g.K.Sink.written c.args.sink.now) x seen plus takes)))
+    (subst (λ q. Goes setting (Some c.in-Some.block) c.args.line q (g.K.Sink.written c.args.sink.now) (g.K.Sink.written c.args.sink.now) x x) (sym longer)
+    (goes_longer setting c.in-Some.block c.args.line (g.K.Sink.written c.args.sink.now) x seen plus takes)))
 
 pub returns-then-is_further-clause-step : goal.returns-then-is_further-clause-step
 returns-then-is_further-clause-step g c =
@@ -41,7 +41,7 @@ returns-then-is_further-clause-step g c =
     let takes : IsOpen c.in-Some.block = subst (λ p. IfSome p IsOpen) some c.requires.begun in
     leads_same g.D.Disk.state _ c.args.session
     (λ setting x. subst (λ p. Ends setting Memory p c.args.line (g.K.Sink.written c.args.sink.now) (g.K.Sink.written c.args.sink.now) x x) (sym some)
-        (ends_longer setting c.in-Some.block c.args.line (g.K.Sink.written c.args.sink.now) x seen plus takes))
+    (ends_longer setting c.in-Some.block c.args.line (g.K.Sink.written c.args.sink.now) x seen plus takes))
 
 pub returns-clause-step : goal.returns-clause-step
 returns-clause-step g c =
