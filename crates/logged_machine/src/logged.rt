@@ -155,6 +155,7 @@ impl<D: Disk> LoggedMachine<D> {
 
     /// The first counter that stands at its limit.
     pub fn spent(&self) -> Option<Counter>
+        requires served { self.now.served ≡ true }
         ensures value { result ≡ spent_now self.now }
         ensures lasts { LastsNow D.state self.now }
     {

@@ -54,7 +54,7 @@ fn main(rt: HostRuntime) -> ExitCode {
 }
 
 /// Serves a session over this disk, and ends with the number of its status.
-fn serve<S: Source, K: Sink, D: Disk>(
+fn serve<S: Source, K: Sink, D: Disk + Drop>(
     alloc: Global,
     words: &[String],
     source: &mut S,

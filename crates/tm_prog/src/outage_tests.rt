@@ -11,7 +11,7 @@ use tm_disk::{Disk, MemDisk};
 use tm_edge::{MemSink, MemSource};
 
 /// What a session over a disk comes to, and the disk, cut off: its status, and whether this was printed.
-fn serve<D: Disk>(
+fn serve<D: Disk + Drop>(
     rt: &impl Abort,
     alloc: Global,
     texts: &[&[u8]],
