@@ -1,9 +1,4 @@
 pub mod Begun
-pub mod Turned
-pub mod Driven
-pub mod Steps
-pub mod Taking
-pub mod Reading
+pub mod Judging
 pub mod Opened
 pub mod Whole
-pub mod Answered

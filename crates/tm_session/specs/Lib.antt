@@ -1,7 +1,5 @@
-pub mod Serving
 pub mod Source
-pub mod Outcome
 pub mod Opening
-pub mod Driving
+pub mod Sources
 pub mod Headline
 pub mod Opened

@@ -1,11 +1,12 @@
 -- The system that a definition defines.
-use Rattle.std.specs.Prelude.{ℕ, List, Result, Ok, Err}
+use Rattle.std.specs.Prelude.{ℕ, List, [], ◌∷◌, ◌++◌, Result, Ok, Err}
+use Rattle.std.specs.List.{flat_map}
 use Rattle.model_system.specs.System.{System}
 use Rattle.system_types.specs.declared.definition.MacroLine.{MacroLine}
 use Rattle.sysdef_check.specs.Systems.{checked}
 use Rattle.sysdef_text.specs.Definitions.{definition_in}
-use Rattle.tm_session.specs.declared.outcome.Ended.{Ended}
-use Rattle.tm_session.specs.declared.outcome.Ended.TheVariants.{BadLine, BadCross}
+use Rattle.session_driver.specs.declared.outcome.Ended.{Ended}
+use Rattle.session_driver.specs.declared.outcome.Ended.TheVariants.{BadLine, BadCross}
 
 -- The system that the lines of a definition define, or the rule that they break: one of a line
 -- first, and then one that the macros keep among each other.
@@ -19,3 +20,7 @@ by_lines (Err (line, rule)) = Err (BadLine line rule)
 
 unfoldable pub judged : List (List ℕ) → Result System Ended
 judged lines = by_lines (definition_in lines)
+
+-- The text of a definition: its lines, each ended by LF.
+abbrev pub definition_text : List (List ℕ) → List ℕ
+definition_text lines = flat_map (λ line. line ++ 10 ∷ []) lines

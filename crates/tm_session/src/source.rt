@@ -3,16 +3,16 @@ ghost use Rattle.std.specs.Prelude.{◌≡◌, Ok, Err, false, IfOk, IfErr, OnOk
 ghost use Rattle.tm_edge.specs.Lines.{unread};
 ghost use Rattle.tm_session.specs.Source as spec;
 ghost use Rattle.tm_session.specs.Opening.{ReadsDefinition, StopsBefore, IsJudged};
-ghost use Rattle.tm_session.specs.Outcome.{HasCause, IsBack};
+ghost use Rattle.session_driver.specs.Outcome.{HasCause, IsBack};
 
-use crate::outcome::Ended;
-use crate::reader::read_line;
+use session_driver::{Ended, read_line};
 use std::alloc::Global;
 use sysdef_check::{CrossRefused, check};
 use sysdef_text::DefinitionReader;
 use system_types::System;
 use text_rows::LineRefused;
-use tm_edge::{Lines, Source};
+use tm_edge::{Line, Lines, Source};
+use tm_types::{Bytes, Memory};
 
 /// Reads the lines of a definition, up to its end or to the end of the source.
 pub(crate) fn read_definition<S: Source>(
@@ -57,4 +57,16 @@ pub(crate) fn judge(alloc: Global, definition: &DefinitionReader) -> Result<Syst
         Err(CrossRefused::BadCross(line, rule)) => Err(Ended::BadCross(line, rule)),
         Err(CrossRefused::Memory) => Err(Ended::Memory),
     }
+}
+
+/// The text that the lines of a definition make, each of them ended by LF.
+pub(crate) fn text_of(alloc: Global, lines: &[Line]) -> Result<Bytes, Memory>
+    ensures { IfOk result (λ text. text ≡ spec.definition_text lines.now) }
+{
+    let mut text = Bytes::new(alloc);
+    for line in lines {
+        text.append(line.bytes())?;
+        text.append(b"\n")?;
+    }
+    Ok(text)
 }

@@ -1,0 +1,4 @@
+pub mod Driven
+pub mod Reading
+pub mod Steps
+pub mod Taking

@@ -1,0 +1,3 @@
+pub mod Outcome
+pub mod Unread
+pub mod Driving
