@@ -1,4 +1,4 @@
-use Rattle.std.proofs.Common.{sym, subst}
+use Rattle.std.proofs.Common.{subst}
 use Rattle.model_system.specs.System.{System}
 use Rattle.machine_opening.specs.Opened.{BeginsOn}
 use Rattle.machine_opening.proofs.Begun.{opened_with, opens_on, logged_on}
@@ -8,7 +8,7 @@ pub begin-journal-requires-clause-some : goal.begin-journal-requires-clause-some
 begin-journal-requires-clause-some g c = (
   c.in-Ok.lasting,
   opened_with c.args.parts.now.system c.args.text.now c.in-Ok.opening c.in-Ok.lasting (g.D.Disk.state c.look.new.disk)
-  (subst (λ (y : System). BeginsOn y c.args.text.now c.in-Ok.opening c.in-Ok.lasting (g.D.Disk.state c.look.new.disk)) c.system.ensures c.in-Ok.ensures.begins),
+      (subst (λ (y : System). BeginsOn y c.args.text.now c.in-Ok.opening c.in-Ok.lasting (g.D.Disk.state c.look.new.disk)) c.system.ensures c.in-Ok.ensures.begins),
 )
 
 pub begin-journal-requires-clause-restart : goal.begin-journal-requires-clause-restart
