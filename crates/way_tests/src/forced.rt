@@ -10,12 +10,7 @@ use tm_disk::MemDisk;
 
 // What is left on the disk of a life that forces these parts and is stopped at its n-th write; 0: it isn't. And whether it
 // forced all of them.
-fn left(
-    alloc: Global,
-    disk: MemDisk,
-    parts: &[&[u8]],
-    n: u64,
-) -> Result<(MemDisk, bool), Fail> {
+fn left(alloc: Global, disk: MemDisk, parts: &[&[u8]], n: u64) -> Result<(MemDisk, bool), Fail> {
     let mut quiet = QuietDisk::new(alloc, disk)?;
     let done = forced(alloc, &mut quiet, parts, n)?;
     let QuietDisk { disk, .. } = quiet;

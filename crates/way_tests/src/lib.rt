@@ -2,13 +2,12 @@
 //! and with each pick, is recovered.
 #![tactic(auto)]
 
-mod lives;
-mod quiet;
-
 #[cfg(test)]
 mod checkpoints;
 #[cfg(test)]
 mod forced;
+mod lives;
+mod quiet;
 #[cfg(test)]
 mod readings;
 

@@ -8,8 +8,8 @@ ghost use Rattle.checkpointing.specs.Written.{AreOf};
 ghost use Rattle.way_tests.specs.Lives.{Fits, Begins};
 
 use crate::QuietDisk;
-use image_areas::{log_first, sectors_needed, snapshot_area, snapshot_first};
 use checkpointing::{PartsView, take};
+use image_areas::{log_first, sectors_needed, snapshot_area, snapshot_first};
 use log_writer::LogWriter;
 use restart_data::RestartSector;
 use small_images::small_system::{TEXT, small_system};

@@ -1,9 +1,7 @@
 //! What a restart reads: each sector once.
 use crate::{QuietDisk, recovered};
 use small_images::images::{ACCOUNT, image, plain, snapshot, sync_point, two_units};
-use small_images::small_system::{
-    DATA, LOG_A, SECTORS, SNAPSHOT_A, SNAPSHOT_B, small_system,
-};
+use small_images::small_system::{DATA, LOG_A, SECTORS, SNAPSHOT_A, SNAPSHOT_B, small_system};
 use std::alloc::Global;
 use std::test::Fail;
 use tm_disk::MemDisk;
