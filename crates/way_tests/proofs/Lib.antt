@@ -1,2 +1,0 @@
-mod Hiding
-mod Taken
