@@ -3,6 +3,5 @@
 
 pub use writing::checkpoint;
 
-
 mod snapshots;
 mod writing;

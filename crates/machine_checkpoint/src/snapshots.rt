@@ -37,11 +37,7 @@ pub(crate) fn snapshot(
 }
 
 /// The open units of the regions, by their numbers.
-fn units_of<'a>(
-    alloc: Global,
-    parts: &'a Parts,
-    units: &[u64],
-) -> Result<Vec<OpenUnit<'a>>, Memory>
+fn units_of<'a>(alloc: Global, parts: &'a Parts, units: &[u64]) -> Result<Vec<OpenUnit<'a>>, Memory>
     requires counted { length units.now ≡ length parts.now.system.regions }
     ensures { IfOk result (λ opened. map numbered opened.items ≡ units_open units.entry.now (slots_now parts.entry.now).touched) }
 {

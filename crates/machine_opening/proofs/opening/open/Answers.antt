@@ -8,7 +8,7 @@ pub begin-journal-requires-clause-some : goal.begin-journal-requires-clause-some
 begin-journal-requires-clause-some g c = (
   c.in-Ok.lasting,
   opened_with c.args.parts.now.system c.args.text.now c.in-Ok.opening c.in-Ok.lasting (g.D.Disk.state c.look.new.disk)
-  (subst (λ (y : System). BeginsOn y c.args.text.now c.in-Ok.opening c.in-Ok.lasting (g.D.Disk.state c.look.new.disk)) c.system.ensures c.in-Ok.ensures.begins),
+      (subst (λ (y : System). BeginsOn y c.args.text.now c.in-Ok.opening c.in-Ok.lasting (g.D.Disk.state c.look.new.disk)) c.system.ensures c.in-Ok.ensures.begins),
 )
 
 pub begin-journal-requires-clause-restart : goal.begin-journal-requires-clause-restart
