@@ -135,14 +135,15 @@ one_state system text before after image h = record { recovers = inl (⊎_elim (
 pub unrefreshed : {D : Type 0} (state : D → DiskState) (old new : LoggedState D) (entry : Entry) (fault : ControlFault) → old.served ≡ true → Unrefreshed state old new fault → Did state (Some fault) old new entry
 unrefreshed state old new entry Memory served same = nothing_done state old new entry same served
 unrefreshed state old new entry Disk served h = record {
-  did =
-      (h.0,
-      record {
-        later = h.1.later;
-        from = λ time image early left.
-            ⊎_elim (λ was_left. inl was_left) (λ (b : Brings old.machine.system old.text old.machine.moment.lasting old.machine.moment.lasting image). inr (one_state old.machine.system old.text old.machine.moment.lasting (lasting_with old entry) image b))
-            (h.1.from time image early left);
-      });
+  did = (
+    h.0,
+    record {
+      later = h.1.later;
+      from = λ time image early left.
+          ⊎_elim (λ was_left. inl was_left) (λ (b : Brings old.machine.system old.text old.machine.moment.lasting old.machine.moment.lasting image). inr (one_state old.machine.system old.text old.machine.moment.lasting (lasting_with old entry) image b))
+          (h.1.from time image early left);
+    },
+  );
   keeps = h.2;
 }
 unrefreshed state old new entry (Spent counter) served h = absurd h

@@ -1,8 +1,7 @@
 -- What a snapshot of parts has.
-use Rattle.std.proofs.Common.{◌≡◌, ℕ, zero, suc, ◌+◌, ◌-◌, ◌<◌, ◌≤◌, Bool, true, false, nat_lt, List, [], ◌∷◌, length, map, drop, Some, None, refl, sym, ◌∙◌, ap, subst, arith}
-use Rattle.std.specs.Prelude.{Option, slice_get, slice_index_or, if◌then◌else◌}
+use Rattle.std.proofs.Common.{◌≡◌, ℕ, zero, suc, ◌+◌, ◌-◌, ◌≤◌, nat_lt, List, [], ◌∷◌, length, map, drop, Some, sym, ◌∙◌, ap, subst, arith}
+use Rattle.std.specs.Prelude.{slice_get, slice_index_or, if◌then◌else◌}
 use Rattle.std.specs.List.{AllByRecursion}
-use Rattle.std.proofs.lemmas.Option.{slice_get_within}
 use Rattle.log_records.specs.declared.record.Record.{Record}
 use Rattle.model_machine.specs.Machine.{LastingState}
 use Rattle.unit_work.specs.declared.change.Change.{Change}
@@ -12,7 +11,7 @@ use Rattle.snapshot_records.specs.declared.touches.OpenUnit.{OpenUnit}
 use Rattle.snapshot_records.specs.Records.{snapshot_records}
 use Rattle.snapshot_records.specs.Spelled.{Adds, IsWritable}
 use Rattle.snapshot_records.specs.Touches.{AreAllSpelled, HasOneSector, changes_of}
-use Rattle.program_rows.specs.OnSlots.{SlotsState, touched_in}
+use Rattle.program_rows.specs.OnSlots.{touched_in}
 use Rattle.tm_machine.specs.OnSlots.{HasSlots, slots_now}
 use Rattle.tm_machine.specs.Parts.{PartsState}
 use Rattle.machine_life.specs.Opens.{AreUnitsOf}

@@ -1,6 +1,5 @@
 -- A checkpoint of a machine with its log: it may be taken, and the machine goes on with the life behind it.
-use Rattle.std.proofs.Common.{◌≡◌, ℕ, zero, ◌+◌, ◌-◌, ◌*◌, ◌/◌, ◌<◌, ◌≤◌, ◌^◌, Bool, true, false, nat_lt, not, ◌&&◌, List, [], length, refl, sym, ◌∙◌, ap, subst, arith, lt-ltb}
-use Rattle.std.specs.Prelude.{◌==◌}
+use Rattle.std.proofs.Common.{◌≡◌, ℕ, ◌+◌, ◌-◌, ◌<◌, ◌≤◌, Bool, nat_lt, not, ◌&&◌, List, [], length, sym, ◌∙◌, ap, subst, arith, lt-ltb}
 use Rattle.std.proofs.lemmas.Bool.{ne_eqb}
 use Rattle.model_disk.specs.Disk.{DiskState}
 use Rattle.model_image.specs.Areas.{data_first}
@@ -25,7 +24,6 @@ use Rattle.program_rows.specs.OnSlots.{all_stores}
 use Rattle.program_rows.specs.State.{settled}
 use Rattle.tm_machine.specs.OnSlots.{HasSlots, slots_now}
 use Rattle.tm_machine.specs.Parts.{PartsState}
-use Rattle.parts_life.specs.Carried.{IsCarried}
 use Rattle.machine_life.proofs.Checkpoints as checkpoints
 use Rattle.parts_life.proofs.Holding.{hold_touched}
 use Rattle.parts_life.proofs.Storing as storing

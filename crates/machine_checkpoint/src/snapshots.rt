@@ -1,5 +1,5 @@
 //! The snapshot of a machine.
-ghost use Rattle.std.specs.Prelude.{◌≡◌, ◌≤◌, [], length, map, nat_lt, if◌then◌else◌, IfOk, OnOk};
+ghost use Rattle.std.specs.Prelude.{◌≡◌, [], length, map, nat_lt, if◌then◌else◌, IfOk, OnOk};
 ghost use Rattle.std.specs.List.{AllByRecursion};
 ghost use Rattle.disk_law.specs.Life.{LifeOnDisk};
 ghost use Rattle.model_machine.specs.Machine.{IsRegion};

@@ -1,5 +1,5 @@
 -- What opening a machine with its log answers.
-use Rattle.std.specs.Prelude.{◌≡◌, ℕ, ◌≤◌, List, [], replicate, IsTrue, Ok, Err}
+use Rattle.std.specs.Prelude.{◌≡◌, ℕ, ◌≤◌, List, IsTrue, Ok, Err}
 use Rattle.model_disk.specs.Disk.{Image, DiskState}
 use Rattle.model_system.specs.System.{System}
 use Rattle.model_machine.specs.Machine.{LastingState, start_of}
@@ -8,7 +8,7 @@ use Rattle.model_image.specs.Holding.{HoldsStores}
 use Rattle.cold_start.specs.FirstImage.{KeepsOrEmpties, sectors_needed}
 use Rattle.opening_parts.specs.Parts.{AreOpeningParts, OpeningParts}
 use Rattle.opening_answers.specs.declared.refusals.OpenError.{OpenError}
-use Rattle.opening_answers.specs.Opening.{MayBegin, OpeningCause, SizeFirst, TellsCold, TellsOpening}
+use Rattle.opening_answers.specs.Opening.{MayBegin, SizeFirst, TellsCold, TellsOpening}
 use Rattle.opening_answers.specs.Renewal.{IsRenewed}
 use Rattle.tm_machine.specs.Parts.{PartsState}
 use Rattle.machine_opening.specs.declared.how.How.{How}

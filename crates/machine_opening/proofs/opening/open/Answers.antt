@@ -1,4 +1,4 @@
-use Rattle.std.proofs.Common.{sym, subst}
+use Rattle.std.proofs.Common.{subst}
 use Rattle.model_system.specs.System.{System}
 use Rattle.machine_opening.specs.Opened.{BeginsOn}
 use Rattle.machine_opening.proofs.Begun.{opened_with, opens_on, logged_on}
