@@ -85,13 +85,6 @@ taken_did state old new freeze number stays free r = record {
   keeps = r.keeps;
 }
 
-pub is_taken : {D : Type 0} (state : D → DiskState) (old new : LoggedState D) (units : List ℕ) (number : ℕ) → IsLogged new.machine units new.next_unit new.journal new.text (state new.disk) → Refreshed state old new → number ≡ new.journal.restart.checkpoint
-    → IsTaken new.machine.system number old.journal new.journal (state new.disk)
-is_taken state old new units number h r is = record {
-  above = omega (arith, is, r.number);
-  now = sym is;
-  images = λ image left.
-      subst (λ (n : ℕ). HasNumber new.machine.system n image) (sym is)
-      (has_number new.machine units new.next_unit new.journal new.text (state new.disk) h r.place image left);
-  synced = r.synced;
-}
+pub is_taken : {D : Type 0} (state : D → DiskState) (old new : LoggedState D) → ((image : Image) → (state new.disk).may_leave image → HasNumber new.machine.system new.journal.restart.checkpoint image) → Refreshed state old new
+    → IsTaken new.machine.system new.journal.restart.checkpoint old.journal new.journal (state new.disk)
+is_taken state old new images r = record { above = omega (arith, r.number); now = refl; images = images; synced = r.synced }

@@ -1,12 +1,13 @@
 //! Checkpoints that are asked for.
 ghost use Rattle.std.specs.Prelude.{◌≡◌, true, ℕ, None, Ok, IfOk};
+ghost use Rattle.model_disk.specs.Disk.{Image};
 ghost use Rattle.model_machine.specs.Commands.{checkpoint_answer, unless_busy};
 ghost use Rattle.model_machine.specs.declared.entry.Entry.TheVariants.{Checked};
 ghost use Rattle.machine_checkpoint.specs.Counted.{IsCounted};
 ghost use Rattle.logged_machine.specs.Doing.{Did};
 ghost use Rattle.logged_machine.specs.Goes.{Keeps, GoesBy, CrashesBy, fault_in};
 ghost use Rattle.logged_machine.specs.Logged.{LastsNow, spent_now};
-ghost use Rattle.logged_machine.specs.Taken.{IsTaken, again};
+ghost use Rattle.logged_machine.specs.Taken.{HasNumber, IsTaken, again};
 
 use crate::logged::LoggedMachine;
 use command_answers::busy_region;
@@ -55,9 +56,19 @@ impl<D: Disk> LoggedMachine<D> {
         ensures taken { IfOk result (λ number. IsTaken self.new.machine.system number self.old.journal self.new.journal (D.state self.new.disk)) }
     {
         match self.refresh() {
-            Ok(()) => Ok(self.journal.restart().checkpoint),
+            Ok(()) => self.number_taken(),
             Err(fault) => Err(CheckpointRefused::Fault(fault)),
         }
+    }
+
+    /// The number of a checkpoint that was just taken.
+    fn number_taken(&self) -> Result<u64, CheckpointRefused>
+        requires served { self.now.served ≡ true }
+        requires place { self.now.journal.log.place ≡ 0 }
+        ensures value { result ≡ Ok self.now.journal.restart.checkpoint }
+        ensures images { (image : Image) → (D.state self.now.disk).may_leave image → HasNumber self.now.machine.system self.now.journal.restart.checkpoint image }
+    {
+        Ok(self.journal.restart().checkpoint)
     }
 }
 
