@@ -7,6 +7,8 @@ use Rattle.restart_data.specs.Restart.{restart_in}
 use Rattle.log_sectors.specs.Chain.{chain}
 use Rattle.model_image.specs.Areas.{snapshot_area, log_first}
 use Rattle.journal.specs.State.{JournalState}
+use Rattle.model_machine.specs.Machine.{Moment, moment_with}
+use Rattle.tm_machine.specs.Parts.{PartsState}
 
 -- The image has a restart sector with this number, and an empty chain behind it.
 pub record HasNumber (system : System) (number : ℕ) (image : Image) : Type 0 where
@@ -21,3 +23,7 @@ pub record IsTaken (system : System) (number : ℕ) (old new : JournalState) (di
   pub now : new.restart.checkpoint ≡ number
   pub images : (image : Image) → disk.may_leave image → HasNumber system number image
   pub synced : Only disk.shown disk
+
+-- the moment of parts, with the flags as they follow on their own
+abbrev pub again : PartsState → Moment
+again parts = moment_with parts.system parts.moment.lasting parts.moment.slots parts.moment.enqueues parts.moment.raised

@@ -5,11 +5,17 @@
 //! served any more.
 #![tactic(auto)]
 
-pub use how::How;
 pub use logged::LoggedMachine;
+pub use machine_opening::How;
 pub use refused::OpenRefused;
 
-mod how;
+mod accepting;
+mod acknowledging;
+mod checking;
+mod commanding;
 mod logged;
-mod never;
+mod opening;
+mod refreshing;
 mod refused;
+mod spending;
+mod turning;

@@ -1,0 +1,49 @@
+-- What opening a machine with its log answers.
+use Rattle.std.specs.Prelude.{◌≡◌, ℕ, ◌≤◌, List, [], replicate, IsTrue, Ok, Err}
+use Rattle.model_disk.specs.Disk.{Image, DiskState}
+use Rattle.model_system.specs.System.{System}
+use Rattle.model_machine.specs.Machine.{LastingState, start_of}
+use Rattle.model_image.specs.Alike.{RecoversAlike}
+use Rattle.model_image.specs.Holding.{HoldsStores}
+use Rattle.cold_start.specs.FirstImage.{KeepsOrEmpties, sectors_needed}
+use Rattle.opening_parts.specs.Parts.{AreOpeningParts, OpeningParts}
+use Rattle.opening_answers.specs.declared.refusals.OpenError.{OpenError}
+use Rattle.opening_answers.specs.Opening.{MayBegin, OpeningCause, SizeFirst, TellsCold, TellsOpening}
+use Rattle.opening_answers.specs.Renewal.{IsRenewed}
+use Rattle.tm_machine.specs.Parts.{PartsState}
+use Rattle.machine_opening.specs.declared.how.How.{How}
+use Rattle.machine_opening.specs.declared.how.How.TheVariants.{Found, Cold}
+
+-- Whenever a crash comes in an opening, what it leaves recovers as before; in a cold start, so or to the empty state.
+abbrev pub KeepsBy : How → System → Image → Image → Type 0
+KeepsBy Found system before after = RecoversAlike system before after
+KeepsBy Cold system before after = KeepsOrEmpties system before after
+
+-- A life begins with what the disk recovers to, or empty.
+pub record Begins (how : How) (system : System) (text : List ℕ) (disk : DiskState) (opening : LastingState) : Type 0 where
+  pub parts : OpeningParts
+  pub found : how ≡ Found → IsTrue disk.tells → TellsOpening system text disk.shown (Ok (parts, opening))
+  pub cold : how ≡ Cold → TellsCold system (Ok (parts, opening))
+
+-- The machine stands where that begins.
+pub record OpensOn (how : How) (system : System) (text : List ℕ) (old new : DiskState) (machine : PartsState) (opening : LastingState) : Type 0 where
+  pub moment : machine.moment ≡ start_of system opening
+  pub no_fault : new.faults ≡ old.faults
+  pub size : sectors_needed system ≤ old.size
+  pub begins : Begins how system text old opening
+
+-- why an opening is refused
+pub record Refuses (how : How) (system : System) (text : List ℕ) (disk : DiskState) (error : OpenError) : Type 0 where
+  pub size : SizeFirst system disk.size (Err error)
+  pub found : how ≡ Found → IsTrue disk.tells → TellsOpening system text disk.shown (Err error)
+  pub cold : how ≡ Cold → TellsCold system (Err error)
+
+-- ---- what it begins with
+
+-- Each image that a crash may leave has what a life begins with, and all areas of the system are on the disk.
+pub record BeginsOn (system : System) (text : List ℕ) (parts : OpeningParts) (state : LastingState) (disk : DiskState) : Type 0 where
+  pub are : AreOpeningParts system state parts
+  pub may : MayBegin system text parts state
+  pub renewed : (image : Image) → disk.may_leave image → IsRenewed system text parts.now parts.next_unit state image
+  pub stored : (image : Image) → disk.may_leave image → HoldsStores system parts.stores.stores image
+  pub size : sectors_needed system ≤ disk.size

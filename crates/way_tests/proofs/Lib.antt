@@ -1,0 +1,2 @@
+mod Hiding
+mod Taken
