@@ -24,7 +24,7 @@ use Rattle.model_session.specs.Session.{MayOpen, MayRefuse, IsRestarted, Opens a
 use Rattle.cold_start.specs.FirstImage.{KeepsOrEmpties}
 use Rattle.opening_parts.specs.Parts.{OpeningParts}
 use Rattle.opening_answers.specs.Opening.{TellsOpening}
-use Rattle.logged_machine.specs.Opened.{KeepsBy, Begins, Refuses}
+use Rattle.machine_opening.specs.Opened.{KeepsBy, Begins, Refuses}
 use Rattle.tm_control.specs.OnDisk.{ControlOnDisk}
 use Rattle.tm_control.specs.Closed.{Opens}
 use Rattle.tm_control.specs.declared.life.Life.{Life}

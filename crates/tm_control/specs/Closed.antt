@@ -6,8 +6,8 @@ use Rattle.model_machine.specs.Machine.{start_of}
 use Rattle.model_machine.specs.History.{AscendAbove, IsLegal, moment_after}
 use Rattle.deadlock_pick.specs.Broken.{HasNoCycles}
 use Rattle.cold_start.specs.FirstImage.{sectors_needed}
-use Rattle.logged_machine.specs.declared.how.How.{How}
-use Rattle.logged_machine.specs.Opened.{KeepsBy, Begins}
+use Rattle.machine_opening.specs.declared.how.How.{How}
+use Rattle.machine_opening.specs.Opened.{KeepsBy, Begins}
 use Rattle.tm_control.specs.declared.life.Life.{Life}
 use Rattle.tm_control.specs.OnDisk.{ControlOnDisk, lasting_after}
 

@@ -16,8 +16,8 @@ use Rattle.model_session.specs.Standing.{Setting, SessionState, Standing, Outage
 use Rattle.model_session.specs.Standing.Standing.{Up as StandsUp, Down as StandsDown}
 use Rattle.model_session.specs.Session.{Begins, Opens as OpensLife, FailsToOpen}
 use Rattle.opening_answers.specs.Opening.{WroteNothing}
-use Rattle.logged_machine.specs.declared.how.How.TheVariants.{Found}
-use Rattle.logged_machine.specs.Opened.{Refuses}
+use Rattle.machine_opening.specs.declared.how.How.TheVariants.{Found}
+use Rattle.machine_opening.specs.Opened.{Refuses}
 use Rattle.tm_control.specs.OnDisk.{ControlOnDisk, LastsBy}
 use Rattle.tm_control.specs.declared.life.Life.{Life}
 use Rattle.tm_edge.specs.Lines.{unread, lines_of}

@@ -7,9 +7,9 @@ use Rattle.model_session.specs.Lives.{LifeState, AreLegal}
 use Rattle.model_session.specs.Standing.{SessionState, Stop, AreAllLives, AreStops}
 use Rattle.model_session.specs.Session.{Begins, AreServed}
 use Rattle.tm_edge.specs.Lines.{lines_of}
-use Rattle.logged_machine.specs.declared.how.How.TheVariants.{Found}
+use Rattle.machine_opening.specs.declared.how.How.TheVariants.{Found}
 use Rattle.opening_answers.specs.Opening.{WroteNothing}
-use Rattle.logged_machine.specs.Opened.{Refuses}
+use Rattle.machine_opening.specs.Opened.{Refuses}
 use Rattle.tm_control.specs.declared.life.Life.{Life}
 use Rattle.session_driver.specs.declared.outcome.Ended.{Ended}
 use Rattle.session_driver.specs.declared.outcome.Ended.TheVariants.{BadLine, BadCross, Read, Memory, Limit, Image as BadImage, Spent}
