@@ -23,7 +23,7 @@ use Rattle.session_lives.specs.declared.called.Undone.{Undone}
 use Rattle.session_lives.specs.declared.called.Undone.TheVariants.{Memory as NoMemory, Spent as SpentCounter, Image as BadImage}
 use Rattle.session_lives.specs.Openings.{IsServedSo}
 use Rattle.session_driver.specs.Outcome.{HasWritten, is_undone, left_if, left_by}
-use Rattle.session_driver.specs.Driving.{ended_by, IsWritten, IsFinished, Serves, Stops, FailsAt}
+use Rattle.session_driver.specs.Driving.{ended_by, IsWritten, IsFinished, IsBroken, Serves, Stops, FailsAt}
 
 -- ---- what was written
 
@@ -81,6 +81,9 @@ undone_ended : (undone : Undone) → is_undone (ended_by undone) ≡ true
 undone_ended NoMemory = refl
 undone_ended SpentCounter = refl
 undone_ended (BadImage refusal) = refl
+
+pub undone_broken : (undone : Undone) → IsBroken (ended_by undone)
+undone_broken undone = inr (undone_ended undone)
 
 module _ (setting : Setting) (block : Block) (w w' : Option (List ℕ)) (a b : SessionState) where
   -- whether the text of a block that was served could be written

@@ -187,6 +187,10 @@ broken_cases P ended (inr undone) write memory spent image = undone_cases P ende
 pub broken_whole : (ended : Ended) (left : Option (List ℕ)) → IsBroken ended → IsReadToEnd ended left
 broken_whole ended left broken = broken_cases (λ s. IsReadToEnd s left) ended broken tt tt tt (λ refusal. tt)
 
+pub broken_unread : (ended : Option Ended) (left : Option (List ℕ)) → IfSome ended IsBroken → IfSome ended (λ ended. IsReadToEnd ended left)
+broken_unread None left broken = tt
+broken_unread (Some ended) left broken = broken_whole ended left broken
+
 -- ---- a session so far
 
 pub texts_twice : (cut more : List CutLine) → texts_of (cut ++ more) ≡ texts_of cut ++ texts_of more

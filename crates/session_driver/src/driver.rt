@@ -4,7 +4,7 @@ ghost use Rattle.text_rows.specs.Lines.{is_passed_over};
 ghost use Rattle.tm_edge.specs.Lines.{unread};
 ghost use Rattle.model_session.specs.Blocks as spec;
 ghost use Rattle.session_lives.specs.Running.{IsReady, Leads};
-ghost use Rattle.session_driver.specs.Driving.{Serves, FailsAt, Goes, Ends, EndsWhole, Steps, StopsHere, StopsLast, HasDriven, IsOpen, behind_last};
+ghost use Rattle.session_driver.specs.Driving.{Serves, FailsAt, Goes, Ends, EndsWhole, Steps, StopsHere, StopsLast, HasDriven, IsOpen, IsBroken, behind_last};
 ghost use Rattle.session_driver.specs.Outcome.{HasCause, IsBack, IsReadToEnd};
 ghost use Rattle.session_driver.specs.Driving.{ended_by, IsWritten, IsFinished};
 
@@ -37,6 +37,7 @@ fn serve_whole<K: Sink, D: Disk>(
         (Serves setting (block.now ∷ []) (K.written sink.old) (K.written sink.new) a b)
         (λ ended. FailsAt setting ended block.now (K.written sink.old) (K.written sink.new) a b)) session result.0 }
     ensures ready { IsReady D.state result.0 }
+    ensures broken { IfSome result.1 IsBroken }
     ensures calm { IsNone result.1 → K.faults sink.new ≡ K.faults sink.old }
     ensures cause { IfSome result.1 (λ ended. HasCause ended 0 0 (K.faults sink.old) (K.faults sink.new)) }
 {
@@ -47,6 +48,7 @@ fn serve_whole<K: Sink, D: Disk>(
 /// Writes the text of a block that was served so.
 fn finish<K: Sink>(printed: &Printed, sink: &mut K, served: Served) -> Option<Ended>
     ensures finished { IsFinished printed.now.text served (K.written sink.old) (K.written sink.new) result }
+    ensures broken { IfSome result IsBroken }
     ensures calm { IsNone result → K.faults sink.new ≡ K.faults sink.old }
     ensures cause { IfSome result (λ ended. HasCause ended 0 0 (K.faults sink.old) (K.faults sink.new)) }
 {
@@ -60,6 +62,7 @@ fn finish<K: Sink>(printed: &Printed, sink: &mut K, served: Served) -> Option<En
 /// Writes a text, or says how the session ended.
 fn write<K: Sink>(sink: &mut K, text: &[u8]) -> Option<Ended>
     ensures written { IsWritten (K.written sink.old) (K.written sink.new) text.now result }
+    ensures broken { IfSome result IsBroken }
     ensures calm { IsNone result → K.faults sink.new ≡ K.faults sink.old }
     ensures cause { IfSome result (λ ended. HasCause ended 0 0 (K.faults sink.old) (K.faults sink.new)) }
 {
@@ -97,6 +100,7 @@ fn begin_block<K: Sink, D: Disk>(
         (λ ended. Ends setting ended None line (K.written sink.old) (K.written sink.new) a b)) session result.0 }
     ensures ready { IsReady D.state result.0 }
     ensures begun { IfSome pending.new IsOpen }
+    ensures broken { IfSome result.1 IsBroken }
     ensures calm { IsNone result.1 → K.faults sink.new ≡ K.faults sink.old }
     ensures cause { IfSome result.1 (λ ended. HasCause ended 0 0 (K.faults sink.old) (K.faults sink.new)) }
 {
@@ -139,6 +143,7 @@ fn serve_both<K: Sink, D: Disk>(
         (λ ended. Ends setting ended (Some block) line (K.written sink.old) (K.written sink.new) a b)) session result.0 }
     ensures ready { IsReady D.state result.0 }
     ensures begun { IfSome pending.new IsOpen }
+    ensures broken { IfSome result.1 IsBroken }
     ensures calm { IsNone result.1 → K.faults sink.new ≡ K.faults sink.old }
     ensures cause { IfSome result.1 (λ ended. HasCause ended 0 0 (K.faults sink.old) (K.faults sink.new)) }
 {
@@ -165,6 +170,7 @@ fn serve_read<K: Sink, D: Disk>(
         (λ ended. Ends setting ended pending.old line (K.written sink.old) (K.written sink.new) a b)) session result.0 }
     ensures ready { IsReady D.state result.0 }
     ensures begun { IfSome pending.new IsOpen }
+    ensures broken { IfSome result.1 IsBroken }
     ensures calm { IsNone result.1 → K.faults sink.new ≡ K.faults sink.old }
     ensures cause { IfSome result.1 (λ ended. HasCause ended 0 0 (K.faults sink.old) (K.faults sink.new)) }
 {

@@ -22,8 +22,8 @@ returns-in-Ok-None-clause-step g c =
     (rw c.in-Ok-None.field-0-is at c.in-Ok-None.ensures.line) one 1000000)
     c.serve_end.ensures.step
 
-pub returns-in-Err-clause-step : goal.returns-in-Err-clause-step
-returns-in-Err-clause-step g c =
+pub returns-clause-step : goal.returns-clause-step
+returns-clause-step g c =
     leads_same g.D.Disk.state _ c.args.session
     (λ setting x. inl (subst (λ s. StopsBetween 1000000 s (unread c.args.lines.now (g.S.Source.left c.args.source.now)) (unread c.read_line.new.lines (g.S.Source.left c.read_line.new.source)) (g.K.Sink.written c.args.sink.now) (g.K.Sink.written c.args.sink.now) x x) (sym c.behind_last.ensures)
     (last_between c.in-Err.ended (unread c.args.lines.now (g.S.Source.left c.args.source.now)) (unread c.read_line.new.lines (g.S.Source.left c.read_line.new.source)) c.read_line.new.lines (g.S.Source.faults c.args.source.now) (g.S.Source.faults c.read_line.new.source) (g.K.Sink.written c.args.sink.now) x

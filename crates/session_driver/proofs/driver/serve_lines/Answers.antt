@@ -18,25 +18,25 @@ loop-count-init g c = record {
 
 pub returns-in-Some-clause-driven : goal.returns-in-Some-clause-driven
 returns-in-Some-clause-driven g c =
-    leads_then g.D.Disk.state _ _ _ c.args.session c.loop-count.session c.serve_next.result.0
-    (λ setting x y z far one. driven_here setting c.args.before c.loop-count._count (unread c.args.lines.now (g.S.Source.left c.args.source.now)) (unread c.loop-count.lines (g.S.Source.left c.loop-count.source)) (unread c.serve_next.new.lines (g.S.Source.left c.serve_next.new.source)) c.loop-count.pending
-    (g.K.Sink.written c.args.sink.now) (g.K.Sink.written c.loop-count.sink) (g.K.Sink.written c.serve_next.new.sink) x y z c.in-Some.ended far (omega arith) (one c.loop-count._count (omega arith)))
-    c.loop-count.invariant.so_far (rw c.in-Some.is at c.serve_next.ensures.step)
+    leads_then g.D.Disk.state _ _ _ c.args.session c.loop-count.session c.serve_next-after.result.0
+    (λ setting x y z far one. driven_here setting c.args.before c.loop-count._count (unread c.args.lines.now (g.S.Source.left c.args.source.now)) (unread c.loop-count.lines (g.S.Source.left c.loop-count.source)) (unread c.serve_next-after.new.lines (g.S.Source.left c.serve_next-after.new.source)) c.loop-count.pending
+    (g.K.Sink.written c.args.sink.now) (g.K.Sink.written c.loop-count.sink) (g.K.Sink.written c.serve_next-after.new.sink) x y z c.in-Some.ended far (omega arith) (one c.loop-count._count (omega arith)))
+    c.loop-count.invariant.so_far (rw c.in-Some.is at c.serve_next-after.ensures.step)
 
 pub returns-in-Some-clause-taken : goal.returns-in-Some-clause-taken
-returns-in-Some-clause-taken g c = back_held _ _ _ (back_twice _ _ _ c.loop-count.invariant.back c.serve_next.ensures.back)
+returns-in-Some-clause-taken g c = back_held _ _ _ (back_twice _ _ _ c.loop-count.invariant.back c.serve_next-after.ensures.back)
 
 pub loop-count-preserved : goal.loop-count-preserved
 loop-count-preserved g c = record {
-  so_far = leads_then g.D.Disk.state _ _ _ c.args.session c.loop-count.session c.serve_next.result.0
-      (λ setting x y z far one. so_far_next setting c.args.before c.loop-count._count (unread c.args.lines.now (g.S.Source.left c.args.source.now)) (unread c.loop-count.lines (g.S.Source.left c.loop-count.source)) (unread c.serve_next.new.lines (g.S.Source.left c.serve_next.new.source)) c.loop-count.pending c.serve_next.new.pending
-      (g.K.Sink.written c.args.sink.now) (g.K.Sink.written c.loop-count.sink) (g.K.Sink.written c.serve_next.new.sink) x y z far one)
-      c.loop-count.invariant.so_far (rw c.in-None.is at c.serve_next.ensures.step);
-  ready = c.serve_next.ensures.ready;
-  begun = c.serve_next.ensures.begun;
-  back = back_twice _ _ _ c.loop-count.invariant.back c.serve_next.ensures.back;
-  reads = (rw c.in-None.is at c.serve_next.ensures.reads) refl ∙ c.loop-count.invariant.reads;
-  writes = (rw c.in-None.is at c.serve_next.ensures.writes) refl ∙ c.loop-count.invariant.writes;
+  so_far = leads_then g.D.Disk.state _ _ _ c.args.session c.loop-count.session c.serve_next-after.result.0
+      (λ setting x y z far one. so_far_next setting c.args.before c.loop-count._count (unread c.args.lines.now (g.S.Source.left c.args.source.now)) (unread c.loop-count.lines (g.S.Source.left c.loop-count.source)) (unread c.serve_next-after.new.lines (g.S.Source.left c.serve_next-after.new.source)) c.loop-count.pending c.serve_next-after.new.pending
+      (g.K.Sink.written c.args.sink.now) (g.K.Sink.written c.loop-count.sink) (g.K.Sink.written c.serve_next-after.new.sink) x y z far one)
+      c.loop-count.invariant.so_far (rw c.in-None.is at c.serve_next-after.ensures.step);
+  ready = c.serve_next-after.ensures.ready;
+  begun = c.serve_next-after.ensures.begun;
+  back = back_twice _ _ _ c.loop-count.invariant.back c.serve_next-after.ensures.back;
+  reads = (rw c.in-None.is at c.serve_next-after.ensures.reads) refl ∙ c.loop-count.invariant.reads;
+  writes = (rw c.in-None.is at c.serve_next-after.ensures.writes) refl ∙ c.loop-count.invariant.writes;
 }
 
 pub returns-clause-driven : goal.returns-clause-driven

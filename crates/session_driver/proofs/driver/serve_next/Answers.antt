@@ -2,7 +2,7 @@
 use Rattle.std.proofs.Common.{inl}
 use Rattle.tm_edge.specs.Lines.{unread}
 use Rattle.session_lives.proofs.Leading.{leads_same, leads_map}
-use Rattle.session_driver.proofs.Reading.{next_step, stops_whole, unread_between}
+use Rattle.session_driver.proofs.Reading.{next_step, stops_whole, unread_between, broken_unread}
 use Rattle.session_driver.proofs.Taking.{back_served}
 use Rattle.session_driver.proofs.driver.serve_next.Goals as goal
 
@@ -16,12 +16,15 @@ returns-in-Ok-Some-clause-step g c =
 pub returns-in-Ok-Some-clause-back : goal.returns-in-Ok-Some-clause-back
 returns-in-Ok-Some-clause-back g c = back_served _ _ _ c.in-Ok-Some.ensures.line
 
+pub returns-in-Ok-Some-clause-whole : goal.returns-in-Ok-Some-clause-whole
+returns-in-Ok-Some-clause-whole g c = broken_unread _ _ c.serve_read.ensures.broken
+
 pub returns-in-Ok-None-clause-step : goal.returns-in-Ok-None-clause-step
 returns-in-Ok-None-clause-step g c =
-    leads_map g.D.Disk.state _ _ c.args.session c.serve_end.result.0
-    (λ setting x y one count below. inl (stops_whole setting c.serve_end.result.1 (unread c.args.lines.now (g.S.Source.left c.args.source.now)) (unread c.read_line.new.lines (g.S.Source.left c.read_line.new.source)) c.args.pending.now
-    (g.K.Sink.written c.args.sink.now) (g.K.Sink.written c.serve_end.new.sink) x y (rw c.in-Ok-None.field-0-is at c.in-Ok-None.ensures.line) one count))
-    c.serve_end.ensures.step
+    leads_map g.D.Disk.state _ _ c.args.session c.serve_end-session.result.0
+    (λ setting x y one count below. inl (stops_whole setting c.serve_end-session.result.1 (unread c.args.lines.now (g.S.Source.left c.args.source.now)) (unread c.read_line.new.lines (g.S.Source.left c.read_line.new.source)) c.args.pending.now
+    (g.K.Sink.written c.args.sink.now) (g.K.Sink.written c.serve_end-session.new.sink) x y (rw c.in-Ok-None.field-0-is at c.in-Ok-None.ensures.line) one count))
+    c.serve_end-session.ensures.step
 
 pub returns-in-Err-clause-step : goal.returns-in-Err-clause-step
 returns-in-Err-clause-step g c =

@@ -14,8 +14,8 @@ returns-then-is_passed_over-clause-step g c =
     let passed : is_passed_over c.args.line ≡ true = sym (ap is_passed_over c.bytes.ensures) ∙ sym c.is_passed_over.ensures ∙ c.if-is_passed_over.true in
     leads_same g.D.Disk.state _ c.args.session (λ setting x. goes_passed setting c.args.pending.now c.args.line (g.K.Sink.written c.args.sink.now) x passed)
 
-pub returns-in-None-clause-step : goal.returns-in-None-clause-step
-returns-in-None-clause-step g c =
+pub returns-in_default-clause-step : goal.returns-in_default-clause-step
+returns-in_default-clause-step g c =
     let none : c.args.pending.now ≡ None = cc in
     leads_map g.D.Disk.state _ _ c.args.session c.begin_block.result.0
     (λ setting x y one. kept_goes setting c.args.pending.now None c.args.line c.begin_block.result.1 c.begin_block.new.pending (g.K.Sink.written c.args.sink.now) (g.K.Sink.written c.begin_block.new.sink) x y none one)
