@@ -1,4 +1,5 @@
 pub mod Begun
+pub mod Endings
 pub mod Judging
 pub mod Opened
 pub mod Whole

@@ -263,7 +263,7 @@ module _ {D : Type 0} (state : D → DiskState) (system : System) (handed : D) w
   remains_at (Down idle) kept ended status disk lives stops ready sound over = down_remains idle kept ended status disk lives stops sound over
 
   -- how it stands tells whether the system is down by a stop
-  status_at : (place : Place D) (kept : Kept) (ended status : Ended) (disk : D) (lives : List Life) (stops : List Stop) → IsFinishedAt state place kept ended status disk lives stops
+  pub status_at : (place : Place D) (kept : Kept) (ended status : Ended) (disk : D) (lives : List Life) (stops : List Stop) → IsFinishedAt state place kept ended status disk lives stops
       → status ≡ by_standing (is_stopped (session_at place kept).standing) ended
   status_at (Up control) kept ended status disk lives stops over = over.status_is
   status_at (Down idle) kept ended status disk lives stops over = over.status_is

@@ -22,5 +22,8 @@ unfoldable pub judged : List (List ℕ) → Result System Ended
 judged lines = by_lines (definition_in lines)
 
 -- The text of a definition: its lines, each ended by LF.
+abbrev pub ended_line : List ℕ → List ℕ
+ended_line line = line ++ 10 ∷ []
+
 abbrev pub definition_text : List (List ℕ) → List ℕ
-definition_text lines = flat_map (λ line. line ++ 10 ∷ []) lines
+definition_text lines = flat_map ended_line lines

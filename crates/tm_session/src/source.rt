@@ -1,5 +1,5 @@
 //! The definition that a source begins with, and the system that it defines.
-ghost use Rattle.std.specs.Prelude.{◌≡◌, Ok, Err, false, IfOk, IfErr, OnOk};
+ghost use Rattle.std.specs.Prelude.{◌≡◌, ◌++◌, Ok, Err, false, IfOk, IfErr, OnOk};
 ghost use Rattle.tm_edge.specs.Lines.{unread};
 ghost use Rattle.tm_session.specs.Source as spec;
 ghost use Rattle.tm_session.specs.Opening.{ReadsDefinition, StopsBefore, IsJudged};
@@ -65,8 +65,15 @@ pub(crate) fn text_of(alloc: Global, lines: &[Line]) -> Result<Bytes, Memory>
 {
     let mut text = Bytes::new(alloc);
     for line in lines {
-        text.append(line.bytes())?;
-        text.append(b"\n")?;
+        add_line(&mut text, line)?;
     }
     Ok(text)
+}
+
+/// Adds a line, ended by LF.
+fn add_line(text: &mut Bytes, line: &Line) -> Result<(), Memory>
+    ensures { OnOk result (text.new ≡ text.old ++ spec.ended_line line.now) }
+{
+    text.append(line.bytes())?;
+    text.append(b"\n")
 }

@@ -5,7 +5,7 @@ use Rattle.tm_session.proofs.session.begin.Goals as goal
 
 pub returns-clause-begun : goal.returns-clause-begun
 returns-clause-begun g c = record {
-  opening = c.open.result.1;
+  opening = c.open-session.result.1;
   idle = record { disk = c.args.disk; system = c.args.system; text = c.args.text; last = None; emptied = false; stopped = false };
   disk_is = refl;
   system_is = refl;
@@ -16,6 +16,6 @@ returns-clause-begun g c = record {
   kept = c.new.result;
   lives = c.new.ensures.lives;
   stops = c.new.ensures.stops;
-  gone = c.open.ensures.gone;
+  gone = c.open-session.ensures.gone;
   ends = c.refusal.ensures;
 }
