@@ -1,5 +1,5 @@
 //! The calls of the control region.
-ghost use Rattle.std.specs.Prelude.{◌≡◌, ◌+◌, ◌<◌, ◌≤◌, ◌↔◌, length, true, if◌then◌else◌, IfOk, IfErr, OnOk, OnErr, IsTrue};
+ghost use Rattle.std.specs.Prelude.{◌≡◌, ◌+◌, ◌-◌, ◌<◌, ◌≤◌, ◌↔◌, length, true, if◌then◌else◌, IfOk, IfErr, OnOk, OnErr, IsTrue};
 ghost use Rattle.std.specs.Borrow.{sem};
 ghost use Rattle.std.specs.Io.BufRead.{Rests};
 ghost use Rattle.model_disk.specs.Disk.{Keeps, Only, armed};
@@ -11,6 +11,7 @@ ghost use Rattle.model_machine.specs.History.{AddsNothing, now_of};
 ghost use Rattle.lasting_state.specs.Showing.{IsShownTo};
 ghost use Rattle.logged_machine.specs.Goes.{fault_in};
 ghost use Rattle.logged_machine.specs.Opened.{HandsBack};
+ghost use Rattle.logged_machine.specs.Logged.{LastsNow};
 ghost use Rattle.logged_machine.specs.Taken.{IsTaken};
 ghost use Rattle.tm_control.specs.OnDisk.{Lasts, spent_now};
 ghost use Rattle.tm_control.specs.Calls.{StaysSo, Shows, AddsBy, CrashesSo, SpentBy, StaysSpent};
@@ -115,19 +116,13 @@ impl<D: Disk> Control<D> {
         ensures closes { Closes self result.disk result.life result.system result.text result.faults }
         ensures lasts { Lasts D.state self }
     {
-        let kept = self.steps - self.opening.steps;
-        let (disk, system, text) = self.machine.into_parts();
-        Closed {
-            disk,
-            life: Life {
-                opening: self.opening,
-                history: History::from_vec(self.history),
-                kept,
-            },
-            system,
-            text,
-            faults: self.began,
-        }
+        close(
+            self.machine,
+            self.opening,
+            self.history,
+            self.began,
+            self.steps,
+        )
     }
 
     /// The system that is served.
@@ -358,4 +353,45 @@ fn steps_of<D: Disk>(before: u64, machine: &LoggedMachine<D>) -> u64
     } else {
         before
     }
+}
+
+/// What is handed back at the end of a life.
+fn close<D: Disk>(
+    machine: LoggedMachine<D>,
+    opening: Lasting,
+    history: Vec<Entry>,
+    began: u64,
+    steps: u64,
+) -> Closed<D>
+    requires more { opening.steps ≤ steps }
+    ensures disk { result.disk ≡ machine.disk }
+    ensures system { result.system ≡ machine.machine.system }
+    ensures text { result.text ≡ machine.text }
+    ensures faults { result.faults ≡ began }
+    ensures opening { result.life.opening ≡ opening }
+    ensures history { result.life.history ≡ history.items }
+    ensures kept { result.life.kept ≡ steps - opening.steps }
+    ensures lasts { LastsNow D.state machine }
+{
+    let kept = steps_since(steps, &opening);
+    let (disk, system, text) = machine.into_parts();
+    Closed {
+        disk,
+        life: Life {
+            opening,
+            history: History::from_vec(history),
+            kept,
+        },
+        system,
+        text,
+        faults: began,
+    }
+}
+
+/// How many of these lasting steps were done since.
+fn steps_since(steps: u64, opening: &Lasting) -> u64
+    requires { opening.now.steps ≤ steps }
+    ensures { result ≡ steps - opening.now.steps }
+{
+    steps - opening.steps
 }
