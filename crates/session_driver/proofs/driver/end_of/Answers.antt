@@ -15,6 +15,9 @@ returns-in-Ok-Some-clause-step g c =
 pub returns-in-Ok-Some-clause-back : goal.returns-in-Ok-Some-clause-back
 returns-in-Ok-Some-clause-back g c = back_served _ _ _ c.in-Ok-Some.ensures.line
 
+pub returns-in-Ok-None-clause-back : goal.returns-in-Ok-None-clause-back
+returns-in-Ok-None-clause-back g c = back_served _ _ _ c.in-Ok-None.ensures.line
+
 pub returns-in-Ok-None-clause-step : goal.returns-in-Ok-None-clause-step
 returns-in-Ok-None-clause-step g c =
     leads_map g.D.Disk.state _ _ c.args.session c.serve_end.result.0

@@ -19,6 +19,9 @@ returns-in-Ok-Some-clause-back g c = back_served _ _ _ c.in-Ok-Some.ensures.line
 pub returns-in-Ok-Some-clause-whole : goal.returns-in-Ok-Some-clause-whole
 returns-in-Ok-Some-clause-whole g c = broken_unread _ _ c.serve_read.ensures.broken
 
+pub returns-in-Ok-None-clause-back : goal.returns-in-Ok-None-clause-back
+returns-in-Ok-None-clause-back g c = back_served _ _ _ c.in-Ok-None.ensures.line
+
 pub returns-in-Ok-None-clause-step : goal.returns-in-Ok-None-clause-step
 returns-in-Ok-None-clause-step g c =
     leads_map g.D.Disk.state _ _ c.args.session c.serve_end-session.result.0
