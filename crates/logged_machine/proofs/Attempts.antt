@@ -51,7 +51,7 @@ use Rattle.machine_telling.specs.Telling.{Appends, is_input_fault}
 use Rattle.machine_checkpoint.specs.Counted.{IsCounted}
 use Rattle.machine_checkpoint.specs.Logged.{IsLogged}
 use Rattle.logged_machine.specs.Logged.{LoggedState}
-use Rattle.logged_machine.specs.Goes.{fault_in}
+use Rattle.control_life.specs.Faults.{fault_in}
 use Rattle.logged_machine.specs.Doing.{Did}
 use Rattle.logged_machine.proofs.Answered.{ack_unfaulted, command_unfaulted, input_unfaulted}
 use Rattle.logged_machine.proofs.Logging.{area}

@@ -10,8 +10,9 @@ use Rattle.opening_answers.specs.declared.refusals.OpenError.TheVariants.{TooSma
 use Rattle.opening_answers.specs.Opening.{OpeningCause, WroteNothing}
 use Rattle.journal.specs.State.{JournalState}
 use Rattle.tm_machine.specs.Parts.{PartsState}
-use Rattle.machine_opening.specs.declared.how.How.{How}
-use Rattle.machine_opening.specs.Opened.{KeepsBy, OpensOn, Refuses}
+use Rattle.control_life.specs.declared.how.How.{How}
+use Rattle.machine_opening.specs.Opened.{OpensOn}
+use Rattle.control_life.specs.Opened.{KeepsBy, Refuses}
 use Rattle.logged_machine.specs.Logged.{LoggedState}
 use Rattle.logged_machine.specs.Opened.{HandsBack, Opens}
 

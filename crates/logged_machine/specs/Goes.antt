@@ -16,15 +16,6 @@ use Rattle.model_image.specs.Recovered.{Recovers}
 use Rattle.disk_law.specs.Kept.{RecoversEither}
 use Rattle.logged_machine.specs.Logged.{LoggedState}
 
--- the fault that an entry has in place of its answer
-abbrev pub fault_in : Entry → Option ControlFault
-fault_in (Accept terminal number segments (Err (InputFault fault))) = Some fault
-fault_in (Acked terminal number (Err (AckFault fault))) = Some fault
-fault_in (Turn region (Err fault)) = Some fault
-fault_in (Commanded command (Err (CommandFault fault))) = Some fault
-fault_in (Checked freeze (Err (CheckpointFault fault))) = Some fault
-fault_in _ = None
-
 -- what no call changes
 pub record Keeps {D : Type 0} (state : D → DiskState) (old new : LoggedState D) : Type 0 where
   pub system : new.machine.system ≡ old.machine.system

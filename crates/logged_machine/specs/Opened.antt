@@ -6,8 +6,8 @@ use Rattle.model_machine.specs.Machine.{LastingState, start_of}
 use Rattle.cold_start.specs.FirstImage.{sectors_needed}
 use Rattle.opening_answers.specs.declared.refusals.OpenError.{OpenError}
 use Rattle.opening_answers.specs.Opening.{OpeningCause}
-use Rattle.machine_opening.specs.declared.how.How.{How}
-use Rattle.machine_opening.specs.Opened.{Begins, KeepsBy, Refuses}
+use Rattle.control_life.specs.declared.how.How.{How}
+use Rattle.control_life.specs.Opened.{Begins, KeepsBy, Refuses}
 use Rattle.logged_machine.specs.Logged.{LoggedState}
 
 -- The machine stands where that begins.

@@ -2,7 +2,8 @@
 ghost use Rattle.std.specs.Prelude.{◌≡◌, true, None, IfOk, OnErr};
 ghost use Rattle.model_machine.specs.declared.entry.Entry.TheVariants.{Acked as AckedEntry};
 ghost use Rattle.logged_machine.specs.Logged.{LastsNow, spent_now};
-ghost use Rattle.logged_machine.specs.Goes.{Keeps, GoesBy, CrashesBy, fault_in};
+ghost use Rattle.logged_machine.specs.Goes.{Keeps, GoesBy, CrashesBy};
+ghost use Rattle.control_life.specs.Faults.{fault_in};
 ghost use Rattle.logged_machine.specs.Doing.{Did};
 ghost use Rattle.machine_telling.specs.Telling.{HasRoom};
 ghost use Rattle.machine_checkpoint.specs.Counted.{IsCounted};

@@ -5,8 +5,8 @@
 //! served any more.
 #![tactic(auto)]
 
+pub use control_life::How;
 pub use logged::LoggedMachine;
-pub use machine_opening::How;
 pub use refused::OpenRefused;
 
 mod accepting;

@@ -9,8 +9,9 @@ ghost use Rattle.logged_machine.specs.Opened.{Opens, HandsBack};
 
 use crate::logged::LoggedMachine;
 use crate::refused::OpenRefused;
+use control_life::How;
 use image_areas::sectors_needed;
-use machine_opening::{How, OpenError, open};
+use machine_opening::{OpenError, open};
 use model_machine::Lasting;
 use std::alloc::Global;
 use system_types::System;

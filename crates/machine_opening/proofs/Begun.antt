@@ -21,8 +21,8 @@ use Rattle.machine_life.proofs.Openings.{no_units}
 use Rattle.parts_life.proofs.Opening.{opened_by, opened_kept, opened_ready, slots_of_opening}
 use Rattle.parts_life.specs.Carried.{IsCarried}
 use Rattle.machine_checkpoint.specs.Logged.{IsLogged}
-use Rattle.machine_opening.specs.declared.how.How.{How}
-use Rattle.machine_opening.specs.declared.how.How.TheVariants.{Found, Cold}
+use Rattle.control_life.specs.declared.how.How.{How}
+use Rattle.control_life.specs.declared.how.How.TheVariants.{Found, Cold}
 use Rattle.machine_opening.specs.Opened.{BeginsOn, OpensOn}
 
 -- ---- what was found, or begun

@@ -1,4 +1,4 @@
--- What opening a machine with its log answers.
+-- What a machine with its log is opened with.
 use Rattle.std.specs.Prelude.{◌≡◌, ℕ, ◌≤◌, List, IsTrue, Ok, Err}
 use Rattle.model_disk.specs.Disk.{Image, DiskState}
 use Rattle.model_system.specs.System.{System}
@@ -11,19 +11,8 @@ use Rattle.opening_answers.specs.declared.refusals.OpenError.{OpenError}
 use Rattle.opening_answers.specs.Opening.{MayBegin, SizeFirst, TellsCold, TellsOpening}
 use Rattle.opening_answers.specs.Renewal.{IsRenewed}
 use Rattle.tm_machine.specs.Parts.{PartsState}
-use Rattle.machine_opening.specs.declared.how.How.{How}
-use Rattle.machine_opening.specs.declared.how.How.TheVariants.{Found, Cold}
-
--- Whenever a crash comes in an opening, what it leaves recovers as before; in a cold start, so or to the empty state.
-abbrev pub KeepsBy : How → System → Image → Image → Type 0
-KeepsBy Found system before after = RecoversAlike system before after
-KeepsBy Cold system before after = KeepsOrEmpties system before after
-
--- A life begins with what the disk recovers to, or empty.
-pub record Begins (how : How) (system : System) (text : List ℕ) (disk : DiskState) (opening : LastingState) : Type 0 where
-  pub parts : OpeningParts
-  pub found : how ≡ Found → IsTrue disk.tells → TellsOpening system text disk.shown (Ok (parts, opening))
-  pub cold : how ≡ Cold → TellsCold system (Ok (parts, opening))
+use Rattle.control_life.specs.declared.how.How.{How}
+use Rattle.control_life.specs.declared.how.How.TheVariants.{Found, Cold}
 
 -- The machine stands where that begins.
 pub record OpensOn (how : How) (system : System) (text : List ℕ) (old new : DiskState) (machine : PartsState) (opening : LastingState) : Type 0 where
@@ -31,12 +20,6 @@ pub record OpensOn (how : How) (system : System) (text : List ℕ) (old new : Di
   pub no_fault : new.faults ≡ old.faults
   pub size : sectors_needed system ≤ old.size
   pub begins : Begins how system text old opening
-
--- why an opening is refused
-pub record Refuses (how : How) (system : System) (text : List ℕ) (disk : DiskState) (error : OpenError) : Type 0 where
-  pub size : SizeFirst system disk.size (Err error)
-  pub found : how ≡ Found → IsTrue disk.tells → TellsOpening system text disk.shown (Err error)
-  pub cold : how ≡ Cold → TellsCold system (Err error)
 
 -- ---- what it begins with
 

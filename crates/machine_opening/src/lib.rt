@@ -1,11 +1,10 @@
 //! A machine with its log is opened.
 #![tactic(auto)]
 
-pub use how::How;
+pub use control_life::How;
 pub use opening::open;
 pub use opening_answers::OpenError;
 
 mod beginning;
-mod how;
 mod looking;
 mod opening;

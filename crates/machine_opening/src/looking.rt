@@ -2,10 +2,11 @@
 ghost use Rattle.std.specs.Prelude.{◌≡◌, ◌≤◌, length, IfOk, IsTrue};
 ghost use Rattle.model_disk.specs.Disk.{Stays, Within, Only};
 ghost use Rattle.opening_answers.specs.Opening.{OpeningCause, SizeFirst, TellsCold, TellsOpening};
-ghost use Rattle.machine_opening.specs.declared.how.How.TheVariants.{Found, Cold};
-ghost use Rattle.machine_opening.specs.Opened.{BeginsOn, KeepsBy};
+ghost use Rattle.control_life.specs.declared.how.How.TheVariants.{Found, Cold};
+ghost use Rattle.machine_opening.specs.Opened.{BeginsOn};
+ghost use Rattle.control_life.specs.Opened.{KeepsBy};
 
-use crate::how::How;
+use control_life::How;
 use model_machine::Lasting;
 use opening_answers::OpenError;
 use opening_parts::Parts;

@@ -5,11 +5,12 @@ ghost use Rattle.model_machine.specs.Machine.{empty_state, start_of};
 ghost use Rattle.opening_answers.specs.Opening.{OpeningCause};
 ghost use Rattle.machine_life.proofs.Openings.{no_units};
 ghost use Rattle.machine_checkpoint.specs.Logged.{IsLogged};
-ghost use Rattle.machine_opening.specs.Opened.{KeepsBy, OpensOn, Refuses};
+ghost use Rattle.machine_opening.specs.Opened.{OpensOn};
+ghost use Rattle.control_life.specs.Opened.{KeepsBy, Refuses};
 
 use crate::beginning::begin;
-use crate::how::How;
 use crate::looking::look;
+use control_life::How;
 use journal::Journal;
 use model_machine::Lasting;
 use opening_answers::OpenError;

@@ -18,13 +18,13 @@ use Rattle.model_session.specs.Standing.Standing.{Up as StandsUp, Down as Stands
 use Rattle.tm_control.specs.OnDisk.{ControlOnDisk, Lasts, IsUp, IsDown, LastsBy, lasting_after}
 use Rattle.tm_control.specs.Calls.{StaysSo}
 use Rattle.tm_control.specs.Closed.{Closes}
-use Rattle.tm_control.specs.declared.life.Life.{Life}
+use Rattle.control_life.specs.declared.life.Life.{Life}
 use Rattle.session_lives.specs.declared.place.Idle.{Idle}
 use Rattle.session_lives.specs.declared.place.Place.TheVariants.{Up, Down}
 use Rattle.session_lives.specs.declared.place.Kept.{Kept}
 use Rattle.session_lives.specs.Running.{life_of, last_of, last_up, kept_of, outage_of, session_at, setting_of, Recalls, Holds, IsUpReady, IsUpSound, IsDownSound}
 use Rattle.session_lives.specs.Openings.{GoesDown}
-use Rattle.session_calls.proofs.Asked.{fault_is}
+use Rattle.session_lives.proofs.Asked.{fault_is}
 
 -- ---- states of a session
 

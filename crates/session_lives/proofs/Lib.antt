@@ -1,3 +1,6 @@
+pub mod Asked
+pub mod Replies
+pub mod Turned
 pub mod Blocks
 pub mod Ends
 pub mod Leading

@@ -24,10 +24,10 @@ use Rattle.model_session.specs.Session.{MayOpen, MayRefuse, IsRestarted, Opens a
 use Rattle.cold_start.specs.FirstImage.{KeepsOrEmpties}
 use Rattle.opening_parts.specs.Parts.{OpeningParts}
 use Rattle.opening_answers.specs.Opening.{TellsOpening}
-use Rattle.machine_opening.specs.Opened.{KeepsBy, Begins, Refuses}
+use Rattle.control_life.specs.Opened.{KeepsBy, Begins, Refuses}
 use Rattle.tm_control.specs.OnDisk.{ControlOnDisk}
 use Rattle.tm_control.specs.Closed.{Opens}
-use Rattle.tm_control.specs.declared.life.Life.{Life}
+use Rattle.control_life.specs.declared.life.Life.{Life}
 use Rattle.session_lives.specs.declared.called.Opening.{Opening}
 use Rattle.session_lives.specs.declared.called.Opening.TheVariants.{Opened, Broke as OpeningBroke, Refused, Memory as OpeningMemory, Spent as OpeningSpent}
 use Rattle.session_lives.specs.declared.called.Served.{Served}

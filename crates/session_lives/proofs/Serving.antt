@@ -19,8 +19,8 @@ use Rattle.model_session.specs.Standing.{Setting, SessionState, AreStops, gone_o
 use Rattle.model_session.specs.Session.{IsServedUp, IsBegunBy}
 use Rattle.tm_control.specs.OnDisk.{ControlOnDisk}
 use Rattle.tm_control.specs.Calls.{StaysSo, Answered as IsAnswered, AddedNothing}
-use Rattle.session_calls.specs.declared.called.Called.{Called}
-use Rattle.session_calls.specs.declared.called.Called.TheVariants.{Answered, Frozen, Power, Broke, Memory, Spent}
+use Rattle.session_lives.specs.declared.called.Called.{Called}
+use Rattle.session_lives.specs.declared.called.Called.TheVariants.{Answered, Frozen, Power, Broke, Memory, Spent}
 use Rattle.session_lives.specs.declared.called.Served.{Served}
 use Rattle.session_lives.specs.declared.called.Served.TheVariants.{Printed, Broke as ServedBroke, Undone as NotServed}
 use Rattle.session_lives.specs.declared.called.Undone.TheVariants.{Memory as NoMemory, Spent as SpentCounter}
@@ -29,9 +29,9 @@ use Rattle.session_lives.specs.declared.place.Place.TheVariants.{Up, Down}
 use Rattle.session_lives.specs.declared.place.Kept.{Kept}
 use Rattle.session_lives.specs.declared.place.Session.{Session}
 use Rattle.session_lives.specs.Running.{life_of, last_up, session_at, session_of, session_up, setting_of, IsUpReady, IsUpSound, IsSound, IsSoundAt, IsReadyAt, LeadsBy}
-use Rattle.session_calls.specs.Asking.{IsAsked, IsFrozen, Does, Freezes, Fails, PowersOff, Undoes}
+use Rattle.session_lives.specs.Asking.{IsAsked, IsFrozen, Does, Freezes, Fails, PowersOff, Undoes}
 use Rattle.session_lives.specs.Openings.{GoesOn, HasEndedLife, IsAloneBy, IsSettled, IsServedSo}
-use Rattle.session_calls.proofs.Asked.{stays_so}
+use Rattle.session_lives.proofs.Asked.{stays_so}
 use Rattle.session_lives.proofs.Ends.{up_state, same_up, ended_state, broken_state, down_sound, stop_behind, no_stop}
 
 module _ {D : Type 0} (state : D → DiskState) (system : System) (handed : D) (a b : ControlOnDisk D) (old kept : Kept) (session : Session D) (text : List ℕ)

@@ -10,18 +10,18 @@ use Rattle.model_session.specs.declared.asked.ImageRefused.TheVariants.{Rule, Te
 use Rattle.model_session.specs.Text.{broken_text, opened_text, image_text}
 use Rattle.model_session.specs.Standing.{Setting, SessionState, HasNoLife, or_cold}
 use Rattle.model_session.specs.Session.{IsServed, IsBegunBy}
-use Rattle.machine_opening.specs.declared.how.How.{How}
-use Rattle.machine_opening.specs.declared.how.How.TheVariants.{Found, Cold}
+use Rattle.control_life.specs.declared.how.How.{How}
+use Rattle.control_life.specs.declared.how.How.TheVariants.{Found, Cold}
 use Rattle.opening_answers.specs.declared.refusals.OpenError.{OpenError}
 use Rattle.opening_answers.specs.declared.refusals.OpenError.TheVariants.{BadImage, WrongDefinition, TooSmall, Spent as SpentCounter, Disk, Memory as NoMemory}
 use Rattle.tm_control.specs.OnDisk.{ControlOnDisk, Lasts}
 use Rattle.opening_answers.specs.Opening.{WroteNothing}
 use Rattle.tm_control.specs.Closed.{Opens, Closes}
-use Rattle.machine_opening.specs.Opened.{Refuses}
+use Rattle.control_life.specs.Opened.{Refuses}
 use Rattle.logged_machine.specs.Opened.{HandsBack}
-use Rattle.tm_control.specs.declared.life.Life.{Life}
-use Rattle.session_calls.specs.declared.called.Called.{Called}
-use Rattle.session_calls.specs.declared.called.Called.TheVariants.{Answered, Frozen, Power, Broke as CallBroke, Memory as CallMemory, Spent as CallSpent}
+use Rattle.control_life.specs.declared.life.Life.{Life}
+use Rattle.session_lives.specs.declared.called.Called.{Called}
+use Rattle.session_lives.specs.declared.called.Called.TheVariants.{Answered, Frozen, Power, Broke as CallBroke, Memory as CallMemory, Spent as CallSpent}
 use Rattle.session_lives.specs.declared.called.Served.{Served}
 use Rattle.session_lives.specs.declared.called.Served.TheVariants.{Printed, Broke, Undone as NotServed}
 use Rattle.session_lives.specs.declared.called.Undone.{Undone}

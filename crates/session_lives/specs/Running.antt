@@ -10,7 +10,7 @@ use Rattle.model_session.specs.Lives.{LifeState, LastLife, AreLegal}
 use Rattle.model_session.specs.Standing.{Setting, Outage, Standing, SessionState, LastAnswered, MayHold, HasNoLife, AreStops}
 use Rattle.model_session.specs.Standing.Standing.{Up as StandsUp, Down as StandsDown}
 use Rattle.tm_control.specs.OnDisk.{ControlOnDisk}
-use Rattle.tm_control.specs.declared.life.Life.{Life}
+use Rattle.control_life.specs.declared.life.Life.{Life}
 use Rattle.session_lives.specs.declared.place.Idle.{Idle}
 use Rattle.session_lives.specs.declared.place.Place.{Place}
 use Rattle.session_lives.specs.declared.place.Place.TheVariants.{Up, Down}

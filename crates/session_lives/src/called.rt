@@ -1,4 +1,4 @@
-//! How a block was served, and an opening.
+//! How a call, a block and an opening went.
 
 use model_session::ImageRefused;
 
@@ -33,6 +33,23 @@ pub enum Opening {
     Broke,
     /// The disk can't be opened.
     Refused(ImageRefused),
+    /// There was no memory.
+    Memory,
+    /// A counter is spent.
+    Spent,
+}
+
+/// How what a block asks for went, while the system is up.
+#[derive(Clone, Copy, Debug)]
+pub enum Called {
+    /// It was answered.
+    Answered,
+    /// It was a freeze that was answered, which ends the life.
+    Frozen,
+    /// Power failed, with this pick.
+    Power(u64),
+    /// The disk failed.
+    Broke,
     /// There was no memory.
     Memory,
     /// A counter is spent.

@@ -5,11 +5,11 @@ ghost use Rattle.model_session.specs.Lines.{CanAsk, asked_of};
 ghost use Rattle.session_lives.specs.Running.{IsReady, IsUpReady, IsDownReady, Leads, session_up, session_down};
 ghost use Rattle.session_lives.specs.Openings.{IsServedSo, IsSettled, IsAloneBy, GoesOn, HasEndedLife, IsRestartedSo, IsToldSo, IsRefusalTold, restart_of};
 
-use crate::called::{Opening, Served, Undone};
+use crate::asking::ask;
+use crate::called::{Called, Opening, Served, Undone};
 use crate::opening::{go_down, lay_down, open};
 use crate::place::{Idle, Kept, Place, Session};
 use model_session::{Asked, ImageRefused};
-use session_calls::{Called, ask};
 use session_lines::{Block, read_block};
 use session_text::{ANSWER_ROOM, Printed, down_line, image_line, opened_line};
 use std::alloc::Global;

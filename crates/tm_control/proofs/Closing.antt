@@ -23,7 +23,7 @@ use Rattle.model_machine.specs.Machine.{LastingState, Moment, start_of}
 use Rattle.model_machine.specs.History.{AscendAbove, IsLegal, is_fault, moment_after}
 use Rattle.deadlock_pick.specs.Broken.{HasNoCycles}
 use Rattle.logged_machine.specs.Logged.{LoggedState}
-use Rattle.logged_machine.specs.Goes.{fault_in}
+use Rattle.control_life.specs.Faults.{fault_in}
 use Rattle.tm_control.specs.OnDisk.{lasting_after}
 use Rattle.tm_control.specs.Inside.{IsServed, IsBroken, HoldsBy}
 use Rattle.tm_control.proofs.Rings.{no_ring}

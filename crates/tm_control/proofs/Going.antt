@@ -18,7 +18,8 @@ use Rattle.disk_law.specs.Kept.{RecoversEither}
 use Rattle.checkpointing.specs.Texts.{HasText}
 use Rattle.journal.specs.State.{JournalState}
 use Rattle.logged_machine.specs.Logged.{LoggedState, LastsNow}
-use Rattle.logged_machine.specs.Goes.{Keeps, WentOn, Failed, StoodStill, GoesBy, CrashesBy, fault_in}
+use Rattle.logged_machine.specs.Goes.{Keeps, WentOn, Failed, StoodStill, GoesBy, CrashesBy}
+use Rattle.control_life.specs.Faults.{fault_in}
 use Rattle.tm_control.specs.OnDisk.{ControlOnDisk, IsUp, IsDown, Lasts, LastsBy, lasting_after}
 use Rattle.tm_control.specs.Calls.{StaysSo, AddsBy, CrashesSo, CrashesAlone, is_noted, noted}
 use Rattle.tm_control.specs.Inside.{IsServed, IsBroken, Holds, HoldsBy, last_checked}

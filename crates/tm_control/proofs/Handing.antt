@@ -7,7 +7,7 @@ use Rattle.model_machine.specs.Machine.{LastingState}
 use Rattle.logged_machine.specs.Logged.{LoggedState}
 use Rattle.tm_control.specs.Closed.{Closes}
 use Rattle.tm_control.specs.Inside.{Holds}
-use Rattle.tm_control.specs.declared.life.Life.{Life}
+use Rattle.control_life.specs.declared.life.Life.{Life}
 use Rattle.tm_control.proofs.Closing.{IsEnded, ended}
 use Rattle.tm_control.proofs.Going.{seen}
 

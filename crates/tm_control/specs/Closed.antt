@@ -6,9 +6,9 @@ use Rattle.model_machine.specs.Machine.{start_of}
 use Rattle.model_machine.specs.History.{AscendAbove, IsLegal, moment_after}
 use Rattle.deadlock_pick.specs.Broken.{HasNoCycles}
 use Rattle.cold_start.specs.FirstImage.{sectors_needed}
-use Rattle.machine_opening.specs.declared.how.How.{How}
-use Rattle.machine_opening.specs.Opened.{KeepsBy, Begins}
-use Rattle.tm_control.specs.declared.life.Life.{Life}
+use Rattle.control_life.specs.declared.how.How.{How}
+use Rattle.control_life.specs.Opened.{KeepsBy, Begins}
+use Rattle.control_life.specs.declared.life.Life.{Life}
 use Rattle.tm_control.specs.OnDisk.{ControlOnDisk, lasting_after}
 
 -- A control region was opened: it is up, and has no entry yet.

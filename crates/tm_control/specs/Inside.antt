@@ -9,7 +9,7 @@ use Rattle.model_machine.specs.declared.entry.ControlFault.TheVariants.{Disk}
 use Rattle.disk_law.specs.Kept.{RecoversEither}
 use Rattle.checkpointing.specs.Texts.{HasText}
 use Rattle.logged_machine.specs.Logged.{LoggedState}
-use Rattle.logged_machine.specs.Goes.{fault_in}
+use Rattle.control_life.specs.Faults.{fault_in}
 use Rattle.tm_control.specs.OnDisk.{lasting_after}
 
 -- the number of the last checkpoint that these entries tell of, or this one

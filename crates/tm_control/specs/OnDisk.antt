@@ -12,7 +12,7 @@ use Rattle.journal.specs.State.{JournalState}
 use Rattle.model_image.specs.Recovered.{Recovers}
 use Rattle.disk_law.specs.Kept.{RecoversEither}
 use Rattle.checkpointing.specs.Texts.{HasText}
-use Rattle.logged_machine.specs.Goes.{fault_in}
+use Rattle.control_life.specs.Faults.{fault_in}
 
 -- The control region as its history tells it; the definition's text; whether it is up; how often its disk had failed when
 -- it was opened; what it keeps of its log; the number of the next unit; and its disk.

@@ -1,6 +1,6 @@
 //! The end of a life.
 
-use crate::life::Life;
+use control_life::Life;
 use system_types::System;
 use tm_disk::Disk;
 use tm_types::Bytes;

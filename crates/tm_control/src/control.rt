@@ -9,7 +9,7 @@ ghost use Rattle.model_machine.specs.Machine.{output_at, terminal_at, IsRegion};
 ghost use Rattle.model_machine.specs.Steps.{is_quiet, show_answer};
 ghost use Rattle.model_machine.specs.History.{AddsNothing, now_of};
 ghost use Rattle.lasting_state.specs.Showing.{IsShownTo};
-ghost use Rattle.logged_machine.specs.Goes.{fault_in};
+ghost use Rattle.control_life.specs.Faults.{fault_in};
 ghost use Rattle.logged_machine.specs.Opened.{HandsBack};
 ghost use Rattle.logged_machine.specs.Logged.{LastsNow};
 ghost use Rattle.logged_machine.specs.Taken.{IsTaken};
@@ -19,10 +19,10 @@ ghost use Rattle.tm_control.specs.Closed.{Opens, Closes};
 ghost use Rattle.tm_control.specs.contracts.control.Control.{the_row};
 
 use crate::closed::Closed;
-use crate::life::{History, Life};
 use crate::noting::{acked_entry, checked_entry, command_entry, input_entry, note, turn_entry};
+use control_life::{History, How, Life};
 use lasting_state::Shown;
-use logged_machine::{How, LoggedMachine, OpenRefused};
+use logged_machine::{LoggedMachine, OpenRefused};
 use model_command::{Answer, Command};
 use model_machine::{
     AckRefused, Acked, CheckpointRefused, CommandRefused, ControlFault, Entry, InputRefused,

@@ -7,9 +7,9 @@
 
 pub use closed::Closed;
 pub use control::Control;
+pub use control_life::{History, How, Life};
 pub use lasting_state::Shown;
-pub use life::{History, Life};
-pub use logged_machine::{How, OpenRefused};
+pub use logged_machine::OpenRefused;
 pub use model_command::{Answer, Command};
 pub use model_machine::{
     AckRefused, Acked, CheckpointRefused, CommandRefused, ControlFault, Counter, InputRefused,
@@ -19,5 +19,4 @@ pub use opening_answers::OpenError;
 
 mod closed;
 mod control;
-mod life;
 mod noting;

@@ -6,14 +6,14 @@ use Rattle.std.specs.Prelude.{Option, Some, None, IsNone, IfSome, nat_le}
 use Rattle.std.specs.List.{list_all}
 use Rattle.model_disk.specs.Disk.{DiskState}
 use Rattle.model_session.specs.Standing.{Stop}
-use Rattle.tm_control.specs.declared.life.Life.{Life}
+use Rattle.control_life.specs.declared.life.Life.{Life}
 use Rattle.tm_edge.specs.Fault.{HasRisen}
 use Rattle.tm_edge.specs.Lines.{CutLine, cut_lines, is_short, line_size, line_text, behind_line, HasServed, IsTooLong}
 use Rattle.tm_edge.proofs.ServedSoFar.{long_first}
 use Rattle.tm_edge.proofs.CutLines.{cut_first}
-use Rattle.session_driver.specs.declared.outcome.Ended.{Ended}
-use Rattle.session_driver.specs.declared.outcome.Ended.TheVariants.{Done, Words, BadLine, BadCross, Down, Read, Write, Image, Memory, Limit, Spent}
-use Rattle.session_driver.specs.Outcome.{IsLimit, HasCause}
+use Rattle.tm_session.specs.declared.outcome.Ended.{Ended}
+use Rattle.tm_session.specs.declared.outcome.Ended.TheVariants.{Done, Words, BadLine, BadCross, Down, Read, Write, Image, Memory, Limit, Spent}
+use Rattle.tm_session.specs.Outcome.{IsLimit, HasCause}
 use Rattle.tm_session.specs.Headline.{IsSession, BreaksRule}
 use Rattle.tm_prog.specs.Words.{WordFault, word_fault}
 use Rattle.tm_prog.specs.Status.{IsByWords, IsRefused, IsRun, IsLastLine, IsWithinLimits, IsComplete, is_by_disk, judged_status, status_text}

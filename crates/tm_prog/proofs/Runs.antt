@@ -4,10 +4,10 @@ use Rattle.std.specs.Prelude.{Option, Some, None}
 use Rattle.std.specs.Io.KnownBytes.{append_known}
 use Rattle.model_disk.specs.Disk.{DiskState}
 use Rattle.model_session.specs.Standing.{Stop}
-use Rattle.tm_control.specs.declared.life.Life.{Life}
+use Rattle.control_life.specs.declared.life.Life.{Life}
 use Rattle.tm_edge.specs.Fault.{HasRisen, AppendsFront}
-use Rattle.session_driver.specs.declared.outcome.Ended.{Ended}
-use Rattle.session_driver.specs.declared.outcome.Ended.TheVariants.{Memory}
+use Rattle.tm_session.specs.declared.outcome.Ended.{Ended}
+use Rattle.tm_session.specs.declared.outcome.Ended.TheVariants.{Memory}
 use Rattle.tm_prog.specs.Words.{WordFault, word_fault}
 use Rattle.tm_prog.specs.Status.{IsLastLine, IsByWords, IsRun}
 

@@ -3,17 +3,17 @@ use Rattle.std.specs.Prelude.{◌≡◌, ℕ, ◌≤◌, ◌++◌, ◌⊎◌, Bo
 use Rattle.std.specs.List.{list_all}
 use Rattle.std.specs.Io.KnownBytes.{append_known}
 use Rattle.model_system.specs.System.{System}
-use Rattle.tm_control.specs.declared.life.Life.{Life}
+use Rattle.control_life.specs.declared.life.Life.{Life}
 use Rattle.tm_edge.specs.Fault.{HasRisen, AppendsFront}
 use Rattle.tm_edge.specs.Lines.{cut_lines, lines_of, is_short}
-use Rattle.session_driver.specs.declared.outcome.Ended.{Ended}
-use Rattle.session_driver.specs.declared.outcome.Ended.TheVariants.{Done, Words, BadLine, BadCross, Down, Read, Write, Image, Memory, Limit, Spent}
+use Rattle.tm_session.specs.declared.outcome.Ended.{Ended}
+use Rattle.tm_session.specs.declared.outcome.Ended.TheVariants.{Done, Words, BadLine, BadCross, Down, Read, Write, Image, Memory, Limit, Spent}
 use Rattle.model_session.specs.declared.asked.ImageRefused.TheVariants.{Rule, Text, Size}
 use Rattle.model_session.specs.Standing.{Stop}
 use Rattle.model_disk.specs.Disk.{DiskState}
 use Rattle.sysdef_text.specs.Ends.{definition_lines}
 use Rattle.tm_session.specs.Source.{judged}
-use Rattle.session_driver.specs.Outcome.{HasCause}
+use Rattle.tm_session.specs.Outcome.{HasCause}
 use Rattle.tm_session.specs.Headline.{IsSession}
 use Rattle.tm_prog.specs.Words.{WordFault, word_fault}
 

@@ -2,7 +2,7 @@
 ghost use Rattle.std.specs.Prelude.{◌≡◌, ◌≤◌, ◌++◌, ◌∷◌, decimal, [], length, map, string_bytes, IsNone};
 ghost use Rattle.model_disk.specs.Disk.{Only};
 ghost use Rattle.tm_edge.specs.Fault.{HasRisen};
-ghost use Rattle.session_driver.specs.Outcome.{HasCause, IsBack, IsReadToEnd};
+ghost use Rattle.tm_session.specs.Outcome.{HasCause, IsBack, IsReadToEnd};
 ghost use Rattle.tm_prog.specs.Words.{word_fault};
 ghost use Rattle.tm_prog.specs.Status.{status_text, IsLastLine, IsByWords, IsRun, IsWithinLimits, IsComplete};
 

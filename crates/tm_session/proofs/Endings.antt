@@ -1,9 +1,9 @@
 -- What the end of a session has for its cause.
 use Rattle.std.proofs.Common.{◌≡◌, ℕ, Bool, true, false, sym, subst, refl}
 use Rattle.std.specs.Prelude.{Option, Some, None}
-use Rattle.session_driver.specs.declared.outcome.Ended.{Ended}
-use Rattle.session_driver.specs.declared.outcome.Ended.TheVariants.{Done, Words, BadLine, BadCross, Down, Read, Write, Image, Memory, Limit, Spent}
-use Rattle.session_driver.specs.Outcome.{HasCause}
+use Rattle.tm_session.specs.declared.outcome.Ended.{Ended}
+use Rattle.tm_session.specs.declared.outcome.Ended.TheVariants.{Done, Words, BadLine, BadCross, Down, Read, Write, Image, Memory, Limit, Spent}
+use Rattle.tm_session.specs.Outcome.{HasCause}
 use Rattle.session_lives.specs.declared.called.Opening.{Opening}
 use Rattle.session_lives.specs.declared.called.Opening.TheVariants.{Opened, Broke, Refused, Memory as NoMemory, Spent as SpentCounter}
 use Rattle.tm_session.specs.Opened.{refusal, by_standing}

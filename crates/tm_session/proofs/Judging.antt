@@ -4,10 +4,10 @@ use Rattle.std.specs.Prelude.{Option, Some, None, IfSome, Result, Ok, Err}
 use Rattle.model_system.specs.System.{System}
 use Rattle.tm_edge.specs.Lines.{lines_of}
 use Rattle.sysdef_text.specs.Ends.{definition_lines}
-use Rattle.session_driver.specs.declared.outcome.Ended.{Ended}
-use Rattle.session_driver.specs.declared.outcome.Ended.TheVariants.{Done, Words, BadLine, BadCross, Down, Read, Write, Image, Memory, Limit, Spent}
+use Rattle.tm_session.specs.declared.outcome.Ended.{Ended}
+use Rattle.tm_session.specs.declared.outcome.Ended.TheVariants.{Done, Words, BadLine, BadCross, Down, Read, Write, Image, Memory, Limit, Spent}
 use Rattle.tm_session.specs.Source.{judged, definition_text}
-use Rattle.session_driver.specs.Outcome.{HasCause, IsReadToEnd}
+use Rattle.tm_session.specs.Outcome.{HasCause, IsReadToEnd}
 use Rattle.tm_session.specs.Opening.{ReadsDefinition, StopsBefore, IsJudged}
 use Rattle.tm_session.specs.Headline.{IsUnbegun, Defines, BreaksRule}
 

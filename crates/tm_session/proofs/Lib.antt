@@ -1,3 +1,7 @@
+pub mod Driven
+pub mod Reading
+pub mod Steps
+pub mod Taking
 pub mod Begun
 pub mod Endings
 pub mod Judging

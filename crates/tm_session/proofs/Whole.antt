@@ -16,10 +16,10 @@ use Rattle.model_session.specs.Standing.{Setting, SessionState, Standing, Outage
 use Rattle.model_session.specs.Standing.Standing.{Up as StandsUp, Down as StandsDown}
 use Rattle.model_session.specs.Session.{Begins, Opens as OpensLife, FailsToOpen}
 use Rattle.opening_answers.specs.Opening.{WroteNothing}
-use Rattle.machine_opening.specs.declared.how.How.TheVariants.{Found}
-use Rattle.machine_opening.specs.Opened.{Refuses}
+use Rattle.control_life.specs.declared.how.How.TheVariants.{Found}
+use Rattle.control_life.specs.Opened.{Refuses}
 use Rattle.tm_control.specs.OnDisk.{ControlOnDisk, LastsBy}
-use Rattle.tm_control.specs.declared.life.Life.{Life}
+use Rattle.control_life.specs.declared.life.Life.{Life}
 use Rattle.tm_edge.specs.Lines.{unread, lines_of}
 use Rattle.sysdef_text.specs.Ends.{definition_lines}
 use Rattle.session_lives.specs.declared.called.Opening.{Opening}
@@ -33,13 +33,13 @@ use Rattle.session_lives.specs.Running.{life_of, last_of, last_up, kept_of, outa
 use Rattle.session_lives.specs.Openings.{HasGone, StaysIdle, how_of, error_of}
 use Rattle.session_lives.proofs.Ends.{same_state, outage_with, same_life, answered_of, stops_higher}
 use Rattle.session_lives.proofs.Restarted.{legal_with, opens_gone, fails_gone, gone_sound}
-use Rattle.session_driver.specs.declared.outcome.Ended.{Ended}
-use Rattle.session_driver.specs.declared.outcome.Ended.TheVariants.{Done, Words, BadLine, BadCross, Down as DownAtEnd, Read, Write, Image as BadImage, Memory, Limit, Spent}
+use Rattle.tm_session.specs.declared.outcome.Ended.{Ended}
+use Rattle.tm_session.specs.declared.outcome.Ended.TheVariants.{Done, Words, BadLine, BadCross, Down as DownAtEnd, Read, Write, Image as BadImage, Memory, Limit, Spent}
 use Rattle.tm_session.specs.Source.{judged, definition_text}
-use Rattle.session_driver.specs.Outcome.{ending_of, texts_of, HasWritten, left_by, IsBy}
+use Rattle.tm_session.specs.Outcome.{ending_of, texts_of, HasWritten, left_by, IsBy}
 use Rattle.tm_session.specs.Sources.{HasRead, HasReadTold}
-use Rattle.session_driver.specs.Outcome.Ending.{NotBegun}
-use Rattle.session_driver.specs.Driving.{HasDriven, ReadsTold}
+use Rattle.tm_session.specs.Outcome.Ending.{NotBegun}
+use Rattle.tm_session.specs.Driving.{HasDriven, ReadsTold}
 use Rattle.tm_session.specs.Opening.{ReadsDefinition}
 use Rattle.tm_session.specs.Opened.{IsRead, HasBegun, IsNothing, refusal, down_at_end, by_standing, listed, IsFinishedUp, IsFinishedDown, IsFinishedAt, IsFinished}
 use Rattle.tm_session.specs.Headline.{HasLived, HasSession, IsSession, Defines, IsUnbegun, IsNeverOpened, IsRefusal, ToldNothing}

@@ -7,18 +7,18 @@ use Rattle.model_session.specs.Lives.{LifeState, AreLegal}
 use Rattle.model_session.specs.Standing.{SessionState, Stop, AreAllLives, AreStops}
 use Rattle.model_session.specs.Session.{Begins, AreServed}
 use Rattle.tm_edge.specs.Lines.{lines_of}
-use Rattle.machine_opening.specs.declared.how.How.TheVariants.{Found}
+use Rattle.control_life.specs.declared.how.How.TheVariants.{Found}
 use Rattle.opening_answers.specs.Opening.{WroteNothing}
-use Rattle.machine_opening.specs.Opened.{Refuses}
-use Rattle.tm_control.specs.declared.life.Life.{Life}
-use Rattle.session_driver.specs.declared.outcome.Ended.{Ended}
-use Rattle.session_driver.specs.declared.outcome.Ended.TheVariants.{BadLine, BadCross, Read, Memory, Limit, Image as BadImage, Spent}
+use Rattle.control_life.specs.Opened.{Refuses}
+use Rattle.control_life.specs.declared.life.Life.{Life}
+use Rattle.tm_session.specs.declared.outcome.Ended.{Ended}
+use Rattle.tm_session.specs.declared.outcome.Ended.TheVariants.{BadLine, BadCross, Read, Memory, Limit, Image as BadImage, Spent}
 use Rattle.sysdef_text.specs.Ends.{definition_lines}
 use Rattle.tm_session.specs.Source.{judged, definition_text}
 use Rattle.tm_session.specs.Opening.{IsCutShort}
-use Rattle.session_driver.specs.Outcome.{ending_of, HasWritten, left_by, IsBy}
+use Rattle.tm_session.specs.Outcome.{ending_of, HasWritten, left_by, IsBy}
 use Rattle.tm_session.specs.Sources.{HasReadTold}
-use Rattle.session_driver.specs.Outcome.Ending.{NotBegun}
+use Rattle.tm_session.specs.Outcome.Ending.{NotBegun}
 use Rattle.session_lives.specs.Running.{life_of, setting_of, Holds}
 use Rattle.session_lives.specs.Openings.{error_of}
 

@@ -1,3 +1,6 @@
+pub mod Outcome
+pub mod Unread
+pub mod Driving
 pub mod Source
 pub mod Opening
 pub mod Sources

@@ -2,10 +2,10 @@
 use Rattle.std.specs.Prelude.{◌≡◌, ℕ, ◌<◌, ◌≤◌, ◌⊎◌, Bool, Option, Some, None, IfSome, Result, Ok, Err, List, [], ◌++◌, length}
 use Rattle.model_system.specs.System.{System}
 use Rattle.tm_edge.specs.Lines.{CutLine, HasServed, IsTooLong, lines_of}
-use Rattle.session_driver.specs.declared.outcome.Ended.{Ended}
-use Rattle.session_driver.specs.declared.outcome.Ended.TheVariants.{BadLine, BadCross, Read, Memory, Limit}
+use Rattle.tm_session.specs.declared.outcome.Ended.{Ended}
+use Rattle.tm_session.specs.declared.outcome.Ended.TheVariants.{BadLine, BadCross, Read, Memory, Limit}
 use Rattle.sysdef_text.specs.Ends.{definition_lines, lines_behind, definition_from, behind_from}
-use Rattle.session_driver.specs.Outcome.{texts_of}
+use Rattle.tm_session.specs.Outcome.{texts_of}
 
 -- These are the lines of the definition. The lines behind them, however many, are the session's; or the
 -- source ended with them, within the definition.

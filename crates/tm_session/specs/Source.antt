@@ -5,8 +5,8 @@ use Rattle.model_system.specs.System.{System}
 use Rattle.system_types.specs.declared.definition.MacroLine.{MacroLine}
 use Rattle.sysdef_check.specs.Systems.{checked}
 use Rattle.sysdef_text.specs.Definitions.{definition_in}
-use Rattle.session_driver.specs.declared.outcome.Ended.{Ended}
-use Rattle.session_driver.specs.declared.outcome.Ended.TheVariants.{BadLine, BadCross}
+use Rattle.tm_session.specs.declared.outcome.Ended.{Ended}
+use Rattle.tm_session.specs.declared.outcome.Ended.TheVariants.{BadLine, BadCross}
 
 -- The system that the lines of a definition define, or the rule that they break: one of a line
 -- first, and then one that the macros keep among each other.

@@ -2,8 +2,8 @@
 use Rattle.std.specs.Prelude.{◌≡◌, ℕ, ◌≤◌, Option, Some, None, List, ◌++◌, length}
 use Rattle.model_session.specs.Blocks.{Block}
 use Rattle.tm_edge.specs.Lines.{CutLine, HasServed}
-use Rattle.session_driver.specs.declared.outcome.Ended.{Ended}
-use Rattle.session_driver.specs.Outcome.{ending_of, texts_of, AreSettled, IsAtLimit}
+use Rattle.tm_session.specs.declared.outcome.Ended.{Ended}
+use Rattle.tm_session.specs.Outcome.{ending_of, texts_of, AreSettled, IsAtLimit}
 use Rattle.sysdef_text.specs.Ends.{lines_behind}
 
 -- The source's lines were read one after another, at most a million and none of them too long. Behind

@@ -6,10 +6,11 @@
 //! written, and what the end's cause is.
 #![tactic(auto)]
 
-pub use outcome::{Lives, Outcome, Stops};
+pub use outcome::{Ended, Lives, Outcome, Stops};
 pub use session::drill_session;
-pub use session_driver::Ended;
 
+mod driver;
 mod outcome;
+mod reader;
 mod session;
 mod source;

@@ -3,13 +3,13 @@ ghost use Rattle.std.specs.Prelude.{◌≡◌, ◌<◌, ◌≤◌, ◌++◌, len
 ghost use Rattle.model_disk.specs.Disk.{Only};
 ghost use Rattle.tm_edge.specs.Lines.{unread};
 ghost use Rattle.tm_session.specs.Opened.{IsRead, HasBegun, IsNothing, IsFinished, IsFinishedUp, IsFinishedDown, refusal, by_standing, down_at_end, HasRoomIf, listed};
-ghost use Rattle.session_driver.specs.Outcome.{HasCause, IsBack, IsReadToEnd};
+ghost use Rattle.tm_session.specs.Outcome.{HasCause, IsBack, IsReadToEnd};
 ghost use Rattle.session_lives.specs.Running.{IsReady};
 ghost use Rattle.tm_session.specs.Headline.{IsSession, IsUnbegun};
 
-use crate::outcome::{Lives, Outcome, Stops};
+use crate::driver::serve_lines;
+use crate::outcome::{Ended, Lives, Outcome, Stops};
 use crate::source::{judge, read_definition, text_of};
-use session_driver::{Ended, serve_lines};
 use session_lives::{Idle, Kept, Opening, Place, Session, open};
 use std::alloc::Global;
 use system_types::System;

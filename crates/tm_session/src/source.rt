@@ -3,9 +3,10 @@ ghost use Rattle.std.specs.Prelude.{◌≡◌, ◌++◌, Ok, Err, false, IfOk, I
 ghost use Rattle.tm_edge.specs.Lines.{unread};
 ghost use Rattle.tm_session.specs.Source as spec;
 ghost use Rattle.tm_session.specs.Opening.{ReadsDefinition, StopsBefore, IsJudged};
-ghost use Rattle.session_driver.specs.Outcome.{HasCause, IsBack};
+ghost use Rattle.tm_session.specs.Outcome.{HasCause, IsBack};
 
-use session_driver::{Ended, read_line};
+use crate::outcome::Ended;
+use crate::reader::read_line;
 use std::alloc::Global;
 use sysdef_check::{CrossRefused, check};
 use sysdef_text::DefinitionReader;

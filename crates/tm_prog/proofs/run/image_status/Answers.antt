@@ -1,7 +1,7 @@
 -- the text of each disk that can't be opened
 use Rattle.std.proofs.Common.{◌≡◌, ℕ, List, [], ◌∷◌, ◌++◌, codes, sym, ◌∙◌, ap, append_assoc}
 use Rattle.std.specs.Prelude.{decimal}
-use Rattle.session_driver.specs.declared.outcome.Ended.TheVariants.{Image}
+use Rattle.tm_session.specs.declared.outcome.Ended.TheVariants.{Image}
 use Rattle.model_session.specs.declared.asked.ImageRefused.TheVariants.{Rule, Text, Size}
 use Rattle.tm_prog.specs.Status.{status_text}
 use Rattle.tm_prog.proofs.run.image_status.Goals as goal

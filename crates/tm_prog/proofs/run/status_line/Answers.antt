@@ -1,7 +1,7 @@
 -- the text of each status
 use Rattle.std.proofs.Common.{[], ◌∷◌, ◌++◌, codes, sym, ◌∙◌, ap}
 use Rattle.std.specs.Prelude.{decimal}
-use Rattle.session_driver.specs.declared.outcome.Ended.TheVariants.{Words, BadLine, BadCross}
+use Rattle.tm_session.specs.declared.outcome.Ended.TheVariants.{Words, BadLine, BadCross}
 use Rattle.tm_prog.specs.Status.{status_text}
 use Rattle.tm_prog.proofs.run.status_line.Goals as goal
 

@@ -3,14 +3,14 @@ use Rattle.std.proofs.Common.{◌≡◌, ℕ, List, sym, ◌∙◌, subst}
 use Rattle.std.specs.Prelude.{Option}
 use Rattle.tm_edge.specs.Lines.{unread}
 use Rattle.model_session.specs.Standing.{is_stopped}
-use Rattle.session_driver.specs.Outcome.{IsBack}
+use Rattle.tm_session.specs.Outcome.{IsBack}
 use Rattle.session_lives.specs.Running.{session_at}
 use Rattle.tm_session.specs.Headline.{IsUnbegun}
 use Rattle.tm_session.specs.Opened.{IsRead}
 use Rattle.tm_session.proofs.Begun.{begun_is}
 use Rattle.tm_session.proofs.Endings.{never_cause, driven_cause}
 use Rattle.tm_session.proofs.Judging.{text_told}
-use Rattle.session_driver.proofs.Taking.{back_whole, back_twice}
+use Rattle.tm_session.proofs.Taking.{back_whole, back_twice}
 use Rattle.tm_session.proofs.Whole.{begins, begun_sound, never_opened, status_at, is_session, nothing_session}
 use Rattle.tm_session.proofs.session.drill_session.Goals as goal
 

@@ -3,10 +3,10 @@ use Rattle.std.proofs.Common.{rules, ◌≡◌, ◌≤◌, ◌+◌, ◌-◌, ◌
 use Rattle.tm_edge.specs.Lines.{unread}
 use Rattle.sysdef_text.specs.Ends.{ends_definition, stays_inside, with_line}
 use Rattle.tm_session.specs.Opening.{DefinitionSoFar, ReadsDefinition}
-use Rattle.session_driver.specs.Outcome.{HasCause}
-use Rattle.session_driver.proofs.Reading.{unread_cause}
+use Rattle.tm_session.specs.Outcome.{HasCause}
+use Rattle.tm_session.proofs.Reading.{unread_cause}
 use Rattle.tm_session.proofs.Opened.{reading_start, reading_next, reading_ends, reading_none, reading_stops, room_for}
-use Rattle.session_driver.proofs.Taking.{back_same, back_twice, back_served}
+use Rattle.tm_session.proofs.Taking.{back_same, back_twice, back_served}
 use Rattle.tm_session.proofs.source.read_definition.Goals as goal
 
 pub returns-in-Ok-None-clause-read : goal.returns-in-Ok-None-clause-read

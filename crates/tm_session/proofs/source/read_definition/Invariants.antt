@@ -2,7 +2,7 @@
 use Rattle.std.proofs.Common.{◌≡◌, false}
 use Rattle.tm_edge.specs.Lines.{unread}
 use Rattle.tm_session.specs.Opening.{DefinitionSoFar}
-use Rattle.session_driver.specs.Outcome.{IsBack}
+use Rattle.tm_session.specs.Outcome.{IsBack}
 use Rattle.tm_session.proofs.source.read_definition.Given as goal
 
 abbrev pub invariant-loop-line : goal.invariant-loop-line

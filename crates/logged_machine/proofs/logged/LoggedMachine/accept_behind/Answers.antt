@@ -2,7 +2,7 @@
 use Rattle.std.proofs.Common.{Err}
 use Rattle.model_machine.specs.declared.entry.Entry.TheVariants.{Accept}
 use Rattle.model_machine.specs.declared.entry.InputRefused.TheVariants.{Fault}
-use Rattle.logged_machine.specs.Goes.{fault_in}
+use Rattle.control_life.specs.Faults.{fault_in}
 use Rattle.logged_machine.proofs.Checkpointed.{unrefreshed}
 use Rattle.logged_machine.proofs.Doing.{did_behind}
 use Rattle.logged_machine.proofs.logged.LoggedMachine.accept_behind.Goals as goal

@@ -4,7 +4,7 @@ use Rattle.logged_machine.specs.Doing.{Did}
 use Rattle.model_machine.specs.declared.entry.InputRefused.TheVariants.{Fault}
 use Rattle.model_machine.specs.declared.entry.ControlFault.TheVariants.{Memory}
 use Rattle.model_machine.specs.declared.entry.Entry.TheVariants.{Accept}
-use Rattle.logged_machine.specs.Goes.{fault_in}
+use Rattle.control_life.specs.Faults.{fault_in}
 use Rattle.logged_machine.proofs.Checkpointed.{counted_more, counted_same, did_same, nothing_done, served_same}
 use Rattle.logged_machine.proofs.logged.LoggedMachine.accept_first.Goals as goal
 

@@ -1,6 +1,6 @@
 -- as callers see it
 use Rattle.model_machine.specs.declared.entry.Entry.TheVariants.{Acked}
-use Rattle.logged_machine.specs.Goes.{fault_in}
+use Rattle.control_life.specs.Faults.{fault_in}
 use Rattle.logged_machine.proofs.Doing.{crashes, goes}
 use Rattle.logged_machine.proofs.Unspent.{counted_now}
 use Rattle.logged_machine.proofs.logged.LoggedMachine.acknowledge.Goals as goal

@@ -3,7 +3,7 @@ use Rattle.std.proofs.Common.{Err}
 use Rattle.model_machine.specs.declared.entry.AckRefused.TheVariants.{Fault}
 use Rattle.model_machine.specs.declared.entry.ControlFault.TheVariants.{Memory}
 use Rattle.model_machine.specs.declared.entry.Entry.TheVariants.{Acked}
-use Rattle.logged_machine.specs.Goes.{fault_in}
+use Rattle.control_life.specs.Faults.{fault_in}
 use Rattle.logged_machine.proofs.Checkpointed.{counted_more, counted_same, did_same, nothing_done, served_same}
 use Rattle.logged_machine.proofs.logged.LoggedMachine.acknowledge_any.Goals as goal
 

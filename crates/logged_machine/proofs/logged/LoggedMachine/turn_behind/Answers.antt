@@ -3,7 +3,7 @@ use Rattle.std.proofs.Common.{Err, subst, sym}
 use Rattle.model_machine.specs.Machine.{IsRegion}
 use Rattle.model_system.specs.System.{System}
 use Rattle.model_machine.specs.declared.entry.Entry.TheVariants.{Turn}
-use Rattle.logged_machine.specs.Goes.{fault_in}
+use Rattle.control_life.specs.Faults.{fault_in}
 use Rattle.logged_machine.proofs.Checkpointed.{unrefreshed}
 use Rattle.logged_machine.proofs.Doing.{did_behind}
 use Rattle.logged_machine.proofs.logged.LoggedMachine.turn_behind.Goals as goal

@@ -1,4 +1,0 @@
-pub mod Driven
-pub mod Reading
-pub mod Steps
-pub mod Taking

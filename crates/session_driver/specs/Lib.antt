@@ -1,3 +1,0 @@
-pub mod Outcome
-pub mod Unread
-pub mod Driving
