@@ -14,7 +14,8 @@ use Rattle.control_life.specs.declared.how.How.{How}
 use Rattle.machine_opening.specs.Opened.{OpensOn}
 use Rattle.control_life.specs.Opened.{KeepsBy, Refuses}
 use Rattle.logged_machine.specs.Logged.{LoggedState}
-use Rattle.logged_machine.specs.Opened.{HandsBack, Opens}
+use Rattle.logged_machine.specs.Opened.{Opens}
+use Rattle.control_life.specs.Opened.{HandsBack}
 
 module _ {D : Type 0} (state : D → DiskState) (how : How) (system : System) (text : List ℕ) where
   -- nothing was written

@@ -1,13 +1,11 @@
 -- What opening a machine with its log answers.
-use Rattle.std.specs.Prelude.{◌≡◌, ℕ, ◌≤◌, true, List, Err}
+use Rattle.std.specs.Prelude.{◌≡◌, ℕ, ◌≤◌, true, List}
 use Rattle.model_disk.specs.Disk.{DiskState, Stays, Within}
 use Rattle.model_system.specs.System.{System}
 use Rattle.model_machine.specs.Machine.{LastingState, start_of}
 use Rattle.cold_start.specs.FirstImage.{sectors_needed}
-use Rattle.opening_answers.specs.declared.refusals.OpenError.{OpenError}
-use Rattle.opening_answers.specs.Opening.{OpeningCause}
 use Rattle.control_life.specs.declared.how.How.{How}
-use Rattle.control_life.specs.Opened.{Begins, KeepsBy, Refuses}
+use Rattle.control_life.specs.Opened.{Begins, KeepsBy}
 use Rattle.logged_machine.specs.Logged.{LoggedState}
 
 -- The machine stands where that begins.
@@ -21,12 +19,3 @@ pub record Opens {D : Type 0} (state : D → DiskState) (how : How) (system : Sy
   pub size : sectors_needed system ≤ (state disk).size
   pub begins : Begins how system text (state disk) opening
   pub any_moment : Within (KeepsBy how system) (state disk) (state new.disk)
-
--- All is handed back.
-pub record HandsBack {D : Type 0} (state : D → DiskState) (how : How) (system : System) (text : List ℕ) (disk : D) (error : OpenError) (disk_back : D) (system_back : System) (text_back : List ℕ) : Type 0 where
-  pub refuses : Refuses how system text (state disk) error
-  pub system_is : system_back ≡ system
-  pub text_is : text_back ≡ text
-  pub stays : Stays (state disk) (state disk_back)
-  pub cause : OpeningCause (Err error) (state disk) (state disk_back)
-  pub any_moment : Within (KeepsBy how system) (state disk) (state disk_back)

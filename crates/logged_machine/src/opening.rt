@@ -5,7 +5,8 @@ ghost use Rattle.model_disk.specs.Disk.{Only};
 ghost use Rattle.model_machine.specs.Machine.{empty_state, start_of};
 ghost use Rattle.machine_life.proofs.Openings.{no_units};
 ghost use Rattle.logged_machine.specs.Logged.{LastsNow};
-ghost use Rattle.logged_machine.specs.Opened.{Opens, HandsBack};
+ghost use Rattle.logged_machine.specs.Opened.{Opens};
+ghost use Rattle.control_life.specs.Opened.{HandsBack};
 
 use crate::logged::LoggedMachine;
 use crate::refused::OpenRefused;

@@ -7,7 +7,7 @@ use Rattle.model_session.specs.declared.asked.ImageRefused.{ImageRefused}
 use Rattle.opening_answers.specs.declared.refusals.OpenError.{OpenError}
 use Rattle.opening_answers.specs.declared.refusals.OpenError.TheVariants.{BadImage, WrongDefinition, TooSmall, Spent, Disk, Memory}
 use Rattle.opening_answers.specs.Opening.{WroteNothing}
-use Rattle.logged_machine.specs.Opened.{HandsBack}
+use Rattle.control_life.specs.Opened.{HandsBack}
 use Rattle.control_life.specs.declared.life.Life.{Life}
 use Rattle.session_lives.specs.declared.called.Opening.{Opening}
 use Rattle.session_lives.specs.declared.place.Idle.{Idle}

@@ -18,7 +18,7 @@ use Rattle.tm_control.specs.OnDisk.{ControlOnDisk, Lasts}
 use Rattle.opening_answers.specs.Opening.{WroteNothing}
 use Rattle.tm_control.specs.Closed.{Opens, Closes}
 use Rattle.control_life.specs.Opened.{Refuses}
-use Rattle.logged_machine.specs.Opened.{HandsBack}
+use Rattle.control_life.specs.Opened.{HandsBack}
 use Rattle.control_life.specs.declared.life.Life.{Life}
 use Rattle.session_lives.specs.declared.called.Called.{Called}
 use Rattle.session_lives.specs.declared.called.Called.TheVariants.{Answered, Frozen, Power, Broke as CallBroke, Memory as CallMemory, Spent as CallSpent}

@@ -10,7 +10,7 @@ ghost use Rattle.model_machine.specs.Steps.{is_quiet, show_answer};
 ghost use Rattle.model_machine.specs.History.{AddsNothing, now_of};
 ghost use Rattle.lasting_state.specs.Showing.{IsShownTo};
 ghost use Rattle.control_life.specs.Faults.{fault_in};
-ghost use Rattle.logged_machine.specs.Opened.{HandsBack};
+ghost use Rattle.control_life.specs.Opened.{HandsBack};
 ghost use Rattle.logged_machine.specs.Logged.{LastsNow};
 ghost use Rattle.logged_machine.specs.Taken.{IsTaken};
 ghost use Rattle.tm_control.specs.OnDisk.{Lasts, spent_now};
