@@ -1,16 +1,11 @@
 -- What a call leaves of a machine with its log.
-use Rattle.std.specs.Prelude.{◌≡◌, ◌≤◌, true, false, Option, Some, None, Ok, Err}
+use Rattle.std.specs.Prelude.{◌≡◌, ◌≤◌, true, false, Option, Some, None, Ok}
 use Rattle.model_disk.specs.Disk.{Image, DiskState, Stays, FailedSince}
 use Rattle.model_machine.specs.History.{after_entry}
 use Rattle.model_machine.specs.declared.entry.Entry.{Entry}
-use Rattle.model_machine.specs.declared.entry.Entry.TheVariants.{Accept, Acked, Turn, Commanded, Checked}
 use Rattle.model_machine.specs.declared.entry.ControlFault.{ControlFault}
 use Rattle.model_machine.specs.declared.entry.ControlFault.TheVariants.{Memory, Disk, Spent}
-use Rattle.model_machine.specs.declared.entry.InputRefused.TheVariants.{Fault as InputFault}
-use Rattle.model_machine.specs.declared.entry.AckRefused.TheVariants.{Fault as AckFault}
 use Rattle.checkpointing.specs.Texts.{HasText}
-use Rattle.model_machine.specs.declared.entry.CommandRefused.TheVariants.{Fault as CommandFault}
-use Rattle.model_machine.specs.declared.entry.CheckpointRefused.TheVariants.{Fault as CheckpointFault}
 use Rattle.tm_machine.specs.Answers.{IsAnswered}
 use Rattle.model_image.specs.Recovered.{Recovers}
 use Rattle.disk_law.specs.Kept.{RecoversEither}

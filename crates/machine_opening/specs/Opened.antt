@@ -1,18 +1,16 @@
 -- What a machine with its log is opened with.
-use Rattle.std.specs.Prelude.{◌≡◌, ℕ, ◌≤◌, List, IsTrue, Ok, Err}
+use Rattle.std.specs.Prelude.{◌≡◌, ℕ, ◌≤◌, List}
 use Rattle.model_disk.specs.Disk.{Image, DiskState}
 use Rattle.model_system.specs.System.{System}
 use Rattle.model_machine.specs.Machine.{LastingState, start_of}
-use Rattle.model_image.specs.Alike.{RecoversAlike}
 use Rattle.model_image.specs.Holding.{HoldsStores}
-use Rattle.cold_start.specs.FirstImage.{KeepsOrEmpties, sectors_needed}
+use Rattle.cold_start.specs.FirstImage.{sectors_needed}
 use Rattle.opening_parts.specs.Parts.{AreOpeningParts, OpeningParts}
-use Rattle.opening_answers.specs.declared.refusals.OpenError.{OpenError}
-use Rattle.opening_answers.specs.Opening.{MayBegin, SizeFirst, TellsCold, TellsOpening}
+use Rattle.opening_answers.specs.Opening.{MayBegin}
 use Rattle.opening_answers.specs.Renewal.{IsRenewed}
 use Rattle.tm_machine.specs.Parts.{PartsState}
 use Rattle.control_life.specs.declared.how.How.{How}
-use Rattle.control_life.specs.declared.how.How.TheVariants.{Found, Cold}
+use Rattle.control_life.specs.Opened.{Begins}
 
 -- The machine stands where that begins.
 pub record OpensOn (how : How) (system : System) (text : List ℕ) (old new : DiskState) (machine : PartsState) (opening : LastingState) : Type 0 where
