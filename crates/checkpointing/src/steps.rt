@@ -29,7 +29,7 @@ fn write_slots<D: Disk>(disk: &mut D, stores: &Stores, first: u32) -> Result<(),
     ensures no_fault { OnOk result ((D.state disk.new).faults ≡ (D.state disk.old).faults) }
     ensures cause { OnErr result (FailedSince (D.state disk.old) (D.state disk.new)) }
 {
-    stores.write_back(disk, first)?;
+    stores.write_changed(disk, first)?;
     disk.sync()?;
     Ok(())
 }

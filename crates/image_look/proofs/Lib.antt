@@ -3,3 +3,4 @@ pub mod Stores
 pub mod NamedSlots
 pub mod Rereading
 pub mod LookedAt
+mod LogAreas

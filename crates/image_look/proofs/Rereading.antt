@@ -19,7 +19,7 @@ use Rattle.model_image.specs.Counters.{next_sequence}
 use Rattle.model_image.specs.Cut.{Cut, cut_of, records_of, IsCutOff}
 use Rattle.model_image.specs.Faults.{Fault, in_sector, unless_any, or_fault}
 use Rattle.model_image.specs.Slots.{is_image_of}
-use Rattle.model_image.specs.Recovered.{snapshot_from, log_in, Recovers}
+use Rattle.model_image.specs.Recovered.{snapshot_from, log_in, first_later, Recovers}
 use Rattle.model_image.specs.Replay.{replay_of}
 use Rattle.model_image.specs.Snapshot.{snapshot_state, snapshot_rules}
 use Rattle.count_law.proofs.Cut.{all_valid}
@@ -55,8 +55,8 @@ module _ (system : System) (image : Image) (r : RestartSector) (bytes : List ℕ
   log_is : cut_of bytes ≡ log_in system image r
   log_is = ap cut_of payload
 
-  pub reread_good : (snapshot : List Record) → snapshot_from system image r ≡ Ok snapshot → (replayed : ReplayedState) (read : Reread) → read.replayed ≡ replayed → read.next_sequence ≡ next_sequence system image r → TellsLog system snapshot bytes (Ok replayed) → IsReplayed system image r read
-  reread_good snapshot has replayed read same sequence told =
+  pub reread_good : (snapshot : List Record) → snapshot_from system image r ≡ Ok snapshot → (replayed : ReplayedState) (read : Reread) → read.replayed ≡ replayed → read.next_sequence ≡ next_sequence system image r → read.later ≡ first_later system.logs image (log_first system r.log) r.epoch → TellsLog system snapshot bytes (Ok replayed) → IsReplayed system image r read
+  reread_good snapshot has replayed read same sequence later told =
       let lasting = told.comes.0 in
       let both = good_by told.is_cut_off (replay_of system (cut_of bytes).records (snapshot_state system snapshot)) lasting told.comes.1 in
       record {
@@ -68,6 +68,7 @@ module _ (system : System) (image : Image) (r : RestartSector) (bytes : List ℕ
         behind = subst (λ (state : ReplayedState). IsBehind system snapshot (log_in system image r).records lasting state) (sym same)
             (subst (λ (c : Cut). IsBehind system snapshot c.records lasting replayed) log_is told.comes.2);
         sequence = sequence;
+        later = later;
       }
 
   module _ (is : restart_in (snapshot_area system) image ≡ Ok (Some r)) where

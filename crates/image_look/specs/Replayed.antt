@@ -5,9 +5,10 @@ use Rattle.model_system.specs.System.{System}
 use Rattle.model_machine.specs.Machine.{LastingState}
 use Rattle.log_records.specs.declared.record.Record.{Record}
 use Rattle.restart_data.specs.declared.restart.RestartSector.{RestartSector}
+use Rattle.model_image.specs.Areas.{log_first}
 use Rattle.model_image.specs.Counters.{next_sequence}
 use Rattle.model_image.specs.Cut.{IsCutOff}
-use Rattle.model_image.specs.Recovered.{snapshot_from, log_in, Recovers}
+use Rattle.model_image.specs.Recovered.{snapshot_from, log_in, first_later, Recovers}
 use Rattle.model_image.specs.Replay.{replay_of}
 use Rattle.model_image.specs.Snapshot.{snapshot_state}
 use Rattle.count_law.specs.Counted.{IsCounted}
@@ -36,6 +37,7 @@ pub record IsReplayed (system : System) (image : Image) (restart : RestartSector
   pub replays : replay_of system (log_in system image restart).records (snapshot_state system snapshot) ≡ Some lasting
   pub behind : IsBehind system snapshot (log_in system image restart).records lasting read.replayed
   pub sequence : read.next_sequence ≡ next_sequence system image restart
+  pub later : read.later ≡ first_later system.logs image (log_first system restart.log) restart.epoch
 
 abbrev pub TellsReplay : System → RestartSector → Image → Result Reread ReadFault → Type 0
 TellsReplay system restart image (Ok read) = IsReplayed system image restart read

@@ -10,9 +10,8 @@ ghost use Rattle.image_look.specs.Replayed.{ComesBehind};
 ghost use Rattle.image_look.specs.Looked.{TellsLook, LookCause};
 
 use crate::databases::{Named, load_named};
+use crate::later::later_sector;
 use crate::replaying::{Reread, read_replayed};
-use image_areas::log_first;
-use image_reading::first_later;
 use restart_data::RestartSector;
 use slot_loading::LoadFault;
 use snapshot_reading::ReadFault;
@@ -57,7 +56,7 @@ pub fn look<D: Disk>(
         Err(LoadFault::Disk) => return Err(ReadFault::Disk),
         Err(LoadFault::Memory) => return Err(ReadFault::Memory),
     };
-    match first_later(disk, log_first(system, 0), 2 * system.logs(), restart.epoch) {
+    match later_sector(disk, system, restart, reread.later) {
         Ok(None) => Ok(Looked { reread, named }),
         Ok(Some(sector)) => Err(ReadFault::Bad(24, sector)),
         Err(_) => Err(ReadFault::Disk),

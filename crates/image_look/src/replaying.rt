@@ -21,11 +21,14 @@ use std::alloc::Global;
 use system_types::System;
 use tm_disk::Disk;
 
-/// What the snapshot and the log come to, and the sequence behind the log.
+/// What the snapshot and the log come to.
 #[derive(Drop)]
 pub struct Reread {
     pub replayed: Replayed,
+    /// The sequence behind the log.
     pub next_sequence: u64,
+    /// The first sector of the log's area that is of a later epoch.
+    pub later: Option<u32>,
 }
 
 // Does the log of these bytes again behind a snapshot that was read.
@@ -72,6 +75,7 @@ pub fn read_replayed<D: Disk>(
         Ok(replayed) => Ok(Reread {
             replayed,
             next_sequence: log.next_sequence,
+            later: log.later,
         }),
         Err(RecordsFault::Bad(rule)) => Err(ReadFault::Bad(rule, log_first(system, restart.log))),
         Err(RecordsFault::Memory) => Err(ReadFault::Memory),

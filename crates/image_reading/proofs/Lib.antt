@@ -1,2 +1,2 @@
 mod Differing
-mod Sectors
+pub mod Sectors

@@ -6,5 +6,5 @@
 mod later;
 mod text;
 
-pub use later::first_later;
+pub use later::{first_later, first_later_from};
 pub use text::{TextFault, first_difference, text_difference};

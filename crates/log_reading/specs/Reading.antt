@@ -1,22 +1,31 @@
 -- What reading the log of an image answers.
-use Rattle.std.specs.Prelude.{◌≡◌, Result, Ok, Err}
+use Rattle.std.specs.Prelude.{◌≡◌, ℕ, length, Result, Ok, Err}
 use Rattle.model_disk.specs.Disk.{Image, DiskState, FailedSince}
 use Rattle.model_system.specs.System.{System}
 use Rattle.log_sectors.specs.Chain.{chain, joined}
 use Rattle.restart_data.specs.declared.restart.RestartSector.{RestartSector}
 use Rattle.model_image.specs.Areas.{log_first}
 use Rattle.model_image.specs.Counters.{next_sequence}
+use Rattle.model_image.specs.Recovered.{first_later}
+use Rattle.log_reading.specs.declared.area.LogArea.{LogArea}
 use Rattle.log_reading.specs.declared.reading.ReadLog.{ReadLog}
 use Rattle.log_reading.specs.declared.reading.LogFault.{LogFault}
 use Rattle.log_reading.specs.declared.reading.LogFault.TheVariants as faults
+
+-- An area's chain, and the first of its sectors of a later epoch: it begins at a place and has so many sectors.
+pub record IsAreaOf (count : ℕ) (image : Image) (first sequence epoch : ℕ) (area : LogArea) : Type 0 where
+  pub payload : area.payload ≡ joined (chain count image first sequence epoch)
+  pub sectors : area.sectors ≡ length (chain count image first sequence epoch)
+  pub later : area.later ≡ first_later count image first epoch
 
 -- The log's bytes are those of the image, and so is the sequence behind it.
 pub record IsLogOf (system : System) (restart : RestartSector) (image : Image) (read : ReadLog) : Type 0 where
   pub payload : read.payload ≡ joined (chain system.logs image (log_first system restart.log) restart.sequence restart.epoch)
   pub sequence : read.next_sequence ≡ next_sequence system image restart
+  pub later : read.later ≡ first_later system.logs image (log_first system restart.log) restart.epoch
 
 -- The disk failed in the call exactly where that is told.
-abbrev pub LogCause : Result ReadLog LogFault → DiskState → DiskState → Type 0
-LogCause (Ok read) old new = new.faults ≡ old.faults
+abbrev pub LogCause : {A : Type 0} → Result A LogFault → DiskState → DiskState → Type 0
+LogCause (Ok value) old new = new.faults ≡ old.faults
 LogCause (Err faults.Disk) old new = FailedSince old new
 LogCause (Err faults.Memory) old new = new.faults ≡ old.faults

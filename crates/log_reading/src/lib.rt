@@ -1,9 +1,12 @@
-//! The log of an image is read: the bytes of its chain, the sequence behind it, and whether its rest is cut off.
+//! The log of an image is read: the bytes of its chain, the sequence behind it, whether its rest is cut off, and the first
+//! sector of a later epoch in its area. Each sector of the area is read once.
 //!
 //! Nothing is written. That the rest is decided holds on every disk, and it is needed where a rule on the snapshot is broken,
 //! too: what an image recovers to says it of each image.
 #![tactic(auto)]
 
+mod area;
 mod reading;
 
+pub use area::{LogArea, read_area};
 pub use reading::{LogFault, ReadLog, read_log};

@@ -6,10 +6,10 @@ ghost use Rattle.model_image.specs.Areas.{snapshot_area, data_first};
 ghost use Rattle.model_image.specs.Cut.{cut_of, IsCutOff};
 ghost use Rattle.log_reading.specs.Reading.{IsLogOf, LogCause};
 
+use crate::area::read_area;
 use image_areas::log_first;
 use image_records::cut;
 use log_rest::is_cut_off;
-use log_sectors::{ChainFault, read_chain};
 use restart_data::RestartSector;
 use std::alloc::Global;
 use system_types::System;
@@ -26,6 +26,8 @@ pub struct ReadLog {
     pub next_sequence: u64,
     /// Whether what is left behind its records is the front of a record, without its end.
     pub is_cut_off: bool,
+    /// The first sector of its area that is of a later epoch.
+    pub later: Option<u32>,
 }
 
 /// Why a log wasn't read.
@@ -58,18 +60,18 @@ pub fn read_log<D: Disk>(
 {
     let first = log_first(system, restart.log);
     let logs = system.logs();
-    let chain = match read_chain(alloc, disk, first, logs, restart.sequence, restart.epoch) {
-        Ok(chain) => chain,
-        Err(ChainFault::Disk) => return Err(LogFault::Disk),
-        Err(ChainFault::Memory) => return Err(LogFault::Memory),
+    let area = match read_area(alloc, disk, first, logs, restart.sequence, restart.epoch) {
+        Ok(area) => area,
+        Err(fault) => return Err(fault),
     };
-    let Ok(cut) = cut(alloc, chain.payload.as_slice()) else {
+    let Ok(cut) = cut(alloc, area.payload.as_slice()) else {
         return Err(LogFault::Memory);
     };
-    let is_cut_off = is_cut_off(&chain.payload.as_slice()[cut.length..]);
+    let is_cut_off = is_cut_off(&area.payload.as_slice()[cut.length..]);
     Ok(ReadLog {
-        payload: chain.payload,
-        next_sequence: restart.sequence + u64::from(chain.sectors),
+        payload: area.payload,
+        next_sequence: restart.sequence + u64::from(area.sectors),
         is_cut_off,
+        later: area.later,
     })
 }

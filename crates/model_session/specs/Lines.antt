@@ -1,7 +1,7 @@
 -- What a block of session lines asks for, or the lowest rule that it breaks: 1 a first word that is not
 -- known, 2 operands missing or too many, 3 no number in its range, 4 no name, 5 a `+` line that belongs to
 -- no line, 6 a byte that is not printable, 8 a field line without =.
-use Rattle.std.specs.Prelude.{ℕ, ◌<◌, ◌≤◌, ⊤, ◌==◌, nat_lt, nat_le, Bool, ◌&&◌, if◌then◌else◌, Option, Some, None, Result, Ok, Err, List, [], ◌∷◌, length, map, codes}
+use Rattle.std.specs.Prelude.{ℕ, ◌<◌, ◌≤◌, ⊤, ◌==◌, nat_lt, nat_le, Bool, true, false, ◌&&◌, if◌then◌else◌, Option, Some, None, Result, Ok, Err, List, [], ◌∷◌, length, map, take, codes}
 use Rattle.std.specs.List.{list_all, list_any, count_by}
 use Rattle.std.specs.Str.{bytes_eq}
 use Rattle.text_rows.specs.Lines.{split_at}
@@ -16,12 +16,15 @@ use Rattle.model_format.specs.Formats.{FormatLines}
 use Rattle.model_system.specs.Formats.{format_of}
 use Rattle.model_system.specs.System.{System}
 use Rattle.model_session.specs.declared.asked.Form.{Form}
-use Rattle.model_session.specs.declared.asked.Form.TheVariants.{Input as InputForm, Screen as ScreenForm, Receive as ReceiveForm, Acknowledge as AcknowledgeForm, Turn as TurnForm, Quiet as QuietForm}
+use Rattle.model_session.specs.declared.asked.Form.TheVariants.{Input as InputForm, Screen as ScreenForm, Receive as ReceiveForm, Acknowledge as AcknowledgeForm, Turn as TurnForm, Quiet as QuietForm, Power as PowerForm, PowerIn as PowerInForm}
 use Rattle.model_session.specs.declared.asked.Asked.{Asked}
-use Rattle.model_session.specs.declared.asked.Asked.TheVariants.{Bad, Stopped, Call, Quiet}
+use Rattle.model_session.specs.declared.asked.Asked.TheVariants.{Bad, Stopped, Call, Quiet, Power, PowerIn, Restart, ColdStart, BadCommand}
 use Rattle.model_session.specs.declared.asked.InputStopped.{InputStopped}
 use Rattle.model_session.specs.declared.asked.InputStopped.TheVariants.{Terminal, Format, Field, TooLong}
 use Rattle.model_session.specs.Numbers.{number_operand, name_operand}
+use Rattle.model_command.specs.declared.command.Command.{Command as OperatorCommand}
+use Rattle.model_command.specs.declared.command.Command.TheVariants.{Checkpoint as TakeCheckpoint, Freeze, EmergencyRestart, NormalRestart, ColdStart as ColdRestart}
+use Rattle.model_command.specs.Commands.{command_of}
 use Rattle.model_session.specs.Blocks.{Block, is_further, is_screen}
 
 -- ---- the form of one line
@@ -80,6 +83,26 @@ unfoldable pub quiet_form : List ℕ → Result Form ℕ
 quiet_form line =
     if operand_count line == 1 then counted (λ n. QuietForm n) (number_operand 1 1000000 (operands line)) else Err 2
 
+-- POWER p
+abbrev pub pick_number : List ℕ → Result ℕ ℕ
+pick_number text = number_operand 0 999999999999 text
+
+-- POWER IN n p
+abbrev pub armed_form : Result (ℕ × ℕ) ℕ → Result Form ℕ
+armed_form (Ok (writes, pick)) = Ok (PowerInForm writes pick)
+armed_form (Err rule) = Err rule
+
+abbrev pub power_in_form : List ℕ → Result Form ℕ
+power_in_form line =
+    if operand_count line == 3
+    then armed_form (both (message_number (first_word (operands (operands line)))) (pick_number (operands (operands (operands line)))))
+    else Err 2
+
+unfoldable pub power_form : List ℕ → Result Form ℕ
+power_form line =
+    if bytes_eq (first_word (operands line)) (codes "IN") then power_in_form line
+    else if operand_count line == 1 then counted (λ p. PowerForm p) (pick_number (operands line)) else Err 2
+
 -- a `+` line that belongs to no line
 unfoldable pub lone_form : List ℕ → Result Form ℕ
 lone_form line = if operand_count line == 0 then Err 2 else Err 5
@@ -93,6 +116,7 @@ form_of regions line =
     else if bytes_eq (first_word line) (codes "RECV") then receive_form line
     else if bytes_eq (first_word line) (codes "ACK") then acknowledge_form line
     else if bytes_eq (first_word line) (codes "QUIET") then quiet_form line
+    else if bytes_eq (first_word line) (codes "POWER") then power_form line
     else if is_further line then lone_form line
     else Err 1
 
@@ -188,11 +212,29 @@ asked_by system block (Ok (ReceiveForm terminal)) = Call (Receive terminal)
 asked_by system block (Ok (AcknowledgeForm terminal number)) = Call (Acknowledge terminal number)
 asked_by system block (Ok (TurnForm region)) = Call (Turn region)
 asked_by system block (Ok (QuietForm most)) = Quiet most
+asked_by system block (Ok (PowerForm pick)) = Power pick
+asked_by system block (Ok (PowerInForm writes pick)) = PowerIn writes pick
 asked_by system block (Err rule) = Bad rule
+
+-- a line that begins with / is an operator's command
+abbrev pub is_command : List ℕ → Bool
+is_command line = bytes_eq (take 1 line) (codes "/")
+
+-- what a command asks for
+abbrev pub command_asked : Result OperatorCommand ℕ → Asked
+command_asked (Ok EmergencyRestart) = Restart
+command_asked (Ok NormalRestart) = Restart
+command_asked (Ok ColdRestart) = ColdStart
+command_asked (Ok TakeCheckpoint) = Call (Checkpoint false)
+command_asked (Ok Freeze) = Call (Checkpoint true)
+command_asked (Ok command) = Call (Command command)
+command_asked (Err rule) = BadCommand rule
 
 -- What a block asks for of a system. A block that breaks a rule asks for nothing.
 unfoldable pub asked_of : System → Block → Asked
-asked_of system block = asked_by system block (block_form (length system.regions) block)
+asked_of system block =
+    if is_command block.line then command_asked (command_of block.line)
+    else asked_by system block (block_form (length system.regions) block)
 
 -- What is asked can be asked of a system with so many regions: an input has a segment, and the region
 -- is there.
@@ -206,3 +248,8 @@ CanAsk regions (Call (Checkpoint freeze)) = ⊤
 CanAsk regions (Quiet most) = ⊤
 CanAsk regions (Stopped terminal number reason) = ⊤
 CanAsk regions (Bad rule) = ⊤
+CanAsk regions (Power pick) = ⊤
+CanAsk regions (PowerIn writes pick) = 1 ≤ writes
+CanAsk regions Restart = ⊤
+CanAsk regions ColdStart = ⊤
+CanAsk regions (BadCommand rule) = ⊤

@@ -1,93 +1,164 @@
--- A session: its blocks, the lives whose entries they stand for, and what is printed.
-use Rattle.std.specs.Prelude.{◌≡◌, ◌⊎◌, ℕ, None, List, [], ◌∷◌, ◌++◌}
+-- A session: for each block of its lines where it leads, and what is printed for it.
+use Rattle.std.specs.Prelude.{◌≡◌, ◌⊎◌, ℕ, Bool, true, false, List, [], ◌∷◌, ◌++◌, length}
 use Rattle.model_machine.specs.declared.entry.Entry.{Entry}
+use Rattle.model_machine.specs.declared.entry.ControlCall.{ControlCall}
+use Rattle.model_machine.specs.declared.entry.ControlCall.TheVariants.{Turn}
 use Rattle.model_system.specs.System.{System}
-use Rattle.model_machine.specs.Machine.{LastingState, Moment, empty_state, start_of}
-use Rattle.model_machine.specs.History.{call_of, after_entry, moment_after, IsLegal}
+use Rattle.model_machine.specs.Machine.{LastingState, empty_state}
+use Rattle.model_machine.specs.History.{May, AreSteps, IsCall, is_fault, call_of}
 use Rattle.model_session.specs.declared.asked.Asked.{Asked}
-use Rattle.model_session.specs.declared.asked.Asked.TheVariants.{Bad, Stopped, Call, Quiet}
+use Rattle.model_session.specs.declared.asked.Asked.TheVariants.{Bad, BadCommand, Stopped, Call, Quiet, Power, PowerIn, Restart, ColdStart}
+use Rattle.model_session.specs.declared.asked.ImageRefused.{ImageRefused}
+use Rattle.model_session.specs.declared.asked.ImageRefused.TheVariants.{Rule, Text as OtherText, Size}
 use Rattle.model_session.specs.Blocks.{Block}
 use Rattle.model_session.specs.Lines.{asked_of}
-use Rattle.model_session.specs.Text.{entry_text, bad_line_text, stopped_text}
-use Rattle.model_session.specs.Turns.{IsQuieted, IsBrokenOff, quieted_text}
+use Rattle.model_session.specs.Text.{entry_text, bad_line_text, bad_command_text, stopped_text, broken_text, power_text, armed_text, up_text, down_text, opened_text, image_text}
+use Rattle.model_session.specs.Turns.{IsQuieted, IsBrokenOff, quieted_text, region_after}
+use Rattle.model_session.specs.Lives.{LastLife, now_in, ends_life}
+use Rattle.model_session.specs.Standing.{Setting, SessionState, Outage, Standing, Stop, no_life, unbegun, gone_on, called_on, ended, broken, opened, failed, MayBeFound, LastAnswered}
+use Rattle.model_session.specs.Standing.Standing.{Up, Down}
 
--- ---- lives
+-- ---- while the system is up
 
--- a life as it is kept: what it opened with, its entries, and after how many lasting steps its state stays
-pub record LifeState : Type 0 where
-  pub opening : LastingState
-  pub history : List Entry
+-- The disk failed in a call, whose entry is the life's last.
+pub record BreaksAt (system : System) (call : ControlCall) (entry : Entry) : Type 0 where
+  pub asked : call_of entry ≡ call
+  pub can : IsCall system call
+  pub fault : is_fault entry ≡ true
+
+-- A call stands for the next entry of the life, which is the machine's answer at its place. It is printed. A freeze ends
+-- the life.
+pub record IsCalled (system : System) (call : ControlCall) (old : SessionState) (life : LastLife) (new : SessionState) (text : List ℕ) : Type 0 where
+  pub entry : Entry
+  pub asked : call_of entry ≡ call
+  pub may : May system (now_in system life) entry
+  pub goes : new ≡ called_on (ends_life entry) old life (entry ∷ [])
+  pub printed : text ≡ entry_text system (now_in system life) entry
+
+-- The disk failed in the call.
+pub record IsCutOff (system : System) (call : ControlCall) (old : SessionState) (life : LastLife) (new : SessionState) (text : List ℕ) : Type 0 where
+  pub entry : Entry
+  pub stop : Stop
+  pub breaks : BreaksAt system call entry
+  pub ends : new ≡ broken old life (entry ∷ []) stop
+  pub printed : text ≡ broken_text
+
+-- QUIET stands for turns, and has one text for all of them.
+pub record IsTurned (system : System) (most : ℕ) (old : SessionState) (life : LastLife) (new : SessionState) (text : List ℕ) : Type 0 where
+  pub turns : List Entry
+  pub steps : AreSteps system (now_in system life) turns
+  pub quieted : IsQuieted most system (now_in system life) turns
+  pub goes : new ≡ gone_on old life turns
+  pub printed : text ≡ quieted_text system (now_in system life) turns
+
+-- The disk failed in one of its turns.
+pub record IsTurnedOff (system : System) (most : ℕ) (old : SessionState) (life : LastLife) (new : SessionState) (text : List ℕ) : Type 0 where
+  pub turns : List Entry
+  pub entry : Entry
+  pub stop : Stop
+  pub steps : AreSteps system (now_in system life) turns
+  pub begun : IsBrokenOff most system (now_in system life) turns
+  pub breaks : BreaksAt system (Turn (region_after system (length turns))) entry
+  pub ends : new ≡ broken old life (turns ++ entry ∷ []) stop
+  pub printed : text ≡ broken_text
+
+-- A bad line, and an input that is refused before it is asked for, have a text of their own and no entry. Where power
+-- fails the life ends. A restart is refused.
+abbrev pub IsServedUp : Asked → Setting → SessionState → LastLife → SessionState → List ℕ → Type 0
+IsServedUp (Bad rule) setting old life new text = (new ≡ old) × (text ≡ bad_line_text rule)
+IsServedUp (BadCommand rule) setting old life new text = (new ≡ old) × (text ≡ bad_command_text rule)
+IsServedUp (Stopped terminal number reason) setting old life new text = (new ≡ old) × (text ≡ stopped_text terminal number reason)
+IsServedUp (Call call) setting old life new text = IsCalled setting.system call old life new text ⊎ IsCutOff setting.system call old life new text
+IsServedUp (Quiet most) setting old life new text = IsTurned setting.system most old life new text ⊎ IsTurnedOff setting.system most old life new text
+IsServedUp (Power pick) setting old life new text = (new ≡ ended old life []) × (text ≡ power_text)
+IsServedUp (PowerIn writes pick) setting old life new text = (new ≡ old) × (text ≡ armed_text setting.can_arm writes)
+IsServedUp Restart setting old life new text = (new ≡ old) × (text ≡ up_text)
+IsServedUp ColdStart setting old life new text = (new ≡ old) × (text ≡ up_text)
+
+-- ---- while it is down
+
+-- what a life opens with: what is found; or in a cold start the empty state, all that was answered counting as kept
+abbrev pub MayOpen : Bool → Setting → Outage → ℕ → LastingState → Type 0
+MayOpen false setting outage kept state = MayBeFound setting outage kept state
+MayOpen true setting outage kept state = (state ≡ empty_state setting.system) × LastAnswered setting.system outage.last kept
+
+-- A life opened. Of a disk that doesn't tell its contents nothing is known.
+pub record Opens (cold : Bool) (setting : Setting) (old : SessionState) (outage : Outage) (new : SessionState) : Type 0 where
   pub kept : ℕ
+  pub state : LastingState
+  pub may : setting.tells ≡ true → MayOpen cold setting outage kept state
+  pub goes : new ≡ opened old outage kept state
 
--- A life of a system that opens so: its history is legal, and no call of it has met a fault yet; all the
--- lasting steps that it has come to are kept.
-pub record IsLife (system : System) (begins : LastingState) (life : LifeState) : Type 0 where
-  pub opening : life.opening ≡ begins
-  pub legal : IsLegal system (start_of system begins) life.history
-  pub faultless : legal.last ≡ None
-  pub kept : life.kept ≡ (moment_after system (start_of system begins) life.history).lasting.steps
+-- The disk failed in the opening.
+pub record FailsToOpen (cold : Bool) (old : SessionState) (outage : Outage) (new : SessionState) : Type 0 where
+  pub stop : Stop
+  pub ends : new ≡ failed old outage cold stop
 
--- ---- blocks
+-- Once a life has begun no rule is broken by a disk that tells its contents.
+abbrev pub MayRefuse : Bool → ImageRefused → Type 0
+MayRefuse tells (Rule rule sector) = tells ≡ false
+MayRefuse tells (OtherText place) = Unit {0}
+MayRefuse tells (Size needed has) = Unit {0}
 
--- Where a session stands: the system is up, at a moment, and these entries of its life lie ahead; or it
--- is down.
-pub data Standing : Type 0 where
-  Up : Moment → List Entry → Standing
-  Down : Standing
+-- The disk can't be opened.
+pub record IsNotOpened (setting : Setting) (old new : SessionState) (text : List ℕ) : Type 0 where
+  pub refusal : ImageRefused
+  pub may : MayRefuse setting.tells refusal
+  pub stays : new ≡ old
+  pub printed : text ≡ image_text refusal
 
--- what holds of a session from where it stands on, of the lives ahead and of the text that is to come
-abbrev pub Onward : Type 1
-Onward = Standing → List LifeState → List ℕ → Type 0
+abbrev pub IsRestarted : Bool → Setting → SessionState → Outage → SessionState → List ℕ → Type 0
+IsRestarted cold setting old outage new text =
+    (Opens cold setting old outage new × (text ≡ opened_text cold))
+    ⊎ (FailsToOpen cold old outage new × (text ≡ broken_text))
+    ⊎ IsNotOpened setting old new text
 
--- One block takes its part off the entries and the text; `Rest` holds of what is left. A bad one, and an
--- input that is refused before it is asked for, have a text of their own and no entry. One that asks for a call
--- stands for the next entry, which answers that call, and has the entry's text. QUIET stands for turns,
--- and has one text for all of them. No block is served while the system is down, as it never is yet.
-abbrev pub IsServedBy : Asked → System → Standing → List LifeState → List ℕ → Onward → Type 0
-IsServedBy (Bad rule) system (Up moment entries) lives text Rest =
-    (later : List ℕ) × (text ≡ bad_line_text rule ++ later) × Rest (Up moment entries) lives later
-IsServedBy (Stopped terminal number reason) system (Up moment entries) lives text Rest =
-    (later : List ℕ) × (text ≡ stopped_text terminal number reason ++ later) × Rest (Up moment entries) lives later
-IsServedBy (Call call) system (Up moment entries) lives text Rest =
-    (entry : Entry) × (others : List Entry) × (later : List ℕ)
-    × (entries ≡ entry ∷ others) × (call_of entry ≡ call) × (text ≡ entry_text system moment entry ++ later)
-    × Rest (Up (after_entry system moment entry) others) lives later
-IsServedBy (Quiet most) system (Up moment entries) lives text Rest =
-    (turns : List Entry) × (others : List Entry) × (later : List ℕ)
-    × (entries ≡ turns ++ others) × IsQuieted most system moment turns × (text ≡ quieted_text system moment turns ++ later)
-    × Rest (Up (moment_after system moment turns) others) lives later
-IsServedBy _ system Down lives text Rest = ⊥
-
--- What may be left of the entries at a moment, when the last block was served.
-abbrev pub Left : Type 1
-Left = Moment → List Entry → Type 0
-
-abbrev pub none_left : Left
-none_left moment entries = entries ≡ []
-
--- From where it stands on the blocks stand for just the entries ahead, in their order, and just this text
--- is printed for them. At the end no life lies ahead.
-abbrev pub AreServed : System → Left → List Block → Standing → List LifeState → List ℕ → Type 0
-AreServed system left [] (Up moment entries) lives text = left moment entries × (lives ≡ []) × (text ≡ [])
-AreServed system left [] Down lives text = ⊥
-AreServed system left (block ∷ blocks) standing lives text =
-    IsServedBy (asked_of system block) system standing lives text (λ after ahead later. AreServed system left blocks after ahead later)
-
--- What stands of the first of these blocks, none of which was served: nothing, but of a QUIET the
--- turns up to where they broke off.
-abbrev pub IsBegunBy : Asked → System → Moment → List Entry → Type 0
-IsBegunBy (Quiet most) system moment entries = (entries ≡ []) ⊎ IsBrokenOff most system moment entries
-IsBegunBy _ system moment entries = entries ≡ []
-
-abbrev pub IsBegun : System → List Block → Left
-IsBegun system [] moment entries = entries ≡ []
-IsBegun system (block ∷ blocks) moment entries = IsBegunBy (asked_of system block) system moment entries
+-- Only a restart is served.
+abbrev pub IsServedDown : Asked → Setting → SessionState → Outage → SessionState → List ℕ → Type 0
+IsServedDown Restart setting old outage new text = IsRestarted false setting old outage new text
+IsServedDown ColdStart setting old outage new text = IsRestarted true setting old outage new text
+IsServedDown _ setting old outage new text = (new ≡ old) × (text ≡ down_text)
 
 -- ---- sessions
 
--- A session of a system: its first life opens with the empty machine, and the blocks stand for it.
-abbrev pub IsDrilled : System → Left → List Block → List LifeState → List ℕ → Type 0
-IsDrilled system left blocks [] text = ⊥
-IsDrilled system left blocks (life ∷ lives) text =
-    IsLife system (empty_state system) life
-    × AreServed system left blocks (Up (start_of system (empty_state system)) life.history) lives text
+-- a block leads from one state of a session to another, and this is printed for it
+abbrev pub ServedBy : Standing → Asked → Setting → SessionState → SessionState → List ℕ → Type 0
+ServedBy (Up life) asked setting old new text = IsServedUp asked setting old life new text
+ServedBy (Down outage) asked setting old new text = IsServedDown asked setting old outage new text
+
+abbrev pub IsServed : Asked → Setting → SessionState → SessionState → List ℕ → Type 0
+IsServed asked setting old new text = ServedBy old.standing asked setting old new text
+
+-- Blocks lead from one to another, and this is printed for them.
+pub record ThenServed (Rest : SessionState → List ℕ → Type 0) (asked : Asked) (setting : Setting) (old : SessionState) (text : List ℕ) : Type 0 where
+  pub mid : SessionState
+  pub first : List ℕ
+  pub later : List ℕ
+  pub here : IsServed asked setting old mid first
+  pub printed : text ≡ first ++ later
+  pub on : Rest mid later
+
+abbrev pub AreServed : Setting → List Block → SessionState → SessionState → List ℕ → Type 0
+AreServed setting [] old new text = (new ≡ old) × (text ≡ [])
+AreServed setting (block ∷ blocks) old new text =
+    ThenServed (λ mid later. AreServed setting blocks mid new later) (asked_of setting.system block) setting old text
+
+-- A session begins with an opening of the disk, which prints nothing.
+abbrev pub Begins : Setting → SessionState → Type 0
+Begins setting first = Opens false setting unbegun no_life first ⊎ FailsToOpen false unbegun no_life first
+
+-- What stands of the first of these blocks, none of which was served: nothing, but of a QUIET the
+-- turns up to where they broke off.
+pub record TurnsBegun (most : ℕ) (system : System) (old : SessionState) (life : LastLife) (new : SessionState) : Type 0 where
+  pub turns : List Entry
+  pub steps : AreSteps system (now_in system life) turns
+  pub begun : IsBrokenOff most system (now_in system life) turns
+  pub goes : new ≡ gone_on old life turns
+
+abbrev pub IsBegunBy : Asked → System → SessionState → Standing → SessionState → Type 0
+IsBegunBy (Quiet most) system old (Up life) new = (new ≡ old) ⊎ TurnsBegun most system old life new
+IsBegunBy _ system old standing new = new ≡ old
+
+abbrev pub IsBegun : System → List Block → SessionState → SessionState → Type 0
+IsBegun system [] old new = new ≡ old
+IsBegun system (block ∷ blocks) old new = IsBegunBy (asked_of system block) system old old.standing new

@@ -1,5 +1,5 @@
 -- What is printed for an entry.
-use Rattle.std.specs.Prelude.{ℕ, suc, Option, Some, None, Result, Ok, Err, List, [], ◌∷◌, ◌++◌, ◌-◌, ◌/◌, Bool, if◌then◌else◌, nat_le, take, drop, slice_get, codes, decimal}
+use Rattle.std.specs.Prelude.{ℕ, suc, Option, Some, None, Result, Ok, Err, List, [], ◌∷◌, ◌++◌, ◌-◌, ◌/◌, Bool, true, false, if◌then◌else◌, nat_le, take, drop, slice_get, codes, decimal}
 use Rattle.std.specs.Option.{option_map_or, option_and_then}
 use Rattle.std.specs.List.{flat_map, list_all, position_or_len}
 use Rattle.tm_types.specs.Function.{function_name}
@@ -39,6 +39,8 @@ use Rattle.model_command.specs.Answers.{answer_text}
 use Rattle.model_machine.specs.declared.entry.Turned.{Turned}
 use Rattle.model_machine.specs.declared.entry.Turned.TheVariants.{Scheduled, Called, Next, QC, Done, Abended, Idle, Held, Waits, Backed}
 use Rattle.model_machine.specs.Machine.{Moment, output_at}
+use Rattle.model_session.specs.declared.asked.ImageRefused.{ImageRefused}
+use Rattle.model_session.specs.declared.asked.ImageRefused.TheVariants.{Rule, Text as ImageText, Size}
 use Rattle.model_session.specs.declared.asked.InputStopped.{InputStopped}
 use Rattle.model_session.specs.declared.asked.InputStopped.TheVariants.{Terminal as StoppedTerminal, Format as StoppedFormat, Field as StoppedField, TooLong}
 use Rattle.model_machine.specs.Lasting.{code_word}
@@ -229,3 +231,36 @@ reason_text (TooLong long) = codes " LENGTH " ++ decimal long ++ codes " 1996"
 
 abbrev pub stopped_text : List ℕ → ℕ → InputStopped → List ℕ
 stopped_text terminal number reason = about (codes "REFUSED") terminal number ++ reason_text reason ++ line_end
+
+-- what is printed for a command that breaks a rule of commands
+abbrev pub bad_command_text : ℕ → List ℕ
+bad_command_text rule = codes "BAD COMMAND " ++ decimal rule ++ line_end
+
+-- what is printed where the disk failed, where power failed, and while the system is down
+abbrev pub broken_text : List ℕ
+broken_text = codes "STOPPED" ++ line_end
+
+abbrev pub power_text : List ℕ
+power_text = codes "POWER" ++ line_end
+
+abbrev pub down_text : List ℕ
+down_text = codes "DOWN" ++ line_end
+
+-- whether a disk was told to stop at the write that comes after so many, counted from 1
+abbrev pub armed_text : Bool → ℕ → List ℕ
+armed_text true writes = codes "ARMED " ++ decimal writes ++ line_end
+armed_text false writes = codes "NOT ARMED" ++ line_end
+
+-- what is printed for a restart: the system was up; a life opened, with the empty machine or not; or the disk
+-- can't be opened
+abbrev pub up_text : List ℕ
+up_text = codes "UP" ++ line_end
+
+abbrev pub opened_text : Bool → List ℕ
+opened_text true = codes "COLD STARTED" ++ line_end
+opened_text false = codes "RESTARTED" ++ line_end
+
+abbrev pub image_text : ImageRefused → List ℕ
+image_text (Rule rule sector) = codes "IMAGE " ++ decimal rule ++ 32 ∷ [] ++ decimal sector ++ line_end
+image_text (ImageText place) = codes "IMAGE TEXT " ++ decimal place ++ line_end
+image_text (Size needed has) = codes "IMAGE SIZE " ++ decimal needed ++ 32 ∷ [] ++ decimal has ++ line_end

@@ -18,6 +18,10 @@ pub enum Form {
     Turn(u32),
     /// So many turns at most, while something is left to do.
     Quiet(u32),
+    /// Power fails now. The number picks what of the writes since the last sync is left.
+    Power(u64),
+    /// Power fails at the write that comes after so many, counted from 1; the other number is the pick.
+    PowerIn(u64, u64),
 }
 
 /// Why an input is refused before the control region is asked for it.
@@ -44,4 +48,25 @@ pub enum Asked {
     Call(ControlCall),
     /// So many turns at most, while something is left to do.
     Quiet(u32),
+    /// Power fails now, with this pick.
+    Power(u64),
+    /// Power fails at the write that comes after so many, counted from 1, with this pick.
+    PowerIn(u64, u64),
+    /// The system is to go on with what the disk recovers to.
+    Restart,
+    /// The system is to begin anew, with the empty machine.
+    ColdStart,
+    /// An operator's command that breaks this rule of commands.
+    BadCommand(u8),
+}
+
+/// Why the disk can't be opened for the system.
+#[derive(Clone, Copy, Debug)]
+pub enum ImageRefused {
+    /// The lowest rule that the image breaks, and of it the lowest sector.
+    Rule(u8, u32),
+    /// The image is of another definition, from this place on.
+    Text(u32),
+    /// So many sectors are needed, and the disk has so many.
+    Size(u32, u32),
 }

@@ -5,6 +5,6 @@
 //! `session_text` prints answers, and `tm_session` drives a session, each by these definitions.
 #![tactic(auto)]
 
-pub use asked::{Asked, Form, InputStopped};
+pub use asked::{Asked, Form, ImageRefused, InputStopped};
 
 mod asked;

@@ -7,7 +7,6 @@ pub use working::Working;
 mod abend;
 mod commanding;
 mod doing;
-mod images;
 mod judging;
 mod places;
 mod replaying;

@@ -10,7 +10,6 @@ ghost use Rattle.record_replay.specs.Working.{IsAt, Comes, IsDone, Waits, waits_
 
 use crate::commanding::{command, ends_none};
 use crate::doing::is_small;
-use crate::images::is_image_of;
 use crate::judging::{are_usual, has_pad_at, has_pad_of, is_plain, is_sound};
 use crate::steps::{accept, acknowledge, discard, ends_plainly, origin_done, sync};
 use crate::waiting::{UnitRecords, push, take};
@@ -21,6 +20,7 @@ use model_conversation::PadChange;
 use std::alloc::Global;
 use system_types::System;
 use tm_types::{AbendCode, LastingCommand, Memory, Message, Name};
+use told_lasting::is_image_of;
 
 /// Does a record of the log again. False: it breaks the rule on such records, and the tables aren't to be used any more.
 pub fn replay_record(

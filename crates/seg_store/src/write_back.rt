@@ -29,7 +29,7 @@ fn write_one<D: Disk>(
     ensures no_fault { OnOk result ((D.state disk.new).faults ≡ (D.state disk.old).faults) }
     ensures cause { OnErr result (FailedSince (D.state disk.old) (D.state disk.new)) }
 {
-    stores[place].write_back(disk, first)
+    stores[place].write_changed(disk, first)
 }
 
 // No slot of one of the stores counts as changed any more.

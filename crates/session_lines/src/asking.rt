@@ -9,6 +9,7 @@ ghost use Rattle.mfs_edit.specs.Answers.{AnswersInput};
 ghost use Rattle.session_lines.specs.Asking.{IsPrintable, IsStop, IsWithin};
 
 use crate::block::{Block, is_screen};
+use crate::commands::{command_asked, is_command};
 use crate::fields::{field_forms, values_in};
 use crate::forms::form_of;
 use crate::rules::{NOT_PRINTABLE, WRONG_OPERANDS};
@@ -31,6 +32,17 @@ pub fn read_block(alloc: Global, system: &System, block: &Block) -> Result<Asked
     ensures asked { IfOk result (λ asked. asked ≡ spec.asked_of system.now block.now) }
     ensures can { IfOk result (spec.CanAsk (length system.now.regions)) }
 {
+    if is_command(block.line()) {
+        return Ok(command_asked(block.line()));
+    }
+    lines_asked(alloc, system, block)
+}
+
+/// What a block asks for that is no command.
+fn lines_asked(alloc: Global, system: &System, block: &Block) -> Result<Asked, Memory>
+    ensures asked { IfOk result (λ asked. asked ≡ spec.asked_by system.now block.now (spec.block_form (length system.now.regions) block.now)) }
+    ensures can { IfOk result (spec.CanAsk (length system.now.regions)) }
+{
     let regions = system.regions().len() as u32;
     let form = match block_form(regions, block) {
         Ok(form) => form,
@@ -45,6 +57,8 @@ pub fn read_block(alloc: Global, system: &System, block: &Block) -> Result<Asked
         }
         Form::Turn(region) => Ok(Asked::Call(ControlCall::Turn(region))),
         Form::Quiet(most) => Ok(Asked::Quiet(most)),
+        Form::Power(pick) => Ok(Asked::Power(pick)),
+        Form::PowerIn(writes, pick) => Ok(Asked::PowerIn(writes, pick)),
     }
 }
 

@@ -1,5 +1,5 @@
 //! The forms of session lines.
-ghost use Rattle.std.specs.Prelude.{◌≡◌, ℕ, IfOk};
+ghost use Rattle.std.specs.Prelude.{◌≡◌, ◌≤◌, ℕ, IfOk};
 ghost use Rattle.model_session.specs.Lines as spec;
 ghost use Rattle.session_lines.specs.Asking.{IsWithin};
 
@@ -18,7 +18,8 @@ const GREATEST_NUMBER: u64 = 999_999_999_999;
 const GREATEST_QUIET: u64 = 1_000_000;
 
 fn message_number(text: &[u8]) -> Result<u64, u8>
-    ensures { result ≡ spec.message_number text.now }
+    ensures value { result ≡ spec.message_number text.now }
+    ensures some { IfOk result (λ number. 1 ≤ number) }
 {
     number_operand(1, GREATEST_NUMBER, text)
 }
@@ -123,6 +124,47 @@ fn quiet_form(line: &[u8]) -> Result<Form, u8>
     }
 }
 
+/// The number that picks what a cut of the disk leaves.
+fn pick_number(text: &[u8]) -> Result<u64, u8>
+    ensures { result ≡ spec.pick_number text.now }
+{
+    number_operand(0, GREATEST_NUMBER, text)
+}
+
+/// `POWER IN n p`
+fn power_in_form(line: &[u8]) -> Result<Form, u8>
+    ensures value { result ≡ spec.power_in_form line.now }
+    ensures within { IfOk result (λ form. (regions : ℕ) → IsWithin regions form) }
+{
+    if operand_count(line) != 3 {
+        return Err(WRONG_OPERANDS);
+    }
+    let behind = operands(operands(line));
+    let writes = message_number(first_word(behind));
+    match both(writes, pick_number(operands(behind))) {
+        Ok((writes, pick)) => Ok(Form::PowerIn(writes, pick)),
+        Err(rule) => Err(rule),
+    }
+}
+
+/// `POWER p`, or `POWER IN n p`
+#[tactic(auto, unfolding(model_session::specs::Lines::power_form))]
+fn power_form(line: &[u8]) -> Result<Form, u8>
+    ensures value { result ≡ spec.power_form line.now }
+    ensures within { IfOk result (λ form. (regions : ℕ) → IsWithin regions form) }
+{
+    if first_word(operands(line)) == b"IN".as_slice() {
+        return power_in_form(line);
+    }
+    if operand_count(line) != 1 {
+        return Err(WRONG_OPERANDS);
+    }
+    match pick_number(operands(line)) {
+        Ok(pick) => Ok(Form::Power(pick)),
+        Err(rule) => Err(rule),
+    }
+}
+
 /// A `+` line that belongs to no line.
 #[tactic(auto, unfolding(model_session::specs::Lines::lone_form))]
 fn lone_form(line: &[u8]) -> Result<Form, u8>
@@ -156,6 +198,8 @@ pub(crate) fn form_of(regions: u32, line: &[u8]) -> Result<Form, u8>
         acknowledge_form(line)
     } else if word == b"QUIET".as_slice() {
         quiet_form(line)
+    } else if word == b"POWER".as_slice() {
+        power_form(line)
     } else if word == b"+".as_slice() {
         lone_form(line)
     } else {

@@ -7,9 +7,11 @@
 
 pub use asking::read_block;
 pub use block::{Block, is_further, takes_further};
+pub use numbers::number_in;
 
 mod asking;
 mod block;
+mod commands;
 mod fields;
 mod forms;
 mod numbers;

@@ -31,7 +31,8 @@ pub(crate) fn number_operand(low: u64, high: u64, text: &[u8]) -> Result<u64, u8
     }
 }
 
-fn number_in(low: u64, high: u64, text: &[u8]) -> Option<u64>
+/// The number that a text writes, where it writes one from low to high.
+pub fn number_in(low: u64, high: u64, text: &[u8]) -> Option<u64>
     ensures value { result ≡ spec.number_in low high text.now }
     ensures within { IfSome result (λ number. (low ≤ number) × (number ≤ high)) }
 {

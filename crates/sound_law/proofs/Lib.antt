@@ -11,3 +11,5 @@ pub mod Pads
 pub mod Works
 pub mod Turns
 pub mod Steps
+pub mod Counts
+pub mod Abends

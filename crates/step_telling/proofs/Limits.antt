@@ -1,7 +1,5 @@
 -- Outputs and pads that records have room for.
-use Rattle.std.proofs.Common.{◌≡◌, ℕ, true, List, [], ◌∷◌, length, arith}
-use Rattle.std.specs.Prelude.{nat_le}
-use Rattle.std.specs.List.{list_all}
+use Rattle.std.proofs.Common.{ℕ, length, arith}
 use Rattle.std.specs.Prelude.{◌≤◌, codes}
 use Rattle.std.proofs.lemmas.List.{length-append}
 use Rattle.tm_types.specs.Name.{IsName}
@@ -9,21 +7,12 @@ use Rattle.tm_types.specs.Commands as command_text
 use Rattle.tm_types.specs.Commands.{name_in}
 use Rattle.tm_types.specs.declared.command.LastingCommand.{LastingCommand}
 use Rattle.tm_types.specs.declared.command.LastingCommand.TheVariants.{StartTransaction, StopTransaction, StartTerminal, StopTerminal, DequeueFirst, DequeueAll, Exit}
-use Rattle.std.proofs.lemmas.Bool.{and_parts, leb-true}
 use Rattle.model_conversation.specs.declared.conversation.PadChange.{PadChange}
 use Rattle.model_conversation.specs.declared.conversation.PadChange.TheVariants.{Stays, New, Ends}
-use Rattle.model_message.specs.declared.ended_message.EndedMessage.{EndedMessage}
 use Rattle.log_records.specs.declared.record.Record.TheVariants.{SyncPoint}
 use Rattle.log_records.specs.Spelling.{IsPadChange, IsShort}
 use Rattle.log_records.proofs.WithLength.{stays_short, ends_short, new_short}
-use Rattle.step_telling.specs.Ranges.{has_count, HaveCounts, HasShortPad}
-
-pub counts_where : (outputs : List EndedMessage) → list_all has_count outputs ≡ true → HaveCounts outputs
-counts_where [] h = tt
-counts_where (output ∷ outputs) h =
-    let parts = and_parts (has_count output) (list_all has_count outputs) h in
-    let own = and_parts (nat_le 1 (length output.segments)) (nat_le (length output.segments) 32) parts.0 in
-    ((leb-true 1 (length output.segments) own.0, leb-true (length output.segments) 32 own.1), counts_where outputs parts.1)
+use Rattle.step_telling.specs.Ranges.{HasShortPad}
 
 pub is_pad_change : (pad : PadChange) → HasShortPad pad → IsPadChange pad
 is_pad_change Stays short = tt

@@ -1,5 +1,5 @@
 -- What a record has room for.
-use Rattle.std.specs.Prelude.{◌≤◌, nat_le, ◌&&◌, Bool, List, length}
+use Rattle.std.specs.Prelude.{◌≤◌, List, length}
 use Rattle.std.specs.List.{AllByRecursion}
 use Rattle.model_conversation.specs.declared.conversation.PadChange.{PadChange}
 use Rattle.model_conversation.specs.declared.conversation.PadChange.TheVariants.{Stays, New, Ends}
@@ -9,10 +9,6 @@ use Rattle.log_records.specs.Spelling.{IsCount}
 -- each output has 1 to 32 segments
 abbrev pub HaveCounts : List EndedMessage → Type 0
 HaveCounts outputs = AllByRecursion (λ output. IsCount output.segments) outputs
-
--- the same as a test
-abbrev pub has_count : EndedMessage → Bool
-has_count output = nat_le 1 (length output.segments) && nat_le (length output.segments) 32
 
 -- the record of a sync point with this pad has at most 65,535 bytes
 abbrev pub HasShortPad : PadChange → Type 0

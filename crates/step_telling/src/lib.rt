@@ -7,9 +7,7 @@ pub use appended::tell;
 pub use bytes::{
     acknowledged_bytes, command_bytes, completion_bytes, discarding_bytes, input_bytes,
 };
-pub use ranges::{have_counts, is_abend};
 
 mod appended;
 mod bytes;
 mod outputs;
-mod ranges;

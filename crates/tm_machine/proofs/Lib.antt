@@ -27,3 +27,4 @@ pub mod Telling
 mod Slotting
 mod Settled
 mod Opened
+pub mod Abends

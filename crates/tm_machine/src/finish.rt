@@ -1,5 +1,8 @@
 //! How a region's work on a message ends.
-ghost use Rattle.std.specs.Prelude.{◌≡◌, IfOk, IfErr, OnOk, OnErr, IsSome, IsSomeAnd};
+ghost use Rattle.std.specs.Prelude.{◌≡◌, IfOk, IfErr, IfSome, OnOk, OnErr, IsSome, IsSomeAnd, IsTrue};
+ghost use Rattle.std.specs.List.{list_all};
+ghost use Rattle.model_script.specs.Programs.{is_statement};
+ghost use Rattle.model_system.specs.Jobs.{job_of};
 ghost use Rattle.model_queues.specs.Queue.{message_at};
 ghost use Rattle.model_machine.specs.declared.entry.ControlCall.TheVariants.{Turn};
 ghost use Rattle.model_machine.specs.Machine.{IsRegion};
@@ -19,7 +22,7 @@ use crate::region::{Busy, count_busy, outputs_by, pad_by, take};
 use lasting_state::{COUNT_LIMIT, Tables, Untold};
 use message_run::Ending;
 use model_machine::Turned;
-use step_telling::{have_counts, is_abend};
+use system_types::System;
 use tm_types::{AbendCode, Name};
 
 impl Parts {
@@ -72,9 +75,6 @@ impl Parts {
         let Ok(outputs) = outputs_by(self.alloc, busy) else {
             return Err(Untold::Memory);
         };
-        if !have_counts(&outputs) {
-            return Err(Untold::Memory);
-        }
         let Ok(pad) = pad_by(self.alloc, busy) else {
             return Err(Untold::Memory);
         };
@@ -125,9 +125,6 @@ impl Parts {
         let Ok(outputs) = outputs_by(self.alloc, busy) else {
             return Err(Untold::Memory);
         };
-        if !have_counts(&outputs) {
-            return Err(Untold::Memory);
-        }
         let Ok(pad) = pad_by(self.alloc, busy) else {
             return Err(Untold::Memory);
         };
@@ -184,9 +181,7 @@ impl Parts {
         let busy = busy_at(&self.regions, region);
         let code = busy.code;
         let id = busy.id;
-        if !is_abend(abend) {
-            return Err(Untold::Memory);
-        }
+        see_program(&self.system, &code);
         let origin = origin_of(&self.tables, id);
         discard(
             self.alloc,
@@ -215,4 +210,16 @@ fn origin_of(tables: &Tables, id: u64) -> Name
         unreachable!()
     };
     message.origin
+}
+
+/// The statements of the program that serves a code are ones that there are; so the number of an abend is one too.
+fn see_program(system: &System, code: &Name)
+    ensures { IfSome (job_of system.now code.now) (λ job. IsTrue (list_all (λ line. is_statement line.statement) job.lines)) }
+{
+    match system.job(code) {
+        Some(job) => {
+            let _lines = job.program.lines();
+        }
+        None => {}
+    }
 }

@@ -1,15 +1,15 @@
--- A run, by its words and its session.
-use Rattle.std.proofs.Common.{◌≡◌, ℕ, List, [], ◌∷◌, sym, subst, refl, inl, inr}
+-- The last line of a run.
+use Rattle.std.proofs.Common.{◌≡◌, ℕ, List, [], ◌∷◌, ◌++◌, codes, sym, subst, refl, inl, inr}
 use Rattle.std.specs.Prelude.{Option, Some, None}
 use Rattle.std.specs.Io.KnownBytes.{append_known}
-use Rattle.memory_control.specs.declared.life.Life.{Life}
+use Rattle.model_disk.specs.Disk.{DiskState}
+use Rattle.model_session.specs.Standing.{Stop}
+use Rattle.control_life.specs.declared.life.Life.{Life}
 use Rattle.tm_edge.specs.Fault.{HasRisen, AppendsFront}
 use Rattle.tm_session.specs.declared.outcome.Ended.{Ended}
-use Rattle.tm_session.specs.declared.outcome.Ended.TheVariants.{Words, Memory}
-use Rattle.tm_session.specs.Outcome.{HasCause}
-use Rattle.tm_session.specs.Headline.{IsSession}
-use Rattle.tm_prog.specs.Words.{WordFault, word_fault, FaultIs}
-use Rattle.tm_prog.specs.Status.{IsByWords, IsRun, IsDrill, IsLastLine, status_text}
+use Rattle.tm_session.specs.declared.outcome.Ended.TheVariants.{Memory}
+use Rattle.tm_prog.specs.Words.{WordFault, word_fault}
+use Rattle.tm_prog.specs.Status.{IsLastLine, IsByWords, IsRun}
 
 -- ---- the last line
 
@@ -27,47 +27,25 @@ last_failed old new (c ∷ line) a b some front risen = inr (front, risen)
 
 pub ruleset last_steps = (last_none, last_written, last_failed)
 
--- ---- what was done before it
+-- ---- a run without memory
 
--- memory was wanting at the beginning
-pub drill_memory : (told old new : Option (List ℕ)) (status : Ended) (lives : List Life) (reads writes writes' : ℕ) → status ≡ Memory → lives ≡ []
-    → IsLastLine old new (status_text Memory) writes writes' → IsDrill told told old new status lives reads reads writes writes'
-drill_memory told old new status lives reads writes writes' same none line =
-    subst (λ s. IsDrill told told old new s lives reads reads writes writes') (sym same)
-    (subst (λ l. IsDrill told told old new Memory l reads reads writes writes') (sym none)
-    (record { before = old; writes = writes; session = (tt, refl); cause = (refl, refl); last = line }))
+never_begun : {D : Type 0} (state : D → DiskState) (fault : Option WordFault) (told old : Option (List ℕ)) (handed disk : D) (lives : List Life) (stops : List Stop) → lives ≡ [] → stops ≡ [] → disk ≡ handed
+    → IsByWords state fault told told old old handed disk Memory lives stops
+never_begun state (Some fault) told old handed disk lives stops no_life no_stop same =
+    record { status_is = inr refl; no_life = no_life; no_stop = no_stop; nothing = refl; same = same }
+never_begun state None told old handed disk lives stops no_life no_stop same =
+    inr (inl (record { unbegun = tt; same = same }), record { no_life = no_life; no_stop = no_stop; nothing = refl })
 
--- a session, and its last line
-pub drill_line : (told left old mid new : Option (List ℕ)) (status : Ended) (lives : List Life) (r r' w w1 w2 : ℕ) (line : List ℕ)
-    → IsSession told left old mid status lives → HasCause status r r' w w1 → line ≡ status_text status → IsLastLine mid new line w1 w2
-    → IsDrill told left old new status lives r r' w w2
-drill_line told left old mid new status lives r r' w w1 w2 line session cause text last =
-    record { before = mid; writes = w1; session = session; cause = cause; last = subst (λ l. IsLastLine mid new l w1 w2) text last }
+abbrev memory_line : List ℕ
+memory_line = codes "STATUS 7 MEMORY" ++ 10 ∷ []
 
-fault_by : (fault : Option WordFault) (told left old : Option (List ℕ)) (word rule : ℕ) → FaultIs fault (Some (word, rule)) → IsByWords fault told left old old (Words word rule) []
-fault_by (Some fault) told left old word rule h = (cc, refl, refl)
-fault_by None told left old word rule h = absurd h
-
--- words that break a rule
-pub run_words : (words : List (List ℕ)) (told old new : Option (List ℕ)) (word rule : ℕ) (status : Ended) (lives : List Life) (reads writes writes' : ℕ)
-    → FaultIs (word_fault words) (Some (word, rule)) → status ≡ Words word rule → lives ≡ []
-    → IsLastLine old new (status_text (Words word rule)) writes writes' → IsRun words told told old new status lives reads reads writes writes'
-run_words words told old new word rule status lives reads writes writes' fault same none line =
-    subst (λ s. IsRun words told told old new s lives reads reads writes writes') (sym same)
-    (subst (λ l. IsRun words told told old new (Words word rule) l reads reads writes writes') (sym none)
-    (record { before = old; writes = writes; session = fault_by (word_fault words) told told old word rule fault; cause = (refl, refl); last = line }))
-
-by_drill : (fault : Option WordFault) (told left old new : Option (List ℕ)) (status : Ended) (lives : List Life) → FaultIs fault None → IsSession told left old new status lives
-    → IsByWords fault told left old new status lives
-by_drill (Some fault) told left old new status lives h session = absurd h
-by_drill None told left old new status lives h session = session
-
-pub run_session : (words : List (List ℕ)) (told left old new : Option (List ℕ)) (status : Ended) (lives : List Life) (r r' w w' : ℕ)
-    → FaultIs (word_fault words) None → IsDrill told left old new status lives r r' w w' → IsRun words told left old new status lives r r' w w'
-run_session words told left old new status lives r r' w w' fault drill = record {
-  before = drill.before;
-  writes = drill.writes;
-  session = by_drill (word_fault words) told left old drill.before status lives fault drill.session;
-  cause = drill.cause;
-  last = drill.last;
-}
+pub no_room : {D : Type 0} (state : D → DiskState) (words : List (List ℕ)) (told old new : Option (List ℕ)) (handed disk : D) (status : Ended) (lives : List Life) (stops : List Stop) (r w w' : ℕ)
+    → status ≡ Memory → lives ≡ [] → stops ≡ [] → disk ≡ handed → IsLastLine old new memory_line w w' → IsRun state words told told old new handed disk status lives stops r r w w'
+no_room state words told old new handed disk status lives stops r w w' is no_life no_stop same last =
+    subst (λ s. IsRun state words told told old new handed disk s lives stops r r w w') (sym is) (record {
+      before = old;
+      writes = w;
+      session = never_begun state (word_fault words) told old handed disk lives stops no_life no_stop same;
+      cause = (refl, refl);
+      last = last;
+    })

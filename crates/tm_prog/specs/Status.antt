@@ -1,13 +1,16 @@
 -- The last line of a session by its status, and what a whole run comes to.
-use Rattle.std.specs.Prelude.{◌≡◌, ℕ, ◌≤◌, ◌++◌, ◌⊎◌, true, Option, Some, None, Result, Ok, Err, List, [], ◌∷◌, length, codes, decimal}
+use Rattle.std.specs.Prelude.{◌≡◌, ℕ, ◌≤◌, ◌++◌, ◌⊎◌, Bool, true, false, Option, Some, None, Result, Ok, Err, List, [], ◌∷◌, length, codes, decimal}
 use Rattle.std.specs.List.{list_all}
 use Rattle.std.specs.Io.KnownBytes.{append_known}
 use Rattle.model_system.specs.System.{System}
-use Rattle.memory_control.specs.declared.life.Life.{Life}
+use Rattle.control_life.specs.declared.life.Life.{Life}
 use Rattle.tm_edge.specs.Fault.{HasRisen, AppendsFront}
 use Rattle.tm_edge.specs.Lines.{cut_lines, lines_of, is_short}
 use Rattle.tm_session.specs.declared.outcome.Ended.{Ended}
-use Rattle.tm_session.specs.declared.outcome.Ended.TheVariants.{Done, Words, BadLine, BadCross, Read, Write, Memory, Limit}
+use Rattle.tm_session.specs.declared.outcome.Ended.TheVariants.{Done, Words, BadLine, BadCross, Down, Read, Write, Image, Memory, Limit, Spent}
+use Rattle.model_session.specs.declared.asked.ImageRefused.TheVariants.{Rule, Text, Size}
+use Rattle.model_session.specs.Standing.{Stop}
+use Rattle.model_disk.specs.Disk.{DiskState}
 use Rattle.sysdef_text.specs.Ends.{definition_lines}
 use Rattle.tm_session.specs.Source.{judged}
 use Rattle.tm_session.specs.Outcome.{HasCause}
@@ -20,10 +23,15 @@ status_text Done = []
 status_text (Words word rule) = codes "STATUS 1 WORD " ++ decimal word ++ codes " RULE " ++ decimal rule ++ 10 ∷ []
 status_text (BadLine line rule) = codes "STATUS 2 LINE " ++ decimal line ++ codes " RULE " ++ decimal rule ++ 10 ∷ []
 status_text (BadCross line rule) = codes "STATUS 2 LINE " ++ decimal line ++ codes " CROSS " ++ decimal rule ++ 10 ∷ []
+status_text Down = codes "STATUS 3 DOWN" ++ 10 ∷ []
+status_text (Image (Rule rule sector)) = codes "STATUS 6 RULE " ++ decimal rule ++ codes " SECTOR " ++ decimal sector ++ 10 ∷ []
+status_text (Image (Text place)) = codes "STATUS 6 TEXT " ++ decimal place ++ 10 ∷ []
+status_text (Image (Size needed has)) = codes "STATUS 6 SIZE " ++ decimal needed ++ 32 ∷ [] ++ decimal has ++ 10 ∷ []
 status_text Read = codes "STATUS 4 READ" ++ 10 ∷ []
 status_text Write = []
 status_text Memory = codes "STATUS 7 MEMORY" ++ 10 ∷ []
 status_text (Limit n) = codes "STATUS 9 LIMIT " ++ decimal n ++ 10 ∷ []
+status_text Spent = codes "STATUS 9 LIMIT 1000000000000000000" ++ 10 ∷ []
 
 -- The last line was written behind the others, and the sink met no fault; or writing it failed, and a
 -- front of it was written. A status without a line writes nothing.
@@ -33,25 +41,25 @@ IsLastLine old new (b ∷ line) faults_old faults_new =
     ((new ≡ append_known old (b ∷ line)) × (faults_new ≡ faults_old))
     ⊎ (AppendsFront old new (b ∷ line) × HasRisen faults_old faults_new)
 
--- Words that break a rule are told, and nothing else is done. Otherwise the session is served.
-abbrev pub IsByWords : Option WordFault → Option (List ℕ) → Option (List ℕ) → Option (List ℕ) → Option (List ℕ) → Ended → List Life → Type 0
-IsByWords (Some fault) told left old new status lives = (status ≡ Words fault.word fault.rule) × (lives ≡ []) × (new ≡ old)
-IsByWords None told left old new status lives = IsSession told left old new status lives
+-- Words that break a rule are told, unless memory is wanting, and nothing else is done.
+pub record IsRefused {D : Type 0} (fault : WordFault) (old new : Option (List ℕ)) (handed disk : D) (status : Ended) (lives : List Life) (stops : List Stop) : Type 0 where
+  pub status_is : (status ≡ Words fault.word fault.rule) ⊎ (status ≡ Memory)
+  pub no_life : lives ≡ []
+  pub no_stop : stops ≡ []
+  pub nothing : new ≡ old
+  pub same : disk ≡ handed
+
+-- Otherwise the session is served.
+abbrev pub IsByWords : {D : Type 0} → (D → DiskState) → Option WordFault → Option (List ℕ) → Option (List ℕ) → Option (List ℕ) → Option (List ℕ) → D → D → Ended → List Life → List Stop → Type 0
+IsByWords state (Some fault) told left old new handed disk status lives stops = IsRefused fault old new handed disk status lives stops
+IsByWords state None told left old new handed disk status lives stops = IsSession state told left old new handed disk status lives stops
 
 -- A run: what the words ask for is done, which has its cause in the counts of faults; and then the status
 -- line is printed, where the status has one.
-pub record IsRun (words : List (List ℕ)) (told left old new : Option (List ℕ)) (status : Ended) (lives : List Life) (reads_old reads_new writes_old writes_new : ℕ) : Type 0 where
+pub record IsRun {D : Type 0} (state : D → DiskState) (words : List (List ℕ)) (told left old new : Option (List ℕ)) (handed disk : D) (status : Ended) (lives : List Life) (stops : List Stop) (reads_old reads_new writes_old writes_new : ℕ) : Type 0 where
   pub before : Option (List ℕ)
   pub writes : ℕ
-  pub session : IsByWords (word_fault words) told left old before status lives
-  pub cause : HasCause status reads_old reads_new writes_old writes
-  pub last : IsLastLine before new (status_text status) writes writes_new
-
--- the same of a session that is served
-pub record IsDrill (told left old new : Option (List ℕ)) (status : Ended) (lives : List Life) (reads_old reads_new writes_old writes_new : ℕ) : Type 0 where
-  pub before : Option (List ℕ)
-  pub writes : ℕ
-  pub session : IsSession told left old before status lives
+  pub session : IsByWords state (word_fault words) told left old before handed disk status lives stops
   pub cause : HasCause status reads_old reads_new writes_old writes
   pub last : IsLastLine before new (status_text status) writes writes_new
 
@@ -65,14 +73,18 @@ abbrev pub judged_status : Result System Ended → Ended
 judged_status (Ok system) = Done
 judged_status (Err ended) = ended
 
--- Where nothing else comes between, the status is that of the definition, or memory was wanting.
-abbrev pub IsComplete : Option (List ℕ) → Ended → Type 0
-IsComplete (Some bytes) status = (status ≡ judged_status (judged (definition_lines (lines_of bytes)))) ⊎ (status ≡ Memory)
-IsComplete None status = Unit {0}
+-- a status that the disk decides: it can't be opened, a counter of it is spent, or it failed
+abbrev pub is_by_disk : Ended → Bool
+is_by_disk Down = true
+is_by_disk (Image refusal) = true
+is_by_disk Spent = true
+is_by_disk _ = false
 
--- the numbers that word faults are told by
-abbrev pub IsPrintable : ℕ → ℕ → Type 0
-IsPrintable word rule = ((word ≡ 1) × (rule ≡ 1)) ⊎ (((word ≡ 1) × (rule ≡ 2)) ⊎ ((word ≡ 2) × (rule ≡ 3)))
+-- Where nothing else comes between, the status is that of the definition; or memory was wanting, or the disk decides it.
+abbrev pub IsComplete : Option (List ℕ) → Ended → Type 0
+IsComplete (Some bytes) status =
+    (status ≡ judged_status (judged (definition_lines (lines_of bytes)))) ⊎ ((status ≡ Memory) ⊎ (is_by_disk status ≡ true))
+IsComplete None status = Unit {0}
 
 -- the number of a status
 abbrev pub status_number : Ended → ℕ
@@ -80,6 +92,9 @@ status_number Done = 0
 status_number (Words word rule) = 1
 status_number (BadLine line rule) = 2
 status_number (BadCross line rule) = 2
+status_number Down = 3
+status_number (Image refusal) = 6
+status_number Spent = 9
 status_number Read = 4
 status_number Write = 5
 status_number Memory = 7

@@ -1,19 +1,46 @@
 -- The words that the program is called with.
-use Rattle.std.specs.Prelude.{◌≡◌, ℕ, ⊤, if◌then◌else◌, Option, Some, None, List, [], ◌∷◌, codes}
+use Rattle.std.specs.Prelude.{◌≡◌, ℕ, suc, ⊤, if◌then◌else◌, Option, Some, None, List, [], ◌∷◌, codes}
+use Rattle.std.specs.Option.{is_some, unwrap_or}
 use Rattle.std.specs.Str.{bytes_eq}
+use Rattle.model_session.specs.Numbers.{number_in}
+use Rattle.tm_prog.specs.declared.words.DiskWords.{DiskWords}
+use Rattle.tm_prog.specs.declared.words.DiskWords.TheVariants.{InMemory, InFile}
 
 -- a word that breaks a rule: its number, counted from 1, and the rule
 pub record WordFault : Type 0 where
   pub word : ℕ
   pub rule : ℕ
 
--- The one word is `drill`. Rule 1: an unknown command; rule 2: a word is missing; rule 3: a word is
--- too many. The first word that breaks a rule counts.
+abbrev pub fault_at : ℕ → ℕ → Option WordFault
+fault_at word rule = Some (record { word = word; rule = rule })
+
+-- The words are `drill MEM n` or `drill FILE path n`. Rule 1: an unknown command, or a word that is neither MEM nor FILE where
+-- one of them must stand; rule 2: a word is missing; rule 3: a word is too many; rule 4: no number of sectors, which is from
+-- 1 to 65,536. The first word that breaks a rule counts.
+abbrev pub sectors_in : List ℕ → Option ℕ
+sectors_in word = number_in 1 65536 word
+
+abbrev pub more_fault : ℕ → List (List ℕ) → Option WordFault
+more_fault number [] = None
+more_fault number (word ∷ words) = fault_at number 3
+
+abbrev pub size_fault : ℕ → List (List ℕ) → Option WordFault
+size_fault number [] = fault_at number 2
+size_fault number (word ∷ words) = if is_some (sectors_in word) then more_fault (suc number) words else fault_at number 4
+
+abbrev pub path_fault : List (List ℕ) → Option WordFault
+path_fault [] = fault_at 3 2
+path_fault (path ∷ words) = size_fault 4 words
+
+abbrev pub disk_fault : List (List ℕ) → Option WordFault
+disk_fault [] = fault_at 2 2
+disk_fault (kind ∷ words) =
+    if bytes_eq kind (codes "MEM") then size_fault 3 words
+    else if bytes_eq kind (codes "FILE") then path_fault words else fault_at 2 1
+
 abbrev pub word_fault : List (List ℕ) → Option WordFault
-word_fault [] = Some (record { word = 1; rule = 2 })
-word_fault (command ∷ []) = if bytes_eq command (codes "drill") then None else Some (record { word = 1; rule = 1 })
-word_fault (command ∷ other ∷ words) =
-    if bytes_eq command (codes "drill") then Some (record { word = 2; rule = 3 }) else Some (record { word = 1; rule = 1 })
+word_fault [] = fault_at 1 2
+word_fault (command ∷ words) = if bytes_eq command (codes "drill") then disk_fault words else fault_at 1 1
 
 -- the word fault as a pair
 abbrev pub FaultIs : Option WordFault → Option (ℕ × ℕ) → Type 0
@@ -21,3 +48,19 @@ FaultIs (Some fault) (Some pair) = (pair.0 ≡ fault.word) × (pair.1 ≡ fault.
 FaultIs None None = ⊤
 FaultIs (Some fault) None = ⊥
 FaultIs None (Some pair) = ⊥
+
+-- ---- the disk
+
+-- The disk that the words ask for: one in memory with so many sectors, or the file that the third word names. Words that
+-- break a rule get none in memory.
+abbrev pub sectors_of : List ℕ → ℕ
+sectors_of word = unwrap_or (sectors_in word) 0
+
+abbrev pub disk_in : List (List ℕ) → DiskWords
+disk_in (command ∷ kind ∷ size ∷ []) = InMemory (sectors_of size)
+disk_in (command ∷ kind ∷ path ∷ size ∷ words) = InFile (sectors_of size)
+disk_in _ = InMemory 0
+
+abbrev pub disk_by : Option WordFault → List (List ℕ) → DiskWords
+disk_by None words = disk_in words
+disk_by (Some fault) words = InMemory 0

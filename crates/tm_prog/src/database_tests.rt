@@ -184,17 +184,17 @@ END
 ";
 
 /// Two accounts are opened.
-const OPENED: &[u8] = b"IN T9 1 OPEN 0001 1000\nIN T9 2 OPEN 0002 1000\nQUIET 100\n";
+pub const OPENED: &[u8] = b"IN T9 1 OPEN 0001 1000\nIN T9 2 OPEN 0002 1000\nQUIET 100\n";
 
-const OPENED_PRINTED: &[u8] = b"ACK T9 1\nACK T9 2\nQUIET 10\n";
+pub const OPENED_PRINTED: &[u8] = b"ACK T9 1\nACK T9 2\nQUIET 10\n";
 
 /// Codes that come to the limits of changed records, of roots and of a record's length.
-const LIMITS: &[u8] = b"IMSCTRL
-DBD NAME=WIDE
+const LIMITS: &[u8] = b"IMSCTRL QBYTES=1048576,LOGS=256
+DBD NAME=WIDE,ROOTS=100
 SEGM NAME=ROOT,PARENT=0,KEY=4,BYTES=4
 DBD NAME=SMALL,ROOTS=2
 SEGM NAME=ROOT,PARENT=0,KEY=4,BYTES=4
-DBD NAME=LONG
+DBD NAME=LONG,ROOTS=100
 SEGM NAME=ROOT,PARENT=0,KEY=4,BYTES=1900
 SEGM NAME=NOTE,PARENT=ROOT,KEY=4,BYTES=1900
 APPLCTN PSB=MANYP
@@ -246,7 +246,7 @@ END
 
 /// A code that sends to a terminal, twice to another code and to its origin; one that begins with ROLB
 /// and asks for a further message; and one that ends with ROLL.
-const OUTPUTS: &[u8] = b"IMSCTRL
+const OUTPUTS: &[u8] = b"IMSCTRL QBYTES=1048576,LOGS=256
 APPLCTN PSB=FANP
 PCB TYPE=TP,LTERM=T2
 PCB TYPE=TP,MODIFY=YES

@@ -2,38 +2,75 @@
 #![tactic(auto)]
 
 ghost use Rattle.std.specs.Prelude.{◌≡◌};
+ghost use Rattle.model_disk.specs.Disk.{Only};
 ghost use Rattle.tm_prog.specs.Status.{status_number};
 
+#[cfg(test)]
+mod command_tests;
 #[cfg(test)]
 mod conversation_tests;
 #[cfg(test)]
 mod database_tests;
 #[cfg(test)]
 mod isolation_tests;
+#[cfg(test)]
+mod outage_tests;
 mod run;
 #[cfg(test)]
 mod screen_tests;
 #[cfg(test)]
 mod tests;
+mod words;
 
 use run::{print_last, run};
+use std::alloc::Global;
 use std::env::FillError;
 use std::process::ExitCode;
 use std::rt::Env;
-use tm_edge::{StdSink, StdSource};
+use tm_disk::{Disk, FileDisk, MemDisk};
+use tm_edge::{Sink, Source, StdSink, StdSource};
 use tm_session::Ended;
 use tm_types::Memory;
+use words::{DiskWords, disk_words};
 
 fn main(rt: HostRuntime) -> ExitCode {
     let alloc = rt.alloc();
     let mut source = StdSource::new(rt.reader());
     let mut sink = StdSink::new(std::io::writer(&rt));
-    let Ok(words) = words(&rt) else {
-        print_last(&mut sink, b"STATUS 7 MEMORY\n");
-        return ExitCode::from(status_number(Ended::Memory));
+    let Ok(words) = called_with(&rt) else {
+        return no_memory(&mut sink);
     };
-    let outcome = run(alloc, &words, &mut source, &mut sink);
+    match disk_words(&words) {
+        DiskWords::InMemory(sectors) => match MemDisk::new(alloc, sectors, Vec::new(alloc)) {
+            Ok(disk) => serve(alloc, &words, &mut source, &mut sink, disk),
+            Err(_) => no_memory(&mut sink),
+        },
+        DiskWords::InFile(sectors) => {
+            let path = words.get(2).map_or("", |word| word.as_str());
+            let disk = FileDisk::open(&rt, path, sectors);
+            serve(alloc, &words, &mut source, &mut sink, disk)
+        }
+    }
+}
+
+/// Serves a session over this disk, and ends with the number of its status.
+fn serve<S: Source, K: Sink, D: Disk + Drop>(
+    alloc: Global,
+    words: &[String],
+    source: &mut S,
+    sink: &mut K,
+    disk: D,
+) -> ExitCode
+    requires only { Only (D.state disk).shown (D.state disk) }
+{
+    let outcome = run(alloc, words, source, sink, disk);
     ExitCode::from(status_number(outcome.status))
+}
+
+/// Tells that there was no memory.
+fn no_memory<K: Sink>(sink: &mut K) -> ExitCode {
+    print_last(sink, b"STATUS 7 MEMORY\n");
+    ExitCode::from(status_number(Ended::Memory))
 }
 
 /// The most bytes of a word that is looked at. A longer one is no word of the grammar.
@@ -44,7 +81,7 @@ const WORD_COUNT: usize = 8;
 
 /// The words that the program is called with, without its own name. One that isn't UTF-8 stands with a mark in place of
 /// what isn't, and a word that is too long as a mark alone, so that neither is a word of the grammar.
-fn words<R: Env + AllocGlobal>(rt: &R) -> Result<Vec<String>, Memory> {
+fn called_with<R: Env + AllocGlobal>(rt: &R) -> Result<Vec<String>, Memory> {
     let alloc = rt.alloc();
     let mut words = Vec::new(alloc);
     let mut bytes = [0; WORD_ROOM];
@@ -66,9 +103,12 @@ fn status_number(status: Ended) -> u8
         Ended::Done => 0,
         Ended::Words(_, _) => 1,
         Ended::BadLine(_, _) | Ended::BadCross(_, _) => 2,
+        Ended::Down => 3,
+        Ended::Image(_) => 6,
         Ended::Read => 4,
         Ended::Write => 5,
         Ended::Memory => 7,
         Ended::Limit(_) => 9,
+        Ended::Spent => 9,
     }
 }

@@ -1,97 +1,100 @@
 //! The top call.
-ghost use Rattle.std.specs.Prelude.{◌≡◌, ◌≤◌, ◌++◌, ◌∷◌, decimal, [], length, map, string_bytes, IsNone, IfSome};
+ghost use Rattle.std.specs.Prelude.{◌≡◌, ◌≤◌, ◌++◌, ◌∷◌, decimal, [], length, map, string_bytes, IsNone};
+ghost use Rattle.model_disk.specs.Disk.{Only};
 ghost use Rattle.tm_edge.specs.Fault.{HasRisen};
-ghost use Rattle.tm_session.specs.Outcome.{IsBack, IsReadToEnd};
-ghost use Rattle.tm_prog.specs.Words.{word_fault, FaultIs};
-ghost use Rattle.tm_prog.specs.Status.{status_text, IsLastLine, IsRun, IsDrill, IsPrintable, IsWithinLimits, IsComplete};
+ghost use Rattle.tm_session.specs.Outcome.{HasCause, IsBack, IsReadToEnd};
+ghost use Rattle.tm_prog.specs.Words.{word_fault};
+ghost use Rattle.tm_prog.specs.Status.{status_text, IsLastLine, IsByWords, IsRun, IsWithinLimits, IsComplete};
 
+use crate::words::find_word_fault;
+use model_session::ImageRefused;
 use session_text::Printed;
 use std::alloc::Global;
+use tm_disk::Disk;
 use tm_edge::{Sink, Source};
-use tm_session::{Ended, Lives, Outcome, drill_session};
+use tm_session::{Ended, Lives, Outcome, Stops, drill_session};
 
 /// The room that the last line needs at most.
 const LAST_ROOM: usize = 128;
 
-/// Serves a session by the words that the program is called with; the one word is `drill`.
+/// Serves a session by the words that the program is called with, which are `drill` and the disk's.
 ///
 /// The source holds a definition and then the lines of the session, whose answers are printed to the
 /// sink; and then the line of the status, where it has one. A status line that can't be written
-/// leaves the status as it is.
+/// leaves the status as it is. The disk is opened behind the definition, and handed back in the end.
 ///
 /// Status 1 comes exactly where the words break a rule, and 2 exactly where the definition breaks
-/// one; 4 and 5 only where the source or the sink failed in this call; 9 where a line has 4,097
-/// bytes or more or is past the millionth; 7 for want of memory. Status 0 says that the source was
+/// one; 3 where the source ended while the system was down by a stop; 4 and 5 only where the source or the sink failed in this
+/// call; 6 where the disk can't be opened and no life has begun; 9 where a line has 4,097
+/// bytes or more or is past the millionth, or a counter is spent; 7 for want of memory. Status 0 says that the source was
 /// read to its end. With every status but 4 and 5 no call over the source or the sink failed, the
 /// writing of the status line apart.
-pub fn run<S: Source, K: Sink>(
+pub fn run<S: Source, K: Sink, D: Disk>(
     alloc: Global,
     words: &[String],
     source: &mut S,
     sink: &mut K,
-) -> Outcome
-    ensures headline { IsRun (map (λ word. string_bytes word) words.now) (S.left source.old) (S.left source.new) (K.written sink.old) (K.written sink.new) result.status result.lives
+    disk: D,
+) -> Outcome<D>
+    requires only { Only (D.state disk).shown (D.state disk) }
+    ensures headline { IsRun D.state (map (λ word. string_bytes word) words.now) (S.left source.old) (S.left source.new) (K.written sink.old) (K.written sink.new) disk result.disk result.status result.lives result.stops
         (S.faults source.old) (S.faults source.new) (K.faults sink.old) (K.faults sink.new) }
     ensures taken { IsBack (S.left source.old) (S.left source.new) }
     ensures whole { IsReadToEnd result.status (S.left source.new) }
 
-    // Where the words are valid, no count rose and no limit is met, the status is that of the definition, or memory was wanting.
+    // Where the words are valid, no count of the source or the sink rose and no limit is met, the status is that of the definition, or memory was wanting, or the disk decides it.
     ensures complete { IsNone (word_fault (map (λ word. string_bytes word) words.now)) →
         ¬ HasRisen (S.faults source.old) (S.faults source.new) → ¬ HasRisen (K.faults sink.old) (K.faults sink.new) →
         IsWithinLimits (S.left source.old) → IsComplete (S.left source.old) result.status }
 {
-    match find_word_fault(words) {
-        Some((word, rule)) => {
-            print_last(sink, word_line(word, rule));
-            unbegun(alloc, Ended::Words(word, rule))
-        }
-        None => run_drill(alloc, source, sink),
-    }
-}
-
-/// An outcome without a life.
-fn unbegun(alloc: Global, status: Ended) -> Outcome
-    ensures status { result.status ≡ status }
-    ensures lives { result.lives ≡ [] }
-{
-    Outcome {
-        status,
-        lives: Lives {
-            items: Vec::new(alloc),
-        },
-    }
-}
-
-/// Serves a session, and prints its last line.
-fn run_drill<S: Source, K: Sink>(alloc: Global, source: &mut S, sink: &mut K) -> Outcome
-    ensures headline { IsDrill (S.left source.old) (S.left source.new) (K.written sink.old) (K.written sink.new) result.status result.lives
-        (S.faults source.old) (S.faults source.new) (K.faults sink.old) (K.faults sink.new) }
-    ensures taken { IsBack (S.left source.old) (S.left source.new) }
-    ensures whole { IsReadToEnd result.status (S.left source.new) }
-{
     let mut line = Printed::new(alloc);
     if line.make_room(LAST_ROOM).is_err() {
         print_last(sink, b"STATUS 7 MEMORY\n");
-        return unbegun(alloc, Ended::Memory);
+        return unbegun(alloc, disk, Ended::Memory);
     }
-    let outcome = drill_session(alloc, source, sink);
+    let outcome = serve(alloc, words, source, sink, disk);
     status_line(&mut line, outcome.status);
     print_last(sink, line.as_slice());
     outcome
 }
 
-/// The first word that breaks a rule, counted from 1, and the rule.
-fn find_word_fault(words: &[String]) -> Option<(u32, u32)>
-    ensures fault { FaultIs (word_fault (map (λ word. string_bytes word) words.now)) result }
-    ensures printable { IfSome result (λ fault. IsPrintable fault.0 fault.1) }
+/// Serves a session, where the words break no rule.
+fn serve<S: Source, K: Sink, D: Disk>(
+    alloc: Global,
+    words: &[String],
+    source: &mut S,
+    sink: &mut K,
+    disk: D,
+) -> Outcome<D>
+    requires only { Only (D.state disk).shown (D.state disk) }
+    ensures session { IsByWords D.state (word_fault (map (λ word. string_bytes word) words.now)) (S.left source.old) (S.left source.new) (K.written sink.old) (K.written sink.new) disk result.disk result.status result.lives result.stops }
+    ensures cause { HasCause result.status (S.faults source.old) (S.faults source.new) (K.faults sink.old) (K.faults sink.new) }
+    ensures taken { IsBack (S.left source.old) (S.left source.new) }
+    ensures whole { IsReadToEnd result.status (S.left source.new) }
 {
-    let Some(command) = words.first() else {
-        return Some((1, 2));
-    };
-    if command.as_bytes() != b"drill".as_slice() {
-        return Some((1, 1));
+    match find_word_fault(words) {
+        Some((word, rule)) => unbegun(alloc, disk, Ended::Words(word, rule)),
+        None => drill_session(alloc, source, sink, disk),
     }
-    if words.len() > 1 { Some((2, 3)) } else { None }
+}
+
+/// An outcome without a life.
+fn unbegun<D: Disk>(alloc: Global, disk: D, status: Ended) -> Outcome<D>
+    ensures status { result.status ≡ status }
+    ensures lives { result.lives ≡ [] }
+    ensures stops { result.stops ≡ [] }
+    ensures disk { result.disk ≡ disk }
+{
+    Outcome {
+        status,
+        disk,
+        lives: Lives {
+            items: Vec::new(alloc),
+        },
+        stops: Stops {
+            items: Vec::new(alloc),
+        },
+    }
 }
 
 /// Prints the last line of a status, where it has one.
@@ -115,6 +118,9 @@ fn status_line(out: &mut Printed, status: Ended)
 {
     match status {
         Ended::Done | Ended::Write => {}
+        Ended::Down => out.push(b"STATUS 3 DOWN\n"),
+        Ended::Image(refusal) => image_status(out, &refusal),
+        Ended::Spent => out.push(b"STATUS 9 LIMIT 1000000000000000000\n"),
         Ended::Words(word, rule) => {
             let (word, rule) = (u64::from(word), u64::from(rule));
             add_two(out, b"STATUS 1 WORD ", word, b" RULE ", rule);
@@ -157,16 +163,24 @@ fn add_limit(out: &mut Printed, n: u64)
     out.push(b"\n");
 }
 
-/// The last line for a word that breaks a rule.
-fn word_line(word: u32, rule: u32) -> &'static [u8]
-    requires { IsPrintable word rule }
-    ensures { result.now ≡ status_text (Ended.Words word rule) }
+/// Adds the last line for a disk that can't be opened.
+fn image_status(out: &mut Printed, refusal: &ImageRefused)
+    requires { LAST_ROOM ≤ out.old.room }
+    ensures { out.new.text ≡ out.old.text ++ status_text (Ended.Image refusal.now) }
 {
-    if rule == 1 {
-        b"STATUS 1 WORD 1 RULE 1\n"
-    } else if rule == 2 {
-        b"STATUS 1 WORD 1 RULE 2\n"
-    } else {
-        b"STATUS 1 WORD 2 RULE 3\n"
+    match refusal {
+        ImageRefused::Rule(rule, sector) => {
+            let (rule, sector) = (u64::from(*rule), u64::from(*sector));
+            add_two(out, b"STATUS 6 RULE ", rule, b" SECTOR ", sector);
+        }
+        ImageRefused::Text(place) => {
+            out.push(b"STATUS 6 TEXT ");
+            out.push_number(u64::from(*place));
+            out.push(b"\n");
+        }
+        ImageRefused::Size(needed, has) => {
+            let (needed, has) = (u64::from(*needed), u64::from(*has));
+            add_two(out, b"STATUS 6 SIZE ", needed, b" ", has);
+        }
     }
 }

@@ -5,7 +5,7 @@ use std::test::Fail;
 
 /// A code that sends each segment to T1 and back, and one that sends to T2. T2 has fields at the four
 /// corners of its screen; T3 has one field, and no output.
-const SCREENS: &[u8] = b"IMSCTRL
+const SCREENS: &[u8] = b"IMSCTRL QBYTES=1048576,LOGS=256
 APPLCTN PSB=SHOWP
 PCB TYPE=TP,LTERM=T1
 TRANSACT CODE=SHOW

@@ -5,10 +5,11 @@ use crate::status_number;
 use std::alloc::{AllocError, Global};
 use std::process::Abort;
 use std::test::Fail;
+use tm_disk::MemDisk;
 use tm_edge::{MemSink, MemSource};
 
 /// Three codes, three terminals and two regions.
-const SYSTEM: &[u8] = b"IMSCTRL QBYTES=1048576,LOGS=256
+pub const SYSTEM: &[u8] = b"IMSCTRL QBYTES=1048576,LOGS=256
 APPLCTN PSB=ECHOP
 TRANSACT CODE=ECHO,PRTY=(5,9,3)
 APPLCTN PSB=SEGSP
@@ -23,7 +24,7 @@ REGION CLASS=(1,2)
 ";
 
 /// The programs of the system, and its end.
-const PROGRAMS: &[u8] = b"PROGRAM ECHOP
+pub const PROGRAMS: &[u8] = b"PROGRAM ECHOP
 CALL GU 0 A
 CALL ISRT 0 A
 END
@@ -56,6 +57,9 @@ pub fn joined(alloc: Global, texts: &[&[u8]]) -> Result<Vec<u8>, AllocError> {
     Ok(all)
 }
 
+/// The words of a session over a disk in memory that is large enough for each of the systems.
+pub const DRILL: &[&str] = &["drill", "MEM", "4096"];
+
 /// Runs a source by these words, over a source and a sink that fail at the listed calls, and compares
 /// the status and what was printed.
 fn expect(
@@ -73,7 +77,8 @@ fn expect(
     let mut source = MemSource::new(bytes.to_vec(alloc)?, fails.0.to_vec(alloc)?);
     let mut sink = MemSink::new(alloc, fails.1.to_vec(alloc)?);
     sink.reserve(8192)?;
-    let outcome = run(alloc, &all, &mut source, &mut sink);
+    let disk = MemDisk::new(alloc, 4096, Vec::new(alloc))?;
+    let outcome = run(alloc, &all, &mut source, &mut sink, disk);
     assert_eq!(rt; status_number(outcome.status), wanted.0);
     assert!(rt; sink.bytes() == wanted.1);
     Ok(())
@@ -86,7 +91,7 @@ pub fn expect_source(
     source: &[u8],
     printed: &[u8],
 ) -> Result<(), Fail> {
-    expect(rt, alloc, &["drill"], source, (&[], &[]), (0, printed))
+    expect(rt, alloc, DRILL, source, (&[], &[]), (0, printed))
 }
 
 /// The same for a session of the system, to its end.
@@ -97,7 +102,7 @@ fn expect_session(
     printed: &[u8],
 ) -> Result<(), Fail> {
     let source = joined(alloc, &[SYSTEM, PROGRAMS, lines])?;
-    expect(rt, alloc, &["drill"], &source, (&[], &[]), (0, printed))
+    expect(rt, alloc, DRILL, &source, (&[], &[]), (0, printed))
 }
 
 #[test]
@@ -183,8 +188,8 @@ fn blocks(rt: HostRuntime) -> Result<(), Fail> {
 fn bad_lines_and_refusals(rt: HostRuntime) -> Result<(), Fail> {
     let table: [(&[u8], &[u8]); 34] = [
         (b"HELP", b"BAD LINE 1\n"),
-        (b"POWER 0", b"BAD LINE 1\n"),
-        (b"/CHECKPOINT", b"BAD LINE 1\n"),
+        (b"POWER", b"BAD LINE 2\n"),
+        (b"POWER IN 0 1", b"BAD LINE 3\n"),
         (b" TURN 1", b"BAD LINE 1\n"),
         (b"TURN", b"BAD LINE 2\n"),
         (b"TURN 1 ", b"BAD LINE 2\n"),
@@ -265,7 +270,7 @@ fn room(rt: HostRuntime) -> Result<(), Fail> {
     )?;
     let printed =
         b"ACK T1 1\nACK T1 2\nREFUSED T1 3 QUEUE FULL 131073 131072\nACK T1 3\nR1 SCHEDULED ECHO 1\nR2 HELD 196608 131072\n";
-    expect(&rt, alloc, &["drill"], &source, (&[], &[]), (0, printed))?;
+    expect(&rt, alloc, DRILL, &source, (&[], &[]), (0, printed))?;
 
     // A segment that is too long is refused before the number is looked at, and behind the terminal.
     let long = long_input(alloc, b"IN T1 7 ", 1, 1997)?;
@@ -278,7 +283,10 @@ fn room(rt: HostRuntime) -> Result<(), Fail> {
 #[test]
 fn lives(rt: HostRuntime) -> Result<(), Fail> {
     let alloc = rt.alloc();
-    let words = vec![in alloc; String::from_str(alloc, "drill")?]?;
+    let mut words = Vec::new(alloc);
+    for word in DRILL {
+        words.push(String::from_str(alloc, word)?)?;
+    }
     // No line leaves a life with an empty history; no definition leaves none.
     for (bytes, lives) in [
         (joined(alloc, &[SYSTEM, PROGRAMS])?, 1),
@@ -287,7 +295,8 @@ fn lives(rt: HostRuntime) -> Result<(), Fail> {
         let mut source = MemSource::new(bytes, Vec::new(alloc));
         let mut sink = MemSink::new(alloc, Vec::new(alloc));
         sink.reserve(100)?;
-        let outcome = run(alloc, &words, &mut source, &mut sink);
+        let disk = MemDisk::new(alloc, 4096, Vec::new(alloc))?;
+        let outcome = run(alloc, &words, &mut source, &mut sink, disk);
         assert_eq!(rt; outcome.lives.items.len(), lives);
         for life in &outcome.lives.items {
             assert_eq!(rt; life.history.len(), 0);
@@ -299,11 +308,22 @@ fn lives(rt: HostRuntime) -> Result<(), Fail> {
 
 #[test]
 fn words(rt: HostRuntime) -> Result<(), Fail> {
-    let table: [(&[&str], &[u8]); 4] = [
+    let table: [(&[&str], &[u8]); 12] = [
         (&[], b"STATUS 1 WORD 1 RULE 2\n"),
-        (&["drll"], b"STATUS 1 WORD 1 RULE 1\n"),
-        (&["drill", "MEM"], b"STATUS 1 WORD 2 RULE 3\n"),
-        (&["run", "MEM"], b"STATUS 1 WORD 1 RULE 1\n"),
+        (&["drll", "MEM", "9"], b"STATUS 1 WORD 1 RULE 1\n"),
+        (&["drill"], b"STATUS 1 WORD 2 RULE 2\n"),
+        (&["drill", "DISK", "9"], b"STATUS 1 WORD 2 RULE 1\n"),
+        (&["drill", "MEM"], b"STATUS 1 WORD 3 RULE 2\n"),
+        (&["drill", "MEM", "x", "9"], b"STATUS 1 WORD 3 RULE 4\n"),
+        (&["drill", "MEM", "0"], b"STATUS 1 WORD 3 RULE 4\n"),
+        (&["drill", "MEM", "65537"], b"STATUS 1 WORD 3 RULE 4\n"),
+        (&["drill", "MEM", "9", "9"], b"STATUS 1 WORD 4 RULE 3\n"),
+        (&["drill", "FILE"], b"STATUS 1 WORD 3 RULE 2\n"),
+        (&["drill", "FILE", "disk"], b"STATUS 1 WORD 4 RULE 2\n"),
+        (
+            &["drill", "FILE", "disk", "9", "9"],
+            b"STATUS 1 WORD 5 RULE 3\n",
+        ),
     ];
     for (words, printed) in &table {
         expect(&rt, rt.alloc(), words, FIRST, (&[], &[]), (1, printed))?;
@@ -341,7 +361,7 @@ fn definitions(rt: HostRuntime) -> Result<(), Fail> {
         (b"IMSCTRL\nEND\r", b"STATUS 2 LINE 2 RULE 1\n"),
     ];
     for (source, printed) in &table {
-        expect(&rt, alloc, &["drill"], source, (&[], &[]), (2, printed))?;
+        expect(&rt, alloc, DRILL, source, (&[], &[]), (2, printed))?;
     }
     // A definition has 262,144 bytes at most: 8 of the first line, and 1,024 of each further one.
     let mut long = b"IMSCTRL\n".to_vec(alloc)?;
@@ -352,7 +372,7 @@ fn definitions(rt: HostRuntime) -> Result<(), Fail> {
         long.push(b'\n')?;
     }
     let printed = b"STATUS 2 LINE 257 RULE 12\n";
-    expect(&rt, alloc, &["drill"], &long, (&[], &[]), (2, printed))
+    expect(&rt, alloc, DRILL, &long, (&[], &[]), (2, printed))
 }
 
 #[test]
@@ -361,12 +381,12 @@ fn faults(rt: HostRuntime) -> Result<(), Fail> {
     let source = joined(alloc, &[SYSTEM, PROGRAMS, FIRST])?;
     // The first `take` fails, and then the second, which asks for the end.
     let read = b"STATUS 4 READ\n";
-    expect(&rt, alloc, &["drill"], &source, (&[1], &[]), (4, read))?;
+    expect(&rt, alloc, DRILL, &source, (&[1], &[]), (4, read))?;
     let all = joined(alloc, &[FIRST_PRINTED, read])?;
-    expect(&rt, alloc, &["drill"], &source, (&[2], &[]), (4, &all))?;
+    expect(&rt, alloc, DRILL, &source, (&[2], &[]), (4, &all))?;
     // An input that may still have `+` lines is not served where reading fails.
     let open = joined(alloc, &[SYSTEM, PROGRAMS, b"IN T1 1 ECHO A\n+ B\n"])?;
-    expect(&rt, alloc, &["drill"], &open, (&[2], &[]), (4, read))?;
+    expect(&rt, alloc, DRILL, &open, (&[2], &[]), (4, read))?;
     // The k-th `put` fails: the lines before it were written.
     for (k, end) in [
         (1u64, 0usize),
@@ -380,7 +400,7 @@ fn faults(rt: HostRuntime) -> Result<(), Fail> {
         let Some(before) = FIRST_PRINTED.get(..end) else {
             return Err(Fail::from("the places are wrong"));
         };
-        expect(&rt, alloc, &["drill"], &source, (&[], &[k]), (5, before))?;
+        expect(&rt, alloc, DRILL, &source, (&[], &[k]), (5, before))?;
     }
     Ok(())
 }
@@ -395,17 +415,17 @@ fn limits(rt: HostRuntime) -> Result<(), Fail> {
     // A line that is too long, in a definition and in a session, where it leaves an input unserved.
     let limit = b"STATUS 9 LIMIT 4097\n";
     let source = joined(alloc, &[SYSTEM, &long])?;
-    expect(&rt, alloc, &["drill"], &source, (&[], &[]), (9, limit))?;
+    expect(&rt, alloc, DRILL, &source, (&[], &[]), (9, limit))?;
     let lines = b"TURN 1\nIN T1 1 ECHO A\n";
     let source = joined(alloc, &[SYSTEM, PROGRAMS, lines, &long])?;
     let printed = b"R1 IDLE\nSTATUS 9 LIMIT 4097\n";
-    expect(&rt, alloc, &["drill"], &source, (&[], &[]), (9, printed))?;
+    expect(&rt, alloc, DRILL, &source, (&[], &[]), (9, printed))?;
     // The lines of the definition count.
     let definition = joined(alloc, &[SYSTEM, PROGRAMS])?;
     let many = vec![in alloc; b'\n'; 999_972]?;
     let source = joined(alloc, &[&definition, &many])?;
-    expect(&rt, alloc, &["drill"], &source, (&[], &[]), (0, b""))?;
+    expect(&rt, alloc, DRILL, &source, (&[], &[]), (0, b""))?;
     let source = joined(alloc, &[&definition, &many, b"\n"])?;
     let printed = b"STATUS 9 LIMIT 1000001\n";
-    expect(&rt, alloc, &["drill"], &source, (&[], &[]), (9, printed))
+    expect(&rt, alloc, DRILL, &source, (&[], &[]), (9, printed))
 }

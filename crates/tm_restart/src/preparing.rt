@@ -185,6 +185,7 @@ pub(crate) fn prepare(
     let Reread {
         replayed,
         next_sequence,
+        ..
     } = reread;
     let Named { given, loaded } = named;
     let unit = next_unit(&replayed);

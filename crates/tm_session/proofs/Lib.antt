@@ -1,9 +1,9 @@
-pub mod Begun
-pub mod Turned
 pub mod Driven
+pub mod Reading
 pub mod Steps
 pub mod Taking
-pub mod Reading
+pub mod Begun
+pub mod Endings
+pub mod Judging
 pub mod Opened
 pub mod Whole
-pub mod Answered

@@ -7,13 +7,15 @@ use Rattle.model_session.specs.Blocks.{Block}
 use Rattle.tm_edge.specs.Lines.{CutLine, HasServed, IsTooLong, ServesTold, unread, cut_lines, lines_of, line_size, line_text, behind_line, is_short}
 use Rattle.tm_edge.proofs.ServedSoFar.{none_served, one_served, long_first}
 use Rattle.tm_session.specs.declared.outcome.Ended.{Ended}
-use Rattle.tm_session.specs.declared.outcome.Ended.TheVariants.{Done, Words, BadLine, BadCross, Read, Write, Memory, Limit}
+use Rattle.tm_session.specs.declared.outcome.Ended.TheVariants.{Done, Words, BadLine, BadCross, Down, Read, Write, Image, Memory, Limit, Spent}
 use Rattle.std.specs.Prelude.{◌||◌, nat_lt}
 use Rattle.std.proofs.lemmas.Bool.Decides.{nat_tests}
 use Rattle.sysdef_text.specs.Ends.{is_end, ends_definition, stays_inside, definition_from, behind_from, definition_lines, lines_behind}
-use Rattle.tm_session.specs.Outcome.{texts_of, ending_of, AreSettled, IsAtLimit, HasRead, HasReadTold}
+use Rattle.tm_session.specs.Outcome.{texts_of, ending_of, AreSettled, IsAtLimit}
+use Rattle.tm_session.specs.Sources.{HasRead, HasReadTold}
 use Rattle.tm_session.specs.Driving.{may_pass, ReadsSession, ReadsTold}
-use Rattle.tm_session.specs.Opening.{IsUnread, ReadsLines, ReadsDefinition, IsCutShort, StopsBefore, ReadsSome, DefinitionSoFar}
+use Rattle.tm_session.specs.Unread.{IsUnread}
+use Rattle.tm_session.specs.Opening.{ReadsLines, ReadsDefinition, IsCutShort, StopsBefore, ReadsSome, DefinitionSoFar}
 use Rattle.tm_session.proofs.Reading.{told_behind, texts_twice}
 
 texts_line : (bytes rest line : List ℕ) (size : ℕ) → cut_lines bytes ≡ record { text = line; size = size } ∷ cut_lines rest → lines_of bytes ≡ line ∷ lines_of rest
@@ -136,6 +138,9 @@ reading_stops Write told now texts inside room held r r' far h = absurd h
 reading_stops (Words word rule) told now texts inside room held r r' far h = absurd h
 reading_stops (BadLine line rule) told now texts inside room held r r' far h = absurd h
 reading_stops (BadCross line rule) told now texts inside room held r r' far h = absurd h
+reading_stops Down told now texts inside room held r r' far h = absurd h
+reading_stops Spent told now texts inside room held r r' far h = absurd h
+reading_stops (Image refusal) told now texts inside room held r r' far h = absurd h
 
 -- ---- a definition and a session
 

@@ -2,16 +2,17 @@
 use Rattle.std.proofs.Common.{◌≡◌, ◌≢◌, ◌⊎◌, ℕ, ◌+◌, ◌≤◌, ◌<◌, Bool, true, false, List, [], ◌∷◌, ◌++◌, length, sym, ◌∙◌, ap, subst, refl, arith, append_assoc, length-append, inl, inr}
 use Rattle.std.proofs.lemmas.List.{append-nil}
 use Rattle.std.specs.Prelude.{Option, Some, None, IfSome, MatchOption}
-use Rattle.model_machine.specs.History.{ControlState}
+use Rattle.model_session.specs.Standing.{Setting, SessionState}
+use Rattle.model_session.specs.declared.asked.ImageRefused.{ImageRefused}
 use Rattle.model_session.specs.Blocks.{Block, blocks_of, blocks_behind, closed}
 use Rattle.tm_edge.specs.Fault.{HasRisen}
 use Rattle.tm_edge.specs.Lines.{CutLine, IsTooLong, ServesTold, line_size}
 use Rattle.tm_edge.proofs.ServedSoFar.{none_served, one_served}
 use Rattle.tm_session.specs.declared.outcome.Ended.{Ended}
-use Rattle.tm_session.specs.declared.outcome.Ended.TheVariants.{Done, Words, BadLine, BadCross, Read, Write, Memory, Limit}
-use Rattle.tm_session.specs.Outcome.{ending_of, texts_of, AreSettled, IsLimit, IsAtLimit, IsBack, IsReadToEnd, HasCause}
-use Rattle.tm_session.specs.Outcome.Ending.{Stopped, NotBegun}
-use Rattle.tm_session.specs.Opening.{IsUnread}
+use Rattle.tm_session.specs.declared.outcome.Ended.TheVariants.{Done, Words, BadLine, BadCross, Down, Read, Write, Image, Memory, Limit, Spent}
+use Rattle.tm_session.specs.Outcome.{ending_of, texts_of, is_undone, AreSettled, IsLimit, IsAtLimit, IsBack, IsReadToEnd, HasCause}
+use Rattle.tm_session.specs.Outcome.Ending.{Whole, Stopped, NotBegun}
+use Rattle.tm_session.specs.Unread.{IsUnread}
 use Rattle.tm_session.specs.Driving.{Stops, Goes, Ends, EndsWhole, IsBroken, AreClosed, ahead_with, kept_blocks, may_pass, IsBehind, behind_last, StopsBetween, StopsAt, StopsWhole, StopsLast, StopsHere, Steps, ReadSoFar, SoFar, ReadsTold, HasDriven}
 use Rattle.tm_session.proofs.Driven.{serves_none, serves_twice, serves_stops, stops_none}
 use Rattle.tm_session.proofs.Steps.{open_last}
@@ -19,16 +20,16 @@ use Rattle.tm_session.proofs.Taking.{back_same, back_served}
 
 -- ---- one line
 
-pub next_step : (result : Option Ended) (told told' : Option (List ℕ)) (pending after : Option Block) (line : List ℕ) (w w' : Option (List ℕ)) (a b : ControlState)
+pub next_step : (setting : Setting) (result : Option Ended) (told told' : Option (List ℕ)) (pending after : Option Block) (line : List ℕ) (w w' : Option (List ℕ)) (a b : SessionState)
     → ServesTold told (Some line) told'
-    → MatchOption result (Goes pending line after w w' a b) (λ ended. Ends ended pending line w w' a b)
-    → MatchOption result (Steps told told' pending after w w' a b) (λ ended. (count : ℕ) → count < 1000000 → StopsHere count ended told told' pending w w' a b)
-next_step None told told' pending after line w w' a b serves step = record { line = line; read = serves; goes = step }
-next_step (Some ended) told told' pending after line w w' a b serves step = λ count below. inr (record { line = line; read = serves; ends = step })
+    → MatchOption result (Goes setting pending line after w w' a b) (λ ended. Ends setting ended pending line w w' a b)
+    → MatchOption result (Steps setting told told' pending after w w' a b) (λ ended. (count : ℕ) → count < 1000000 → StopsHere setting count ended told told' pending w w' a b)
+next_step setting None told told' pending after line w w' a b serves step = record { line = line; read = serves; goes = step }
+next_step setting (Some ended) told told' pending after line w w' a b serves step = λ count below. inr (record { line = line; read = serves; ends = step })
 
-pub stops_whole : (ended : Ended) (told told' : Option (List ℕ)) (pending : Option Block) (w w' : Option (List ℕ)) (a b : ControlState)
-    → ServesTold told None told' → EndsWhole ended pending w w' a b → (count : ℕ) → StopsLast count ended told told' pending w w' a b
-stops_whole ended told told' pending w w' a b serves ends count = inr (record { read = serves; ends = ends })
+pub stops_whole : (setting : Setting) (ended : Ended) (told told' : Option (List ℕ)) (pending : Option Block) (w w' : Option (List ℕ)) (a b : SessionState)
+    → ServesTold told None told' → EndsWhole setting ended pending w w' a b → (count : ℕ) → StopsLast setting count ended told told' pending w w' a b
+stops_whole setting ended told told' pending w w' a b serves ends count = inr (record { read = serves; ends = ends })
 
 -- ---- no line
 
@@ -40,7 +41,7 @@ too_long_at : (n count : ℕ) (told : Option (List ℕ)) → n ≡ 4097 → coun
 too_long_at n count (Some rest) number below long = inl (number, below, long)
 too_long_at n count None number below long = tt
 
-pub unread_between : (ended : Ended) (told told' : Option (List ℕ)) (held : List ℕ) (r r' : ℕ) (w : Option (List ℕ)) (a : ControlState)
+pub unread_between : (ended : Ended) (told told' : Option (List ℕ)) (held : List ℕ) (r r' : ℕ) (w : Option (List ℕ)) (a : SessionState)
     → told' ≡ told → IsUnread ended told held r r' → (count : ℕ) → count < 1000000 → StopsBetween count ended told told' w w a a
 unread_between Read told told' held r r' w a same h count below = record { stopped = inl refl; behind = same; limit = none_at told; printed = refl; same = refl }
 unread_between Memory told told' held r r' w a same h count below = record { stopped = inr refl; behind = same; limit = none_at told; printed = refl; same = refl }
@@ -51,6 +52,9 @@ unread_between Write told told' held r r' w a same h count below = absurd h
 unread_between (Words word rule) told told' held r r' w a same h count below = absurd h
 unread_between (BadLine line rule) told told' held r r' w a same h count below = absurd h
 unread_between (BadCross line rule) told told' held r r' w a same h count below = absurd h
+unread_between Down told told' held r r' w a same h count below = absurd h
+unread_between Spent told told' held r r' w a same h count below = absurd h
+unread_between (Image refusal) told told' held r r' w a same h count below = absurd h
 
 some_bytes : (bytes : List ℕ) → 0 < length bytes → bytes ≢ []
 some_bytes [] h = absurd (omega (arith, h))
@@ -70,7 +74,7 @@ line_at (Some rest) None line serves = absurd serves
 line_at None told' line serves = tt
 
 -- behind the last line that there may be
-pub last_between : (ended : Ended) (told told' : Option (List ℕ)) (held : List ℕ) (r r' : ℕ) (w : Option (List ℕ)) (a : ControlState)
+pub last_between : (ended : Ended) (told told' : Option (List ℕ)) (held : List ℕ) (r r' : ℕ) (w : Option (List ℕ)) (a : SessionState)
     → told' ≡ told → IsUnread ended told held r r' → StopsBetween 1000000 (behind_last ended) told told' w w a a
 last_between Read told told' held r r' w a same h = record { stopped = inl refl; behind = same; limit = none_at told; printed = refl; same = refl }
 last_between Memory told told' held r r' w a same h = record { stopped = inr refl; behind = same; limit = none_at told; printed = refl; same = refl }
@@ -81,8 +85,11 @@ last_between Write told told' held r r' w a same h = absurd h
 last_between (Words word rule) told told' held r r' w a same h = absurd h
 last_between (BadLine line rule) told told' held r r' w a same h = absurd h
 last_between (BadCross line rule) told told' held r r' w a same h = absurd h
+last_between Down told told' held r r' w a same h = absurd h
+last_between Spent told told' held r r' w a same h = absurd h
+last_between (Image refusal) told told' held r r' w a same h = absurd h
 
-pub past_between : (told told' : Option (List ℕ)) (line : List ℕ) (w : Option (List ℕ)) (a : ControlState)
+pub past_between : (told told' : Option (List ℕ)) (line : List ℕ) (w : Option (List ℕ)) (a : SessionState)
     → ServesTold told (Some line) told' → StopsBetween 1000000 (Limit 1000001) told told' w w a a
 past_between told told' line w a serves =
     record { stopped = inl refl; behind = back_served told (Some line) told' serves; limit = line_at told told' line serves; printed = refl; same = refl }
@@ -98,6 +105,9 @@ unread_cause Write told held r r' w h = absurd h
 unread_cause (Words word rule) told held r r' w h = absurd h
 unread_cause (BadLine line rule) told held r r' w h = absurd h
 unread_cause (BadCross line rule) told held r r' w h = absurd h
+unread_cause Down told held r r' w h = absurd h
+unread_cause Spent told held r r' w h = absurd h
+unread_cause (Image refusal) told held r r' w h = absurd h
 
 pub last_cause : (ended : Ended) (told : Option (List ℕ)) (held : List ℕ) (r r' w : ℕ) → IsUnread ended told held r r' → HasCause (behind_last ended) r r' w w
 last_cause Read told held r r' w h = (h, refl)
@@ -108,6 +118,9 @@ last_cause Write told held r r' w h = absurd h
 last_cause (Words word rule) told held r r' w h = absurd h
 last_cause (BadLine line rule) told held r r' w h = absurd h
 last_cause (BadCross line rule) told held r r' w h = absurd h
+last_cause Down told held r r' w h = absurd h
+last_cause Spent told held r r' w h = absurd h
+last_cause (Image refusal) told held r r' w h = absurd h
 
 pub last_whole : (ended : Ended) (told : Option (List ℕ)) (held : List ℕ) (r r' : ℕ) (left : Option (List ℕ)) → IsUnread ended told held r r' → IsReadToEnd (behind_last ended) left
 last_whole Read told held r r' left h = tt
@@ -118,6 +131,9 @@ last_whole Write told held r r' left h = absurd h
 last_whole (Words word rule) told held r r' left h = absurd h
 last_whole (BadLine line rule) told held r r' left h = absurd h
 last_whole (BadCross line rule) told held r r' left h = absurd h
+last_whole Down told held r r' left h = absurd h
+last_whole Spent told held r r' left h = absurd h
+last_whole (Image refusal) told held r r' left h = absurd h
 
 pub unread_whole : (ended : Ended) (told : Option (List ℕ)) (held : List ℕ) (r r' : ℕ) (left : Option (List ℕ)) → IsUnread ended told held r r' → IsReadToEnd ended left
 unread_whole Read told held r r' left h = tt
@@ -128,6 +144,9 @@ unread_whole Write told held r r' left h = absurd h
 unread_whole (Words word rule) told held r r' left h = absurd h
 unread_whole (BadLine line rule) told held r r' left h = absurd h
 unread_whole (BadCross line rule) told held r r' left h = absurd h
+unread_whole Down told held r r' left h = absurd h
+unread_whole Spent told held r r' left h = absurd h
+unread_whole (Image refusal) told held r r' left h = absurd h
 
 no_rise : HasRisen 0 0 → ⊥
 no_rise (inl less) = omega (arith, less)
@@ -143,14 +162,34 @@ sink_cause Done r r' w w' same h = (same, h.1)
 sink_cause (Words word rule) r r' w w' same h = (same, h.1)
 sink_cause (BadLine line rule) r r' w w' same h = (same, h.1)
 sink_cause (BadCross line rule) r r' w w' same h = (same, h.1)
+sink_cause Down r r' w w' same h = (same, h.1)
+sink_cause Spent r r' w w' same h = (same, h.1)
+sink_cause (Image refusal) r r' w w' same h = (same, h.1)
 
--- by the two ways to break off
-broken_cases : (P : Ended → Type 0) (ended : Ended) → IsBroken ended → P Write → P Memory → P ended
-broken_cases P ended (inl same) write memory = subst P (sym same) write
-broken_cases P ended (inr same) write memory = subst P (sym same) memory
+-- by the ways to break off
+undone_cases : (P : Ended → Type 0) (ended : Ended) → is_undone ended ≡ true → P Memory → P Spent → ((refusal : ImageRefused) → P (Image refusal)) → P ended
+undone_cases P Memory undone memory spent image = memory
+undone_cases P Spent undone memory spent image = spent
+undone_cases P (Image refusal) undone memory spent image = image refusal
+undone_cases P Done undone memory spent image = cc
+undone_cases P Down undone memory spent image = cc
+undone_cases P Read undone memory spent image = cc
+undone_cases P Write undone memory spent image = cc
+undone_cases P (Limit n) undone memory spent image = cc
+undone_cases P (Words word rule) undone memory spent image = cc
+undone_cases P (BadLine line rule) undone memory spent image = cc
+undone_cases P (BadCross line rule) undone memory spent image = cc
+
+broken_cases : (P : Ended → Type 0) (ended : Ended) → IsBroken ended → P Write → P Memory → P Spent → ((refusal : ImageRefused) → P (Image refusal)) → P ended
+broken_cases P ended (inl same) write memory spent image = subst P (sym same) write
+broken_cases P ended (inr undone) write memory spent image = undone_cases P ended undone memory spent image
 
 pub broken_whole : (ended : Ended) (left : Option (List ℕ)) → IsBroken ended → IsReadToEnd ended left
-broken_whole ended left broken = broken_cases (λ s. IsReadToEnd s left) ended broken tt tt
+broken_whole ended left broken = broken_cases (λ s. IsReadToEnd s left) ended broken tt tt tt (λ refusal. tt)
+
+pub broken_unread : (ended : Option Ended) (left : Option (List ℕ)) → IfSome ended IsBroken → IfSome ended (λ ended. IsReadToEnd ended left)
+broken_unread None left broken = tt
+broken_unread (Some ended) left broken = broken_whole ended left broken
 
 -- ---- a session so far
 
@@ -162,8 +201,8 @@ read_start : (before : ℕ) (told : Option (List ℕ)) → ReadSoFar before befo
 read_start before (Some bytes) = record { cut = []; counted = omega arith; served = none_served bytes; split = λ lines. refl }
 read_start before None = refl
 
-pub so_far_start : (before : ℕ) (told w : Option (List ℕ)) (a : ControlState) → SoFar before before told told None w w a a
-so_far_start before told w a = record { blocks = []; serves = serves_none w a; read = read_start before told; shut = refl }
+pub so_far_start : (setting : Setting) (before : ℕ) (told w : Option (List ℕ)) (a : SessionState) → SoFar setting before before told told None w w a a
+so_far_start setting before told w a = record { blocks = []; serves = serves_none setting w a; read = read_start before told; shut = refl }
 
 split_line : (cut : List CutLine) (line : List ℕ) (size : ℕ) (pending : Option Block) (blocks : List Block) (lines : List (List ℕ))
     → ((more : List (List ℕ)) → blocks_of (texts_of cut ++ more) ≡ blocks ++ blocks_behind pending (blocks_of more))
@@ -186,11 +225,11 @@ read_next before count (Some bytes) None after line p q xs ys far serves split =
 read_next before count None None after line p q xs ys far serves split = serves
 read_next before count None (Some rest) after line p q xs ys far serves split = cc
 
-pub so_far_next : (before count : ℕ) (told now after : Option (List ℕ)) (p q : Option Block) (w w1 w2 : Option (List ℕ)) (a b c : ControlState)
-    → SoFar before count told now p w w1 a b → Steps now after p q w1 w2 b c → SoFar before (count + 1) told after q w w2 a c
-so_far_next before count told now after p q w w1 w2 a b c far one = record {
+pub so_far_next : (setting : Setting) (before count : ℕ) (told now after : Option (List ℕ)) (p q : Option Block) (w w1 w2 : Option (List ℕ)) (a b c : SessionState)
+    → SoFar setting before count told now p w w1 a b → Steps setting now after p q w1 w2 b c → SoFar setting before (count + 1) told after q w w2 a c
+so_far_next setting before count told now after p q w w1 w2 a b c far one = record {
   blocks = far.blocks ++ one.goes.blocks;
-  serves = serves_twice far.blocks one.goes.blocks w w1 w2 a b c far.serves one.goes.serves;
+  serves = serves_twice setting far.blocks one.goes.blocks w w1 w2 a b c far.serves one.goes.serves;
   read = read_next before count told now after one.line p q far.blocks one.goes.blocks far.read one.read one.goes.split;
   shut = one.goes.shut far.blocks (λ passed. far.shut);
 }
@@ -218,13 +257,20 @@ stopped_begun ended (inl stopped) = λ e. let never : Stopped ≡ NotBegun = sym
 stopped_begun ended (inr memory) = subst (λ s. ending_of s ≢ NotBegun) (sym memory) (λ e. cc)
 
 broken_begun : (ended : Ended) → IsBroken ended → ending_of ended ≢ NotBegun
-broken_begun ended broken = broken_cases (λ s. ending_of s ≢ NotBegun) ended broken (λ e. cc) (λ e. cc)
+broken_begun ended broken = broken_cases (λ s. ending_of s ≢ NotBegun) ended broken (λ e. cc) (λ e. cc) (λ e. cc) (λ refusal e. cc)
+
+stopped_up : (ended : Ended) → (ending_of ended ≡ Stopped) ⊎ (ended ≡ Memory) → ended ≢ Down
+stopped_up ended (inl stopped) = λ e. let never : Whole ≡ Stopped = sym (ap ending_of e) ∙ stopped in cc
+stopped_up ended (inr memory) = λ e. let never : Memory ≡ Down = sym memory ∙ e in cc
+
+broken_up : (ended : Ended) → IsBroken ended → ended ≢ Down
+broken_up ended broken = broken_cases (λ s. s ≢ Down) ended broken (λ e. cc) (λ e. cc) (λ e. cc) (λ refusal e. cc)
 
 pub told_behind : (past : Bool) (rest : List ℕ) (told' : Option (List ℕ)) → IsBehind past (Some rest) told' → IsBack (Some rest) told'
 told_behind true rest told' h = h
 told_behind false rest told' h = back_same (Some rest) told' h
 
-between_read : (before count : ℕ) (told now told' : Option (List ℕ)) (pending : Option Block) (w w' : Option (List ℕ)) (a b : ControlState) (blocks : List Block) (ended : Ended)
+between_read : (before count : ℕ) (told now told' : Option (List ℕ)) (pending : Option Block) (w w' : Option (List ℕ)) (a b : SessionState) (blocks : List Block) (ended : Ended)
     → ReadSoFar before count told now pending blocks → AreClosed pending blocks → count ≤ 1000000
     → StopsBetween count ended now told' w w' a b → ReadsTold before told told' blocks [] ended
 between_read before count (Some bytes) (Some rest) (Some left) pending w w' a b blocks ended far shut few stops = record {
@@ -253,39 +299,39 @@ whole_settled ended lines rest pending served blocks others none all (inl (done,
     subst (λ s. AreSettled (ending_of s) lines rest (served ++ blocks) others) (sym done) (none, all ∙ ap (λ bs. served ++ bs) kept, no_others)
 whole_settled ended lines rest pending served blocks others none all (inr (broken, kept)) =
     let front : blocks_of lines ≡ (served ++ blocks) ++ others = all ∙ ap (λ bs. served ++ bs) kept ∙ sym (append_assoc served blocks others) in
-    broken_cases (λ s. AreSettled (ending_of s) lines rest (served ++ blocks) others) ended broken (inr (none, front)) (inr (none, front))
+    broken_cases (λ s. AreSettled (ending_of s) lines rest (served ++ blocks) others) ended broken (inr (none, front)) (inr (none, front)) (inr (none, front)) (λ refusal. inr (none, front))
 
 whole_cases : (P : Ended → Type 0) (ended : Ended) (pending : Option Block) (blocks others : List Block)
-    → ((ended ≡ Done) × (kept_blocks pending ≡ blocks) × (others ≡ [])) ⊎ (IsBroken ended × (kept_blocks pending ≡ blocks ++ others)) → P Done → P Write → P Memory → P ended
-whole_cases P ended pending blocks others (inl (done, kept, none)) first write memory = subst P (sym done) first
-whole_cases P ended pending blocks others (inr (broken, kept)) first write memory = broken_cases P ended broken write memory
+    → ((ended ≡ Done) × (kept_blocks pending ≡ blocks) × (others ≡ [])) ⊎ (IsBroken ended × (kept_blocks pending ≡ blocks ++ others)) → P Done → P Write → P Memory → P Spent → ((refusal : ImageRefused) → P (Image refusal)) → P ended
+whole_cases P ended pending blocks others (inl (done, kept, none)) first write memory spent image = subst P (sym done) first
+whole_cases P ended pending blocks others (inr (broken, kept)) first write memory spent image = broken_cases P ended broken write memory spent image
 
-whole_of : (P : Ended → Type 0) (ended : Ended) (pending : Option Block) (w w' : Option (List ℕ)) (a b : ControlState) → EndsWhole ended pending w w' a b → P Done → P Write → P Memory → P ended
-whole_of P ended pending w w' a b ends first write memory = whole_cases P ended pending ends.blocks ends.others ends.settled first write memory
+whole_of : (setting : Setting) (P : Ended → Type 0) (ended : Ended) (pending : Option Block) (w w' : Option (List ℕ)) (a b : SessionState) → EndsWhole setting ended pending w w' a b → P Done → P Write → P Memory → P Spent → ((refusal : ImageRefused) → P (Image refusal)) → P ended
+whole_of setting P ended pending w w' a b ends first write memory spent image = whole_cases P ended pending ends.blocks ends.others ends.settled first write memory spent image
 
-whole_read : (before count : ℕ) (told now told' : Option (List ℕ)) (pending : Option Block) (w w' : Option (List ℕ)) (a b : ControlState) (served : List Block) (ended : Ended)
-    → ReadSoFar before count told now pending served → count ≤ 1000000 → ServesTold now None told' → (ends : EndsWhole ended pending w w' a b)
+whole_read : (setting : Setting) (before count : ℕ) (told now told' : Option (List ℕ)) (pending : Option Block) (w w' : Option (List ℕ)) (a b : SessionState) (served : List Block) (ended : Ended)
+    → ReadSoFar before count told now pending served → count ≤ 1000000 → ServesTold now None told' → (ends : EndsWhole setting ended pending w w' a b)
     → ReadsTold before told told' (served ++ ends.blocks) ends.others ended
-whole_read before count (Some bytes) (Some rest) (Some left) pending w w' a b served ended far few serves ends = record {
+whole_read setting before count (Some bytes) (Some rest) (Some left) pending w w' a b served ended far few serves ends = record {
   cut = far.cut;
   rest = rest;
   served = far.served;
   few = omega (arith, far.counted);
   settled = whole_settled ended (texts_of far.cut) rest pending served ends.blocks ends.others serves.0 (all_blocks far.cut pending served far.split) ends.settled;
-  limit = whole_of (λ s. IsAtLimit s (before + length far.cut) rest) ended pending w w' a b ends tt tt tt;
+  limit = whole_of setting (λ s. IsAtLimit s (before + length far.cut) rest) ended pending w w' a b ends tt tt tt tt (λ refusal. tt);
   behind =
       let same : Some left ≡ Some rest = ap Some (serves.1 ∙ sym serves.0) in
-      whole_of (λ s. IsBehind (may_pass s) (Some rest) (Some left)) ended pending w w' a b ends same same same;
+      whole_of setting (λ s. IsBehind (may_pass s) (Some rest) (Some left)) ended pending w w' a b ends same same same same (λ refusal. same);
 }
-whole_read before count (Some bytes) (Some rest) None pending w w' a b served ended far few serves ends = absurd serves
-whole_read before count (Some bytes) None told' pending w w' a b served ended far few serves ends = absurd far
-whole_read before count None None told' pending w w' a b served ended far few serves ends = serves
-whole_read before count None (Some rest) told' pending w w' a b served ended far few serves ends = cc
+whole_read setting before count (Some bytes) (Some rest) None pending w w' a b served ended far few serves ends = absurd serves
+whole_read setting before count (Some bytes) None told' pending w w' a b served ended far few serves ends = absurd far
+whole_read setting before count None None told' pending w w' a b served ended far few serves ends = serves
+whole_read setting before count None (Some rest) told' pending w w' a b served ended far few serves ends = cc
 
-broken_read : (before count : ℕ) (told now told' : Option (List ℕ)) (pending : Option Block) (line : List ℕ) (w w' : Option (List ℕ)) (a b : ControlState) (served : List Block) (ended : Ended)
-    → ReadSoFar before count told now pending served → count < 1000000 → ServesTold now (Some line) told' → (ends : Ends ended pending line w w' a b)
+broken_read : (setting : Setting) (before count : ℕ) (told now told' : Option (List ℕ)) (pending : Option Block) (line : List ℕ) (w w' : Option (List ℕ)) (a b : SessionState) (served : List Block) (ended : Ended)
+    → ReadSoFar before count told now pending served → count < 1000000 → ServesTold now (Some line) told' → (ends : Ends setting ended pending line w w' a b)
     → ReadsTold before told told' (served ++ ends.blocks) ends.others ended
-broken_read before count (Some bytes) (Some rest) (Some left) pending line w w' a b served ended far below serves ends =
+broken_read setting before count (Some bytes) (Some rest) (Some left) pending line w w' a b served ended far below serves ends =
     let cut : List CutLine = far.cut ++ record { text = line; size = line_size rest } ∷ [] in
     let all : blocks_of (texts_of cut) ≡ served ++ ahead_with pending line [] =
     ap blocks_of (sym (append-nil (texts_of cut))) ∙ split_line far.cut line (line_size rest) pending served [] far.split in
@@ -296,52 +342,55 @@ broken_read before count (Some bytes) (Some rest) (Some left) pending line w w' 
       rest = left;
       served = one_served bytes far.cut rest line left far.served serves;
       few = rw (length-append far.cut (record { text = line; size = line_size rest } ∷ [])) (omega (arith, far.counted));
-      settled = broken_cases (λ s. AreSettled (ending_of s) (texts_of cut) left (served ++ ends.blocks) ends.others) ended ends.broken (inl front) (inl front);
-      limit = broken_cases (λ s. IsAtLimit s (before + length cut) left) ended ends.broken tt tt;
-      behind = broken_cases (λ s. IsBehind (may_pass s) (Some left) (Some left)) ended ends.broken refl refl;
+      settled = broken_cases (λ s. AreSettled (ending_of s) (texts_of cut) left (served ++ ends.blocks) ends.others) ended ends.broken (inl front) (inl front) (inl front) (λ refusal. inl front);
+      limit = broken_cases (λ s. IsAtLimit s (before + length cut) left) ended ends.broken tt tt tt (λ refusal. tt);
+      behind = broken_cases (λ s. IsBehind (may_pass s) (Some left) (Some left)) ended ends.broken refl refl refl (λ refusal. refl);
     }
-broken_read before count (Some bytes) (Some rest) None pending line w w' a b served ended far below serves ends = absurd serves
-broken_read before count (Some bytes) None told' pending line w w' a b served ended far below serves ends = absurd far
-broken_read before count None None told' pending line w w' a b served ended far below serves ends = serves
-broken_read before count None (Some rest) told' pending line w w' a b served ended far below serves ends = cc
+broken_read setting before count (Some bytes) (Some rest) None pending line w w' a b served ended far below serves ends = absurd serves
+broken_read setting before count (Some bytes) None told' pending line w w' a b served ended far below serves ends = absurd far
+broken_read setting before count None None told' pending line w w' a b served ended far below serves ends = serves
+broken_read setting before count None (Some rest) told' pending line w w' a b served ended far below serves ends = cc
 
-module _ (before count : ℕ) (told now told' : Option (List ℕ)) (pending : Option Block) (w w1 w2 : Option (List ℕ)) (a b c : ControlState) (ended : Ended) (far : SoFar before count told now pending w w1 a b) where
-  driven_between : count ≤ 1000000 → StopsBetween count ended now told' w1 w2 b c → HasDriven before told told' w w2 a c ended
+module _ (setting : Setting) (before count : ℕ) (told now told' : Option (List ℕ)) (pending : Option Block) (w w1 w2 : Option (List ℕ)) (a b c : SessionState) (ended : Ended) (far : SoFar setting before count told now pending w w1 a b) where
+  driven_between : count ≤ 1000000 → StopsBetween count ended now told' w1 w2 b c → HasDriven setting before told told' w w2 a c ended
   driven_between few stops = record {
     blocks = far.blocks ++ [];
     others = [];
     begun = stopped_begun ended stops.stopped;
-    stops = serves_stops ended far.blocks [] [] w w1 w2 a b c far.serves
-        (subst (λ v. Stops ended [] [] w1 v b c) (sym stops.printed) (subst (λ d. Stops ended [] [] w1 w1 b d) (sym stops.same) (stops_none ended [] w1 b)));
+    not_down = stopped_up ended stops.stopped;
+    stops = serves_stops setting ended far.blocks [] [] w w1 w2 a b c far.serves
+        (subst (λ v. Stops setting ended [] [] w1 v b c) (sym stops.printed) (subst (λ d. Stops setting ended [] [] w1 w1 b d) (sym stops.same) (stops_none setting ended [] w1 b)));
     read = subst (λ bs. ReadsTold before told told' bs [] ended) (sym (append-nil far.blocks))
         (between_read before count told now told' pending w1 w2 b c far.blocks ended far.read far.shut few stops);
   }
 
-  driven_whole : count ≤ 1000000 → StopsWhole ended now told' pending w1 w2 b c → HasDriven before told told' w w2 a c ended
+  driven_whole : count ≤ 1000000 → StopsWhole setting ended now told' pending w1 w2 b c → HasDriven setting before told told' w w2 a c ended
   driven_whole few stops = record {
     blocks = far.blocks ++ stops.ends.blocks;
     others = stops.ends.others;
-    begun = whole_of (λ s. ending_of s ≢ NotBegun) ended pending w1 w2 b c stops.ends (λ e. cc) (λ e. cc) (λ e. cc);
-    stops = serves_stops ended far.blocks stops.ends.blocks stops.ends.others w w1 w2 a b c far.serves stops.ends.stops;
-    read = whole_read before count told now told' pending w1 w2 b c far.blocks ended far.read few stops.read stops.ends;
+    begun = whole_of setting (λ s. ending_of s ≢ NotBegun) ended pending w1 w2 b c stops.ends (λ e. cc) (λ e. cc) (λ e. cc) (λ e. cc) (λ refusal e. cc);
+    not_down = whole_of setting (λ s. s ≢ Down) ended pending w1 w2 b c stops.ends (λ e. cc) (λ e. cc) (λ e. cc) (λ e. cc) (λ refusal e. cc);
+    stops = serves_stops setting ended far.blocks stops.ends.blocks stops.ends.others w w1 w2 a b c far.serves stops.ends.stops;
+    read = whole_read setting before count told now told' pending w1 w2 b c far.blocks ended far.read few stops.read stops.ends;
   }
 
-  driven_broken : count < 1000000 → StopsAt ended now told' pending w1 w2 b c → HasDriven before told told' w w2 a c ended
+  driven_broken : count < 1000000 → StopsAt setting ended now told' pending w1 w2 b c → HasDriven setting before told told' w w2 a c ended
   driven_broken below stops = record {
     blocks = far.blocks ++ stops.ends.blocks;
     others = stops.ends.others;
     begun = broken_begun ended stops.ends.broken;
-    stops = serves_stops ended far.blocks stops.ends.blocks stops.ends.others w w1 w2 a b c far.serves stops.ends.stops;
-    read = broken_read before count told now told' pending stops.line w1 w2 b c far.blocks ended far.read below stops.read stops.ends;
+    not_down = broken_up ended stops.ends.broken;
+    stops = serves_stops setting ended far.blocks stops.ends.blocks stops.ends.others w w1 w2 a b c far.serves stops.ends.stops;
+    read = broken_read setting before count told now told' pending stops.line w1 w2 b c far.blocks ended far.read below stops.read stops.ends;
   }
 
-  driven_last : count ≤ 1000000 → StopsLast count ended now told' pending w1 w2 b c → HasDriven before told told' w w2 a c ended
+  driven_last : count ≤ 1000000 → StopsLast setting count ended now told' pending w1 w2 b c → HasDriven setting before told told' w w2 a c ended
   driven_last few (inl between) = driven_between few between
   driven_last few (inr whole) = driven_whole few whole
 
-  pub driven_here : count < 1000000 → StopsHere count ended now told' pending w1 w2 b c → HasDriven before told told' w w2 a c ended
+  pub driven_here : count < 1000000 → StopsHere setting count ended now told' pending w1 w2 b c → HasDriven setting before told told' w w2 a c ended
   driven_here below (inl last) = driven_last (omega arith) last
   driven_here below (inr broken) = driven_broken below broken
 
-  pub driven_end : count ≡ 1000000 → StopsLast 1000000 ended now told' pending w1 w2 b c → HasDriven before told told' w w2 a c ended
-  driven_end last stops = driven_last (omega arith) (subst (λ n. StopsLast n ended now told' pending w1 w2 b c) (sym last) stops)
+  pub driven_end : count ≡ 1000000 → StopsLast setting 1000000 ended now told' pending w1 w2 b c → HasDriven setting before told told' w w2 a c ended
+  driven_end last stops = driven_last (omega arith) (subst (λ n. StopsLast setting n ended now told' pending w1 w2 b c) (sym last) stops)

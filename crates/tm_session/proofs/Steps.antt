@@ -6,7 +6,7 @@ use Rattle.std.specs.Str.{bytes_eq}
 use Rattle.std.proofs.lemmas.Slice.Eq.{bytes_eq-Decides}
 use Rattle.text_rows.specs.Lines.{is_passed_over}
 use Rattle.tm_types.specs.Words.{first_word}
-use Rattle.model_machine.specs.History.{ControlState}
+use Rattle.model_session.specs.Standing.{Setting, SessionState}
 use Rattle.model_session.specs.Blocks.{Block, alone, and_line, is_further, takes_further, open_before, line_before, blocks_behind, closed}
 use Rattle.tm_session.specs.declared.outcome.Ended.{Ended}
 use Rattle.tm_session.specs.declared.outcome.Ended.TheVariants.{Done, Memory}
@@ -53,14 +53,14 @@ before_open line behind seen takes = not_passed line behind seen ∙ choose (tak
 before_alone : (line : List ℕ) (behind : List Block) → is_passed_over line ≡ false → takes_further line ≡ false → line_blocks line behind ≡ alone line ∷ behind
 before_alone line behind seen plain = not_passed line behind seen ∙ other (takes_further line) (open_before (alone line) behind) (alone line ∷ behind) plain
 
-pub goes_open : (line : List ℕ) (w : Option (List ℕ)) (a : ControlState) → is_passed_over line ≡ false → takes_further line ≡ true
-    → Goes None line (Some (alone line)) w w a a
-goes_open line w a seen takes =
-    record { blocks = []; split = λ behind. before_open line behind seen takes; shut = λ served h. takes; serves = serves_none w a }
+pub goes_open : (setting : Setting) (line : List ℕ) (w : Option (List ℕ)) (a : SessionState) → is_passed_over line ≡ false → takes_further line ≡ true
+    → Goes setting None line (Some (alone line)) w w a a
+goes_open setting line w a seen takes =
+    record { blocks = []; split = λ behind. before_open line behind seen takes; shut = λ served h. takes; serves = serves_none setting w a }
 
-pub goes_alone : (line : List ℕ) (w w' : Option (List ℕ)) (a b : ControlState) → is_passed_over line ≡ false → takes_further line ≡ false
-    → Serves (alone line ∷ []) w w' a b → Goes None line None w w' a b
-goes_alone line w w' a b seen plain serves = record {
+pub goes_alone : (setting : Setting) (line : List ℕ) (w w' : Option (List ℕ)) (a b : SessionState) → is_passed_over line ≡ false → takes_further line ≡ false
+    → Serves setting (alone line ∷ []) w w' a b → Goes setting None line None w w' a b
+goes_alone setting line w w' a b seen plain serves = record {
   blocks = alone line ∷ [];
   split = λ behind. before_alone line behind seen plain;
   shut = λ served h. closed_last served (alone line) plain;
@@ -71,14 +71,27 @@ alone_front : (line : List ℕ) (served : List Block) → is_passed_over line �
     → closed (served ++ ahead_with None line []) ≡ served ++ alone line ∷ []
 alone_front line served seen plain = ap (λ bs. closed (served ++ bs)) (before_alone line [] seen plain) ∙ closed_last served (alone line) plain
 
-pub ends_alone : (ended : Ended) (line : List ℕ) (w w' : Option (List ℕ)) (a b : ControlState) → is_passed_over line ≡ false → takes_further line ≡ false
-    → FailsAt ended (alone line) w w' a b → Ends ended None line w w' a b
-ends_alone ended line w w' a b seen plain (inl (same, fails)) =
-    subst (λ s. Ends s None line w w' a b) (sym same)
-    (record { broken = inl refl; blocks = alone line ∷ []; others = []; front = λ served. alone_front line served seen plain; stops = fails [] })
-ends_alone ended line w w' a b seen plain (inr (same, fails)) =
-    subst (λ s. Ends s None line w w' a b) (sym same)
-    (record { broken = inr refl; blocks = []; others = alone line ∷ []; front = λ served. alone_front line served seen plain; stops = fails [] })
+pub ends_alone : (setting : Setting) (ended : Ended) (line : List ℕ) (w w' : Option (List ℕ)) (a b : SessionState) → is_passed_over line ≡ false → takes_further line ≡ false
+    → FailsAt setting ended (alone line) w w' a b → Ends setting ended None line w w' a b
+ends_alone setting ended line w w' a b seen plain (inl f) =
+    subst (λ s. Ends setting s None line w w' a b) (sym f.writing)
+    (record { broken = inl refl; blocks = alone line ∷ []; others = []; front = λ served. alone_front line served seen plain; stops = f.stops [] })
+ends_alone setting ended line w w' a b seen plain (inr f) =
+    record { broken = inr f.undone; blocks = []; others = alone line ∷ []; front = λ served. alone_front line served seen plain; stops = f.stops [] }
+
+-- a block that is the line alone
+pub alone_step : (setting : Setting) (result : Option Ended) (line : List ℕ) (block : Block) (pending : Option Block) (w w' : Option (List ℕ)) (a b : SessionState)
+    → is_passed_over line ≡ false → takes_further line ≡ false → block ≡ alone line → pending ≡ None
+    → MatchOption result (Serves setting (block ∷ []) w w' a b) (λ ended. FailsAt setting ended block w w' a b)
+    → MatchOption result (Goes setting None line pending w w' a b) (λ ended. Ends setting ended None line w w' a b)
+alone_step setting None line block pending w w' a b seen plain is none step =
+    subst (λ p. Goes setting None line p w w' a b) (sym none) (goes_alone setting line w w' a b seen plain (subst (λ x. Serves setting (x ∷ []) w w' a b) is step))
+alone_step setting (Some ended) line block pending w w' a b seen plain is none step =
+    ends_alone setting ended line w w' a b seen plain (subst (λ x. FailsAt setting ended x w w' a b) is step)
+
+pub open_step : (setting : Setting) (line : List ℕ) (block : Block) (w : Option (List ℕ)) (a : SessionState) → is_passed_over line ≡ false → takes_further line ≡ true → block ≡ alone line
+    → Goes setting None line (Some block) w w a a
+open_step setting line block w a seen takes is = subst (λ x. Goes setting None line (Some x) w w a a) (sym is) (goes_open setting line w a seen takes)
 
 -- ---- a line behind one that may take `+` lines
 
@@ -92,19 +105,19 @@ longer block line behind seen plus =
     ap (open_before block) (before_alone line behind seen (further_takes line plus))
     ∙ choose (is_further line) (open_before (and_line block line) behind) (block ∷ alone line ∷ behind) plus
 
-pub goes_longer : (block : Block) (line : List ℕ) (w : Option (List ℕ)) (a : ControlState) → is_passed_over line ≡ false → is_further line ≡ true → IsOpen block
-    → Goes (Some block) line (Some (and_line block line)) w w a a
-goes_longer block line w a seen plus takes =
-    record { blocks = []; split = λ behind. longer block line behind seen plus; shut = λ served h. takes; serves = serves_none w a }
+pub goes_longer : (setting : Setting) (block : Block) (line : List ℕ) (w : Option (List ℕ)) (a : SessionState) → is_passed_over line ≡ false → is_further line ≡ true → IsOpen block
+    → Goes setting (Some block) line (Some (and_line block line)) w w a a
+goes_longer setting block line w a seen plus takes =
+    record { blocks = []; split = λ behind. longer block line behind seen plus; shut = λ served h. takes; serves = serves_none setting w a }
 
-pub ends_longer : (block : Block) (line : List ℕ) (w : Option (List ℕ)) (a : ControlState) → is_passed_over line ≡ false → is_further line ≡ true → IsOpen block
-    → Ends Memory (Some block) line w w a a
-ends_longer block line w a seen plus takes = record {
+pub ends_longer : (setting : Setting) (block : Block) (line : List ℕ) (w : Option (List ℕ)) (a : SessionState) → is_passed_over line ≡ false → is_further line ≡ true → IsOpen block
+    → Ends setting Memory (Some block) line w w a a
+ends_longer setting block line w a seen plus takes = record {
   broken = inr refl;
   blocks = [];
   others = [];
   front = λ served. ap (λ bs. closed (served ++ bs)) (longer block line [] seen plus) ∙ open_last served (and_line block line) takes ∙ sym (append-nil served);
-  stops = stops_none Memory [] w a;
+  stops = stops_none setting Memory [] w a;
 }
 
 -- another line closes it
@@ -130,13 +143,13 @@ both_ahead : (block : Block) (line : List ℕ) (behind : List Block) → is_pass
 both_ahead block line behind seen plain =
     ap (open_before block) (not_passed line behind seen) ∙ closes_before block line behind plain ∙ ap (λ bs. block ∷ bs) (sym (not_passed line behind seen))
 
-module _ (block : Block) (line : List ℕ) (w w1 w2 : Option (List ℕ)) (a b c : ControlState) (seen : is_passed_over line ≡ false) (plain : is_further line ≡ false) where
-  goes_both : (after : Option Block) → Serves (block ∷ []) w w1 a b → Goes None line after w1 w2 b c → Goes (Some block) line after w w2 a c
+module _ (setting : Setting) (block : Block) (line : List ℕ) (w w1 w2 : Option (List ℕ)) (a b c : SessionState) (seen : is_passed_over line ≡ false) (plain : is_further line ≡ false) where
+  goes_both : (after : Option Block) → Serves setting (block ∷ []) w w1 a b → Goes setting None line after w1 w2 b c → Goes setting (Some block) line after w w2 a c
   goes_both after first second = record {
     blocks = block ∷ second.blocks;
     split = λ behind. both_ahead block line behind seen plain ∙ ap (λ bs. block ∷ bs) (second.split behind);
     shut = λ served h. subst (λ bs. AreClosed after bs) (append_assoc served (block ∷ []) second.blocks) (second.shut (served ++ block ∷ []) (λ passed. cc));
-    serves = serves_twice (block ∷ []) second.blocks w w1 w2 a b c first second.serves;
+    serves = serves_twice setting (block ∷ []) second.blocks w w1 w2 a b c first second.serves;
   }
 
   front_behind : (blocks others served : List Block) → ((before : List Block) → closed (before ++ ahead_with None line []) ≡ before ++ (blocks ++ others))
@@ -146,18 +159,18 @@ module _ (block : Block) (line : List ℕ) (w w1 w2 : Option (List ℕ)) (a b c 
       ∙ ap closed (sym (append_assoc served (block ∷ []) (ahead_with None line [])))
       ∙ front (served ++ block ∷ []) ∙ append_assoc served (block ∷ []) (blocks ++ others)
 
-  ends_second : (ended : Ended) → Serves (block ∷ []) w w1 a b → Ends ended None line w1 w2 b c → Ends ended (Some block) line w w2 a c
+  ends_second : (ended : Ended) → Serves setting (block ∷ []) w w1 a b → Ends setting ended None line w1 w2 b c → Ends setting ended (Some block) line w w2 a c
   ends_second ended first second = record {
     broken = second.broken;
     blocks = block ∷ second.blocks;
     others = second.others;
     front = λ served. front_behind second.blocks second.others served second.front;
-    stops = serves_stops ended (block ∷ []) second.blocks second.others w w1 w2 a b c first second.stops;
+    stops = serves_stops setting ended (block ∷ []) second.blocks second.others w w1 w2 a b c first second.stops;
   }
 
-  pub both_step : (result : Option Ended) (after : Option Block) → Serves (block ∷ []) w w1 a b
-      → MatchOption result (Goes None line after w1 w2 b c) (λ ended. Ends ended None line w1 w2 b c)
-      → MatchOption result (Goes (Some block) line after w w2 a c) (λ ended. Ends ended (Some block) line w w2 a c)
+  pub both_step : (result : Option Ended) (after : Option Block) → Serves setting (block ∷ []) w w1 a b
+      → MatchOption result (Goes setting None line after w1 w2 b c) (λ ended. Ends setting ended None line w1 w2 b c)
+      → MatchOption result (Goes setting (Some block) line after w w2 a c) (λ ended. Ends setting ended (Some block) line w w2 a c)
   both_step None after first step = goes_both after first step
   both_step (Some ended) after first step = ends_second ended first step
 
@@ -180,37 +193,43 @@ first_front block line served seen plain =
     ap (λ bs. closed (served ++ bs)) (both_ahead block line [] seen plain) ∙ closed_behind served block (ahead_with None line [])
     ∙ ap (λ bs. served ++ bs) (closed_two block line seen)
 
-pub ends_first : (ended : Ended) (block : Block) (line : List ℕ) (w w' : Option (List ℕ)) (a b : ControlState) → is_passed_over line ≡ false → is_further line ≡ false
-    → FailsAt ended block w w' a b → Ends ended (Some block) line w w' a b
-ends_first ended block line w w' a b seen plain (inl (same, fails)) =
-    subst (λ s. Ends s (Some block) line w w' a b) (sym same)
-    (record { broken = inl refl; blocks = block ∷ []; others = closed (ahead_with None line []); front = λ served. first_front block line served seen plain; stops = fails (closed (ahead_with None line [])) })
-ends_first ended block line w w' a b seen plain (inr (same, fails)) =
-    subst (λ s. Ends s (Some block) line w w' a b) (sym same)
-    (record { broken = inr refl; blocks = []; others = block ∷ closed (ahead_with None line []); front = λ served. first_front block line served seen plain; stops = fails (closed (ahead_with None line [])) })
+pub ends_first : (setting : Setting) (ended : Ended) (block : Block) (line : List ℕ) (w w' : Option (List ℕ)) (a b : SessionState) → is_passed_over line ≡ false → is_further line ≡ false
+    → FailsAt setting ended block w w' a b → Ends setting ended (Some block) line w w' a b
+ends_first setting ended block line w w' a b seen plain (inl f) =
+    subst (λ s. Ends setting s (Some block) line w w' a b) (sym f.writing)
+    (record { broken = inl refl; blocks = block ∷ []; others = closed (ahead_with None line []); front = λ served. first_front block line served seen plain; stops = f.stops (closed (ahead_with None line [])) })
+ends_first setting ended block line w w' a b seen plain (inr f) =
+    record { broken = inr f.undone; blocks = []; others = block ∷ closed (ahead_with None line []); front = λ served. first_front block line served seen plain; stops = f.stops (closed (ahead_with None line [])) }
+
+-- what was kept stands behind it
+pub kept_goes : (setting : Setting) (pending kept : Option Block) (line : List ℕ) (result : Option Ended) (after : Option Block) (w w' : Option (List ℕ)) (a b : SessionState) → pending ≡ kept
+    → MatchOption result (Goes setting kept line after w w' a b) (λ ended. Ends setting ended kept line w w' a b)
+    → MatchOption result (Goes setting pending line after w w' a b) (λ ended. Ends setting ended pending line w w' a b)
+kept_goes setting pending kept line result after w w' a b is step =
+    subst (λ p. MatchOption result (Goes setting p line after w w' a b) (λ ended. Ends setting ended p line w w' a b)) (sym is) step
 
 -- ---- any line
 
-pub goes_passed : (pending : Option Block) (line : List ℕ) (w : Option (List ℕ)) (a : ControlState) → is_passed_over line ≡ true → Goes pending line pending w w a a
-goes_passed pending line w a passed = record {
+pub goes_passed : (setting : Setting) (pending : Option Block) (line : List ℕ) (w : Option (List ℕ)) (a : SessionState) → is_passed_over line ≡ true → Goes setting pending line pending w w a a
+goes_passed setting pending line w a passed = record {
   blocks = [];
   split = λ behind. ap (blocks_behind pending) (choose (is_passed_over line) behind (line_before line behind) passed);
   shut = λ served h. subst (λ bs. AreClosed pending bs) (sym (append-nil served)) (h passed);
-  serves = serves_none w a;
+  serves = serves_none setting w a;
 }
 
 -- ---- the end of the source
 
-pub whole_none : (w : Option (List ℕ)) (a : ControlState) → EndsWhole Done None w w a a
-whole_none w a = record { blocks = []; others = []; settled = inl (refl, refl, refl); stops = stops_none Done [] w a }
+pub whole_none : (setting : Setting) (w : Option (List ℕ)) (a : SessionState) → EndsWhole setting Done None w w a a
+whole_none setting w a = record { blocks = []; others = []; settled = inl (refl, refl, refl); stops = stops_none setting Done [] w a }
 
-pub whole_served : (block : Block) (w w' : Option (List ℕ)) (a b : ControlState) → Serves (block ∷ []) w w' a b → EndsWhole Done (Some block) w w' a b
-whole_served block w w' a b serves = record { blocks = block ∷ []; others = []; settled = inl (refl, refl, refl); stops = stops_served (block ∷ []) w w' a b serves }
+pub whole_served : (setting : Setting) (block : Block) (w w' : Option (List ℕ)) (a b : SessionState) → Serves setting (block ∷ []) w w' a b → EndsWhole setting Done (Some block) w w' a b
+whole_served setting block w w' a b serves = record { blocks = block ∷ []; others = []; settled = inl (refl, refl, refl); stops = stops_served setting (block ∷ []) w w' a b serves }
 
-pub whole_failed : (ended : Ended) (block : Block) (w w' : Option (List ℕ)) (a b : ControlState) → FailsAt ended block w w' a b → EndsWhole ended (Some block) w w' a b
-whole_failed ended block w w' a b (inl (same, fails)) =
-    subst (λ s. EndsWhole s (Some block) w w' a b) (sym same) (record { blocks = block ∷ []; others = []; settled = inr (inl refl, refl); stops = fails [] })
-whole_failed ended block w w' a b (inr (same, fails)) =
-    subst (λ s. EndsWhole s (Some block) w w' a b) (sym same) (record { blocks = []; others = block ∷ []; settled = inr (inr refl, refl); stops = fails [] })
+pub whole_failed : (setting : Setting) (ended : Ended) (block : Block) (w w' : Option (List ℕ)) (a b : SessionState) → FailsAt setting ended block w w' a b → EndsWhole setting ended (Some block) w w' a b
+whole_failed setting ended block w w' a b (inl f) =
+    subst (λ s. EndsWhole setting s (Some block) w w' a b) (sym f.writing) (record { blocks = block ∷ []; others = []; settled = inr (inl refl, refl); stops = f.stops [] })
+whole_failed setting ended block w w' a b (inr f) =
+    record { blocks = []; others = block ∷ []; settled = inr (inr f.undone, refl); stops = f.stops [] }
 
 pub ruleset line_steps = (goes_open, goes_alone, ends_alone)

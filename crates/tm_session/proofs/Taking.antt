@@ -4,7 +4,7 @@ use Rattle.std.proofs.lemmas.List.{take-append-drop}
 use Rattle.std.specs.Prelude.{Option, Some, None}
 use Rattle.tm_edge.specs.Lines.{ServesTold, line_size, unread}
 use Rattle.tm_session.specs.declared.outcome.Ended.{Ended}
-use Rattle.tm_session.specs.declared.outcome.Ended.TheVariants.{Done, Words, BadLine, BadCross, Read, Write, Memory, Limit}
+use Rattle.tm_session.specs.declared.outcome.Ended.TheVariants.{Done, Words, BadLine, BadCross, Down, Read, Write, Image, Memory, Limit, Spent}
 use Rattle.tm_session.specs.Outcome.{IsBack, IsReadToEnd}
 
 pub back_same : (old new : Option (List ℕ)) → new ≡ old → IsBack old new
@@ -43,6 +43,10 @@ whole_held Done held None h = h
 whole_held (Words word rule) held left h = h
 whole_held (BadLine line rule) held left h = h
 whole_held (BadCross line rule) held left h = h
+whole_held Spent held left h = h
+whole_held (Image refusal) held left h = h
+whole_held Down held (Some rest) h = none_left held rest h
+whole_held Down held None h = h
 whole_held Read held left h = h
 whole_held Write held left h = h
 whole_held Memory held left h = h

@@ -2,43 +2,66 @@
 use Rattle.std.specs.Prelude.{◌≡◌, ◌≢◌, ℕ, ◌+◌, ◌≤◌, ◌⊎◌, Bool, true, false, Option, Some, None, IfSome, if◌then◌else◌, List, [], ◌∷◌, ◌++◌, length}
 use Rattle.std.specs.Io.KnownBytes.{append_known}
 use Rattle.text_rows.specs.Lines.{is_passed_over}
-use Rattle.model_machine.specs.declared.entry.Entry.{Entry}
-use Rattle.model_machine.specs.History.{ControlState, now_of, moment_after}
 use Rattle.model_session.specs.Blocks.{Block, blocks_of, blocks_behind, line_before, takes_further, closed}
-use Rattle.model_session.specs.Session.{AreServed, none_left}
-use Rattle.model_session.specs.Session.Standing.{Up}
+use Rattle.model_session.specs.Standing.{Setting, SessionState}
+use Rattle.model_session.specs.Session.{AreServed}
+use Rattle.model_session.specs.Text.{broken_text}
+use Rattle.tm_edge.specs.Fault.{AppendsFront}
 use Rattle.tm_edge.specs.Lines.{CutLine, HasServed, ServesTold}
 use Rattle.tm_session.specs.declared.outcome.Ended.{Ended}
-use Rattle.tm_session.specs.declared.outcome.Ended.TheVariants.{Done, Write, Memory, Limit}
-use Rattle.tm_session.specs.Serving.{AddsEntries}
-use Rattle.tm_session.specs.Outcome.{ending_of, texts_of, HasWritten, left_by, AreSettled, IsAtLimit, IsBack}
+use Rattle.tm_session.specs.declared.outcome.Ended.TheVariants.{Done, Down, Write, Memory, Limit, Spent, Image}
+use Rattle.session_lives.specs.declared.called.Served.{Served}
+use Rattle.session_lives.specs.declared.called.Served.TheVariants.{Printed, Broke, Undone as NotServed}
+use Rattle.session_lives.specs.declared.called.Undone.{Undone}
+use Rattle.session_lives.specs.declared.called.Undone.TheVariants.{Memory as NoMemory, Spent as SpentCounter, Image as BadImage}
+use Rattle.tm_session.specs.Outcome.{ending_of, texts_of, HasWritten, left_by, is_undone, AreSettled, IsAtLimit, IsBack}
 use Rattle.tm_session.specs.Outcome.Ending.{Stopped, NotBegun}
 
 -- ---- blocks that were served
 
 -- these blocks were served, and their text was written
-pub record Serves (blocks : List Block) (written written' : Option (List ℕ)) (old new : ControlState) : Type 0 where
-  pub entries : List Entry
+pub record Serves (setting : Setting) (blocks : List Block) (written written' : Option (List ℕ)) (old new : SessionState) : Type 0 where
   pub text : List ℕ
-  pub adds : AddsEntries old new entries
-  pub served : AreServed old.system none_left blocks (Up (now_of old) entries) [] text
+  pub served : AreServed setting blocks old new text
   pub printed : written' ≡ append_known written text
 
 -- These blocks were served, and the others were not; the session ended there.
-pub record Stops (ended : Ended) (blocks others : List Block) (written written' : Option (List ℕ)) (old new : ControlState) : Type 0 where
-  pub entries : List Entry
-  pub turns : List Entry
+pub record Stops (setting : Setting) (ended : Ended) (blocks others : List Block) (written written' : Option (List ℕ)) (old new : SessionState) : Type 0 where
+  pub mid : SessionState
   pub text : List ℕ
-  pub adds : AddsEntries old new (entries ++ turns)
-  pub served : AreServed old.system none_left blocks (Up (now_of old) entries) [] text
-  pub unprinted : left_by ended old.system others (moment_after old.system (now_of old) entries) turns
+  pub served : AreServed setting blocks old mid text
+  pub unprinted : left_by ended setting.system others mid new
   pub printed : HasWritten written written' text ended
 
--- serving this block failed: its text was not written whole, or memory was wanting
-abbrev pub FailsAt : Ended → Block → Option (List ℕ) → Option (List ℕ) → ControlState → ControlState → Type 0
-FailsAt ended block written written' old new =
-    ((ended ≡ Write) × ((others : List Block) → Stops Write (block ∷ []) others written written' old new))
-    ⊎ ((ended ≡ Memory) × ((others : List Block) → Stops Memory [] (block ∷ others) written written' old new))
+-- serving this block failed: its text was not written whole, or it could not be served
+pub record FailsWriting (setting : Setting) (ended : Ended) (block : Block) (written written' : Option (List ℕ)) (old new : SessionState) : Type 0 where
+  pub writing : ended ≡ Write
+  pub stops : (others : List Block) → Stops setting Write (block ∷ []) others written written' old new
+
+pub record FailsServing (setting : Setting) (ended : Ended) (block : Block) (written written' : Option (List ℕ)) (old new : SessionState) : Type 0 where
+  pub undone : is_undone ended ≡ true
+  pub stops : (others : List Block) → Stops setting ended [] (block ∷ others) written written' old new
+
+abbrev pub FailsAt : Setting → Ended → Block → Option (List ℕ) → Option (List ℕ) → SessionState → SessionState → Type 0
+FailsAt setting ended block written written' old new =
+    FailsWriting setting ended block written written' old new ⊎ FailsServing setting ended block written written' old new
+
+-- how a session ends at a block that could not be served
+abbrev pub ended_by : Undone → Ended
+ended_by NoMemory = Memory
+ended_by SpentCounter = Spent
+ended_by (BadImage refusal) = Image refusal
+
+-- a text was written whole, or a front of it where writing failed
+abbrev pub IsWritten : Option (List ℕ) → Option (List ℕ) → List ℕ → Option Ended → Type 0
+IsWritten written written' text None = written' ≡ append_known written text
+IsWritten written written' text (Some ended) = (ended ≡ Write) × AppendsFront written written' text
+
+-- so it was for a block that was served so
+abbrev pub IsFinished : List ℕ → Served → Option (List ℕ) → Option (List ℕ) → Option Ended → Type 0
+IsFinished text Printed written written' ended = IsWritten written written' text ended
+IsFinished text Broke written written' ended = IsWritten written written' broken_text ended
+IsFinished text (NotServed undone) written written' ended = (written' ≡ written) × (ended ≡ Some (ended_by undone))
 
 -- ---- lines that were read
 
@@ -62,34 +85,34 @@ AreClosed None served = closed served ≡ served
 
 -- A line was read behind what was kept, and then other is kept: some blocks were served, whatever lines
 -- come behind.
-pub record Goes (pending : Option Block) (line : List ℕ) (after : Option Block) (written written' : Option (List ℕ)) (old new : ControlState) : Type 0 where
+pub record Goes (setting : Setting) (pending : Option Block) (line : List ℕ) (after : Option Block) (written written' : Option (List ℕ)) (old new : SessionState) : Type 0 where
   pub blocks : List Block
   pub split : (behind : List Block) → ahead_with pending line behind ≡ blocks ++ blocks_behind after behind
   pub shut : (served : List Block) → (is_passed_over line ≡ true → AreClosed pending served) → AreClosed after (served ++ blocks)
-  pub serves : Serves blocks written written' old new
+  pub serves : Serves setting blocks written written' old new
 
--- writing failed, or memory was wanting
+-- writing failed, or a block could not be served
 abbrev pub IsBroken : Ended → Type 0
-IsBroken ended = (ended ≡ Write) ⊎ (ended ≡ Memory)
+IsBroken ended = (ended ≡ Write) ⊎ (is_undone ended ≡ true)
 
 -- The session broke off at a line that was read: a front of the closed blocks was served.
-pub record Ends (ended : Ended) (pending : Option Block) (line : List ℕ) (written written' : Option (List ℕ)) (old new : ControlState) : Type 0 where
+pub record Ends (setting : Setting) (ended : Ended) (pending : Option Block) (line : List ℕ) (written written' : Option (List ℕ)) (old new : SessionState) : Type 0 where
   pub broken : IsBroken ended
   pub blocks : List Block
   pub others : List Block
   pub front : (served : List Block) → closed (served ++ ahead_with pending line []) ≡ served ++ (blocks ++ others)
-  pub stops : Stops ended blocks others written written' old new
+  pub stops : Stops setting ended blocks others written written' old new
 
 -- the block that was kept, if one was
 abbrev pub kept_blocks : Option Block → List Block
 kept_blocks pending = blocks_behind pending []
 
 -- The session ended with the source: what was kept was served; or that broke off.
-pub record EndsWhole (ended : Ended) (pending : Option Block) (written written' : Option (List ℕ)) (old new : ControlState) : Type 0 where
+pub record EndsWhole (setting : Setting) (ended : Ended) (pending : Option Block) (written written' : Option (List ℕ)) (old new : SessionState) : Type 0 where
   pub blocks : List Block
   pub others : List Block
   pub settled : ((ended ≡ Done) × (kept_blocks pending ≡ blocks) × (others ≡ [])) ⊎ (IsBroken ended × (kept_blocks pending ≡ blocks ++ others))
-  pub stops : Stops ended blocks others written written' old new
+  pub stops : Stops setting ended blocks others written written' old new
 
 -- ---- where a session ended
 
@@ -108,7 +131,7 @@ behind_last (Limit n) = Limit 1000001
 behind_last ended = ended
 
 -- It ended before a line, behind so many in all: a limit was met, reading failed or memory was wanting.
-pub record StopsBetween (count : ℕ) (ended : Ended) (told told' : Option (List ℕ)) (written written' : Option (List ℕ)) (old new : ControlState) : Type 0 where
+pub record StopsBetween (count : ℕ) (ended : Ended) (told told' : Option (List ℕ)) (written written' : Option (List ℕ)) (old new : SessionState) : Type 0 where
   pub stopped : (ending_of ended ≡ Stopped) ⊎ (ended ≡ Memory)
   pub behind : IsBehind (may_pass ended) told told'
   pub limit : IfSome told (IsAtLimit ended count)
@@ -116,30 +139,30 @@ pub record StopsBetween (count : ℕ) (ended : Ended) (told told' : Option (List
   pub same : new ≡ old
 
 -- It ended at a line that was read.
-pub record StopsAt (ended : Ended) (told told' : Option (List ℕ)) (pending : Option Block) (written written' : Option (List ℕ)) (old new : ControlState) : Type 0 where
+pub record StopsAt (setting : Setting) (ended : Ended) (told told' : Option (List ℕ)) (pending : Option Block) (written written' : Option (List ℕ)) (old new : SessionState) : Type 0 where
   pub line : List ℕ
   pub read : ServesTold told (Some line) told'
-  pub ends : Ends ended pending line written written' old new
+  pub ends : Ends setting ended pending line written written' old new
 
 -- It ended with the source.
-pub record StopsWhole (ended : Ended) (told told' : Option (List ℕ)) (pending : Option Block) (written written' : Option (List ℕ)) (old new : ControlState) : Type 0 where
+pub record StopsWhole (setting : Setting) (ended : Ended) (told told' : Option (List ℕ)) (pending : Option Block) (written written' : Option (List ℕ)) (old new : SessionState) : Type 0 where
   pub read : ServesTold told None told'
-  pub ends : EndsWhole ended pending written written' old new
+  pub ends : EndsWhole setting ended pending written written' old new
 
 -- behind so many lines in all, of which there may be a million
-abbrev pub StopsLast : ℕ → Ended → Option (List ℕ) → Option (List ℕ) → Option Block → Option (List ℕ) → Option (List ℕ) → ControlState → ControlState → Type 0
-StopsLast count ended told told' pending written written' old new =
-    StopsBetween count ended told told' written written' old new ⊎ StopsWhole ended told told' pending written written' old new
+abbrev pub StopsLast : Setting → ℕ → Ended → Option (List ℕ) → Option (List ℕ) → Option Block → Option (List ℕ) → Option (List ℕ) → SessionState → SessionState → Type 0
+StopsLast setting count ended told told' pending written written' old new =
+    StopsBetween count ended told told' written written' old new ⊎ StopsWhole setting ended told told' pending written written' old new
 
-abbrev pub StopsHere : ℕ → Ended → Option (List ℕ) → Option (List ℕ) → Option Block → Option (List ℕ) → Option (List ℕ) → ControlState → ControlState → Type 0
-StopsHere count ended told told' pending written written' old new =
-    StopsLast count ended told told' pending written written' old new ⊎ StopsAt ended told told' pending written written' old new
+abbrev pub StopsHere : Setting → ℕ → Ended → Option (List ℕ) → Option (List ℕ) → Option Block → Option (List ℕ) → Option (List ℕ) → SessionState → SessionState → Type 0
+StopsHere setting count ended told told' pending written written' old new =
+    StopsLast setting count ended told told' pending written written' old new ⊎ StopsAt setting ended told told' pending written written' old new
 
 -- a line was read, and some blocks were served
-pub record Steps (told told' : Option (List ℕ)) (pending pending' : Option Block) (written written' : Option (List ℕ)) (old new : ControlState) : Type 0 where
+pub record Steps (setting : Setting) (told told' : Option (List ℕ)) (pending pending' : Option Block) (written written' : Option (List ℕ)) (old new : SessionState) : Type 0 where
   pub line : List ℕ
   pub read : ServesTold told (Some line) told'
-  pub goes : Goes pending line pending' written written' old new
+  pub goes : Goes setting pending line pending' written written' old new
 
 -- ---- a session so far
 
@@ -156,9 +179,9 @@ ReadSoFar before count (Some bytes) (Some rest) pending blocks = ReadsBlocks bef
 ReadSoFar before count (Some bytes) None pending blocks = ⊥
 ReadSoFar before count None told pending blocks = told ≡ None
 
-pub record SoFar (before count : ℕ) (told told' : Option (List ℕ)) (pending : Option Block) (written written' : Option (List ℕ)) (old new : ControlState) : Type 0 where
+pub record SoFar (setting : Setting) (before count : ℕ) (told told' : Option (List ℕ)) (pending : Option Block) (written written' : Option (List ℕ)) (old new : SessionState) : Type 0 where
   pub blocks : List Block
-  pub serves : Serves blocks written written' old new
+  pub serves : Serves setting blocks written written' old new
   pub read : ReadSoFar before count told told' pending blocks
   pub shut : AreClosed pending blocks
 
@@ -178,10 +201,11 @@ ReadsTold before (Some bytes) (Some left) blocks others ended = ReadsSession bef
 ReadsTold before (Some bytes) None blocks others ended = ⊥
 ReadsTold before None left blocks others ended = left ≡ None
 
--- Some blocks were served one after another, and then the session ended.
-pub record HasDriven (before : ℕ) (told told' written written' : Option (List ℕ)) (old new : ControlState) (ended : Ended) : Type 0 where
+-- Some blocks were served one after another, and then the session ended. That the system is down is told later.
+pub record HasDriven (setting : Setting) (before : ℕ) (told told' written written' : Option (List ℕ)) (old new : SessionState) (ended : Ended) : Type 0 where
   pub blocks : List Block
   pub others : List Block
   pub begun : ending_of ended ≢ NotBegun
-  pub stops : Stops ended blocks others written written' old new
+  pub not_down : ended ≢ Down
+  pub stops : Stops setting ended blocks others written written' old new
   pub read : ReadsTold before told told' blocks others ended

@@ -1,33 +1,51 @@
 -- What a whole session comes to.
-use Rattle.std.specs.Prelude.{◌≡◌, ◌≢◌, ℕ, Option, IfSome, Ok, Err, List, [], ◌∷◌, map}
+use Rattle.std.specs.Prelude.{◌≡◌, ◌≢◌, ◌⊎◌, ℕ, Option, IfSome, Ok, Err, List, [], map}
+use Rattle.model_disk.specs.Disk.{Image, DiskState}
 use Rattle.model_system.specs.System.{System}
 use Rattle.model_session.specs.Blocks.{Block}
-use Rattle.model_session.specs.Session.{LifeState, IsDrilled}
+use Rattle.model_session.specs.Lives.{LifeState, AreLegal}
+use Rattle.model_session.specs.Standing.{SessionState, Stop, AreAllLives, AreStops}
+use Rattle.model_session.specs.Session.{Begins, AreServed}
 use Rattle.tm_edge.specs.Lines.{lines_of}
-use Rattle.memory_control.specs.declared.life.Life.{Life}
+use Rattle.control_life.specs.declared.how.How.TheVariants.{Found}
+use Rattle.opening_answers.specs.Opening.{WroteNothing}
+use Rattle.control_life.specs.Opened.{Refuses}
+use Rattle.control_life.specs.declared.life.Life.{Life}
 use Rattle.tm_session.specs.declared.outcome.Ended.{Ended}
-use Rattle.tm_session.specs.declared.outcome.Ended.TheVariants.{BadLine, BadCross, Read, Memory, Limit}
+use Rattle.tm_session.specs.declared.outcome.Ended.TheVariants.{BadLine, BadCross, Read, Memory, Limit, Image as BadImage, Spent}
 use Rattle.sysdef_text.specs.Ends.{definition_lines}
-use Rattle.tm_session.specs.Source.{judged}
+use Rattle.tm_session.specs.Source.{judged, definition_text}
 use Rattle.tm_session.specs.Opening.{IsCutShort}
-use Rattle.tm_session.specs.Outcome.{ending_of, HasReadTold, HasWritten, left_by}
+use Rattle.tm_session.specs.Outcome.{ending_of, HasWritten, left_by, IsBy}
+use Rattle.tm_session.specs.Sources.{HasReadTold}
 use Rattle.tm_session.specs.Outcome.Ending.{NotBegun}
+use Rattle.session_lives.specs.Running.{life_of, setting_of, Holds}
+use Rattle.session_lives.specs.Openings.{error_of}
 
--- a life of the control region, as it is kept
-abbrev pub life_of : Life → LifeState
-life_of life = record { opening = life.opening; history = life.history; kept = life.kept }
-
--- A session of the system that had these lives. Blocks of lines were served, each the source's next one;
--- they stand for just the entries of the lives, in their order; and what is printed for them, and nothing
--- else, was written.
-pub record HasLived (system : System) (told told' old new : Option (List ℕ)) (lives : List LifeState) (ended : Ended) : Type 0 where
+-- A session of the system over the disk that was handed in. It begins with an opening of the disk. Blocks of lines were
+-- served, each the source's next one, and what is printed for them, and nothing else, was written. They led through the lives
+-- and the stops that are told, and each image that a crash of the disk may leave as it is handed back recovers to what the
+-- session's standing allows: the state after a front of the last life's lasting steps that has all that were answered, and
+-- while the system is up after all of them.
+pub record HasLived {D : Type 0} (state : D → DiskState) (system : System) (told told' old new : Option (List ℕ)) (handed disk : D) (ended : Ended) (lives : List LifeState) (stops : List Stop) : Type 0 where
   pub blocks : List Block
   pub others : List Block
+  pub first : SessionState
+  pub mid : SessionState
+  pub last : SessionState
   pub text : List ℕ
   pub begun : ending_of ended ≢ NotBegun
-  pub session : IsDrilled system (left_by ended system others) blocks lives text
+  pub begins : Begins (setting_of state system handed) first
+  pub session : AreServed (setting_of state system handed) blocks first mid text
+  pub unprinted : left_by ended system others mid last
   pub read : HasReadTold told told' blocks others ended
   pub written : HasWritten old new text ended
+  pub lives_are : AreAllLives system last lives
+  pub legal : AreLegal system lives
+  pub stops_are : stops ≡ last.stops
+  pub counted : AreStops (state handed).faults stops (state disk).faults
+  pub images : (image : Image) → (state disk).may_leave image → Holds state system handed last.standing image
+  pub by : IsBy ended last.standing
 
 -- the source's definition defines this system; it breaks a rule
 abbrev pub Defines : List ℕ → System → Type 0
@@ -36,8 +54,8 @@ Defines bytes system = judged (definition_lines (lines_of bytes)) ≡ Ok system
 abbrev pub BreaksRule : List ℕ → Ended → Type 0
 BreaksRule bytes ended = judged (definition_lines (lines_of bytes)) ≡ Err ended
 
--- how a run ends before its life begins: the definition breaks a rule, or wasn't read to its end, or
--- memory was wanting
+-- how a run ends before its disk is looked at: the definition breaks a rule, or wasn't read to its end, or memory
+-- was wanting
 abbrev pub IsUnbegun : Option (List ℕ) → Ended → Type 0
 IsUnbegun told (BadLine line rule) = IfSome told (λ bytes. BreaksRule bytes (BadLine line rule))
 IsUnbegun told (BadCross line rule) = IfSome told (λ bytes. BreaksRule bytes (BadCross line rule))
@@ -46,8 +64,39 @@ IsUnbegun told Read = Unit {0}
 IsUnbegun told Memory = Unit {0}
 IsUnbegun told _ = ⊥
 
--- A session has lives, of the system that the source defines; or none, and then nothing was printed.
-abbrev pub IsSession : Option (List ℕ) → Option (List ℕ) → Option (List ℕ) → Option (List ℕ) → Ended → List Life → Type 0
-IsSession told told' old new ended [] = IsUnbegun told ended × (new ≡ old)
-IsSession told told' old new ended (life ∷ lives) =
-    (system : System) × IfSome told (λ bytes. Defines bytes system) × HasLived system told told' old new (map life_of (life ∷ lives)) ended
+pub record HasNotBegun {D : Type 0} (told : Option (List ℕ)) (handed disk : D) (ended : Ended) : Type 0 where
+  pub unbegun : IsUnbegun told ended
+  pub same : disk ≡ handed
+
+-- why the disk that was handed in is not opened: it can't be, a counter is spent, or memory was wanting
+abbrev pub IsRefusal : System → List ℕ → DiskState → Ended → Type 0
+IsRefusal system text disk (BadImage refusal) = Refuses Found system text disk (error_of refusal)
+IsRefusal system text disk Spent = Unit {0}
+IsRefusal system text disk Memory = Unit {0}
+IsRefusal system text disk _ = ⊥
+
+-- The disk was not opened, and nothing was written to it.
+pub record IsNeverOpened {D : Type 0} (state : D → DiskState) (told : Option (List ℕ)) (handed disk : D) (ended : Ended) : Type 0 where
+  pub system : System
+  pub defines : IfSome told (λ bytes. Defines bytes system)
+  pub text : List ℕ
+  pub text_is : IfSome told (λ bytes. text ≡ definition_text (definition_lines (lines_of bytes)))
+  pub refusal : IsRefusal system text (state handed) ended
+  pub wrote : WroteNothing (state handed) (state disk)
+
+-- no life, no stop, and nothing was printed
+pub record ToldNothing (old new : Option (List ℕ)) (lives : List Life) (stops : List Stop) : Type 0 where
+  pub no_life : lives ≡ []
+  pub no_stop : stops ≡ []
+  pub nothing : new ≡ old
+
+-- A session has lived, with the system that the source defines; or it has not begun, or its disk was never opened.
+pub record HasSession {D : Type 0} (state : D → DiskState) (told told' old new : Option (List ℕ)) (handed disk : D) (ended : Ended) (lives : List Life) (stops : List Stop) : Type 0 where
+  pub system : System
+  pub defines : IfSome told (λ bytes. Defines bytes system)
+  pub lived : HasLived state system told told' old new handed disk ended (map life_of lives) stops
+
+abbrev pub IsSession : {D : Type 0} → (D → DiskState) → Option (List ℕ) → Option (List ℕ) → Option (List ℕ) → Option (List ℕ) → D → D → Ended → List Life → List Stop → Type 0
+IsSession state told told' old new handed disk ended lives stops =
+    HasSession state told told' old new handed disk ended lives stops
+    ⊎ ((HasNotBegun told handed disk ended ⊎ IsNeverOpened state told handed disk ended) × ToldNothing old new lives stops)

@@ -1,7 +1,8 @@
-pub mod Serving
-pub mod Source
 pub mod Outcome
-pub mod Opening
+pub mod Unread
 pub mod Driving
+pub mod Source
+pub mod Opening
+pub mod Sources
 pub mod Headline
 pub mod Opened

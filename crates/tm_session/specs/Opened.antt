@@ -1,28 +1,99 @@
--- A control region that was opened, and a life that ended.
-use Rattle.std.specs.Prelude.{◌≡◌, ℕ, Option, IfSome, List, [], ◌∷◌, length}
-use Rattle.model_machine.specs.Machine.{empty_state, start_of}
-use Rattle.model_machine.specs.History.{ControlState, AreSteps, now_of}
-use Rattle.memory_control.specs.declared.life.Life.{Life}
+-- A definition that was read, a session that has begun, and one that has ended.
+use Rattle.std.specs.Prelude.{◌≡◌, ℕ, ◌++◌, ◌<◌, Bool, true, false, List, [], ◌∷◌, length, map, Option, Some, None, IfSome}
+use Rattle.model_disk.specs.Disk.{DiskState}
+use Rattle.model_system.specs.System.{System}
+use Rattle.tm_control.specs.OnDisk.{ControlOnDisk, Lasts}
+use Rattle.tm_control.specs.Closed.{Closes}
+use Rattle.control_life.specs.declared.life.Life.{Life}
+use Rattle.session_lives.specs.declared.called.Opening.{Opening}
+use Rattle.session_lives.specs.declared.called.Opening.TheVariants.{Opened, Broke, Refused, Memory as NoMemory, Spent as SpentCounter}
+use Rattle.tm_session.specs.declared.outcome.Ended.{Ended}
+use Rattle.tm_session.specs.declared.outcome.Ended.TheVariants.{Done, Words, BadLine, BadCross, Down as DownAtEnd, Read, Write, Image, Memory, Limit, Spent}
+use Rattle.session_lives.specs.declared.place.Idle.{Idle}
+use Rattle.session_lives.specs.declared.place.Place.{Place}
+use Rattle.session_lives.specs.declared.place.Place.TheVariants.{Up, Down}
+use Rattle.session_lives.specs.declared.place.Kept.{Kept}
+use Rattle.session_lives.specs.declared.place.Session.{Session}
 use Rattle.tm_session.specs.Opening.{ReadsDefinition}
+use Rattle.tm_session.specs.Source.{definition_text}
+use Rattle.session_lives.specs.Openings.{HasGone}
 use Rattle.tm_session.specs.Headline.{Defines}
 
--- the definition was read, of so many lines, and this is an empty control region of its system
-pub record IsOpened (told told' : Option (List ℕ)) (count : ℕ) (control : ControlState) : Type 0 where
+-- the definition was read, of so many lines, with this system and this text
+pub record IsRead (told told' : Option (List ℕ)) (count : ℕ) (system : System) (text : List ℕ) : Type 0 where
   pub texts : List (List ℕ)
   pub read : ReadsDefinition told texts told'
   pub counted : length texts ≡ count
-  pub defines : IfSome told (λ bytes. Defines bytes control.system)
-  pub opening : control.opening ≡ empty_state control.system
-  pub history : control.history ≡ []
+  pub defines : IfSome told (λ bytes. Defines bytes system)
+  pub joined : text ≡ definition_text texts
 
--- the life of a control region
-pub record IsLifeOf (control : ControlState) (life : Life) : Type 0 where
-  pub opening : life.opening ≡ control.opening
-  pub history : life.history ≡ control.history
-  pub kept : life.kept ≡ (now_of control).lasting.steps
-  pub steps : AreSteps control.system (start_of control.system control.opening) control.history
+-- how a session ends whose first opening went so
+abbrev pub refusal : Opening → Option Ended
+refusal Opened = None
+refusal Broke = None
+refusal (Refused refused) = Some (Image refused)
+refusal NoMemory = Some Memory
+refusal SpentCounter = Some Spent
 
-abbrev pub IsOneLife : ControlState → List Life → Type 0
-IsOneLife control [] = ⊥
-IsOneLife control (life ∷ []) = IsLifeOf control life
-IsOneLife control (life ∷ other ∷ lives) = ⊥
+-- The disk that was handed in was opened for the system, or that went otherwise.
+pub record HasBegun {D : Type 0} (state : D → DiskState) (system : System) (text : List ℕ) (disk : D) (session : Session D) (ended : Option Ended) : Type 0 where
+  pub opening : Opening
+  pub idle : Idle D
+  pub disk_is : idle.disk ≡ disk
+  pub system_is : idle.system ≡ system
+  pub text_is : idle.text ≡ text
+  pub last_is : idle.last ≡ None
+  pub emptied_is : idle.emptied ≡ false
+  pub stopped_is : idle.stopped ≡ false
+  pub kept : Kept
+  pub lives : kept.lives.items ≡ []
+  pub stops : kept.stops.items ≡ []
+  pub gone : HasGone state idle kept false session opening
+  pub ends : ended ≡ refusal opening
+
+-- it has not begun
+pub record IsNothing {D : Type 0} (disk : D) (ended status : Ended) (disk_back : D) (lives : List Life) (stops : List (ℕ × ℕ)) : Type 0 where
+  pub status_is : status ≡ ended
+  pub disk_is : disk_back ≡ disk
+  pub no_life : lives ≡ []
+  pub no_stop : stops ≡ []
+
+-- at the source's end the system may be down by a stop
+abbrev pub down_at_end : Ended → Ended
+down_at_end Done = DownAtEnd
+down_at_end ended = ended
+
+abbrev pub by_standing : Bool → Ended → Ended
+by_standing true ended = down_at_end ended
+by_standing false ended = ended
+
+abbrev pub listed : Option Life → List Life
+listed None = []
+listed (Some life) = life ∷ []
+
+-- so many are there, of as many as there is room for
+abbrev pub HasRoomIf : Option Life → ℕ → ℕ → Type 0
+HasRoomIf None count room = Unit {0}
+HasRoomIf (Some life) count room = count < room
+
+-- A session that was up has ended, or one that was down.
+pub record IsFinishedUp {D : Type 0} (state : D → DiskState) (control : ControlOnDisk D) (kept : Kept) (ended status : Ended) (disk : D) (lives : List Life) (stops : List (ℕ × ℕ)) : Type 0 where
+  pub life : Life
+  pub closes : Closes control disk life control.control.system control.text control.began
+  pub lasts : Lasts state control
+  pub status_is : status ≡ ended
+  pub lives_are : lives ≡ kept.lives.items ++ life ∷ []
+  pub stops_are : stops ≡ kept.stops.items
+
+pub record IsFinishedDown {D : Type 0} (idle : Idle D) (kept : Kept) (ended status : Ended) (disk : D) (lives : List Life) (stops : List (ℕ × ℕ)) : Type 0 where
+  pub disk_is : disk ≡ idle.disk
+  pub status_is : status ≡ by_standing idle.stopped ended
+  pub lives_are : lives ≡ kept.lives.items ++ listed idle.last
+  pub stops_are : stops ≡ kept.stops.items
+
+abbrev pub IsFinishedAt : {D : Type 0} → (D → DiskState) → Place D → Kept → Ended → Ended → D → List Life → List (ℕ × ℕ) → Type 0
+IsFinishedAt state (Up control) kept ended status disk lives stops = IsFinishedUp state control kept ended status disk lives stops
+IsFinishedAt state (Down idle) kept ended status disk lives stops = IsFinishedDown idle kept ended status disk lives stops
+
+abbrev pub IsFinished : {D : Type 0} → (D → DiskState) → Session D → Ended → Ended → D → List Life → List (ℕ × ℕ) → Type 0
+IsFinished state session ended status disk lives stops = IsFinishedAt state session.place session.kept ended status disk lives stops

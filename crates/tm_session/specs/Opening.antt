@@ -1,24 +1,11 @@
--- The reader's next line, and the definition, as it is read before a session.
+-- The definition, as it is read before a session.
 use Rattle.std.specs.Prelude.{◌≡◌, ℕ, ◌<◌, ◌≤◌, ◌⊎◌, Bool, Option, Some, None, IfSome, Result, Ok, Err, List, [], ◌++◌, length}
 use Rattle.model_system.specs.System.{System}
-use Rattle.tm_edge.specs.Fault.{HasRisen}
-use Rattle.tm_edge.specs.Lines.{CutLine, HasServed, IsTooLong, line_size, lines_of}
+use Rattle.tm_edge.specs.Lines.{CutLine, HasServed, IsTooLong, lines_of}
 use Rattle.tm_session.specs.declared.outcome.Ended.{Ended}
 use Rattle.tm_session.specs.declared.outcome.Ended.TheVariants.{BadLine, BadCross, Read, Memory, Limit}
 use Rattle.sysdef_text.specs.Ends.{definition_lines, lines_behind, definition_from, behind_from}
 use Rattle.tm_session.specs.Outcome.{texts_of}
-
--- ---- one line
-
--- No line was read, and the same bytes lie before the reader, some of which it holds: reading failed; or
--- the next line is too long; or memory was wanting, and nothing that is held is a line that is too long.
-abbrev pub IsUnread : Ended → Option (List ℕ) → List ℕ → ℕ → ℕ → Type 0
-IsUnread Read told held reads_old reads_new = HasRisen reads_old reads_new
-IsUnread (Limit n) told held reads_old reads_new = (n ≡ 4097) × IfSome told IsTooLong × (reads_new ≡ reads_old)
-IsUnread Memory told held reads_old reads_new = (line_size held ≤ 4096) × (reads_new ≡ reads_old)
-IsUnread _ told held reads_old reads_new = ⊥
-
--- ---- a definition
 
 -- These are the lines of the definition. The lines behind them, however many, are the session's; or the
 -- source ended with them, within the definition.

@@ -1,19 +1,20 @@
 -- How a session ends, and what it has done.
-use Rattle.std.specs.Prelude.{◌≡◌, ◌≢◌, ℕ, ◌<◌, ◌≤◌, ◌⊎◌, Option, Some, None, List, [], ◌++◌, map, length}
+use Rattle.std.specs.Prelude.{◌≡◌, ◌≢◌, ℕ, ◌<◌, ◌≤◌, ◌⊎◌, Bool, true, false, Option, Some, None, List, [], ◌++◌, map, length}
 use Rattle.std.specs.Io.KnownBytes.{append_known, IsAtEnd}
 use Rattle.model_system.specs.System.{System}
 use Rattle.model_session.specs.Blocks.{Block, blocks_of, closed}
-use Rattle.model_session.specs.Session.{Left, none_left, IsBegun}
+use Rattle.model_session.specs.Standing.{SessionState, Standing, is_stopped}
+use Rattle.model_session.specs.Session.{IsBegun}
 use Rattle.tm_edge.specs.Fault.{HasRisen, AppendsFront}
-use Rattle.tm_edge.specs.Lines.{CutLine, HasServed, IsTooLong}
+use Rattle.tm_edge.specs.Lines.{CutLine, IsTooLong}
 use Rattle.tm_session.specs.declared.outcome.Ended.{Ended}
-use Rattle.tm_session.specs.declared.outcome.Ended.TheVariants.{Done, Words, BadLine, BadCross, Read, Write, Memory, Limit}
-use Rattle.sysdef_text.specs.Ends.{lines_behind}
+use Rattle.tm_session.specs.declared.outcome.Ended.TheVariants.{Done, Words, BadLine, BadCross, Down, Read, Write, Image, Memory, Limit, Spent}
 
 -- ---- ways to end
 
 -- A session ends with its source. It stops between two lines, where a limit is met or reading fails. It
--- breaks off, for want of memory or where writing fails. Or it never begins.
+-- breaks off, for want of memory, where writing fails, or at a block that it can't serve: a counter is spent, or the disk can't
+-- be opened. Or it never begins.
 pub data Ending : Type 0 where
   Whole : Ending
   Stopped : Ending
@@ -26,6 +27,9 @@ ending_of Read = Stopped
 ending_of (Limit n) = Stopped
 ending_of Write = BrokenOff
 ending_of Memory = BrokenOff
+ending_of Spent = BrokenOff
+ending_of (Image refusal) = BrokenOff
+ending_of Down = Whole
 ending_of (Words word rule) = NotBegun
 ending_of (BadLine line rule) = NotBegun
 ending_of (BadCross line rule) = NotBegun
@@ -57,22 +61,6 @@ AreSettled BrokenOff lines rest blocks others =
     (closed (blocks_of lines) ≡ blocks ++ others) ⊎ ((rest ≡ []) × (blocks_of lines ≡ blocks ++ others))
 AreSettled NotBegun lines rest blocks others = ⊥
 
--- The source's lines were read one after another, at most a million and none of them too long. Behind
--- them come the bytes that were taken from the source and are held, and then those that it has left.
-pub record HasRead (bytes left : List ℕ) (blocks others : List Block) (ended : Ended) : Type 0 where
-  pub cut : List CutLine
-  pub held : List ℕ
-  pub served : HasServed bytes cut (held ++ left)
-  pub few : length cut ≤ 1000000
-  pub settled : AreSettled (ending_of ended) (lines_behind (texts_of cut)) (held ++ left) blocks others
-  pub limit : IsAtLimit ended (length cut) (held ++ left)
-
--- the same, where the source tells its bytes
-abbrev pub HasReadTold : Option (List ℕ) → Option (List ℕ) → List Block → List Block → Ended → Type 0
-HasReadTold (Some bytes) (Some left) blocks others ended = HasRead bytes left blocks others ended
-HasReadTold (Some bytes) None blocks others ended = ⊥
-HasReadTold None left blocks others ended = left ≡ None
-
 -- bytes were taken from the front of those that are told, and from nowhere else
 abbrev pub IsBack : Option (List ℕ) → Option (List ℕ) → Type 0
 IsBack (Some old) (Some new) = (front : List ℕ) × (old ≡ front ++ new)
@@ -82,6 +70,7 @@ IsBack None new = new ≡ None
 -- a session that is done has read the source to its end
 abbrev pub IsReadToEnd : Ended → Option (List ℕ) → Type 0
 IsReadToEnd Done left = IsAtEnd left
+IsReadToEnd Down left = IsAtEnd left
 IsReadToEnd _ left = Unit {0}
 
 -- ---- what was written
@@ -91,11 +80,27 @@ abbrev pub HasWritten : Option (List ℕ) → Option (List ℕ) → List ℕ →
 HasWritten old new text Write = AppendsFront old new text
 HasWritten old new text _ = new ≡ append_known old text
 
--- Entries without a printed line: none; but where memory was wanting, the turns of a QUIET that broke
+-- a block could not be served
+abbrev pub is_undone : Ended → Bool
+is_undone Memory = true
+is_undone Spent = true
+is_undone (Image refusal) = true
+is_undone _ = false
+
+-- Entries without a printed line: none; but where a block could not be served, the turns of a QUIET that broke
 -- off, which is the first block that was not served.
-abbrev pub left_by : Ended → System → List Block → Left
-left_by Memory system others = IsBegun system others
-left_by _ system others = none_left
+abbrev pub left_if : Bool → System → List Block → SessionState → SessionState → Type 0
+left_if true system others old new = IsBegun system others old new
+left_if false system others old new = new ≡ old
+
+abbrev pub left_by : Ended → System → List Block → SessionState → SessionState → Type 0
+left_by ended system others old new = left_if (is_undone ended) system others old new
+
+-- whether the system is down by a stop, at the end of the source
+abbrev pub IsBy : Ended → Standing → Type 0
+IsBy Done standing = is_stopped standing ≡ false
+IsBy Down standing = is_stopped standing ≡ true
+IsBy _ standing = Unit {0}
 
 -- ---- causes
 

@@ -1,5 +1,6 @@
 -- The system that a definition defines.
-use Rattle.std.specs.Prelude.{ℕ, List, Result, Ok, Err}
+use Rattle.std.specs.Prelude.{ℕ, List, [], ◌∷◌, ◌++◌, Result, Ok, Err}
+use Rattle.std.specs.List.{flat_map}
 use Rattle.model_system.specs.System.{System}
 use Rattle.system_types.specs.declared.definition.MacroLine.{MacroLine}
 use Rattle.sysdef_check.specs.Systems.{checked}
@@ -19,3 +20,10 @@ by_lines (Err (line, rule)) = Err (BadLine line rule)
 
 unfoldable pub judged : List (List ℕ) → Result System Ended
 judged lines = by_lines (definition_in lines)
+
+-- The text of a definition: its lines, each ended by LF.
+abbrev pub ended_line : List ℕ → List ℕ
+ended_line line = line ++ 10 ∷ []
+
+abbrev pub definition_text : List (List ℕ) → List ℕ
+definition_text lines = flat_map ended_line lines

@@ -1,19 +1,21 @@
 //! A session, driven line by line.
-ghost use Rattle.std.specs.Prelude.{◌≡◌, ◌<◌, ◌≤◌, ℕ, [], ◌∷◌, Some, None, true, false, MatchOption, IfSome, IfErr, OnOk, IsNone, IsTrue};
+ghost use Rattle.std.specs.Prelude.{◌≡◌, ◌<◌, ◌≤◌, ℕ, [], ◌∷◌, Some, None, true, false, MatchOption, IfSome, IsNone, IsTrue};
 ghost use Rattle.text_rows.specs.Lines.{is_passed_over};
 ghost use Rattle.tm_edge.specs.Lines.{unread};
 ghost use Rattle.model_session.specs.Blocks as spec;
-ghost use Rattle.tm_session.specs.Driving.{Serves, FailsAt, Goes, Ends, EndsWhole, Steps, StopsHere, StopsLast, HasDriven, IsOpen, behind_last};
+ghost use Rattle.session_lives.specs.Running.{IsReady, Leads};
+ghost use Rattle.tm_session.specs.Driving.{Serves, FailsAt, Goes, Ends, EndsWhole, Steps, StopsHere, StopsLast, HasDriven, IsOpen, IsBroken, behind_last};
 ghost use Rattle.tm_session.specs.Outcome.{HasCause, IsBack, IsReadToEnd};
+ghost use Rattle.tm_session.specs.Driving.{ended_by, IsWritten, IsFinished};
 
 use crate::outcome::Ended;
 use crate::reader::read_line;
-use crate::serve::serve_block;
-use memory_control::Control;
 use session_lines::{Block, is_further, takes_further};
+use session_lives::{Served, Session, Undone, serve_block};
 use session_text::Printed;
 use std::alloc::Global;
 use text_rows::is_passed_over;
+use tm_disk::Disk;
 use tm_edge::{Line, Lines, Sink, Source};
 
 /// The most lines that a source has.
@@ -23,56 +25,91 @@ const LINE_COUNT: u32 = 1_000_000;
 const LINE_PAST: u64 = 1_000_001;
 
 /// Serves a block, and writes its text.
-#[tactic(auto, using(crate::proofs::Driven::served_steps))]
-fn serve_whole<K: Sink>(
+fn serve_whole<K: Sink, D: Disk>(
     alloc: Global,
-    control: &mut Control,
+    session: Session<D>,
     printed: &mut Printed,
     sink: &mut K,
     block: &Block,
-) -> Result<(), Ended>
-    ensures ok { OnOk result (Serves (block.now ∷ []) (K.written sink.old) (K.written sink.new) control.old control.new) }
-    ensures calm { OnOk result (K.faults sink.new ≡ K.faults sink.old) }
-    ensures failed { IfErr result (λ ended. FailsAt ended block.now (K.written sink.old) (K.written sink.new) control.old control.new) }
-    ensures cause { IfErr result (λ ended. HasCause ended 0 0 (K.faults sink.old) (K.faults sink.new)) }
+) -> (Session<D>, Option<Ended>)
+    requires ready { IsReady D.state session }
+    ensures step { Leads D.state (λ setting a b. MatchOption result.1
+        (Serves setting (block.now ∷ []) (K.written sink.old) (K.written sink.new) a b)
+        (λ ended. FailsAt setting ended block.now (K.written sink.old) (K.written sink.new) a b)) session result.0 }
+    ensures ready { IsReady D.state result.0 }
+    ensures broken { IfSome result.1 IsBroken }
+    ensures calm { IsNone result.1 → K.faults sink.new ≡ K.faults sink.old }
+    ensures cause { IfSome result.1 (λ ended. HasCause ended 0 0 (K.faults sink.old) (K.faults sink.new)) }
 {
-    let Ok(()) = serve_block(alloc, control, printed, block) else {
-        return Err(Ended::Memory);
-    };
-    match sink.put(printed.as_slice()) {
-        Ok(()) => Ok(()),
-        Err(_) => Err(Ended::Write),
+    let (session, served) = serve_block(alloc, session, printed, block);
+    (session, finish(printed, sink, served))
+}
+
+/// Writes the text of a block that was served so.
+fn finish<K: Sink>(printed: &Printed, sink: &mut K, served: Served) -> Option<Ended>
+    ensures finished { IsFinished printed.now.text served (K.written sink.old) (K.written sink.new) result }
+    ensures broken { IfSome result IsBroken }
+    ensures calm { IsNone result → K.faults sink.new ≡ K.faults sink.old }
+    ensures cause { IfSome result (λ ended. HasCause ended 0 0 (K.faults sink.old) (K.faults sink.new)) }
+{
+    match served {
+        Served::Printed => write(sink, printed.as_slice()),
+        Served::Broke => write(sink, b"STOPPED\n"),
+        Served::Undone(undone) => Some(ended_by(undone)),
+    }
+}
+
+/// Writes a text, or says how the session ended.
+fn write<K: Sink>(sink: &mut K, text: &[u8]) -> Option<Ended>
+    ensures written { IsWritten (K.written sink.old) (K.written sink.new) text.now result }
+    ensures broken { IfSome result IsBroken }
+    ensures calm { IsNone result → K.faults sink.new ≡ K.faults sink.old }
+    ensures cause { IfSome result (λ ended. HasCause ended 0 0 (K.faults sink.old) (K.faults sink.new)) }
+{
+    match sink.put(text) {
+        Ok(()) => None,
+        Err(_) => Some(Ended::Write),
+    }
+}
+
+/// How a session ends at a block that could not be served.
+fn ended_by(undone: Undone) -> Ended
+    ensures { result ≡ ended_by undone }
+{
+    match undone {
+        Undone::Memory => Ended::Memory,
+        Undone::Spent => Ended::Spent,
+        Undone::Image(refusal) => Ended::Image(refusal),
     }
 }
 
 /// Serves a line that belongs to no line before it, or keeps it where it may take `+` lines.
-#[tactic(auto, using(crate::proofs::Steps::line_steps))]
-fn begin_block<K: Sink>(
+fn begin_block<K: Sink, D: Disk>(
     alloc: Global,
-    control: &mut Control,
+    session: Session<D>,
     printed: &mut Printed,
     sink: &mut K,
     pending: &mut Option<Block>,
     line: Line,
-) -> Option<Ended>
+) -> (Session<D>, Option<Ended>)
+    requires ready { IsReady D.state session }
     requires none { pending.old ≡ None }
     requires seen { is_passed_over line ≡ false }
-    ensures step { MatchOption result
-        (Goes None line pending.new (K.written sink.old) (K.written sink.new) control.old control.new)
-        (λ ended. Ends ended None line (K.written sink.old) (K.written sink.new) control.old control.new) }
+    ensures step { Leads D.state (λ setting a b. MatchOption result.1
+        (Goes setting None line pending.new (K.written sink.old) (K.written sink.new) a b)
+        (λ ended. Ends setting ended None line (K.written sink.old) (K.written sink.new) a b)) session result.0 }
+    ensures ready { IsReady D.state result.0 }
     ensures begun { IfSome pending.new IsOpen }
-    ensures calm { IsNone result → K.faults sink.new ≡ K.faults sink.old }
-    ensures cause { IfSome result (λ ended. HasCause ended 0 0 (K.faults sink.old) (K.faults sink.new)) }
+    ensures broken { IfSome result.1 IsBroken }
+    ensures calm { IsNone result.1 → K.faults sink.new ≡ K.faults sink.old }
+    ensures cause { IfSome result.1 (λ ended. HasCause ended 0 0 (K.faults sink.old) (K.faults sink.new)) }
 {
     let block = Block::alone(alloc, line);
     if takes_further(block.line()) {
         *pending = Some(block);
-        return None;
+        return (session, None);
     }
-    match serve_whole(alloc, control, printed, sink, &block) {
-        Ok(()) => None,
-        Err(ended) => Some(ended),
-    }
+    serve_whole(alloc, session, printed, sink, &block)
 }
 
 /// Adds a `+` line to the line that it belongs to.
@@ -88,131 +125,164 @@ fn lengthen(pending: &mut Option<Block>, block: Block, line: Line) -> bool
 }
 
 /// Serves the line that was kept, and then the next one, which doesn't belong to it.
-fn serve_both<K: Sink>(
+fn serve_both<K: Sink, D: Disk>(
     alloc: Global,
-    control: &mut Control,
+    session: Session<D>,
     printed: &mut Printed,
     sink: &mut K,
     pending: &mut Option<Block>,
     block: Block,
     line: Line,
-) -> Option<Ended>
+) -> (Session<D>, Option<Ended>)
+    requires ready { IsReady D.state session }
     requires none { pending.old ≡ None }
     requires seen { is_passed_over line ≡ false }
     requires plain { spec.is_further line ≡ false }
-    ensures step { MatchOption result
-        (Goes (Some block) line pending.new (K.written sink.old) (K.written sink.new) control.old control.new)
-        (λ ended. Ends ended (Some block) line (K.written sink.old) (K.written sink.new) control.old control.new) }
+    ensures step { Leads D.state (λ setting a b. MatchOption result.1
+        (Goes setting (Some block) line pending.new (K.written sink.old) (K.written sink.new) a b)
+        (λ ended. Ends setting ended (Some block) line (K.written sink.old) (K.written sink.new) a b)) session result.0 }
+    ensures ready { IsReady D.state result.0 }
     ensures begun { IfSome pending.new IsOpen }
-    ensures calm { IsNone result → K.faults sink.new ≡ K.faults sink.old }
-    ensures cause { IfSome result (λ ended. HasCause ended 0 0 (K.faults sink.old) (K.faults sink.new)) }
+    ensures broken { IfSome result.1 IsBroken }
+    ensures calm { IsNone result.1 → K.faults sink.new ≡ K.faults sink.old }
+    ensures cause { IfSome result.1 (λ ended. HasCause ended 0 0 (K.faults sink.old) (K.faults sink.new)) }
 {
-    match serve_whole(alloc, control, printed, sink, &block) {
-        Ok(()) => begin_block(alloc, control, printed, sink, pending, line),
-        Err(ended) => Some(ended),
+    let (session, failed) = serve_whole(alloc, session, printed, sink, &block);
+    match failed {
+        None => begin_block(alloc, session, printed, sink, pending, line),
+        Some(ended) => (session, Some(ended)),
     }
 }
 
 /// Does what a line asks for that was read.
-fn serve_read<K: Sink>(
+fn serve_read<K: Sink, D: Disk>(
     alloc: Global,
-    control: &mut Control,
+    session: Session<D>,
     printed: &mut Printed,
     sink: &mut K,
     pending: &mut Option<Block>,
     line: Line,
-) -> Option<Ended>
+) -> (Session<D>, Option<Ended>)
+    requires ready { IsReady D.state session }
     requires begun { IfSome pending.old IsOpen }
-    ensures step { MatchOption result
-        (Goes pending.old line pending.new (K.written sink.old) (K.written sink.new) control.old control.new)
-        (λ ended. Ends ended pending.old line (K.written sink.old) (K.written sink.new) control.old control.new) }
+    ensures step { Leads D.state (λ setting a b. MatchOption result.1
+        (Goes setting pending.old line pending.new (K.written sink.old) (K.written sink.new) a b)
+        (λ ended. Ends setting ended pending.old line (K.written sink.old) (K.written sink.new) a b)) session result.0 }
+    ensures ready { IsReady D.state result.0 }
     ensures begun { IfSome pending.new IsOpen }
-    ensures calm { IsNone result → K.faults sink.new ≡ K.faults sink.old }
-    ensures cause { IfSome result (λ ended. HasCause ended 0 0 (K.faults sink.old) (K.faults sink.new)) }
+    ensures broken { IfSome result.1 IsBroken }
+    ensures calm { IsNone result.1 → K.faults sink.new ≡ K.faults sink.old }
+    ensures cause { IfSome result.1 (λ ended. HasCause ended 0 0 (K.faults sink.old) (K.faults sink.new)) }
 {
     if is_passed_over(line.bytes()) {
-        return None;
+        return (session, None);
     }
     let Some(block) = pending.take() else {
-        return begin_block(alloc, control, printed, sink, pending, line);
+        return begin_block(alloc, session, printed, sink, pending, line);
     };
     if is_further(line.bytes()) {
         if lengthen(pending, block, line) {
-            return None;
+            return (session, None);
         }
-        return Some(Ended::Memory);
+        return (session, Some(Ended::Memory));
     }
-    serve_both(alloc, control, printed, sink, pending, block, line)
+    serve_both(alloc, session, printed, sink, pending, block, line)
+}
+
+/// Serves the last block of a source.
+fn serve_last<K: Sink, D: Disk>(
+    alloc: Global,
+    session: Session<D>,
+    printed: &mut Printed,
+    sink: &mut K,
+    block: &Block,
+) -> (Session<D>, Ended)
+    requires ready { IsReady D.state session }
+    ensures step { Leads D.state (λ setting a b. EndsWhole setting result.1 (Some block.now) (K.written sink.old) (K.written sink.new) a b) session result.0 }
+    ensures ready { IsReady D.state result.0 }
+    ensures cause { HasCause result.1 0 0 (K.faults sink.old) (K.faults sink.new) }
+{
+    let (session, failed) = serve_whole(alloc, session, printed, sink, block);
+    match failed {
+        None => (session, Ended::Done),
+        Some(ended) => (session, ended),
+    }
 }
 
 /// Serves the line that was kept, at the end of the source.
-fn serve_end<K: Sink>(
+fn serve_end<K: Sink, D: Disk>(
     alloc: Global,
-    control: &mut Control,
+    session: Session<D>,
     printed: &mut Printed,
     sink: &mut K,
     pending: &mut Option<Block>,
-) -> Ended
-    ensures step { EndsWhole result pending.old (K.written sink.old) (K.written sink.new) control.old control.new }
+) -> (Session<D>, Ended)
+    requires ready { IsReady D.state session }
+    ensures step { Leads D.state (λ setting a b. EndsWhole setting result.1 pending.old (K.written sink.old) (K.written sink.new) a b) session result.0 }
+    ensures ready { IsReady D.state result.0 }
     ensures none { pending.new ≡ None }
-    ensures cause { HasCause result 0 0 (K.faults sink.old) (K.faults sink.new) }
+    ensures cause { HasCause result.1 0 0 (K.faults sink.old) (K.faults sink.new) }
 {
     match pending.take() {
-        None => Ended::Done,
-        Some(block) => match serve_whole(alloc, control, printed, sink, &block) {
-            Ok(()) => Ended::Done,
-            Err(ended) => ended,
-        },
+        None => (session, Ended::Done),
+        Some(block) => serve_last(alloc, session, printed, sink, &block),
     }
 }
 
 /// Reads the next line and does what it asks for, or says how the session ended.
-fn serve_next<S: Source, K: Sink>(
+fn serve_next<S: Source, K: Sink, D: Disk>(
     alloc: Global,
     lines: &mut Lines,
     source: &mut S,
     sink: &mut K,
-    control: &mut Control,
+    session: Session<D>,
     printed: &mut Printed,
     pending: &mut Option<Block>,
-) -> Option<Ended>
+) -> (Session<D>, Option<Ended>)
+    requires ready { IsReady D.state session }
     requires begun { IfSome pending.old IsOpen }
-    ensures step { MatchOption result
-        (Steps (unread lines.old (S.left source.old)) (unread lines.new (S.left source.new)) pending.old pending.new (K.written sink.old) (K.written sink.new) control.old control.new)
-        (λ ended. (count : ℕ) → count < 1000000 → StopsHere count ended (unread lines.old (S.left source.old)) (unread lines.new (S.left source.new)) pending.old (K.written sink.old) (K.written sink.new) control.old control.new) }
+    ensures step { Leads D.state (λ setting a b. MatchOption result.1
+        (Steps setting (unread lines.old (S.left source.old)) (unread lines.new (S.left source.new)) pending.old pending.new (K.written sink.old) (K.written sink.new) a b)
+        (λ ended. (count : ℕ) → count < 1000000 → StopsHere setting count ended (unread lines.old (S.left source.old)) (unread lines.new (S.left source.new)) pending.old (K.written sink.old) (K.written sink.new) a b)) session result.0 }
+    ensures ready { IsReady D.state result.0 }
     ensures begun { IfSome pending.new IsOpen }
-    ensures reads { IsNone result → S.faults source.new ≡ S.faults source.old }
-    ensures writes { IsNone result → K.faults sink.new ≡ K.faults sink.old }
+    ensures reads { IsNone result.1 → S.faults source.new ≡ S.faults source.old }
+    ensures writes { IsNone result.1 → K.faults sink.new ≡ K.faults sink.old }
     ensures back { IsBack (unread lines.old (S.left source.old)) (unread lines.new (S.left source.new)) }
-    ensures whole { IfSome result (λ ended. IsReadToEnd ended (unread lines.new (S.left source.new))) }
-    ensures cause { IfSome result (λ ended. HasCause ended (S.faults source.old) (S.faults source.new) (K.faults sink.old) (K.faults sink.new)) }
+    ensures whole { IfSome result.1 (λ ended. IsReadToEnd ended (unread lines.new (S.left source.new))) }
+    ensures cause { IfSome result.1 (λ ended. HasCause ended (S.faults source.old) (S.faults source.new) (K.faults sink.old) (K.faults sink.new)) }
 {
     match read_line(lines, source) {
-        Ok(Some(line)) => serve_read(alloc, control, printed, sink, pending, line),
-        Ok(None) => Some(serve_end(alloc, control, printed, sink, pending)),
-        Err(stopped) => Some(stopped),
+        Ok(Some(line)) => serve_read(alloc, session, printed, sink, pending, line),
+        Ok(None) => {
+            let (session, ended) = serve_end(alloc, session, printed, sink, pending);
+            (session, Some(ended))
+        }
+        Err(stopped) => (session, Some(stopped)),
     }
 }
 
 /// How a session ends behind the last line that it may have.
-fn end_of<S: Source, K: Sink>(
+fn end_of<S: Source, K: Sink, D: Disk>(
     alloc: Global,
     lines: &mut Lines,
     source: &mut S,
     sink: &mut K,
-    control: &mut Control,
+    session: Session<D>,
     printed: &mut Printed,
     pending: &mut Option<Block>,
-) -> Ended
-    ensures step { StopsLast 1000000 result (unread lines.old (S.left source.old)) (unread lines.new (S.left source.new)) pending.old (K.written sink.old) (K.written sink.new) control.old control.new }
+) -> (Session<D>, Ended)
+    requires ready { IsReady D.state session }
+    ensures step { Leads D.state (λ setting a b. StopsLast setting 1000000 result.1 (unread lines.old (S.left source.old)) (unread lines.new (S.left source.new)) pending.old (K.written sink.old) (K.written sink.new) a b) session result.0 }
+    ensures ready { IsReady D.state result.0 }
     ensures back { IsBack (unread lines.old (S.left source.old)) (unread lines.new (S.left source.new)) }
-    ensures whole { IsReadToEnd result (unread lines.new (S.left source.new)) }
-    ensures cause { HasCause result (S.faults source.old) (S.faults source.new) (K.faults sink.old) (K.faults sink.new) }
+    ensures whole { IsReadToEnd result.1 (unread lines.new (S.left source.new)) }
+    ensures cause { HasCause result.1 (S.faults source.old) (S.faults source.new) (K.faults sink.old) (K.faults sink.new) }
 {
     match read_line(lines, source) {
-        Ok(Some(_)) => Ended::Limit(LINE_PAST),
-        Ok(None) => serve_end(alloc, control, printed, sink, pending),
-        Err(ended) => behind_last(ended),
+        Ok(Some(_)) => (session, Ended::Limit(LINE_PAST)),
+        Ok(None) => serve_end(alloc, session, printed, sink, pending),
+        Err(ended) => (session, behind_last(ended)),
     }
 }
 
@@ -228,33 +298,38 @@ fn behind_last(ended: Ended) -> Ended
 
 /// Serves the lines of the source until it ends, a limit is met, or something fails. So many lines
 /// were read before.
-pub fn serve_lines<S: Source, K: Sink>(
+pub fn serve_lines<S: Source, K: Sink, D: Disk>(
     alloc: Global,
     lines: &mut Lines,
     before: u32,
     source: &mut S,
     sink: &mut K,
-    control: &mut Control,
-) -> Ended
-    requires { before ≤ 1000000 }
-    ensures driven { HasDriven before (unread lines.old (S.left source.old)) (unread lines.new (S.left source.new)) (K.written sink.old) (K.written sink.new) control.old control.new result }
+    session: Session<D>,
+) -> (Session<D>, Ended)
+    requires few { before ≤ 1000000 }
+    requires ready { IsReady D.state session }
+    ensures driven { Leads D.state (λ setting a b. HasDriven setting before (unread lines.old (S.left source.old)) (unread lines.new (S.left source.new)) (K.written sink.old) (K.written sink.new) a b result.1) session result.0 }
+    ensures ready { IsReady D.state result.0 }
     ensures taken { IsBack (unread lines.old (S.left source.old)) (S.left source.new) }
-    ensures whole { IsReadToEnd result (S.left source.new) }
-    ensures cause { HasCause result (S.faults source.old) (S.faults source.new) (K.faults sink.old) (K.faults sink.new) }
+    ensures whole { IsReadToEnd result.1 (S.left source.new) }
+    ensures cause { HasCause result.1 (S.faults source.old) (S.faults source.new) (K.faults sink.old) (K.faults sink.new) }
 {
     let mut printed = Printed::new(alloc);
     let mut pending = None;
+    let mut session = session;
     for _count in before..LINE_COUNT {
-        match serve_next(
+        let (after, ended) = serve_next(
             alloc,
             lines,
             source,
             sink,
-            control,
+            session,
             &mut printed,
             &mut pending,
-        ) {
-            Some(ended) => return ended,
+        );
+        session = after;
+        match ended {
+            Some(ended) => return (session, ended),
             None => {}
         }
     }
@@ -263,7 +338,7 @@ pub fn serve_lines<S: Source, K: Sink>(
         lines,
         source,
         sink,
-        control,
+        session,
         &mut printed,
         &mut pending,
     )

@@ -1,6 +1,8 @@
 //! How a session ended, and what it came to.
-use memory_control::Life;
+use control_life::Life;
+use model_session::ImageRefused;
 use std::marker::Model;
+use tm_disk::Disk;
 
 /// How a session ended. Each has a status number and, mostly, a last line.
 #[derive(Clone, Copy, Debug)]
@@ -14,14 +16,20 @@ pub enum Ended {
     /// The macros of the definition break a rule that they keep among each other: the line, and
     /// the rule.
     BadCross(u32, u8),
+    /// The source was read to its end while the system was down, and the disk has failed since a life was opened last.
+    Down,
     /// The source failed.
     Read,
     /// The sink failed.
     Write,
+    /// The disk can't be opened, and no life has begun.
+    Image(ImageRefused),
     /// No memory was left.
     Memory,
     /// A limit was met: 4097, a line of that many bytes or more; 1000001, a line past a million.
     Limit(u64),
+    /// The limit of a counter was met, 1,000,000,000,000,000,000.
+    Spent,
 }
 
 /// The lives of a session, in their order.
@@ -32,16 +40,33 @@ pub struct Lives {
 
 impl Model for Lives {
     ghost use Rattle.std.specs.Prelude.{List};
-    ghost use Rattle.memory_control.specs.declared.life.Life.{Life};
+    ghost use Rattle.control_life.specs.declared.life.Life.{Life};
 
     ghost Value = { List Life };
 
     ghost view = { λ l. l.items.items };
 }
 
-/// What a session came to.
+/// The stops of a session: for each life and each opening that a disk fault ended how often the disk had failed when that
+/// began, and when it ended.
 #[derive(Debug, Drop)]
-pub struct Outcome {
+pub struct Stops {
+    pub items: Vec<(u64, u64)>,
+}
+
+impl Model for Stops {
+    ghost use Rattle.std.specs.Prelude.{ℕ, List};
+
+    ghost Value = { List (ℕ × ℕ) };
+
+    ghost view = { λ s. s.items.items };
+}
+
+/// What a session came to.
+#[derive(Drop)]
+pub struct Outcome<D: Disk> {
     pub status: Ended,
+    pub disk: D,
     pub lives: Lives,
+    pub stops: Stops,
 }

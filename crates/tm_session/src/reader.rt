@@ -1,7 +1,7 @@
 //! The next line of a source, or how its session ends.
 ghost use Rattle.std.specs.Prelude.{◌≡◌, ◌≤◌, IfOk, IfErr, OnOk, OnErr};
 ghost use Rattle.tm_edge.specs.Lines.{ServesTold, unread};
-ghost use Rattle.tm_session.specs.Opening.{IsUnread};
+ghost use Rattle.tm_session.specs.Unread.{IsUnread};
 
 use crate::outcome::Ended;
 use tm_edge::{Line, LineFault, Lines, Source};
@@ -10,7 +10,7 @@ use tm_edge::{Line, LineFault, Lines, Source};
 const BYTE_PAST: u64 = 4097;
 
 /// Reads the next line, or none at the end of the source. Where that fails no byte is lost.
-pub(crate) fn read_line<S: Source>(lines: &mut Lines, source: &mut S) -> Result<Option<Line>, Ended>
+pub fn read_line<S: Source>(lines: &mut Lines, source: &mut S) -> Result<Option<Line>, Ended>
     ensures line { IfOk result (λ line. ServesTold (unread lines.old (S.left source.old)) line (unread lines.new (S.left source.new))) }
     ensures calm { OnOk result (S.faults source.new ≡ S.faults source.old) }
     ensures none_lost { OnErr result (unread lines.new (S.left source.new) ≡ unread lines.old (S.left source.old)) }

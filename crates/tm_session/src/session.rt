@@ -1,73 +1,83 @@
 //! A whole session.
-ghost use Rattle.std.specs.Prelude.{◌≡◌, ◌<◌, ◌≤◌, [], IfOk, IfErr, OnOk, vec_len, vec_capacity};
-ghost use Rattle.model_machine.specs.Machine.{empty_state};
+ghost use Rattle.std.specs.Prelude.{◌≡◌, ◌<◌, ◌≤◌, ◌++◌, length, vec_len, vec_capacity, IfOk, IfErr, OnOk};
+ghost use Rattle.model_disk.specs.Disk.{Only};
 ghost use Rattle.tm_edge.specs.Lines.{unread};
-ghost use Rattle.tm_session.specs.Opened.{IsOpened, IsOneLife};
+ghost use Rattle.tm_session.specs.Opened.{IsRead, HasBegun, IsNothing, IsFinished, IsFinishedUp, IsFinishedDown, refusal, by_standing, down_at_end, HasRoomIf, listed};
 ghost use Rattle.tm_session.specs.Outcome.{HasCause, IsBack, IsReadToEnd};
+ghost use Rattle.session_lives.specs.Running.{IsReady};
 ghost use Rattle.tm_session.specs.Headline.{IsSession, IsUnbegun};
 
 use crate::driver::serve_lines;
-use crate::outcome::{Ended, Lives, Outcome};
-use crate::source::{judge, read_definition};
-use memory_control::{Control, Life};
+use crate::outcome::{Ended, Lives, Outcome, Stops};
+use crate::source::{judge, read_definition, text_of};
+use session_lives::{Idle, Kept, Opening, Place, Session, open};
 use std::alloc::Global;
 use system_types::System;
+use tm_control::{Closed, Control, Life};
+use tm_disk::Disk;
 use tm_edge::{Lines, Sink, Source};
-use tm_types::Memory;
+use tm_types::Bytes;
 
-/// Reads a definition from the source, serves the lines behind it on an empty control region of that
-/// system, and prints the answers to the sink.
+/// The most bytes of a definition's text.
+const TEXT_LIMIT: usize = 262_144;
+
+/// Reads a definition from the source, opens the disk for its system, serves the lines behind the definition, over stops
+/// and restarts, and prints the answers to the sink.
 ///
-/// The status is that of the first cause met: a rule that the definition breaks, the source's end,
-/// its failure, the sink's, want of memory, or a limit.
-pub fn drill_session<S: Source, K: Sink>(alloc: Global, source: &mut S, sink: &mut K) -> Outcome
-    ensures session { IsSession (S.left source.old) (S.left source.new) (K.written sink.old) (K.written sink.new) result.status result.lives }
+/// The status is that of the first cause met: a rule that the definition breaks, a disk that can't be opened, the source's
+/// end, its failure, the sink's, want of memory, or a limit.
+pub fn drill_session<S: Source, K: Sink, D: Disk>(
+    alloc: Global,
+    source: &mut S,
+    sink: &mut K,
+    disk: D,
+) -> Outcome<D>
+    requires only { Only (D.state disk).shown (D.state disk) }
+    ensures session { IsSession D.state (S.left source.old) (S.left source.new) (K.written sink.old) (K.written sink.new) disk result.disk result.status result.lives result.stops }
     ensures taken { IsBack (S.left source.old) (S.left source.new) }
     ensures whole { IsReadToEnd result.status (S.left source.new) }
     ensures cause { HasCause result.status (S.faults source.old) (S.faults source.new) (K.faults sink.old) (K.faults sink.new) }
 {
     let mut lines = Lines::new(alloc);
-    match open(alloc, &mut lines, source) {
-        Ok((count, lives, control)) => {
-            let mut control = control;
-            let status = serve_lines(alloc, &mut lines, count, source, sink, &mut control);
-            ended(lives, control, status)
+    let (count, system, text) = match read_system(alloc, &mut lines, source) {
+        Ok(read) => read,
+        Err(status) => return nothing(alloc, disk, status),
+    };
+    let (session, refused) = begin(alloc, disk, system, text);
+    match refused {
+        Some(status) => finish(session, status),
+        None => {
+            let (session, status) = serve_lines(alloc, &mut lines, count, source, sink, session);
+            finish(session, status)
         }
-        Err(status) => Outcome {
-            status,
-            lives: Lives {
-                items: Vec::new(alloc),
-            },
+    }
+}
+
+/// What a session comes to that has not begun.
+fn nothing<D: Disk>(alloc: Global, disk: D, status: Ended) -> Outcome<D>
+    ensures { IsNothing disk status result.status result.disk result.lives result.stops }
+{
+    Outcome {
+        status,
+        disk,
+        lives: Lives {
+            items: Vec::new(alloc),
+        },
+        stops: Stops {
+            items: Vec::new(alloc),
         },
     }
 }
 
-/// What a session came to that had a life.
-fn ended(lives: Vec<Life>, control: Control, status: Ended) -> Outcome
-    requires empty { lives.items ≡ [] }
-    requires room { vec_len lives < vec_capacity lives }
-    ensures status { result.status ≡ status }
-    ensures lives { IsOneLife control result.lives }
-{
-    let mut lives = lives;
-    lives.push_reserved(control.into_life());
-    Outcome {
-        status,
-        lives: Lives { items: lives },
-    }
-}
-
-/// Reads the definition and opens its system: how many lines were read, room for its life, and the
-/// empty control region. Or says how the run ended.
-fn open<S: Source>(
+/// Reads the definition: how many lines were read, its system, and its text. Or says how the run ended.
+fn read_system<S: Source>(
     alloc: Global,
     lines: &mut Lines,
     source: &mut S,
-) -> Result<(u32, Vec<Life>, Control), Ended>
-    ensures opened { IfOk result (λ opened. IsOpened (unread lines.old (S.left source.old)) (unread lines.new (S.left source.new)) opened.0 opened.2) }
-    ensures few { IfOk result (λ opened. opened.0 ≤ 1000000) }
-    ensures empty { IfOk result (λ opened. opened.1.items ≡ []) }
-    ensures room { IfOk result (λ opened. vec_len opened.1 < vec_capacity opened.1) }
+) -> Result<(u32, System, Bytes), Ended>
+    ensures read { IfOk result (λ read. IsRead (unread lines.old (S.left source.old)) (unread lines.new (S.left source.new)) read.0 read.1 read.2) }
+    ensures few { IfOk result (λ read. read.0 ≤ 1000000) }
+    ensures short { IfOk result (λ read. length read.2 ≤ 262144) }
     ensures unbegun { IfErr result (IsUnbegun (unread lines.old (S.left source.old))) }
     ensures back { IsBack (unread lines.old (S.left source.old)) (unread lines.new (S.left source.new)) }
     ensures cause { IfErr result (λ ended. HasCause ended (S.faults source.old) (S.faults source.new) 0 0) }
@@ -81,21 +91,127 @@ fn open<S: Source>(
         Ok(system) => system,
         Err(ended) => return Err(ended),
     };
-    match begin(alloc, system) {
-        Ok((lives, control)) => Ok((definition.lines().len() as u32, lives, control)),
-        Err(_) => Err(Ended::Memory),
+    let Ok(text) = text_of(alloc, definition.lines()) else {
+        return Err(Ended::Memory);
+    };
+    if TEXT_LIMIT < text.len() {
+        return Err(Ended::Memory);
+    }
+    Ok((definition.lines().len() as u32, system, text))
+}
+
+/// Opens the disk that was handed in. It says how the session ended where that is refused; where the disk failed, the
+/// system is down.
+fn begin<D: Disk>(
+    alloc: Global,
+    disk: D,
+    system: System,
+    text: Bytes,
+) -> (Session<D>, Option<Ended>)
+    requires text { length text ≤ 262144 }
+    requires only { Only (D.state disk).shown (D.state disk) }
+    ensures begun { HasBegun D.state system text disk result.0 result.1 }
+    ensures ready { IsReady D.state result.0 }
+{
+    let idle = Idle {
+        disk,
+        system,
+        text,
+        last: None,
+        emptied: false,
+        stopped: false,
+    };
+    let (session, opening) = open(alloc, idle, Kept::new(alloc), false);
+    (session, refusal(opening))
+}
+
+/// How a session ends whose first opening went so.
+fn refusal(opening: Opening) -> Option<Ended>
+    ensures { result ≡ refusal opening }
+{
+    match opening {
+        Opening::Opened => None,
+        Opening::Broke => None,
+        Opening::Refused(refusal) => Some(Ended::Image(refusal)),
+        Opening::Memory => Some(Ended::Memory),
+        Opening::Spent => Some(Ended::Spent),
     }
 }
 
-/// An empty control region, and room for its life.
-fn begin(alloc: Global, system: System) -> Result<(Vec<Life>, Control), Memory>
-    ensures empty { IfOk result (λ begun. begun.0.items ≡ []) }
-    ensures room { IfOk result (λ begun. vec_len begun.0 < vec_capacity begun.0) }
-    ensures system { IfOk result (λ begun. begun.1.system ≡ system) }
-    ensures opening { IfOk result (λ begun. begun.1.opening ≡ empty_state system) }
-    ensures history { IfOk result (λ begun. begun.1.history ≡ []) }
+/// What a session came to.
+fn finish<D: Disk>(session: Session<D>, status: Ended) -> Outcome<D>
+    requires ready { IsReady D.state session }
+    ensures { IsFinished D.state session status result.status result.disk result.lives result.stops }
 {
-    let lives = Vec::with_capacity(alloc, 1)?;
-    let control = Control::start(alloc, system)?;
-    Ok((lives, control))
+    let Session { place, kept } = session;
+    match place {
+        Place::Up(control) => finish_up(control, kept, status),
+        Place::Down(idle) => finish_down(idle, kept, status),
+    }
+}
+
+/// What a session came to that ended while the system was up.
+fn finish_up<D: Disk>(control: Control<D>, kept: Kept, status: Ended) -> Outcome<D>
+    requires { vec_len kept.lives < vec_capacity kept.lives }
+    ensures { IsFinishedUp D.state control kept status result.status result.disk result.lives result.stops }
+{
+    let Kept { lives, stops, .. } = kept;
+    let mut lives = lives;
+    let Closed { disk, life, .. } = control.into_disk();
+    lives.push_reserved(life);
+    Outcome {
+        status,
+        disk,
+        lives: Lives { items: lives },
+        stops: Stops { items: stops },
+    }
+}
+
+/// What a session came to that ended while the system was down.
+fn finish_down<D: Disk>(idle: Idle<D>, kept: Kept, status: Ended) -> Outcome<D>
+    requires { HasRoomIf idle.last (vec_len kept.lives) (vec_capacity kept.lives) }
+    ensures { IsFinishedDown idle kept status result.status result.disk result.lives result.stops }
+{
+    let Kept { lives, stops, .. } = kept;
+    let Idle {
+        disk,
+        last,
+        stopped,
+        ..
+    } = idle;
+    Outcome {
+        status: by_standing(status, stopped),
+        disk,
+        lives: Lives {
+            items: with_life(lives, last),
+        },
+        stops: Stops { items: stops },
+    }
+}
+
+/// A session whose source was read to its end while the system was down by a stop ends so.
+fn by_standing(status: Ended, stopped: bool) -> Ended
+    ensures { result ≡ by_standing stopped status }
+{
+    if stopped { down_at_end(status) } else { status }
+}
+
+fn down_at_end(status: Ended) -> Ended
+    ensures { result ≡ down_at_end status }
+{
+    match status {
+        Ended::Done => Ended::Down,
+        _ => status,
+    }
+}
+
+fn with_life(lives: Vec<Life>, last: Option<Life>) -> Vec<Life>
+    requires { HasRoomIf last (vec_len lives) (vec_capacity lives) }
+    ensures { result.items ≡ lives.items ++ listed last }
+{
+    let mut lives = lives;
+    if let Some(life) = last {
+        lives.push_reserved(life);
+    }
+    lives
 }

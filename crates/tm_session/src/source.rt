@@ -1,5 +1,5 @@
 //! The definition that a source begins with, and the system that it defines.
-ghost use Rattle.std.specs.Prelude.{◌≡◌, Ok, Err, false, IfOk, IfErr, OnOk};
+ghost use Rattle.std.specs.Prelude.{◌≡◌, ◌++◌, Ok, Err, false, IfOk, IfErr, OnOk};
 ghost use Rattle.tm_edge.specs.Lines.{unread};
 ghost use Rattle.tm_session.specs.Source as spec;
 ghost use Rattle.tm_session.specs.Opening.{ReadsDefinition, StopsBefore, IsJudged};
@@ -12,7 +12,8 @@ use sysdef_check::{CrossRefused, check};
 use sysdef_text::DefinitionReader;
 use system_types::System;
 use text_rows::LineRefused;
-use tm_edge::{Lines, Source};
+use tm_edge::{Line, Lines, Source};
+use tm_types::{Bytes, Memory};
 
 /// Reads the lines of a definition, up to its end or to the end of the source.
 pub(crate) fn read_definition<S: Source>(
@@ -57,4 +58,23 @@ pub(crate) fn judge(alloc: Global, definition: &DefinitionReader) -> Result<Syst
         Err(CrossRefused::BadCross(line, rule)) => Err(Ended::BadCross(line, rule)),
         Err(CrossRefused::Memory) => Err(Ended::Memory),
     }
+}
+
+/// The text that the lines of a definition make, each of them ended by LF.
+pub(crate) fn text_of(alloc: Global, lines: &[Line]) -> Result<Bytes, Memory>
+    ensures { IfOk result (λ text. text ≡ spec.definition_text lines.now) }
+{
+    let mut text = Bytes::new(alloc);
+    for line in lines {
+        add_line(&mut text, line)?;
+    }
+    Ok(text)
+}
+
+/// Adds a line, ended by LF.
+fn add_line(text: &mut Bytes, line: &Line) -> Result<(), Memory>
+    ensures { OnOk result (text.new ≡ text.old ++ spec.ended_line line.now) }
+{
+    text.append(line.bytes())?;
+    text.append(b"\n")
 }

@@ -1,7 +1,8 @@
-use Rattle.std.proofs.Common.{Ok, Err, refl, sym, ◌∙◌, ap, subst, IsTrue}
+use Rattle.std.proofs.Common.{Ok, Err, ◌*◌, sym, ◌∙◌, ap, subst, IsTrue}
 use Rattle.model_disk.specs.Disk.{Image}
 use Rattle.model_disk.proofs.Words.{keeps_on}
-use Rattle.model_image.specs.Recovered.{log_in}
+use Rattle.model_image.specs.Areas.{log_first}
+use Rattle.model_image.specs.Recovered.{log_in, first_later}
 use Rattle.model_image.specs.Slots.{all_slots}
 use Rattle.image_records.specs.NamedSlots.{AreNamed}
 use Rattle.image_look.specs.declared.replaying.Reread.{Reread}
@@ -37,14 +38,14 @@ returns-in-Ok-None-clause-value g c tells =
     let told = subst (λ (i : Image). TellsNamed (Ok c.in-Ok-load_named.named) (all_slots system i rp.snapshot log 0 system.databases)) keeps.shown (c.in-Ok-load_named.ensures.value (subst IsTrue (sym keeps.stays.tells) tells) rp.snapshot log are) in
     let later = c.in-Ok-None.ensures.value (subst IsTrue (sym both.stays.tells) tells) in
     look_good system old.shown r (c.requires.has tells) (record { reread = c.in-Ok.reread; named = c.in-Ok-load_named.named }) rp c.in-Ok-load_named.ensures.made told.1 told.0
-    (sym (sym c.in-Ok-None.field-0-is ∙ later ∙ rw (c.logs.ensures.value, c.log_first.ensures.value, both.shown) refl))
+    (sym (sym c.in-Ok-None.field-0-is ∙ later ∙ ap (λ (i : Image). first_later (2 * system.logs) i (log_first system 0) r.epoch) both.shown))
 
 pub returns-in-Ok-None-clause-keeps : goal.returns-in-Ok-None-clause-keeps
 returns-in-Ok-None-clause-keeps g c =
     let old = g.D.Disk.state c.args.disk.now in
     let last = g.D.Disk.state c.load_named.new.disk in
     let disk = g.met.D.Disk.is_disk c.args.disk.now in
-    keeps_on old last (g.D.Disk.state c.first_later.new.disk) disk (keeps_on old (g.D.Disk.state c.read_replayed.new.disk) last disk c.in-Ok.ensures.keeps c.in-Ok-load_named.ensures.keeps) c.in-Ok-None.ensures.keeps
+    keeps_on old last (g.D.Disk.state c.later_sector.new.disk) disk (keeps_on old (g.D.Disk.state c.read_replayed.new.disk) last disk c.in-Ok.ensures.keeps c.in-Ok-load_named.ensures.keeps) c.in-Ok-None.ensures.keeps
 
 pub returns-in-Ok-Some-clause-value : goal.returns-in-Ok-Some-clause-value
 returns-in-Ok-Some-clause-value g c tells =
@@ -61,11 +62,20 @@ returns-in-Ok-Some-clause-value g c tells =
     let told = subst (λ (i : Image). TellsNamed (Ok c.in-Ok-load_named.named) (all_slots system i rp.snapshot log 0 system.databases)) keeps.shown (c.in-Ok-load_named.ensures.value (subst IsTrue (sym keeps.stays.tells) tells) rp.snapshot log are) in
     let later = c.in-Ok-Some.ensures.value (subst IsTrue (sym both.stays.tells) tells) in
     look_later system old.shown r (c.requires.has tells) (record { reread = c.in-Ok.reread; named = c.in-Ok-load_named.named }) rp c.in-Ok-Some.sector c.in-Ok-load_named.ensures.made told.1 told.0
-    (sym (sym c.in-Ok-Some.field-0-is ∙ later ∙ rw (c.logs.ensures.value, c.log_first.ensures.value, both.shown) refl))
+    (sym (sym c.in-Ok-Some.field-0-is ∙ later ∙ ap (λ (i : Image). first_later (2 * system.logs) i (log_first system 0) r.epoch) both.shown))
 
-pub returns-in-Err-first_later-clause-keeps : goal.returns-in-Err-first_later-clause-keeps
-returns-in-Err-first_later-clause-keeps g c =
+pub returns-in-Err-later_sector-clause-keeps : goal.returns-in-Err-later_sector-clause-keeps
+returns-in-Err-later_sector-clause-keeps g c =
     let old = g.D.Disk.state c.args.disk.now in
     let last = g.D.Disk.state c.load_named.new.disk in
     let disk = g.met.D.Disk.is_disk c.args.disk.now in
-    keeps_on old last (g.D.Disk.state c.first_later.new.disk) disk (keeps_on old (g.D.Disk.state c.read_replayed.new.disk) last disk c.in-Ok.ensures.keeps c.in-Ok-load_named.ensures.keeps) c.in-Err-first_later.ensures.keeps
+    keeps_on old last (g.D.Disk.state c.later_sector.new.disk) disk (keeps_on old (g.D.Disk.state c.read_replayed.new.disk) last disk c.in-Ok.ensures.keeps c.in-Ok-load_named.ensures.keeps) c.in-Err-later_sector.ensures.keeps
+
+pub later_sector-requires-clause-held : goal.later_sector-requires-clause-held
+later_sector-requires-clause-held g c tells =
+    let system = c.args.system.now in
+    let r = c.args.restart.now in
+    let old = g.D.Disk.state c.args.disk.now in
+    let both = keeps_on old (g.D.Disk.state c.read_replayed.new.disk) (g.D.Disk.state c.load_named.new.disk) (g.met.D.Disk.is_disk c.args.disk.now) c.in-Ok.ensures.keeps c.in-Ok-load_named.ensures.keeps in
+    let held = (c.in-Ok.ensures.value (subst IsTrue both.stays.tells tells)).later in
+    ap (λ (x : Reread). x.later) c.reread.view_is ∙ held ∙ ap (λ (i : Image). first_later system.logs i (log_first system r.log) r.epoch) (sym both.shown)

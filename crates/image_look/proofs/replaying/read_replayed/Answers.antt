@@ -24,7 +24,7 @@ returns-in-Ok-replay-clause-value g c tells =
     let keeps = c.in-Ok.ensures.keeps in
     let read : IsRead system old.shown r c.in-Ok-read_told.snapshot = subst (λ (i : Image). IsRead system i r c.in-Ok-read_told.snapshot) keeps.shown (c.in-Ok-read_told.ensures.value (subst IsTrue (sym keeps.stays.tells) tells)) in
     let log = c.in-Ok.ensures.value tells in
-    reread_good system old.shown r c.as_slice.result.now (c.as_slice.ensures ∙ log.payload) read.records read.has c.in-Ok-replay.replayed (record { replayed = c.in-Ok-replay.replayed; next_sequence = c.in-Ok.log.next_sequence }) refl log.sequence
+    reread_good system old.shown r c.as_slice.result.now (c.as_slice.ensures ∙ log.payload) read.records read.has c.in-Ok-replay.replayed (record { replayed = c.in-Ok-replay.replayed; next_sequence = c.in-Ok.log.next_sequence; later = c.in-Ok.log.later }) refl log.sequence log.later
     (c.in-Ok-replay.ensures.value read.records (told_log system old.shown r c.in-Ok-read_told.snapshot read) read.is_of)
 
 pub returns-in-Ok-replay-clause-keeps : goal.returns-in-Ok-replay-clause-keeps

@@ -26,8 +26,14 @@ returns-in-BadCross c =
     ∙ ap (λ n. c.args.out.now.text ++ status_text (BadCross c.in-BadCross.line n)) c.from-rule-in-BadCross.ensures
     ∙ ap (λ s. c.args.out.now.text ++ status_text s) (sym c.in-BadCross.is)
 
+pub returns-in-Down : goal.returns-in-Down
+returns-in-Down c = c.push.ensures.text ∙ ap (λ s. c.args.out.now.text ++ status_text s) (sym c.in-Down.is)
+
+pub returns-in-Spent : goal.returns-in-Spent
+returns-in-Spent c = c.push-in-Spent.ensures.text ∙ ap (λ s. c.args.out.now.text ++ status_text s) (sym c.in-Spent.is)
+
 pub returns-in-Read : goal.returns-in-Read
-returns-in-Read c = c.push.ensures.text ∙ ap (λ s. c.args.out.now.text ++ status_text s) (sym c.in-Read.is)
+returns-in-Read c = c.push-in-Read.ensures.text ∙ ap (λ s. c.args.out.now.text ++ status_text s) (sym c.in-Read.is)
 
 pub returns-in-Memory : goal.returns-in-Memory
 returns-in-Memory c = c.push-in-Memory.ensures.text ∙ ap (λ s. c.args.out.now.text ++ status_text s) (sym c.in-Memory.is)

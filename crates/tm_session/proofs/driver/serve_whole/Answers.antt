@@ -1,13 +1,10 @@
--- writing failed
-use Rattle.std.proofs.Common.{rules}
-use Rattle.model_session.specs.Lines.{asked_of}
-use Rattle.tm_edge.specs.Fault.{AppendsFront}
-use Rattle.tm_session.specs.Serving.{IsDone}
-use Rattle.tm_session.proofs.Driven.{fails_writing}
+-- the text of the block was written, or not
+use Rattle.session_lives.proofs.Leading.{leads_map}
+use Rattle.tm_session.proofs.Driven.{whole_block}
 use Rattle.tm_session.proofs.driver.serve_whole.Goals as goal
 
-pub returns-in-Err-clause-failed : goal.returns-in-Err-clause-failed
-returns-in-Err-clause-failed g c =
-    let done : IsDone (asked_of c.args.control.now.system c.args.block.now) c.args.control.now c.serve_block.new.control c.as_slice.result.now = rw c.as_slice.ensures c.in-Ok.ensures.done in
-    let front : AppendsFront (g.K.Sink.written c.args.sink.now) (g.K.Sink.written c.put.new.self) c.as_slice.result.now = search rules in
-    fails_writing c.args.block.now c.as_slice.result.now (g.K.Sink.written c.args.sink.now) (g.K.Sink.written c.put.new.self) c.args.control.now c.serve_block.new.control done front
+pub returns-clause-step : goal.returns-clause-step
+returns-clause-step g c =
+    leads_map g.D.Disk.state _ _ c.args.session c.serve_block-session.result.0
+    (λ setting x y one. whole_block setting c.args.block.now (g.K.Sink.written c.args.sink.now) (g.K.Sink.written c.finish.new.sink) x y c.serve_block-session.result.1 c.serve_block-session.new.printed.text c.finish.result one c.finish.ensures.finished)
+    c.serve_block-session.ensures.served

@@ -3,6 +3,10 @@ use Rattle.std.specs.Prelude.{Some, slice_get}
 use Rattle.tm_machine.proofs.Raising.{follow_one}
 use Rattle.lasting_state.proofs.Told.{err_where}
 use Rattle.tm_machine.proofs.Finished.{abended_tells, abended_longer, found_here, id_there, works_there, follows_abended, parts_abended, abended_turned}
+use Rattle.tm_machine.specs.Region.{calls_made}
+use Rattle.tm_machine.proofs.Abends.{ends_right}
+use Rattle.tm_machine.proofs.Scheduled.{moment_now}
+use Rattle.tm_machine.proofs.Stepped.{slot_is}
 use Rattle.tm_machine.proofs.parts.Parts.abend.Goals as goal
 
 pub origin_of-origin-requires : goal.origin_of-origin-requires
@@ -65,3 +69,12 @@ returns-in_err-discard-clause-full c =
 
 pub returns-clause-slots : goal.returns-clause-slots
 returns-clause-slots c = rw (sym c.self.view_is) c.in_ok-discard.ensures.databases.slots
+
+pub discard-requires-clause-abend : goal.discard-requires-clause-abend
+discard-requires-clause-abend c =
+    let e : slice_get c.self.inside.regions.items (c.args.region - 1) ≡ Some (Some c.busy_at-busy.result.now) =
+    ap (λ rs. slice_get rs (c.args.region - 1)) (sym c.deref.ensures.value) ∙ c.busy_at-busy.ensures in
+    let ends = (rw (← c.self.view_is) at c.requires.ends) in
+    ends_right (record { system = c.self.inside.system; moment = moment_now c.self.inside.system c.self.inside.tables c.self.inside.codes c.self.inside.regions.items c.args.region c.self.invariant; databases = c.self.inside.tables.databases })
+    c.args.region (record { code = c.busy_at-busy.result.now.code; taken = c.busy_at-busy.result.now.taken; id = c.busy_at-busy.result.now.id; calls = calls_made c.busy_at-busy.result.now.unit }) c.args.abend
+    (slot_is c.self.inside.system c.self.inside.tables c.self.inside.codes c.self.inside.regions.items c.args.region c.self.invariant (Some c.busy_at-busy.result.now) e) c.see_program.ensures ends

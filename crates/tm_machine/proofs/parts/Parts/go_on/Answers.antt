@@ -11,6 +11,8 @@ use Rattle.model_machine.specs.Trial.WorkEnd.{Syncs}
 use Rattle.lasting_state.proofs.Told.{err_where}
 use Rattle.tm_machine.proofs.Telling.{short_pad}
 use Rattle.tm_machine.proofs.Finished.{ends_step, completed_tells, completed_longer, id_there, works_there, follows_completed, parts_completed, sync_is, none_turned, follows_next, parts_next, next_turned}
+use Rattle.step_telling.specs.Ranges.{HaveCounts}
+use Rattle.tm_machine.proofs.Abends.{outputs_right}
 use Rattle.tm_machine.proofs.parts.Parts.go_on.Goals as goal
 
 pub complete-requires-clause-found : goal.complete-requires-clause-found
@@ -108,3 +110,9 @@ pub returns-clause-slots : goal.returns-clause-slots
 returns-clause-slots c =
     rw (sym c.self.view_is)
     (subst (λ s. CommitsSo c.args.region (slots_in c.self.inside.tables.databases) s) (ap (λ t. slots_in t.databases) (sym c.take.ensures.tables)) c.in_ok-complete.ensures.databases.slots)
+
+pub complete-requires-clause-counts : goal.complete-requires-clause-counts
+complete-requires-clause-counts c =
+    let e : slice_get c.self.inside.regions.items (c.args.region - 1) ≡ Some (Some c.busy_at-busy.result.now) =
+    ap (λ rs. slice_get rs (c.args.region - 1)) (sym c.deref.ensures.value) ∙ c.busy_at-busy.ensures in
+    subst HaveCounts (sym c.in-Ok.ensures) (outputs_right c.self.inside.system c.self.inside.tables c.self.inside.codes c.self.inside.regions.items c.self.invariant c.args.region c.busy_at-busy.result.now e)

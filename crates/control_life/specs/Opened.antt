@@ -1,0 +1,38 @@
+-- What a life begins with, and why an opening is refused.
+use Rattle.std.specs.Prelude.{◌≡◌, ℕ, List, IsTrue, Ok, Err}
+use Rattle.model_disk.specs.Disk.{Image, DiskState, Stays, Within}
+use Rattle.model_system.specs.System.{System}
+use Rattle.model_machine.specs.Machine.{LastingState}
+use Rattle.model_image.specs.Alike.{RecoversAlike}
+use Rattle.cold_start.specs.FirstImage.{KeepsOrEmpties}
+use Rattle.opening_parts.specs.Parts.{OpeningParts}
+use Rattle.opening_answers.specs.declared.refusals.OpenError.{OpenError}
+use Rattle.opening_answers.specs.Opening.{OpeningCause, SizeFirst, TellsCold, TellsOpening}
+use Rattle.control_life.specs.declared.how.How.{How}
+use Rattle.control_life.specs.declared.how.How.TheVariants.{Found, Cold}
+
+-- Whenever a crash comes in an opening, what it leaves recovers as before; in a cold start, so or to the empty state.
+abbrev pub KeepsBy : How → System → Image → Image → Type 0
+KeepsBy Found system before after = RecoversAlike system before after
+KeepsBy Cold system before after = KeepsOrEmpties system before after
+
+-- A life begins with what the disk recovers to, or empty.
+pub record Begins (how : How) (system : System) (text : List ℕ) (disk : DiskState) (opening : LastingState) : Type 0 where
+  pub parts : OpeningParts
+  pub found : how ≡ Found → IsTrue disk.tells → TellsOpening system text disk.shown (Ok (parts, opening))
+  pub cold : how ≡ Cold → TellsCold system (Ok (parts, opening))
+
+-- why an opening is refused
+pub record Refuses (how : How) (system : System) (text : List ℕ) (disk : DiskState) (error : OpenError) : Type 0 where
+  pub size : SizeFirst system disk.size (Err error)
+  pub found : how ≡ Found → IsTrue disk.tells → TellsOpening system text disk.shown (Err error)
+  pub cold : how ≡ Cold → TellsCold system (Err error)
+
+-- All is handed back.
+pub record HandsBack {D : Type 0} (state : D → DiskState) (how : How) (system : System) (text : List ℕ) (disk : D) (error : OpenError) (disk_back : D) (system_back : System) (text_back : List ℕ) : Type 0 where
+  pub refuses : Refuses how system text (state disk) error
+  pub system_is : system_back ≡ system
+  pub text_is : text_back ≡ text
+  pub stays : Stays (state disk) (state disk_back)
+  pub cause : OpeningCause (Err error) (state disk) (state disk_back)
+  pub any_moment : Within (KeepsBy how system) (state disk) (state disk_back)

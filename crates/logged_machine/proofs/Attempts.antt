@@ -1,0 +1,217 @@
+-- An attempt of a call, by what it told.
+use Rattle.std.proofs.Common.{◌≡◌, ◌≤◌, ◌<◌, ◌+◌, ◌^◌, ℕ, Bool, true, false, List, length, refl, sym, ◌∙◌, ap, subst, arith}
+use Rattle.std.specs.Prelude.{IfSome, Option, Some, None, Result, Ok, Err}
+use Rattle.std.specs.List.{flat_map}
+use Rattle.std.specs.Option.{is_some}
+use Rattle.std.proofs.Common.{lt-ltb}
+use Rattle.model_disk.specs.Disk.{Image, DiskState, Stays, Within, FailedSince}
+use Rattle.model_enqueue.specs.declared.victim.Victim.{Victim}
+use Rattle.model_machine.specs.Machine.{Moment}
+use Rattle.model_command.specs.declared.answer.Answer.{Answer}
+use Rattle.model_command.specs.declared.command.Command.{Command}
+use Rattle.model_machine.specs.Commands.{lasting_command}
+use Rattle.model_machine.specs.Lasting.{LastingStep}
+use Rattle.model_machine.specs.Steps.{lasting_step}
+use Rattle.model_machine.specs.History.{after_entry}
+use Rattle.model_machine.specs.declared.entry.Acked.{Acked}
+use Rattle.model_machine.specs.declared.entry.AckRefused.{AckRefused}
+use Rattle.model_machine.specs.declared.entry.CommandRefused.{CommandRefused}
+use Rattle.model_machine.specs.declared.entry.ControlCall.TheVariants.{Input, Acknowledge, Turn, Command as CommandCall}
+use Rattle.model_machine.specs.declared.entry.ControlFault.{ControlFault}
+use Rattle.model_machine.specs.declared.entry.ControlFault.TheVariants.{Disk}
+use Rattle.model_machine.specs.declared.entry.Entry.{Entry}
+use Rattle.model_machine.specs.declared.entry.Entry.TheVariants.{Accept, Acked as AckedEntry, Commanded, Turn as TurnEntry}
+use Rattle.model_machine.specs.declared.entry.InputRefused.{InputRefused}
+use Rattle.model_machine.specs.declared.entry.Taken.{Taken}
+use Rattle.model_machine.specs.declared.entry.Turned.{Turned}
+use Rattle.model_machine.specs.declared.entry.Turned.TheVariants.{Scheduled, Called, Next, QC, Done, Abended, Idle, Held, Waits, Backed}
+use Rattle.model_system.specs.System.{System}
+use Rattle.tm_types.specs.Commands.{name_in}
+use Rattle.tm_types.specs.Name.{IsName}
+use Rattle.log_records.specs.declared.record.Record.{Record}
+use Rattle.log_records.specs.Spelling.{spelling}
+use Rattle.log_writer.specs.Writer.{Writer}
+use Rattle.log_writer.specs.Log.{IsReady}
+use Rattle.disk_law.specs.Life.{LifeOnDisk}
+use Rattle.disk_law.specs.Changes.{with_bytes}
+use Rattle.journal.specs.State.{JournalState}
+use Rattle.tm_machine.specs.Answers.{IsAnswered}
+use Rattle.tm_machine.specs.OnSlots.{HasSlots, TellByCall, TurnsSo, changes_told, slots_now, turn_records}
+use Rattle.tm_machine.specs.Parts.{PartsState}
+use Rattle.tm_machine.specs.Told.{ends_work, records_of}
+use Rattle.machine_life.specs.Counts.{AreUnspent}
+use Rattle.machine_life.specs.Turning.{next_after, unit_of, units_after}
+use Rattle.machine_life.proofs.Numbers.{units_stay}
+use Rattle.machine_life.proofs.Turns.{GoesBy}
+use Rattle.parts_life.specs.Steps.{is_lasting, is_new, is_removed}
+use Rattle.parts_life.proofs.Answering.{ack_of_parts, command_of_parts, input_of_parts}
+use Rattle.parts_life.proofs.Turning.{turn_of_parts}
+use Rattle.parts_life.proofs.Closing.{ack_steps, command_steps, input_steps, room_in_log, turn_steps}
+use Rattle.machine_telling.specs.Telling.{Appends, is_input_fault}
+use Rattle.machine_checkpoint.specs.Counted.{IsCounted}
+use Rattle.machine_checkpoint.specs.Logged.{IsLogged}
+use Rattle.logged_machine.specs.Logged.{LoggedState}
+use Rattle.control_life.specs.Faults.{fault_in}
+use Rattle.logged_machine.specs.Doing.{Did}
+use Rattle.logged_machine.proofs.Answered.{ack_unfaulted, command_unfaulted, input_unfaulted}
+use Rattle.logged_machine.proofs.Logging.{area}
+use Rattle.logged_machine.proofs.Once.{Forces, failed, is, is_broken, is_still, quiet, quiet_logged, was, wrote, wrote_logged}
+
+-- A call was answered by this entry, and what it told was appended; it has a lasting step, or none.
+pub record Attempt {D : Type 0} (state : D → DiskState) (parts parts' : PartsState) (text : List ℕ) (journal mid : JournalState) (units units' : List ℕ) (next next' : ℕ) (disk : D) (entry : Entry) (has_step : Bool) : Type 0 where
+  pub logged : IsLogged parts units next journal text (state disk)
+  pub as_many : length units' ≡ length units
+  pub answered : IsAnswered parts parts' entry
+  pub no_fault : fault_in entry ≡ None
+  pub records : List Record
+  pub told : Appends records journal mid
+  pub step : Option LastingStep
+  pub steps : is_some step ≡ has_step
+  pub goes : GoesBy step (flat_map spelling records) parts.system parts'.moment (slots_now parts') units' next' logged.life
+
+module _ {D : Type 0} (state : D → DiskState) (parts parts' : PartsState) (text : List ℕ) (journal mid : JournalState) (units units' : List ℕ) (next next' : ℕ) (disk : D) (entry : Entry) (has_step up : Bool)
+    (a : Attempt state parts parts' text journal mid units units' next next' disk entry has_step) where
+  -- without a step nothing is written
+  pub did_quiet : up ≡ true → has_step ≡ false → Did state (fault_in entry) (record { machine = parts; text = text; served = up; journal = journal; next_unit = next; disk = disk }) (record { machine = parts'; text = text; served = up; journal = mid; next_unit = next'; disk = disk }) entry
+  did_quiet served none =
+      subst (λ (f : Option ControlFault). Did state f (was state parts parts' text journal mid units units' next next' disk up a.logged a.as_many entry a.answered a.records a.told a.step a.goes)
+      (is_still state parts parts' text journal mid units units' next next' disk up a.logged a.as_many entry a.answered a.records a.told a.step a.goes) entry) (sym a.no_fault)
+      (quiet state parts parts' text journal mid units units' next next' disk up a.logged a.as_many entry a.answered a.records a.told a.step a.goes served (a.steps ∙ none))
+
+  pub logged_quiet : has_step ≡ false → IsLogged parts' units' next' mid text (state disk)
+  logged_quiet none = quiet_logged state parts parts' text journal mid units units' next next' disk up a.logged a.as_many entry a.answered a.records a.told a.step a.goes (a.steps ∙ none)
+
+  -- ---- what a force asks for
+  pub force_area : mid.log.first + mid.log.count ≤ (state disk).size
+  force_area = subst (λ (w : Writer). w.first + w.count ≤ (state disk).size) (sym a.told.log) (area parts units next journal text (state disk) a.logged)
+
+  pub force_sequences : IsCounted 4294967296 parts.moment.lasting next journal → mid.log.sequence + mid.log.count < 2 ^ 64
+  force_sequences counted =
+      let life = a.logged.carried.is.is_life in
+      let few : journal.log.count < 2 ^ 32 = subst (λ (w : Writer). w.count < 2 ^ 32) a.logged.writer (subst (λ (n : ℕ). n < 2 ^ 32) (sym life.writer.count) life.few) in
+      subst (λ (w : Writer). w.sequence + w.count < 2 ^ 64) (sym a.told.log) (below journal.log.sequence journal.log.place journal.log.count counted.sequence few)
+    where
+      below : (s p c : ℕ) → s + p < 1000000000000000000 + 4294967296 → c < 2 ^ 32 → s + c < 2 ^ 64
+      below s p c h k = omega (arith, h, k)
+
+  pub force_ready : IsReady mid.log (state disk)
+  force_ready = subst (λ (w : Writer). IsReady w (state disk)) (sym a.told.log) (λ image left. let end = a.logged.ready image left in record { written = end.written; free = end.free })
+
+  -- ---- with a step
+  module _ (some : has_step ≡ true) (journal' : JournalState) (disk' : D) where
+    pub did_forced : up ≡ true → Forces mid.log journal'.log (state disk) (state disk') → journal'.restart ≡ mid.restart
+        → Did state (fault_in entry) (record { machine = parts; text = text; served = up; journal = journal; next_unit = next; disk = disk }) (record { machine = parts'; text = text; served = up; journal = journal'; next_unit = next'; disk = disk' }) entry
+    did_forced served f restart =
+        subst (λ (x : Option ControlFault). Did state x (was state parts parts' text journal mid units units' next next' disk up a.logged a.as_many entry a.answered a.records a.told a.step a.goes)
+        (is state parts parts' text journal mid units units' next next' disk up a.logged a.as_many entry a.answered a.records a.told a.step a.goes (a.steps ∙ some) journal' disk') entry) (sym a.no_fault)
+        (wrote state parts parts' text journal mid units units' next next' disk up a.logged a.as_many entry a.answered a.records a.told a.step a.goes (a.steps ∙ some) journal' disk' served f restart)
+
+    pub logged_forced : Forces mid.log journal'.log (state disk) (state disk') → journal'.restart ≡ mid.restart → IsLogged parts' units' next' journal' text (state disk')
+    logged_forced f restart = wrote_logged state parts parts' text journal mid units units' next next' disk up a.logged a.as_many entry a.answered a.records a.told a.step a.goes (a.steps ∙ some) journal' disk' f restart
+
+    -- the disk failed
+    pub did_failed : (broken : Entry) → fault_in broken ≡ Some Disk → after_entry parts.system parts.moment broken ≡ after_entry parts.system parts.moment entry
+        → Within (Rattle.log_writer.specs.Log.AddsFront mid.log) (state disk) (state disk') → Stays (state disk) (state disk') → FailedSince (state disk) (state disk')
+        → Did state (fault_in broken) (record { machine = parts; text = text; served = up; journal = journal; next_unit = next; disk = disk }) (record { machine = parts'; text = text; served = false; journal = journal'; next_unit = next'; disk = disk' }) broken
+    did_failed broken fault same within stays cause =
+        subst (λ (x : Option ControlFault). Did state x (was state parts parts' text journal mid units units' next next' disk up a.logged a.as_many entry a.answered a.records a.told a.step a.goes)
+        (is_broken state parts parts' text journal mid units units' next next' disk up a.logged a.as_many entry a.answered a.records a.told a.step a.goes (a.steps ∙ some) journal' disk') broken) (sym fault)
+        (failed state parts parts' text journal mid units units' next next' disk up a.logged a.as_many entry a.answered a.records a.told a.step a.goes (a.steps ∙ some) journal' disk' broken same within stays cause)
+
+-- ---- the calls
+
+module _ {D : Type 0} (state : D → DiskState) (parts parts' : PartsState) (text : List ℕ) (journal mid : JournalState) (units : List ℕ) (next : ℕ) (disk : D)
+    (h : IsLogged parts units next journal text (state disk)) (counted : IsCounted 4294967296 parts.moment.lasting next journal) (had : HasSlots parts) (has : HasSlots parts') where
+  pub input_attempt : (terminal : List ℕ) (number : ℕ) (segments : List (List ℕ)) (answer : Result Taken InputRefused) → IsAnswered parts parts' (Accept terminal number segments answer) → is_input_fault answer ≡ false
+      → Appends (records_of parts.system parts.moment 0 (Input terminal number segments)) journal mid → parts'.databases ≡ parts.databases → number < 2000000000000000000
+      → Attempt state parts parts' text journal mid units units next next disk (Accept terminal number segments answer) (is_new answer)
+  input_attempt terminal number segments answer answered none told databases small = record {
+    logged = h;
+    as_many = refl;
+    answered = answered;
+    no_fault = input_unfaulted terminal number segments answer none;
+    records = records_of parts.system parts.moment 0 (Input terminal number segments);
+    told = told;
+    step = lasting_step parts.system parts.moment (Input terminal number segments);
+    steps = input_steps parts parts' terminal number segments answer answered;
+    goes =
+        input_of_parts parts parts' units next h.life h.carried counted.counts had has databases terminal number segments answer answered (lt-ltb number 2000000000000000000 small)
+        (room_in_log (records_of parts.system parts.moment 0 (Input terminal number segments)) journal.log h.life h.writer told.valid told.bytes told.fits);
+  }
+
+  pub ack_attempt : (terminal : List ℕ) (number : ℕ) (answer : Result Acked AckRefused) → IsAnswered parts parts' (AckedEntry terminal number answer)
+      → Appends (records_of parts.system parts.moment 0 (Acknowledge terminal number)) journal mid → parts'.databases ≡ parts.databases
+      → Attempt state parts parts' text journal mid units units next next disk (AckedEntry terminal number answer) (is_removed answer)
+  ack_attempt terminal number answer answered told databases = record {
+    logged = h;
+    as_many = refl;
+    answered = answered;
+    no_fault = ack_unfaulted parts.system parts.moment terminal number answer answered.may;
+    records = records_of parts.system parts.moment 0 (Acknowledge terminal number);
+    told = told;
+    step = lasting_step parts.system parts.moment (Acknowledge terminal number);
+    steps = ack_steps parts parts' terminal number answer answered;
+    goes =
+        ack_of_parts parts parts' units next h.life h.carried counted.counts had has databases terminal number answer answered
+        (room_in_log (records_of parts.system parts.moment 0 (Acknowledge terminal number)) journal.log h.life h.writer told.valid told.bytes told.fits);
+  }
+
+  pub command_attempt : (command : Command) (answer : Result Answer CommandRefused) → IsAnswered parts parts' (Commanded command answer) → IfSome (lasting_command command) (λ does. IsName (name_in does))
+      → Appends (records_of parts.system parts.moment 0 (CommandCall command)) journal mid → parts'.databases ≡ parts.databases
+      → Attempt state parts parts' text journal mid units units next next disk (Commanded command answer) (is_lasting command answer)
+  command_attempt command answer answered named told databases = record {
+    logged = h;
+    as_many = refl;
+    answered = answered;
+    no_fault = command_unfaulted parts.system parts.moment command answer answered.may;
+    records = records_of parts.system parts.moment 0 (CommandCall command);
+    told = told;
+    step = lasting_step parts.system parts.moment (CommandCall command);
+    steps = command_steps parts parts' command answer answered;
+    goes =
+        command_of_parts parts parts' units next h.life h.carried counted.counts had has databases command answer answered named
+        (room_in_log (records_of parts.system parts.moment 0 (CommandCall command)) journal.log h.life h.writer told.valid told.bytes told.fits);
+  }
+
+  turn_own : (region : ℕ) (turned : Turned) → IsAnswered parts parts' (TurnEntry region (Ok turned)) → Appends (turn_records parts (unit_of units region) region) journal mid
+      → TurnsSo parts parts' (unit_of units region) region turned → TellByCall (changes_told parts (unit_of units region) region) turned
+      → Attempt state parts parts' text journal mid units (units_after turned region next units) next (next_after turned next) disk (TurnEntry region (Ok turned)) (ends_work turned)
+  turn_own region turned answered told turns quiet = record {
+    logged = h;
+    as_many = units_stay turned region next units;
+    answered = answered;
+    no_fault = refl;
+    records = turn_records parts (unit_of units region) region;
+    told = told;
+    step = lasting_step parts.system parts.moment (Turn region);
+    steps = turn_steps parts parts' region turned answered;
+    goes =
+        turn_of_parts parts parts' units next h.life h.carried counted.counts had has region turned answered turns quiet
+        (room_in_log (turn_records parts (unit_of units region) region) journal.log h.life h.writer told.valid told.bytes told.fits);
+  }
+
+  pub turn_attempt : (region : ℕ) (turned : Turned) (unit : ℕ) (units' : List ℕ) (next' : ℕ) → unit ≡ unit_of units region → units' ≡ units_after turned region next units → next' ≡ next_after turned next
+      → IsAnswered parts parts' (TurnEntry region (Ok turned)) → Appends (turn_records parts unit region) journal mid → TurnsSo parts parts' unit region turned → TellByCall (changes_told parts unit region) turned
+      → Attempt state parts parts' text journal mid units units' next next' disk (TurnEntry region (Ok turned)) (ends_work turned)
+  turn_attempt region turned unit units' next' unit_is units_are next_is answered told turns quiet =
+      subst (λ (us : List ℕ). Attempt state parts parts' text journal mid units us next next' disk (TurnEntry region (Ok turned)) (ends_work turned)) (sym units_are)
+      (subst (λ (n : ℕ). Attempt state parts parts' text journal mid units (units_after turned region next units) next n disk (TurnEntry region (Ok turned)) (ends_work turned)) (sym next_is)
+      (turn_own region turned answered (subst (λ (u : ℕ). Appends (turn_records parts u region) journal mid) unit_is told) (subst (λ (u : ℕ). TurnsSo parts parts' u region turned) unit_is turns)
+      (subst (λ (u : ℕ). TellByCall (changes_told parts u region) turned) unit_is quiet)))
+
+-- a turn that ends the work has no victims, as one that the disk broke off
+pub ended_same : (system : System) (moment : Moment) (region : ℕ) (turned : Turned) (fault : ControlFault) → ends_work turned ≡ true
+    → after_entry system moment (TurnEntry region (Err fault)) ≡ after_entry system moment (TurnEntry region (Ok turned))
+ended_same system moment region (Next code id further) fault e = refl
+ended_same system moment region (QC code id) fault e = refl
+ended_same system moment region (Done code id) fault e = refl
+ended_same system moment region (Abended code id abend) fault e = refl
+ended_same system moment region (Scheduled code id) fault e = refl
+ended_same system moment region (Called function pcb status) fault e = refl
+ended_same system moment region Idle fault e = refl
+ended_same system moment region (Held need limit) fault e = refl
+ended_same system moment region (Waits resource by) fault e = refl
+ended_same system moment region (Backed victims) fault e = absurd (apart e)
+  where
+    apart : false ≡ true → ⊥
+    apart e = cc

@@ -1,0 +1,90 @@
+-- A checkpoint as a call: what it is answered, and the number that each image has behind it.
+use Rattle.std.proofs.Common.{◌≡◌, ℕ, ◌+◌, ◌<◌, ◌≤◌, Bool, true, false, List, [], Option, Some, None, Result, Ok, Err, refl, sym, ◌∙◌, ap, subst, arith}
+use Rattle.model_disk.specs.Disk.{DiskState, Image, sector_at}
+use Rattle.model_system.specs.System.{System}
+use Rattle.model_machine.specs.Commands.{checkpoint_answer, unless_busy}
+use Rattle.model_machine.specs.History.{number_in}
+use Rattle.model_machine.specs.Machine.{Moment}
+use Rattle.model_machine.specs.declared.entry.CheckpointRefused.{CheckpointRefused}
+use Rattle.model_machine.specs.declared.entry.CheckpointRefused.TheVariants.{BusyRegion}
+use Rattle.model_machine.specs.declared.entry.Entry.TheVariants.{Checked}
+use Rattle.log_sectors.specs.Sealed.{opened}
+use Rattle.log_sectors.specs.Chain.{chain}
+use Rattle.log_writer.specs.Log.{IsAtEnd}
+use Rattle.log_writer.specs.Writer.{Writer}
+use Rattle.log_writer.proofs.Gaining.{chain-ended}
+use Rattle.restart_data.specs.declared.restart.RestartSector.{RestartSector}
+use Rattle.restart_data.specs.Restart.{restart_in}
+use Rattle.model_image.specs.Areas.{snapshot_area, log_first}
+use Rattle.journal.specs.State.{JournalState}
+use Rattle.tm_machine.specs.Answers.{IsAnswered}
+use Rattle.tm_machine.specs.Parts.{PartsState}
+use Rattle.machine_checkpoint.specs.Logged.{IsLogged}
+use Rattle.logged_machine.specs.Taken.{HasNumber, IsTaken, again}
+use Rattle.logged_machine.specs.Doing.{Did, Refreshed}
+use Rattle.logged_machine.specs.Logged.{LoggedState}
+
+-- ---- images
+
+-- Where the writer stands at the first place of its area, the log there is empty.
+none_there : (w : Writer) (image : Image) (count first sequence epoch : ℕ) → w.first ≡ first → w.count ≡ count → w.sequence ≡ sequence → w.epoch ≡ epoch → w.place ≡ 0 → IsAtEnd w image
+    → chain count image first sequence epoch ≡ []
+none_there w image count first sequence epoch f c s e p end =
+    chain-ended count image first sequence epoch
+    (λ some.
+    subst (λ (n : ℕ). opened n (sequence + 0) (sector_at image (first + 0)) ≡ None) e
+    (subst (λ (n : ℕ). opened w.epoch (n + 0) (sector_at image (first + 0)) ≡ None) s
+    (subst (λ (n : ℕ). opened w.epoch (w.sequence + 0) (sector_at image (n + 0)) ≡ None) f (end.free 0 (omega (arith, p)) (omega (arith, some, c))))))
+
+-- Each image has the number of the restart sector, and an empty log behind it.
+pub has_number : (parts : PartsState) (units : List ℕ) (next : ℕ) (journal : JournalState) (text : List ℕ) (disk : DiskState) → IsLogged parts units next journal text disk → journal.log.place ≡ 0
+    → (image : Image) → disk.may_leave image → HasNumber parts.system journal.restart.checkpoint image
+has_number parts units next journal text disk h empty image left =
+    let same : h.life.system ≡ parts.system = h.carried.is.of_system in
+    let is = h.carried.is.is_life.writer in
+    record {
+      restart = h.life.now;
+      found = subst (λ (y : System). restart_in (snapshot_area y) image ≡ Ok (Some h.life.now)) same (h.kept image left).restart;
+      checkpoint = ap (λ (r : RestartSector). r.checkpoint) h.now;
+      empty =
+          subst (λ (y : System). chain y.logs image (log_first y h.life.now.log) h.life.now.sequence h.life.now.epoch ≡ []) same
+          (none_there h.life.log image h.life.system.logs (log_first h.life.system h.life.now.log) h.life.now.sequence h.life.now.epoch is.first is.count is.sequence is.epoch
+          (ap (λ (w : Writer). w.place) h.writer ∙ empty) (subst (λ (w : Writer). IsAtEnd w image) (sym h.writer) (h.ready image left)));
+    }
+
+-- ---- answers
+
+-- A checkpoint that may be taken is answered by its number, and the machine stands where it stood.
+pub taken_answer : (parts parts' : PartsState) (freeze : Bool) (number : ℕ) → again parts ≡ parts.moment → ((n : ℕ) → checkpoint_answer parts.moment freeze n ≡ Ok n) → parts'.system ≡ parts.system → parts'.moment ≡ parts.moment
+    → IsAnswered parts parts' (Checked freeze (Ok number))
+taken_answer parts parts' freeze number stays free system moment = record {
+  may = record { call = tt; victims = refl; answer = ap (λ (a : Result ℕ CheckpointRefused). Checked freeze a) (sym (free number)) };
+  after = moment ∙ sym stays;
+  system = system;
+}
+
+-- One that a region's work forbids is refused.
+pub busy_answer : (parts : PartsState) (freeze : Bool) (region id : ℕ) → again parts ≡ parts.moment → ((n : ℕ) → checkpoint_answer parts.moment freeze n ≡ unless_busy n (Some (region, id)))
+    → IsAnswered parts parts (Checked freeze (Err (BusyRegion region id)))
+busy_answer parts freeze region id stays busy = record {
+  may = record { call = tt; victims = refl; answer = ap (λ (a : Result ℕ CheckpointRefused). Checked freeze a) (sym (busy 0)) };
+  after = sym stays;
+  system = refl;
+}
+
+-- ---- as a call
+
+-- A checkpoint that was taken is answered by its number.
+pub taken_did : {D : Type 0} (state : D → DiskState) (old new : LoggedState D) (freeze : Bool) (number : ℕ) → again old.machine ≡ old.machine.moment → ((n : ℕ) → checkpoint_answer old.machine.moment freeze n ≡ Ok n)
+    → Refreshed state old new → Did state None old new (Checked freeze (Ok number))
+taken_did state old new freeze number stays free r = record {
+  did = (
+    record { answered = taken_answer old.machine new.machine freeze number stays free r.keeps.system r.stood.moment; served = r.stood.served; no_fault = r.stood.no_fault },
+    r.leaves,
+  );
+  keeps = r.keeps;
+}
+
+pub is_taken : {D : Type 0} (state : D → DiskState) (old new : LoggedState D) → ((image : Image) → (state new.disk).may_leave image → HasNumber new.machine.system new.journal.restart.checkpoint image) → Refreshed state old new
+    → IsTaken new.machine.system new.journal.restart.checkpoint old.journal new.journal (state new.disk)
+is_taken state old new images r = record { above = omega (arith, r.number); now = refl; images = images; synced = r.synced }

@@ -1,0 +1,199 @@
+-- A checkpoint of a machine with its log.
+use Rattle.std.proofs.Common.{◌≡◌, ◌⊎◌, ◌≤◌, ◌<◌, ◌+◌, ◌^◌, ℕ, Bool, true, false, List, length, inl, inr, ⊎_elim, refl, sym, ◌∙◌, ap, subst, arith}
+use Rattle.std.specs.Prelude.{None, Option, Some}
+use Rattle.tm_machine.specs.Answers.{IsAnswered}
+use Rattle.model_disk.specs.Disk.{Image, DiskState, Stays, Within, ComesFrom, FailedSince, Only}
+use Rattle.model_system.specs.System.{System}
+use Rattle.model_machine.specs.Machine.{LastingState, Moment}
+use Rattle.model_machine.specs.declared.entry.Entry.{Entry}
+use Rattle.model_machine.specs.declared.entry.ControlFault.{ControlFault}
+use Rattle.model_machine.specs.declared.entry.ControlFault.TheVariants.{Memory, Disk, Spent}
+use Rattle.checkpointing.specs.Checkpoint.{KeepsRecovery}
+use Rattle.checkpointing.specs.Parts.{sequence_behind}
+use Rattle.checkpointing.specs.Texts.{KeepsText}
+use Rattle.log_writer.specs.Writer.{Writer}
+use Rattle.log_writer.specs.Log.{sectors_of}
+use Rattle.journal.specs.State.{JournalState}
+use Rattle.machine_life.specs.Counts.{AreUnspent}
+use Rattle.tm_machine.specs.Parts.{PartsState}
+use Rattle.machine_checkpoint.specs.Counted.{IsCounted}
+use Rattle.machine_checkpoint.specs.Logged.{IsLogged}
+use Rattle.machine_checkpoint.specs.Taking.{SameAll, Untaken}
+use Rattle.logged_machine.specs.Logged.{LoggedState}
+use Rattle.logged_machine.specs.Goes.{Keeps, StoodStill}
+use Rattle.logged_machine.specs.Leaving.{Brings, Leaves}
+use Rattle.logged_machine.specs.Doing.{Broke, Did, LeavesSo, Refreshed, Unrefreshed, is_memory, lasting_with}
+use Rattle.logged_machine.proofs.Leaving.{leaves_same}
+use Rattle.logged_machine.proofs.Logging.{recover, have_text}
+
+module _ {D : Type 0} (state : D → DiskState) (parts parts' : PartsState) (text : List ℕ) (journal journal' : JournalState) (units : List ℕ) (next : ℕ) (disk disk' : D) (up : Bool)
+    (h : IsLogged parts units next journal text (state disk)) (system : parts'.system ≡ parts.system) (moment : parts'.moment ≡ parts.moment) (stays : Stays (state disk) (state disk'))
+    (any : Within (KeepsRecovery parts.system) (state disk) (state disk')) (texts : Within (KeepsText parts.system) (state disk) (state disk')) where
+  abbrev pub was : LoggedState D
+  was = record { machine = parts; text = text; served = up; journal = journal; next_unit = next; disk = disk }
+
+  abbrev pub is : Bool → LoggedState D
+  is served = record { machine = parts'; text = text; served = served; journal = journal'; next_unit = next; disk = disk' }
+
+  leaves : Leaves (Brings parts.system text parts.moment.lasting parts.moment.lasting) (state disk) (state disk')
+  leaves = record {
+    later = any.later;
+    from = λ time image early left.
+        ⊎_elim (λ was_left. inl was_left)
+        (λ (c : ComesFrom (KeepsRecovery parts.system) (state disk) image).
+        ⊎_elim (λ was_left. inl was_left)
+        (λ (d : ComesFrom (KeepsText parts.system) (state disk) image).
+        inr (record {
+          recovers = inl (c.by parts.moment.lasting (recover parts units next journal text (state disk) h c.before c.left));
+          has_text = d.by text (have_text parts units next journal text (state disk) h d.before d.left);
+        }))
+        (texts.from time image early left))
+        (any.from time image early left);
+  }
+
+  sequence_low : journal.log.sequence + journal.log.place < 1000000000000000000 → sequence_behind journal.log < 1000000000000000000 + 4294967296
+  sequence_low low =
+      let w = h.carried.is.is_life.writer in
+      let fits : journal.log.place + sectors_of (length journal.log.appended) ≤ journal.log.count =
+      subst (λ (x : Writer). x.place + sectors_of (length x.appended) ≤ x.count) h.writer h.carried.is.is_life.appended.fits in
+      let few : journal.log.count < 2 ^ 32 = subst (λ (x : Writer). x.count < 2 ^ 32) h.writer (subst (λ (n : ℕ). n < 2 ^ 32) (sym w.count) h.carried.is.is_life.few) in
+      below journal.log.sequence journal.log.place (sectors_of (length journal.log.appended)) journal.log.count low fits few
+    where
+      below : (s p n c : ℕ) → s + p < 1000000000000000000 → p + n ≤ c → c < 2 ^ 32 → s + p + n < 1000000000000000000 + 4294967296
+      below s p n c a b d = omega (arith, a, b, d)
+
+  pub refreshed : up ≡ true → IsCounted 0 parts.moment.lasting next journal → journal'.restart.checkpoint ≡ journal.restart.checkpoint + 1 → journal'.restart.epoch ≡ journal.restart.epoch
+      → journal'.log.sequence ≡ sequence_behind journal.log → journal'.log.place ≡ 0 → Only (state disk').shown (state disk') → (state disk').faults ≡ (state disk).faults → Refreshed state was (is up)
+  refreshed served counted number epoch sequence place synced no_fault = record {
+    stood = record { moment = moment; served = served; no_fault = no_fault };
+    leaves = leaves;
+    keeps = record { system = system; text = refl; disk = stays; later = any.later; numbers = λ now. omega (arith, number) };
+    number = number;
+    counted = record {
+      counts = subst (λ (m : Moment). AreUnspent m.lasting) (sym moment) counted.counts;
+      unit = counted.unit;
+      epoch = subst (λ (n : ℕ). n < 1000000000000000000) (sym epoch) counted.epoch;
+      sequence = omega (arith, sequence, place, sequence_low (omega (arith, counted.sequence)));
+      checkpoint = omega (arith, number, counted.checkpoint);
+    };
+    synced = synced;
+    place = place;
+  }
+
+  pub broke : FailedSince (state disk) (state disk') → Broke state was (is false) × LeavesSo state was (is false) parts.moment.lasting × Keeps state was (is false)
+  broke cause =
+      (record { served = refl; failed = cause }, leaves, record { system = system; text = refl; disk = stays; later = any.later; numbers = λ now. absurd (apart now) })
+    where
+      apart : false ≡ true → ⊥
+      apart e = cc
+
+-- nothing was done
+pub nothing : {D : Type 0} (state : D → DiskState) (l : LoggedState D) (entry : Entry) → l.served ≡ true → Did state (Some Memory) l l entry
+nothing state l entry served = record {
+  did = (
+    record { moment = refl; served = served; no_fault = refl },
+    leaves_same (Brings l.machine.system l.text l.machine.moment.lasting l.machine.moment.lasting) (state l.disk),
+  );
+  keeps = record {
+    system = refl;
+    text = refl;
+    disk = record { size = refl; tells = refl; can_arm = refl; faults = omega arith; writes = omega arith };
+    later = omega arith;
+    numbers = λ now. omega arith;
+  };
+}
+
+-- a call was answered by an entry that leaves the machine as it was
+pub answered_still : {D : Type 0} (state : D → DiskState) (l : LoggedState D) (entry : Entry) → IsAnswered l.machine l.machine entry → l.served ≡ true → Did state None l l entry
+answered_still state l entry answered served = record {
+  did = (
+    record { answered = answered; served = served; no_fault = refl },
+    leaves_same (Brings l.machine.system l.text l.machine.moment.lasting (lasting_with l entry)) (state l.disk),
+  );
+  keeps = (nothing state l entry served).keeps;
+}
+
+-- what left all as it was did nothing
+pub nothing_done : {D : Type 0} (state : D → DiskState) (old new : LoggedState D) (entry : Entry) → new ≡ old → old.served ≡ true → Did state (Some Memory) old new entry
+nothing_done state old new entry same served = subst (λ (l : LoggedState _). Did state (Some Memory) old l entry) (sym same) (nothing state old entry served)
+
+-- what was done behind that was done at all
+pub did_same : {D : Type 0} (state : D → DiskState) (fault : Option ControlFault) (old mid new : LoggedState D) (entry : Entry) → mid ≡ old → Did state fault mid new entry → Did state fault old new entry
+did_same state fault old mid new entry same did = subst (λ (l : LoggedState _). Did state fault l new entry) same did
+
+pub served_same : {D : Type 0} (old mid : LoggedState D) → mid ≡ old → old.served ≡ true → mid.served ≡ true
+served_same old mid same served = ap (λ (l : LoggedState _). l.served) same ∙ served
+
+pub counted_same : {D : Type 0} (more : ℕ) (old mid : LoggedState D) → mid ≡ old → IsCounted more old.machine.moment.lasting old.next_unit old.journal → IsCounted more mid.machine.moment.lasting mid.next_unit mid.journal
+counted_same more old mid same counted = subst (λ (l : LoggedState _). IsCounted more l.machine.moment.lasting l.next_unit l.journal) (sym same) counted
+
+-- one state or the other, where they are the same
+pub one_state : (system : System) (text : List ℕ) (before after : LastingState) (image : Image) → Brings system text before before image → Brings system text before after image
+one_state system text before after image h = record { recovers = inl (⊎_elim (λ r. r) (λ r. r) h.recovers); has_text = h.has_text }
+
+-- no checkpoint was taken
+pub unrefreshed : {D : Type 0} (state : D → DiskState) (old new : LoggedState D) (entry : Entry) (fault : ControlFault) → old.served ≡ true → Unrefreshed state old new fault → Did state (Some fault) old new entry
+unrefreshed state old new entry Memory served same = nothing_done state old new entry same served
+unrefreshed state old new entry Disk served h = record {
+  did = (
+    h.0,
+    record {
+      later = h.1.later;
+      from = λ time image early left.
+          ⊎_elim (λ was_left. inl was_left) (λ (b : Brings old.machine.system old.text old.machine.moment.lasting old.machine.moment.lasting image). inr (one_state old.machine.system old.text old.machine.moment.lasting (lasting_with old entry) image b))
+          (h.1.from time image early left);
+    },
+  );
+  keeps = h.2;
+}
+unrefreshed state old new entry (Spent counter) served h = absurd h
+
+-- behind the first checkpoint the counts may be higher
+pub counted_more : (lasting : LastingState) (next : ℕ) (journal : JournalState) → IsCounted 0 lasting next journal → IsCounted 4294967296 lasting next journal
+counted_more lasting next journal c = record {
+  counts = c.counts;
+  unit = c.unit;
+  epoch = c.epoch;
+  sequence = omega (arith, c.sequence);
+  checkpoint = omega (arith, c.checkpoint);
+}
+
+-- ---- where there was no memory for one
+
+module _ {D : Type 0} (state : D → DiskState) (parts parts' : PartsState) (text : List ℕ) (journal journal' : JournalState) (units : List ℕ) (next : ℕ) (disk disk' : D) (same : SameAll parts parts' journal journal' disk disk') where
+  pub same_logged : IsLogged parts units next journal text (state disk) → IsLogged parts' units next journal' text (state disk')
+  same_logged h =
+      subst (λ (p : PartsState). IsLogged p units next journal' text (state disk')) (sym same.parts_are)
+      (subst (λ (j : JournalState). IsLogged parts units next j text (state disk')) (sym same.journal_is)
+      (subst (λ (d : D). IsLogged parts units next journal text (state d)) (sym same.disk_is) h))
+
+  abbrev pub logged_of : Bool → PartsState → JournalState → D → LoggedState D
+  logged_of up p j d = record { machine = p; text = text; served = up; journal = j; next_unit = next; disk = d }
+
+  pub same_all : (up : Bool) → logged_of up parts' journal' disk' ≡ logged_of up parts journal disk
+  same_all up =
+      ap (λ (p : PartsState). logged_of up p journal' disk') same.parts_are
+      ∙ ap (λ (j : JournalState). logged_of up parts j disk') same.journal_is
+      ∙ ap (λ (d : D). logged_of up parts journal d) same.disk_is
+
+-- ---- what a refusal leaves
+
+module _ {D : Type 0} (state : D → DiskState) (parts parts' : PartsState) (text : List ℕ) (journal journal' : JournalState) (units : List ℕ) (next : ℕ) (disk disk' : D) (up : Bool)
+    (h : IsLogged parts units next journal text (state disk)) (system : parts'.system ≡ parts.system) (moment : parts'.moment ≡ parts.moment) (stays : Stays (state disk) (state disk'))
+    (any : Within (KeepsRecovery parts.system) (state disk) (state disk')) (texts : Within (KeepsText parts.system) (state disk) (state disk')) where
+  pub unrefreshed_by : (fault : ControlFault) → Untaken state parts parts' journal journal' disk disk' fault → up ≡ true
+      → Unrefreshed state (was state parts parts' text journal journal' units next disk disk' up h system moment stays any texts)
+      (is state parts parts' text journal journal' units next disk disk' up h system moment stays any texts (is_memory fault)) fault
+  unrefreshed_by Memory same served =
+      same_all state parts parts' text journal journal' units next disk disk' same true
+      ∙ ap (λ (b : Bool). logged_of state parts parts' text journal journal' units next disk disk' same b parts journal disk) (sym served)
+  unrefreshed_by Disk cause served = broke state parts parts' text journal journal' units next disk disk' up h system moment stays any texts cause
+  unrefreshed_by (Spent counter) none served = absurd none
+
+  pub logged_by : (fault : ControlFault) → Untaken state parts parts' journal journal' disk disk' fault → is_memory fault ≡ true → IsLogged parts' units next journal' text (state disk')
+  logged_by Memory same e = same_logged state parts parts' text journal journal' units next disk disk' same h
+  logged_by Disk cause e = absurd (apart e)
+    where
+      apart : false ≡ true → ⊥
+      apart e = cc
+  logged_by (Spent counter) none e = absurd none

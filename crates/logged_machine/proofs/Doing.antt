@@ -1,0 +1,118 @@
+-- A call behind a checkpoint, and a call as its callers see it.
+use Rattle.std.proofs.Common.{true, ◌≡◌, ◌⊎◌, ◌≤◌, ℕ, List, inl, inr, ⊎_elim, refl, sym, ◌∙◌, ap, subst, arith}
+use Rattle.std.specs.Prelude.{Option, Some, None, Ok}
+use Rattle.model_disk.specs.Disk.{Image, DiskState, IsDisk, Stays, FailedSince, Rose}
+use Rattle.model_system.specs.System.{System}
+use Rattle.model_machine.specs.Machine.{LastingState, Moment}
+use Rattle.model_machine.specs.History.{May, after_entry}
+use Rattle.model_machine.specs.declared.entry.Entry.{Entry}
+use Rattle.model_machine.specs.declared.entry.ControlFault.{ControlFault}
+use Rattle.model_machine.specs.declared.entry.ControlFault.TheVariants.{Memory, Disk, Spent}
+use Rattle.model_image.specs.Recovered.{Recovers}
+use Rattle.checkpointing.specs.Texts.{HasText}
+use Rattle.disk_law.specs.Kept.{RecoversEither}
+use Rattle.logged_machine.specs.Logged.{LoggedState, AreLasting}
+use Rattle.logged_machine.specs.Goes.{Keeps, WentOn, Failed, StoodStill, GoesBy, CrashesBy}
+use Rattle.logged_machine.specs.Leaving.{Brings, Leaves}
+use Rattle.logged_machine.specs.Doing.{Broke, Did, DidBy, LeavesSo, Refreshed, lasting_with}
+use Rattle.logged_machine.proofs.Leaving.{leaves_same, leaves_then, leaves_all, leaves_now}
+
+-- ---- disks
+
+stays_then : (a b c : DiskState) → Stays a b → Stays b c → Stays a c
+stays_then a b c one two = record {
+  size = two.size ∙ one.size;
+  tells = two.tells ∙ one.tells;
+  can_arm = two.can_arm ∙ one.can_arm;
+  faults = omega (arith, one.faults, two.faults);
+  writes = omega (arith, one.writes, two.writes);
+}
+
+failed_later : (a b c : DiskState) → b.faults ≡ a.faults → FailedSince b c → FailedSince a c
+failed_later a b c same failed = subst (λ (n : ℕ). Rose n c.faults) same failed
+
+module _ {D : Type 0} (state : D → DiskState) where
+  pub keeps_then : (a b c : LoggedState D) → b.served ≡ true → Keeps state a b → Keeps state b c → Keeps state a c
+  keeps_then a b c up one two = record {
+    system = two.system ∙ one.system;
+    text = two.text ∙ one.text;
+    disk = stays_then (state a.disk) (state b.disk) (state c.disk) one.disk two.disk;
+    later = omega (arith, one.later, two.later);
+    numbers = λ now. omega (arith, one.numbers up, two.numbers now);
+  }
+
+  -- ---- behind a checkpoint
+
+  module _ (old mid new : LoggedState D) (entry : Entry) (fresh : Refreshed state old mid) where
+    both : (P : LastingState) → LeavesSo state mid new P → LeavesSo state old new P
+    both P leaves =
+        leaves_then (Brings old.machine.system old.text old.machine.moment.lasting old.machine.moment.lasting) (Brings mid.machine.system mid.text mid.machine.moment.lasting P)
+        (Brings old.machine.system old.text old.machine.moment.lasting P) (state old.disk) (state mid.disk) (state new.disk)
+        (λ image h. record { recovers = ⊎_elim (λ r. inl r) (λ r. inl r) h.recovers; has_text = h.has_text })
+        (λ image h.
+        subst (λ (m : Moment). Brings old.machine.system old.text m.lasting P image) fresh.stood.moment
+        (subst (λ (t : List ℕ). Brings old.machine.system t mid.machine.moment.lasting P image) fresh.keeps.text
+        (subst (λ (s : System). Brings s mid.text mid.machine.moment.lasting P image) fresh.keeps.system h)))
+        fresh.leaves leaves
+
+    same_after : lasting_with mid entry ≡ lasting_with old entry
+    same_after =
+        ap (λ (s : System). (after_entry s mid.machine.moment entry).lasting) fresh.keeps.system
+        ∙ ap (λ (m : Moment). (after_entry old.machine.system m entry).lasting) fresh.stood.moment
+
+    went : WentOn state mid new entry → WentOn state old new entry
+    went w = record {
+      answered = record {
+        may = subst (λ (m : Moment). May old.machine.system m entry) fresh.stood.moment (subst (λ (s : System). May s mid.machine.moment entry) fresh.keeps.system w.answered.may);
+        after =
+            w.answered.after ∙ ap (λ (s : System). after_entry s mid.machine.moment entry) fresh.keeps.system
+            ∙ ap (λ (m : Moment). after_entry old.machine.system m entry) fresh.stood.moment;
+        system = w.answered.system ∙ fresh.keeps.system;
+      };
+      served = w.served;
+      no_fault = w.no_fault ∙ fresh.stood.no_fault;
+    }
+
+    by : (fault : Option ControlFault) → DidBy state fault mid new entry → DidBy state fault old new entry
+    by None d = (went d.0, subst (LeavesSo state old new) same_after (both (lasting_with mid entry) d.1))
+    by (Some Disk) d = (
+      record { served = d.0.served; failed = failed_later (state old.disk) (state mid.disk) (state new.disk) fresh.stood.no_fault d.0.failed },
+      subst (LeavesSo state old new) same_after (both (lasting_with mid entry) d.1),
+    )
+    by (Some Memory) d = (
+      record { moment = d.0.moment ∙ fresh.stood.moment; served = d.0.served; no_fault = d.0.no_fault ∙ fresh.stood.no_fault },
+      subst (LeavesSo state old new) (ap (λ (m : Moment). m.lasting) fresh.stood.moment) (both mid.machine.moment.lasting d.1),
+    )
+    by (Some (Spent counter)) d = absurd d
+
+    pub did_behind : (fault : Option ControlFault) → Did state fault mid new entry → Did state fault old new entry
+    did_behind fault d = record { did = by fault d.did; keeps = keeps_then old mid new fresh.stood.served fresh.keeps d.keeps }
+
+  -- ---- as callers see it
+
+  module _ (old new : LoggedState D) (entry : Entry) (before : AreLasting state old) (old_disk : IsDisk (state old.disk)) (new_disk : IsDisk (state new.disk)) where
+    stands : (P : LastingState) (image : Image) → (state old.disk).may_leave image → Brings old.machine.system old.text old.machine.moment.lasting P image
+    stands P image left = record { recovers = inl (before.recover image left); has_text = before.have_text image left }
+
+    either : (P : LastingState) → LeavesSo state old new P → (image : Image) → (state new.disk).left_since (state old.disk).clock image → RecoversEither old.machine.system old.machine.moment.lasting P image
+    either P leaves image left =
+        (leaves_all (Brings old.machine.system old.text old.machine.moment.lasting P) (state old.disk) (state new.disk) old_disk (stands P) leaves image left).recovers
+
+    alone : LeavesSo state old new old.machine.moment.lasting → (image : Image) → (state new.disk).left_since (state old.disk).clock image → Recovers old.machine.system image (Ok old.machine.moment.lasting)
+    alone leaves image left = ⊎_elim (λ r. r) (λ r. r) (either old.machine.moment.lasting leaves image left)
+
+    texts : (P : LastingState) → LeavesSo state old new P → (image : Image) → (state new.disk).may_leave image → HasText old.machine.system old.text image
+    texts P leaves image left =
+        (leaves_now (Brings old.machine.system old.text old.machine.moment.lasting P) (state old.disk) (state new.disk) old_disk new_disk (stands P) leaves image left).has_text
+
+    pub goes : (fault : Option ControlFault) → DidBy state fault old new entry → GoesBy state fault old new entry
+    goes None d = d.0
+    goes (Some Disk) d = record { served = d.0.served; failed = d.0.failed; have_text = texts (lasting_with old entry) d.1 }
+    goes (Some Memory) d = d.0
+    goes (Some (Spent counter)) d = d
+
+    pub crashes : (fault : Option ControlFault) → DidBy state fault old new entry → CrashesBy state fault old new entry
+    crashes None d = either (lasting_with old entry) d.1
+    crashes (Some Disk) d = either (lasting_with old entry) d.1
+    crashes (Some Memory) d = alone d.1
+    crashes (Some (Spent counter)) d = d

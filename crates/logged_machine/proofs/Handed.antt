@@ -1,0 +1,65 @@
+-- What opening a machine with its log answers, by what opening its parts does.
+use Rattle.std.proofs.Common.{◌≡◌, ℕ, ◌<◌, ◌≤◌, true, List, Ok, Err, refl, sym, subst}
+use Rattle.model_disk.specs.Disk.{DiskState, Stays, Within}
+use Rattle.model_disk.proofs.Words.{keeps_same, stays_same, within_same}
+use Rattle.model_system.specs.System.{System}
+use Rattle.model_machine.specs.Machine.{LastingState}
+use Rattle.cold_start.specs.FirstImage.{sectors_needed}
+use Rattle.opening_answers.specs.declared.refusals.OpenError.{OpenError}
+use Rattle.opening_answers.specs.declared.refusals.OpenError.TheVariants.{TooSmall, Memory}
+use Rattle.opening_answers.specs.Opening.{OpeningCause, WroteNothing}
+use Rattle.journal.specs.State.{JournalState}
+use Rattle.tm_machine.specs.Parts.{PartsState}
+use Rattle.control_life.specs.declared.how.How.{How}
+use Rattle.machine_opening.specs.Opened.{OpensOn}
+use Rattle.control_life.specs.Opened.{KeepsBy, Refuses}
+use Rattle.logged_machine.specs.Logged.{LoggedState}
+use Rattle.logged_machine.specs.Opened.{Opens}
+use Rattle.control_life.specs.Opened.{HandsBack}
+
+module _ {D : Type 0} (state : D → DiskState) (how : How) (system : System) (text : List ℕ) where
+  -- nothing was written
+  wrote_nothing : (disk : DiskState) → WroteNothing disk disk
+  wrote_nothing disk = record { keeps = keeps_same disk; no_fault = refl }
+
+  -- The disk is too small.
+  pub too_small : (disk : D) (needed has : ℕ) → needed ≡ sectors_needed system → has ≡ (state disk).size → has < needed → HandsBack state how system text disk (TooSmall needed has) disk system text
+  too_small disk needed has need size less = record {
+    refuses = record { size = record { right_need = need; right_size = size; less = less }; found = λ is tells. tt; cold = λ is. tt };
+    system_is = refl;
+    text_is = refl;
+    stays = stays_same (state disk);
+    cause = wrote_nothing (state disk);
+    any_moment = within_same (KeepsBy how system) (state disk);
+  }
+
+  -- There is no memory.
+  pub no_memory : (disk : D) → sectors_needed system ≤ (state disk).size → HandsBack state how system text disk Memory disk system text
+  no_memory disk size = record {
+    refuses = record { size = size; found = λ is tells. tt; cold = λ is. tt };
+    system_is = refl;
+    text_is = refl;
+    stays = stays_same (state disk);
+    cause = wrote_nothing (state disk);
+    any_moment = within_same (KeepsBy how system) (state disk);
+  }
+
+  -- The parts were opened.
+  pub opens_so : (old new : D) (parts : PartsState) (journal : JournalState) (next : ℕ) (opening : LastingState) → parts.system ≡ system → OpensOn how system text (state old) (state new) parts opening → Stays (state old) (state new)
+      → Within (KeepsBy how system) (state old) (state new) → Opens state how system text old (record { machine = parts; text = text; served = true; journal = journal; next_unit = next; disk = new }) opening
+  opens_so old new parts journal next opening same opens stays any = record {
+    system_is = same;
+    moment = opens.moment;
+    text_is = refl;
+    served = refl;
+    no_fault = opens.no_fault;
+    stays = stays;
+    size = opens.size;
+    begins = opens.begins;
+    any_moment = any;
+  }
+
+  -- They were not.
+  pub refused_so : (old new : D) (error : OpenError) (back : System) → back ≡ system → Refuses how system text (state old) error → OpeningCause (Err error) (state old) (state new) → Stays (state old) (state new)
+      → Within (KeepsBy how system) (state old) (state new) → HandsBack state how system text old error new back text
+  refused_so old new error back same refuses cause stays any = record { refuses = refuses; system_is = same; text_is = refl; stays = stays; cause = cause; any_moment = any }

@@ -1,0 +1,39 @@
+-- What crashes leave, over one call of a disk and another.
+use Rattle.std.proofs.Common.{◌≡◌, ◌⊎◌, ◌≤◌, ℕ, inl, inr, ⊎_elim, arith, refl, subst, sym}
+use Rattle.model_disk.specs.Disk.{Image, DiskState, IsDisk, ComesFrom, Within}
+use Rattle.logged_machine.specs.Leaving.{Leaves}
+
+pub leaves_same : (P : Image → Type 0) (disk : DiskState) → Leaves P disk disk
+leaves_same P disk = record { later = omega arith; from = λ time image early left. inl left }
+
+-- one, and then the other
+pub leaves_then : (P Q R : Image → Type 0) (a b c : DiskState) → ((image : Image) → P image → R image) → ((image : Image) → Q image → R image)
+    → Leaves P a b → Leaves Q b c → Leaves R a c
+leaves_then P Q R a b c p q one two = record {
+  later = omega (arith, one.later, two.later);
+  from = λ time image early left.
+      ⊎_elim
+      (λ before. ⊎_elim (λ was. inl was) (λ h. inr (p image h)) (one.from time image early before))
+      (λ h. inr (q image h))
+      (two.from time image (omega (arith, early, one.later)) left);
+}
+
+-- images that come from those that might be left before
+pub leaves_within : (S : Image → Image → Type 0) (P : Image → Type 0) (old new : DiskState) → ((before after : Image) → old.may_leave before → S before after → P after)
+    → Within S old new → Leaves P old new
+leaves_within S P old new by within = record {
+  later = within.later;
+  from = λ time image early left. ⊎_elim (λ was. inl was) (λ (c : ComesFrom S old image). inr (by c.before image c.left c.by)) (within.from time image early left);
+}
+
+-- since the call began
+pub leaves_all : (P : Image → Type 0) (old new : DiskState) → IsDisk old → ((image : Image) → old.may_leave image → P image) → Leaves P old new
+    → (image : Image) → new.left_since old.clock image → P image
+leaves_all P old new disk before leaves image left =
+    ⊎_elim (λ was. before image (disk.now_alone image was)) (λ h. h) (leaves.from old.clock image (omega arith) left)
+
+-- and now
+pub leaves_now : (P : Image → Type 0) (old new : DiskState) → IsDisk old → IsDisk new → ((image : Image) → old.may_leave image → P image) → Leaves P old new
+    → (image : Image) → new.may_leave image → P image
+leaves_now P old new old_disk new_disk before leaves image left =
+    leaves_all P old new old_disk before leaves image (new_disk.now_counts old.clock image leaves.later left)

@@ -1,0 +1,11 @@
+pub mod Leaving
+pub mod Doing
+pub mod Logging
+pub mod Once
+pub mod Unspent
+pub mod Answered
+pub mod Attempts
+pub mod Checkpointed
+pub mod Serving
+pub mod Checked
+pub mod Handed

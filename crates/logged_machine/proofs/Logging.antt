@@ -1,0 +1,152 @@
+-- The life of a machine with its log, as calls go on.
+use Rattle.std.proofs.Common.{◌≡◌, ◌⊎◌, ◌≤◌, ◌<◌, ◌+◌, ◌^◌, ℕ, List, refl, sym, ◌∙◌, ap, subst, arith, inl, inr, length}
+use Rattle.std.specs.Prelude.{Option, Some, None, Result, Ok}
+use Rattle.std.specs.List.{flat_map}
+use Rattle.model_disk.specs.Disk.{Image, DiskState, IsDisk, Within, Follows}
+use Rattle.model_system.specs.System.{System}
+use Rattle.model_machine.specs.Machine.{LastingState, Moment}
+use Rattle.log_records.specs.Spelling.{spelling}
+use Rattle.log_writer.specs.Writer.{Writer}
+use Rattle.log_writer.specs.Log.{IsReady, AddsFront}
+use Rattle.restart_data.specs.declared.restart.RestartSector.{RestartSector}
+use Rattle.model_image.specs.Areas.{data_first, log_first, snapshot_area}
+use Rattle.model_image.specs.Recovered.{Recovers}
+use Rattle.model_image.specs.Text.{text_in}
+use Rattle.model_image.proofs.Places.{log_below, slot_above}
+use Rattle.restart_data.specs.Restart.{restart_in}
+use Rattle.disk_law.specs.Life.{LifeOnDisk, IsLife, IsWriterOf}
+use Rattle.disk_law.specs.Changes.{with_bytes}
+use Rattle.disk_law.specs.Kept.{IsKept, AreKept, RecoversEither}
+use Rattle.disk_law.proofs.Front.{recovers}
+use Rattle.disk_law.proofs.Forcing.{restart_stays, text_stays}
+use Rattle.step_law.specs.Steps.{StepOnDisk, IsStep, after_step, with_records}
+use Rattle.step_law.proofs.Stepping.{step_front}
+use Rattle.journal.specs.State.{JournalState, IsStepOf, forced, holding}
+use Rattle.program_rows.specs.OnSlots.{SlotsState}
+use Rattle.tm_machine.specs.OnSlots.{slots_now}
+use Rattle.tm_machine.specs.Parts.{PartsState}
+use Rattle.machine_life.specs.Carried.{IsCarriedBy}
+use Rattle.machine_life.specs.Going.{GoesOn, StepsOn}
+use Rattle.checkpointing.specs.Texts.{HasText}
+use Rattle.machine_checkpoint.specs.Logged.{IsLogged}
+use Rattle.logged_machine.specs.Leaving.{Leaves, Brings}
+use Rattle.logged_machine.proofs.Leaving.{leaves_within}
+
+-- ---- what each image has
+
+same_restart : {E : Type 0} (x : Result (Option RestartSector) E) (r s : RestartSector) → x ≡ Ok (Some r) → x ≡ Ok (Some s) → r ≡ s
+same_restart x r s one other = cc
+
+-- a writer with more bytes appended is where its log ends, too
+more_ready : (bytes : List ℕ) (log : Writer) (disk : DiskState) → IsReady log disk → IsReady (with_bytes bytes log) disk
+more_ready bytes log disk ready image left = let end = ready image left in record { written = end.written; free = end.free }
+
+module _ (parts : PartsState) (units : List ℕ) (next_unit : ℕ) (journal : JournalState) (text : List ℕ) (disk : DiskState) (h : IsLogged parts units next_unit journal text disk) where
+  abbrev system : System
+  system = parts.system
+
+  abbrev moment : Moment
+  moment = parts.moment
+
+  pub recover : (image : Image) → disk.may_leave image → Recovers system image (Ok moment.lasting)
+  recover image left =
+      subst (λ (s : System). Recovers s image (Ok moment.lasting)) h.carried.is.of_system
+      (subst (λ (s : LastingState). Recovers h.life.system image (Ok s)) h.carried.is.lasts
+      (recovers h.life h.carried.is.is_life image (h.kept image left)))
+
+  pub have_text : (image : Image) → disk.may_leave image → HasText system text image
+  have_text image left r found =
+      let k = h.kept image left in
+      let same : r ≡ h.life.now =
+      same_restart (restart_in (snapshot_area h.life.system) image) r h.life.now
+      (subst (λ (s : System). restart_in (snapshot_area s) image ≡ Ok (Some r)) (sym h.carried.is.of_system) found) k.restart in
+      ap (λ (x : RestartSector). text_in image x.text) same ∙ k.has_text ∙ h.text_is
+
+  life_area : h.life.log.first + h.life.log.count ≤ disk.size
+  life_area =
+      let w = h.carried.is.is_life.writer in
+      let areas : data_first h.life.system (length h.life.system.databases) ≤ disk.size =
+      subst (λ (s : System). data_first s (length s.databases) ≤ disk.size) (sym h.carried.is.of_system) h.areas in
+      omega (arith, w.first, w.count, areas, log_below h.life.system h.life.now.log h.carried.is.is_life.in_range.log, slot_above h.life.system (length h.life.system.databases) 0)
+
+  -- the log's area is on the disk
+  pub area : journal.log.first + journal.log.count ≤ disk.size
+  area = subst (λ (w : Writer). w.first + w.count ≤ disk.size) h.writer life_area
+
+  -- ---- a lasting step is forced
+
+  module _ (parts' : PartsState) (units' : List ℕ) (next' : ℕ) (same_system : parts'.system ≡ parts.system) (as_many : length units' ≡ length units) (bytes : List ℕ) (mid : Writer) (told : mid ≡ with_bytes bytes journal.log) where
+    all_numbered : length units' ≡ length parts'.system.regions
+    all_numbered = as_many ∙ h.counted ∙ ap (λ (y : System). length y.regions) (sym same_system)
+
+    module _ (s : StepsOn bytes parts.system parts'.moment (slots_now parts') units' next' h.life) where
+      pub step_of : IsStepOf mid h.life s.step
+      step_of = record {
+        writer = ap (λ (b : List ℕ). with_bytes b h.life.log) (sym s.spelled) ∙ ap (with_bytes bytes) h.writer ∙ sym told;
+        is_life = h.carried.is.is_life;
+        is_step = s.is_step;
+      }
+
+      forced_text : (before after : Image) → disk.may_leave before → AddsFront (with_records h.life s.step.records) before after → HasText system text after
+      forced_text before after left front r found =
+          let k = h.kept before left in
+          let w = with_records h.life s.step.records in
+          let over : IsWriterOf h.life.system h.life.now w = record {
+            first = h.carried.is.is_life.writer.first;
+            count = h.carried.is.is_life.writer.count;
+            sequence = h.carried.is.is_life.writer.sequence;
+            epoch = h.carried.is.is_life.writer.epoch;
+          } in
+          let restart : restart_in (snapshot_area h.life.system) after ≡ Ok (Some h.life.now) =
+          restart_stays h.life.system h.life.now w over h.carried.is.is_life.in_range s.is_step.room.fits before after front.changes front.each k.restart in
+          let same : r ≡ h.life.now =
+          same_restart (restart_in (snapshot_area h.life.system) after) r h.life.now
+          (subst (λ (y : System). restart_in (snapshot_area y) after ≡ Ok (Some r)) (sym h.carried.is.of_system) found) restart in
+          ap (λ (x : RestartSector). text_in after x.text) same
+          ∙ text_stays h.life.system h.life.now w over h.carried.is.is_life.in_range s.is_step.room.fits before after front.changes front.each k.restart
+          ∙ k.has_text ∙ h.text_is
+
+      pub force_leaves : (new : DiskState) → Within (AddsFront mid) disk new → Leaves (Brings system text moment.lasting parts'.moment.lasting) disk new
+      force_leaves new within =
+          leaves_within (AddsFront mid) (Brings system text moment.lasting parts'.moment.lasting) disk new
+          (λ before after left front.
+          let by_records : AddsFront (with_records h.life s.step.records) before after = subst (λ (w : Writer). AddsFront w before after) (sym step_of.writer) front in
+          record {
+            recovers =
+                subst (λ (l : LastingState). RecoversEither system moment.lasting l after) s.lasts
+                (subst (λ (l : LastingState). RecoversEither system l s.step.lasting after) h.carried.is.lasts
+                (subst (λ (y : System). RecoversEither y h.life.lasting s.step.lasting after) h.carried.is.of_system
+                (step_front h.life h.carried.is.is_life s.step s.is_step before (h.kept before left) after by_records)));
+            has_text = forced_text before after left by_records;
+          })
+          within
+
+      pub stepped : (journal' : JournalState) (new : DiskState) → AreKept (after_step s.step h.life) new → journal'.log ≡ forced mid → journal'.restart ≡ journal.restart → IsReady journal'.log new → new.size ≡ disk.size
+          → IsLogged parts' units' next' journal' text new
+      stepped journal' new kept log restart ready size = record {
+        life = after_step s.step h.life;
+        carried = subst (λ (y : System). IsCarriedBy y parts'.moment (slots_now parts') units' next' (after_step s.step h.life)) (sym same_system) s.is;
+        kept = kept;
+        writer = ap forced step_of.writer ∙ sym log;
+        now = h.now ∙ sym restart;
+        text_is = h.text_is;
+        areas = subst (λ (n : ℕ). data_first parts'.system (length parts'.system.databases) ≤ n) (sym size) (subst (λ (y : System). data_first y (length y.databases) ≤ disk.size) (sym same_system) h.areas);
+        ready = ready;
+        counted = all_numbered;
+      }
+
+    -- ---- changes are appended, or nothing is
+
+    pub continued : (g : GoesOn bytes parts.system parts'.moment (slots_now parts') units' next' h.life) (journal' : JournalState) → journal'.log ≡ mid → journal'.restart ≡ journal.restart
+        → IsLogged parts' units' next' journal' text disk
+    continued g journal' log restart = record {
+      life = g.behind;
+      carried = subst (λ (y : System). IsCarriedBy y parts'.moment (slots_now parts') units' next' g.behind) (sym same_system) g.is;
+      kept = λ image left. g.kept image (h.kept image left);
+      writer = g.log ∙ ap (with_bytes bytes) h.writer ∙ sym told ∙ sym log;
+      now = g.now ∙ h.now ∙ sym restart;
+      text_is = g.text ∙ h.text_is;
+      areas = subst (λ (y : System). data_first y (length y.databases) ≤ disk.size) (sym same_system) h.areas;
+      ready = subst (λ (w : Writer). IsReady w disk) (sym (log ∙ told)) (more_ready bytes journal.log disk h.ready);
+      counted = all_numbered;
+    }

@@ -1,0 +1,127 @@
+-- One attempt of a call: it appends what it tells, and forces that where a lasting step is among it.
+use Rattle.std.proofs.Common.{◌≡◌, ◌≤◌, ◌+◌, ℕ, Bool, true, false, List, refl, sym, ◌∙◌, ap, subst, arith, length}
+use Rattle.std.specs.Prelude.{Option, Some, None, ◌++◌}
+use Rattle.std.specs.List.{flat_map}
+use Rattle.std.specs.Option.{is_some}
+use Rattle.model_disk.specs.Disk.{Image, DiskState, Stays, Within, FailedSince}
+use Rattle.model_machine.specs.Machine.{LastingState, Moment}
+use Rattle.model_machine.specs.Lasting.{LastingStep}
+use Rattle.model_machine.specs.History.{after_entry}
+use Rattle.model_machine.specs.declared.entry.Entry.{Entry}
+use Rattle.model_machine.specs.declared.entry.ControlFault.TheVariants.{Disk}
+use Rattle.log_records.specs.declared.record.Record.{Record}
+use Rattle.log_records.specs.Spelling.{spelling}
+use Rattle.log_writer.specs.Writer.{Writer}
+use Rattle.log_writer.specs.Log.{IsReady, AddsFront, sectors_of}
+use Rattle.disk_law.specs.Life.{LifeOnDisk}
+use Rattle.disk_law.specs.Kept.{AreKept}
+use Rattle.step_law.specs.Steps.{StepOnDisk, after_step}
+use Rattle.journal.specs.State.{JournalState, IsStepOf, forced}
+use Rattle.program_rows.specs.OnSlots.{SlotsState}
+use Rattle.tm_machine.specs.Answers.{IsAnswered}
+use Rattle.tm_machine.specs.OnSlots.{slots_now}
+use Rattle.tm_machine.specs.Parts.{PartsState}
+use Rattle.machine_life.specs.Going.{GoesOn, StepsOn}
+use Rattle.machine_life.proofs.Turns.{GoesBy}
+use Rattle.parts_life.proofs.Closing.{goes_quiet, goes_step}
+use Rattle.machine_telling.specs.Telling.{Appends}
+use Rattle.logged_machine.specs.Logged.{LoggedState}
+use Rattle.logged_machine.specs.Goes.{Keeps}
+use Rattle.machine_checkpoint.specs.Logged.{IsLogged}
+use Rattle.logged_machine.specs.Leaving.{Brings, Leaves}
+use Rattle.logged_machine.specs.Doing.{Did, LeavesSo, lasting_with}
+use Rattle.logged_machine.proofs.Leaving.{leaves_same}
+use Rattle.logged_machine.proofs.Logging.{force_leaves, step_of, stepped, continued}
+
+-- what a force leaves
+pub record Forces (log log' : Writer) (old new : DiskState) : Type 0 where
+  pub within : Within (AddsFront log) old new
+  pub stays : Stays old new
+  pub kept : (life : LifeOnDisk) → (step : StepOnDisk) → IsStepOf log life step → AreKept life old → AreKept (after_step step life) new
+  pub log_is : log' ≡ forced log
+  pub ready : IsReady log' new
+  pub no_fault : new.faults ≡ old.faults
+
+module _ {D : Type 0} (state : D → DiskState) (parts parts' : PartsState) (text : List ℕ) (journal mid : JournalState) (units units' : List ℕ) (next next' : ℕ) (disk : D) (up : Bool)
+    (h : IsLogged parts units next journal text (state disk)) (as_many : length units' ≡ length units) (entry : Entry) (answered : IsAnswered parts parts' entry) (records : List Record) (told : Appends records journal mid)
+    (step : Option LastingStep) (goes : GoesBy step (flat_map spelling records) parts.system parts'.moment (slots_now parts') units' next' h.life) where
+  abbrev pub was : LoggedState D
+  was = record { machine = parts; text = text; served = up; journal = journal; next_unit = next; disk = disk }
+
+  abbrev pub is_still : LoggedState D
+  is_still = record { machine = parts'; text = text; served = up; journal = mid; next_unit = next'; disk = disk }
+
+  same_lasting : lasting_with was entry ≡ parts'.moment.lasting
+  same_lasting = ap (λ (m : Moment). m.lasting) (sym answered.after)
+
+  -- without a step nothing is written
+  pub quiet : up ≡ true → is_some step ≡ false → Did state None was is_still entry
+  quiet served none = record {
+    did = (record { answered = answered; served = served; no_fault = refl }, leaves_same (Brings parts.system text parts.moment.lasting (lasting_with was entry)) (state disk));
+    keeps = record {
+      system = answered.system;
+      text = refl;
+      disk = record { size = refl; tells = refl; can_arm = refl; faults = omega arith; writes = omega arith };
+      later = omega arith;
+      numbers = λ now. subst (λ (n : ℕ). journal.restart.checkpoint ≤ n) (ap (λ r. r.checkpoint) (sym told.restart)) (omega arith);
+    };
+  }
+
+  pub quiet_logged : is_some step ≡ false → IsLogged parts' units' next' mid text (state disk)
+  quiet_logged none =
+      continued parts units next journal text (state disk) h parts' units' next' answered.system as_many (flat_map spelling records) mid.log told.log
+      (goes_quiet (flat_map spelling records) parts.system parts'.moment (slots_now parts') units' next' h.life step none goes) mid refl told.restart
+
+  module _ (some : is_some step ≡ true) (journal' : JournalState) (disk' : D) where
+    steps : StepsOn (flat_map spelling records) parts.system parts'.moment (slots_now parts') units' next' h.life
+    steps = goes_step (flat_map spelling records) parts.system parts'.moment (slots_now parts') units' next' h.life step some goes
+
+    leaves : Within (AddsFront mid.log) (state disk) (state disk') → Leaves (Brings parts.system text parts.moment.lasting parts'.moment.lasting) (state disk) (state disk')
+    leaves within = force_leaves parts units next journal text (state disk) h parts' units' next' answered.system as_many (flat_map spelling records) mid.log told.log steps (state disk') within
+
+    abbrev pub is : LoggedState D
+    is = record { machine = parts'; text = text; served = up; journal = journal'; next_unit = next'; disk = disk' }
+
+    -- the step was forced
+    pub wrote : up ≡ true → Forces mid.log journal'.log (state disk) (state disk') → journal'.restart ≡ mid.restart → Did state None was is entry
+    wrote served f restart = record {
+      did = (
+        record { answered = answered; served = served; no_fault = f.no_fault },
+        subst (λ (l : LastingState). Leaves (Brings parts.system text parts.moment.lasting l) (state disk) (state disk')) (sym same_lasting) (leaves f.within),
+      );
+      keeps = record {
+        system = answered.system;
+        text = refl;
+        disk = f.stays;
+        later = f.within.later;
+        numbers = λ now. subst (λ (n : ℕ). journal.restart.checkpoint ≤ n) (ap (λ r. r.checkpoint) (sym (restart ∙ told.restart))) (omega arith);
+      };
+    }
+
+    pub wrote_logged : Forces mid.log journal'.log (state disk) (state disk') → journal'.restart ≡ mid.restart → IsLogged parts' units' next' journal' text (state disk')
+    wrote_logged f restart =
+        stepped parts units next journal text (state disk) h parts' units' next' answered.system as_many (flat_map spelling records) mid.log told.log steps journal' (state disk')
+        (f.kept h.life steps.step (step_of parts units next journal text (state disk) h parts' units' next' answered.system as_many (flat_map spelling records) mid.log told.log steps) h.kept)
+        f.log_is (restart ∙ told.restart) f.ready f.stays.size
+
+    -- the disk failed in the force
+    abbrev pub is_broken : LoggedState D
+    is_broken = record { machine = parts'; text = text; served = false; journal = journal'; next_unit = next'; disk = disk' }
+
+    pub failed : (broken : Entry) → after_entry parts.system parts.moment broken ≡ after_entry parts.system parts.moment entry
+        → Within (AddsFront mid.log) (state disk) (state disk') → Stays (state disk) (state disk') → FailedSince (state disk) (state disk') → Did state (Some Disk) was is_broken broken
+    failed broken same within stays cause = record {
+      did = (
+        record { served = refl; failed = cause },
+        subst (λ (l : LastingState). Leaves (Brings parts.system text parts.moment.lasting l) (state disk) (state disk')) (sym (ap (λ (m : Moment). m.lasting) same ∙ same_lasting)) (leaves within),
+      );
+      keeps = record {
+        system = answered.system;
+        text = refl;
+        disk = stays;
+        later = within.later;
+        numbers = λ now. absurd (up_down now);
+      };
+    } where
+      up_down : false ≡ true → ⊥
+      up_down e = cc

@@ -1,0 +1,19 @@
+-- where a region's work forbids it
+use Rattle.std.proofs.Common.{Err, ◌∙◌, ap, sym}
+use Rattle.model_machine.specs.declared.entry.CheckpointRefused.TheVariants.{BusyRegion}
+use Rattle.model_machine.specs.declared.entry.Entry.TheVariants.{Checked}
+use Rattle.logged_machine.specs.Logged.{LoggedState}
+use Rattle.logged_machine.proofs.Checked.{busy_answer}
+use Rattle.logged_machine.proofs.Checkpointed.{answered_still}
+use Rattle.logged_machine.proofs.logged.LoggedMachine.checkpoint_any.Goals as goal
+
+pub returns-in-Some-clause-did : goal.returns-in-Some-clause-did
+returns-in-Some-clause-did g c =
+    rw (sym c.self.view_is) (answered_still g.D.Disk.state (record { machine = c.self.inside.parts; text = c.self.inside.text; served = c.self.inside.served; journal = c.self.inside.journal; next_unit = c.self.inside.next_unit; disk = c.self.inside.disk }) (Checked c.args.freeze (Err (BusyRegion c.in-Some.region c.in-Some.id)))
+    (busy_answer c.self.inside.parts c.args.freeze c.in-Some.region c.in-Some.id c.region_count-regions.ensures.stays c.in-Some.ensures) (ap (λ (v : LoggedState _). v.served) c.self.view_is ∙ c.requires.served))
+
+pub checkpoint_free-requires-clause-stays : goal.checkpoint_free-requires-clause-stays
+checkpoint_free-requires-clause-stays g c = rw (sym c.self.view_is) c.region_count-regions.ensures.stays
+
+pub checkpoint_free-requires-clause-free : goal.checkpoint_free-requires-clause-free
+checkpoint_free-requires-clause-free g c = rw (sym c.self.view_is) c.in-None.ensures

@@ -1,0 +1,30 @@
+-- a checkpoint that was taken, or not
+use Rattle.std.proofs.Common.{◌≡◌, ℕ, Err, Result, IfOk, sym, subst}
+use Rattle.model_machine.specs.declared.entry.CheckpointRefused.{CheckpointRefused}
+use Rattle.model_machine.specs.declared.entry.CheckpointRefused.TheVariants.{Fault}
+use Rattle.model_machine.specs.declared.entry.Entry.TheVariants.{Checked}
+use Rattle.logged_machine.specs.Doing.{Did}
+use Rattle.control_life.specs.Faults.{fault_in}
+use Rattle.logged_machine.specs.Taken.{IsTaken}
+use Rattle.logged_machine.proofs.Checked.{is_taken, taken_did}
+use Rattle.logged_machine.proofs.Checkpointed.{unrefreshed}
+use Rattle.logged_machine.proofs.logged.LoggedMachine.checkpoint_free.Goals as goal
+
+pub number_taken-requires-clause-served : goal.number_taken-requires-clause-served
+number_taken-requires-clause-served g c = c.in-Ok.ensures.done.stood.served
+
+pub number_taken-requires-clause-place : goal.number_taken-requires-clause-place
+number_taken-requires-clause-place g c = c.in-Ok.ensures.done.place
+
+pub returns-in-Ok-clause-did : goal.returns-in-Ok-clause-did
+returns-in-Ok-clause-did g c =
+    subst (λ (r : Result ℕ CheckpointRefused). Did g.D.Disk.state (fault_in (Checked c.args.freeze r)) c.args.self.now c.refresh.new.self (Checked c.args.freeze r)) (sym c.number_taken.ensures.value)
+    (taken_did g.D.Disk.state c.args.self.now c.refresh.new.self c.args.freeze c.refresh.new.self.journal.restart.checkpoint c.requires.stays c.requires.free c.in-Ok.ensures.done)
+
+pub returns-in-Ok-clause-taken : goal.returns-in-Ok-clause-taken
+returns-in-Ok-clause-taken g c =
+    subst (λ (r : Result ℕ CheckpointRefused). IfOk r (λ number. IsTaken c.refresh.new.self.machine.system number c.args.self.now.journal c.refresh.new.self.journal (g.D.Disk.state c.refresh.new.self.disk))) (sym c.number_taken.ensures.value)
+    (is_taken g.D.Disk.state c.args.self.now c.refresh.new.self c.number_taken.ensures.images c.in-Ok.ensures.done)
+
+pub returns-in-Err-clause-did : goal.returns-in-Err-clause-did
+returns-in-Err-clause-did g c = unrefreshed g.D.Disk.state c.args.self.now c.refresh.new.self (Checked c.args.freeze (Err (Fault c.in-Err.fault))) c.in-Err.fault c.requires.served c.in-Err.ensures.fault

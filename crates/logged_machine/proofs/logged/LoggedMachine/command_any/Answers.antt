@@ -1,0 +1,35 @@
+-- a first attempt, and one behind a checkpoint
+use Rattle.std.proofs.Common.{Err}
+use Rattle.model_machine.specs.declared.entry.CommandRefused.TheVariants.{Fault}
+use Rattle.model_machine.specs.declared.entry.ControlFault.TheVariants.{Memory}
+use Rattle.model_machine.specs.declared.entry.Entry.TheVariants.{Commanded}
+use Rattle.control_life.specs.Faults.{fault_in}
+use Rattle.logged_machine.proofs.Checkpointed.{counted_more, counted_same, did_same, nothing_done, served_same}
+use Rattle.logged_machine.proofs.logged.LoggedMachine.command_any.Goals as goal
+
+pub command_once-requires-clause-counted : goal.command_once-requires-clause-counted
+command_once-requires-clause-counted g c = counted_more c.args.self.now.machine.moment.lasting c.args.self.now.next_unit c.args.self.now.journal c.requires.counted
+
+pub command_behind-requires-clause-served : goal.command_behind-requires-clause-served
+command_behind-requires-clause-served g c = served_same c.args.self.now c.command_once.new.self c.in-Err-Full.ensures.same c.requires.served
+
+pub command_behind-requires-clause-counted : goal.command_behind-requires-clause-counted
+command_behind-requires-clause-counted g c = counted_same 0 c.args.self.now c.command_once.new.self c.in-Err-Full.ensures.same c.requires.counted
+
+pub returns-in-Ok : goal.returns-in-Ok
+returns-in-Ok g c = record {
+  did =
+      c.in-Ok.ensures.did;
+}
+
+pub returns-in-Err-Memory : goal.returns-in-Err-Memory
+returns-in-Err-Memory g c = record {
+  did =
+      nothing_done g.D.Disk.state c.args.self.now c.command_once.new.self (Commanded c.args.command.now (Err (Fault Memory))) c.in-Err-Memory.ensures.same c.requires.served;
+}
+
+pub returns-in-Err-Full : goal.returns-in-Err-Full
+returns-in-Err-Full g c = record {
+  did =
+      did_same g.D.Disk.state (fault_in (Commanded c.args.command.now c.command_behind.result)) c.args.self.now c.command_once.new.self c.command_behind.new.self (Commanded c.args.command.now c.command_behind.result) c.in-Err-Full.ensures.same c.command_behind.ensures.did;
+}

@@ -1,0 +1,59 @@
+-- What one attempt of a call leaves, and what a checkpoint does.
+use Rattle.std.specs.Prelude.{◌≡◌, ◌+◌, Bool, true, false, Option, Some, None}
+use Rattle.model_disk.specs.Disk.{DiskState, FailedSince, Only}
+use Rattle.machine_checkpoint.specs.Counted.{IsCounted}
+use Rattle.model_machine.specs.Machine.{LastingState}
+use Rattle.model_machine.specs.History.{after_entry}
+use Rattle.model_machine.specs.declared.entry.Entry.{Entry}
+use Rattle.model_machine.specs.declared.entry.ControlFault.{ControlFault}
+use Rattle.model_machine.specs.declared.entry.ControlFault.TheVariants.{Memory, Disk, Spent}
+use Rattle.logged_machine.specs.Logged.{LoggedState}
+use Rattle.logged_machine.specs.Goes.{Keeps, WentOn, StoodStill}
+use Rattle.logged_machine.specs.Leaving.{Brings, Leaves}
+
+-- what lasts with the call of an entry
+abbrev pub lasting_with : {D : Type 0} → LoggedState D → Entry → LastingState
+lasting_with l entry = (after_entry l.machine.system l.machine.moment entry).lasting
+
+-- Whatever a crash leaves recovers to what lasted, or to this.
+abbrev pub LeavesSo : {D : Type 0} → (D → DiskState) → LoggedState D → LoggedState D → LastingState → Type 0
+LeavesSo state old new after = Leaves (Brings old.machine.system old.text old.machine.moment.lasting after) (state old.disk) (state new.disk)
+
+-- the disk failed
+pub record Broke {D : Type 0} (state : D → DiskState) (old new : LoggedState D) : Type 0 where
+  pub served : new.served ≡ false
+  pub failed : FailedSince (state old.disk) (state new.disk)
+
+abbrev pub DidBy : {D : Type 0} → (D → DiskState) → Option ControlFault → LoggedState D → LoggedState D → Entry → Type 0
+DidBy state None old new entry = WentOn state old new entry × LeavesSo state old new (lasting_with old entry)
+DidBy state (Some Disk) old new entry = Broke state old new × LeavesSo state old new (lasting_with old entry)
+DidBy state (Some Memory) old new entry = StoodStill state old new × LeavesSo state old new old.machine.moment.lasting
+DidBy state (Some (Spent counter)) old new entry = ⊥
+
+pub record Did {D : Type 0} (state : D → DiskState) (fault : Option ControlFault) (old new : LoggedState D) (entry : Entry) : Type 0 where
+  pub did : DidBy state fault old new entry
+  pub keeps : Keeps state old new
+
+-- A checkpoint was taken: the machine stands where it stood. Its number is the next one, its log
+-- area is empty, and a crash leaves what is shown.
+pub record Refreshed {D : Type 0} (state : D → DiskState) (old new : LoggedState D) : Type 0 where
+  pub stood : StoodStill state old new
+  pub leaves : LeavesSo state old new old.machine.moment.lasting
+  pub keeps : Keeps state old new
+  pub number : new.journal.restart.checkpoint ≡ old.journal.restart.checkpoint + 1
+  pub counted : IsCounted 4294967296 new.machine.moment.lasting new.next_unit new.journal
+  pub synced : Only (state new.disk).shown (state new.disk)
+  pub place : new.journal.log.place ≡ 0
+
+-- None was taken: there was no memory, and nothing happened; or the disk failed, and whatever a crash leaves recovers to what
+-- lasted.
+abbrev pub Unrefreshed : {D : Type 0} → (D → DiskState) → LoggedState D → LoggedState D → ControlFault → Type 0
+Unrefreshed state old new Memory = new ≡ old
+Unrefreshed state old new Disk = Broke state old new × LeavesSo state old new old.machine.moment.lasting × Keeps state old new
+Unrefreshed state old new (Spent counter) = ⊥
+
+-- the fault is want of memory
+abbrev pub is_memory : ControlFault → Bool
+is_memory Memory = true
+is_memory Disk = false
+is_memory (Spent counter) = false

@@ -1,0 +1,66 @@
+-- What a call leaves of a machine with its log.
+use Rattle.std.specs.Prelude.{◌≡◌, ◌≤◌, true, false, Option, Some, None, Ok}
+use Rattle.model_disk.specs.Disk.{Image, DiskState, Stays, FailedSince}
+use Rattle.model_machine.specs.History.{after_entry}
+use Rattle.model_machine.specs.declared.entry.Entry.{Entry}
+use Rattle.model_machine.specs.declared.entry.ControlFault.{ControlFault}
+use Rattle.model_machine.specs.declared.entry.ControlFault.TheVariants.{Memory, Disk, Spent}
+use Rattle.checkpointing.specs.Texts.{HasText}
+use Rattle.tm_machine.specs.Answers.{IsAnswered}
+use Rattle.model_image.specs.Recovered.{Recovers}
+use Rattle.disk_law.specs.Kept.{RecoversEither}
+use Rattle.logged_machine.specs.Logged.{LoggedState}
+
+-- what no call changes
+pub record Keeps {D : Type 0} (state : D → DiskState) (old new : LoggedState D) : Type 0 where
+  pub system : new.machine.system ≡ old.machine.system
+  pub text : new.text ≡ old.text
+  pub disk : Stays (state old.disk) (state new.disk)
+  pub later : (state old.disk).clock ≤ (state new.disk).clock
+  pub numbers : new.served ≡ true → old.journal.restart.checkpoint ≤ new.journal.restart.checkpoint
+
+-- ---- what it leaves of the machine; that no counter is spent was looked at before
+
+-- It was answered, and the machine went on.
+pub record WentOn {D : Type 0} (state : D → DiskState) (old new : LoggedState D) (entry : Entry) : Type 0 where
+  pub answered : IsAnswered old.machine new.machine entry
+  pub served : new.served ≡ true
+  pub no_fault : (state new.disk).faults ≡ (state old.disk).faults
+
+-- The disk failed in it, and nothing is served any more. What a crash may leave is still of the definition's text.
+pub record Failed {D : Type 0} (state : D → DiskState) (old new : LoggedState D) : Type 0 where
+  pub served : new.served ≡ false
+  pub failed : FailedSince (state old.disk) (state new.disk)
+  pub have_text : (image : Image) → (state new.disk).may_leave image → HasText old.machine.system old.text image
+
+-- There was no memory, and the machine stands where it stood.
+pub record StoodStill {D : Type 0} (state : D → DiskState) (old new : LoggedState D) : Type 0 where
+  pub moment : new.machine.moment ≡ old.machine.moment
+  pub served : new.served ≡ true
+  pub no_fault : (state new.disk).faults ≡ (state old.disk).faults
+
+abbrev pub GoesBy : {D : Type 0} → (D → DiskState) → Option ControlFault → LoggedState D → LoggedState D → Entry → Type 0
+GoesBy state None old new entry = WentOn state old new entry
+GoesBy state (Some Disk) old new entry = Failed state old new
+GoesBy state (Some Memory) old new entry = StoodStill state old new
+GoesBy state (Some (Spent counter)) old new entry = ⊥
+
+-- ---- what it leaves on the disk
+
+-- Whatever a crash might have left since the call began recovers to what lasted before it.
+abbrev pub CrashesAlone : {D : Type 0} → (D → DiskState) → LoggedState D → LoggedState D → Type 0
+CrashesAlone state old new =
+    (image : Image) → (state new.disk).left_since (state old.disk).clock image → Recovers old.machine.system image (Ok old.machine.moment.lasting)
+
+-- So it does, or to what lasts with the call's step.
+abbrev pub CrashesEither : {D : Type 0} → (D → DiskState) → LoggedState D → LoggedState D → Entry → Type 0
+CrashesEither state old new entry =
+    (image : Image) → (state new.disk).left_since (state old.disk).clock image
+    → RecoversEither old.machine.system old.machine.moment.lasting (after_entry old.machine.system old.machine.moment entry).lasting image
+
+-- Where the call couldn't be done, its step isn't there.
+abbrev pub CrashesBy : {D : Type 0} → (D → DiskState) → Option ControlFault → LoggedState D → LoggedState D → Entry → Type 0
+CrashesBy state None old new entry = CrashesEither state old new entry
+CrashesBy state (Some Disk) old new entry = CrashesEither state old new entry
+CrashesBy state (Some Memory) old new entry = CrashesAlone state old new
+CrashesBy state (Some (Spent counter)) old new entry = ⊥

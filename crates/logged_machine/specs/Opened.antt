@@ -1,0 +1,21 @@
+-- What opening a machine with its log answers.
+use Rattle.std.specs.Prelude.{◌≡◌, ℕ, ◌≤◌, true, List}
+use Rattle.model_disk.specs.Disk.{DiskState, Stays, Within}
+use Rattle.model_system.specs.System.{System}
+use Rattle.model_machine.specs.Machine.{LastingState, start_of}
+use Rattle.cold_start.specs.FirstImage.{sectors_needed}
+use Rattle.control_life.specs.declared.how.How.{How}
+use Rattle.control_life.specs.Opened.{Begins, KeepsBy}
+use Rattle.logged_machine.specs.Logged.{LoggedState}
+
+-- The machine stands where that begins.
+pub record Opens {D : Type 0} (state : D → DiskState) (how : How) (system : System) (text : List ℕ) (disk : D) (new : LoggedState D) (opening : LastingState) : Type 0 where
+  pub system_is : new.machine.system ≡ system
+  pub moment : new.machine.moment ≡ start_of system opening
+  pub text_is : new.text ≡ text
+  pub served : new.served ≡ true
+  pub no_fault : (state new.disk).faults ≡ (state disk).faults
+  pub stays : Stays (state disk) (state new.disk)
+  pub size : sectors_needed system ≤ (state disk).size
+  pub begins : Begins how system text (state disk) opening
+  pub any_moment : Within (KeepsBy how system) (state disk) (state new.disk)

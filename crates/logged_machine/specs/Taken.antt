@@ -1,0 +1,29 @@
+-- A checkpoint that was taken.
+use Rattle.std.specs.Prelude.{◌≡◌, ℕ, ◌<◌, List, [], Some, Ok}
+use Rattle.model_disk.specs.Disk.{Image, DiskState, Only}
+use Rattle.model_system.specs.System.{System}
+use Rattle.restart_data.specs.declared.restart.RestartSector.{RestartSector}
+use Rattle.restart_data.specs.Restart.{restart_in}
+use Rattle.log_sectors.specs.Chain.{chain}
+use Rattle.model_image.specs.Areas.{snapshot_area, log_first}
+use Rattle.journal.specs.State.{JournalState}
+use Rattle.model_machine.specs.Machine.{Moment, moment_with}
+use Rattle.tm_machine.specs.Parts.{PartsState}
+
+-- The image has a restart sector with this number, and an empty chain behind it.
+pub record HasNumber (system : System) (number : ℕ) (image : Image) : Type 0 where
+  pub restart : RestartSector
+  pub found : restart_in (snapshot_area system) image ≡ Ok (Some restart)
+  pub checkpoint : restart.checkpoint ≡ number
+  pub empty : chain system.logs image (log_first system restart.log) restart.sequence restart.epoch ≡ []
+
+-- The checkpoint has this number, above the one before. So has each image that a crash may leave, and that is the one shown.
+pub record IsTaken (system : System) (number : ℕ) (old new : JournalState) (disk : DiskState) : Type 0 where
+  pub above : old.restart.checkpoint < number
+  pub now : new.restart.checkpoint ≡ number
+  pub images : (image : Image) → disk.may_leave image → HasNumber system number image
+  pub synced : Only disk.shown disk
+
+-- the moment of parts, with the flags as they follow on their own
+abbrev pub again : PartsState → Moment
+again parts = moment_with parts.system parts.moment.lasting parts.moment.slots parts.moment.enqueues parts.moment.raised

@@ -1,0 +1,184 @@
+//! Inputs of terminals.
+ghost use Rattle.std.specs.Prelude.{◌≡◌, ◌<◌, length, nat_le, true, None, IfOk, OnErr};
+ghost use Rattle.parts_life.specs.Steps.{is_new};
+ghost use Rattle.model_machine.specs.declared.entry.Entry.TheVariants.{Accept};
+ghost use Rattle.logged_machine.specs.Logged.{LastsNow, spent_now};
+ghost use Rattle.logged_machine.specs.Goes.{Keeps, GoesBy, CrashesBy};
+ghost use Rattle.control_life.specs.Faults.{fault_in};
+ghost use Rattle.logged_machine.specs.Doing.{Did};
+ghost use Rattle.machine_telling.specs.Telling.{HasRoom};
+ghost use Rattle.machine_checkpoint.specs.Counted.{IsCounted};
+
+use crate::logged::LoggedMachine;
+use machine_telling::{Untold, all_room, room_left, tell_input};
+use model_machine::{ControlFault, InputRefused, Taken};
+use tm_disk::Disk;
+use tm_types::{Name, Segments};
+
+/// No input has a number from here on.
+const NUMBER_LIMIT: u64 = 2_000_000_000_000_000_000;
+
+impl<D: Disk> LoggedMachine<D> {
+    /// Takes an input of a terminal under a number.
+    pub fn accept(
+        &mut self,
+        terminal: &Name,
+        number: u64,
+        segments: Segments,
+    ) -> Result<Taken, InputRefused>
+        requires some { 0 < length segments }
+        requires served { self.old.served ≡ true }
+        requires unspent { spent_now self.old ≡ None }
+        ensures goes { GoesBy D.state (fault_in (Accept terminal.now number segments result)) self.old self.new (Accept terminal.now number segments result) }
+        ensures crash { CrashesBy D.state (fault_in (Accept terminal.now number segments result)) self.old self.new (Accept terminal.now number segments result) }
+        ensures lasts { LastsNow D.state self.new }
+        ensures keeps { Keeps D.state self.old self.new }
+    {
+        let _before = self.is_served();
+        let answer = self.accept_any(terminal, number, segments);
+        let _behind = self.is_served();
+        answer
+    }
+
+    /// The same, by what it does.
+    fn accept_any(
+        &mut self,
+        terminal: &Name,
+        number: u64,
+        segments: Segments,
+    ) -> Result<Taken, InputRefused>
+        requires some { 0 < length segments }
+        requires served { self.old.served ≡ true }
+        requires counted { IsCounted 0 self.old.machine.moment.lasting self.old.next_unit self.old.journal }
+        ensures did { Did D.state (fault_in (Accept terminal.now number segments result)) self.old self.new (Accept terminal.now number segments result) }
+    {
+        if is_past(number) {
+            return Err(InputRefused::Fault(ControlFault::Memory));
+        }
+        match segments.clone() {
+            Ok(again) => self.accept_first(terminal, number, segments, again),
+            Err(_) => Err(InputRefused::Fault(ControlFault::Memory)),
+        }
+    }
+
+    /// The same, where the segments are there once more for an attempt behind a checkpoint.
+    fn accept_first(
+        &mut self,
+        terminal: &Name,
+        number: u64,
+        segments: Segments,
+        again: Segments,
+    ) -> Result<Taken, InputRefused>
+        requires some { 0 < length segments }
+        requires served { self.old.served ≡ true }
+        requires counted { IsCounted 0 self.old.machine.moment.lasting self.old.next_unit self.old.journal }
+        requires small { number < 2000000000000000000 }
+        requires again { again ≡ segments }
+        ensures did { Did D.state (fault_in (Accept terminal.now number segments result)) self.old self.new (Accept terminal.now number segments result) }
+    {
+        let room = room_left(&self.journal);
+        match self.accept_once(terminal, number, segments, room) {
+            Ok(answer) => answer,
+            Err(Untold::Memory) => Err(InputRefused::Fault(ControlFault::Memory)),
+            Err(Untold::Full) => self.accept_behind(terminal, number, again),
+        }
+    }
+
+    /// The same behind a checkpoint.
+    fn accept_behind(
+        &mut self,
+        terminal: &Name,
+        number: u64,
+        segments: Segments,
+    ) -> Result<Taken, InputRefused>
+        requires some { 0 < length segments }
+        requires served { self.old.served ≡ true }
+        requires counted { IsCounted 0 self.old.machine.moment.lasting self.old.next_unit self.old.journal }
+        requires small { number < 2000000000000000000 }
+        ensures did { Did D.state (fault_in (Accept terminal.now number segments result)) self.old self.new (Accept terminal.now number segments result) }
+    {
+        match self.refresh() {
+            Ok(()) => self.accept_fresh(terminal, number, segments),
+            Err(fault) => Err(InputRefused::Fault(fault)),
+        }
+    }
+
+    /// The same with a log area that is empty.
+    fn accept_fresh(
+        &mut self,
+        terminal: &Name,
+        number: u64,
+        segments: Segments,
+    ) -> Result<Taken, InputRefused>
+        requires some { 0 < length segments }
+        requires served { self.old.served ≡ true }
+        requires counted { IsCounted 4294967296 self.old.machine.moment.lasting self.old.next_unit self.old.journal }
+        requires small { number < 2000000000000000000 }
+        ensures did { Did D.state (fault_in (Accept terminal.now number segments result)) self.old self.new (Accept terminal.now number segments result) }
+    {
+        let room = all_room(&self.journal);
+        match self.accept_once(terminal, number, segments, room) {
+            Ok(answer) => answer,
+            Err(_) => Err(InputRefused::Fault(ControlFault::Memory)),
+        }
+    }
+
+    /// One attempt, with so much room for records.
+    fn accept_once(
+        &mut self,
+        terminal: &Name,
+        number: u64,
+        segments: Segments,
+        room: usize,
+    ) -> Result<Result<Taken, InputRefused>, Untold>
+        requires some { 0 < length segments }
+        requires served { self.old.served ≡ true }
+        requires counted { IsCounted 4294967296 self.old.machine.moment.lasting self.old.next_unit self.old.journal }
+        requires small { number < 2000000000000000000 }
+        requires room { HasRoom room self.old.journal.log }
+        ensures did { IfOk result (λ answer. Did D.state (fault_in (Accept terminal.now number segments answer)) self.old self.new (Accept terminal.now number segments answer)) }
+        ensures same { OnErr result (self.new ≡ self.old) }
+    {
+        let told = tell_input(
+            self.alloc,
+            &mut self.parts,
+            &mut self.journal,
+            terminal,
+            number,
+            segments,
+            room,
+        );
+        let answer = match told {
+            Ok(answer) => answer,
+            Err(untold) => return Err(untold),
+        };
+        if !is_new(&answer) {
+            return Ok(answer);
+        }
+        match self.journal.force(&mut self.disk) {
+            Ok(()) => Ok(answer),
+            Err(_) => {
+                self.served = false;
+                Ok(Err(InputRefused::Fault(ControlFault::Disk)))
+            }
+        }
+    }
+}
+
+/// Whether no input has this number.
+fn is_past(number: u64) -> bool
+    ensures { result ≡ nat_le 2000000000000000000 number }
+{
+    number >= NUMBER_LIMIT
+}
+
+/// Whether an input was accepted.
+fn is_new(answer: &Result<Taken, InputRefused>) -> bool
+    ensures { result ≡ is_new answer.now }
+{
+    match answer {
+        Ok(Taken::New(_)) => true,
+        Ok(Taken::Already) => false,
+        Err(_) => false,
+    }
+}

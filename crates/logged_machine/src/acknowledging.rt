@@ -1,0 +1,120 @@
+//! Acknowledgements of replies.
+ghost use Rattle.std.specs.Prelude.{◌≡◌, true, None, IfOk, OnErr};
+ghost use Rattle.model_machine.specs.declared.entry.Entry.TheVariants.{Acked as AckedEntry};
+ghost use Rattle.logged_machine.specs.Logged.{LastsNow, spent_now};
+ghost use Rattle.logged_machine.specs.Goes.{Keeps, GoesBy, CrashesBy};
+ghost use Rattle.control_life.specs.Faults.{fault_in};
+ghost use Rattle.logged_machine.specs.Doing.{Did};
+ghost use Rattle.machine_telling.specs.Telling.{HasRoom};
+ghost use Rattle.machine_checkpoint.specs.Counted.{IsCounted};
+ghost use Rattle.parts_life.specs.Steps.{is_removed};
+
+use crate::logged::LoggedMachine;
+use machine_telling::{Untold, all_room, room_left, tell_acknowledgement};
+use model_machine::{AckRefused, Acked, ControlFault};
+use tm_disk::Disk;
+use tm_types::Name;
+
+impl<D: Disk> LoggedMachine<D> {
+    /// Takes the acknowledgement of a reply.
+    pub fn acknowledge(&mut self, terminal: &Name, number: u64) -> Result<Acked, AckRefused>
+        requires served { self.old.served ≡ true }
+        requires unspent { spent_now self.old ≡ None }
+        ensures goes { GoesBy D.state (fault_in (AckedEntry terminal.now number result)) self.old self.new (AckedEntry terminal.now number result) }
+        ensures crash { CrashesBy D.state (fault_in (AckedEntry terminal.now number result)) self.old self.new (AckedEntry terminal.now number result) }
+        ensures lasts { LastsNow D.state self.new }
+        ensures keeps { Keeps D.state self.old self.new }
+    {
+        let _before = self.is_served();
+        let answer = self.acknowledge_any(terminal, number);
+        let _behind = self.is_served();
+        answer
+    }
+
+    /// The same, by what it does.
+    fn acknowledge_any(&mut self, terminal: &Name, number: u64) -> Result<Acked, AckRefused>
+        requires served { self.old.served ≡ true }
+        requires counted { IsCounted 0 self.old.machine.moment.lasting self.old.next_unit self.old.journal }
+        ensures did { Did D.state (fault_in (AckedEntry terminal.now number result)) self.old self.new (AckedEntry terminal.now number result) }
+    {
+        let room = room_left(&self.journal);
+        match self.acknowledge_once(terminal, number, room) {
+            Ok(answer) => answer,
+            Err(Untold::Memory) => Err(AckRefused::Fault(ControlFault::Memory)),
+            Err(Untold::Full) => self.acknowledge_behind(terminal, number),
+        }
+    }
+
+    /// The same behind a checkpoint.
+    fn acknowledge_behind(&mut self, terminal: &Name, number: u64) -> Result<Acked, AckRefused>
+        requires served { self.old.served ≡ true }
+        requires counted { IsCounted 0 self.old.machine.moment.lasting self.old.next_unit self.old.journal }
+        ensures did { Did D.state (fault_in (AckedEntry terminal.now number result)) self.old self.new (AckedEntry terminal.now number result) }
+    {
+        match self.refresh() {
+            Ok(()) => self.acknowledge_fresh(terminal, number),
+            Err(fault) => Err(AckRefused::Fault(fault)),
+        }
+    }
+
+    /// The same with a log area that is empty.
+    fn acknowledge_fresh(&mut self, terminal: &Name, number: u64) -> Result<Acked, AckRefused>
+        requires served { self.old.served ≡ true }
+        requires counted { IsCounted 4294967296 self.old.machine.moment.lasting self.old.next_unit self.old.journal }
+        ensures did { Did D.state (fault_in (AckedEntry terminal.now number result)) self.old self.new (AckedEntry terminal.now number result) }
+    {
+        let room = all_room(&self.journal);
+        match self.acknowledge_once(terminal, number, room) {
+            Ok(answer) => answer,
+            Err(_) => Err(AckRefused::Fault(ControlFault::Memory)),
+        }
+    }
+
+    /// One attempt, with so much room for records.
+    fn acknowledge_once(
+        &mut self,
+        terminal: &Name,
+        number: u64,
+        room: usize,
+    ) -> Result<Result<Acked, AckRefused>, Untold>
+        requires served { self.old.served ≡ true }
+        requires counted { IsCounted 4294967296 self.old.machine.moment.lasting self.old.next_unit self.old.journal }
+        requires room { HasRoom room self.old.journal.log }
+        ensures did { IfOk result (λ answer. Did D.state (fault_in (AckedEntry terminal.now number answer)) self.old self.new (AckedEntry terminal.now number answer)) }
+        ensures same { OnErr result (self.new ≡ self.old) }
+    {
+        let told = tell_acknowledgement(
+            self.alloc,
+            &mut self.parts,
+            &mut self.journal,
+            terminal,
+            number,
+            room,
+        );
+        let answer = match told {
+            Ok(answer) => answer,
+            Err(untold) => return Err(untold),
+        };
+        if !is_removed(&answer) {
+            return Ok(answer);
+        }
+        match self.journal.force(&mut self.disk) {
+            Ok(()) => Ok(answer),
+            Err(_) => {
+                self.served = false;
+                Ok(Err(AckRefused::Fault(ControlFault::Disk)))
+            }
+        }
+    }
+}
+
+/// Whether a reply is no longer kept.
+fn is_removed(answer: &Result<Acked, AckRefused>) -> bool
+    ensures { result ≡ is_removed answer.now }
+{
+    match answer {
+        Ok(Acked::Removed) => true,
+        Ok(Acked::Already) => false,
+        Err(_) => false,
+    }
+}

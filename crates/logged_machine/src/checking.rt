@@ -1,0 +1,84 @@
+//! Checkpoints that are asked for.
+ghost use Rattle.std.specs.Prelude.{◌≡◌, true, ℕ, None, Ok, IfOk};
+ghost use Rattle.model_disk.specs.Disk.{Image};
+ghost use Rattle.model_machine.specs.Commands.{checkpoint_answer, unless_busy};
+ghost use Rattle.model_machine.specs.declared.entry.Entry.TheVariants.{Checked};
+ghost use Rattle.machine_checkpoint.specs.Counted.{IsCounted};
+ghost use Rattle.logged_machine.specs.Doing.{Did};
+ghost use Rattle.logged_machine.specs.Goes.{Keeps, GoesBy, CrashesBy};
+ghost use Rattle.control_life.specs.Faults.{fault_in};
+ghost use Rattle.logged_machine.specs.Logged.{LastsNow, spent_now};
+ghost use Rattle.logged_machine.specs.Taken.{HasNumber, IsTaken, again};
+
+use crate::logged::LoggedMachine;
+use command_answers::busy_region;
+use model_machine::CheckpointRefused;
+use tm_disk::Disk;
+use tm_machine::Parts;
+
+impl<D: Disk> LoggedMachine<D> {
+    /// Takes a checkpoint, of which it answers the number. Before a freeze no region may work on a message.
+    pub fn checkpoint(&mut self, freeze: bool) -> Result<u64, CheckpointRefused>
+        requires served { self.old.served ≡ true }
+        requires unspent { spent_now self.old ≡ None }
+        ensures goes { GoesBy D.state (fault_in (Checked freeze result)) self.old self.new (Checked freeze result) }
+        ensures crash { CrashesBy D.state (fault_in (Checked freeze result)) self.old self.new (Checked freeze result) }
+        ensures lasts { LastsNow D.state self.new }
+        ensures keeps { Keeps D.state self.old self.new }
+        ensures taken { IfOk result (λ number. IsTaken self.new.machine.system number self.old.journal self.new.journal (D.state self.new.disk)) }
+    {
+        let _before = self.is_served();
+        let answer = self.checkpoint_any(freeze);
+        let _behind = self.is_served();
+        answer
+    }
+
+    /// The same, by what it does.
+    fn checkpoint_any(&mut self, freeze: bool) -> Result<u64, CheckpointRefused>
+        requires served { self.old.served ≡ true }
+        requires counted { IsCounted 0 self.old.machine.moment.lasting self.old.next_unit self.old.journal }
+        ensures did { Did D.state (fault_in (Checked freeze result)) self.old self.new (Checked freeze result) }
+        ensures taken { IfOk result (λ number. IsTaken self.new.machine.system number self.old.journal self.new.journal (D.state self.new.disk)) }
+    {
+        let _regions = self.parts.region_count();
+        match busy_for(&self.parts, freeze) {
+            Some((region, id)) => Err(CheckpointRefused::BusyRegion(region, id)),
+            None => self.checkpoint_free(freeze),
+        }
+    }
+
+    /// The same where no region forbids it.
+    fn checkpoint_free(&mut self, freeze: bool) -> Result<u64, CheckpointRefused>
+        requires served { self.old.served ≡ true }
+        requires counted { IsCounted 0 self.old.machine.moment.lasting self.old.next_unit self.old.journal }
+        requires stays { again self.old.machine ≡ self.old.machine.moment }
+        requires free { (number : ℕ) → checkpoint_answer self.old.machine.moment freeze number ≡ Ok number }
+        ensures did { Did D.state (fault_in (Checked freeze result)) self.old self.new (Checked freeze result) }
+        ensures taken { IfOk result (λ number. IsTaken self.new.machine.system number self.old.journal self.new.journal (D.state self.new.disk)) }
+    {
+        match self.refresh() {
+            Ok(()) => self.number_taken(),
+            Err(fault) => Err(CheckpointRefused::Fault(fault)),
+        }
+    }
+
+    /// The number of a checkpoint that was just taken.
+    fn number_taken(&self) -> Result<u64, CheckpointRefused>
+        requires served { self.now.served ≡ true }
+        requires place { self.now.journal.log.place ≡ 0 }
+        ensures value { result ≡ Ok self.now.journal.restart.checkpoint }
+        ensures images { (image : Image) → (D.state self.now.disk).may_leave image → HasNumber self.now.machine.system self.now.journal.restart.checkpoint image }
+    {
+        Ok(self.journal.restart().checkpoint)
+    }
+}
+
+/// The region that forbids a checkpoint, which is one that works on a message before a freeze.
+fn busy_for(parts: &Parts, freeze: bool) -> Option<(u32, u64)>
+    ensures { (number : ℕ) → checkpoint_answer parts.now.moment freeze number ≡ unless_busy number result }
+{
+    if freeze {
+        return busy_region(parts);
+    }
+    None
+}

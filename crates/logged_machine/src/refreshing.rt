@@ -1,0 +1,45 @@
+//! Checkpoints.
+ghost use Rattle.std.specs.Prelude.{◌≡◌, true, OnOk, IfErr};
+ghost use Rattle.machine_checkpoint.specs.Counted.{IsCounted};
+ghost use Rattle.logged_machine.specs.Doing.{Refreshed, Unrefreshed, is_memory};
+
+use crate::logged::LoggedMachine;
+use machine_checkpoint::checkpoint;
+use model_machine::ControlFault;
+use tm_disk::Disk;
+
+impl<D: Disk> LoggedMachine<D> {
+    /// Takes a checkpoint. The machine stands where it stood, and no slot counts as changed.
+    pub(crate) fn refresh(&mut self) -> Result<(), ControlFault>
+        requires served { self.old.served ≡ true }
+        requires counted { IsCounted 0 self.old.machine.moment.lasting self.old.next_unit self.old.journal }
+        ensures done { OnOk result (Refreshed D.state self.old self.new) }
+        ensures fault { IfErr result (Unrefreshed D.state self.old self.new) }
+    {
+        match checkpoint(
+            self.alloc,
+            &mut self.parts,
+            &mut self.journal,
+            &mut self.disk,
+            self.units.as_slice(),
+            self.next_unit,
+        ) {
+            Ok(()) => Ok(()),
+            Err(fault) => {
+                self.served = is_memory(&fault);
+                Err(fault)
+            }
+        }
+    }
+}
+
+/// Whether a fault is want of memory.
+fn is_memory(fault: &ControlFault) -> bool
+    ensures { result ≡ is_memory fault.now }
+{
+    match fault {
+        ControlFault::Memory => true,
+        ControlFault::Disk => false,
+        ControlFault::Spent(_) => false,
+    }
+}

@@ -1,0 +1,128 @@
+//! Turns of regions.
+ghost use Rattle.std.specs.Prelude.{◌≡◌, true, None, IfOk, OnErr};
+ghost use Rattle.model_machine.specs.Machine.{IsRegion};
+ghost use Rattle.model_machine.specs.declared.entry.Entry.TheVariants.{Turn as TurnEntry};
+ghost use Rattle.tm_machine.specs.Told.{ends_work};
+ghost use Rattle.logged_machine.specs.Logged.{LastsNow, spent_now};
+ghost use Rattle.logged_machine.specs.Goes.{Keeps, GoesBy, CrashesBy};
+ghost use Rattle.control_life.specs.Faults.{fault_in};
+ghost use Rattle.logged_machine.specs.Doing.{Did};
+ghost use Rattle.machine_telling.specs.Telling.{HasRoom};
+ghost use Rattle.machine_checkpoint.specs.Counted.{IsCounted};
+
+use crate::logged::LoggedMachine;
+use machine_telling::{Untold, all_room, note_units, room_left, tell_turn, unit_of};
+use model_machine::{ControlFault, Turned};
+use tm_disk::Disk;
+
+impl<D: Disk> LoggedMachine<D> {
+    /// Lets a region do its next step.
+    pub fn turn(&mut self, region: u32) -> Result<Turned, ControlFault>
+        requires region { IsRegion self.old.machine.system region }
+        requires served { self.old.served ≡ true }
+        requires unspent { spent_now self.old ≡ None }
+        ensures goes { GoesBy D.state (fault_in (TurnEntry region result)) self.old self.new (TurnEntry region result) }
+        ensures crash { CrashesBy D.state (fault_in (TurnEntry region result)) self.old self.new (TurnEntry region result) }
+        ensures lasts { LastsNow D.state self.new }
+        ensures keeps { Keeps D.state self.old self.new }
+    {
+        let _before = self.is_served();
+        let turned = self.turn_any(region);
+        let _behind = self.is_served();
+        turned
+    }
+
+    /// The same, by what it does.
+    fn turn_any(&mut self, region: u32) -> Result<Turned, ControlFault>
+        requires region { IsRegion self.old.machine.system region }
+        requires served { self.old.served ≡ true }
+        requires counted { IsCounted 0 self.old.machine.moment.lasting self.old.next_unit self.old.journal }
+        ensures did { Did D.state (fault_in (TurnEntry region result)) self.old self.new (TurnEntry region result) }
+    {
+        let room = room_left(&self.journal);
+        match self.turn_once(region, room) {
+            Ok(turned) => turned,
+            Err(Untold::Memory) => Err(ControlFault::Memory),
+            Err(Untold::Full) => self.turn_behind(region),
+        }
+    }
+
+    /// The same behind a checkpoint.
+    fn turn_behind(&mut self, region: u32) -> Result<Turned, ControlFault>
+        requires region { IsRegion self.old.machine.system region }
+        requires served { self.old.served ≡ true }
+        requires counted { IsCounted 0 self.old.machine.moment.lasting self.old.next_unit self.old.journal }
+        ensures did { Did D.state (fault_in (TurnEntry region result)) self.old self.new (TurnEntry region result) }
+    {
+        match self.refresh() {
+            Ok(()) => self.turn_fresh(region),
+            Err(fault) => Err(fault),
+        }
+    }
+
+    /// The same with a log area that is empty.
+    fn turn_fresh(&mut self, region: u32) -> Result<Turned, ControlFault>
+        requires region { IsRegion self.old.machine.system region }
+        requires served { self.old.served ≡ true }
+        requires counted { IsCounted 4294967296 self.old.machine.moment.lasting self.old.next_unit self.old.journal }
+        ensures did { Did D.state (fault_in (TurnEntry region result)) self.old self.new (TurnEntry region result) }
+    {
+        let room = all_room(&self.journal);
+        match self.turn_once(region, room) {
+            Ok(turned) => turned,
+            Err(_) => Err(ControlFault::Memory),
+        }
+    }
+
+    /// One attempt, with so much room for records.
+    fn turn_once(
+        &mut self,
+        region: u32,
+        room: usize,
+    ) -> Result<Result<Turned, ControlFault>, Untold>
+        requires region { IsRegion self.old.machine.system region }
+        requires served { self.old.served ≡ true }
+        requires counted { IsCounted 4294967296 self.old.machine.moment.lasting self.old.next_unit self.old.journal }
+        requires room { HasRoom room self.old.journal.log }
+        ensures did { IfOk result (λ turned. Did D.state (fault_in (TurnEntry region turned)) self.old self.new (TurnEntry region turned)) }
+        ensures same { OnErr result (self.new ≡ self.old) }
+    {
+        let unit = unit_of(self.units.as_slice(), region);
+        let told = tell_turn(
+            self.alloc,
+            &mut self.parts,
+            &mut self.journal,
+            region,
+            unit,
+            room,
+        );
+        let turned = match told {
+            Ok(turned) => turned,
+            Err(untold) => return Err(untold),
+        };
+        note_units(&mut self.units, &mut self.next_unit, region, &turned);
+        if !ends_work(&turned) {
+            return Ok(Ok(turned));
+        }
+        match self.journal.force(&mut self.disk) {
+            Ok(()) => Ok(Ok(turned)),
+            Err(_) => {
+                self.served = false;
+                Ok(Err(ControlFault::Disk))
+            }
+        }
+    }
+}
+
+/// Whether the work on a message ends with the turn.
+fn ends_work(turned: &Turned) -> bool
+    ensures { result ≡ ends_work turned.now }
+{
+    match turned {
+        Turned::Next(_, _, _) => true,
+        Turned::QC(_, _) => true,
+        Turned::Done(_, _) => true,
+        Turned::Abended(_, _, _) => true,
+        _ => false,
+    }
+}

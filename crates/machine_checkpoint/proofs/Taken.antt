@@ -1,0 +1,137 @@
+-- A checkpoint of a machine with its log: it may be taken, and the machine goes on with the life behind it.
+use Rattle.std.proofs.Common.{◌≡◌, ℕ, ◌+◌, ◌-◌, ◌<◌, ◌≤◌, Bool, nat_lt, not, ◌&&◌, List, [], length, sym, ◌∙◌, ap, subst, arith, lt-ltb}
+use Rattle.std.proofs.lemmas.Bool.{ne_eqb}
+use Rattle.model_disk.specs.Disk.{DiskState}
+use Rattle.model_image.specs.Areas.{data_first}
+use Rattle.model_system.specs.System.{System}
+use Rattle.log_records.specs.declared.record.Record.{Record}
+use Rattle.log_writer.specs.Log.{IsReady, sectors_of}
+use Rattle.log_writer.specs.Writer.{Writer}
+use Rattle.restart_data.specs.declared.restart.RestartSector.{RestartSector}
+use Rattle.seg_store.specs.Changed.{AllStores}
+use Rattle.slot_law.specs.Committed.{Touches}
+use Rattle.checkpointing.specs.Parts.{next_restart, next_writer}
+use Rattle.snapshot_records.specs.Records.{snapshot_records}
+use Rattle.snapshot_records.specs.Spelled.{Adds}
+use Rattle.snapshot_records.specs.Touches.{changes_of}
+use Rattle.snapshot_records.proofs.Judged.{AreCounts}
+use Rattle.disk_law.specs.Kept.{AreKept}
+use Rattle.disk_law.specs.Life.{LifeOnDisk}
+use Rattle.checkpoint_law.specs.Checkpointing.{after_checkpoint, parts_with}
+use Rattle.journal.specs.Checkpoints.{CanCheckpoint, IsOf, parts_for}
+use Rattle.journal.specs.State.{JournalState}
+use Rattle.program_rows.specs.OnSlots.{all_stores}
+use Rattle.program_rows.specs.State.{settled}
+use Rattle.tm_machine.specs.OnSlots.{HasSlots, slots_now}
+use Rattle.tm_machine.specs.Parts.{PartsState}
+use Rattle.machine_life.proofs.Checkpoints as checkpoints
+use Rattle.parts_life.proofs.Holding.{hold_touched}
+use Rattle.parts_life.proofs.Storing as storing
+use Rattle.machine_checkpoint.specs.Counted.{IsCounted}
+use Rattle.machine_checkpoint.specs.Logged.{IsLogged}
+use Rattle.machine_checkpoint.specs.Taking.{IsSnapshot}
+
+module _ (parts : PartsState) (units : List ℕ) (next : ℕ) (journal : JournalState) (text : List ℕ) (disk : DiskState) (h : IsLogged parts units next journal text disk) (has : HasSlots parts)
+    (c : IsCounted 0 parts.moment.lasting next journal) (bytes : List ℕ) (s : IsSnapshot parts units next (journal.restart.checkpoint + 1) bytes) where
+  same_checkpoint : h.life.now.checkpoint ≡ journal.restart.checkpoint
+  same_checkpoint = ap (λ (r : RestartSector). r.checkpoint) h.now
+
+  same_sequence : h.life.log.sequence + h.life.log.place ≡ journal.log.sequence + journal.log.place
+  same_sequence = ap (λ (w : Writer). w.sequence + w.place) h.writer
+
+  counts : AreCounts (h.life.now.checkpoint + 1) next
+  counts = record {
+    checkpoint_small = lt-ltb (h.life.now.checkpoint + 1) 2000000000000000000 (omega (arith, same_checkpoint, c.checkpoint));
+    unit_next =
+        ap (λ (b : Bool). not b && nat_lt next 2000000000000000000) (ne_eqb next 0 (λ e. omega (arith, e, h.carried.is.numbers.some)))
+        ∙ lt-ltb next 2000000000000000000 (omega (arith, c.unit));
+  }
+
+  sequence : h.life.log.sequence + h.life.log.place + sectors_of (length h.life.log.appended) < 2000000000000000000
+  sequence = omega (arith, same_sequence, c.sequence, h.carried.is.is_life.appended.fits, h.carried.is.is_life.writer.count, h.carried.is.is_life.few)
+
+  adds : Adds (snapshot_records (h.life.now.checkpoint + 1) next parts.moment.lasting (changes_of (slots_now parts).stores s.opens)) [] bytes
+  adds =
+      subst (λ (n : ℕ). Adds (snapshot_records (n + 1) next parts.moment.lasting (changes_of (slots_now parts).stores s.opens)) [] bytes) (sym same_checkpoint) s.adds
+
+  -- what the units keep
+  abbrev touches : Touches
+  touches =
+      checkpoints.kept_now parts.system has.defined (length parts.system.regions) parts.moment (slots_now parts) units next h.life h.carried has.have has.one_sector (hold_touched parts has) s.opens s.are
+
+  abbrev told : List Record
+  told = snapshot_records (h.life.now.checkpoint + 1) next parts.moment.lasting (changes_of (slots_now parts).stores s.opens)
+
+  its : IsOf parts.system journal (all_stores (slots_now parts)) bytes touches told disk h.life
+  its = record {
+    of_system = h.carried.is.of_system;
+    writer = h.writer;
+    now = h.now;
+    is_life = h.carried.is.is_life;
+    may = storing.may_store parts units next h.life h.carried has s.opens s.are s.few counts bytes adds sequence;
+    kept = h.kept;
+  }
+
+  -- It may be taken.
+  pub can : CanCheckpoint parts.system journal (all_stores (slots_now parts)) bytes disk
+  can = record {
+    life = h.life;
+    touches = touches;
+    told = told;
+    is = its;
+    areas = h.areas;
+    ready = h.ready;
+    some = omega (arith, its.may.next.sectors);
+  }
+
+  own_writer : next_writer (parts_with bytes h.life) h.life.log ≡ next_writer (parts_for parts.system journal.restart bytes) journal.log
+  own_writer =
+      ap (λ (w : Writer). next_writer (parts_with bytes h.life) w) h.writer
+      ∙ ap (λ (y : System). next_writer (parts_for y h.life.now bytes) journal.log) h.carried.is.of_system
+      ∙ ap (λ (r : RestartSector). next_writer (parts_for parts.system r bytes) journal.log) h.now
+
+  own_restart : next_restart (parts_with bytes h.life) h.life.log ≡ next_restart (parts_for parts.system journal.restart bytes) journal.log
+  own_restart =
+      ap (λ (w : Writer). next_restart (parts_with bytes h.life) w) h.writer
+      ∙ ap (λ (y : System). next_restart (parts_for y h.life.now bytes) journal.log) h.carried.is.of_system
+      ∙ ap (λ (r : RestartSector). next_restart (parts_for parts.system r bytes) journal.log) h.now
+
+  -- Once it is taken, the machine whose slots count as written goes on with its log.
+  pub behind : (parts' : PartsState) → parts' ≡ record parts { databases = settled parts.databases } → (journal' : JournalState) → journal'.log ≡ next_writer (parts_for parts.system journal.restart bytes) journal.log
+      → journal'.restart ≡ next_restart (parts_for parts.system journal.restart bytes) journal.log → (disk' : DiskState)
+      → ((life : LifeOnDisk) → (some : Touches) → (records : List Record) → IsOf parts.system journal (all_stores (slots_now parts)) bytes some records disk life → AreKept (after_checkpoint bytes some life) disk')
+      → IsReady journal'.log disk' → disk'.size ≡ disk.size → IsLogged parts' units next journal' text disk'
+  behind parts' is journal' log restart disk' kept ready size =
+      subst (λ (p : PartsState). IsLogged p units next journal' text disk') (sym is)
+      (record {
+        life = after_checkpoint bytes touches h.life;
+        carried = storing.stored parts units next h.life h.carried has s.opens s.are s.few counts bytes adds sequence;
+        kept = kept h.life touches told its;
+        writer = own_writer ∙ sym log;
+        now = own_restart ∙ sym restart;
+        text_is = h.text_is;
+        areas = subst (λ (n : ℕ). data_first parts.system (length parts.system.databases) ≤ n) (sym size) h.areas;
+        ready = ready;
+        counted = h.counted;
+      })
+
+-- ---- as the journal is called
+
+-- It goes on so with the system and the stores that the journal was given.
+pub goes_on : (parts : PartsState) (units : List ℕ) (next : ℕ) (journal : JournalState) (text : List ℕ) (disk : DiskState) → IsLogged parts units next journal text disk → HasSlots parts
+    → IsCounted 0 parts.moment.lasting next journal → (bytes : List ℕ) → IsSnapshot parts units next (journal.restart.checkpoint + 1) bytes
+    → (system : System) → system ≡ parts.system → (stores : AllStores) → stores ≡ all_stores (slots_now parts)
+    → (parts' : PartsState) → parts' ≡ record parts { databases = settled parts.databases } → (journal' : JournalState) → journal'.log ≡ next_writer (parts_for system journal.restart bytes) journal.log
+    → journal'.restart ≡ next_restart (parts_for system journal.restart bytes) journal.log → (disk' : DiskState)
+    → ((life : LifeOnDisk) → (touches : Touches) → (told : List Record) → IsOf system journal stores bytes touches told disk life → AreKept (after_checkpoint bytes touches life) disk')
+    → IsReady journal'.log disk' → disk'.size ≡ disk.size → IsLogged parts' units next journal' text disk'
+goes_on parts units next journal text disk h has c bytes s system same stores are parts' is journal' log restart disk' kept ready size =
+    behind parts units next journal text disk h has c bytes s parts' is journal'
+    (log ∙ ap (λ (y : System). next_writer (parts_for y journal.restart bytes) journal.log) same)
+    (restart ∙ ap (λ (y : System). next_restart (parts_for y journal.restart bytes) journal.log) same)
+    disk'
+    (λ life touches told of_life.
+    kept life touches told
+    (subst (λ (a : AllStores). IsOf system journal a bytes touches told disk life) (sym are)
+    (subst (λ (y : System). IsOf y journal (all_stores (slots_now parts)) bytes touches told disk life) (sym same) of_life)))
+    ready size

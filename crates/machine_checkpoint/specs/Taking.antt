@@ -1,0 +1,32 @@
+-- A snapshot, and a checkpoint that was not taken.
+use Rattle.std.specs.Prelude.{◌≡◌, ℕ, ◌≤◌, List, [], length}
+use Rattle.model_disk.specs.Disk.{DiskState, FailedSince}
+use Rattle.model_machine.specs.declared.entry.ControlFault.{ControlFault}
+use Rattle.model_machine.specs.declared.entry.ControlFault.TheVariants.{Memory, Disk, Spent}
+use Rattle.journal.specs.State.{JournalState}
+use Rattle.machine_life.specs.Opens.{AreUnitsOf}
+use Rattle.snapshot_records.specs.declared.touches.OpenUnit.{OpenUnit}
+use Rattle.snapshot_records.specs.Records.{snapshot_records}
+use Rattle.snapshot_records.specs.Spelled.{Adds}
+use Rattle.snapshot_records.specs.Touches.{changes_of}
+use Rattle.tm_machine.specs.OnSlots.{slots_now}
+use Rattle.tm_machine.specs.Parts.{PartsState}
+
+-- The bytes spell what lasts of the parts under this number of a checkpoint, and what the regions' units touched.
+pub record IsSnapshot (parts : PartsState) (units : List ℕ) (next_unit number : ℕ) (bytes : List ℕ) : Type 0 where
+  pub opens : List OpenUnit
+  pub are : AreUnitsOf (slots_now parts) units opens
+  pub few : length opens ≤ length parts.system.regions
+  pub adds : Adds (snapshot_records number next_unit parts.moment.lasting (changes_of (slots_now parts).stores opens)) [] bytes
+
+-- Nothing has changed.
+pub record SameAll {D : Type 0} (parts parts' : PartsState) (journal journal' : JournalState) (disk disk' : D) : Type 0 where
+  pub parts_are : parts' ≡ parts
+  pub journal_is : journal' ≡ journal
+  pub disk_is : disk' ≡ disk
+
+-- For want of memory nothing has changed; else the disk failed.
+abbrev pub Untaken : {D : Type 0} → (D → DiskState) → PartsState → PartsState → JournalState → JournalState → D → D → ControlFault → Type 0
+Untaken state parts parts' journal journal' disk disk' Memory = SameAll parts parts' journal journal' disk disk'
+Untaken state parts parts' journal journal' disk disk' Disk = FailedSince (state disk) (state disk')
+Untaken state parts parts' journal journal' disk disk' (Spent counter) = ⊥

@@ -1,0 +1,30 @@
+-- What a machine with its log is opened with.
+use Rattle.std.specs.Prelude.{◌≡◌, ℕ, ◌≤◌, List}
+use Rattle.model_disk.specs.Disk.{Image, DiskState}
+use Rattle.model_system.specs.System.{System}
+use Rattle.model_machine.specs.Machine.{LastingState, start_of}
+use Rattle.model_image.specs.Holding.{HoldsStores}
+use Rattle.cold_start.specs.FirstImage.{sectors_needed}
+use Rattle.opening_parts.specs.Parts.{AreOpeningParts, OpeningParts}
+use Rattle.opening_answers.specs.Opening.{MayBegin}
+use Rattle.opening_answers.specs.Renewal.{IsRenewed}
+use Rattle.tm_machine.specs.Parts.{PartsState}
+use Rattle.control_life.specs.declared.how.How.{How}
+use Rattle.control_life.specs.Opened.{Begins}
+
+-- The machine stands where that begins.
+pub record OpensOn (how : How) (system : System) (text : List ℕ) (old new : DiskState) (machine : PartsState) (opening : LastingState) : Type 0 where
+  pub moment : machine.moment ≡ start_of system opening
+  pub no_fault : new.faults ≡ old.faults
+  pub size : sectors_needed system ≤ old.size
+  pub begins : Begins how system text old opening
+
+-- ---- what it begins with
+
+-- Each image that a crash may leave has what a life begins with, and all areas of the system are on the disk.
+pub record BeginsOn (system : System) (text : List ℕ) (parts : OpeningParts) (state : LastingState) (disk : DiskState) : Type 0 where
+  pub are : AreOpeningParts system state parts
+  pub may : MayBegin system text parts state
+  pub renewed : (image : Image) → disk.may_leave image → IsRenewed system text parts.now parts.next_unit state image
+  pub stored : (image : Image) → disk.may_leave image → HoldsStores system parts.stores.stores image
+  pub size : sectors_needed system ≤ disk.size

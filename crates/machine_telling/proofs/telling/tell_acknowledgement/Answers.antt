@@ -1,0 +1,13 @@
+use Rattle.std.proofs.Common.{subst}
+use Rattle.log_records.proofs.Takes.{IsBytes}
+use Rattle.machine_telling.proofs.Appending.{appends, on_ok}
+use Rattle.machine_telling.proofs.telling.tell_acknowledgement.Goals as goal
+
+pub returns-clause-told : goal.returns-clause-told
+returns-clause-told c =
+    on_ok c.acknowledge-answer.result
+    (λ told.
+    appends c.args.room c.args.journal.now c.exchange.new.self c.new-told.result.items c.exchange.new.bytes.items
+    (record { room_is = c.requires.room; nothing = c.new-told.ensures.items; log = c.exchange.ensures.log; before_is = c.exchange.ensures.bytes; restart = c.exchange.ensures.restart })
+    c.acknowledge-answer.new.told.items c.exchange-2.new.self _ c.exchange-2.ensures.log c.exchange-2.ensures.restart (subst IsBytes c.as_slice.ensures.value c.see_bytes.ensures) told.told told.valid told.fits)
+    c.acknowledge-answer.ensures.told

@@ -1,0 +1,14 @@
+use Rattle.std.proofs.Common.{subst}
+use Rattle.std.proofs.Common.{◌++◌}
+use Rattle.log_records.proofs.Takes.{IsBytes}
+use Rattle.machine_telling.proofs.Appending.{appends, all_both, on_ok}
+use Rattle.machine_telling.proofs.telling.tell_turn.Goals as goal
+
+pub returns-clause-told : goal.returns-clause-told
+returns-clause-told c =
+    on_ok c.turn-turned.result
+    (λ told.
+    appends c.args.room c.args.journal.now c.exchange.new.self c.new-told.result.items c.exchange.new.bytes.items
+    (record { room_is = c.requires.room; nothing = c.new-told.ensures.items; log = c.exchange.ensures.log; before_is = c.exchange.ensures.bytes; restart = c.exchange.ensures.restart })
+    c.turn-turned.new.told.items c.exchange-2.new.self _ c.exchange-2.ensures.log c.exchange-2.ensures.restart (subst IsBytes c.as_slice.ensures.value c.see_bytes.ensures) told.told (all_both _ _ told.changes told.steps) told.fits)
+    c.turn-turned.ensures.told

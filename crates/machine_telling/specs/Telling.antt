@@ -1,0 +1,38 @@
+-- Records that are told behind what was appended to a log.
+use Rattle.std.specs.Prelude.{◌≡◌, ℕ, ◌+◌, ◌<◌, ◌≤◌, Bool, true, false, List, ◌++◌, length, Result, Ok, Err}
+use Rattle.std.specs.List.{flat_map, AllByRecursion}
+use Rattle.log_records.specs.declared.record.Record.{Record}
+use Rattle.log_records.specs.Spelling.{spelling, IsRecord}
+use Rattle.log_records.proofs.Takes.{IsBytes}
+use Rattle.log_writer.specs.Writer.{Writer}
+use Rattle.log_writer.specs.Log.{sectors_of}
+use Rattle.disk_law.specs.Changes.{with_bytes}
+use Rattle.model_machine.specs.declared.entry.InputRefused.{InputRefused}
+use Rattle.model_machine.specs.declared.entry.InputRefused.TheVariants.{Fault}
+use Rattle.model_machine.specs.declared.entry.Taken.{Taken}
+use Rattle.journal.specs.State.{JournalState, LeavesSectors}
+
+-- With so many bytes more the log's area has room for all.
+abbrev pub HasRoom : ℕ → Writer → Type 0
+HasRoom room log = (own : ℕ) → own ≤ room → log.place + sectors_of (length log.appended + own) ≤ log.count
+
+-- So many bytes are all with which 32 sectors stay free.
+abbrev pub IsAllBut : ℕ → Writer → Type 0
+IsAllBut room log = (own : ℕ) → LeavesSectors log own → own ≤ room
+
+-- With a call's own bytes, if it has some and so many at most, 32 sectors stay free.
+abbrev pub StayFree : ℕ → Writer → Type 0
+StayFree room log = (own : ℕ) → 0 < own → own ≤ room → LeavesSectors log own
+
+-- These records were appended, each one by the ranges of its fields, and they fit the log's area.
+pub record Appends (records : List Record) (old new : JournalState) : Type 0 where
+  pub log : new.log ≡ with_bytes (flat_map spelling records) old.log
+  pub restart : new.restart ≡ old.restart
+  pub valid : AllByRecursion IsRecord records
+  pub bytes : IsBytes (flat_map spelling records)
+  pub fits : old.log.place + sectors_of (length (old.log.appended ++ flat_map spelling records)) ≤ old.log.count
+
+-- an input met a fault
+abbrev pub is_input_fault : Result Taken InputRefused → Bool
+is_input_fault (Err (Fault fault)) = true
+is_input_fault _ = false

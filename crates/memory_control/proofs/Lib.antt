@@ -1,3 +1,0 @@
-mod Invariant
-mod Rings
-pub mod Acknowledged

@@ -1,2 +1,0 @@
-pub mod ControlView
-pub mod Noting

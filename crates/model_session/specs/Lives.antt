@@ -1,0 +1,64 @@
+-- Lives of a system, from one opening of its disk to the next, and what is kept of them.
+use Rattle.std.specs.Prelude.{◌≡◌, ℕ, ◌+◌, ◌-◌, Bool, true, false, List, [], ◌∷◌, ◌++◌, Option, Some, None, Ok}
+use Rattle.std.specs.List.{list_all}
+use Rattle.model_machine.specs.declared.entry.Entry.{Entry}
+use Rattle.model_machine.specs.declared.entry.Entry.TheVariants.{Checked}
+use Rattle.model_system.specs.System.{System}
+use Rattle.model_machine.specs.Machine.{LastingState, Moment, start_of}
+use Rattle.model_machine.specs.History.{moment_after, is_fault, IsLegal, AscendAbove}
+
+-- a life as it is kept: what it opened with, its entries, and after how many of its lasting steps the next life opened
+pub record LifeState : Type 0 where
+  pub opening : LastingState
+  pub history : List Entry
+  pub kept : ℕ
+
+-- a life behind which none has opened yet
+pub record LastLife : Type 0 where
+  pub opening : LastingState
+  pub history : List Entry
+
+-- the moment that these entries of a life lead to, and the one that it has come to
+abbrev pub moment_of : System → LastLife → List Entry → Moment
+moment_of system life entries = moment_after system (start_of system life.opening) entries
+
+abbrev pub now_in : System → LastLife → Moment
+now_in system life = moment_of system life life.history
+
+abbrev pub longer : LastLife → List Entry → LastLife
+longer life entries = record life { history = life.history ++ entries }
+
+-- an entry that ends its life: a freeze that was answered
+abbrev pub ends_life : Entry → Bool
+ends_life (Checked true (Ok number)) = true
+ends_life _ = false
+
+-- A life is legal, each entry being the machine's answer at its place, but that the disk may have failed in the last call,
+-- and the numbers of checkpoints ascending; and so many of its lasting steps were answered.
+pub record HasAnswered (system : System) (life : LastLife) (count : ℕ) : Type 0 where
+  pub legal : IsLegal system (start_of system life.opening) life.history
+  pub numbers : AscendAbove 0 life.history
+  pub counted : life.opening.steps + count ≡ (moment_of system life legal.steps).lasting.steps
+
+-- What a life leaves: the state after a front of its entries that has every one that was answered. A step in
+-- whose call the disk failed is left or not. So many of its lasting steps are kept then.
+pub record Leaves (system : System) (life : LastLife) (kept : ℕ) (state : LastingState) : Type 0 where
+  pub front : List Entry
+  pub rest : List Entry
+  pub split : life.history ≡ front ++ rest
+  pub unanswered : list_all is_fault rest ≡ true
+  pub left : state ≡ (moment_of system life front).lasting
+  pub counted : kept ≡ state.steps - life.opening.steps
+
+-- the life with what is kept of it, behind those before it
+abbrev pub kept_life : LastLife → ℕ → LifeState
+kept_life life kept = record { opening = life.opening; history = life.history; kept = kept }
+
+abbrev pub with_life : List LifeState → Option LastLife → ℕ → List LifeState
+with_life lives None kept = lives
+with_life lives (Some life) kept = lives ++ kept_life life kept ∷ []
+
+-- each of these lives is legal
+abbrev pub AreLegal : System → List LifeState → Type 0
+AreLegal system [] = Unit {0}
+AreLegal system (life ∷ lives) = IsLegal system (start_of system life.opening) life.history × AscendAbove 0 life.history × AreLegal system lives

@@ -1,0 +1,34 @@
+use Rattle.std.proofs.Common.{◌≡◌, ℕ, ◌≤◌, List, sym, ◌∙◌, ap, subst, IsTrue}
+use Rattle.std.specs.Prelude.{OnOk}
+use Rattle.std.specs.List.{AllByRecursion}
+use Rattle.model_disk.specs.Disk.{Within, Follows}
+use Rattle.seg_store.specs.Slots.{Stored}
+use Rattle.seg_store.specs.Changed.{Kept, AllStores}
+use Rattle.seg_store.specs.DataSectors.{MayPut, HasPut}
+use Rattle.seg_store.specs.WriteBack.{changed_bytes, kept_bytes}
+use Rattle.seg_store.proofs.WritingBack.{bytes_seen, sectors_seen}
+use Rattle.seg_store.proofs.stores.Stores.write_changed.Goals as goal
+
+pub write_all-requires-clause-sectors : goal.write_all-requires-clause-sectors
+write_all-requires-clause-sectors g c =
+    sectors_seen c.self.inside.items.items (subst (λ (a : AllStores). AllByRecursion (λ (s : Stored). s.dbd.sectors ≤ 1) a.stores) (sym c.self.view_is) c.requires.sectors)
+
+pub returns-clause-any_moment : goal.returns-clause-any_moment
+returns-clause-any_moment g c =
+    let kept : List Kept = c.self.inside.items.items in
+    let bytes : kept_bytes 0 kept ≡ changed_bytes c.args.self.now = bytes_seen 0 kept ∙ ap changed_bytes c.self.view_is in
+    subst (λ (l : List (ℕ × List ℕ)). Within (MayPut c.args.first l) (g.D.Disk.state c.args.disk.now) (g.D.Disk.state c.write_all.new.disk)) bytes c.write_all.ensures.any_moment
+
+pub returns-clause-follows : goal.returns-clause-follows
+returns-clause-follows g c =
+    let kept : List Kept = c.self.inside.items.items in
+    let bytes : kept_bytes 0 kept ≡ changed_bytes c.args.self.now = bytes_seen 0 kept ∙ ap changed_bytes c.self.view_is in
+    subst (λ (l : List (ℕ × List ℕ)). Follows (MayPut c.args.first l) (g.D.Disk.state c.args.disk.now) (g.D.Disk.state c.write_all.new.disk)) bytes c.write_all.ensures.follows
+
+pub returns-clause-shown : goal.returns-clause-shown
+returns-clause-shown g c =
+    let old = g.D.Disk.state c.args.disk.now in
+    let new = g.D.Disk.state c.write_all.new.disk in
+    let kept : List Kept = c.self.inside.items.items in
+    let bytes : kept_bytes 0 kept ≡ changed_bytes c.args.self.now = bytes_seen 0 kept ∙ ap changed_bytes c.self.view_is in
+    subst (λ (l : List (ℕ × List ℕ)). OnOk c.write_all.result (IsTrue old.tells → HasPut c.args.first l old.shown new.shown)) bytes c.write_all.ensures.shown

@@ -1,0 +1,112 @@
+-- What was asked of a control region, by the fault that its call met.
+use Rattle.std.proofs.Common.{◌≡◌, ℕ, Bool, true, false, List, [], ◌∷◌, sym, ◌∙◌, ap, subst, refl}
+use Rattle.std.specs.Prelude.{◌↔◌, IsTrue, Option, Some, None, Result, Ok, Err}
+use Rattle.model_disk.specs.Disk.{DiskState}
+use Rattle.model_disk.proofs.Words.{stays_same, stays_on}
+use Rattle.model_machine.specs.declared.entry.Entry.{Entry}
+use Rattle.model_machine.specs.declared.entry.Entry.TheVariants.{Accept, Show, Acked, Turn, Commanded, Checked}
+use Rattle.model_machine.specs.declared.entry.ControlCall.{ControlCall}
+use Rattle.model_machine.specs.declared.entry.ControlCall.TheVariants.{Command as CommandCall}
+use Rattle.model_machine.specs.declared.entry.ControlFault.{ControlFault}
+use Rattle.model_machine.specs.declared.entry.ControlFault.TheVariants.{Memory as NoMemory, Disk, Spent as SpentCounter}
+use Rattle.model_machine.specs.declared.entry.InputRefused.TheVariants.{Terminal, StoppedTerminal, Expected, Conversation, Code, StoppedCode, SegmentsOver, QueueFull, Fault as InputFault}
+use Rattle.model_machine.specs.declared.entry.AckRefused.TheVariants.{Unknown, Ahead, Fault as AckFault}
+use Rattle.model_machine.specs.declared.entry.CommandRefused.{CommandRefused}
+use Rattle.model_machine.specs.declared.entry.CommandRefused.TheVariants.{UnknownName, Busy, NoConversation, Fault as CommandFault}
+use Rattle.model_machine.specs.declared.entry.CheckpointRefused.TheVariants.{BusyRegion, Fault as CheckpointFault}
+use Rattle.model_command.specs.declared.command.Command.{Command}
+use Rattle.model_command.specs.declared.answer.Answer.{Answer}
+use Rattle.model_machine.specs.Commands.{command_answer}
+use Rattle.model_machine.specs.History.{May, AddsNothing, AddsEntry, is_fault, call_of, now_of}
+use Rattle.model_session.specs.declared.asked.Asked.TheVariants.{Call, PowerIn}
+use Rattle.model_session.specs.Text.{entry_text, command_text, armed_text}
+use Rattle.control_life.specs.Faults.{fault_in}
+use Rattle.tm_control.specs.OnDisk.{ControlOnDisk}
+use Rattle.tm_control.specs.Calls.{StaysSo, AddsBy, AddedNothing, Answered as IsAnswered}
+use Rattle.session_lives.specs.declared.called.Called.{Called}
+use Rattle.session_lives.specs.declared.called.Called.TheVariants.{Answered, Power, Broke, Memory, Spent}
+use Rattle.model_session.specs.Lives.{ends_life}
+use Rattle.session_lives.specs.Asking.{called_by, IsAsked}
+
+-- an entry with a fault
+pub fault_is : (entry : Entry) (fault : ControlFault) → fault_in entry ≡ Some fault → is_fault entry ≡ true
+fault_is (Accept terminal number segments (Err (InputFault met))) fault e = refl
+fault_is (Accept terminal number segments (Ok taken)) fault e = cc
+fault_is (Accept terminal number segments (Err Terminal)) fault e = cc
+fault_is (Accept terminal number segments (Err StoppedTerminal)) fault e = cc
+fault_is (Accept terminal number segments (Err (Expected next))) fault e = cc
+fault_is (Accept terminal number segments (Err (Conversation id))) fault e = cc
+fault_is (Accept terminal number segments (Err Code)) fault e = cc
+fault_is (Accept terminal number segments (Err (StoppedCode code))) fault e = cc
+fault_is (Accept terminal number segments (Err (SegmentsOver count most))) fault e = cc
+fault_is (Accept terminal number segments (Err (QueueFull need limit))) fault e = cc
+fault_is (Show terminal answer) fault e = cc
+fault_is (Acked terminal number (Err (AckFault met))) fault e = refl
+fault_is (Acked terminal number (Ok acked)) fault e = cc
+fault_is (Acked terminal number (Err Unknown)) fault e = cc
+fault_is (Acked terminal number (Err (Ahead first))) fault e = cc
+fault_is (Turn region (Err met)) fault e = refl
+fault_is (Turn region (Ok turned)) fault e = cc
+fault_is (Commanded command (Err (CommandFault met))) fault e = refl
+fault_is (Commanded command (Ok answer)) fault e = cc
+fault_is (Commanded command (Err (UnknownName name))) fault e = cc
+fault_is (Commanded command (Err (Busy id))) fault e = cc
+fault_is (Commanded command (Err NoConversation)) fault e = cc
+fault_is (Checked freeze (Err (CheckpointFault met))) fault e = refl
+fault_is (Checked freeze (Ok number)) fault e = cc
+fault_is (Checked freeze (Err (BusyRegion region id))) fault e = cc
+
+module _ {D : Type 0} (state : D → DiskState) where
+  asked_of_fault : (fault : Option ControlFault) (entry : Entry) (old new : ControlOnDisk D) (text : List ℕ) → ends_life entry ≡ false → fault_in entry ≡ fault
+      → AddsBy state fault old new entry → text ≡ entry_text old.control.system (now_of old.control) entry → IsAsked state (Call (call_of entry)) old new text (called_by fault)
+  asked_of_fault None entry old new text on is adds printed = record { entry = entry; asked = refl; answered = adds; goes_on = on; printed = printed }
+  asked_of_fault (Some Disk) entry old new text on is adds printed = record { entry = entry; asked = refl; fault = fault_is entry Disk is; broke = adds }
+  asked_of_fault (Some NoMemory) entry old new text on is adds printed = adds
+  asked_of_fault (Some (SpentCounter counter)) entry old new text on is adds printed = adds
+
+  -- a call that was made and ends no life, with what is printed where it was answered
+  pub asked_call : (entry : Entry) (old new : ControlOnDisk D) (text : List ℕ) (called : Called) → ends_life entry ≡ false → called ≡ called_by (fault_in entry)
+      → AddsBy state (fault_in entry) old new entry → text ≡ entry_text old.control.system (now_of old.control) entry → IsAsked state (Call (call_of entry)) old new text called
+  asked_call entry old new text called on is adds printed =
+      subst (λ c. IsAsked state (Call (call_of entry)) old new text c) (sym is) (asked_of_fault (fault_in entry) entry old new text on refl adds printed)
+
+  asked_ahead : (fault : Option ControlFault) (entry : Entry) (old new : ControlOnDisk D) (text : List ℕ) → ends_life entry ≡ false → fault_in entry ≡ fault
+      → AddsBy state fault old new entry → (May old.control.system (now_of old.control) entry → text ≡ entry_text old.control.system (now_of old.control) entry)
+      → IsAsked state (Call (call_of entry)) old new text (called_by fault)
+  asked_ahead None entry old new text on is adds printed = record { entry = entry; asked = refl; answered = adds; goes_on = on; printed = printed adds.adds.may }
+  asked_ahead (Some Disk) entry old new text on is adds printed = record { entry = entry; asked = refl; fault = fault_is entry Disk is; broke = adds }
+  asked_ahead (Some NoMemory) entry old new text on is adds printed = adds
+  asked_ahead (Some (SpentCounter counter)) entry old new text on is adds printed = adds
+
+  -- a command whose text was made before, by the answer at its place
+  pub asked_command : (command : Command) (answer : Result Answer CommandRefused) (old new : ControlOnDisk D) (text : List ℕ) (called : Called)
+      → called ≡ called_by (fault_in (Commanded command answer)) → AddsBy state (fault_in (Commanded command answer)) old new (Commanded command answer)
+      → text ≡ command_text (command_answer old.control.system (now_of old.control) command) → IsAsked state (Call (CommandCall command)) old new text called
+  asked_command command answer old new text called is adds printed =
+      let entry : Entry = Commanded command answer in
+      subst (λ c. IsAsked state (Call (call_of entry)) old new text c) (sym is)
+      (asked_ahead (fault_in entry) entry old new text refl refl adds (λ may. printed ∙ sym (ap (entry_text old.control.system (now_of old.control)) may.answer)))
+
+  -- what stays over two calls
+  pub stays_so : (a : ControlOnDisk D) → StaysSo state a a
+  stays_so a = record { system = refl; opening = refl; text = refl; began = refl; disk = stays_same (state a.disk) }
+
+  pub stays_so_on : (a b c : ControlOnDisk D) → StaysSo state a b → StaysSo state b c → StaysSo state a c
+  stays_so_on a b c first second = record {
+    system = second.system ∙ first.system;
+    opening = second.opening ∙ first.opening;
+    text = second.text ∙ first.text;
+    began = second.began ∙ first.began;
+    disk = stays_on (state a.disk) (state b.disk) (state c.disk) first.disk second.disk;
+  }
+
+  -- nothing was asked
+  pub added_nothing : (a : ControlOnDisk D) → a.up ≡ true → AddedNothing state a a
+  added_nothing a up = record { adds = record { system = refl; opening = refl; history = refl }; up = up; no_fault = refl }
+
+-- a test that says whether it holds
+pub test_is : (test can : Bool) → IsTrue test ↔ IsTrue can → test ≡ can
+test_is true true same = refl
+test_is false false same = refl
+test_is true false same = sym (same.0 refl)
+test_is false true same = same.1 refl

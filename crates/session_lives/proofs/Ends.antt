@@ -1,0 +1,201 @@
+-- How a life goes on, and how it ends.
+use Rattle.std.proofs.Common.{◌≡◌, ◌⊎◌, ℕ, ◌+◌, ◌-◌, ◌≤◌, ◌<◌, Bool, true, false, List, [], ◌∷◌, ◌++◌, length, map, sym, ◌∙◌, ap, subst, refl, arith, append_assoc, inl, inr}
+use Rattle.std.proofs.lemmas.List.{append-nil}
+use Rattle.std.specs.Prelude.{if◌then◌else◌, Option, Some, None, Ok, vec_len, vec_capacity}
+use Rattle.std.specs.Option.{option_map}
+use Rattle.model_disk.specs.Disk.{Image, DiskState, Stays, IsCut, Only, Rose, FailedSince}
+use Rattle.model_disk.proofs.Words.{stays_on}
+use Rattle.model_system.specs.System.{System}
+use Rattle.model_machine.specs.declared.entry.Entry.{Entry}
+use Rattle.model_machine.specs.declared.entry.ControlFault.TheVariants.{Disk}
+use Rattle.model_machine.specs.Machine.{LastingState, start_of}
+use Rattle.model_machine.specs.History.{is_fault, moment_after, now_of}
+use Rattle.model_image.specs.Recovered.{Recovers}
+use Rattle.disk_law.specs.Kept.{RecoversEither}
+use Rattle.model_session.specs.Lives.{LifeState, LastLife, AreLegal, HasAnswered, Leaves, longer}
+use Rattle.model_session.specs.Standing.{Setting, Standing, Outage, SessionState, Stop, AreStops, LastAnswered, IsLeft, gone_on, ended, broken}
+use Rattle.model_session.specs.Standing.Standing.{Up as StandsUp, Down as StandsDown}
+use Rattle.tm_control.specs.OnDisk.{ControlOnDisk, Lasts, IsUp, IsDown, LastsBy, lasting_after}
+use Rattle.tm_control.specs.Calls.{StaysSo}
+use Rattle.tm_control.specs.Closed.{Closes}
+use Rattle.control_life.specs.declared.life.Life.{Life}
+use Rattle.session_lives.specs.declared.place.Idle.{Idle}
+use Rattle.session_lives.specs.declared.place.Place.TheVariants.{Up, Down}
+use Rattle.session_lives.specs.declared.place.Kept.{Kept}
+use Rattle.session_lives.specs.Running.{life_of, last_of, last_up, kept_of, outage_of, session_at, setting_of, Recalls, Holds, IsUpReady, IsUpSound, IsDownSound}
+use Rattle.session_lives.specs.Openings.{GoesDown}
+use Rattle.session_lives.proofs.Asked.{fault_is}
+
+-- ---- states of a session
+
+abbrev pub state_with : List LifeState → List Stop → Standing → SessionState
+state_with lives stops standing = record { lives = lives; stops = stops; standing = standing }
+
+pub same_state : (lives lives' : List LifeState) (stops stops' : List Stop) (standing standing' : Standing) → lives' ≡ lives → stops' ≡ stops → standing' ≡ standing
+    → state_with lives' stops' standing' ≡ state_with lives stops standing
+same_state lives lives' stops stops' standing standing' a b c = ap (λ l. state_with l stops' standing') a ∙ ap (λ s. state_with lives s standing') b ∙ ap (state_with lives stops) c
+
+abbrev pub life_with : LastingState → List Entry → LastLife
+life_with opening history = record { opening = opening; history = history }
+
+pub same_life : (opening opening' : LastingState) (history history' : List Entry) → opening' ≡ opening → history' ≡ history → life_with opening' history' ≡ life_with opening history
+same_life opening opening' history history' a b = ap (λ o. life_with o history') a ∙ ap (life_with opening) b
+
+abbrev down_with : LastLife → Bool → Standing
+down_with life stopped = StandsDown (record { last = Some life; emptied = false; stopped = stopped })
+
+same_kept : (old new : Kept) → new.lives ≡ old.lives → map life_of new.lives.items ≡ map life_of old.lives.items
+same_kept old new e = ap (λ v. map life_of v.items) e
+
+-- the life goes on
+pub up_state : {D : Type 0} (a b : ControlOnDisk D) (old new : Kept) (entries : List Entry) → b.control.opening ≡ a.control.opening
+    → b.control.history ≡ a.control.history ++ entries → new.lives ≡ old.lives → new.stops ≡ old.stops
+    → session_at (Up b) new ≡ gone_on (session_at (Up a) old) (last_up a) entries
+up_state a b old new entries opening history lives stops =
+    same_state (map life_of old.lives.items) (map life_of new.lives.items) old.stops.items new.stops.items (StandsUp (longer (last_up a) entries)) (StandsUp (last_up b))
+    (same_kept old new lives) (ap (λ v. v.items) stops)
+    (ap StandsUp (same_life a.control.opening b.control.opening (a.control.history ++ entries) b.control.history opening history))
+
+pub same_up : {D : Type 0} (a b : ControlOnDisk D) (old new : Kept) → b.control.opening ≡ a.control.opening
+    → b.control.history ≡ a.control.history → new.lives ≡ old.lives → new.stops ≡ old.stops → session_at (Up b) new ≡ session_at (Up a) old
+same_up a b old new opening history lives stops =
+    same_state (map life_of old.lives.items) (map life_of new.lives.items) old.stops.items new.stops.items (StandsUp (last_up a)) (StandsUp (last_up b))
+    (same_kept old new lives) (ap (λ v. v.items) stops)
+    (ap StandsUp (same_life a.control.opening b.control.opening a.control.history b.control.history opening history))
+
+-- it ended
+abbrev pub outage_with : Option LastLife → Bool → Bool → Outage
+outage_with last emptied stopped = record { last = last; emptied = emptied; stopped = stopped }
+
+last_is : {D : Type 0} (idle : Idle D) (life : Life) (a : LastLife) (emptied stopped : Bool) → idle.last ≡ Some life → last_of life ≡ a → idle.emptied ≡ emptied → idle.stopped ≡ stopped
+    → outage_of idle ≡ outage_with (Some a) emptied stopped
+last_is idle life a emptied stopped is same e t =
+    ap (λ (l : Option Life). outage_with (option_map last_of l) idle.emptied idle.stopped) is ∙ ap (λ l. outage_with (Some l) idle.emptied idle.stopped) same
+    ∙ ap (λ b. outage_with (Some a) b idle.stopped) e ∙ ap (outage_with (Some a) emptied) t
+
+module _ {D : Type 0} (state : D → DiskState) where
+  -- the outage behind a life that had come to these entries
+  outage_is : (c : ControlOnDisk D) (old new : Kept) (stopped : Bool) (idle : Idle D) (life : LastLife) → GoesDown state c old new stopped idle
+      → c.control.opening ≡ life.opening → c.control.history ≡ life.history → outage_of idle ≡ outage_with (Some life) false stopped
+  outage_is c old new stopped idle life down opening history =
+      last_is idle down.life life false stopped down.last
+      (same_life life.opening down.life.opening life.history down.life.history (down.closes.opening ∙ opening) (down.closes.history ∙ history))
+      down.emptied down.stopped_is
+
+  pub ended_state : (a c : ControlOnDisk D) (old kept new : Kept) (idle : Idle D) (entries : List Entry) → GoesDown state c kept new false idle → kept.lives ≡ old.lives → kept.stops ≡ old.stops
+      → c.control.opening ≡ a.control.opening → c.control.history ≡ a.control.history ++ entries → session_at (Down idle) new ≡ ended (session_at (Up a) old) (last_up a) entries
+  ended_state a c old kept new idle entries down lives stops opening history =
+      same_state (map life_of old.lives.items) (map life_of new.lives.items) old.stops.items new.stops.items (down_with (longer (last_up a) entries) false) (StandsDown (outage_of idle))
+      (same_kept old new (down.lives ∙ lives)) (down.stops ∙ append-nil kept.stops.items ∙ ap (λ v. v.items) stops)
+      (ap StandsDown (outage_is c kept new false idle (longer (last_up a) entries) down opening history))
+
+  pub broken_state : (a c : ControlOnDisk D) (old kept new : Kept) (idle : Idle D) (entries : List Entry) → (down : GoesDown state c kept new true idle) → kept.lives ≡ old.lives → kept.stops ≡ old.stops
+      → c.control.opening ≡ a.control.opening → c.control.history ≡ a.control.history ++ entries
+      → session_at (Down idle) new ≡ broken (session_at (Up a) old) (last_up a) entries (c.began, (state down.disk).faults)
+  broken_state a c old kept new idle entries down lives stops opening history =
+      same_state (map life_of old.lives.items) (map life_of new.lives.items) (old.stops.items ++ (c.began, (state down.disk).faults) ∷ []) new.stops.items
+      (down_with (longer (last_up a) entries) true) (StandsDown (outage_of idle))
+      (same_kept old new (down.lives ∙ lives)) (down.stops ∙ ap (λ v. v.items ++ (c.began, (state down.disk).faults) ∷ []) stops)
+      (ap StandsDown (outage_is c kept new true idle (longer (last_up a) entries) down opening history))
+
+-- ---- counts
+
+pub stops_higher : (low high more : ℕ) (stops : List Stop) → AreStops low stops high → high ≤ more → AreStops low stops more
+stops_higher low high more [] h few = omega (arith, h)
+stops_higher low high more ((began, end) ∷ stops) h few = (h.0, h.1, h.2, stops_higher end high more stops h.3 few)
+
+pub stops_one : (low mid began end : ℕ) (stops : List Stop) → AreStops low stops mid → mid ≤ began → began ≤ end → (began + 1 ≤ end) ⊎ (18446744073709551615 ≤ end)
+    → AreStops low (stops ++ (began, end) ∷ []) end
+stops_one low mid began end [] h few less rose = (omega (arith, h), less, rose, omega arith)
+stops_one low mid began end ((first, second) ∷ stops) h few less rose = (h.0, h.1, h.2, stops_one second mid began end stops h.3 few less rose)
+
+pub rose_from : (began before now : ℕ) → began ≤ before → Rose before now → (began + 1 ≤ now) ⊎ (18446744073709551615 ≤ now)
+rose_from began before now less (inl risen) = inl (omega arith)
+rose_from began before now less (inr full) = inr full
+
+-- ---- what is left of a life
+
+module _ (system : System) (life : LastLife) where
+  leaves_all : (state : LastingState) → state ≡ (moment_after system (start_of system life.opening) life.history).lasting
+      → Leaves system life (state.steps - life.opening.steps) state
+  leaves_all state is = record { front = life.history; rest = []; split = sym (append-nil life.history); unanswered = refl; left = is; counted = refl }
+
+  leaves_before : (state : LastingState) (before : List Entry) (entry : Entry) → life.history ≡ before ++ entry ∷ [] → is_fault entry ≡ true
+      → state ≡ (moment_after system (start_of system life.opening) before).lasting → Leaves system life (state.steps - life.opening.steps) state
+  leaves_before state before entry all fault is = record { front = before; rest = entry ∷ []; split = all; unanswered = rw fault refl; left = is; counted = refl }
+
+-- its steps that were answered
+pub answered_of : (s s' : System) (o o' : LastingState) (h h' : List Entry) (count : ℕ) → s ≡ s' → o ≡ o' → h ≡ h' → HasAnswered s (life_with o h) count → HasAnswered s' (life_with o' h') count
+answered_of s s' o o' h h' count a b c answered =
+    subst (λ h. HasAnswered s' (life_with o' h) count) c (subst (λ o. HasAnswered s' (life_with o h) count) b (subst (λ s. HasAnswered s (life_with o h) count) a answered))
+
+module _ {D : Type 0} (state : D → DiskState) (system : System) (handed : D) (c : ControlOnDisk D) (system_is : c.control.system ≡ system) where
+  -- what the disk holds of it
+  recalls : (outage : Outage) (image : Image) (lasting : LastingState) → Recovers c.control.system image (Ok lasting) → Leaves system (last_up c) (lasting.steps - c.control.opening.steps) lasting
+      → outage.last ≡ Some (last_up c) → Holds state system handed (StandsDown outage) image
+  recalls outage image lasting recovers leaves last = inl (record {
+    state = lasting;
+    recovers = subst (λ s. Recovers s image (Ok lasting)) system_is recovers;
+    may = (lasting.steps - c.control.opening.steps, inl (subst (λ l. IsLeft (setting_of state system handed) l (lasting.steps - c.control.opening.steps) lasting) (sym last) leaves));
+  })
+
+  lasting_in : (entries : List Entry) → lasting_after c.control.system c.control.opening entries ≡ lasting_after system c.control.opening entries
+  lasting_in entries = ap (λ s. lasting_after s c.control.opening entries) system_is
+
+  up_images : (outage : Outage) (image : Image) → LastsBy true c.control c.text (state c.disk) → (state c.disk).may_leave image → outage.last ≡ Some (last_up c)
+      → Holds state system handed (StandsDown outage) image
+  up_images outage image lasts left last =
+      recalls outage image (now_of c.control).lasting (lasts.images image left) (leaves_all system (last_up c) (now_of c.control).lasting (lasting_in c.control.history)) last
+
+  down_either : (outage : Outage) (image : Image) (before : List Entry) (entry : Entry) → c.control.history ≡ before ++ entry ∷ [] → is_fault entry ≡ true
+      → RecoversEither c.control.system (lasting_after c.control.system c.control.opening before) (lasting_after c.control.system c.control.opening c.control.history) image
+      → outage.last ≡ Some (last_up c) → Holds state system handed (StandsDown outage) image
+  down_either outage image before entry all fault (inl one) last =
+      recalls outage image (lasting_after c.control.system c.control.opening before) one
+      (leaves_before system (last_up c) (lasting_after c.control.system c.control.opening before) before entry all fault (lasting_in before)) last
+  down_either outage image before entry all fault (inr two) last =
+      recalls outage image (lasting_after c.control.system c.control.opening c.control.history) two
+      (leaves_all system (last_up c) (lasting_after c.control.system c.control.opening c.control.history) (lasting_in c.control.history)) last
+
+  down_images : (outage : Outage) (image : Image) → LastsBy false c.control c.text (state c.disk) → (state c.disk).may_leave image → outage.last ≡ Some (last_up c)
+      → Holds state system handed (StandsDown outage) image
+  down_images outage image lasts left last = down_either outage image lasts.before lasts.entry lasts.all (fault_is lasts.entry Disk lasts.fault) (lasts.images image left) last
+
+  images_by : (up : Bool) (outage : Outage) (image : Image) → LastsBy up c.control c.text (state c.disk) → (state c.disk).may_leave image → outage.last ≡ Some (last_up c)
+      → Holds state system handed (StandsDown outage) image
+  images_by true outage image lasts left last = up_images outage image lasts left last
+  images_by false outage image lasts left last = down_images outage image lasts left last
+
+  -- a life that has ended leaves all sound
+  pub down_sound : Only (state handed).shown (state handed) → (old new : Kept) (stopped : Bool) (idle : Idle D) → GoesDown state c old new stopped idle → Stays (state handed) (state c.disk)
+      → AreLegal system (map life_of old.lives.items) → AreStops (state handed).faults new.stops.items (state c.disk).faults → IsDownSound state system handed idle new
+  down_sound alone old new stopped idle down stays legal stops =
+      let disk : Stays (state handed) (state down.disk) = subst (λ d. Stays (state handed) (state d)) (sym down.closes.disk_is) stays in
+      let faults : (state idle.disk).faults ≡ (state c.disk).faults = down.laid.faults ∙ ap (λ d. (state d).faults) down.closes.disk_is in
+      let outage : outage_of idle ≡ outage_with (Some (last_up c)) false stopped = outage_is state c old new stopped idle (last_up c) down refl refl in
+      record {
+        handed_alone = alone;
+        system_is = down.closes.system_is ∙ system_is;
+        stays = stays_on (state handed) (state down.disk) (state idle.disk) disk down.laid.stays;
+        stops = subst (λ n. AreStops (state handed).faults new.stops.items n) (sym faults) stops;
+        legal = subst (λ l. AreLegal system l) (sym (same_kept old new down.lives)) legal;
+        answered = subst (λ l. LastAnswered system (option_map last_of l) (kept_of l)) (sym down.last)
+            (answered_of c.control.system system c.control.opening down.life.opening c.control.history down.life.history down.life.kept
+            system_is (sym down.closes.opening) (sym down.closes.history) (record { legal = down.closes.legal; numbers = down.closes.numbers; counted = down.closes.kept }));
+        images = λ image left. images_by c.up (outage_of idle) image down.lasts (subst (λ d. (state d).may_leave image) down.closes.disk_is (down.laid.no_more image left)) (ap (λ o. o.last) outage);
+      }
+
+  -- the counts of a stop lie behind those before
+  pub stop_behind : (old new : Kept) (idle : Idle D) (before : ℕ) → (down : GoesDown state c old new true idle) → AreStops (state handed).faults old.stops.items c.began
+      → c.began ≤ before → before ≤ (state c.disk).faults → Rose before (state c.disk).faults → AreStops (state handed).faults new.stops.items (state c.disk).faults
+  stop_behind old new idle before down stops began more rose =
+      let faults : (state down.disk).faults ≡ (state c.disk).faults = ap (λ d. (state d).faults) down.closes.disk_is in
+      subst (λ s. AreStops (state handed).faults s (state c.disk).faults) (sym down.stops)
+      (subst (λ n. AreStops (state handed).faults (old.stops.items ++ (c.began, n) ∷ []) (state c.disk).faults) (sym faults)
+      (stops_one (state handed).faults c.began c.began (state c.disk).faults old.stops.items stops (omega arith) (omega (arith, began, more)) (rose_from c.began before (state c.disk).faults began rose)))
+
+  pub no_stop : (old new : Kept) (idle : Idle D) → GoesDown state c old new false idle → AreStops (state handed).faults old.stops.items c.began
+      → c.began ≤ (state c.disk).faults → AreStops (state handed).faults new.stops.items (state c.disk).faults
+  no_stop old new idle down stops began =
+      subst (λ s. AreStops (state handed).faults s (state c.disk).faults) (sym (down.stops ∙ append-nil old.stops.items))
+      (stops_higher (state handed).faults c.began (state c.disk).faults old.stops.items stops began)

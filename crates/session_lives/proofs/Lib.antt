@@ -1,0 +1,9 @@
+pub mod Asked
+pub mod Replies
+pub mod Turned
+pub mod Blocks
+pub mod Ends
+pub mod Leading
+pub mod Refusals
+pub mod Restarted
+pub mod Serving

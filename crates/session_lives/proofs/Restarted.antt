@@ -1,0 +1,358 @@
+-- A system that was down, and what a restart comes to.
+use Rattle.std.proofs.Common.{◌≡◌, ◌⊎◌, ℕ, ◌+◌, ◌-◌, ◌≤◌, Bool, true, false, List, [], ◌∷◌, ◌++◌, map, sym, ◌∙◌, ap, subst, refl, arith, inl, inr, ⊎_elim}
+use Rattle.std.proofs.lemmas.List.{map-append}
+use Rattle.std.proofs.lemmas.Bool.{cases_Bool}
+use Rattle.std.specs.Prelude.{Option, Some, None, Result, Ok, Err, IsTrue}
+use Rattle.std.specs.Option.{option_map, is_some}
+use Rattle.model_disk.specs.Disk.{Image, DiskState, IsDisk, Stays, ComesFrom, Within, Only, Rose}
+use Rattle.model_disk.proofs.Words.{stays_on, within_each}
+use Rattle.model_system.specs.System.{System}
+use Rattle.model_machine.specs.Machine.{LastingState, empty_state}
+use Rattle.model_image.specs.Alike.{RecoversAlike}
+use Rattle.model_image.specs.Faults.{Fault}
+use Rattle.model_image.specs.Recovered.{Recovers}
+use Rattle.model_image.proofs.Answers.{one_answer_of, zeros_are_empty}
+use Rattle.model_session.specs.declared.asked.ImageRefused.{ImageRefused}
+use Rattle.model_session.specs.declared.asked.ImageRefused.TheVariants.{Rule, Text, Size}
+use Rattle.model_session.specs.declared.asked.Asked.{Asked}
+use Rattle.model_session.specs.declared.asked.Asked.TheVariants.{Bad, BadCommand, Stopped, Call, Quiet, Power, PowerIn, Restart, ColdStart}
+use Rattle.model_session.specs.Text.{broken_text, opened_text, image_text, down_text}
+use Rattle.model_session.specs.Lives.{LifeState, LastLife, AreLegal, Leaves, with_life}
+use Rattle.model_session.specs.Standing.{Setting, Standing, Outage, SessionState, Stop, AreStops, MayBeFound, MayHold, LastAnswered, IsLeft, HasNoLife, or_cold, opened, failed}
+use Rattle.model_session.specs.Standing.Standing.{Up as StandsUp, Down as StandsDown}
+use Rattle.model_session.specs.Session.{MayOpen, MayRefuse, IsRestarted, Opens as OpensLife, FailsToOpen}
+use Rattle.cold_start.specs.FirstImage.{KeepsOrEmpties}
+use Rattle.opening_parts.specs.Parts.{OpeningParts}
+use Rattle.opening_answers.specs.Opening.{TellsOpening}
+use Rattle.control_life.specs.Opened.{KeepsBy, Begins, Refuses}
+use Rattle.tm_control.specs.OnDisk.{ControlOnDisk}
+use Rattle.tm_control.specs.Closed.{Opens}
+use Rattle.control_life.specs.declared.life.Life.{Life}
+use Rattle.session_lives.specs.declared.called.Opening.{Opening}
+use Rattle.session_lives.specs.declared.called.Opening.TheVariants.{Opened, Broke as OpeningBroke, Refused, Memory as OpeningMemory, Spent as OpeningSpent}
+use Rattle.session_lives.specs.declared.called.Served.{Served}
+use Rattle.session_lives.specs.declared.called.Served.TheVariants.{Printed, Broke, Undone as NotServed}
+use Rattle.session_lives.specs.declared.called.Undone.TheVariants.{Memory as NoMemory, Spent as SpentCounter, Image as BadImage}
+use Rattle.session_lives.specs.declared.place.Idle.{Idle}
+use Rattle.session_lives.specs.declared.place.Place.TheVariants.{Up, Down}
+use Rattle.session_lives.specs.declared.place.Kept.{Kept}
+use Rattle.session_lives.specs.declared.place.Session.{Session}
+use Rattle.session_lives.specs.Running.{life_of, last_of, last_up, kept_of, outage_of, session_at, session_of, session_down, setting_of, LeadsBy, IsFoundAs, Recalls, IsUnopened, Holds, IsUpSound, IsDownSound, IsSound, IsSoundAt}
+use Rattle.session_lives.specs.Openings.{how_of, kept_by, with_last, HasOpened, StaysIdle, HasFailed, HasGone, IsToldSo, IsRefusalTold, IsRestartedSo, UndoneBy, IsServedSo, restart_of, error_of}
+use Rattle.session_lives.proofs.Ends.{state_with, same_state, outage_with, life_with, same_life, stops_one, rose_from}
+
+some_is : (a b : Bool) → Some b ≡ Some a → a ≡ b
+some_is a b e = cc
+
+abbrev SameAnswer : Result LastingState Fault → Result LastingState Fault → Type 0
+SameAnswer a b = a ≡ b
+
+ok_is : (a b : LastingState) → SameAnswer (Ok a) (Ok b) → a ≡ b
+ok_is a b e = cc
+
+ok_or_err : (a : LastingState) (fault : Fault) → SameAnswer (Ok a) (Err fault) → ⊥
+ok_or_err a fault e = cc
+
+-- ---- lives
+
+-- how many lasting steps of the last life are kept
+abbrev count_of : Option Life → Bool → ℕ → ℕ
+count_of None cold steps = 0
+count_of (Some life) cold steps = (kept_by cold life steps).kept
+
+kept_life_is : (cold : Bool) (life : Life) (steps : ℕ) → life_of (kept_by cold life steps) ≡ record { opening = life.opening; history = life.history; kept = (kept_by cold life steps).kept }
+kept_life_is true life steps = refl
+kept_life_is false life steps = refl
+
+lives_with : (lives : List Life) (last : Option Life) (cold : Bool) (steps : ℕ)
+    → map life_of (with_last lives last cold steps) ≡ with_life (map life_of lives) (option_map last_of last) (count_of last cold steps)
+lives_with lives None cold steps = refl
+lives_with lives (Some life) cold steps =
+    map-append life_of lives (kept_by cold life steps ∷ []) ∙ ap (λ l. map life_of lives ++ l ∷ []) (kept_life_is cold life steps)
+
+pub legal_with : (system : System) (lives : List LifeState) (last : Option LastLife) (answered kept : ℕ) → AreLegal system lives → LastAnswered system last answered → AreLegal system (with_life lives last kept)
+legal_with system [] None answered kept legal is = tt
+legal_with system (first ∷ lives) None answered kept legal is = legal
+legal_with system [] (Some life) answered kept legal is = (is.legal, is.numbers, tt)
+legal_with system (first ∷ lives) (Some life) answered kept legal is = (legal.0, legal.1, legal_with system lives (Some life) answered kept legal.2 is)
+
+module _ {D : Type 0} (state : D → DiskState) (is_disk : (disk : D) → IsDisk (state disk)) (system : System) (handed : D) (idle : Idle D) (old : Kept) (session : Session D)
+    (sound : IsDownSound state system handed idle old) where
+  abbrev before : SessionState
+  before = session_at (Down idle) old
+
+  abbrev setting : Setting
+  setting = setting_of state system handed
+
+  abbrev outage : Outage
+  outage = outage_of idle
+
+  -- ---- what may be found
+
+  -- an image that recovers as what was handed in
+  begins_by : (found first : Image) (opening : LastingState) → (state handed).may_leave first → RecoversAlike system first found → Recovers system found (Ok opening) → setting.begins opening
+  begins_by found first opening left alike recovers = λ image there.
+      let same : image ≡ first = sound.handed_alone image there ∙ sym (sound.handed_alone first left) in
+      record { found = found; alike = subst (λ i. RecoversAlike system i found) (sym same) alike; recovers = recovers }
+
+  found_is : (kept : ℕ) (state_then opening : LastingState) → opening ≡ state_then → MayBeFound setting outage kept state_then → MayBeFound setting outage kept opening
+  found_is kept state_then opening same may = subst (λ s. MayBeFound setting outage kept s) (sym same) may
+
+  -- as it is counted
+  counted_as : (last : Option Life) (kept : ℕ) (opening : LastingState) → IsLeft setting (option_map last_of last) kept opening → IsLeft setting (option_map last_of last) (count_of last false opening.steps) opening
+  counted_as None kept opening left = left
+  counted_as (Some life) kept opening left = subst (λ n. Leaves system (last_of life) n opening) left.counted left
+
+  count_found : (kept : ℕ) (opening : LastingState) → MayBeFound setting outage kept opening → MayBeFound setting outage (count_of idle.last false opening.steps) opening
+  count_found kept opening (inl left) = inl (counted_as idle.last kept opening left)
+  count_found kept opening (inr emptied) = inr emptied
+
+  found_by : (image : Image) (opening : LastingState) → Holds state system handed (StandsDown outage) image → Recovers system image (Ok opening)
+      → MayBeFound setting outage (count_of idle.last false opening.steps) opening
+  found_by image opening (inl recalls) recovers =
+      let same : opening ≡ recalls.state = ok_is opening recalls.state (one_answer_of system image (Ok opening) (Ok recalls.state) recovers recalls.recovers) in
+      count_found recalls.may.0 opening (found_is recalls.may.0 recalls.state opening same recalls.may.1)
+  found_by image opening (inr unopened) recovers =
+      inl (subst (λ l. IsLeft setting l (count_of idle.last false opening.steps) opening) (sym unopened.no_life) (begins_by image unopened.before opening unopened.left unopened.alike recovers))
+
+  tells_now : setting.tells ≡ true → (state idle.disk).tells ≡ true
+  tells_now tells = sound.stays.tells ∙ tells
+
+  shown_holds : setting.tells ≡ true → Holds state system handed (StandsDown outage) (state idle.disk).shown
+  shown_holds tells = sound.images (state idle.disk).shown ((is_disk idle.disk).shown_left (tells_now tells))
+
+  -- what the disk tells when it was opened
+  told_state : (parts : OpeningParts) (opening : LastingState) (text : List ℕ) → TellsOpening idle.system text (state idle.disk).shown (Ok (parts, opening)) → Recovers idle.system (state idle.disk).shown (Ok opening)
+  told_state parts opening text (inl reopened) = reopened.found.recovers
+  told_state parts opening text (inr cold) =
+      subst (λ s. Recovers idle.system (state idle.disk).shown (Ok s)) (sym cold.begun.empty) (zeros_are_empty idle.system (state idle.disk).shown cold.zeros)
+
+  may_open : (cold : Bool) (opening : LastingState) → Begins (how_of cold) idle.system idle.text (state idle.disk) opening → setting.tells ≡ true
+      → MayOpen cold setting outage (count_of idle.last cold opening.steps) opening
+  may_open false opening begins tells =
+      found_by (state idle.disk).shown opening (shown_holds tells)
+      (subst (λ s. Recovers s (state idle.disk).shown (Ok opening)) sound.system_is (told_state begins.parts opening idle.text (begins.found refl (tells_now tells))))
+  may_open true opening begins tells =
+      ((begins.cold refl).empty ∙ ap empty_state sound.system_is, answered_as idle.last sound.answered)
+    where
+      answered_as : (last : Option Life) → LastAnswered system (option_map last_of last) (kept_of last) → LastAnswered system (option_map last_of last) (count_of last true opening.steps)
+      answered_as None is = is
+      answered_as (Some life) is = is
+
+  -- ---- a life opened
+
+  opened_state : (cold : Bool) (gone : HasOpened state idle old cold session) → session_of session ≡ opened before outage (count_of idle.last cold gone.control.control.opening.steps) gone.control.control.opening
+  opened_state cold gone =
+      ap (λ p. session_at p session.kept) gone.place
+      ∙ same_state (with_life (map life_of old.lives.items) outage.last (count_of idle.last cold gone.control.control.opening.steps)) (map life_of session.kept.lives.items)
+      old.stops.items session.kept.stops.items (StandsUp (life_with gone.control.control.opening [])) (StandsUp (last_up gone.control))
+      (ap (map life_of) gone.lives ∙ lives_with old.lives.items idle.last cold gone.control.control.opening.steps) gone.stops
+      (ap StandsUp (same_life gone.control.control.opening gone.control.control.opening [] gone.control.control.history refl gone.opens.history))
+
+  opened_sound : (cold : Bool) → HasOpened state idle old cold session → IsSound state system handed session
+  opened_sound cold gone =
+      subst (λ p. IsSoundAt state system handed p session.kept) (sym gone.place) (record {
+        handed_alone = sound.handed_alone;
+        system_is = gone.opens.system_is ∙ sound.system_is;
+        stays = stays_on (state handed) (state idle.disk) (state gone.control.disk) sound.stays gone.opens.stays;
+        stops = subst (λ n. AreStops (state handed).faults session.kept.stops.items n) (sym gone.opens.began)
+            (subst (λ s. AreStops (state handed).faults s (state idle.disk).faults) (sym gone.stops) sound.stops);
+        began = omega (arith, gone.opens.began, gone.opens.no_fault);
+        legal = subst (λ l. AreLegal system l) (sym (ap (map life_of) gone.lives ∙ lives_with old.lives.items idle.last cold gone.control.control.opening.steps))
+            (legal_with system (map life_of old.lives.items) outage.last (kept_of idle.last) (count_of idle.last cold gone.control.control.opening.steps) sound.legal sound.answered);
+      })
+
+  -- ---- the disk failed
+
+  outage_after : (after : Idle D) (emptied stopped : Bool) → after.last ≡ idle.last → after.emptied ≡ emptied → after.stopped ≡ stopped
+      → outage_of after ≡ outage_with outage.last emptied stopped
+  outage_after after emptied stopped last e t =
+      ap (λ l. outage_with (option_map last_of l) after.emptied after.stopped) last ∙ ap (λ b. outage_with outage.last b after.stopped) e ∙ ap (outage_with outage.last emptied) t
+
+  failed_state : (cold : Bool) (gone : HasFailed state idle old cold session) → session_of session ≡ failed before outage cold ((state idle.disk).faults, (state gone.disk).faults)
+  failed_state cold gone =
+      ap (λ p. session_at p session.kept) gone.place
+      ∙ same_state (map life_of old.lives.items) (map life_of session.kept.lives.items) (old.stops.items ++ ((state idle.disk).faults, (state gone.disk).faults) ∷ []) session.kept.stops.items
+      (StandsDown (outage_with outage.last (or_cold cold outage.emptied) true)) (StandsDown (outage_of gone.after))
+      (ap (map life_of) gone.lives) gone.stops (ap StandsDown (outage_after gone.after (or_cold cold outage.emptied) true gone.last gone.emptied gone.stopped))
+
+  -- what was held before is held still, where a cold start may have emptied it
+  keeps_holding : (cold : Bool) (image : Image) → Holds state system handed (StandsDown outage) image → Holds state system handed (StandsDown (outage_with outage.last (or_cold cold outage.emptied) true)) image
+  keeps_holding cold image (inl recalls) = inl (record { state = recalls.state; recovers = recalls.recovers; may = (recalls.may.0, still cold recalls.may.1) })
+    where
+      still : (cold : Bool) → MayBeFound setting outage recalls.may.0 recalls.state → MayBeFound setting (outage_with outage.last (or_cold cold outage.emptied) true) recalls.may.0 recalls.state
+      still cold (inl left) = inl left
+      still true (inr emptied) = inr (refl, emptied.1)
+      still false (inr emptied) = inr emptied
+  keeps_holding cold image (inr unopened) = inr (record { no_life = unopened.no_life; before = unopened.before; left = unopened.left; alike = unopened.alike })
+
+  alike_holds : (first image : Image) → RecoversAlike system first image → Holds state system handed (StandsDown outage) first → Holds state system handed (StandsDown outage) image
+  alike_holds first image alike (inl recalls) = inl (record { state = recalls.state; recovers = alike (Ok recalls.state) recalls.recovers; may = recalls.may })
+  alike_holds first image alike (inr unopened) =
+      inr (record { no_life = unopened.no_life; before = unopened.before; left = unopened.left; alike = λ answer is. alike answer (unopened.alike answer is) })
+
+  broken_by : (cold : Bool) (first image : Image) → KeepsBy (how_of cold) system first image → Holds state system handed (StandsDown outage) first
+      → Holds state system handed (StandsDown (outage_with outage.last (or_cold cold outage.emptied) true)) image
+  broken_by false first image alike holds = keeps_holding false image (alike_holds first image alike holds)
+  broken_by true first image (inl same) holds = keeps_holding true image (subst (λ i. Holds state system handed (StandsDown outage) i) (sym same) holds)
+  broken_by true first image (inr empty) holds = inl (record { state = empty_state system; recovers = empty; may = (0, inr (refl, refl)) })
+
+  same_image : (cold : Bool) (image : Image) → KeepsBy (how_of cold) system image image
+  same_image false image = λ answer is. is
+  same_image true image = inl refl
+
+  failed_holds : (cold : Bool) (gone : HasFailed state idle old cold session) (image : Image) → (state gone.after.disk).may_leave image
+      → Holds state system handed (StandsDown (outage_with outage.last (or_cold cold outage.emptied) true)) image
+  failed_holds cold gone image left =
+      let within : Within (KeepsBy (how_of cold) system) (state idle.disk) (state gone.disk) = subst (λ s. Within (KeepsBy (how_of cold) s) (state idle.disk) (state gone.disk)) sound.system_is gone.back.any_moment in
+      let comes : ComesFrom (KeepsBy (how_of cold) system) (state idle.disk) image =
+      within_each (KeepsBy (how_of cold) system) (state idle.disk) (state gone.disk) (is_disk idle.disk) (same_image cold) within image
+      ((is_disk gone.disk).now_counts (state idle.disk).clock image within.later (gone.cut.no_more image left)) in
+      broken_by cold comes.before image comes.by (sound.images comes.before comes.left)
+
+  failed_sound : (cold : Bool) → HasFailed state idle old cold session → IsSound state system handed session
+  failed_sound cold gone =
+      let outage_is : outage_of gone.after ≡ outage_with outage.last (or_cold cold outage.emptied) true = outage_after gone.after (or_cold cold outage.emptied) true gone.last gone.emptied gone.stopped in
+      let stays : Stays (state handed) (state gone.disk) = stays_on (state handed) (state idle.disk) (state gone.disk) sound.stays gone.back.stays in
+      subst (λ p. IsSoundAt state system handed p session.kept) (sym gone.place) (record {
+        handed_alone = sound.handed_alone;
+        system_is = gone.back.system_is ∙ sound.system_is;
+        stays = stays_on (state handed) (state gone.disk) (state gone.after.disk) stays gone.cut.stays;
+        stops = subst (λ n. AreStops (state handed).faults session.kept.stops.items n) (sym gone.cut.faults)
+            (subst (λ s. AreStops (state handed).faults s (state gone.disk).faults) (sym gone.stops)
+            (stops_one (state handed).faults (state idle.disk).faults (state idle.disk).faults (state gone.disk).faults old.stops.items sound.stops (omega arith) gone.back.stays.faults
+            (rose_from (state idle.disk).faults (state idle.disk).faults (state gone.disk).faults (omega arith) gone.back.cause)));
+        legal = subst (λ l. AreLegal system (map life_of l)) (sym gone.lives) sound.legal;
+        answered = subst (λ l. LastAnswered system (option_map last_of l) (kept_of l)) (sym gone.last) sound.answered;
+        images = λ image left. subst (λ o. Holds state system handed (StandsDown o) image) (sym outage_is) (failed_holds cold gone image left);
+      })
+
+  -- ---- all is as it was
+
+  idle_state : StaysIdle state idle old session → session_of session ≡ before
+  idle_state idles =
+      ap (λ p. session_at p session.kept) idles.place
+      ∙ same_state (map life_of old.lives.items) (map life_of session.kept.lives.items) old.stops.items session.kept.stops.items (StandsDown outage) (StandsDown (outage_of idles.after))
+      (ap (map life_of) idles.lives) idles.stops (ap StandsDown (outage_after idles.after outage.emptied outage.stopped idles.last idles.emptied idles.stopped))
+
+  idle_sound : StaysIdle state idle old session → IsSound state system handed session
+  idle_sound idles =
+      let outage_is : outage_of idles.after ≡ outage = outage_after idles.after outage.emptied outage.stopped idles.last idles.emptied idles.stopped in
+      subst (λ p. IsSoundAt state system handed p session.kept) (sym idles.place) (record {
+        handed_alone = sound.handed_alone;
+        system_is = idles.system_is ∙ sound.system_is;
+        stays = stays_on (state handed) (state idle.disk) (state idles.after.disk) sound.stays idles.wrote.keeps.stays;
+        stops = subst (λ n. AreStops (state handed).faults session.kept.stops.items n) (sym idles.wrote.no_fault)
+            (subst (λ s. AreStops (state handed).faults s (state idle.disk).faults) (sym idles.stops) sound.stops);
+        legal = subst (λ l. AreLegal system (map life_of l)) (sym idles.lives) sound.legal;
+        answered = subst (λ l. LastAnswered system (option_map last_of l) (kept_of l)) (sym idles.last) sound.answered;
+        images = λ image left. subst (λ o. Holds state system handed (StandsDown o) image) (sym outage_is) (sound.images image (idles.wrote.keeps.no_more image left));
+      })
+
+  -- ---- a disk that can't be opened
+
+  never_none : (last : Option Life) → is_some last ≡ true → option_map last_of last ≡ None → ⊥
+  never_none None begun none = cc
+  never_none (Some life) begun none = cc
+
+  no_rule : (rule sector : ℕ) → Refuses (how_of false) idle.system idle.text (state idle.disk) (error_of (Rule rule sector)) → is_some idle.last ≡ true → setting.tells ≡ true → ⊥
+  no_rule rule sector refuses begun tells =
+      let recovers : Recovers system (state idle.disk).shown (Err (rule, sector)) =
+      subst (λ s. Recovers s (state idle.disk).shown (Err (rule, sector))) sound.system_is (refuses.found refl (tells_now tells)).recovers in
+      ⊎_elim
+      (λ recalls. ok_or_err recalls.state (rule, sector) (one_answer_of system (state idle.disk).shown (Ok recalls.state) (Err (rule, sector)) recalls.recovers recovers))
+      (λ unopened. never_none idle.last begun unopened.no_life)
+      (shown_holds tells)
+
+  may_refuse : (cold : Bool) (refusal : ImageRefused) → Refuses (how_of cold) idle.system idle.text (state idle.disk) (error_of refusal) → is_some idle.last ≡ true → MayRefuse setting.tells refusal
+  may_refuse cold (Text place) refuses begun = tt
+  may_refuse cold (Size needed has) refuses begun = tt
+  may_refuse true (Rule rule sector) refuses begun = absurd (refuses.cold refl)
+  may_refuse false (Rule rule sector) refuses begun =
+      ⊎_elim (λ tells. absurd (no_rule rule sector refuses begun tells)) (λ silent. silent) (cases_Bool setting.tells)
+
+  no_life : is_some idle.last ≡ false → HasNoLife (StandsDown outage)
+  no_life none = of idle.last none
+    where
+      of : (last : Option Life) → is_some last ≡ false → option_map last_of last ≡ None
+      of None none = refl
+      of (Some life) none = cc
+
+  -- ---- all of it
+
+  abbrev Restarted : Bool → List ℕ → Served → Type 0
+  Restarted cold text Printed = IsRestarted cold setting before outage (session_of session) text
+  Restarted cold text Broke = IsRestarted cold setting before outage (session_of session) broken_text
+  Restarted cold text (NotServed undone) = (session_of session ≡ before) × UndoneBy undone before
+
+  refused : (cold begun : Bool) (refusal : ImageRefused) (text : List ℕ) (served : Served) → is_some idle.last ≡ begun → StaysIdle state idle old session
+      → Refuses (how_of cold) idle.system idle.text (state idle.disk) (error_of refusal) → IsRefusalTold begun refusal text served → Restarted cold text served
+  refused cold true refusal text served is idles refuses (printed, same) =
+      subst (λ s. Restarted cold text s) (sym printed)
+      (inr (inr (record { refusal = refusal; may = may_refuse cold refusal refuses is; stays = idle_state idles; printed = same })))
+  refused cold false refusal text served is idles refuses undone = subst (λ s. Restarted cold text s) (sym undone) (idle_state idles, no_life is)
+
+  -- a life that opened, and a disk that failed
+  pub opens_gone : (cold : Bool) → HasOpened state idle old cold session → OpensLife cold setting before outage (session_of session)
+  opens_gone cold gone = record {
+    kept = count_of idle.last cold gone.control.control.opening.steps;
+    state = gone.control.control.opening;
+    may = λ tells. may_open cold gone.control.control.opening gone.opens.begins tells;
+    goes = opened_state cold gone;
+  }
+
+  pub fails_gone : (cold : Bool) → HasFailed state idle old cold session → FailsToOpen cold before outage (session_of session)
+  fails_gone cold gone = record { stop = ((state idle.disk).faults, (state gone.disk).faults); ends = failed_state cold gone }
+
+  pub restarted : (cold : Bool) (opening : Opening) (text : List ℕ) (served : Served) → HasGone state idle old cold session opening → IsToldSo cold (is_some idle.last) opening text served → Restarted cold text served
+  restarted cold Opened text served gone (printed, same) =
+      subst (λ s. Restarted cold text s) (sym printed)
+      (inl (opens_gone cold gone, same))
+  restarted cold OpeningBroke text served gone broke =
+      subst (λ s. Restarted cold text s) (sym broke) (inr (inl (fails_gone cold gone, refl)))
+  restarted cold (Refused refusal) text served gone told = refused cold (is_some idle.last) refusal text served refl gone.0 gone.1 told
+  restarted cold OpeningMemory text served gone why = subst (λ s. Restarted cold text s) (sym why) (idle_state gone, tt)
+  restarted cold OpeningSpent text served gone why = subst (λ s. Restarted cold text s) (sym why) (idle_state gone, tt)
+
+  pub gone_sound : (cold : Bool) (opening : Opening) → HasGone state idle old cold session opening → IsSound state system handed session
+  gone_sound cold Opened gone = opened_sound cold gone
+  gone_sound cold OpeningBroke gone = failed_sound cold gone
+  gone_sound cold (Refused refusal) gone = idle_sound gone.0
+  gone_sound cold OpeningMemory gone = idle_sound gone
+  gone_sound cold OpeningSpent gone = idle_sound gone
+
+  -- a block that asks for a restart
+  served_restart : (asked : Asked) (text : List ℕ) (served : Served) (cold : Bool) → restart_of asked ≡ Some cold → Restarted cold text served → IsServedSo asked text served setting before (session_of session)
+  served_restart Restart text Printed cold is one = subst (λ c. IsRestarted c setting before outage (session_of session) text) (some_is cold false is) one
+  served_restart Restart text Broke cold is one = subst (λ c. IsRestarted c setting before outage (session_of session) broken_text) (some_is cold false is) one
+  served_restart Restart text (NotServed undone) cold is one = one
+  served_restart ColdStart text Printed cold is one = subst (λ c. IsRestarted c setting before outage (session_of session) text) (some_is cold true is) one
+  served_restart ColdStart text Broke cold is one = subst (λ c. IsRestarted c setting before outage (session_of session) broken_text) (some_is cold true is) one
+  served_restart ColdStart text (NotServed undone) cold is one = one
+  served_restart (Bad rule) text served cold is one = cc
+  served_restart (BadCommand rule) text served cold is one = cc
+  served_restart (Stopped terminal number reason) text served cold is one = cc
+  served_restart (Call call) text served cold is one = cc
+  served_restart (Quiet most) text served cold is one = cc
+  served_restart (Power pick) text served cold is one = cc
+  served_restart (PowerIn writes pick) text served cold is one = cc
+
+  pub served_down : (asked : Asked) (text : List ℕ) (served : Served) (cold : Bool) → restart_of asked ≡ Some cold → IsRestartedSo state idle old cold session text served
+      → LeadsBy state (λ setting old new. IsServedSo asked text served setting old new) system handed (session_down idle old) session
+  served_down asked text served cold is one = record {
+    goes = served_restart asked text served cold is (restarted cold one.opening text served one.gone one.told);
+    sound = gone_sound cold one.opening one.gone;
+  }
+
+-- another block
+pub served_else : {D : Type 0} (state : D → DiskState) (idle : Idle D) (old : Kept) (setting : Setting) (asked : Asked) → restart_of asked ≡ None
+    → IsServedSo asked down_text Printed setting (session_at (Down idle) old) (session_at (Down idle) old)
+served_else state idle old setting Restart is = cc
+served_else state idle old setting ColdStart is = cc
+served_else state idle old setting (Bad rule) is = (refl, refl)
+served_else state idle old setting (BadCommand rule) is = (refl, refl)
+served_else state idle old setting (Stopped terminal number reason) is = (refl, refl)
+served_else state idle old setting (Call call) is = (refl, refl)
+served_else state idle old setting (Quiet most) is = (refl, refl)
+served_else state idle old setting (Power pick) is = (refl, refl)
+served_else state idle old setting (PowerIn writes pick) is = (refl, refl)

@@ -1,0 +1,328 @@
+-- What was asked of a control region that is up, as a block that was served.
+use Rattle.std.proofs.Common.{◌≡◌, ◌⊎◌, ℕ, ◌+◌, ◌≤◌, ◌<◌, Bool, true, false, List, [], ◌∷◌, ◌++◌, length, map, sym, ◌∙◌, ap, subst, refl, arith, inl, inr}
+use Rattle.std.proofs.lemmas.List.{append-nil}
+use Rattle.std.specs.Prelude.{Option, Some, None, vec_len, vec_capacity}
+use Rattle.model_disk.specs.Disk.{DiskState, Stays, Only, Rose}
+use Rattle.model_disk.proofs.Words.{stays_on}
+use Rattle.model_system.specs.System.{System}
+use Rattle.model_machine.specs.declared.entry.Entry.{Entry}
+use Rattle.model_machine.specs.declared.entry.ControlCall.{ControlCall}
+use Rattle.model_machine.specs.declared.entry.ControlCall.TheVariants.{Turn}
+use Rattle.model_machine.specs.Machine.{LastingState, start_of}
+use Rattle.model_machine.specs.History.{May, AreSteps, IsCall, is_fault, call_of, now_of, moment_after}
+use Rattle.model_session.specs.declared.asked.Asked.{Asked}
+use Rattle.model_session.specs.declared.asked.Asked.TheVariants.{Bad, BadCommand, Stopped, Call, Quiet, Power as AskedPower, PowerIn, Restart, ColdStart}
+use Rattle.model_session.specs.Text.{entry_text, broken_text, armed_text}
+use Rattle.model_session.specs.Turns.{IsQuieted, IsBrokenOff, quieted_text, region_after}
+use Rattle.model_session.specs.Lives.{AreLegal, now_in}
+use Rattle.model_session.specs.Standing.{Setting, SessionState, AreStops, gone_on, called_on, ended, broken}
+use Rattle.model_session.specs.Session.{IsServedUp, IsBegunBy}
+use Rattle.tm_control.specs.OnDisk.{ControlOnDisk}
+use Rattle.tm_control.specs.Calls.{StaysSo, Answered as IsAnswered, AddedNothing}
+use Rattle.session_lives.specs.declared.called.Called.{Called}
+use Rattle.session_lives.specs.declared.called.Called.TheVariants.{Answered, Frozen, Power, Broke, Memory, Spent}
+use Rattle.session_lives.specs.declared.called.Served.{Served}
+use Rattle.session_lives.specs.declared.called.Served.TheVariants.{Printed, Broke as ServedBroke, Undone as NotServed}
+use Rattle.session_lives.specs.declared.called.Undone.TheVariants.{Memory as NoMemory, Spent as SpentCounter}
+use Rattle.session_lives.specs.declared.place.Idle.{Idle}
+use Rattle.session_lives.specs.declared.place.Place.TheVariants.{Up, Down}
+use Rattle.session_lives.specs.declared.place.Kept.{Kept}
+use Rattle.session_lives.specs.declared.place.Session.{Session}
+use Rattle.session_lives.specs.Running.{life_of, last_up, session_at, session_of, session_up, setting_of, IsUpReady, IsUpSound, IsSound, IsSoundAt, IsReadyAt, LeadsBy}
+use Rattle.session_lives.specs.Asking.{IsAsked, IsFrozen, Does, Freezes, Fails, PowersOff, Undoes}
+use Rattle.session_lives.specs.Openings.{GoesOn, HasEndedLife, IsAloneBy, IsSettled, IsServedSo}
+use Rattle.session_lives.proofs.Asked.{stays_so}
+use Rattle.session_lives.proofs.Ends.{up_state, same_up, ended_state, broken_state, down_sound, stop_behind, no_stop}
+
+module _ {D : Type 0} (state : D → DiskState) (system : System) (handed : D) (a b : ControlOnDisk D) (old kept : Kept) (session : Session D) (text : List ℕ)
+    (sound : IsUpSound state system handed a old) (stays : StaysSo state a b) (lives : kept.lives ≡ old.lives) (stops : kept.stops ≡ old.stops) where
+  abbrev before : SessionState
+  before = session_at (Up a) old
+
+  abbrev setting : Setting
+  setting = setting_of state system handed
+
+  -- where the session stands now
+  goes_up : GoesOn b kept session → session_of session ≡ session_at (Up b) kept
+  goes_up on = ap (λ p. session_at p session.kept) on.place ∙ ap (λ k. session_at (Up b) k) on.kept
+
+  up_after : GoesOn b kept session → (entries : List Entry) → b.control.history ≡ a.control.history ++ entries → session_of session ≡ gone_on before (last_up a) entries
+  up_after on entries history = goes_up on ∙ up_state a b old kept entries stays.opening history lives stops
+
+  same_after : GoesOn b kept session → b.control.history ≡ a.control.history → session_of session ≡ before
+  same_after on history = goes_up on ∙ same_up a b old kept stays.opening history lives stops
+
+  -- the machine's answer, in the system's own words
+  may_in : (entry : Entry) → May a.control.system (now_of a.control) entry → May system (now_in system (last_up a)) entry
+  may_in entry may = subst (λ s. May s (moment_after s (start_of s a.control.opening) a.control.history) entry) sound.system_is may
+
+  steps_in : (entries : List Entry) → AreSteps a.control.system (now_of a.control) entries → AreSteps system (now_in system (last_up a)) entries
+  steps_in entries steps = subst (λ s. AreSteps s (moment_after s (start_of s a.control.opening) a.control.history) entries) sound.system_is steps
+
+  text_in : (entry : Entry) → text ≡ entry_text a.control.system (now_of a.control) entry → text ≡ entry_text system (now_in system (last_up a)) entry
+  text_in entry same = subst (λ s. text ≡ entry_text s (moment_after s (start_of s a.control.opening) a.control.history) entry) sound.system_is same
+
+  quieted_in : (most : ℕ) (turns : List Entry) → IsQuieted most a.control.system (now_of a.control) turns → IsQuieted most system (now_in system (last_up a)) turns
+  quieted_in most turns quieted = subst (λ s. IsQuieted most s (moment_after s (start_of s a.control.opening) a.control.history) turns) sound.system_is quieted
+
+  quiet_text_in : (turns : List Entry) → text ≡ quieted_text a.control.system (now_of a.control) turns → text ≡ quieted_text system (now_in system (last_up a)) turns
+  quiet_text_in turns same = subst (λ s. text ≡ quieted_text s (moment_after s (start_of s a.control.opening) a.control.history) turns) sound.system_is same
+
+  begun_in : (most : ℕ) (turns : List Entry) → IsBrokenOff most a.control.system (now_of a.control) turns → IsBrokenOff most system (now_in system (last_up a)) turns
+  begun_in most turns begun = subst (λ s. IsBrokenOff most s (moment_after s (start_of s a.control.opening) a.control.history) turns) sound.system_is begun
+
+  -- ---- what is sound behind it
+
+  pub up_sound : GoesOn b kept session → IsSound state system handed session
+  up_sound on =
+      subst (λ p. IsSoundAt state system handed p session.kept) (sym on.place)
+      (subst (λ k. IsSoundAt state system handed (Up b) k) (sym on.kept)
+      (record {
+        handed_alone = sound.handed_alone;
+        system_is = stays.system ∙ sound.system_is;
+        stays = stays_on (state handed) (state a.disk) (state b.disk) sound.stays stays.disk;
+        stops = subst (λ v. AreStops (state handed).faults v.items b.began) (sym stops) (subst (λ n. AreStops (state handed).faults old.stops.items n) (sym stays.began) sound.stops);
+        began = subst (λ n. n ≤ (state b.disk).faults) (sym stays.began) (omega (arith, sound.began, stays.disk.faults));
+        legal = subst (λ v. AreLegal system (map life_of v.items)) (sym lives) sound.legal;
+      }))
+
+  stays_now : Stays (state handed) (state b.disk)
+  stays_now = stays_on (state handed) (state a.disk) (state b.disk) sound.stays stays.disk
+
+  legal_now : AreLegal system (map life_of kept.lives.items)
+  legal_now = subst (λ v. AreLegal system (map life_of v.items)) (sym lives) sound.legal
+
+  stops_now : AreStops (state handed).faults kept.stops.items b.began
+  stops_now = subst (λ v. AreStops (state handed).faults v.items b.began) (sym stops) (subst (λ n. AreStops (state handed).faults old.stops.items n) (sym stays.began) sound.stops)
+
+  began_before : b.began ≤ (state a.disk).faults
+  began_before = subst (λ n. n ≤ (state a.disk).faults) (sym stays.began) sound.began
+
+  pub power_sound : HasEndedLife state b kept false session → IsSound state system handed session
+  power_sound over =
+      subst (λ p. IsSoundAt state system handed p session.kept) (sym over.place)
+      (down_sound state system handed b (stays.system ∙ sound.system_is) sound.handed_alone kept session.kept false over.idle over.down stays_now legal_now
+      (no_stop state system handed b (stays.system ∙ sound.system_is) kept session.kept over.idle over.down stops_now (omega (arith, began_before, stays.disk.faults))))
+
+  pub broke_sound : HasEndedLife state b kept true session → Rose (state a.disk).faults (state b.disk).faults → IsSound state system handed session
+  broke_sound over rose =
+      subst (λ p. IsSoundAt state system handed p session.kept) (sym over.place)
+      (down_sound state system handed b (stays.system ∙ sound.system_is) sound.handed_alone kept session.kept true over.idle over.down stays_now legal_now
+      (stop_behind state system handed b (stays.system ∙ sound.system_is) kept session.kept over.idle (state a.disk).faults over.down stops_now began_before stays.disk.faults rose))
+
+  -- ---- what was served
+
+  nothing : GoesOn b kept session → AddedNothing state a b → session_of session ≡ before
+  nothing on added = same_after on added.adds.history
+
+  does : (asked : Asked) → Does state asked a b text → GoesOn b kept session → IsServedUp asked setting before (last_up a) (session_of session) text
+  does (Bad rule) (added, printed) on = (nothing on added, printed)
+  does (BadCommand rule) (added, printed) on = (nothing on added, printed)
+  does (Stopped terminal number reason) (added, printed) on = (nothing on added, printed)
+  does (Call call) told on = inl (record {
+    entry = told.entry;
+    asked = told.asked;
+    may = may_in told.entry told.answered.adds.may;
+    goes = subst (λ ends. session_of session ≡ called_on ends before (last_up a) (told.entry ∷ [])) (sym told.goes_on)
+        (up_after on (told.entry ∷ []) told.answered.adds.history);
+    printed = text_in told.entry told.printed;
+  })
+  does (Quiet most) turned on = inl (record {
+    turns = turned.turns;
+    steps = steps_in turned.turns turned.steps;
+    quieted = quieted_in most turned.turns turned.quieted;
+    goes = up_after on turned.turns turned.adds.history;
+    printed = quiet_text_in turned.turns turned.printed;
+  })
+  does (AskedPower pick) never on = absurd never
+  does (PowerIn writes pick) (added, printed) on = (nothing on added, subst (λ can. text ≡ armed_text can writes) sound.stays.can_arm printed)
+  does Restart (added, printed) on = (nothing on added, printed)
+  does ColdStart (added, printed) on = (nothing on added, printed)
+
+  freezes : (asked : Asked) → Freezes state asked a b text → HasEndedLife state b kept false session → IsServedUp asked setting before (last_up a) (session_of session) text
+  freezes (Call call) frozen over = inl (record {
+    entry = frozen.entry;
+    asked = frozen.asked;
+    may = may_in frozen.entry frozen.answered.adds.may;
+    goes = subst (λ ends. session_of session ≡ called_on ends before (last_up a) (frozen.entry ∷ [])) (sym frozen.ends)
+        (ap (λ p. session_at p session.kept) over.place
+        ∙ ended_state state a b old kept session.kept over.idle (frozen.entry ∷ []) over.down lives stops stays.opening frozen.answered.adds.history);
+    printed = text_in frozen.entry frozen.printed;
+  })
+  freezes (Bad rule) never over = absurd never
+  freezes (BadCommand rule) never over = absurd never
+  freezes (Stopped terminal number reason) never over = absurd never
+  freezes (Quiet most) never over = absurd never
+  freezes (AskedPower pick) never over = absurd never
+  freezes (PowerIn writes pick) never over = absurd never
+  freezes Restart never over = absurd never
+  freezes ColdStart never over = absurd never
+
+  ends_with : (entries : List Entry) → b.control.history ≡ a.control.history ++ entries → (over : HasEndedLife state b kept true session)
+      → session_of session ≡ broken before (last_up a) entries (b.began, (state over.down.disk).faults)
+  ends_with entries history over =
+      ap (λ p. session_at p session.kept) over.place ∙ broken_state state a b old kept session.kept over.idle entries over.down lives stops stays.opening history
+
+  fails : (asked : Asked) → Fails state asked a b → HasEndedLife state b kept true session → IsServedUp asked setting before (last_up a) (session_of session) broken_text
+  fails (Call call) failed over = inr (record {
+    entry = failed.entry;
+    stop = (b.began, (state over.down.disk).faults);
+    breaks = record { asked = failed.asked; can = subst (λ c. IsCall system c) failed.asked (subst (λ s. IsCall s (call_of failed.entry)) sound.system_is failed.broke.call); fault = failed.fault };
+    ends = ends_with (failed.entry ∷ []) failed.broke.history over;
+    printed = refl;
+  })
+  fails (Quiet most) failed over = inr (record {
+    turns = failed.turns;
+    entry = failed.entry;
+    stop = (b.began, (state over.down.disk).faults);
+    steps = steps_in failed.turns failed.steps;
+    begun = begun_in most failed.turns failed.begun;
+    breaks = record {
+      asked = failed.asked ∙ ap (λ s. Turn (region_after s (length failed.turns))) sound.system_is;
+      can = subst (λ c. IsCall system c) (failed.asked ∙ ap (λ s. Turn (region_after s (length failed.turns))) sound.system_is) (subst (λ s. IsCall s (call_of failed.entry)) sound.system_is failed.can);
+      fault = failed.fault;
+    };
+    ends = ends_with (failed.turns ++ failed.entry ∷ []) failed.history over;
+    printed = refl;
+  })
+  fails (Bad rule) never over = absurd never
+  fails (BadCommand rule) never over = absurd never
+  fails (Stopped terminal number reason) never over = absurd never
+  fails (AskedPower pick) never over = absurd never
+  fails (PowerIn writes pick) never over = absurd never
+  fails Restart never over = absurd never
+  fails ColdStart never over = absurd never
+
+  rose_in : (asked : Asked) → Fails state asked a b → Rose (state a.disk).faults (state b.disk).faults
+  rose_in (Call call) failed = failed.broke.failed
+  rose_in (Quiet most) failed = failed.failed
+  rose_in (Bad rule) never = absurd never
+  rose_in (BadCommand rule) never = absurd never
+  rose_in (Stopped terminal number reason) never = absurd never
+  rose_in (AskedPower pick) never = absurd never
+  rose_in (PowerIn writes pick) never = absurd never
+  rose_in Restart never = absurd never
+  rose_in ColdStart never = absurd never
+
+  powers : (asked : Asked) (pick : ℕ) → PowersOff state asked pick a b text → HasEndedLife state b kept false session → IsServedUp asked setting before (last_up a) (session_of session) text
+  powers (AskedPower asked) pick (same, added, printed) over = (
+    ap (λ p. session_at p session.kept) over.place
+        ∙ ended_state state a b old kept session.kept over.idle [] over.down lives stops stays.opening (added.adds.history ∙ sym (append-nil a.control.history)),
+    printed,
+  )
+  powers (Bad rule) pick never over = absurd never
+  powers (BadCommand rule) pick never over = absurd never
+  powers (Stopped terminal number reason) pick never over = absurd never
+  powers (Call call) pick never over = absurd never
+  powers (Quiet most) pick never over = absurd never
+  powers (PowerIn writes picked) pick never over = absurd never
+  powers Restart pick never over = absurd never
+  powers ColdStart pick never over = absurd never
+
+  undoes : (asked : Asked) → Undoes state asked a b → GoesOn b kept session → IsBegunBy asked system before before.standing (session_of session)
+  undoes (Quiet most) (inl added) on = inl (nothing on added)
+  undoes (Quiet most) (inr stand) on =
+      inr (record { turns = stand.turns; steps = steps_in stand.turns stand.steps; begun = begun_in most stand.turns stand.begun; goes = up_after on stand.turns stand.adds.history })
+  undoes (Bad rule) added on = nothing on added
+  undoes (BadCommand rule) added on = nothing on added
+  undoes (Stopped terminal number reason) added on = nothing on added
+  undoes (Call call) added on = nothing on added
+  undoes (AskedPower pick) added on = nothing on added
+  undoes (PowerIn writes pick) added on = nothing on added
+  undoes Restart added on = nothing on added
+  undoes ColdStart added on = nothing on added
+
+  -- ---- all of it
+
+  pub served_up : (asked : Asked) (called : Called) (served : Served) → IsAsked state asked a b text called → IsSettled state b kept called session served
+      → LeadsBy state (λ setting old new. IsServedSo asked text served setting old new) system handed (session_up a old) session
+  served_up asked Answered served does_it (on, printed) =
+      subst (λ s. LeadsBy state (λ setting old new. IsServedSo asked text s setting old new) system handed (session_up a old) session) (sym printed)
+      (record { goes = does asked does_it on; sound = up_sound on })
+  served_up asked Frozen served frozen (over, printed) =
+      subst (λ s. LeadsBy state (λ setting old new. IsServedSo asked text s setting old new) system handed (session_up a old) session) (sym printed)
+      (record { goes = freezes asked frozen over; sound = power_sound over })
+  served_up asked (Power pick) served power (over, printed) =
+      subst (λ s. LeadsBy state (λ setting old new. IsServedSo asked text s setting old new) system handed (session_up a old) session) (sym printed)
+      (record { goes = powers asked pick power over; sound = power_sound over })
+  served_up asked Broke served failed (over, broke) =
+      subst (λ s. LeadsBy state (λ setting old new. IsServedSo asked text s setting old new) system handed (session_up a old) session) (sym broke)
+      (record { goes = fails asked failed over; sound = broke_sound over (rose_in asked failed) })
+  served_up asked Memory served undone (on, why) =
+      subst (λ s. LeadsBy state (λ setting old new. IsServedSo asked text s setting old new) system handed (session_up a old) session) (sym why)
+      (record { goes = (undoes asked undone on, tt); sound = up_sound on })
+  served_up asked Spent served undone (on, why) =
+      subst (λ s. LeadsBy state (λ setting old new. IsServedSo asked text s setting old new) system handed (session_up a old) session) (sym why)
+      (record { goes = (undoes asked undone on, tt); sound = up_sound on })
+
+-- ---- what is ready behind it
+
+module _ {D : Type 0} (state : D → DiskState) (a b : ControlOnDisk D) (old kept : Kept) (session : Session D) (text : List ℕ)
+    (ready : IsUpReady a old) (stays : StaysSo state a b) (lives : kept.lives ≡ old.lives) (stops : kept.stops ≡ old.stops) where
+  up_done : (asked : Asked) → Does state asked a b text → b.up ≡ true
+  up_done (Bad rule) does_it = does_it.0.up
+  up_done (BadCommand rule) does_it = does_it.0.up
+  up_done (Stopped terminal number reason) does_it = does_it.0.up
+  up_done (Call call) told = told.answered.up
+  up_done (Quiet most) turned = turned.up
+  up_done (AskedPower pick) never = absurd never
+  up_done (PowerIn writes pick) does_it = does_it.0.up
+  up_done Restart does_it = does_it.0.up
+  up_done ColdStart does_it = does_it.0.up
+
+  up_undone : (asked : Asked) → Undoes state asked a b → b.up ≡ true
+  up_undone (Quiet most) (inl added) = added.up
+  up_undone (Quiet most) (inr stand) = stand.up
+  up_undone (Bad rule) added = added.up
+  up_undone (BadCommand rule) added = added.up
+  up_undone (Stopped terminal number reason) added = added.up
+  up_undone (Call call) added = added.up
+  up_undone (AskedPower pick) added = added.up
+  up_undone (PowerIn writes pick) added = added.up
+  up_undone Restart added = added.up
+  up_undone ColdStart added = added.up
+
+  pub text_room : length b.text ≤ 262144
+  text_room = subst (λ t. length t ≤ 262144) (sym stays.text) ready.text
+
+  pub life_room : vec_len kept.lives < vec_capacity kept.lives
+  life_room = subst (λ v. vec_len v < vec_capacity v) (sym lives) ready.life_room
+
+  pub stop_room : vec_len kept.stops < vec_capacity kept.stops
+  stop_room = subst (λ v. vec_len v < vec_capacity v) (sym stops) ready.stop_room
+
+  -- behind a freeze
+  alone_by : (asked : Asked) → Freezes state asked a b text → Only (state b.disk).shown (state b.disk)
+  alone_by (Call call) frozen = frozen.only
+  alone_by (Bad rule) never = absurd never
+  alone_by (BadCommand rule) never = absurd never
+  alone_by (Stopped terminal number reason) never = absurd never
+  alone_by (Quiet most) never = absurd never
+  alone_by (AskedPower pick) never = absurd never
+  alone_by (PowerIn writes pick) never = absurd never
+  alone_by Restart never = absurd never
+  alone_by ColdStart never = absurd never
+
+  pub alone_up : (asked : Asked) (called : Called) → IsAsked state asked a b text called → IsAloneBy state b called
+  alone_up asked Answered is = tt
+  alone_up asked Frozen is = alone_by asked is
+  alone_up asked (Power pick) is = tt
+  alone_up asked Broke is = tt
+  alone_up asked Memory is = tt
+  alone_up asked Spent is = tt
+
+  ready_on : b.up ≡ true → GoesOn b kept session → IsReadyAt state session.place session.kept
+  ready_on up on =
+      subst (λ p. IsReadyAt state p session.kept) (sym on.place)
+      (subst (λ k. IsReadyAt state (Up b) k) (sym on.kept) (record { up = up; text = text_room; life_room = life_room; stop_room = stop_room }))
+
+  ready_over : (stopped : Bool) → HasEndedLife state b kept stopped session → IsReadyAt state session.place session.kept
+  ready_over stopped over = subst (λ p. IsReadyAt state p session.kept) (sym over.place) over.ready
+
+  pub ready_up : (asked : Asked) (called : Called) (served : Served) → IsAsked state asked a b text called → IsSettled state b kept called session served → IsReadyAt state session.place session.kept
+  ready_up asked Answered served does_it settled = ready_on (up_done asked does_it) settled.0
+  ready_up asked Frozen served frozen settled = ready_over false settled.0
+  ready_up asked (Power pick) served power settled = ready_over false settled.0
+  ready_up asked Broke served failed settled = ready_over true settled.0
+  ready_up asked Memory served undone settled = ready_on (up_undone asked undone) settled.0
+  ready_up asked Spent served undone settled = ready_on (up_undone asked undone) settled.0

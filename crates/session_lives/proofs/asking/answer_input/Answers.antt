@@ -1,0 +1,13 @@
+-- by the fault that the call met
+use Rattle.std.proofs.Common.{◌≡◌, rules, refl}
+use Rattle.model_machine.specs.declared.entry.Entry.TheVariants.{Accept}
+use Rattle.model_machine.specs.Lasting.{code_word}
+use Rattle.model_session.specs.Text.{input_text, shown_word}
+use Rattle.session_lives.proofs.Asked.{asked_call}
+use Rattle.session_lives.proofs.asking.answer_input.Goals as goal
+
+pub returns-clause-asked : goal.returns-clause-asked
+returns-clause-asked g c =
+    let printed : c.input_line.new.out.text ≡ input_text c.args.terminal.now c.args.number (shown_word (code_word c.args.segments)) c.input-answer.result = search rules in
+    asked_call g.D.Disk.state (Accept c.args.terminal.now c.args.number c.args.segments c.input-answer.result) c.args.control.now c.input-answer.new.self c.input_line.new.out.text
+    c.input_called.result refl (c.input_called.ensures c.args.terminal.now c.args.number c.args.segments) c.input-answer.ensures.adds printed

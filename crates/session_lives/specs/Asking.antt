@@ -1,0 +1,133 @@
+-- What is asked of a control region that is up, and how that went.
+use Rattle.std.specs.Prelude.{◌≡◌, ◌⊎◌, ℕ, ◌++◌, Bool, true, false, List, [], ◌∷◌, length, Option, Some, None}
+use Rattle.model_disk.specs.Disk.{DiskState, FailedSince, Only}
+use Rattle.model_machine.specs.declared.entry.Entry.{Entry}
+use Rattle.model_machine.specs.declared.entry.ControlCall.{ControlCall}
+use Rattle.model_machine.specs.declared.entry.ControlCall.TheVariants.{Turn}
+use Rattle.model_machine.specs.declared.entry.ControlFault.{ControlFault}
+use Rattle.model_machine.specs.declared.entry.ControlFault.TheVariants.{Memory as NoMemory, Disk, Spent as SpentCounter}
+use Rattle.model_machine.specs.History.{ControlState, AreSteps, IsCall, call_of, is_fault, now_of}
+use Rattle.model_session.specs.declared.asked.Asked.{Asked}
+use Rattle.model_session.specs.declared.asked.Asked.TheVariants.{Bad, BadCommand, Stopped, Call, Quiet, Power as AskedPower, PowerIn, Restart, ColdStart}
+use Rattle.model_session.specs.Text.{entry_text, bad_line_text, bad_command_text, stopped_text, power_text, armed_text, up_text}
+use Rattle.model_session.specs.Turns.{IsQuieted, IsBrokenOff, quieted_text, region_after}
+use Rattle.model_session.specs.Lives.{ends_life}
+use Rattle.tm_control.specs.OnDisk.{ControlOnDisk}
+use Rattle.tm_control.specs.Calls.{Answered as IsAnswered, BrokeOff, AddedNothing}
+use Rattle.session_lives.specs.declared.called.Called.{Called}
+use Rattle.session_lives.specs.declared.called.Called.TheVariants.{Answered, Frozen, Power, Broke, Memory, Spent}
+
+-- these entries were added, and nothing else
+pub record AddsEntries (old new : ControlState) (entries : List Entry) : Type 0 where
+  pub system : new.system ≡ old.system
+  pub opening : new.opening ≡ old.opening
+  pub history : new.history ≡ old.history ++ entries
+
+-- how a call went by its fault
+abbrev pub called_by : Option ControlFault → Called
+called_by None = Answered
+called_by (Some Disk) = Broke
+called_by (Some NoMemory) = Memory
+called_by (Some (SpentCounter counter)) = Spent
+
+-- how a call went by whether its entry ends the life, and by its fault
+abbrev pub ended_by : Bool → Option ControlFault → Called
+ended_by true fault = Frozen
+ended_by false fault = called_by fault
+
+-- A call was answered by an entry, whose text is to be printed.
+pub record IsTold {D : Type 0} (state : D → DiskState) (call : ControlCall) (old new : ControlOnDisk D) (text : List ℕ) : Type 0 where
+  pub entry : Entry
+  pub asked : call_of entry ≡ call
+  pub answered : IsAnswered state old new entry
+  pub goes_on : ends_life entry ≡ false
+  pub printed : text ≡ entry_text old.control.system (now_of old.control) entry
+
+-- So was a freeze, behind which a crash leaves the shown disk alone.
+pub record IsFrozen {D : Type 0} (state : D → DiskState) (call : ControlCall) (old new : ControlOnDisk D) (text : List ℕ) : Type 0 where
+  pub entry : Entry
+  pub asked : call_of entry ≡ call
+  pub answered : IsAnswered state old new entry
+  pub ends : ends_life entry ≡ true
+  pub printed : text ≡ entry_text old.control.system (now_of old.control) entry
+  pub only : Only (state new.disk).shown (state new.disk)
+
+-- The disk failed in a call.
+pub record IsFailed {D : Type 0} (state : D → DiskState) (call : ControlCall) (old new : ControlOnDisk D) : Type 0 where
+  pub entry : Entry
+  pub asked : call_of entry ≡ call
+  pub fault : is_fault entry ≡ true
+  pub broke : BrokeOff state old new entry
+
+-- The regions turned, and the text for their turns is to be printed.
+pub record HasTurnedAll {D : Type 0} (state : D → DiskState) (most : ℕ) (old new : ControlOnDisk D) (text : List ℕ) : Type 0 where
+  pub turns : List Entry
+  pub adds : AddsEntries old.control new.control turns
+  pub steps : AreSteps old.control.system (now_of old.control) turns
+  pub quieted : IsQuieted most old.control.system (now_of old.control) turns
+  pub printed : text ≡ quieted_text old.control.system (now_of old.control) turns
+  pub up : new.up ≡ true
+  pub no_fault : (state new.disk).faults ≡ (state old.disk).faults
+
+-- The disk failed in a turn.
+pub record FailsTurning {D : Type 0} (state : D → DiskState) (most : ℕ) (old new : ControlOnDisk D) : Type 0 where
+  pub turns : List Entry
+  pub entry : Entry
+  pub history : new.control.history ≡ old.control.history ++ (turns ++ entry ∷ [])
+  pub steps : AreSteps old.control.system (now_of old.control) turns
+  pub begun : IsBrokenOff most old.control.system (now_of old.control) turns
+  pub asked : call_of entry ≡ Turn (region_after old.control.system (length turns))
+  pub can : IsCall old.control.system (call_of entry)
+  pub fault : is_fault entry ≡ true
+  pub down : new.up ≡ false
+  pub failed : FailedSince (state old.disk) (state new.disk)
+
+-- Turns stand that were done, and one more could not be done.
+pub record TurnsStand {D : Type 0} (state : D → DiskState) (most : ℕ) (old new : ControlOnDisk D) : Type 0 where
+  pub turns : List Entry
+  pub adds : AddsEntries old.control new.control turns
+  pub steps : AreSteps old.control.system (now_of old.control) turns
+  pub begun : IsBrokenOff most old.control.system (now_of old.control) turns
+  pub up : new.up ≡ true
+  pub no_fault : (state new.disk).faults ≡ (state old.disk).faults
+
+-- what was asked was done, and this is to be printed for it
+abbrev pub Does : {D : Type 0} → (D → DiskState) → Asked → ControlOnDisk D → ControlOnDisk D → List ℕ → Type 0
+Does state (Bad rule) old new text = AddedNothing state old new × (text ≡ bad_line_text rule)
+Does state (BadCommand rule) old new text = AddedNothing state old new × (text ≡ bad_command_text rule)
+Does state (Stopped terminal number reason) old new text = AddedNothing state old new × (text ≡ stopped_text terminal number reason)
+Does state (Call call) old new text = IsTold state call old new text
+Does state (Quiet most) old new text = HasTurnedAll state most old new text
+Does state (AskedPower pick) old new text = ⊥
+Does state (PowerIn writes pick) old new text = AddedNothing state old new × (text ≡ armed_text (state old.disk).can_arm writes)
+Does state Restart old new text = AddedNothing state old new × (text ≡ up_text)
+Does state ColdStart old new text = AddedNothing state old new × (text ≡ up_text)
+
+-- the disk failed in it
+abbrev pub Fails : {D : Type 0} → (D → DiskState) → Asked → ControlOnDisk D → ControlOnDisk D → Type 0
+Fails state (Call call) old new = IsFailed state call old new
+Fails state (Quiet most) old new = FailsTurning state most old new
+Fails state _ old new = ⊥
+
+-- a freeze was answered
+abbrev pub Freezes : {D : Type 0} → (D → DiskState) → Asked → ControlOnDisk D → ControlOnDisk D → List ℕ → Type 0
+Freezes state (Call call) old new text = IsFrozen state call old new text
+Freezes state _ old new text = ⊥
+
+-- power is to fail
+abbrev pub PowersOff : {D : Type 0} → (D → DiskState) → Asked → ℕ → ControlOnDisk D → ControlOnDisk D → List ℕ → Type 0
+PowersOff state (AskedPower pick) picked old new text = (picked ≡ pick) × AddedNothing state old new × (text ≡ power_text)
+PowersOff state _ picked old new text = ⊥
+
+-- it was not done; only turns of a QUIET may stand
+abbrev pub Undoes : {D : Type 0} → (D → DiskState) → Asked → ControlOnDisk D → ControlOnDisk D → Type 0
+Undoes state (Quiet most) old new = AddedNothing state old new ⊎ TurnsStand state most old new
+Undoes state _ old new = AddedNothing state old new
+
+abbrev pub IsAsked : {D : Type 0} → (D → DiskState) → Asked → ControlOnDisk D → ControlOnDisk D → List ℕ → Called → Type 0
+IsAsked state asked old new text Answered = Does state asked old new text
+IsAsked state asked old new text Frozen = Freezes state asked old new text
+IsAsked state asked old new text (Power pick) = PowersOff state asked pick old new text
+IsAsked state asked old new text Broke = Fails state asked old new
+IsAsked state asked old new text Memory = Undoes state asked old new
+IsAsked state asked old new text Spent = Undoes state asked old new

@@ -1,0 +1,4 @@
+pub mod Asking
+pub mod Turning
+pub mod Running
+pub mod Openings

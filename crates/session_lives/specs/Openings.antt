@@ -1,0 +1,232 @@
+-- Openings, the ends of lives, and what serving a block comes to.
+use Rattle.std.specs.Prelude.{◌≡◌, ℕ, ◌-◌, ◌++◌, Bool, true, false, if◌then◌else◌, List, [], ◌∷◌, Option, Some, None}
+use Rattle.std.specs.Option.{is_some}
+use Rattle.model_disk.specs.Disk.{DiskState, Stays, NoMore, Only, IsCut}
+use Rattle.model_system.specs.System.{System}
+use Rattle.model_session.specs.declared.asked.Asked.{Asked}
+use Rattle.model_session.specs.declared.asked.Asked.TheVariants.{Restart, ColdStart}
+use Rattle.model_session.specs.declared.asked.ImageRefused.{ImageRefused}
+use Rattle.model_session.specs.declared.asked.ImageRefused.TheVariants.{Rule, Text, Size}
+use Rattle.model_session.specs.Text.{broken_text, opened_text, image_text}
+use Rattle.model_session.specs.Standing.{Setting, SessionState, HasNoLife, or_cold}
+use Rattle.model_session.specs.Session.{IsServed, IsBegunBy}
+use Rattle.control_life.specs.declared.how.How.{How}
+use Rattle.control_life.specs.declared.how.How.TheVariants.{Found, Cold}
+use Rattle.opening_answers.specs.declared.refusals.OpenError.{OpenError}
+use Rattle.opening_answers.specs.declared.refusals.OpenError.TheVariants.{BadImage, WrongDefinition, TooSmall, Spent as SpentCounter, Disk, Memory as NoMemory}
+use Rattle.tm_control.specs.OnDisk.{ControlOnDisk, Lasts}
+use Rattle.opening_answers.specs.Opening.{WroteNothing}
+use Rattle.tm_control.specs.Closed.{Opens, Closes}
+use Rattle.control_life.specs.Opened.{Refuses}
+use Rattle.control_life.specs.Opened.{HandsBack}
+use Rattle.control_life.specs.declared.life.Life.{Life}
+use Rattle.session_lives.specs.declared.called.Called.{Called}
+use Rattle.session_lives.specs.declared.called.Called.TheVariants.{Answered, Frozen, Power, Broke as CallBroke, Memory as CallMemory, Spent as CallSpent}
+use Rattle.session_lives.specs.declared.called.Served.{Served}
+use Rattle.session_lives.specs.declared.called.Served.TheVariants.{Printed, Broke, Undone as NotServed}
+use Rattle.session_lives.specs.declared.called.Undone.{Undone}
+use Rattle.session_lives.specs.declared.called.Undone.TheVariants.{Memory, Spent, Image}
+use Rattle.session_lives.specs.declared.called.Opening.{Opening}
+use Rattle.session_lives.specs.declared.called.Opening.TheVariants.{Opened, Broke as OpeningBroke, Refused, Memory as OpeningMemory, Spent as OpeningSpent}
+use Rattle.session_lives.specs.declared.place.Idle.{Idle}
+use Rattle.session_lives.specs.declared.place.Place.{Place}
+use Rattle.session_lives.specs.declared.place.Place.TheVariants.{Up, Down}
+use Rattle.session_lives.specs.declared.place.Kept.{Kept}
+use Rattle.session_lives.specs.declared.place.Session.{Session}
+use Rattle.session_lives.specs.Running.{IsDownReady}
+
+-- ---- the end of a life
+
+-- What a disk that is laid down keeps: a crash leaves nothing more.
+pub record IsLaidDown (old new : DiskState) : Type 0 where
+  pub stays : Stays old new
+  pub no_more : NoMore old new
+  pub faults : new.faults ≡ old.faults
+
+-- A life ended, and the disk was cut, but behind a freeze. Where the disk had failed that is a stop.
+pub record GoesDown {D : Type 0} (state : D → DiskState) (control : ControlOnDisk D) (old new : Kept) (stopped : Bool) (idle : Idle D) : Type 0 where
+  pub disk : D
+  pub life : Life
+  pub closes : Closes control disk life idle.system idle.text control.began
+  pub lasts : Lasts state control
+  pub last : idle.last ≡ Some life
+  pub emptied : idle.emptied ≡ false
+  pub stopped_is : idle.stopped ≡ stopped
+  pub laid : IsLaidDown (state disk) (state idle.disk)
+  pub lives : new.lives ≡ old.lives
+  pub stops : new.stops.items ≡ old.stops.items ++ (if stopped then (control.began, (state disk).faults) ∷ [] else [])
+
+-- ---- an opening
+
+abbrev pub how_of : Bool → How
+how_of true = Cold
+how_of false = Found
+
+-- the last life as it is kept once another opens, with so many steps
+abbrev pub kept_by : Bool → Life → ℕ → Life
+kept_by true life steps = life
+kept_by false life steps = record life { kept = steps - life.opening.steps }
+
+abbrev pub with_last : List Life → Option Life → Bool → ℕ → List Life
+with_last lives None cold steps = lives
+with_last lives (Some life) cold steps = lives ++ kept_by cold life steps ∷ []
+
+-- A life opened, and the last one is kept.
+pub record HasOpened {D : Type 0} (state : D → DiskState) (idle : Idle D) (old : Kept) (cold : Bool) (session : Session D) : Type 0 where
+  pub control : ControlOnDisk D
+  pub place : session.place ≡ Up control
+  pub opens : Opens state (how_of cold) idle.system idle.text idle.disk control
+  pub lasts : Lasts state control
+  pub lives : session.kept.lives.items ≡ with_last old.lives.items idle.last cold control.control.opening.steps
+  pub stops : session.kept.stops.items ≡ old.stops.items
+
+-- The system is down as it was, and nothing was written.
+pub record StaysIdle {D : Type 0} (state : D → DiskState) (idle : Idle D) (old : Kept) (session : Session D) : Type 0 where
+  pub after : Idle D
+  pub place : session.place ≡ Down after
+  pub system_is : after.system ≡ idle.system
+  pub text_is : after.text ≡ idle.text
+  pub last : after.last ≡ idle.last
+  pub emptied : after.emptied ≡ idle.emptied
+  pub stopped : after.stopped ≡ idle.stopped
+  pub wrote : WroteNothing (state idle.disk) (state after.disk)
+  pub lives : session.kept.lives.items ≡ old.lives.items
+  pub stops : session.kept.stops.items ≡ old.stops.items
+
+-- The disk failed in the opening, which is a stop; it was cut.
+pub record HasFailed {D : Type 0} (state : D → DiskState) (idle : Idle D) (old : Kept) (cold : Bool) (session : Session D) : Type 0 where
+  pub after : Idle D
+  pub place : session.place ≡ Down after
+  pub disk : D
+  pub back : HandsBack state (how_of cold) idle.system idle.text idle.disk Disk disk after.system after.text
+  pub cut : IsCut (state disk) (state after.disk)
+  pub last : after.last ≡ idle.last
+  pub emptied : after.emptied ≡ or_cold cold idle.emptied
+  pub stopped : after.stopped ≡ true
+  pub lives : session.kept.lives.items ≡ old.lives.items
+  pub stops : session.kept.stops.items ≡ old.stops.items ++ ((state idle.disk).faults, (state disk).faults) ∷ []
+
+abbrev pub error_of : ImageRefused → OpenError
+error_of (Rule rule sector) = BadImage rule sector
+error_of (Text place) = WrongDefinition place
+error_of (Size needed has) = TooSmall needed has
+
+-- how an opening went by its refusal
+abbrev pub opening_by : OpenError → Opening
+opening_by Disk = OpeningBroke
+opening_by (BadImage rule sector) = Refused (Rule rule sector)
+opening_by (WrongDefinition place) = Refused (Text place)
+opening_by (TooSmall needed has) = Refused (Size needed has)
+opening_by (SpentCounter counter) = OpeningSpent
+opening_by NoMemory = OpeningMemory
+
+abbrev pub is_disk : OpenError → Bool
+is_disk Disk = true
+is_disk (BadImage rule sector) = false
+is_disk (WrongDefinition place) = false
+is_disk (TooSmall needed has) = false
+is_disk (SpentCounter counter) = false
+is_disk NoMemory = false
+
+-- The disk failed in an opening that began with so many faults, and it was cut.
+pub record IsCutDown {D : Type 0} (state : D → DiskState) (disk : D) (system : System) (text : List ℕ) (last : Option Life) (emptied cold : Bool) (began : ℕ) (old : Kept) (session : Session D) : Type 0 where
+  pub after : Idle D
+  pub place : session.place ≡ Down after
+  pub system_is : after.system ≡ system
+  pub text_is : after.text ≡ text
+  pub last_is : after.last ≡ last
+  pub emptied_is : after.emptied ≡ or_cold cold emptied
+  pub stopped_is : after.stopped ≡ true
+  pub cut : IsCut (state disk) (state after.disk)
+  pub lives : session.kept.lives.items ≡ old.lives.items
+  pub stops : session.kept.stops.items ≡ old.stops.items ++ (began, (state disk).faults) ∷ []
+
+-- The system is down with all that was handed back.
+pub record IsBack {D : Type 0} (disk : D) (system : System) (text : List ℕ) (last : Option Life) (emptied stopped : Bool) (old : Kept) (session : Session D) : Type 0 where
+  pub after : Idle D
+  pub place : session.place ≡ Down after
+  pub disk_is : after.disk ≡ disk
+  pub system_is : after.system ≡ system
+  pub text_is : after.text ≡ text
+  pub last_is : after.last ≡ last
+  pub emptied_is : after.emptied ≡ emptied
+  pub stopped_is : after.stopped ≡ stopped
+  pub kept_is : session.kept ≡ old
+
+abbrev pub IsRefusedSo : {D : Type 0} → (D → DiskState) → D → System → List ℕ → Option Life → Bool → Bool → Bool → ℕ → Kept → Opening → Session D → Type 0
+IsRefusedSo state disk system text last emptied stopped cold began old OpeningBroke session = IsCutDown state disk system text last emptied cold began old session
+IsRefusedSo state disk system text last emptied stopped cold began old (Refused refusal) session = IsBack disk system text last emptied stopped old session
+IsRefusedSo state disk system text last emptied stopped cold began old OpeningMemory session = IsBack disk system text last emptied stopped old session
+IsRefusedSo state disk system text last emptied stopped cold began old OpeningSpent session = IsBack disk system text last emptied stopped old session
+IsRefusedSo state disk system text last emptied stopped cold began old Opened session = ⊥
+
+-- how an opening went
+abbrev pub HasGone : {D : Type 0} → (D → DiskState) → Idle D → Kept → Bool → Session D → Opening → Type 0
+HasGone state idle old cold session Opened = HasOpened state idle old cold session
+HasGone state idle old cold session OpeningBroke = HasFailed state idle old cold session
+HasGone state idle old cold session (Refused refusal) =
+    StaysIdle state idle old session × Refuses (how_of cold) idle.system idle.text (state idle.disk) (error_of refusal)
+HasGone state idle old cold session OpeningMemory = StaysIdle state idle old session
+HasGone state idle old cold session OpeningSpent = StaysIdle state idle old session
+
+-- how a call was settled: the life goes on, or it has ended
+pub record GoesOn {D : Type 0} (control : ControlOnDisk D) (old : Kept) (session : Session D) : Type 0 where
+  pub place : session.place ≡ Up control
+  pub kept : session.kept ≡ old
+
+pub record HasEndedLife {D : Type 0} (state : D → DiskState) (control : ControlOnDisk D) (old : Kept) (stopped : Bool) (session : Session D) : Type 0 where
+  pub idle : Idle D
+  pub place : session.place ≡ Down idle
+  pub down : GoesDown state control old session.kept stopped idle
+  pub ready : IsDownReady state idle session.kept
+
+-- behind a freeze a crash leaves the shown disk alone
+abbrev pub IsAloneBy : {D : Type 0} → (D → DiskState) → ControlOnDisk D → Called → Type 0
+IsAloneBy state control Frozen = Only (state control.disk).shown (state control.disk)
+IsAloneBy state control _ = Unit {0}
+
+abbrev pub IsSettled : {D : Type 0} → (D → DiskState) → ControlOnDisk D → Kept → Called → Session D → Served → Type 0
+IsSettled state control old Answered session served = GoesOn control old session × (served ≡ Printed)
+IsSettled state control old Frozen session served = HasEndedLife state control old false session × (served ≡ Printed)
+IsSettled state control old (Power pick) session served = HasEndedLife state control old false session × (served ≡ Printed)
+IsSettled state control old CallBroke session served = HasEndedLife state control old true session × (served ≡ Broke)
+IsSettled state control old CallMemory session served = GoesOn control old session × (served ≡ NotServed Memory)
+IsSettled state control old CallSpent session served = GoesOn control old session × (served ≡ NotServed Spent)
+
+-- ---- a block
+
+-- What a block comes to: it was served, with the text that was printed, or that of a stop; or it was not, and only turns of a
+-- QUIET may stand of it. A disk that can't be opened ends a session in which no life has begun.
+abbrev pub UndoneBy : Undone → SessionState → Type 0
+UndoneBy (Image refusal) old = HasNoLife old.standing
+UndoneBy Memory old = Unit {0}
+UndoneBy Spent old = Unit {0}
+
+abbrev pub IsServedSo : Asked → List ℕ → Served → Setting → SessionState → SessionState → Type 0
+IsServedSo asked text Printed setting old new = IsServed asked setting old new text
+IsServedSo asked text Broke setting old new = IsServed asked setting old new broken_text
+IsServedSo asked text (NotServed undone) setting old new = IsBegunBy asked setting.system old old.standing new × UndoneBy undone old
+
+-- a block that asks for a restart, and for a cold start or not
+abbrev pub restart_of : Asked → Option Bool
+restart_of Restart = Some false
+restart_of ColdStart = Some true
+restart_of _ = None
+
+-- what is printed for an opening, and how its block is served; of a session in which a life has begun, or none
+abbrev pub IsRefusalTold : Bool → ImageRefused → List ℕ → Served → Type 0
+IsRefusalTold true refusal text served = (served ≡ Printed) × (text ≡ image_text refusal)
+IsRefusalTold false refusal text served = served ≡ NotServed (Image refusal)
+
+abbrev pub IsToldSo : Bool → Bool → Opening → List ℕ → Served → Type 0
+IsToldSo cold begun Opened text served = (served ≡ Printed) × (text ≡ opened_text cold)
+IsToldSo cold begun OpeningBroke text served = served ≡ Broke
+IsToldSo cold begun (Refused refusal) text served = IsRefusalTold begun refusal text served
+IsToldSo cold begun OpeningMemory text served = served ≡ NotServed Memory
+IsToldSo cold begun OpeningSpent text served = served ≡ NotServed Spent
+
+-- a restart was served so
+pub record IsRestartedSo {D : Type 0} (state : D → DiskState) (idle : Idle D) (old : Kept) (cold : Bool) (session : Session D) (text : List ℕ) (served : Served) : Type 0 where
+  pub opening : Opening
+  pub gone : HasGone state idle old cold session opening
+  pub told : IsToldSo cold (is_some idle.last) opening text served

@@ -1,0 +1,155 @@
+-- A session as it runs: where it stands, what it keeps beside, and what holds of these.
+use Rattle.std.specs.Prelude.{◌≡◌, ◌⊎◌, ℕ, ◌+◌, ◌<◌, ◌≤◌, true, List, length, map, Option, Some, None, Ok, vec_len, vec_capacity}
+use Rattle.std.specs.Option.{option_map}
+use Rattle.model_disk.specs.Disk.{Image, DiskState, Stays, Only}
+use Rattle.model_system.specs.System.{System}
+use Rattle.model_machine.specs.Machine.{LastingState}
+use Rattle.model_image.specs.Recovered.{Recovers}
+use Rattle.model_image.specs.Alike.{RecoversAlike}
+use Rattle.model_session.specs.Lives.{LifeState, LastLife, AreLegal}
+use Rattle.model_session.specs.Standing.{Setting, Outage, Standing, SessionState, LastAnswered, MayHold, HasNoLife, AreStops}
+use Rattle.model_session.specs.Standing.Standing.{Up as StandsUp, Down as StandsDown}
+use Rattle.tm_control.specs.OnDisk.{ControlOnDisk}
+use Rattle.control_life.specs.declared.life.Life.{Life}
+use Rattle.session_lives.specs.declared.place.Idle.{Idle}
+use Rattle.session_lives.specs.declared.place.Place.{Place}
+use Rattle.session_lives.specs.declared.place.Place.TheVariants.{Up, Down}
+use Rattle.session_lives.specs.declared.place.Kept.{Kept}
+use Rattle.session_lives.specs.declared.place.Session.{Session}
+
+-- ---- as a state
+
+-- a life as it is kept, and as the last one
+abbrev pub life_of : Life → LifeState
+life_of life = record { opening = life.opening; history = life.history; kept = life.kept }
+
+abbrev pub last_of : Life → LastLife
+last_of life = record { opening = life.opening; history = life.history }
+
+abbrev pub last_up : {D : Type 0} → ControlOnDisk D → LastLife
+last_up c = record { opening = c.control.opening; history = c.control.history }
+
+abbrev pub outage_of : {D : Type 0} → Idle D → Outage
+outage_of idle = record { last = option_map last_of idle.last; emptied = idle.emptied; stopped = idle.stopped }
+
+abbrev pub standing_of : {D : Type 0} → Place D → Standing
+standing_of (Up control) = StandsUp (last_up control)
+standing_of (Down idle) = StandsDown (outage_of idle)
+
+abbrev pub session_at : {D : Type 0} → Place D → Kept → SessionState
+session_at place kept = record { lives = map life_of kept.lives.items; stops = kept.stops.items; standing = standing_of place }
+
+abbrev pub session_of : {D : Type 0} → Session D → SessionState
+session_of session = session_at session.place session.kept
+
+abbrev pub session_up : {D : Type 0} → ControlOnDisk D → Kept → Session D
+session_up control kept = record { place = Up control; kept = kept }
+
+abbrev pub session_down : {D : Type 0} → Idle D → Kept → Session D
+session_down idle kept = record { place = Down idle; kept = kept }
+
+abbrev pub system_of : {D : Type 0} → Place D → System
+system_of (Up control) = control.control.system
+system_of (Down idle) = idle.system
+
+-- the steps of the last life that were answered, as they are kept
+abbrev pub kept_of : Option Life → ℕ
+kept_of None = 0
+kept_of (Some life) = life.kept
+
+-- ---- what the disk holds
+
+-- An image that recovers as this one does recovers to the state.
+pub record IsFoundAs (system : System) (image : Image) (state : LastingState) : Type 0 where
+  pub found : Image
+  pub alike : RecoversAlike system image found
+  pub recovers : Recovers system found (Ok state)
+
+-- the setting of a session over the disk that was handed in
+abbrev pub setting_of : {D : Type 0} → (D → DiskState) → System → D → Setting
+setting_of state system handed = record {
+  system = system;
+  can_arm = (state handed).can_arm;
+  tells = (state handed).tells;
+  begins = λ opening. (image : Image) → (state handed).may_leave image → IsFoundAs system image opening;
+}
+
+-- The image recovers to a state that the session's standing allows.
+pub record Recalls (setting : Setting) (standing : Standing) (image : Image) : Type 0 where
+  pub state : LastingState
+  pub recovers : Recovers setting.system image (Ok state)
+  pub may : MayHold setting standing state
+
+-- No life has begun, and the image recovers as one that was handed in.
+pub record IsUnopened {D : Type 0} (state : D → DiskState) (system : System) (handed : D) (standing : Standing) (image : Image) : Type 0 where
+  pub no_life : HasNoLife standing
+  pub before : Image
+  pub left : (state handed).may_leave before
+  pub alike : RecoversAlike system before image
+
+abbrev pub Holds : {D : Type 0} → (D → DiskState) → System → D → Standing → Image → Type 0
+Holds state system handed standing image = Recalls (setting_of state system handed) standing image ⊎ IsUnopened state system handed standing image
+
+-- ---- what is so between two blocks
+
+-- The system is up: there is room for its life, and for its stop.
+pub record IsUpReady {D : Type 0} (control : ControlOnDisk D) (kept : Kept) : Type 0 where
+  pub up : control.up ≡ true
+  pub text : length control.text ≤ 262144
+  pub life_room : vec_len kept.lives < vec_capacity kept.lives
+  pub stop_room : vec_len kept.stops < vec_capacity kept.stops
+
+abbrev pub HasRoomFor : Option Life → Kept → Type 0
+HasRoomFor None kept = Unit {0}
+HasRoomFor (Some life) kept = vec_len kept.lives < vec_capacity kept.lives
+
+-- The system is down: the disk is cut, and there is room for the last life.
+pub record IsDownReady {D : Type 0} (state : D → DiskState) (idle : Idle D) (kept : Kept) : Type 0 where
+  pub text : length idle.text ≤ 262144
+  pub only : Only (state idle.disk).shown (state idle.disk)
+  pub life_room : HasRoomFor idle.last kept
+
+abbrev pub IsReadyAt : {D : Type 0} → (D → DiskState) → Place D → Kept → Type 0
+IsReadyAt state (Up control) kept = IsUpReady control kept
+IsReadyAt state (Down idle) kept = IsDownReady state idle kept
+
+abbrev pub IsReady : {D : Type 0} → (D → DiskState) → Session D → Type 0
+IsReady state session = IsReadyAt state session.place session.kept
+
+-- The system is up. The stops lie behind one another, and before its life.
+pub record IsUpSound {D : Type 0} (state : D → DiskState) (system : System) (handed : D) (control : ControlOnDisk D) (kept : Kept) : Type 0 where
+  pub handed_alone : Only (state handed).shown (state handed)
+  pub system_is : control.control.system ≡ system
+  pub stays : Stays (state handed) (state control.disk)
+  pub stops : AreStops (state handed).faults kept.stops.items control.began
+  pub began : control.began ≤ (state control.disk).faults
+  pub legal : AreLegal system (map life_of kept.lives.items)
+
+-- The system is down, and the disk holds what the outage allows.
+pub record IsDownSound {D : Type 0} (state : D → DiskState) (system : System) (handed : D) (idle : Idle D) (kept : Kept) : Type 0 where
+  pub handed_alone : Only (state handed).shown (state handed)
+  pub system_is : idle.system ≡ system
+  pub stays : Stays (state handed) (state idle.disk)
+  pub stops : AreStops (state handed).faults kept.stops.items (state idle.disk).faults
+  pub legal : AreLegal system (map life_of kept.lives.items)
+  pub answered : LastAnswered system (option_map last_of idle.last) (kept_of idle.last)
+  pub images : (image : Image) → (state idle.disk).may_leave image → Holds state system handed (StandsDown (outage_of idle)) image
+
+abbrev pub IsSoundAt : {D : Type 0} → (D → DiskState) → System → D → Place D → Kept → Type 0
+IsSoundAt state system handed (Up control) kept = IsUpSound state system handed control kept
+IsSoundAt state system handed (Down idle) kept = IsDownSound state system handed idle kept
+
+abbrev pub IsSound : {D : Type 0} → (D → DiskState) → System → D → Session D → Type 0
+IsSound state system handed session = IsSoundAt state system handed session.place session.kept
+
+-- a relation of two states of a session, over its setting
+abbrev pub Course : Type 1
+Course = Setting → SessionState → SessionState → Type 0
+
+-- Whatever disk was handed in: it leads on by this relation, and what is so between two blocks is so again.
+pub record LeadsBy {D : Type 0} (state : D → DiskState) (by : Course) (system : System) (handed : D) (old new : Session D) : Type 0 where
+  pub goes : by (setting_of state system handed) (session_of old) (session_of new)
+  pub sound : IsSound state system handed new
+
+abbrev pub Leads : {D : Type 0} → (D → DiskState) → Course → Session D → Session D → Type 0
+Leads {D} state by old new = (system : System) → (handed : D) → IsSound state system handed old → LeadsBy state by system handed old new

@@ -1,0 +1,303 @@
+-- A call of a control region, by what it leaves of its machine.
+use Rattle.std.proofs.Common.{◌≡◌, ◌≤◌, ◌⊎◌, ◌+◌, ℕ, Bool, true, false, List, [], ◌∷◌, ◌++◌, refl, sym, ◌∙◌, ap, subst, arith}
+use Rattle.std.specs.Prelude.{Option, Some, None, Ok, if◌then◌else◌}
+use Rattle.std.specs.Option.{option_map_or}
+use Rattle.model_disk.specs.Disk.{Image, DiskState, IsDisk}
+use Rattle.model_system.specs.System.{System}
+use Rattle.model_machine.specs.declared.entry.Entry.{Entry}
+use Rattle.model_machine.specs.declared.entry.ControlFault.{ControlFault}
+use Rattle.model_machine.specs.declared.entry.ControlFault.TheVariants.{Memory, Disk, Spent}
+use Rattle.model_machine.specs.Machine.{LastingState, Moment, start_of}
+use Rattle.model_machine.specs.Lasting.{LastingStep, applied}
+use Rattle.model_machine.specs.Steps.{lasting_step}
+use Rattle.model_machine.specs.History.{after_entry, call_of, moment_after, AscendAbove, IsCall, May, AreSteps}
+use Rattle.model_machine.proofs.Histories.{moment_after-append, AreSteps-append}
+use Rattle.tm_machine.specs.Answers.{IsAnswered}
+use Rattle.model_image.specs.Recovered.{Recovers}
+use Rattle.disk_law.specs.Kept.{RecoversEither}
+use Rattle.checkpointing.specs.Texts.{HasText}
+use Rattle.journal.specs.State.{JournalState}
+use Rattle.logged_machine.specs.Logged.{LoggedState, LastsNow}
+use Rattle.logged_machine.specs.Goes.{Keeps, WentOn, Failed, StoodStill, GoesBy, CrashesBy}
+use Rattle.control_life.specs.Faults.{fault_in}
+use Rattle.tm_control.specs.OnDisk.{ControlOnDisk, IsUp, IsDown, Lasts, LastsBy, lasting_after}
+use Rattle.tm_control.specs.Calls.{StaysSo, AddsBy, CrashesSo, CrashesAlone, is_noted, noted}
+use Rattle.tm_control.specs.Inside.{IsServed, IsBroken, Holds, HoldsBy, last_checked}
+use Rattle.tm_control.proofs.Numbers.{ascend_more, last_more, Numbers, Next, next_number, fault_ascends}
+
+-- a control region by its parts
+abbrev pub seen : {D : Type 0} → LoggedState D → LastingState → List Entry → ℕ → ℕ → ControlOnDisk D
+seen machine opening history room began = record {
+  control = record { system = machine.machine.system; opening = opening; history = history; room = room };
+  text = machine.text;
+  up = machine.served;
+  began = began;
+  journal = machine.journal;
+  next_unit = machine.next_unit;
+  disk = machine.disk;
+}
+
+-- ---- lasting steps are counted on
+
+rises : (lasting : LastingState) (step : Option LastingStep) → lasting.steps ≤ (option_map_or (λ s. applied s lasting) step lasting).steps
+rises lasting None = omega arith
+rises lasting (Some step) = omega arith
+
+steps_rise : (system : System) (moment : Moment) (entry : Entry) → moment.lasting.steps ≤ (after_entry system moment entry).lasting.steps
+steps_rise system moment entry = rises moment.lasting (lasting_step system moment (call_of entry))
+
+-- what lasts with an entry more
+pub lasting_with : (system : System) (opening : LastingState) (before : List Entry) (entry : Entry) (moment : Moment)
+    → moment_after system (start_of system opening) before ≡ moment
+    → lasting_after system opening (before ++ entry ∷ []) ≡ (after_entry system moment entry).lasting
+lasting_with system opening before entry moment here =
+    ap (λ (m : Moment). m.lasting) (moment_after-append system (start_of system opening) before entry)
+    ∙ ap (λ (m : Moment). (after_entry system m entry).lasting) here
+
+-- ---- the machine went on
+
+pub served_next : {D : Type 0} (old new : LoggedState D) (opening : LastingState) (before after : List Entry) (entry : Entry) (steps steps' : ℕ)
+    → IsServed old opening before steps → after ≡ before ++ entry ∷ [] → IsAnswered old.machine new.machine entry → steps' ≡ new.machine.moment.lasting.steps
+    → Next entry (last_checked 0 before) new.journal.restart.checkpoint
+    → IsServed new opening after steps'
+served_next old new opening before after entry steps steps' h longer answered count number = record {
+  moment =
+      ap (λ s. moment_after s (start_of s opening) after) answered.system ∙ ap (moment_after old.machine.system (start_of old.machine.system opening)) longer
+      ∙ moment_after-append old.machine.system (start_of old.machine.system opening) before entry ∙ ap (λ m. after_entry old.machine.system m entry) h.moment ∙ sym answered.after;
+  legal =
+      let here : AreSteps old.machine.system (start_of old.machine.system opening) (before ++ entry ∷ []) =
+      AreSteps-append old.machine.system (start_of old.machine.system opening) before entry h.legal (subst (λ m. May old.machine.system m entry) (sym h.moment) answered.may) in
+      let longer-legal : AreSteps old.machine.system (start_of old.machine.system opening) after = subst (AreSteps old.machine.system (start_of old.machine.system opening)) (sym longer) here in
+      subst (λ s. AreSteps s (start_of s opening) after) (sym answered.system) longer-legal;
+  count = count;
+  more =
+      let rise : old.machine.moment.lasting.steps ≤ new.machine.moment.lasting.steps =
+      subst (λ (m : Moment). old.machine.moment.lasting.steps ≤ m.lasting.steps) (sym answered.after) (steps_rise old.machine.system old.machine.moment entry) in
+      omega (arith, h.more, h.count, count, rise);
+  ascend = subst (AscendAbove 0) (sym longer) (ascend_more 0 before (entry ∷ []) h.ascend number.ascend);
+  reached =
+      subst (λ (es : List Entry). last_checked 0 es ≤ new.journal.restart.checkpoint) (sym longer)
+      (subst (λ (n : ℕ). n ≤ new.journal.restart.checkpoint) (sym (last_more 0 before (entry ∷ []))) number.reached);
+}
+
+-- ---- a call
+
+-- what a call of the machine left
+pub record Went {D : Type 0} (state : D → DiskState) (old new : LoggedState D) (opening : LastingState) (before : List Entry) (steps : ℕ) (entry : Entry) : Type 0 where
+  pub served : old.served ≡ true
+  pub holds : IsServed old opening before steps
+  pub call : IsCall old.machine.system (call_of entry)
+  pub keeps : Keeps state old new
+  pub lasts : LastsNow state new
+  pub disk : IsDisk (state new.disk)
+  pub numbers : new.served ≡ true → Numbers entry old.journal.restart.checkpoint new.journal.restart.checkpoint
+
+-- what it is for the control region
+pub record Is {D : Type 0} (state : D → DiskState) (fault : Option ControlFault) (old new : ControlOnDisk D) (entry : Entry) : Type 0 where
+  pub adds : AddsBy state fault old new entry
+  pub crash : CrashesSo state fault old new entry
+  pub lasts : Lasts state new
+  pub stays : StaysSo state old new
+
+module _ {D : Type 0} (state : D → DiskState) (old new : LoggedState D) (opening : LastingState) (before after : List Entry) (entry : Entry) (room room' began steps steps' : ℕ)
+    (went : Went state old new opening before steps entry)
+    (count : steps' ≡ (if new.served then new.machine.moment.lasting.steps else steps)) where
+  abbrev pub was : ControlOnDisk D
+  was = seen old opening before room began
+
+  abbrev pub is : ControlOnDisk D
+  is = seen new opening after room' began
+
+  stay : StaysSo state was is
+  stay = record { system = went.keeps.system; opening = refl; text = went.keeps.text; began = refl; disk = went.keeps.disk }
+
+  -- while it is served what lasts is on each image
+  lasts_up : new.served ≡ true → IsServed new opening after steps' → Lasts state is
+  lasts_up served here =
+      subst (λ (b : Bool). LastsBy b is.control new.text (state new.disk)) (sym served)
+      (record {
+        legal = here.legal;
+        images = λ image left. subst (λ (m : Moment). Recovers new.machine.system image (Ok m.lasting)) (sym here.moment) ((went.lasts served).recover image left);
+        texts = (went.lasts served).have_text;
+      })
+
+  number : new.served ≡ true → Next entry (last_checked 0 before) new.journal.restart.checkpoint
+  number served = next_number entry (last_checked 0 before) old.journal.restart.checkpoint new.journal.restart.checkpoint went.holds.reached (went.keeps.numbers served) (went.numbers served)
+
+  counted : new.served ≡ true → steps' ≡ new.machine.moment.lasting.steps
+  counted served = count ∙ ap (λ (b : Bool). if b then new.machine.moment.lasting.steps else steps) served
+
+  kept_up : new.served ≡ true → IsServed new opening after steps' → Holds state new opening after steps'
+  kept_up served here = subst (λ (b : Bool). HoldsBy b state new opening after steps') (sym served) here
+
+  -- one state or another, by what lasts before and with the entry
+  either : (image : Image) → RecoversEither old.machine.system old.machine.moment.lasting (after_entry old.machine.system old.machine.moment entry).lasting image
+      → RecoversEither old.machine.system (moment_after old.machine.system (start_of old.machine.system opening) before).lasting (lasting_after old.machine.system opening (before ++ entry ∷ [])) image
+  either image both =
+      subst (λ (m : Moment). RecoversEither old.machine.system m.lasting (lasting_after old.machine.system opening (before ++ entry ∷ [])) image) (sym went.holds.moment)
+      (subst (λ (s : LastingState). RecoversEither old.machine.system old.machine.moment.lasting s image)
+      (sym (lasting_with old.machine.system opening before entry old.machine.moment went.holds.moment)) both)
+
+  alone : (image : Image) → Recovers old.machine.system image (Ok old.machine.moment.lasting)
+      → Recovers old.machine.system image (Ok (moment_after old.machine.system (start_of old.machine.system opening) before).lasting)
+  alone image one = subst (λ (m : Moment). Recovers old.machine.system image (Ok m.lasting)) (sym went.holds.moment) one
+
+  -- the disk failed
+  broken : fault_in entry ≡ Some Disk → Failed state old new → CrashesBy state (Some Disk) old new entry → after ≡ before ++ entry ∷ [] → IsDown is.control new.text (state new.disk)
+  broken fault failed crash longer = record {
+    before = before;
+    entry = entry;
+    all = longer;
+    legal = subst (λ (s : System). AreSteps s (start_of s opening) before) (sym went.keeps.system) went.holds.legal;
+    call = subst (λ (s : System). IsCall s (call_of entry)) (sym went.keeps.system) went.call;
+    fault = fault;
+    images = λ image left.
+        subst (λ (h : List Entry). RecoversEither new.machine.system (lasting_after new.machine.system opening before) (lasting_after new.machine.system opening h) image) (sym longer)
+        (subst (λ (s : System). RecoversEither s (lasting_after s opening before) (lasting_after s opening (before ++ entry ∷ [])) image) (sym went.keeps.system)
+        (either image (crash image (went.disk.now_counts (state old.disk).clock image went.keeps.later left))));
+    texts = λ image left. subst (λ (t : List ℕ). HasText new.machine.system t image) (sym went.keeps.text) (subst (λ (s : System). HasText s old.text image) (sym went.keeps.system) (failed.have_text image left));
+  }
+
+  by : (fault : Option ControlFault) → fault_in entry ≡ fault → GoesBy state fault old new entry → CrashesBy state fault old new entry → after ≡ noted (is_noted fault) before entry
+      → Is state fault was is entry × Holds state new opening after steps'
+  unfolding broken
+  by None f goes crash longer =
+      let here : IsServed new opening after steps' = served_next old new opening before after entry steps steps' went.holds longer goes.answered (counted goes.served) (number goes.served) in (
+        record {
+          adds = record {
+            adds = record { system = went.keeps.system; opening = refl; history = longer; may = subst (λ m. May old.machine.system m entry) (sym went.holds.moment) goes.answered.may };
+            up = goes.served;
+            no_fault = goes.no_fault;
+          };
+          crash = λ image left. either image (crash image left);
+          lasts = lasts_up goes.served here;
+          stays = stay;
+        },
+        kept_up goes.served here,
+      )
+  by (Some Disk) f goes crash longer =
+      let down : IsDown is.control new.text (state new.disk) = broken f goes crash longer in (
+        record {
+          adds = record { history = longer; call = went.call; down = goes.served; failed = goes.failed };
+          crash = λ image left. either image (crash image left);
+          lasts = subst (λ (b : Bool). LastsBy b is.control new.text (state new.disk)) (sym goes.served) down;
+          stays = stay;
+        },
+        subst (λ (b : Bool). HoldsBy b state new opening after steps') (sym goes.served)
+            (record {
+              before = before;
+              entry = entry;
+              all = longer;
+              legal = down.legal;
+              call = down.call;
+              fault = f;
+              images = down.images;
+              texts = down.texts;
+              count =
+                  count ∙ ap (λ (b : Bool). if b then new.machine.moment.lasting.steps else steps) goes.served
+                  ∙ went.holds.count ∙ ap (λ (m : Moment). m.lasting.steps) (sym went.holds.moment) ∙ ap (λ (s : System). (lasting_after s opening before).steps) (sym went.keeps.system);
+              more =
+                  let same : steps' ≡ steps = count ∙ ap (λ (b : Bool). if b then new.machine.moment.lasting.steps else steps) goes.served in
+                  omega (arith, same, went.holds.more);
+              ascend =
+                  subst (AscendAbove 0) (sym longer)
+                  (ascend_more 0 before (entry ∷ []) went.holds.ascend (fault_ascends entry Disk (last_checked 0 before) f));
+            }),
+      )
+  by (Some Memory) f goes crash longer =
+      let stands : moment_after new.machine.system (start_of new.machine.system opening) after ≡ new.machine.moment =
+      ap (λ (s : System). moment_after s (start_of s opening) after) went.keeps.system
+      ∙ ap (moment_after old.machine.system (start_of old.machine.system opening)) longer ∙ went.holds.moment ∙ sym goes.moment in
+      let here : IsServed new opening after steps' = record {
+        moment = stands;
+        legal =
+            subst (λ (s : System). AreSteps s (start_of s opening) after) (sym went.keeps.system)
+            (subst (AreSteps old.machine.system (start_of old.machine.system opening)) (sym longer) went.holds.legal);
+        count = counted goes.served;
+        more =
+            let now : steps' ≡ steps = counted goes.served ∙ ap (λ (m : Moment). m.lasting.steps) goes.moment ∙ sym went.holds.count in
+            omega (arith, now, went.holds.more);
+        ascend = subst (AscendAbove 0) (sym longer) went.holds.ascend;
+        reached =
+            subst (λ (es : List Entry). last_checked 0 es ≤ new.journal.restart.checkpoint) (sym longer)
+            (omega (arith, went.holds.reached, went.keeps.numbers goes.served));
+      } in (
+        record {
+          adds = record {
+            adds = record { system = went.keeps.system; opening = refl; history = longer };
+            up = goes.served;
+            no_fault = goes.no_fault;
+          };
+          crash = λ image left. alone image (crash image left);
+          lasts = lasts_up goes.served here;
+          stays = stay;
+        },
+        kept_up goes.served here,
+      )
+  by (Some (Spent counter)) f goes crash longer = absurd goes
+
+  pub called : GoesBy state (fault_in entry) old new entry → CrashesBy state (fault_in entry) old new entry → after ≡ noted (is_noted (fault_in entry)) before entry
+      → Is state (fault_in entry) was is entry × Holds state new opening after steps'
+  called goes crash longer = by (fault_in entry) refl goes crash longer
+
+-- ---- what always holds
+
+pub lasts_now : {D : Type 0} (state : D → DiskState) (machine : LoggedState D) (opening : LastingState) (history : List Entry) (room began steps : ℕ)
+    → Holds state machine opening history steps → LastsNow state machine → Lasts state (seen machine opening history room began)
+lasts_now {D} state machine opening history room began steps holds lasts = by machine.served refl holds
+  where
+    by : (b : Bool) → machine.served ≡ b → HoldsBy b state machine opening history steps → LastsBy b (seen machine opening history room began).control machine.text (state machine.disk)
+    by true served h = record {
+      legal = h.legal;
+      images = λ image left. subst (λ (m : Moment). Recovers machine.machine.system image (Ok m.lasting)) (sym h.moment) ((lasts served).recover image left);
+      texts = (lasts served).have_text;
+    }
+    by false served h = record {
+      before = h.before;
+      entry = h.entry;
+      all = h.all;
+      legal = h.legal;
+      call = h.call;
+      fault = h.fault;
+      images = h.images;
+      texts = h.texts;
+    }
+
+-- while it is served, by the machine alone
+pub served_holds : {D : Type 0} (state : D → DiskState) (old new : LoggedState D) (opening : LastingState) (history : List Entry) (steps : ℕ)
+    → old.served ≡ true → new.served ≡ true → new.machine.system ≡ old.machine.system → new.machine.moment ≡ old.machine.moment → new.journal ≡ old.journal
+    → Holds state old opening history steps → Holds state new opening history steps
+served_holds state old new opening history steps was is system moment journal holds =
+    subst (λ (b : Bool). HoldsBy b state new opening history steps) (sym is)
+    (let h : IsServed old opening history steps = subst (λ (b : Bool). HoldsBy b state old opening history steps) was holds in
+    record {
+      moment = ap (λ (s : System). moment_after s (start_of s opening) history) system ∙ h.moment ∙ sym moment;
+      legal = subst (λ (s : System). AreSteps s (start_of s opening) history) (sym system) h.legal;
+      count = h.count ∙ ap (λ (m : Moment). m.lasting.steps) (sym moment);
+      more = h.more;
+      ascend = h.ascend;
+      reached = subst (λ (j : JournalState). last_checked 0 history ≤ j.restart.checkpoint) (sym journal) h.reached;
+    })
+
+-- and so it is served
+pub is_served : {D : Type 0} (state : D → DiskState) (machine : LoggedState D) (opening : LastingState) (history : List Entry) (steps : ℕ)
+    → machine.served ≡ true → Holds state machine opening history steps → IsServed machine opening history steps
+is_served state machine opening history steps served holds = subst (λ (b : Bool). HoldsBy b state machine opening history steps) served holds
+
+-- where nothing happened what a crash may leave is as before
+pub still : {D : Type 0} (state : D → DiskState) (machine : LoggedState D) (opening : LastingState) (history : List Entry) (room room' began steps : ℕ)
+    → machine.served ≡ true → Holds state machine opening history steps → LastsNow state machine → IsDisk (state machine.disk)
+    → CrashesAlone state (seen machine opening history room began) (seen machine opening history room' began)
+still state machine opening history room room' began steps served holds lasts disk image left =
+    subst (λ (m : Moment). Recovers machine.machine.system image (Ok m.lasting)) (sym (is_served state machine opening history steps served holds).moment)
+    ((lasts served).recover image (disk.now_alone image left))
+
+-- the machine stands where it stood, and was asked
+pub shown_holds : {D : Type 0} (state : D → DiskState) (machine : LoggedState D) (opening : LastingState) (before after : List Entry) (entry : Entry) (steps : ℕ)
+    → machine.served ≡ true → Holds state machine opening before steps → after ≡ before ++ entry ∷ [] → IsAnswered machine.machine machine.machine entry
+    → Numbers entry machine.journal.restart.checkpoint machine.journal.restart.checkpoint
+    → Holds state machine opening after steps
+shown_holds state machine opening before after entry steps served holds longer answered numbers =
+    let h : IsServed machine opening before steps = is_served state machine opening before steps served holds in
+    subst (λ (b : Bool). HoldsBy b state machine opening after steps) (sym served) (served_next machine machine opening before after entry steps steps h longer answered h.count
+    (next_number entry (last_checked 0 before) machine.journal.restart.checkpoint machine.journal.restart.checkpoint h.reached (omega arith) numbers))

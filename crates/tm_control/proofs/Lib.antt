@@ -1,0 +1,5 @@
+pub mod Numbers
+pub mod Rings
+pub mod Going
+pub mod Handing
+pub mod Closing

@@ -1,0 +1,101 @@
+-- What a call of a control region does.
+use Rattle.std.specs.Prelude.{◌≡◌, ◌++◌, Bool, true, false, List, [], ◌∷◌, Option, Some, None, Ok}
+use Rattle.model_disk.specs.Disk.{Image, DiskState, Stays, FailedSince}
+use Rattle.model_machine.specs.History.{AddsEntry, AddsNothing, IsCall, call_of, now_of}
+use Rattle.model_machine.specs.declared.counts.Counter.{Counter}
+use Rattle.model_machine.specs.declared.entry.Entry.{Entry}
+use Rattle.model_machine.specs.declared.entry.ControlFault.{ControlFault}
+use Rattle.model_machine.specs.declared.entry.ControlFault.TheVariants.{Memory, Disk, Spent}
+use Rattle.model_image.specs.Recovered.{Recovers}
+use Rattle.disk_law.specs.Kept.{RecoversEither}
+use Rattle.tm_control.specs.OnDisk.{ControlOnDisk, lasting_after}
+
+-- what no call changes
+pub record StaysSo {D : Type 0} (state : D → DiskState) (old new : ControlOnDisk D) : Type 0 where
+  pub system : new.control.system ≡ old.control.system
+  pub opening : new.control.opening ≡ old.control.opening
+  pub text : new.text ≡ old.text
+  pub began : new.began ≡ old.began
+  pub disk : Stays (state old.disk) (state new.disk)
+
+-- ---- entries
+
+-- A call was answered: its entry, with the machine's answer at its place, stands at the end.
+pub record Answered {D : Type 0} (state : D → DiskState) (old new : ControlOnDisk D) (entry : Entry) : Type 0 where
+  pub adds : AddsEntry old.control new.control entry
+  pub up : new.up ≡ true
+  pub no_fault : (state new.disk).faults ≡ (state old.disk).faults
+
+-- The disk failed in the call: the entry stands at the end with the fault in place of its answer, and nothing is served
+-- any more.
+pub record BrokeOff {D : Type 0} (state : D → DiskState) (old new : ControlOnDisk D) (entry : Entry) : Type 0 where
+  pub history : new.control.history ≡ old.control.history ++ entry ∷ []
+  pub call : IsCall old.control.system (call_of entry)
+  pub down : new.up ≡ false
+  pub failed : FailedSince (state old.disk) (state new.disk)
+
+-- The call could not be done: there is no entry.
+pub record AddedNothing {D : Type 0} (state : D → DiskState) (old new : ControlOnDisk D) : Type 0 where
+  pub adds : AddsNothing old.control new.control
+  pub up : new.up ≡ true
+  pub no_fault : (state new.disk).faults ≡ (state old.disk).faults
+
+-- A reply was shown: its entry stands at the end, and the disk is as it was.
+pub record Shows {D : Type 0} (state : D → DiskState) (old new : ControlOnDisk D) (entry : Entry) : Type 0 where
+  pub adds : AddsEntry old.control new.control entry
+  pub up : new.up ≡ true
+  pub disk : new.disk ≡ old.disk
+  pub stays : StaysSo state old new
+
+-- What a call adds, by the fault that its entry has in place of the answer.
+abbrev pub AddsBy : {D : Type 0} → (D → DiskState) → Option ControlFault → ControlOnDisk D → ControlOnDisk D → Entry → Type 0
+AddsBy state None old new entry = Answered state old new entry
+AddsBy state (Some Disk) old new entry = BrokeOff state old new entry
+AddsBy state (Some Memory) old new entry = AddedNothing state old new
+AddsBy state (Some (Spent counter)) old new entry = AddedNothing state old new
+
+-- the history gets an entry where the call was answered, and where the disk failed
+abbrev pub is_noted : Option ControlFault → Bool
+is_noted None = true
+is_noted (Some Disk) = true
+is_noted (Some Memory) = false
+is_noted (Some (Spent counter)) = false
+
+abbrev pub noted : Bool → List Entry → Entry → List Entry
+noted true entries entry = entries ++ entry ∷ []
+noted false entries entry = entries
+
+-- ---- crashes
+
+-- Whatever a crash might have left since the call began recovers to what lasted before it.
+abbrev pub CrashesAlone : {D : Type 0} → (D → DiskState) → ControlOnDisk D → ControlOnDisk D → Type 0
+CrashesAlone state old new =
+    (image : Image) → (state new.disk).left_since (state old.disk).clock image → Recovers old.control.system image (Ok (now_of old.control).lasting)
+
+-- So it does, or to that with the call's step.
+abbrev pub CrashesEither : {D : Type 0} → (D → DiskState) → ControlOnDisk D → ControlOnDisk D → Entry → Type 0
+CrashesEither state old new entry =
+    (image : Image) → (state new.disk).left_since (state old.disk).clock image
+    → RecoversEither old.control.system (now_of old.control).lasting (lasting_after old.control.system old.control.opening (old.control.history ++ entry ∷ [])) image
+
+-- Where the call could not be done, its step isn't there.
+abbrev pub CrashesSo : {D : Type 0} → (D → DiskState) → Option ControlFault → ControlOnDisk D → ControlOnDisk D → Entry → Type 0
+CrashesSo state None old new entry = CrashesEither state old new entry
+CrashesSo state (Some Disk) old new entry = CrashesEither state old new entry
+CrashesSo state (Some Memory) old new entry = CrashesAlone state old new
+CrashesSo state (Some (Spent counter)) old new entry = CrashesAlone state old new
+
+-- ---- counters
+
+-- The call says that a counter is spent exactly where one stands at its limit, and names the first. It is looked at before
+-- all else.
+abbrev pub SpentBy : Option Counter → Option ControlFault → Type 0
+SpentBy (Some counter) fault = fault ≡ Some (Spent counter)
+SpentBy None fault = (counter : Counter) → fault ≡ Some (Spent counter) → ⊥
+
+-- Where a counter is spent nothing at all has changed.
+abbrev pub StaysSpent : {D : Type 0} → Option ControlFault → ControlOnDisk D → ControlOnDisk D → Type 0
+StaysSpent (Some (Spent counter)) old new = new ≡ old
+StaysSpent (Some Disk) old new = Unit {0}
+StaysSpent (Some Memory) old new = Unit {0}
+StaysSpent None old new = Unit {0}

@@ -1,0 +1,4 @@
+pub mod OnDisk
+pub mod Calls
+pub mod Closed
+pub mod Inside

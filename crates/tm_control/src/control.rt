@@ -1,0 +1,397 @@
+//! The calls of the control region.
+ghost use Rattle.std.specs.Prelude.{◌≡◌, ◌+◌, ◌-◌, ◌<◌, ◌≤◌, ◌↔◌, length, true, if◌then◌else◌, IfOk, IfErr, OnOk, OnErr, IsTrue};
+ghost use Rattle.std.specs.Borrow.{sem};
+ghost use Rattle.std.specs.Io.BufRead.{Rests};
+ghost use Rattle.model_disk.specs.Disk.{Keeps, Only, armed};
+ghost use Rattle.model_machine.specs.declared.entry.Entry.TheVariants.{Accept, Show, Acked as AckedEntry, Turn as TurnEntry, Commanded, Checked};
+ghost use Rattle.model_machine.specs.Commands.{IsServed, command_answer};
+ghost use Rattle.model_machine.specs.Machine.{output_at, terminal_at, IsRegion};
+ghost use Rattle.model_machine.specs.Steps.{is_quiet, show_answer};
+ghost use Rattle.model_machine.specs.History.{AddsNothing, now_of};
+ghost use Rattle.lasting_state.specs.Showing.{IsShownTo};
+ghost use Rattle.control_life.specs.Faults.{fault_in};
+ghost use Rattle.control_life.specs.Opened.{HandsBack};
+ghost use Rattle.logged_machine.specs.Logged.{LastsNow};
+ghost use Rattle.logged_machine.specs.Taken.{IsTaken};
+ghost use Rattle.tm_control.specs.OnDisk.{Lasts, spent_now};
+ghost use Rattle.tm_control.specs.Calls.{StaysSo, Shows, AddsBy, CrashesSo, SpentBy, StaysSpent};
+ghost use Rattle.tm_control.specs.Closed.{Opens, Closes};
+ghost use Rattle.tm_control.specs.contracts.control.Control.{the_row};
+
+use crate::closed::Closed;
+use crate::noting::{acked_entry, checked_entry, command_entry, input_entry, note, turn_entry};
+use control_life::{History, How, Life};
+use lasting_state::Shown;
+use logged_machine::{LoggedMachine, OpenRefused};
+use model_command::{Answer, Command};
+use model_machine::{
+    AckRefused, Acked, CheckpointRefused, CommandRefused, ControlFault, Entry, InputRefused,
+    Lasting, Taken, Turned,
+};
+use std::alloc::Global;
+use std::marker::Model;
+use system_types::System;
+use tm_disk::Disk;
+use tm_types::{Bytes, Memory, Name, Segments};
+
+/// The control region on its disk. Contracts see its system, what it opened with, its history and the room for further
+/// entries; what its machine has come to follows from these. They see its disk too, whether it is up, and what it keeps of
+/// its log.
+#[derive(Drop)]
+pub struct Control<D: Disk> {
+    alloc: Global,
+    machine: LoggedMachine<D>,
+    opening: Lasting,
+    history: Vec<Entry>,
+    /// How often the disk had failed when it was opened.
+    began: u64,
+    /// How many lasting steps were answered, those before the opening among them.
+    steps: u64,
+}
+
+impl<D: Disk> Model for Control<D> {
+    ghost use Rattle.std.specs.Prelude.{◌-◌};
+    ghost use Rattle.std.specs.Vec.{vec_len, vec_capacity};
+    ghost use Rattle.tm_control.specs.OnDisk.{ControlOnDisk};
+
+    ghost Value = { ControlOnDisk D };
+
+    ghost use Rattle.tm_control.specs.Inside.{Holds};
+
+    ghost view = { λ c. record {
+      control = record { system = c.machine.machine.system; opening = c.opening; history = c.history.items; room = vec_capacity c.history - vec_len c.history };
+      text = c.machine.text;
+      up = c.machine.served;
+      began = c.began;
+      journal = c.machine.journal;
+      next_unit = c.machine.next_unit;
+      disk = c.machine.disk;
+    } };
+
+    ghost invariant = { λ c. Holds D.state c.machine c.opening c.history.items c.steps };
+}
+
+impl<D: Disk> Control<D> {
+    /// Opens a control region of this system, whose definition has this text, on this disk.
+    pub fn open(
+        alloc: Global,
+        disk: D,
+        system: System,
+        text: Bytes,
+        how: How,
+    ) -> Result<Control<D>, OpenRefused<D>>
+        requires text { length text ≤ 262144 }
+        requires only { Only (D.state disk).shown (D.state disk) }
+        ensures opened { IfOk result (Opens D.state how system text disk) }
+        ensures lasts { IfOk result (Lasts D.state) }
+        ensures refused { IfErr result (λ refused. HandsBack D.state how system text disk refused.error refused.disk refused.system refused.text) }
+    {
+        let began = disk.faults();
+        match LoggedMachine::open(alloc, disk, system, text, how) {
+            Ok((machine, opening)) => {
+                let steps = machine.steps();
+                Ok(Control {
+                    alloc,
+                    machine,
+                    opening,
+                    history: Vec::new(alloc),
+                    began,
+                    steps,
+                })
+            }
+            Err(refused) => Err(refused),
+        }
+    }
+
+    /// Whether calls are served: until the disk has failed in one.
+    pub fn is_up(&self) -> bool
+        ensures value { result ≡ self.now.up }
+        ensures lasts { Lasts D.state self.now }
+    {
+        self.machine.is_served()
+    }
+
+    /// Ends the life, and hands the disk back.
+    pub fn into_disk(self) -> Closed<D>
+        ensures closes { Closes self result.disk result.life result.system result.text result.faults }
+        ensures lasts { Lasts D.state self }
+    {
+        close(
+            self.machine,
+            self.opening,
+            self.history,
+            self.began,
+            self.steps,
+        )
+    }
+
+    /// The system that is served.
+    pub fn system(&self) -> &System
+        ensures { result.now ≡ self.now.control.system }
+    {
+        self.machine.system()
+    }
+
+    /// The disk.
+    pub fn disk(&self) -> &D
+        ensures { result.now ≡ self.now.disk }
+    {
+        self.machine.disk()
+    }
+
+    /// Whether nothing is left to do: all regions are empty, and none could take a message.
+    pub fn quiet(&self) -> bool
+        requires up { self.now.up ≡ true }
+        ensures { result ≡ is_quiet self.now.control.system (now_of self.now.control) }
+    {
+        self.machine.is_quiet()
+    }
+
+    /// How many lasting steps there were, those before the opening among them.
+    pub fn steps(&self) -> u64
+        requires up { self.now.up ≡ true }
+        ensures { result ≡ (now_of self.now.control).lasting.steps }
+    {
+        self.machine.steps()
+    }
+
+    /// Makes the `n`-th write from now fail and the disk stop. It answers false where the disk can't be told so.
+    pub fn arm(&mut self, n: u64) -> bool
+        requires some { 0 < n }
+        requires up { self.old.up ≡ true }
+        ensures can { IsTrue result ↔ IsTrue (D.state self.old.disk).can_arm }
+        ensures control { self.new.control ≡ self.old.control }
+        ensures stays { StaysSo D.state self.old self.new }
+        ensures up { self.new.up ≡ true }
+        ensures keeps { Keeps (D.state self.old.disk) (D.state self.new.disk) }
+        ensures no_fault { (D.state self.new.disk).faults ≡ (D.state self.old.disk).faults }
+        ensures armed { IsTrue result → (D.state self.new.disk).until_stop ≡ armed n (D.state self.old.disk).until_stop }
+        ensures lasts { Lasts D.state self.new }
+    {
+        self.machine.arm(n)
+    }
+
+    /// Makes room for this many history entries.
+    pub fn reserve(&mut self, n: u32) -> Result<(), Memory>
+        requires up { self.old.up ≡ true }
+        ensures same { AddsNothing self.old.control self.new.control }
+        ensures ok { OnOk result (n ≤ self.new.control.room) }
+        ensures err { OnErr result (self.new ≡ self.old) }
+        ensures stays { StaysSo D.state self.old self.new }
+        ensures up { self.new.up ≡ true }
+        ensures disk { self.new.disk ≡ self.old.disk }
+        ensures lasts { Lasts D.state self.new }
+    {
+        let _ = self.machine.is_served();
+        self.history.reserve(n as usize)
+    }
+
+    /// Takes an input of a terminal under a number.
+    pub fn input(
+        &mut self,
+        terminal: &Name,
+        number: u64,
+        segments: Segments,
+    ) -> Result<Taken, InputRefused>
+        requires some { 0 < length segments }
+        requires up { self.old.up ≡ true }
+        ensures adds { AddsBy D.state (fault_in (Accept terminal.now number segments result)) self.old self.new (Accept terminal.now number segments result) }
+        ensures crash { CrashesSo D.state (fault_in (Accept terminal.now number segments result)) self.old self.new (Accept terminal.now number segments result) }
+        ensures lasts { Lasts D.state self.new }
+        ensures spent { SpentBy (spent_now self.old) (fault_in (Accept terminal.now number segments result)) }
+        ensures nothing { StaysSpent (fault_in (Accept terminal.now number segments result)) self.old self.new }
+        ensures stays { StaysSo D.state self.old self.new }
+    {
+        if let Some(counter) = self.machine.spent() {
+            return Err(InputRefused::Fault(ControlFault::Spent(counter)));
+        }
+        let Ok(kept) = segments.clone() else {
+            return Err(InputRefused::Fault(ControlFault::Memory));
+        };
+        if self.history.reserve(1).is_err() {
+            return Err(InputRefused::Fault(ControlFault::Memory));
+        }
+        let answer = self.machine.accept(terminal, number, segments);
+        self.steps = steps_of(self.steps, &self.machine);
+        note(
+            &mut self.history,
+            input_entry(terminal, number, kept, &answer),
+        );
+        answer
+    }
+
+    /// What the terminal is to be shown; this adds no entry.
+    pub fn showing(&self, terminal: &Name) -> Shown<'_>
+        requires up { self.now.up ≡ true }
+        ensures { IsShownTo (terminal_at (now_of self.now.control).lasting.terminals terminal.now) (output_at (now_of self.now.control).lasting.outputs terminal.now) result }
+    {
+        self.machine.showing(terminal)
+    }
+
+    /// What a command is answered now; this adds no entry.
+    pub fn answer_to(&self, command: &Command) -> Result<Result<Answer, CommandRefused>, Memory>
+        requires up { self.now.up ≡ true }
+        ensures { IfOk result (λ answer. answer ≡ command_answer self.now.control.system (now_of self.now.control) command.now) }
+    {
+        self.machine.answer_to(command)
+    }
+
+    /// Shows a terminal its first reply, again and again under the reply's own number. It takes no memory; the room for its
+    /// entry was made by `reserve`.
+    pub fn receive(&mut self, terminal: &Name) -> Shown<'_>
+        requires up { self.old.up ≡ true }
+        requires room { 0 < self.old.control.room }
+        ensures shown { IsShownTo (terminal_at (now_of self.old.control).lasting.terminals terminal.now) (output_at (now_of self.old.control).lasting.outputs terminal.now) result }
+        ensures* shows { sem 𝓛 (Rests (the_row D.row D.Disk) self.entry (λ new. Shows D.state self.old new (Show terminal.now (show_answer (now_of self.old.control) terminal.now)))) }
+    {
+        let answer = self.machine.show_answer(terminal);
+        self.history.push_reserved(Entry::Show(*terminal, answer));
+        self.machine.showing(terminal)
+    }
+
+    /// Takes the acknowledgement of a reply.
+    pub fn acknowledge(&mut self, terminal: &Name, number: u64) -> Result<Acked, AckRefused>
+        requires up { self.old.up ≡ true }
+        ensures adds { AddsBy D.state (fault_in (AckedEntry terminal.now number result)) self.old self.new (AckedEntry terminal.now number result) }
+        ensures crash { CrashesSo D.state (fault_in (AckedEntry terminal.now number result)) self.old self.new (AckedEntry terminal.now number result) }
+        ensures lasts { Lasts D.state self.new }
+        ensures spent { SpentBy (spent_now self.old) (fault_in (AckedEntry terminal.now number result)) }
+        ensures nothing { StaysSpent (fault_in (AckedEntry terminal.now number result)) self.old self.new }
+        ensures stays { StaysSo D.state self.old self.new }
+    {
+        if let Some(counter) = self.machine.spent() {
+            return Err(AckRefused::Fault(ControlFault::Spent(counter)));
+        }
+        if self.history.reserve(1).is_err() {
+            return Err(AckRefused::Fault(ControlFault::Memory));
+        }
+        let answer = self.machine.acknowledge(terminal, number);
+        self.steps = steps_of(self.steps, &self.machine);
+        note(&mut self.history, acked_entry(terminal, number, &answer));
+        answer
+    }
+
+    /// Lets a region do its next step.
+    pub fn turn(&mut self, region: u32) -> Result<Turned, ControlFault>
+        requires up { self.old.up ≡ true }
+        requires region { IsRegion self.old.control.system region }
+        ensures adds { AddsBy D.state (fault_in (TurnEntry region result)) self.old self.new (TurnEntry region result) }
+        ensures crash { CrashesSo D.state (fault_in (TurnEntry region result)) self.old self.new (TurnEntry region result) }
+        ensures lasts { Lasts D.state self.new }
+        ensures spent { SpentBy (spent_now self.old) (fault_in (TurnEntry region result)) }
+        ensures nothing { StaysSpent (fault_in (TurnEntry region result)) self.old self.new }
+        ensures stays { StaysSo D.state self.old self.new }
+    {
+        if let Some(counter) = self.machine.spent() {
+            return Err(ControlFault::Spent(counter));
+        }
+        if self.history.reserve(1).is_err() {
+            return Err(ControlFault::Memory);
+        }
+        let turned = self.machine.turn(region);
+        self.steps = steps_of(self.steps, &self.machine);
+        note(&mut self.history, turn_entry(region, &turned));
+        turned
+    }
+
+    /// Does an operator's command. A checkpoint and the opening of a system aren't among these.
+    pub fn command(&mut self, command: &Command) -> Result<Answer, CommandRefused>
+        requires up { self.old.up ≡ true }
+        requires command { IsServed command.now }
+        ensures adds { AddsBy D.state (fault_in (Commanded command.now result)) self.old self.new (Commanded command.now result) }
+        ensures crash { CrashesSo D.state (fault_in (Commanded command.now result)) self.old self.new (Commanded command.now result) }
+        ensures lasts { Lasts D.state self.new }
+        ensures spent { SpentBy (spent_now self.old) (fault_in (Commanded command.now result)) }
+        ensures nothing { StaysSpent (fault_in (Commanded command.now result)) self.old self.new }
+        ensures stays { StaysSo D.state self.old self.new }
+    {
+        if let Some(counter) = self.machine.spent() {
+            return Err(CommandRefused::Fault(ControlFault::Spent(counter)));
+        }
+        let Ok(kept) = self.machine.answer_to(command) else {
+            return Err(CommandRefused::Fault(ControlFault::Memory));
+        };
+        if self.history.reserve(1).is_err() {
+            return Err(CommandRefused::Fault(ControlFault::Memory));
+        }
+        let answer = self.machine.command(command);
+        self.steps = steps_of(self.steps, &self.machine);
+        note(&mut self.history, command_entry(command, kept, &answer));
+        answer
+    }
+
+    /// Takes a checkpoint, of which it answers the number. Before a freeze no region may work on a message.
+    pub fn checkpoint(&mut self, freeze: bool) -> Result<u64, CheckpointRefused>
+        requires up { self.old.up ≡ true }
+        ensures adds { AddsBy D.state (fault_in (Checked freeze result)) self.old self.new (Checked freeze result) }
+        ensures crash { CrashesSo D.state (fault_in (Checked freeze result)) self.old self.new (Checked freeze result) }
+        ensures lasts { Lasts D.state self.new }
+        ensures spent { SpentBy (spent_now self.old) (fault_in (Checked freeze result)) }
+        ensures nothing { StaysSpent (fault_in (Checked freeze result)) self.old self.new }
+        ensures stays { StaysSo D.state self.old self.new }
+        ensures taken { IfOk result (λ number. IsTaken self.new.control.system number self.old.journal self.new.journal (D.state self.new.disk)) }
+    {
+        if let Some(counter) = self.machine.spent() {
+            return Err(CheckpointRefused::Fault(ControlFault::Spent(counter)));
+        }
+        if self.history.reserve(1).is_err() {
+            return Err(CheckpointRefused::Fault(ControlFault::Memory));
+        }
+        let answer = self.machine.checkpoint(freeze);
+        self.steps = steps_of(self.steps, &self.machine);
+        note(&mut self.history, checked_entry(freeze, &answer));
+        answer
+    }
+}
+
+/// How many lasting steps were answered, so many before: those of the machine, unless its disk has failed.
+fn steps_of<D: Disk>(before: u64, machine: &LoggedMachine<D>) -> u64
+    ensures { result ≡ (if machine.now.served then machine.now.machine.moment.lasting.steps else before) }
+{
+    if machine.is_served() {
+        machine.steps()
+    } else {
+        before
+    }
+}
+
+/// What is handed back at the end of a life.
+fn close<D: Disk>(
+    machine: LoggedMachine<D>,
+    opening: Lasting,
+    history: Vec<Entry>,
+    began: u64,
+    steps: u64,
+) -> Closed<D>
+    requires more { opening.steps ≤ steps }
+    ensures disk { result.disk ≡ machine.disk }
+    ensures system { result.system ≡ machine.machine.system }
+    ensures text { result.text ≡ machine.text }
+    ensures faults { result.faults ≡ began }
+    ensures opening { result.life.opening ≡ opening }
+    ensures history { result.life.history ≡ history.items }
+    ensures kept { result.life.kept ≡ steps - opening.steps }
+    ensures lasts { LastsNow D.state machine }
+{
+    let kept = steps_since(steps, &opening);
+    let (disk, system, text) = machine.into_parts();
+    Closed {
+        disk,
+        life: Life {
+            opening,
+            history: History::from_vec(history),
+            kept,
+        },
+        system,
+        text,
+        faults: began,
+    }
+}
+
+/// How many of these lasting steps were done since.
+fn steps_since(steps: u64, opening: &Lasting) -> u64
+    requires { opening.now.steps ≤ steps }
+    ensures { result ≡ steps - opening.now.steps }
+{
+    steps - opening.steps
+}

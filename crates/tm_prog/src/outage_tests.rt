@@ -1,0 +1,255 @@
+//! Worked sessions of stops and restarts.
+
+use crate::database_tests::{BANK, BANK_PROGRAMS, OPENED, OPENED_PRINTED};
+use crate::run::run;
+use crate::status_number;
+use crate::tests::{DRILL, PROGRAMS, SYSTEM, joined};
+use std::alloc::Global;
+use std::process::Abort;
+use std::test::Fail;
+use tm_disk::{Disk, MemDisk};
+use tm_edge::{MemSink, MemSource};
+
+/// What a session over a disk comes to, and the disk, cut off: its status, and whether this was printed.
+fn serve<D: Disk + Drop>(
+    rt: &impl Abort,
+    alloc: Global,
+    texts: &[&[u8]],
+    disk: D,
+    wanted: (u8, &[u8]),
+) -> Result<D, Fail> {
+    let mut words = Vec::new(alloc);
+    for word in DRILL {
+        words.push(String::from_str(alloc, word)?)?;
+    }
+    let mut source = MemSource::new(joined(alloc, texts)?, Vec::new(alloc));
+    let mut sink = MemSink::new(alloc, Vec::new(alloc));
+    sink.reserve(8192)?;
+    let mut disk = disk;
+    disk.cut(0);
+    let outcome = run(alloc, &words, &mut source, &mut sink, disk);
+    assert_eq!(rt; status_number(outcome.status), wanted.0);
+    assert!(rt; sink.bytes() == wanted.1);
+    Ok(outcome.disk)
+}
+
+/// A session of the system over a new disk in memory.
+fn expect(rt: &impl Abort, alloc: Global, lines: &[u8], wanted: (u8, &[u8])) -> Result<(), Fail> {
+    let disk = MemDisk::new(alloc, 1517, Vec::new(alloc))?;
+    let _ = serve(rt, alloc, &[SYSTEM, PROGRAMS, lines], disk, wanted)?;
+    Ok(())
+}
+
+/// Power that fails, and what is sent again.
+#[test]
+fn power(rt: HostRuntime) -> Result<(), Fail> {
+    let table: [(&[u8], u8, &[u8]); 8] = [
+        // What was acknowledged is there behind a restart, and is taken once.
+        (
+            b"IN T1 1 ECHO A\nPOWER 0\nRECV T1\n/ERESTART\nIN T1 1 ECHO A\nQUIET 100\nRECV T1\n",
+            0,
+            b"ACK T1 1\nPOWER\nDOWN\nRESTARTED\nALREADY T1 1\nQUIET 7\nOUT T1 1 ECHO A\n",
+        ),
+        // A reply that was shown is shown again under its number.
+        (
+            b"IN T1 1 ECHO A\nQUIET 100\nRECV T1\nPOWER 7\n/NRESTART\nRECV T1\nACK T1 1\nPOWER 0\n/ERESTART\nRECV T1\n",
+            0,
+            b"ACK T1 1\nQUIET 7\nOUT T1 1 ECHO A\nPOWER\nRESTARTED\nOUT T1 1 ECHO A\nACKED T1 1\nPOWER\nRESTARTED\nNONE T1\n",
+        ),
+        // The write of the input fails: it was left or not, as the pick says.
+        (
+            b"POWER IN 1 0\nIN T1 1 ECHO HELLO\nRECV T1\n/ERESTART\nIN T1 1 ECHO HELLO\nQUIET 100\nRECV T1\n",
+            0,
+            b"ARMED 1\nSTOPPED\nDOWN\nRESTARTED\nACK T1 1\nQUIET 7\nOUT T1 1 ECHO HELLO\n",
+        ),
+        (
+            b"POWER IN 1 1\nIN T1 1 ECHO HELLO\nRECV T1\n/ERESTART\nIN T1 1 ECHO HELLO\nQUIET 100\nRECV T1\n",
+            0,
+            b"ARMED 1\nSTOPPED\nDOWN\nRESTARTED\nALREADY T1 1\nQUIET 7\nOUT T1 1 ECHO HELLO\n",
+        ),
+        // A cold start begins an empty machine.
+        (
+            b"IN T1 1 ECHO A\nPOWER 0\n/NRESTART CHECKPOINT 0\nIN T1 1 ECHO A\n",
+            0,
+            b"ACK T1 1\nPOWER\nCOLD STARTED\nACK T1 1\n",
+        ),
+        // A restart while the system is up, and whatever else while it is down, with its `+` lines.
+        (
+            b"/ERESTART\n/NRESTART\n/NRESTART CHECKPOINT 0\n/ERESTART x\nPOWER 0\nIN T1 1 ECHO A\n+ B\nHELP\nPOWER 0\n/ERESTART x\n\n* A\n+ C\n",
+            0,
+            b"UP\nUP\nUP\nBAD COMMAND 3\nPOWER\nDOWN\nDOWN\nDOWN\nDOWN\nDOWN\n",
+        ),
+        // The source ends while the system is down by a stop.
+        (
+            b"POWER IN 1 0\nIN T1 1 ECHO HELLO\n",
+            3,
+            b"ARMED 1\nSTOPPED\nSTATUS 3 DOWN\n",
+        ),
+        // A stop within turns is told alone.
+        (
+            b"IN T1 1 ECHO A\nPOWER IN 1 1\nQUIET 100\n/ERESTART\nRECV T1\n",
+            0,
+            b"ACK T1 1\nARMED 1\nSTOPPED\nRESTARTED\nOUT T1 1 ECHO A\n",
+        ),
+    ];
+    for (lines, status, printed) in &table {
+        expect(&rt, rt.alloc(), lines, (*status, printed))?;
+    }
+    Ok(())
+}
+
+/// A disk that can't be opened, while no life has begun.
+#[test]
+fn refused_disks(rt: HostRuntime) -> Result<(), Fail> {
+    let alloc = rt.alloc();
+    let small = MemDisk::new(alloc, 1000, Vec::new(alloc))?;
+    let printed = b"STATUS 6 SIZE 1417 1000\n";
+    let _ = serve(&rt, alloc, &[SYSTEM, PROGRAMS], small, (6, printed))?;
+    // A disk that another definition's system has begun.
+    let disk = MemDisk::new(alloc, 1517, Vec::new(alloc))?;
+    let disk = serve(&rt, alloc, &[SYSTEM, PROGRAMS], disk, (0, b""))?;
+    let mut other = b"IMSCTRL QBYTES=1048577,LOGS=256\n".to_vec(alloc)?;
+    let Some(behind) = SYSTEM.get(32..) else {
+        return Err(Fail::from("the system is too short"));
+    };
+    other.extend_from_slice(behind)?;
+    let printed = b"STATUS 6 TEXT 21\n";
+    let disk = serve(&rt, alloc, &[&other, PROGRAMS], disk, (6, printed))?;
+    // Its own system goes on with it.
+    let lines = b"IN T1 1 ECHO A\n";
+    let disk = serve(
+        &rt,
+        alloc,
+        &[SYSTEM, PROGRAMS, lines],
+        disk,
+        (0, b"ACK T1 1\n"),
+    )?;
+    let _ = serve(
+        &rt,
+        alloc,
+        &[SYSTEM, PROGRAMS, lines],
+        disk,
+        (0, b"ALREADY T1 1\n"),
+    )?;
+    Ok(())
+}
+
+/// A bank's session over a new disk in memory.
+fn expect_bank(rt: &impl Abort, alloc: Global, lines: &[u8], wanted: &[u8]) -> Result<(), Fail> {
+    let disk = MemDisk::new(alloc, 1517, Vec::new(alloc))?;
+    let _ = serve(rt, alloc, &[BANK, BANK_PROGRAMS, lines], disk, (0, wanted))?;
+    Ok(())
+}
+
+/// A line that lets power fail at a write, with a pick; both are digits.
+fn power_in(alloc: Global, write: u8, pick: u8) -> Result<Vec<u8>, Fail> {
+    let mut line = b"POWER IN ".to_vec(alloc)?;
+    line.extend_from_slice(&[b'0' + write % 10, b' ', b'0' + pick % 10, b'\n'])?;
+    Ok(line)
+}
+
+/// What is printed for it.
+fn armed(alloc: Global, write: u8) -> Result<Vec<u8>, Fail> {
+    let mut line = b"ARMED ".to_vec(alloc)?;
+    line.extend_from_slice(&[b'0' + write % 10, b'\n'])?;
+    Ok(line)
+}
+
+/// A transfer that has replaced one account, up to a checkpoint.
+const HALF: &[u8] = b"IN T1 1 XFER 0001 0002 5\nTURN 1\nTURN 1\nTURN 1\nTURN 1\n";
+
+const HALF_PRINTED: &[u8] =
+    b"ACK T1 1\nR1 SCHEDULED XFER 3\nR1 GU 0 OK\nR1 GHU 1 OK\nR1 REPL 1 OK\n";
+
+/// Behind a stop the transfer is done anew.
+const AGAIN: &[u8] =
+    b"/ERESTART\n/DISPLAY TRANSACTION XFER\nQUIET 100\nRECV T1\nIN T2 1 BAL 0001\nQUIET 100\nRECV T2\n";
+
+const AGAIN_PRINTED: &[u8] =
+    b"RESTARTED\nTRANSACTION XFER CLASS 1 PRIORITY 1 QUEUED 1 STARTED\nQUIET 8\nOUT T1 1 MOVED 00000005\nACK T2 1\nQUIET 5\nOUT T2 1 0001 00000995\n";
+
+/// A checkpoint with an open unit writes five sectors. Whichever of them fails, the unit is taken back and its message is there.
+#[test]
+fn stopped_checkpoints(rt: HostRuntime) -> Result<(), Fail> {
+    let alloc = rt.alloc();
+    for write in 1..6u8 {
+        for pick in 0..9u8 {
+            let power = power_in(alloc, write, pick)?;
+            let lines = joined(alloc, &[OPENED, HALF, &power, b"/CHECKPOINT\n", AGAIN])?;
+            let told = armed(alloc, write)?;
+            let wanted = joined(
+                alloc,
+                &[
+                    OPENED_PRINTED,
+                    HALF_PRINTED,
+                    &told,
+                    b"STOPPED\n",
+                    AGAIN_PRINTED,
+                ],
+            )?;
+            expect_bank(&rt, alloc, &lines, &wanted)?;
+        }
+    }
+    let lines = joined(alloc, &[OPENED, HALF, b"POWER IN 6 0\n/CHECKPOINT\n"])?;
+    let wanted = joined(
+        alloc,
+        &[OPENED_PRINTED, HALF_PRINTED, b"ARMED 6\nCHECKPOINT 2\n"],
+    )?;
+    expect_bank(&rt, alloc, &lines, &wanted)
+}
+
+/// An account is opened, its reply is acknowledged, and a checkpoint is taken.
+const SHORT: &[u8] = b"IN T9 1 OPEN 0001 1000\nQUIET 100\nRECV T9\nACK T9 1\n/CHECKPOINT\n";
+
+const SHORT_PRINTED: &[u8] = b"ACK T9 1\nQUIET 5\nOUT T9 1 OPENED 0001\nACKED T9 1\nCHECKPOINT 2\n";
+
+/// What is there of it in the end, whatever was stopped.
+const THERE: &[u8] = b"/DISPLAY LTERM T9\nIN T2 1 BAL 0001\nQUIET 100\nRECV T2\n";
+
+const THERE_PRINTED: &[u8] =
+    b"LTERM T9 IN 1 OUT 1 KEPT 0 STARTED\nACK T2 1\nQUIET 5\nOUT T2 1 0001 00001000\n";
+
+/// One write of the session fails, and behind a restart all its lines are sent again.
+fn ends_so(rt: &impl Abort, alloc: Global, write: u8, pick: u8) -> Result<(), Fail> {
+    let power = power_in(alloc, write, pick)?;
+    let mut words = Vec::new(alloc);
+    for word in DRILL {
+        words.push(String::from_str(alloc, word)?)?;
+    }
+    let source = joined(
+        alloc,
+        &[
+            BANK,
+            BANK_PROGRAMS,
+            &power,
+            SHORT,
+            b"/ERESTART\n",
+            SHORT,
+            THERE,
+        ],
+    )?;
+    let mut source = MemSource::new(source, Vec::new(alloc));
+    let mut sink = MemSink::new(alloc, Vec::new(alloc));
+    sink.reserve(8192)?;
+    let disk = MemDisk::new(alloc, 1517, Vec::new(alloc))?;
+    let outcome = run(alloc, &words, &mut source, &mut sink, disk);
+    assert_eq!(rt; status_number(outcome.status), 0);
+    assert!(rt; sink.bytes().ends_with(THERE_PRINTED));
+    assert_eq!(rt; outcome.stops.items.len(), 1);
+    Ok(())
+}
+
+/// Whichever of its six writes fails, what was sent again behind a restart stands once.
+#[test]
+fn stopped_sessions(rt: HostRuntime) -> Result<(), Fail> {
+    let alloc = rt.alloc();
+    let lines = joined(alloc, &[SHORT, THERE])?;
+    let wanted = joined(alloc, &[SHORT_PRINTED, THERE_PRINTED])?;
+    expect_bank(&rt, alloc, &lines, &wanted)?;
+    for write in 1..7u8 {
+        for pick in 0..4u8 {
+            ends_so(&rt, alloc, write, pick)?;
+        }
+    }
+    Ok(())
+}
