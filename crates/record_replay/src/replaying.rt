@@ -19,8 +19,8 @@ use log_records::Record;
 use model_conversation::PadChange;
 use std::alloc::Global;
 use system_types::System;
-use told_lasting::is_image_of;
 use tm_types::{AbendCode, LastingCommand, Memory, Message, Name};
+use told_lasting::is_image_of;
 
 /// Does a record of the log again. False: it breaks the rule on such records, and the tables aren't to be used any more.
 pub fn replay_record(

@@ -1,8 +1,8 @@
 -- What a call leaves of a disk, of which nothing more is told.
-use Rattle.std.proofs.Common.{◌≡◌, ℕ, ◌≤◌, ◌+◌, List, refl, ap, inl}
-use Rattle.std.specs.Prelude.{replicate}
+use Rattle.std.proofs.Common.{◌≡◌, ℕ, List, [], refl, ap, arith, Ok, Err}
+use Rattle.std.specs.Prelude.{Result, OnOk, replicate}
 use Rattle.std.proofs.lemmas.Bool.{false≢true}
-use Rattle.model_disk.specs.Disk.{Image, DiskState, Stays, Elapses, Keeps, MayHaveWritten, HasWritten, IsCut}
+use Rattle.model_disk.specs.Disk.{DiskState, Stays, Elapses, Keeps, MayHaveWritten, HasWritten, IsCut}
 use Rattle.way_tests.specs.Quiet.{hidden}
 
 stays : (old new : DiskState) → Stays old new → Stays (hidden old) (hidden new)
@@ -32,17 +32,21 @@ quiet_tried at sector old new tried = record {
   stays = stays old new tried.stays;
   elapses = elapses old new;
   follows = record { from = λ image left. absurd left };
-  shown = λ tells. false≢true tells;
+  shown = λ tells. absurd (false≢true tells);
   writes = tried.writes;
   until_stop = refl;
 }
 
 pub quiet_written : (at : ℕ) (sector : List ℕ) (old new : DiskState) → HasWritten at sector (hidden old) (hidden new)
 quiet_written at sector old new = record {
-  shown = λ tells. false≢true tells;
+  shown = λ tells. absurd (false≢true tells);
   without = λ image left. left;
   written = λ image left. left;
 }
+
+pub any_ok : {A E : Type 0} (r : Result A E) (P : Type 0) → P → OnOk r P
+any_ok (Ok x) P p = p
+any_ok (Err e) P p = tt
 
 pub quiet_cut : (old new : DiskState) → IsCut old new → IsCut (hidden old) (hidden new)
 quiet_cut old new cut = record {

@@ -5,7 +5,7 @@
 #[cfg(test)]
 mod checkpoints;
 #[cfg(test)]
-mod forced;
+mod forces;
 mod lives;
 mod quiet;
 #[cfg(test)]

@@ -1,5 +1,4 @@
 //! A disk in memory that tells nothing of its contents.
-ghost use Rattle.std.specs.Prelude.{◌≡◌, IfOk};
 
 use std::alloc::{AllocError, Global};
 use tm_disk::{Disk, Failed, MemDisk, Sector};
