@@ -14,7 +14,8 @@ ghost use Rattle.memory_control.specs.Noting.{noted};
 ghost use Rattle.memory_control.specs.contracts.control.Control.{the_row};
 
 use crate::life::{History, Life};
-use lasting_state::{Shown, empty_lasting};
+use first_state::empty_lasting;
+use lasting_state::Shown;
 use model_machine::{
     AckRefused, Acked, CheckpointRefused, CommandRefused, ControlFault, Entry, InputRefused,
     Lasting, Taken, Turned,
