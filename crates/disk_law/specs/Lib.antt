@@ -2,3 +2,4 @@ pub mod Life
 pub mod Quiet
 pub mod Kept
 pub mod Changes
+pub mod Journal

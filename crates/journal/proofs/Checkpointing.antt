@@ -19,7 +19,7 @@ use Rattle.disk_law.specs.Life.{LifeOnDisk}
 use Rattle.disk_law.specs.Kept.{AreKept}
 use Rattle.checkpoint_law.specs.Checkpointing.{parts_with, after_checkpoint}
 use Rattle.checkpoint_law.proofs.OnDisk.{has_restart, changed_are_named, none_is_ahead, forces_keep, snapshots_keep, checkpoint_done}
-use Rattle.journal.specs.State.{JournalState}
+use Rattle.disk_law.specs.Journal.{JournalState}
 use Rattle.journal.specs.Checkpoints.{parts_for, IsOf, CanCheckpoint}
 
 -- what a checkpoint asks for

@@ -12,7 +12,7 @@ use Rattle.checkpointing.specs.Parts.{CheckpointParts, other_area}
 use Rattle.disk_law.specs.Life.{LifeOnDisk, IsLife}
 use Rattle.disk_law.specs.Kept.{AreKept}
 use Rattle.checkpoint_law.specs.Checkpointing.{MayCheckpoint}
-use Rattle.journal.specs.State.{JournalState}
+use Rattle.disk_law.specs.Journal.{JournalState}
 
 -- The parts of a checkpoint with these bytes as its snapshot: it goes to the areas that the restart sector doesn't name.
 abbrev pub parts_for : System → RestartSector → List ℕ → CheckpointParts

@@ -1,6 +1,6 @@
 -- Which counter of a journal is spent.
 use Rattle.std.specs.Prelude.{◌+◌, nat_le, if◌then◌else◌, Option, Some, None}
-use Rattle.journal.specs.State.{JournalState}
+use Rattle.disk_law.specs.Journal.{JournalState}
 use Rattle.journal.specs.declared.counter.JournalCounter.{JournalCounter}
 use Rattle.journal.specs.declared.counter.JournalCounter.TheVariants.{Epoch, Sequence, Checkpoint}
 

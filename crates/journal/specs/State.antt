@@ -6,14 +6,8 @@ use Rattle.model_machine.specs.Machine.{LastingState}
 use Rattle.disk_law.specs.Life.{LifeOnDisk, IsLife}
 use Rattle.disk_law.specs.Kept.{RecoversEither}
 use Rattle.step_law.specs.Steps.{StepOnDisk, IsStep, with_records}
-use Rattle.restart_data.specs.declared.restart.RestartSector.{RestartSector}
 use Rattle.log_writer.specs.Writer.{Writer}
 use Rattle.log_writer.specs.Log.{sectors_of}
-
--- the writer of its log with what was appended, and the restart sector that holds
-pub record JournalState : Type 0 where
-  pub log : Writer
-  pub restart : RestartSector
 
 -- the writer with these bytes appended, in place of others
 abbrev pub holding : List ℕ → Writer → Writer

@@ -46,7 +46,7 @@ pub struct Journal {
 }
 
 impl Model for Journal {
-    ghost use Rattle.journal.specs.State.{JournalState};
+    ghost use Rattle.disk_law.specs.Journal.{JournalState};
 
     ghost Value = { JournalState };
 

@@ -34,7 +34,7 @@ use Rattle.log_writer.specs.Writer.{Writer}
 use Rattle.log_writer.specs.Log.{IsReady}
 use Rattle.disk_law.specs.Life.{LifeOnDisk}
 use Rattle.disk_law.specs.Changes.{with_bytes}
-use Rattle.journal.specs.State.{JournalState}
+use Rattle.disk_law.specs.Journal.{JournalState}
 use Rattle.tm_machine.specs.Answers.{IsAnswered}
 use Rattle.tm_machine.specs.OnSlots.{HasSlots, TellByCall, TurnsSo, changes_told, slots_now, turn_records}
 use Rattle.tm_machine.specs.Parts.{PartsState}
@@ -48,8 +48,8 @@ use Rattle.parts_life.proofs.Answering.{ack_of_parts, command_of_parts, input_of
 use Rattle.parts_life.proofs.Turning.{turn_of_parts}
 use Rattle.parts_life.proofs.Closing.{ack_steps, command_steps, input_steps, room_in_log, turn_steps}
 use Rattle.machine_telling.specs.Telling.{Appends, is_input_fault}
-use Rattle.machine_checkpoint.specs.Counted.{IsCounted}
-use Rattle.machine_checkpoint.specs.Logged.{IsLogged}
+use Rattle.machine_life.specs.Counted.{IsCounted}
+use Rattle.parts_life.specs.Logged.{IsLogged}
 use Rattle.logged_machine.specs.Logged.{LoggedState}
 use Rattle.control_life.specs.Faults.{fault_in}
 use Rattle.logged_machine.specs.Doing.{Did}

@@ -16,10 +16,10 @@ use Rattle.log_writer.proofs.Gaining.{chain-ended}
 use Rattle.restart_data.specs.declared.restart.RestartSector.{RestartSector}
 use Rattle.restart_data.specs.Restart.{restart_in}
 use Rattle.model_image.specs.Areas.{snapshot_area, log_first}
-use Rattle.journal.specs.State.{JournalState}
+use Rattle.disk_law.specs.Journal.{JournalState}
 use Rattle.tm_machine.specs.Answers.{IsAnswered}
 use Rattle.tm_machine.specs.Parts.{PartsState}
-use Rattle.machine_checkpoint.specs.Logged.{IsLogged}
+use Rattle.parts_life.specs.Logged.{IsLogged}
 use Rattle.logged_machine.specs.Taken.{HasNumber, IsTaken, again}
 use Rattle.logged_machine.specs.Doing.{Did, Refreshed}
 use Rattle.logged_machine.specs.Logged.{LoggedState}

@@ -13,11 +13,11 @@ use Rattle.checkpointing.specs.Parts.{sequence_behind}
 use Rattle.checkpointing.specs.Texts.{KeepsText}
 use Rattle.log_writer.specs.Writer.{Writer}
 use Rattle.log_writer.specs.Log.{sectors_of}
-use Rattle.journal.specs.State.{JournalState}
+use Rattle.disk_law.specs.Journal.{JournalState}
 use Rattle.machine_life.specs.Counts.{AreUnspent}
 use Rattle.tm_machine.specs.Parts.{PartsState}
-use Rattle.machine_checkpoint.specs.Counted.{IsCounted}
-use Rattle.machine_checkpoint.specs.Logged.{IsLogged}
+use Rattle.machine_life.specs.Counted.{IsCounted}
+use Rattle.parts_life.specs.Logged.{IsLogged}
 use Rattle.machine_checkpoint.specs.Taking.{SameAll, Untaken}
 use Rattle.logged_machine.specs.Logged.{LoggedState}
 use Rattle.logged_machine.specs.Goes.{Keeps, StoodStill}

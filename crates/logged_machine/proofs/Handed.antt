@@ -8,7 +8,7 @@ use Rattle.cold_start.specs.FirstImage.{sectors_needed}
 use Rattle.opening_answers.specs.declared.refusals.OpenError.{OpenError}
 use Rattle.opening_answers.specs.declared.refusals.OpenError.TheVariants.{TooSmall, Memory}
 use Rattle.opening_answers.specs.Opening.{OpeningCause, WroteNothing}
-use Rattle.journal.specs.State.{JournalState}
+use Rattle.disk_law.specs.Journal.{JournalState}
 use Rattle.tm_machine.specs.Parts.{PartsState}
 use Rattle.control_life.specs.declared.how.How.{How}
 use Rattle.machine_opening.specs.Opened.{OpensOn}

@@ -21,14 +21,15 @@ use Rattle.disk_law.proofs.Front.{recovers}
 use Rattle.disk_law.proofs.Forcing.{restart_stays, text_stays}
 use Rattle.step_law.specs.Steps.{StepOnDisk, IsStep, after_step, with_records}
 use Rattle.step_law.proofs.Stepping.{step_front}
-use Rattle.journal.specs.State.{JournalState, IsStepOf, forced, holding}
+use Rattle.disk_law.specs.Journal.{JournalState}
+use Rattle.journal.specs.State.{IsStepOf, forced, holding}
 use Rattle.program_rows.specs.OnSlots.{SlotsState}
 use Rattle.tm_machine.specs.OnSlots.{slots_now}
 use Rattle.tm_machine.specs.Parts.{PartsState}
 use Rattle.machine_life.specs.Carried.{IsCarriedBy}
 use Rattle.machine_life.specs.Going.{GoesOn, StepsOn}
 use Rattle.checkpointing.specs.Texts.{HasText}
-use Rattle.machine_checkpoint.specs.Logged.{IsLogged}
+use Rattle.parts_life.specs.Logged.{IsLogged}
 use Rattle.logged_machine.specs.Leaving.{Leaves, Brings}
 use Rattle.logged_machine.proofs.Leaving.{leaves_within}
 

@@ -16,7 +16,8 @@ use Rattle.log_writer.specs.Log.{IsReady, AddsFront, sectors_of}
 use Rattle.disk_law.specs.Life.{LifeOnDisk}
 use Rattle.disk_law.specs.Kept.{AreKept}
 use Rattle.step_law.specs.Steps.{StepOnDisk, after_step}
-use Rattle.journal.specs.State.{JournalState, IsStepOf, forced}
+use Rattle.disk_law.specs.Journal.{JournalState}
+use Rattle.journal.specs.State.{IsStepOf, forced}
 use Rattle.program_rows.specs.OnSlots.{SlotsState}
 use Rattle.tm_machine.specs.Answers.{IsAnswered}
 use Rattle.tm_machine.specs.OnSlots.{slots_now}
@@ -27,7 +28,7 @@ use Rattle.parts_life.proofs.Closing.{goes_quiet, goes_step}
 use Rattle.machine_telling.specs.Telling.{Appends}
 use Rattle.logged_machine.specs.Logged.{LoggedState}
 use Rattle.logged_machine.specs.Goes.{Keeps}
-use Rattle.machine_checkpoint.specs.Logged.{IsLogged}
+use Rattle.parts_life.specs.Logged.{IsLogged}
 use Rattle.logged_machine.specs.Leaving.{Brings, Leaves}
 use Rattle.logged_machine.specs.Doing.{Did, LeavesSo, lasting_with}
 use Rattle.logged_machine.proofs.Leaving.{leaves_same}

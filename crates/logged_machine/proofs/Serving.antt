@@ -3,11 +3,11 @@ use Rattle.std.proofs.Common.{◌≡◌, ◌≤◌, ◌<◌, ◌+◌, ◌^◌, �
 use Rattle.log_writer.specs.Writer.{Writer}
 use Rattle.restart_data.specs.Restart.{IsCounter}
 use Rattle.model_disk.specs.Disk.{DiskState, Keeps as KeepsDisk}
-use Rattle.journal.specs.State.{JournalState}
+use Rattle.disk_law.specs.Journal.{JournalState}
 use Rattle.model_image.specs.Areas.{data_first}
 use Rattle.std.specs.Prelude.{length}
 use Rattle.tm_machine.specs.Parts.{PartsState}
-use Rattle.machine_checkpoint.specs.Logged.{IsLogged}
+use Rattle.parts_life.specs.Logged.{IsLogged}
 use Rattle.logged_machine.specs.Logged.{LoggedState, AreLasting}
 use Rattle.logged_machine.proofs.Logging.{recover, have_text}
 

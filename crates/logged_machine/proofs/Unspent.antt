@@ -11,10 +11,10 @@ use Rattle.model_machine.specs.declared.counts.Counter.TheVariants as counter
 use Rattle.journal.specs.Counters as journals
 use Rattle.journal.specs.declared.counter.JournalCounter.{JournalCounter}
 use Rattle.journal.specs.declared.counter.JournalCounter.TheVariants.{Epoch, Sequence, Checkpoint}
-use Rattle.journal.specs.State.{JournalState}
+use Rattle.disk_law.specs.Journal.{JournalState}
 use Rattle.logged_machine.specs.Spending.{counter_of, counters_beside, first_of}
 use Rattle.machine_life.specs.Counts.{AreUnspent}
-use Rattle.machine_checkpoint.specs.Counted.{IsCounted}
+use Rattle.machine_life.specs.Counted.{IsCounted}
 
 pub record NoneSpent (epoch sequence checkpoint unit : ℕ) (lasting : LastingState) : Type 0 where
   pub epoch_low : epoch < 1000000000000000000

@@ -1,7 +1,7 @@
 -- What one attempt of a call leaves, and what a checkpoint does.
 use Rattle.std.specs.Prelude.{◌≡◌, ◌+◌, Bool, true, false, Option, Some, None}
 use Rattle.model_disk.specs.Disk.{DiskState, FailedSince, Only}
-use Rattle.machine_checkpoint.specs.Counted.{IsCounted}
+use Rattle.machine_life.specs.Counted.{IsCounted}
 use Rattle.model_machine.specs.Machine.{LastingState}
 use Rattle.model_machine.specs.History.{after_entry}
 use Rattle.model_machine.specs.declared.entry.Entry.{Entry}

@@ -5,7 +5,7 @@ use Rattle.model_machine.specs.declared.counts.Counter.{Counter}
 use Rattle.model_image.specs.Recovered.{Recovers}
 use Rattle.checkpointing.specs.Texts.{HasText}
 use Rattle.opening_answers.specs.Opening.{counters, first_spent}
-use Rattle.journal.specs.State.{JournalState}
+use Rattle.disk_law.specs.Journal.{JournalState}
 use Rattle.tm_machine.specs.Parts.{PartsState}
 
 -- The machine; the text of its definition; whether its calls are served; what it keeps of its log; the number of the next

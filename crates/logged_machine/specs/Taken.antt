@@ -6,7 +6,7 @@ use Rattle.restart_data.specs.declared.restart.RestartSector.{RestartSector}
 use Rattle.restart_data.specs.Restart.{restart_in}
 use Rattle.log_sectors.specs.Chain.{chain}
 use Rattle.model_image.specs.Areas.{snapshot_area, log_first}
-use Rattle.journal.specs.State.{JournalState}
+use Rattle.disk_law.specs.Journal.{JournalState}
 use Rattle.model_machine.specs.Machine.{Moment, moment_with}
 use Rattle.tm_machine.specs.Parts.{PartsState}
 

@@ -3,7 +3,7 @@ ghost use Rattle.std.specs.Prelude.{◌≡◌, true, ℕ, None, Ok, IfOk};
 ghost use Rattle.model_disk.specs.Disk.{Image};
 ghost use Rattle.model_machine.specs.Commands.{checkpoint_answer, unless_busy};
 ghost use Rattle.model_machine.specs.declared.entry.Entry.TheVariants.{Checked};
-ghost use Rattle.machine_checkpoint.specs.Counted.{IsCounted};
+ghost use Rattle.machine_life.specs.Counted.{IsCounted};
 ghost use Rattle.logged_machine.specs.Doing.{Did};
 ghost use Rattle.logged_machine.specs.Goes.{Keeps, GoesBy, CrashesBy};
 ghost use Rattle.control_life.specs.Faults.{fault_in};

@@ -36,7 +36,7 @@ pub struct LoggedMachine<D: Disk> {
 
 impl<D: Disk> Model for LoggedMachine<D> {
     ghost use Rattle.std.specs.Prelude.{◌≡◌, true};
-    ghost use Rattle.machine_checkpoint.specs.Logged.{IsLogged};
+    ghost use Rattle.parts_life.specs.Logged.{IsLogged};
     ghost use Rattle.logged_machine.specs.Logged.{LoggedState};
 
     ghost Value = { LoggedState D };

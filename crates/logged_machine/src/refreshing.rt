@@ -1,6 +1,6 @@
 //! Checkpoints.
 ghost use Rattle.std.specs.Prelude.{◌≡◌, true, OnOk, IfErr};
-ghost use Rattle.machine_checkpoint.specs.Counted.{IsCounted};
+ghost use Rattle.machine_life.specs.Counted.{IsCounted};
 ghost use Rattle.logged_machine.specs.Doing.{Refreshed, Unrefreshed, is_memory};
 
 use crate::logged::LoggedMachine;

@@ -8,7 +8,7 @@ ghost use Rattle.logged_machine.specs.Goes.{Keeps, GoesBy, CrashesBy};
 ghost use Rattle.control_life.specs.Faults.{fault_in};
 ghost use Rattle.logged_machine.specs.Doing.{Did};
 ghost use Rattle.machine_telling.specs.Telling.{HasRoom};
-ghost use Rattle.machine_checkpoint.specs.Counted.{IsCounted};
+ghost use Rattle.machine_life.specs.Counted.{IsCounted};
 
 use crate::logged::LoggedMachine;
 use machine_telling::{Untold, all_room, note_units, room_left, tell_turn, unit_of};

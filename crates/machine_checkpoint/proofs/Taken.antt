@@ -19,7 +19,7 @@ use Rattle.disk_law.specs.Kept.{AreKept}
 use Rattle.disk_law.specs.Life.{LifeOnDisk}
 use Rattle.checkpoint_law.specs.Checkpointing.{after_checkpoint, parts_with}
 use Rattle.journal.specs.Checkpoints.{CanCheckpoint, IsOf, parts_for}
-use Rattle.journal.specs.State.{JournalState}
+use Rattle.disk_law.specs.Journal.{JournalState}
 use Rattle.program_rows.specs.OnSlots.{all_stores}
 use Rattle.program_rows.specs.State.{settled}
 use Rattle.tm_machine.specs.OnSlots.{HasSlots, slots_now}
@@ -27,8 +27,8 @@ use Rattle.tm_machine.specs.Parts.{PartsState}
 use Rattle.machine_life.proofs.Checkpoints as checkpoints
 use Rattle.parts_life.proofs.Holding.{hold_touched}
 use Rattle.parts_life.proofs.Storing as storing
-use Rattle.machine_checkpoint.specs.Counted.{IsCounted}
-use Rattle.machine_checkpoint.specs.Logged.{IsLogged}
+use Rattle.machine_life.specs.Counted.{IsCounted}
+use Rattle.parts_life.specs.Logged.{IsLogged}
 use Rattle.machine_checkpoint.specs.Taking.{IsSnapshot}
 
 module _ (parts : PartsState) (units : List ℕ) (next : ℕ) (journal : JournalState) (text : List ℕ) (disk : DiskState) (h : IsLogged parts units next journal text disk) (has : HasSlots parts)

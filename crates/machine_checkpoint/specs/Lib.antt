@@ -1,3 +1,1 @@
-pub mod Logged
-pub mod Counted
 pub mod Taking

@@ -3,7 +3,7 @@ use Rattle.std.specs.Prelude.{◌≡◌, ℕ, ◌≤◌, List, [], length}
 use Rattle.model_disk.specs.Disk.{DiskState, FailedSince}
 use Rattle.model_machine.specs.declared.entry.ControlFault.{ControlFault}
 use Rattle.model_machine.specs.declared.entry.ControlFault.TheVariants.{Memory, Disk, Spent}
-use Rattle.journal.specs.State.{JournalState}
+use Rattle.disk_law.specs.Journal.{JournalState}
 use Rattle.machine_life.specs.Opens.{AreUnitsOf}
 use Rattle.snapshot_records.specs.declared.touches.OpenUnit.{OpenUnit}
 use Rattle.snapshot_records.specs.Records.{snapshot_records}

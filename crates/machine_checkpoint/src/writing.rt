@@ -7,8 +7,8 @@ ghost use Rattle.checkpointing.specs.Texts.{KeepsText};
 ghost use Rattle.journal.specs.Checkpoints.{CanCheckpoint, parts_for};
 ghost use Rattle.program_rows.specs.OnSlots.{all_stores};
 ghost use Rattle.tm_machine.specs.OnSlots.{slots_now};
-ghost use Rattle.machine_checkpoint.specs.Counted.{IsCounted};
-ghost use Rattle.machine_checkpoint.specs.Logged.{IsLogged};
+ghost use Rattle.machine_life.specs.Counted.{IsCounted};
+ghost use Rattle.parts_life.specs.Logged.{IsLogged};
 ghost use Rattle.machine_checkpoint.specs.Taking.{IsSnapshot, Untaken};
 
 use crate::snapshots::snapshot;

@@ -4,3 +4,4 @@ pub mod Doing
 pub mod Carried
 pub mod Going
 pub mod Opens
+pub mod Counted

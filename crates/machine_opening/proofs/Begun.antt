@@ -13,14 +13,14 @@ use Rattle.opening_answers.specs.declared.refusals.OpenError.{OpenError}
 use Rattle.opening_answers.specs.Opening.{MayBegin, OpeningCause, SizeFirst, TellsCold, TellsOpening}
 use Rattle.opening_answers.specs.Renewal.{IsRenewed, first_writer}
 use Rattle.opening_parts.specs.Parts.{AreOpeningParts, OpeningParts}
-use Rattle.journal.specs.State.{JournalState}
+use Rattle.disk_law.specs.Journal.{JournalState}
 use Rattle.tm_machine.specs.Opening.{IsOpenedWith}
 use Rattle.tm_machine.specs.OnSlots.{HasSlots, slots_now}
 use Rattle.tm_machine.specs.Parts.{PartsState}
 use Rattle.machine_life.proofs.Openings.{no_units}
 use Rattle.parts_life.proofs.Opening.{opened_by, opened_kept, opened_ready, slots_of_opening}
 use Rattle.parts_life.specs.Carried.{IsCarried}
-use Rattle.machine_checkpoint.specs.Logged.{IsLogged}
+use Rattle.parts_life.specs.Logged.{IsLogged}
 use Rattle.control_life.specs.declared.how.How.{How}
 use Rattle.control_life.specs.declared.how.How.TheVariants.{Found, Cold}
 use Rattle.machine_opening.specs.Opened.{BeginsOn, OpensOn}

@@ -4,7 +4,7 @@ ghost use Rattle.model_disk.specs.Disk.{Stays, Within, Only};
 ghost use Rattle.model_machine.specs.Machine.{empty_state, start_of};
 ghost use Rattle.opening_answers.specs.Opening.{OpeningCause};
 ghost use Rattle.machine_life.proofs.Openings.{no_units};
-ghost use Rattle.machine_checkpoint.specs.Logged.{IsLogged};
+ghost use Rattle.parts_life.specs.Logged.{IsLogged};
 ghost use Rattle.machine_opening.specs.Opened.{OpensOn};
 ghost use Rattle.control_life.specs.Opened.{KeepsBy, Refuses};
 

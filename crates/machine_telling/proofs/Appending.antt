@@ -7,7 +7,8 @@ use Rattle.log_records.specs.Spelling.{spelling, IsRecord}
 use Rattle.log_records.proofs.Takes.{IsBytes, IsBytes-rest}
 use Rattle.log_writer.specs.Writer.{Writer}
 use Rattle.log_writer.specs.Log.{sectors_of}
-use Rattle.journal.specs.State.{JournalState, holding}
+use Rattle.disk_law.specs.Journal.{JournalState}
+use Rattle.journal.specs.State.{holding}
 use Rattle.model_machine.specs.declared.entry.Entry.TheVariants.{Accept}
 use Rattle.model_machine.specs.declared.entry.InputRefused.{InputRefused}
 use Rattle.model_machine.specs.declared.entry.InputRefused.TheVariants.{Terminal, StoppedTerminal, Expected, Conversation, Code, StoppedCode, SegmentsOver, QueueFull, Fault as InputFault}

@@ -10,7 +10,8 @@ use Rattle.disk_law.specs.Changes.{with_bytes}
 use Rattle.model_machine.specs.declared.entry.InputRefused.{InputRefused}
 use Rattle.model_machine.specs.declared.entry.InputRefused.TheVariants.{Fault}
 use Rattle.model_machine.specs.declared.entry.Taken.{Taken}
-use Rattle.journal.specs.State.{JournalState, LeavesSectors}
+use Rattle.disk_law.specs.Journal.{JournalState}
+use Rattle.journal.specs.State.{LeavesSectors}
 
 -- With so many bytes more the log's area has room for all.
 abbrev pub HasRoom : ℕ → Writer → Type 0

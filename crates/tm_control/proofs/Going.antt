@@ -16,7 +16,7 @@ use Rattle.tm_machine.specs.Answers.{IsAnswered}
 use Rattle.model_image.specs.Recovered.{Recovers}
 use Rattle.disk_law.specs.Kept.{RecoversEither}
 use Rattle.checkpointing.specs.Texts.{HasText}
-use Rattle.journal.specs.State.{JournalState}
+use Rattle.disk_law.specs.Journal.{JournalState}
 use Rattle.logged_machine.specs.Logged.{LoggedState, LastsNow}
 use Rattle.logged_machine.specs.Goes.{Keeps, WentOn, Failed, StoodStill, GoesBy, CrashesBy}
 use Rattle.control_life.specs.Faults.{fault_in}

@@ -1,6 +1,6 @@
 use Rattle.std.proofs.Common.{true, subst, List, ℕ, length}
 use Rattle.machine_life.proofs.Openings.{no_units}
-use Rattle.machine_checkpoint.specs.Logged.{IsLogged}
+use Rattle.parts_life.specs.Logged.{IsLogged}
 use Rattle.logged_machine.proofs.Serving.{are_lasting}
 use Rattle.logged_machine.proofs.opening.open_parts.Goals as goal
 

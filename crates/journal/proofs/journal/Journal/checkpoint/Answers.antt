@@ -7,7 +7,7 @@ use Rattle.checkpointing.specs.Checkpoint.{IsCheckpointed}
 use Rattle.checkpoint_law.specs.Checkpointing.{after_checkpoint}
 use Rattle.disk_law.specs.Life.{LifeOnDisk}
 use Rattle.disk_law.specs.Kept.{AreKept}
-use Rattle.journal.specs.State.{JournalState}
+use Rattle.disk_law.specs.Journal.{JournalState}
 use Rattle.restart_data.specs.declared.restart.RestartSector.{RestartSector}
 use Rattle.journal.specs.Checkpoints.{IsOf, parts_for}
 use Rattle.journal.proofs.Stepping.{when_done}

@@ -4,7 +4,7 @@ use Rattle.model_machine.specs.declared.entry.AckRefused.TheVariants.{Fault}
 use Rattle.model_machine.specs.declared.entry.ControlFault.TheVariants.{Disk}
 use Rattle.model_machine.specs.declared.entry.Entry.TheVariants.{Acked}
 use Rattle.parts_life.specs.Steps.{is_removed}
-use Rattle.machine_checkpoint.specs.Counted.{IsCounted}
+use Rattle.machine_life.specs.Counted.{IsCounted}
 use Rattle.logged_machine.specs.Logged.{LoggedState}
 use Rattle.logged_machine.proofs.Attempts.{ack_attempt, did_failed, did_forced, did_quiet, force_area, force_ready, force_sequences, logged_forced, logged_quiet}
 use Rattle.logged_machine.proofs.logged.LoggedMachine.acknowledge_once.Goals as goal

@@ -4,7 +4,7 @@ use Rattle.model_machine.specs.declared.entry.ControlFault.TheVariants.{Disk}
 use Rattle.model_machine.specs.declared.entry.Entry.TheVariants.{Turn}
 use Rattle.tm_machine.specs.Told.{ends_work}
 use Rattle.machine_life.specs.Turning.{unit_of}
-use Rattle.machine_checkpoint.specs.Counted.{IsCounted}
+use Rattle.machine_life.specs.Counted.{IsCounted}
 use Rattle.logged_machine.specs.Logged.{LoggedState}
 use Rattle.logged_machine.proofs.Attempts.{ended_same, turn_attempt, did_failed, did_forced, did_quiet, force_area, force_ready, force_sequences, logged_forced, logged_quiet}
 use Rattle.logged_machine.proofs.logged.LoggedMachine.turn_once.Goals as goal
