@@ -9,17 +9,15 @@ pub use conversing::{KeptInput, kept_first};
 pub use limits::COUNT_LIMIT;
 pub use log_records::Untold;
 pub use shown::Shown;
-pub use tables::{Enqueued, Tables, empty_lasting};
+pub use tables::{Enqueued, Tables};
 
 mod abend;
 mod commanding;
 mod conversing;
-mod databases;
 mod lending;
 mod limits;
 mod opening;
 mod sending;
-mod settings;
 mod shown;
 mod tables;
 mod telling;

@@ -15,14 +15,13 @@ ghost use Rattle.lasting_state.specs.Showing.{IsShown};
 use crate::Shown;
 use crate::abend::abend_outputs;
 use crate::conversing::{KeptInput, begin, change_pad, discarded_pad};
-use crate::databases::empty_rows;
 use crate::limits::COUNT_LIMIT;
 use crate::sending::{bytes_of, send_all};
-use crate::settings::first_settings;
-use crate::terminals::{fresh_states, note_input};
+use crate::terminals::note_input;
 use conversation::{Conversations, without_conversations};
+use first_state::fresh_states;
 use model_conversation::PadChange;
-use model_machine::{AckRefused, Acked, Lasting, TerminalState};
+use model_machine::{AckRefused, Acked, TerminalState};
 use model_message::EndedMessage;
 use msg_queues::{QueueRefused, Queues};
 use out_queues::{AckAhead, Acked as OutputAcked, Outputs, fresh_terminals};
@@ -337,20 +336,4 @@ impl Tables {
             Err(AckAhead { first }) => Err(AckRefused::Ahead(first)),
         }
     }
-}
-
-/// What lasts of the empty machine of this system.
-pub fn empty_lasting(alloc: Global, system: &System) -> Result<Lasting, Memory>
-    ensures { IfOk result (λ lasting. lasting ≡ empty_state system.now) }
-{
-    Ok(Lasting {
-        rows: empty_rows(alloc, system.databases())?,
-        messages: Vec::new(alloc),
-        next_id: 1,
-        terminals: fresh_states(alloc, system.terminals())?,
-        outputs: fresh_terminals(alloc, system.terminals())?,
-        conversations: without_conversations(alloc, system.terminals())?,
-        codes: first_settings(alloc, system.codes())?,
-        steps: 0,
-    })
 }

@@ -1,32 +1,9 @@
 //! The terminals, with the numbers of their last inputs.
-ghost use Rattle.std.specs.Prelude.{◌≡◌, ◌<◌, Some, IfOk, length, map};
+ghost use Rattle.std.specs.Prelude.{◌≡◌, ◌<◌, Some, length};
 ghost use Rattle.model_system.specs.Lists.{change_at};
-ghost use Rattle.model_machine.specs.Machine.{fresh_terminal_state};
 ghost use Rattle.model_machine.specs.Lasting.{with_last};
 
 use model_machine::TerminalState;
-use std::alloc::Global;
-use tm_types::{Memory, Name};
-
-/// These terminals, none of whose numbers is used.
-pub fn fresh_states(alloc: Global, terminals: &[Name]) -> Result<Vec<TerminalState>, Memory>
-    ensures { IfOk result (λ states. states.items ≡ map fresh_terminal_state terminals.now) }
-{
-    terminals
-        .iter()
-        .map(|name| fresh_state(name))
-        .collect(alloc)
-}
-
-fn fresh_state(name: &Name) -> TerminalState
-    ensures { result ≡ fresh_terminal_state name.now }
-{
-    TerminalState {
-        name: *name,
-        last: 0,
-        stopped: false,
-    }
-}
 
 /// Makes this number the last input's of the terminal at this place.
 pub fn note_input(terminals: &mut Vec<TerminalState>, place: usize, number: u64)
