@@ -42,10 +42,11 @@ pub fn run<S: Source, K: Sink, D: Disk>(
     ensures taken { IsBack (S.left source.old) (S.left source.new) }
     ensures whole { IsReadToEnd result.status (S.left source.new) }
 
-    // Where the words are valid, no count of the source or the sink rose and no limit is met, the status is that of the definition, or memory was wanting, or the disk decides it.
+    // Where the words are valid, no count of the source or the sink rose and no limit is met, the status is that of the definition, or memory was wanting, or the disk decides it: not where it
+    // can be opened as it is handed in and doesn't fail, but by a spent counter.
     ensures complete { IsNone (word_fault (map (λ word. string_bytes word) words.now)) →
         ¬ HasRisen (S.faults source.old) (S.faults source.new) → ¬ HasRisen (K.faults sink.old) (K.faults sink.new) →
-        IsWithinLimits (S.left source.old) → IsComplete (S.left source.old) result.status }
+        IsWithinLimits (S.left source.old) → IsComplete (S.left source.old) (D.state disk) (D.state result.disk) result.status result.stops }
 {
     let mut line = Printed::new(alloc);
     if line.make_room(LAST_ROOM).is_err() {
