@@ -24,8 +24,8 @@ const LAST_ROOM: usize = 128;
 /// leaves the status as it is. The disk is opened behind the definition, and handed back in the end.
 ///
 /// Status 1 comes exactly where the words break a rule, and 2 exactly where the definition breaks
-/// one; 3 where the source ended while the system was down by a stop; 4 and 5 only where the source or the sink failed in this
-/// call; 6 where the disk can't be opened and no life has begun; 9 where a line has 4,097
+/// one; 3 exactly where the source ended while the system was down by a stop, which is told; 4 and 5 only where the source or the
+/// sink failed in this call; 6 where no life has begun and the disk, as it was handed in, can't be opened; 9 where a line has 4,097
 /// bytes or more or is past the millionth, or a counter is spent; 7 for want of memory. Status 0 says that the source was
 /// read to its end. With every status but 4 and 5 no call over the source or the sink failed, the
 /// writing of the status line apart.
