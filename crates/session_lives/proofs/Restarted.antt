@@ -1,11 +1,11 @@
 -- A system that was down, and what a restart comes to.
-use Rattle.std.proofs.Common.{◌≡◌, ◌⊎◌, ℕ, ◌+◌, ◌-◌, ◌≤◌, Bool, true, false, List, [], ◌∷◌, ◌++◌, map, sym, ◌∙◌, ap, subst, refl, arith, inl, inr, ⊎_elim}
+use Rattle.std.proofs.Common.{◌≡◌, ◌⊎◌, ℕ, suc, ◌+◌, ◌-◌, ◌≤◌, Bool, true, false, List, [], ◌∷◌, ◌++◌, map, sym, ◌∙◌, ap, subst, refl, arith, inl, inr, ⊎_elim}
 use Rattle.std.proofs.lemmas.List.{map-append}
-use Rattle.std.proofs.lemmas.Bool.{cases_Bool}
-use Rattle.std.specs.Prelude.{Option, Some, None, Result, Ok, Err, IsTrue}
+use Rattle.std.proofs.lemmas.Bool.{cases_Bool, eq-eqb}
+use Rattle.std.specs.Prelude.{◌==◌, if◌then◌else◌, Option, Some, None, Result, Ok, Err, IsTrue}
 use Rattle.std.specs.Option.{option_map, is_some}
 use Rattle.model_disk.specs.Disk.{Image, DiskState, IsDisk, Stays, ComesFrom, Within, Only, Rose}
-use Rattle.model_disk.proofs.Words.{stays_on, within_each}
+use Rattle.model_disk.proofs.Words.{stays_on, within_each, leaves_none}
 use Rattle.model_system.specs.System.{System}
 use Rattle.model_machine.specs.Machine.{LastingState, empty_state}
 use Rattle.model_image.specs.Alike.{RecoversAlike}
@@ -18,12 +18,19 @@ use Rattle.model_session.specs.declared.asked.Asked.{Asked}
 use Rattle.model_session.specs.declared.asked.Asked.TheVariants.{Bad, BadCommand, Stopped, Call, Quiet, Power, PowerIn, Restart, ColdStart}
 use Rattle.model_session.specs.Text.{broken_text, opened_text, image_text, down_text}
 use Rattle.model_session.specs.Lives.{LifeState, LastLife, AreLegal, Leaves, with_life}
-use Rattle.model_session.specs.Standing.{Setting, Standing, Outage, SessionState, Stop, AreStops, MayBeFound, MayHold, LastAnswered, IsLeft, HasNoLife, or_cold, opened, failed}
+use Rattle.model_session.specs.Standing.{Setting, Standing, Outage, SessionState, Stop, AreStops, MayBeFound, MayHold, MayRefuseFirst, LastAnswered, IsLeft, or_cold, opened, failed}
 use Rattle.model_session.specs.Standing.Standing.{Up as StandsUp, Down as StandsDown}
 use Rattle.model_session.specs.Session.{MayOpen, MayRefuse, IsRestarted, Opens as OpensLife, FailsToOpen}
-use Rattle.cold_start.specs.FirstImage.{KeepsOrEmpties}
+use Rattle.restart_data.specs.Restart.{restart_in}
+use Rattle.model_machine.specs.declared.counts.Counter.{Counter}
+use Rattle.model_image.specs.Areas.{snapshot_area}
+use Rattle.model_image.specs.Counters.{next_sequence}
+use Rattle.model_image.specs.Text.{text_in, first_difference}
+use Rattle.cold_start.specs.FirstImage.{KeepsOrEmpties, sectors_needed}
+use Rattle.opening_answers.specs.declared.refusals.OpenError.{OpenError}
+use Rattle.opening_answers.specs.declared.refusals.OpenError.TheVariants.{Spent as SpentCounter}
 use Rattle.opening_parts.specs.Parts.{OpeningParts}
-use Rattle.opening_answers.specs.Opening.{TellsOpening}
+use Rattle.opening_answers.specs.Opening.{TellsOpening, SizeFirst, IsOther, IsSpent}
 use Rattle.control_life.specs.Opened.{KeepsBy, Begins, Refuses}
 use Rattle.tm_control.specs.OnDisk.{ControlOnDisk}
 use Rattle.tm_control.specs.Closed.{Opens}
@@ -32,13 +39,13 @@ use Rattle.session_lives.specs.declared.called.Opening.{Opening}
 use Rattle.session_lives.specs.declared.called.Opening.TheVariants.{Opened, Broke as OpeningBroke, Refused, Memory as OpeningMemory, Spent as OpeningSpent}
 use Rattle.session_lives.specs.declared.called.Served.{Served}
 use Rattle.session_lives.specs.declared.called.Served.TheVariants.{Printed, Broke, Undone as NotServed}
-use Rattle.session_lives.specs.declared.called.Undone.TheVariants.{Memory as NoMemory, Spent as SpentCounter, Image as BadImage}
+use Rattle.session_lives.specs.declared.called.Undone.TheVariants.{Memory as NoMemory, Spent as NoCounter, Image as BadImage}
 use Rattle.session_lives.specs.declared.place.Idle.{Idle}
 use Rattle.session_lives.specs.declared.place.Place.TheVariants.{Up, Down}
 use Rattle.session_lives.specs.declared.place.Kept.{Kept}
 use Rattle.session_lives.specs.declared.place.Session.{Session}
-use Rattle.session_lives.specs.Running.{life_of, last_of, last_up, kept_of, outage_of, session_at, session_of, session_down, setting_of, LeadsBy, IsFoundAs, Recalls, IsUnopened, Holds, IsUpSound, IsDownSound, IsSound, IsSoundAt}
-use Rattle.session_lives.specs.Openings.{how_of, kept_by, with_last, HasOpened, StaysIdle, HasFailed, HasGone, IsToldSo, IsRefusalTold, IsRestartedSo, UndoneBy, IsServedSo, restart_of, error_of}
+use Rattle.session_lives.specs.Running.{life_of, last_of, last_up, kept_of, outage_of, session_at, session_of, session_down, setting_of, LeadsBy, IsFoundAs, IsRefusedFirst, Recalls, IsUnopened, Holds, IsUpSound, IsDownSound, IsSound, IsSoundAt, error_of}
+use Rattle.session_lives.specs.Openings.{how_of, kept_by, with_last, HasOpened, StaysIdle, HasFailed, HasGone, RefusesSpent, FindsSpent, SpentBehind, IsToldSo, IsRefusalTold, IsRestartedSo, UndoneBy, IsServedSo, restart_of}
 use Rattle.session_lives.proofs.Ends.{state_with, same_state, outage_with, life_with, same_life, stops_one, rose_from}
 
 some_is : (a b : Bool) → Some b ≡ Some a → a ≡ b
@@ -50,8 +57,34 @@ SameAnswer a b = a ≡ b
 ok_is : (a b : LastingState) → SameAnswer (Ok a) (Ok b) → a ≡ b
 ok_is a b e = cc
 
-ok_or_err : (a : LastingState) (fault : Fault) → SameAnswer (Ok a) (Err fault) → ⊥
+pub ok_or_err : (a : LastingState) (fault : Fault) → SameAnswer (Ok a) (Err fault) → ⊥
 ok_or_err a fault e = cc
+
+true_or_false : (b : Bool) → b ≡ true → b ≡ false → ⊥
+true_or_false true is not = cc
+true_or_false false is not = cc
+
+some_last : (last : Option Life) → is_some last ≡ true → is_some (option_map last_of last) ≡ true
+some_last None is = cc
+some_last (Some life) is = refl
+
+-- ---- texts
+
+some_none : (place : ℕ) (o : Option ℕ) → o ≡ None → o ≡ Some place → ⊥
+some_none place o none some = cc
+
+first_none : (same : Bool) (rest : Option ℕ) → same ≡ true → rest ≡ None → (if same then option_map (λ n. suc n) rest else Some 0) ≡ None
+first_none true rest is none = ap (option_map (λ n. suc n)) none
+first_none false rest is none = cc
+
+no_difference_in : (text : List ℕ) → first_difference text text ≡ None
+no_difference_in [] = refl
+no_difference_in (b ∷ text) = first_none (b == b) (first_difference text text) (eq-eqb b b refl) (no_difference_in text)
+
+-- a text doesn't differ from itself
+pub no_difference : (text there : List ℕ) (place : ℕ) → there ≡ text → first_difference text there ≡ Some place → ⊥
+no_difference text there place same differs =
+    some_none place (first_difference text there) (ap (first_difference text) same ∙ no_difference_in text) differs
 
 -- ---- lives
 
@@ -76,13 +109,13 @@ legal_with system (first ∷ lives) None answered kept legal is = legal
 legal_with system [] (Some life) answered kept legal is = (is.legal, is.numbers, tt)
 legal_with system (first ∷ lives) (Some life) answered kept legal is = (legal.0, legal.1, legal_with system lives (Some life) answered kept legal.2 is)
 
-module _ {D : Type 0} (state : D → DiskState) (is_disk : (disk : D) → IsDisk (state disk)) (system : System) (handed : D) (idle : Idle D) (old : Kept) (session : Session D)
-    (sound : IsDownSound state system handed idle old) where
+module _ {D : Type 0} (state : D → DiskState) (is_disk : (disk : D) → IsDisk (state disk)) (system : System) (source : List ℕ) (handed : D) (idle : Idle D) (old : Kept) (session : Session D)
+    (sound : IsDownSound state system source handed idle old) where
   abbrev before : SessionState
   before = session_at (Down idle) old
 
   abbrev setting : Setting
-  setting = setting_of state system handed
+  setting = setting_of state system source handed
 
   abbrev outage : Outage
   outage = outage_of idle
@@ -107,7 +140,7 @@ module _ {D : Type 0} (state : D → DiskState) (is_disk : (disk : D) → IsDisk
   count_found kept opening (inl left) = inl (counted_as idle.last kept opening left)
   count_found kept opening (inr emptied) = inr emptied
 
-  found_by : (image : Image) (opening : LastingState) → Holds state system handed (StandsDown outage) image → Recovers system image (Ok opening)
+  found_by : (image : Image) (opening : LastingState) → Holds state system source handed (StandsDown outage) image → Recovers system image (Ok opening)
       → MayBeFound setting outage (count_of idle.last false opening.steps) opening
   found_by image opening (inl recalls) recovers =
       let same : opening ≡ recalls.state = ok_is opening recalls.state (one_answer_of system image (Ok opening) (Ok recalls.state) recovers recalls.recovers) in
@@ -118,7 +151,7 @@ module _ {D : Type 0} (state : D → DiskState) (is_disk : (disk : D) → IsDisk
   tells_now : setting.tells ≡ true → (state idle.disk).tells ≡ true
   tells_now tells = sound.stays.tells ∙ tells
 
-  shown_holds : setting.tells ≡ true → Holds state system handed (StandsDown outage) (state idle.disk).shown
+  shown_holds : setting.tells ≡ true → Holds state system source handed (StandsDown outage) (state idle.disk).shown
   shown_holds tells = sound.images (state idle.disk).shown ((is_disk idle.disk).shown_left (tells_now tells))
 
   -- what the disk tells when it was opened
@@ -141,6 +174,9 @@ module _ {D : Type 0} (state : D → DiskState) (is_disk : (disk : D) → IsDisk
 
   -- ---- a life opened
 
+  sectors_there : sectors_needed idle.system ≤ (state idle.disk).size → sectors_needed system ≤ (state handed).size
+  sectors_there enough = subst (λ n. sectors_needed system ≤ n) sound.stays.size (subst (λ s. sectors_needed s ≤ (state idle.disk).size) sound.system_is enough)
+
   opened_state : (cold : Bool) (gone : HasOpened state idle old cold session) → session_of session ≡ opened before outage (count_of idle.last cold gone.control.control.opening.steps) gone.control.control.opening
   opened_state cold gone =
       ap (λ p. session_at p session.kept) gone.place
@@ -149,11 +185,13 @@ module _ {D : Type 0} (state : D → DiskState) (is_disk : (disk : D) → IsDisk
       (ap (map life_of) gone.lives ∙ lives_with old.lives.items idle.last cold gone.control.control.opening.steps) gone.stops
       (ap StandsUp (same_life gone.control.control.opening gone.control.control.opening [] gone.control.control.history refl gone.opens.history))
 
-  opened_sound : (cold : Bool) → HasOpened state idle old cold session → IsSound state system handed session
+  opened_sound : (cold : Bool) → HasOpened state idle old cold session → IsSound state system source handed session
   opened_sound cold gone =
-      subst (λ p. IsSoundAt state system handed p session.kept) (sym gone.place) (record {
+      subst (λ p. IsSoundAt state system source handed p session.kept) (sym gone.place) (record {
         handed_alone = sound.handed_alone;
         system_is = gone.opens.system_is ∙ sound.system_is;
+        text_is = gone.opens.text_is ∙ sound.text_is;
+        size = sectors_there gone.opens.size;
         stays = stays_on (state handed) (state idle.disk) (state gone.control.disk) sound.stays gone.opens.stays;
         stops = subst (λ n. AreStops (state handed).faults session.kept.stops.items n) (sym gone.opens.began)
             (subst (λ s. AreStops (state handed).faults s (state idle.disk).faults) (sym gone.stops) sound.stops);
@@ -177,7 +215,7 @@ module _ {D : Type 0} (state : D → DiskState) (is_disk : (disk : D) → IsDisk
       (ap (map life_of) gone.lives) gone.stops (ap StandsDown (outage_after gone.after (or_cold cold outage.emptied) true gone.last gone.emptied gone.stopped))
 
   -- what was held before is held still, where a cold start may have emptied it
-  keeps_holding : (cold : Bool) (image : Image) → Holds state system handed (StandsDown outage) image → Holds state system handed (StandsDown (outage_with outage.last (or_cold cold outage.emptied) true)) image
+  keeps_holding : (cold : Bool) (image : Image) → Holds state system source handed (StandsDown outage) image → Holds state system source handed (StandsDown (outage_with outage.last (or_cold cold outage.emptied) true)) image
   keeps_holding cold image (inl recalls) = inl (record { state = recalls.state; recovers = recalls.recovers; may = (recalls.may.0, still cold recalls.may.1) })
     where
       still : (cold : Bool) → MayBeFound setting outage recalls.may.0 recalls.state → MayBeFound setting (outage_with outage.last (or_cold cold outage.emptied) true) recalls.may.0 recalls.state
@@ -186,15 +224,15 @@ module _ {D : Type 0} (state : D → DiskState) (is_disk : (disk : D) → IsDisk
       still false (inr emptied) = inr emptied
   keeps_holding cold image (inr unopened) = inr (record { no_life = unopened.no_life; before = unopened.before; left = unopened.left; alike = unopened.alike })
 
-  alike_holds : (first image : Image) → RecoversAlike system first image → Holds state system handed (StandsDown outage) first → Holds state system handed (StandsDown outage) image
+  alike_holds : (first image : Image) → RecoversAlike system first image → Holds state system source handed (StandsDown outage) first → Holds state system source handed (StandsDown outage) image
   alike_holds first image alike (inl recalls) = inl (record { state = recalls.state; recovers = alike (Ok recalls.state) recalls.recovers; may = recalls.may })
   alike_holds first image alike (inr unopened) =
       inr (record { no_life = unopened.no_life; before = unopened.before; left = unopened.left; alike = λ answer is. alike answer (unopened.alike answer is) })
 
-  broken_by : (cold : Bool) (first image : Image) → KeepsBy (how_of cold) system first image → Holds state system handed (StandsDown outage) first
-      → Holds state system handed (StandsDown (outage_with outage.last (or_cold cold outage.emptied) true)) image
+  broken_by : (cold : Bool) (first image : Image) → KeepsBy (how_of cold) system first image → Holds state system source handed (StandsDown outage) first
+      → Holds state system source handed (StandsDown (outage_with outage.last (or_cold cold outage.emptied) true)) image
   broken_by false first image alike holds = keeps_holding false image (alike_holds first image alike holds)
-  broken_by true first image (inl same) holds = keeps_holding true image (subst (λ i. Holds state system handed (StandsDown outage) i) (sym same) holds)
+  broken_by true first image (inl same) holds = keeps_holding true image (subst (λ i. Holds state system source handed (StandsDown outage) i) (sym same) holds)
   broken_by true first image (inr empty) holds = inl (record { state = empty_state system; recovers = empty; may = (0, inr (refl, refl)) })
 
   same_image : (cold : Bool) (image : Image) → KeepsBy (how_of cold) system image image
@@ -202,7 +240,7 @@ module _ {D : Type 0} (state : D → DiskState) (is_disk : (disk : D) → IsDisk
   same_image true image = inl refl
 
   failed_holds : (cold : Bool) (gone : HasFailed state idle old cold session) (image : Image) → (state gone.after.disk).may_leave image
-      → Holds state system handed (StandsDown (outage_with outage.last (or_cold cold outage.emptied) true)) image
+      → Holds state system source handed (StandsDown (outage_with outage.last (or_cold cold outage.emptied) true)) image
   failed_holds cold gone image left =
       let within : Within (KeepsBy (how_of cold) system) (state idle.disk) (state gone.disk) = subst (λ s. Within (KeepsBy (how_of cold) s) (state idle.disk) (state gone.disk)) sound.system_is gone.back.any_moment in
       let comes : ComesFrom (KeepsBy (how_of cold) system) (state idle.disk) image =
@@ -210,13 +248,16 @@ module _ {D : Type 0} (state : D → DiskState) (is_disk : (disk : D) → IsDisk
       ((is_disk gone.disk).now_counts (state idle.disk).clock image within.later (gone.cut.no_more image left)) in
       broken_by cold comes.before image comes.by (sound.images comes.before comes.left)
 
-  failed_sound : (cold : Bool) → HasFailed state idle old cold session → IsSound state system handed session
+  failed_sound : (cold : Bool) → HasFailed state idle old cold session → IsSound state system source handed session
   failed_sound cold gone =
       let outage_is : outage_of gone.after ≡ outage_with outage.last (or_cold cold outage.emptied) true = outage_after gone.after (or_cold cold outage.emptied) true gone.last gone.emptied gone.stopped in
       let stays : Stays (state handed) (state gone.disk) = stays_on (state handed) (state idle.disk) (state gone.disk) sound.stays gone.back.stays in
-      subst (λ p. IsSoundAt state system handed p session.kept) (sym gone.place) (record {
+      subst (λ p. IsSoundAt state system source handed p session.kept) (sym gone.place) (record {
         handed_alone = sound.handed_alone;
         system_is = gone.back.system_is ∙ sound.system_is;
+        text_is = gone.back.text_is ∙ sound.text_is;
+        size = λ begun. sound.size (ap is_some (sym gone.last) ∙ begun);
+        texts = λ begun calm. absurd (true_or_false gone.after.stopped gone.stopped calm);
         stays = stays_on (state handed) (state gone.disk) (state gone.after.disk) stays gone.cut.stays;
         stops = subst (λ n. AreStops (state handed).faults session.kept.stops.items n) (sym gone.cut.faults)
             (subst (λ s. AreStops (state handed).faults s (state gone.disk).faults) (sym gone.stops)
@@ -224,7 +265,7 @@ module _ {D : Type 0} (state : D → DiskState) (is_disk : (disk : D) → IsDisk
             (rose_from (state idle.disk).faults (state idle.disk).faults (state gone.disk).faults (omega arith) gone.back.cause)));
         legal = subst (λ l. AreLegal system (map life_of l)) (sym gone.lives) sound.legal;
         answered = subst (λ l. LastAnswered system (option_map last_of l) (kept_of l)) (sym gone.last) sound.answered;
-        images = λ image left. subst (λ o. Holds state system handed (StandsDown o) image) (sym outage_is) (failed_holds cold gone image left);
+        images = λ image left. subst (λ o. Holds state system source handed (StandsDown o) image) (sym outage_is) (failed_holds cold gone image left);
       })
 
   -- ---- all is as it was
@@ -235,18 +276,21 @@ module _ {D : Type 0} (state : D → DiskState) (is_disk : (disk : D) → IsDisk
       ∙ same_state (map life_of old.lives.items) (map life_of session.kept.lives.items) old.stops.items session.kept.stops.items (StandsDown outage) (StandsDown (outage_of idles.after))
       (ap (map life_of) idles.lives) idles.stops (ap StandsDown (outage_after idles.after outage.emptied outage.stopped idles.last idles.emptied idles.stopped))
 
-  idle_sound : StaysIdle state idle old session → IsSound state system handed session
+  idle_sound : StaysIdle state idle old session → IsSound state system source handed session
   idle_sound idles =
       let outage_is : outage_of idles.after ≡ outage = outage_after idles.after outage.emptied outage.stopped idles.last idles.emptied idles.stopped in
-      subst (λ p. IsSoundAt state system handed p session.kept) (sym idles.place) (record {
+      subst (λ p. IsSoundAt state system source handed p session.kept) (sym idles.place) (record {
         handed_alone = sound.handed_alone;
         system_is = idles.system_is ∙ sound.system_is;
+        text_is = idles.text_is ∙ sound.text_is;
+        size = λ begun. sound.size (ap is_some (sym idles.last) ∙ begun);
+        texts = λ begun calm image left. sound.texts (ap is_some (sym idles.last) ∙ begun) (sym idles.stopped ∙ calm) image (idles.wrote.keeps.no_more image left);
         stays = stays_on (state handed) (state idle.disk) (state idles.after.disk) sound.stays idles.wrote.keeps.stays;
         stops = subst (λ n. AreStops (state handed).faults session.kept.stops.items n) (sym idles.wrote.no_fault)
             (subst (λ s. AreStops (state handed).faults s (state idle.disk).faults) (sym idles.stops) sound.stops);
         legal = subst (λ l. AreLegal system (map life_of l)) (sym idles.lives) sound.legal;
         answered = subst (λ l. LastAnswered system (option_map last_of l) (kept_of l)) (sym idles.last) sound.answered;
-        images = λ image left. subst (λ o. Holds state system handed (StandsDown o) image) (sym outage_is) (sound.images image (idles.wrote.keeps.no_more image left));
+        images = λ image left. subst (λ o. Holds state system source handed (StandsDown o) image) (sym outage_is) (sound.images image (idles.wrote.keeps.no_more image left));
       })
 
   -- ---- a disk that can't be opened
@@ -264,33 +308,165 @@ module _ {D : Type 0} (state : D → DiskState) (is_disk : (disk : D) → IsDisk
       (λ unopened. never_none idle.last begun unopened.no_life)
       (shown_holds tells)
 
-  may_refuse : (cold : Bool) (refusal : ImageRefused) → Refuses (how_of cold) idle.system idle.text (state idle.disk) (error_of refusal) → is_some idle.last ≡ true → MayRefuse setting.tells refusal
-  may_refuse cold (Text place) refuses begun = tt
-  may_refuse cold (Size needed has) refuses begun = tt
+  no_size : (cold : Bool) (needed has : ℕ) → Refuses (how_of cold) idle.system idle.text (state idle.disk) (error_of (Size needed has)) → is_some idle.last ≡ true → ⊥
+  no_size cold needed has refuses begun =
+      let enough : sectors_needed system ≤ (state handed).size = sound.size begun in
+      let need : needed ≡ sectors_needed system = refuses.size.right_need ∙ ap sectors_needed sound.system_is in
+      omega (arith, enough, need, refuses.size.right_size, sound.stays.size, refuses.size.less)
+
+  no_text : (place : ℕ) → Refuses (how_of false) idle.system idle.text (state idle.disk) (error_of (Text place)) → is_some idle.last ≡ true → setting.tells ≡ true → idle.stopped ≡ false → ⊥
+  no_text place refuses begun tells calm =
+      let other : IsOther idle.system idle.text (state idle.disk).shown place = refuses.found refl (tells_now tells) in
+      let has : restart_in (snapshot_area system) (state idle.disk).shown ≡ Ok (Some other.restart) =
+      subst (λ s. restart_in (snapshot_area s) (state idle.disk).shown ≡ Ok (Some other.restart)) sound.system_is other.has_restart in
+      let same : text_in (state idle.disk).shown other.restart.text ≡ idle.text =
+      sound.texts begun calm (state idle.disk).shown ((is_disk idle.disk).shown_left (tells_now tells)) other.restart has ∙ sym sound.text_is in
+      no_difference idle.text (text_in (state idle.disk).shown other.restart.text) place same other.differs
+
+  may_refuse : (cold : Bool) (refusal : ImageRefused) → Refuses (how_of cold) idle.system idle.text (state idle.disk) (error_of refusal) → is_some idle.last ≡ true
+      → MayRefuse setting.tells idle.stopped refusal
+  may_refuse cold (Size needed has) refuses begun = no_size cold needed has refuses begun
+  may_refuse true (Text place) refuses begun = absurd (refuses.cold refl)
+  may_refuse false (Text place) refuses begun =
+      ⊎_elim (λ tells. ⊎_elim (λ stopped. inr stopped) (λ calm. absurd (no_text place refuses begun tells calm)) (cases_Bool idle.stopped)) (λ silent. inl silent) (cases_Bool setting.tells)
   may_refuse true (Rule rule sector) refuses begun = absurd (refuses.cold refl)
   may_refuse false (Rule rule sector) refuses begun =
       ⊎_elim (λ tells. absurd (no_rule rule sector refuses begun tells)) (λ silent. silent) (cases_Bool setting.tells)
 
-  no_life : is_some idle.last ≡ false → HasNoLife (StandsDown outage)
+  no_life : is_some idle.last ≡ false → outage.last ≡ None
   no_life none = of idle.last none
     where
       of : (last : Option Life) → is_some last ≡ false → option_map last_of last ≡ None
       of None none = refl
       of (Some life) none = cc
 
+  -- ---- while no life has begun
+
+  -- What is shown recovers as what was handed in; or a cold start broke off since, and it is empty.
+  abbrev AlikeFirst : Type 0
+  AlikeFirst = ((image : Image) → (state handed).may_leave image → RecoversAlike system image (state idle.disk).shown)
+      ⊎ ((outage.emptied ≡ true) × Recovers system (state idle.disk).shown (Ok (empty_state system)))
+
+  alike_found : (lasting : LastingState) → Recovers system (state idle.disk).shown (Ok lasting) → (last : Option LastLife) → last ≡ None → (kept : ℕ) → IsLeft setting last kept lasting
+      → (image : Image) → (state handed).may_leave image → RecoversAlike system image (state idle.disk).shown
+  alike_found lasting recovers (Some life) none kept left image there = cc
+  alike_found lasting recovers None none kept left image there answer is =
+      let found = left image there in
+      subst (λ (a : Result LastingState Fault). Recovers system (state idle.disk).shown a) (one_answer_of system found.found (Ok lasting) answer found.recovers (found.alike answer is)) recovers
+
+  alike_first : outage.last ≡ None → Holds state system source handed (StandsDown outage) (state idle.disk).shown → AlikeFirst
+  alike_first none (inl recalls) = of recalls.may.1
+    where
+      of : MayBeFound setting outage recalls.may.0 recalls.state → AlikeFirst
+      of (inl left) = inl (alike_found recalls.state recalls.recovers outage.last none recalls.may.0 left)
+      of (inr (emptied, empty)) = inr (emptied, subst (λ s. Recovers system (state idle.disk).shown (Ok s)) empty recalls.recovers)
+  alike_first none (inr unopened) = inl (λ image there.
+      subst (λ (i : Image). RecoversAlike system i (state idle.disk).shown) (sym (sound.handed_alone image there ∙ sym (sound.handed_alone unopened.before unopened.left))) unopened.alike)
+
+  size_first : (error : OpenError) → SizeFirst idle.system (state idle.disk).size (Err error) → SizeFirst system (state handed).size (Err error)
+  size_first error size = subst (λ n. SizeFirst system n (Err error)) sound.stays.size (subst (λ s. SizeFirst s (state idle.disk).size (Err error)) sound.system_is size)
+
+  tells_first : (error : OpenError) → TellsOpening idle.system idle.text (state idle.disk).shown (Err error) → TellsOpening system source (state idle.disk).shown (Err error)
+  tells_first error tells =
+      subst (λ (t : List ℕ). TellsOpening system t (state idle.disk).shown (Err error)) sound.text_is
+      (subst (λ s. TellsOpening s idle.text (state idle.disk).shown (Err error)) sound.system_is tells)
+
+  -- So the disk was refused as it was handed in; or a cold start broke off since, and what is shown is empty.
+  refused_first : (error : OpenError) → Refuses (how_of false) idle.system idle.text (state idle.disk) error → outage.last ≡ None
+      → IsRefusedFirst state system source handed error ⊎ ((setting.tells ≡ true) × (outage.emptied ≡ true) × Recovers system (state idle.disk).shown (Ok (empty_state system)))
+  refused_first error refuses none = ⊎_elim told silent (cases_Bool setting.tells)
+    where
+      abbrev Refused : Type 0
+      Refused = IsRefusedFirst state system source handed error ⊎ ((setting.tells ≡ true) × (outage.emptied ≡ true) × Recovers system (state idle.disk).shown (Ok (empty_state system)))
+
+      by_alike : setting.tells ≡ true → AlikeFirst → Refused
+      by_alike tells (inl alike) = inl (record {
+        size = size_first error refuses.size;
+        images = λ image there. record { found = (state idle.disk).shown; alike = alike image there; refused = tells_first error (refuses.found refl (tells_now tells)) };
+      })
+      by_alike tells (inr (emptied, empty)) = inr (tells, emptied, empty)
+
+      told : setting.tells ≡ true → Refused
+      told tells = by_alike tells (alike_first none (shown_holds tells))
+
+      silent : setting.tells ≡ false → Refused
+      silent dumb = inl (record { size = size_first error refuses.size; images = λ image there. absurd (leaves_none (state handed) (is_disk handed) dumb image there) })
+
+  too_small_first : (cold : Bool) (needed has : ℕ) → Refuses (how_of cold) idle.system idle.text (state idle.disk) (error_of (Size needed has)) → IsRefusedFirst state system source handed (error_of (Size needed has))
+  too_small_first cold needed has refuses = record {
+    size = size_first (error_of (Size needed has)) refuses.size;
+    images = λ image there. record { found = image; alike = λ answer is. is; refused = tt };
+  }
+
+  may_refuse_first : (cold : Bool) (refusal : ImageRefused) → Refuses (how_of cold) idle.system idle.text (state idle.disk) (error_of refusal) → outage.last ≡ None → MayRefuseFirst setting outage.emptied refusal
+  may_refuse_first cold (Size needed has) refuses none = too_small_first cold needed has refuses
+  may_refuse_first true (Rule rule sector) refuses none = absurd (refuses.cold refl)
+  may_refuse_first false (Rule rule sector) refuses none = of (refused_first (error_of (Rule rule sector)) refuses none)
+    where
+      of : IsRefusedFirst state system source handed (error_of (Rule rule sector)) ⊎ ((setting.tells ≡ true) × (outage.emptied ≡ true) × Recovers system (state idle.disk).shown (Ok (empty_state system)))
+          → IsRefusedFirst state system source handed (error_of (Rule rule sector))
+      of (inl first) = first
+      of (inr (tells, emptied, empty)) =
+          let broken : Recovers system (state idle.disk).shown (Err (rule, sector)) =
+          subst (λ s. Recovers s (state idle.disk).shown (Err (rule, sector))) sound.system_is (refuses.found refl (tells_now tells)).recovers in
+          absurd (ok_or_err (empty_state system) (rule, sector) (one_answer_of system (state idle.disk).shown (Ok (empty_state system)) (Err (rule, sector)) empty broken))
+  may_refuse_first true (Text place) refuses none = absurd (refuses.cold refl)
+  may_refuse_first false (Text place) refuses none = of (refused_first (error_of (Text place)) refuses none)
+    where
+      of : IsRefusedFirst state system source handed (error_of (Text place)) ⊎ ((setting.tells ≡ true) × (outage.emptied ≡ true) × Recovers system (state idle.disk).shown (Ok (empty_state system)))
+          → MayRefuseFirst setting outage.emptied (Text place)
+      of (inl first) = inl first
+      of (inr (tells, emptied, empty)) = inr emptied
+
+  -- ---- a counter is spent
+
+  spent_found : (counter : Counter) → Refuses (how_of false) idle.system idle.text (state idle.disk) (SpentCounter counter) → setting.tells ≡ true → FindsSpent setting outage
+  spent_found counter refuses tells =
+      let is : IsSpent idle.system idle.text (state idle.disk).shown counter = refuses.found refl (tells_now tells) in
+      record {
+        kept = count_of idle.last false is.state.steps;
+        state = is.state;
+        found = found_by (state idle.disk).shown is.state (shown_holds tells) (subst (λ s. Recovers s (state idle.disk).shown (Ok is.state)) sound.system_is is.found.recovers);
+        spent = record {
+          epoch = is.restart.epoch;
+          sequence = next_sequence idle.system (state idle.disk).shown is.restart;
+          checkpoint = is.restart.checkpoint;
+          unit = is.unit;
+          counter = counter;
+          spent = is.spent;
+        };
+      }
+
+  spent_first : (counter : Counter) → Refuses (how_of false) idle.system idle.text (state idle.disk) (SpentCounter counter) → outage.last ≡ None → setting.spends ⊎ (outage.emptied ≡ true)
+  spent_first counter refuses none = of (refused_first (SpentCounter counter) refuses none)
+    where
+      of : IsRefusedFirst state system source handed (SpentCounter counter) ⊎ ((setting.tells ≡ true) × (outage.emptied ≡ true) × Recovers system (state idle.disk).shown (Ok (empty_state system)))
+          → setting.spends ⊎ (outage.emptied ≡ true)
+      of (inl first) = inl (record { counter = counter; spent = first })
+      of (inr (tells, emptied, empty)) = inr emptied
+
+  spent_down : (cold : Bool) → RefusesSpent state idle cold → SpentBehind outage.last setting outage
+  spent_down true spent = absurd (spent.refuses.cold refl)
+  spent_down false spent = of outage.last refl
+    where
+      of : (last : Option LastLife) → outage.last ≡ last → SpentBehind last setting outage
+      of None none = spent_first spent.counter spent.refuses none
+      of (Some life) is = λ tells. spent_found spent.counter spent.refuses tells
+
   -- ---- all of it
 
   abbrev Restarted : Bool → List ℕ → Served → Type 0
   Restarted cold text Printed = IsRestarted cold setting before outage (session_of session) text
   Restarted cold text Broke = IsRestarted cold setting before outage (session_of session) broken_text
-  Restarted cold text (NotServed undone) = (session_of session ≡ before) × UndoneBy undone before
+  Restarted cold text (NotServed undone) = (session_of session ≡ before) × UndoneBy undone setting before
 
   refused : (cold begun : Bool) (refusal : ImageRefused) (text : List ℕ) (served : Served) → is_some idle.last ≡ begun → StaysIdle state idle old session
       → Refuses (how_of cold) idle.system idle.text (state idle.disk) (error_of refusal) → IsRefusalTold begun refusal text served → Restarted cold text served
   refused cold true refusal text served is idles refuses (printed, same) =
       subst (λ s. Restarted cold text s) (sym printed)
-      (inr (inr (record { refusal = refusal; may = may_refuse cold refusal refuses is; stays = idle_state idles; printed = same })))
-  refused cold false refusal text served is idles refuses undone = subst (λ s. Restarted cold text s) (sym undone) (idle_state idles, no_life is)
+      (inr (inr (record { refusal = refusal; begun = some_last idle.last is; may = may_refuse cold refusal refuses is; stays = idle_state idles; printed = same })))
+  refused cold false refusal text served is idles refuses undone = 
+      subst (λ s. Restarted cold text s) (sym undone) (idle_state idles, no_life is, may_refuse_first cold refusal refuses (no_life is))
 
   -- a life that opened, and a disk that failed
   pub opens_gone : (cold : Bool) → HasOpened state idle old cold session → OpensLife cold setting before outage (session_of session)
@@ -312,23 +488,23 @@ module _ {D : Type 0} (state : D → DiskState) (is_disk : (disk : D) → IsDisk
       subst (λ s. Restarted cold text s) (sym broke) (inr (inl (fails_gone cold gone, refl)))
   restarted cold (Refused refusal) text served gone told = refused cold (is_some idle.last) refusal text served refl gone.0 gone.1 told
   restarted cold OpeningMemory text served gone why = subst (λ s. Restarted cold text s) (sym why) (idle_state gone, tt)
-  restarted cold OpeningSpent text served gone why = subst (λ s. Restarted cold text s) (sym why) (idle_state gone, tt)
+  restarted cold OpeningSpent text served (gone, spent) why = subst (λ s. Restarted cold text s) (sym why) (idle_state gone, spent_down cold spent)
 
-  pub gone_sound : (cold : Bool) (opening : Opening) → HasGone state idle old cold session opening → IsSound state system handed session
+  pub gone_sound : (cold : Bool) (opening : Opening) → HasGone state idle old cold session opening → IsSound state system source handed session
   gone_sound cold Opened gone = opened_sound cold gone
   gone_sound cold OpeningBroke gone = failed_sound cold gone
   gone_sound cold (Refused refusal) gone = idle_sound gone.0
   gone_sound cold OpeningMemory gone = idle_sound gone
-  gone_sound cold OpeningSpent gone = idle_sound gone
+  gone_sound cold OpeningSpent gone = idle_sound gone.0
 
   -- a block that asks for a restart
   served_restart : (asked : Asked) (text : List ℕ) (served : Served) (cold : Bool) → restart_of asked ≡ Some cold → Restarted cold text served → IsServedSo asked text served setting before (session_of session)
   served_restart Restart text Printed cold is one = subst (λ c. IsRestarted c setting before outage (session_of session) text) (some_is cold false is) one
   served_restart Restart text Broke cold is one = subst (λ c. IsRestarted c setting before outage (session_of session) broken_text) (some_is cold false is) one
-  served_restart Restart text (NotServed undone) cold is one = one
+  served_restart Restart text (NotServed undone) cold is one = (one.0, subst (λ s. UndoneBy undone setting s) (sym one.0) one.1)
   served_restart ColdStart text Printed cold is one = subst (λ c. IsRestarted c setting before outage (session_of session) text) (some_is cold true is) one
   served_restart ColdStart text Broke cold is one = subst (λ c. IsRestarted c setting before outage (session_of session) broken_text) (some_is cold true is) one
-  served_restart ColdStart text (NotServed undone) cold is one = one
+  served_restart ColdStart text (NotServed undone) cold is one = (one.0, subst (λ s. UndoneBy undone setting s) (sym one.0) one.1)
   served_restart (Bad rule) text served cold is one = cc
   served_restart (BadCommand rule) text served cold is one = cc
   served_restart (Stopped terminal number reason) text served cold is one = cc
@@ -338,7 +514,7 @@ module _ {D : Type 0} (state : D → DiskState) (is_disk : (disk : D) → IsDisk
   served_restart (PowerIn writes pick) text served cold is one = cc
 
   pub served_down : (asked : Asked) (text : List ℕ) (served : Served) (cold : Bool) → restart_of asked ≡ Some cold → IsRestartedSo state idle old cold session text served
-      → LeadsBy state (λ setting old new. IsServedSo asked text served setting old new) system handed (session_down idle old) session
+      → LeadsBy state (λ setting old new. IsServedSo asked text served setting old new) system source handed (session_down idle old) session
   served_down asked text served cold is one = record {
     goes = served_restart asked text served cold is (restarted cold one.opening text served one.gone one.told);
     sound = gone_sound cold one.opening one.gone;
