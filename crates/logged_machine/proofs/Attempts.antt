@@ -88,7 +88,7 @@ module _ {D : Type 0} (state : D → DiskState) (parts parts' : PartsState) (tex
 
   writes_quiet : has_step ≡ false → WritesBy state (fault_in entry) (has_lasting_step parts (call_of entry)) (own_bytes parts units (call_of entry)) journal mid disk disk
   writes_quiet none =
-      let w : AppendsAlone (own_bytes parts units (call_of entry)) journal mid disk disk = record { log = log_is; restart = a.told.restart; disk = refl } in
+      let w : AppendsAlone (own_bytes parts units (call_of entry)) journal mid disk disk = record { log = log_is; restart = a.told.restart; disk_is = refl } in
       subst (λ (f : Option ControlFault). WritesBy state f (has_lasting_step parts (call_of entry)) (own_bytes parts units (call_of entry)) journal mid disk disk) (sym a.no_fault)
       (subst (λ (b : Bool). WritesBy state None b (own_bytes parts units (call_of entry)) journal mid disk disk) (sym (step_has ∙ none)) w)
 

@@ -1,7 +1,7 @@
 -- What a call writes, and how far it raises what is counted on.
 use Rattle.std.proofs.Common.{◌≡◌, ◌≤◌, ◌<◌, ◌+◌, ◌*◌, ℕ, Bool, true, false, List, length, refl, sym, ◌∙◌, ap, subst, arith, ⊎_elim, inl, inr}
-use Rattle.std.specs.Prelude.{Option, Some, None, ◌++◌}
-use Rattle.model_disk.specs.Disk.{Image, DiskState, ComesFrom, Within, WritesAtMost}
+use Rattle.std.specs.Prelude.{Option, Some, None}
+use Rattle.model_disk.specs.Disk.{DiskState, ComesFrom, Within, WritesAtMost}
 use Rattle.model_system.specs.System.{System}
 use Rattle.model_machine.specs.History.{call_of}
 use Rattle.model_machine.specs.declared.entry.Entry.{Entry}
@@ -11,14 +11,13 @@ use Rattle.log_writer.specs.Writer.{Writer}
 use Rattle.log_writer.specs.Log.{AddsFront, ChangesOnly, sectors_of}
 use Rattle.disk_law.specs.Changes.{with_bytes}
 use Rattle.disk_law.specs.Journal.{JournalState}
-use Rattle.journal.specs.State.{LeavesSectors, forced}
 use Rattle.tm_machine.specs.Parts.{PartsState}
 use Rattle.parts_life.specs.Logged.{IsLogged}
 use Rattle.machine_telling.specs.Telling.{IsAllBut}
 use Rattle.logged_machine.specs.Logged.{LoggedState}
-use Rattle.logged_machine.specs.Doing.{Broke, Did, Done, DoneFrugally, GoesOnIn, LeavesSo, Refreshed, Tried, Unrefreshed}
-use Rattle.logged_machine.specs.Frugal.{AppendsAlone, DoesNothing, ForceFails, ForcesAll, IsFrugal, Raises, WritesBy, WritesLog, has_lasting_step, own_bytes}
-use Rattle.logged_machine.proofs.Checkpointed.{nothing, nothing_done, unrefreshed}
+use Rattle.logged_machine.specs.Doing.{Done, DoneFrugally, GoesOnIn, Refreshed, Tried, Unrefreshed}
+use Rattle.logged_machine.specs.Frugal.{DoesNothing, Raises, WritesBy, WritesLog, has_lasting_step, own_bytes}
+use Rattle.logged_machine.proofs.Checkpointed.{nothing, unrefreshed}
 use Rattle.logged_machine.proofs.Doing.{did_behind}
 
 -- ---- what a force writes
@@ -55,7 +54,7 @@ module _ {D : Type 0} (state : D → DiskState) where
   nothing_raised l = record { epoch = refl; sequence = omega arith; checkpoint = omega arith; unit = omega arith }
 
   nothing_written : (l : LoggedState D) (step : Bool) (own : List ℕ) → WritesBy state (Some Memory) step own l.journal l.journal l.disk l.disk
-  nothing_written l step own = let d : DoesNothing l.journal l.journal l.disk l.disk = record { journal = refl; disk = refl } in d
+  nothing_written l step own = let d : DoesNothing l.journal l.journal l.disk l.disk = record { journal = refl; disk_is = refl } in d
 
   -- An attempt that left all as it was.
   pub tried_nothing : (old new : LoggedState D) (entry : Entry) → new ≡ old → old.served ≡ true → Tried state (Some Memory) old new entry

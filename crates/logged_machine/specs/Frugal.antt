@@ -51,7 +51,7 @@ pub record WritesLog (log : Writer) (old new : DiskState) : Type 0 where
 pub record AppendsAlone {D : Type 0} (own : List ℕ) (old new : JournalState) (disk disk' : D) : Type 0 where
   pub log : new.log ≡ with_bytes own old.log
   pub restart : new.restart ≡ old.restart
-  pub disk : disk' ≡ disk
+  pub disk_is : disk' ≡ disk
 
 -- They were appended, and all was forced.
 pub record ForcesAll {D : Type 0} (state : D → DiskState) (own : List ℕ) (old new : JournalState) (disk disk' : D) : Type 0 where
@@ -67,7 +67,7 @@ pub record ForceFails {D : Type 0} (state : D → DiskState) (own : List ℕ) (o
 -- Nothing was done.
 pub record DoesNothing {D : Type 0} (old new : JournalState) (disk disk' : D) : Type 0 where
   pub journal : new ≡ old
-  pub disk : disk' ≡ disk
+  pub disk_is : disk' ≡ disk
 
 -- A call that takes no checkpoint, by the fault that it has in place of an answer and by whether a step lasts of it. Where none
 -- does, the disk can't fail in it.

@@ -72,8 +72,8 @@ impl<D: Disk> LoggedMachine<D> {
         requires counted { IsCounted 4294967296 self.old.machine.moment.lasting self.old.next_unit self.old.journal }
         ensures did { Tried D.state (fault_in (TurnEntry region result)) self.old self.new (TurnEntry region result) }
     {
-        let room = all_room(&self.journal);
-        match self.turn_once(region, room) {
+        let all = all_room(&self.journal);
+        match self.turn_once(region, all) {
             Ok(turned) => turned,
             Err(_) => Err(ControlFault::Memory),
         }
