@@ -18,4 +18,4 @@ pub record Opens {D : Type 0} (state : D → DiskState) (how : How) (system : Sy
   pub stays : Stays (state disk) (state new.disk)
   pub size : sectors_needed system ≤ (state disk).size
   pub begins : Begins how system text (state disk) opening new.journal.restart new.journal.log new.next_unit
-  pub any_moment : Within (KeepsBy how system) (state disk) (state new.disk)
+  pub any_moment : Within (KeepsBy how system text) (state disk) (state new.disk)

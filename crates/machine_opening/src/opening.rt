@@ -36,7 +36,7 @@ pub fn open<D: Disk>(
     ensures refuses { IfErr result (λ error. Refuses how parts.old.system text.entry.now (D.state disk.old) error) }
     ensures cause { IfErr result (λ error. OpeningCause (Err error) (D.state disk.old) (D.state disk.new)) }
     ensures stays { Stays (D.state disk.old) (D.state disk.new) }
-    ensures any_moment { Within (KeepsBy how parts.old.system) (D.state disk.old) (D.state disk.new) }
+    ensures any_moment { Within (KeepsBy how parts.old.system text.entry.now) (D.state disk.old) (D.state disk.new) }
 {
     match look(alloc, disk, parts.system(), text, how) {
         Ok((opening, lasting)) => {

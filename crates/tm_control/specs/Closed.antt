@@ -22,7 +22,7 @@ pub record Opens {D : Type 0} (state : D → DiskState) (how : How) (system : Sy
   pub stays : Stays (state disk) (state new.disk)
   pub size : sectors_needed system ≤ (state disk).size
   pub begins : Begins how system text (state disk) new.control.opening new.journal.restart new.journal.log new.next_unit
-  pub any_moment : Within (KeepsBy how system) (state disk) (state new.disk)
+  pub any_moment : Within (KeepsBy how system text) (state disk) (state new.disk)
 
 -- The life is the opening with the history, which is legal; the numbers of its checkpoints ascend. It is kept with the lasting steps that were answered, and no ring
 -- of regions that wait for one another stands behind these. The disk, the system and the text are handed back, with the
