@@ -55,7 +55,7 @@ fn expect(rt: &impl Abort, alloc: Global, lines: &[u8], wanted: (u8, &[u8])) -> 
 /// Power that fails, and what is sent again.
 #[test]
 fn power(rt: HostRuntime) -> Result<(), Fail> {
-    let table: [(&[u8], u8, &[u8]); 8] = [
+    let table: [(&[u8], u8, &[u8]); 11] = [
         // What was acknowledged is there behind a restart, and is taken once.
         (
             b"IN T1 1 ECHO A\nPOWER 0\nRECV T1\n/ERESTART\nIN T1 1 ECHO A\nQUIET 100\nRECV T1\n",
@@ -96,6 +96,23 @@ fn power(rt: HostRuntime) -> Result<(), Fail> {
             b"POWER IN 1 0\nIN T1 1 ECHO HELLO\n",
             3,
             b"ARMED 1\nSTOPPED\nSTATUS 3 DOWN\n",
+        ),
+        // An armed write and its pick stay over a checkpoint, a freeze and an opening, and end with a cut. A second takes the place
+        // of the first.
+        (
+            b"POWER IN 3 0\n/CHECKPOINT FREEZE\n/ERESTART\n/ERESTART\n/CHECKPOINT\n",
+            0,
+            b"ARMED 3\nFROZEN 2\nSTOPPED\nRESTARTED\nCHECKPOINT 4\n",
+        ),
+        (
+            b"POWER IN 9 1\nPOWER IN 1 0\n/STOP LTERM T1\n/ERESTART\n/DISPLAY LTERM T1\n",
+            0,
+            b"ARMED 9\nARMED 1\nSTOPPED\nRESTARTED\nLTERM T1 IN 0 OUT 0 KEPT 0 STARTED\n",
+        ),
+        (
+            b"POWER IN 1 1\nPOWER 0\n/ERESTART\n/STOP LTERM T1\n/DISPLAY LTERM T1\n",
+            0,
+            b"ARMED 1\nPOWER\nRESTARTED\nSTOPPED T1\nLTERM T1 IN 0 OUT 0 KEPT 0 STOPPED\n",
         ),
         // A stop within turns is told alone.
         (
