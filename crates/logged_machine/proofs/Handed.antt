@@ -45,9 +45,9 @@ module _ {D : Type 0} (state : D → DiskState) (how : How) (system : System) (t
   }
 
   -- The parts were opened.
-  pub opens_so : (old new : D) (parts : PartsState) (journal : JournalState) (next : ℕ) (opening : LastingState) → parts.system ≡ system → OpensOn how system text (state old) (state new) parts opening → Stays (state old) (state new)
-      → Within (KeepsBy how system text) (state old) (state new) → Opens state how system text old (record { machine = parts; text = text; served = true; journal = journal; next_unit = next; disk = new }) opening
-  opens_so old new parts journal next opening same opens stays any = record {
+  pub opens_so : (old new : D) (parts : PartsState) (journal : JournalState) (units : List ℕ) (next : ℕ) (opening : LastingState) → parts.system ≡ system → OpensOn how system text (state old) (state new) parts journal next opening → Stays (state old) (state new)
+      → Within (KeepsBy how system text) (state old) (state new) → Opens state how system text old (record { machine = parts; text = text; served = true; journal = journal; units = units; next_unit = next; disk = new }) opening
+  opens_so old new parts journal units next opening same opens stays any = record {
     system_is = same;
     moment = opens.moment;
     text_is = refl;

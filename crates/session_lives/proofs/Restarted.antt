@@ -32,6 +32,7 @@ use Rattle.opening_answers.specs.declared.refusals.OpenError.{OpenError}
 use Rattle.opening_answers.specs.declared.refusals.OpenError.TheVariants.{Spent as SpentCounter}
 use Rattle.opening_parts.specs.Parts.{OpeningParts}
 use Rattle.opening_answers.specs.Opening.{TellsOpening, SizeFirst, IsOther, IsSpent}
+use Rattle.disk_law.specs.Journal.{JournalState}
 use Rattle.control_life.specs.Opened.{KeepsBy, Begins, Refuses}
 use Rattle.tm_control.specs.OnDisk.{ControlOnDisk}
 use Rattle.tm_control.specs.Closed.{Opens}
@@ -157,12 +158,12 @@ module _ {D : Type 0} (state : D → DiskState) (is_disk : (disk : D) → IsDisk
   told_state parts opening text (inr cold) =
       subst (λ s. Recovers idle.system (state idle.disk).shown (Ok s)) (sym cold.begun.empty) (zeros_are_empty idle.system (state idle.disk).shown cold.zeros)
 
-  may_open : (cold : Bool) (opening : LastingState) → Begins (how_of cold) idle.system idle.text (state idle.disk) opening → setting.tells ≡ true
+  may_open : (cold : Bool) (opening : LastingState) (journal : JournalState) (next : ℕ) → Begins (how_of cold) idle.system idle.text (state idle.disk) opening journal.restart journal.log next → setting.tells ≡ true
       → MayOpen cold setting outage (count_of idle.last cold opening.steps) opening
-  may_open false opening begins tells =
+  may_open false opening journal next begins tells =
       found_by (state idle.disk).shown opening (shown_holds tells)
       (subst (λ s. Recovers s (state idle.disk).shown (Ok opening)) sound.system_is (told_state begins.parts opening idle.text (begins.found refl (tells_now tells))))
-  may_open true opening begins tells =
+  may_open true opening journal next begins tells =
       ((begins.cold refl).empty ∙ ap empty_state sound.system_is, answered_as idle.last sound.answered)
     where
       answered_as : (last : Option Life) → LastAnswered system (option_map last_of last) (kept_of last) → LastAnswered system (option_map last_of last) (count_of last true opening.steps)
@@ -502,7 +503,7 @@ module _ {D : Type 0} (state : D → DiskState) (is_disk : (disk : D) → IsDisk
   opens_gone cold gone = record {
     kept = count_of idle.last cold gone.control.control.opening.steps;
     state = gone.control.control.opening;
-    may = λ tells. may_open cold gone.control.control.opening gone.opens.begins tells;
+    may = λ tells. may_open cold gone.control.control.opening gone.control.journal gone.control.next_unit gone.opens.begins tells;
     goes = opened_state cold gone;
   }
 

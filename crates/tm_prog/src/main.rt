@@ -19,6 +19,8 @@ mod run;
 #[cfg(test)]
 mod screen_tests;
 #[cfg(test)]
+mod sector_tests;
+#[cfg(test)]
 mod tests;
 mod words;
 
