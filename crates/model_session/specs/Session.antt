@@ -95,18 +95,18 @@ pub record FailsToOpen (cold : Bool) (old : SessionState) (outage : Outage) (new
   pub stop : Stop
   pub ends : new ≡ failed old outage cold stop
 
--- Once a life has begun the disk has sectors enough. No rule is broken by a disk that tells its contents, and its text differs
--- only where it has failed since that life was opened.
-abbrev pub MayRefuse : Bool → Bool → ImageRefused → Type 0
-MayRefuse tells stopped (Rule rule sector) = tells ≡ false
-MayRefuse tells stopped (OtherText place) = (tells ≡ false) ⊎ (stopped ≡ true)
-MayRefuse tells stopped (Size needed has) = ⊥
+-- Once a life has begun the disk has sectors enough; and where it tells its contents, no rule is broken and the text is the
+-- definition's.
+abbrev pub MayRefuse : Bool → ImageRefused → Type 0
+MayRefuse tells (Rule rule sector) = tells ≡ false
+MayRefuse tells (OtherText place) = tells ≡ false
+MayRefuse tells (Size needed has) = ⊥
 
 -- The disk can't be opened, and a life had begun before.
 pub record IsNotOpened (setting : Setting) (outage : Outage) (old new : SessionState) (text : List ℕ) : Type 0 where
   pub refusal : ImageRefused
   pub begun : is_some outage.last ≡ true
-  pub may : MayRefuse setting.tells outage.stopped refusal
+  pub may : MayRefuse setting.tells refusal
   pub stays : new ≡ old
   pub printed : text ≡ image_text refusal
 

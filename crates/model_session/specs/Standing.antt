@@ -4,7 +4,6 @@ use Rattle.model_machine.specs.declared.entry.Entry.{Entry}
 use Rattle.model_system.specs.System.{System}
 use Rattle.model_machine.specs.Machine.{LastingState, empty_state}
 use Rattle.model_session.specs.declared.asked.ImageRefused.{ImageRefused}
-use Rattle.model_session.specs.declared.asked.ImageRefused.TheVariants.{Rule, Text as OtherText, Size}
 use Rattle.model_session.specs.Lives.{LifeState, LastLife, now_in, longer, with_life, HasAnswered, Leaves}
 
 -- A session's system; whether its disk can be told to stop at a write to come, and whether it tells its contents; the
@@ -105,13 +104,6 @@ LastAnswered system (Some life) count = HasAnswered system life count
 abbrev pub MayBeFound : Setting → Outage → ℕ → LastingState → Type 0
 MayBeFound setting outage kept state =
     IsLeft setting outage.last kept state ⊎ ((outage.emptied ≡ true) × (state ≡ empty_state setting.system))
-
--- Why the disk can't be opened while no life has begun: so it was with the disk as it was handed in. Where a cold start has broken
--- off since, the text may be another one.
-abbrev pub MayRefuseFirst : Setting → Bool → ImageRefused → Type 0
-MayRefuseFirst setting emptied (Rule rule sector) = setting.refuses (Rule rule sector)
-MayRefuseFirst setting emptied (OtherText place) = setting.refuses (OtherText place) ⊎ (emptied ≡ true)
-MayRefuseFirst setting emptied (Size needed has) = setting.refuses (Size needed has)
 
 -- What it recovers to: while the system is up, the state behind all lasting steps of the life.
 abbrev pub MayHold : Setting → Standing → LastingState → Type 0

@@ -185,9 +185,9 @@ module _ {D : Type 0} (state : D → DiskState) (system : System) (source : List
         system_is = down.closes.system_is ∙ system_is;
         text_is = down.closes.text_is ∙ text_is;
         size = λ begun. size;
-        texts = λ begun calm image left.
-            subst (λ (t : List ℕ). HasText system t image) text_is (subst (λ (s : System). HasText s c.text image) system_is
-            (texts_by c.up image down.lasts (subst (λ d. (state d).may_leave image) down.closes.disk_is (down.laid.no_more image left))));
+        texts = λ image left.
+            inl (subst (λ (t : List ℕ). HasText system t image) text_is (subst (λ (s : System). HasText s c.text image) system_is
+            (texts_by c.up image down.lasts (subst (λ d. (state d).may_leave image) down.closes.disk_is (down.laid.no_more image left)))));
         stays = stays_on (state handed) (state down.disk) (state idle.disk) disk down.laid.stays;
         stops = subst (λ n. AreStops (state handed).faults new.stops.items n) (sym faults) stops;
         legal = subst (λ l. AreLegal system l) (sym (same_kept old new down.lives)) legal;

@@ -18,7 +18,7 @@ use Rattle.model_session.specs.declared.asked.Asked.{Asked}
 use Rattle.model_session.specs.declared.asked.Asked.TheVariants.{Bad, BadCommand, Stopped, Call, Quiet, Power, PowerIn, Restart, ColdStart}
 use Rattle.model_session.specs.Text.{broken_text, opened_text, image_text, down_text}
 use Rattle.model_session.specs.Lives.{LifeState, LastLife, AreLegal, Leaves, with_life}
-use Rattle.model_session.specs.Standing.{Setting, Standing, Outage, SessionState, Stop, AreStops, MayBeFound, MayHold, MayRefuseFirst, LastAnswered, IsLeft, or_cold, opened, failed}
+use Rattle.model_session.specs.Standing.{Setting, Standing, Outage, SessionState, Stop, AreStops, MayBeFound, MayHold, LastAnswered, IsLeft, or_cold, opened, failed}
 use Rattle.model_session.specs.Standing.Standing.{Up as StandsUp, Down as StandsDown}
 use Rattle.model_session.specs.Session.{MayOpen, MayRefuse, IsRestarted, Opens as OpensLife, FailsToOpen}
 use Rattle.restart_data.specs.Restart.{restart_in}
@@ -26,11 +26,13 @@ use Rattle.model_machine.specs.declared.counts.Counter.{Counter}
 use Rattle.model_image.specs.Areas.{snapshot_area}
 use Rattle.model_image.specs.Counters.{next_sequence}
 use Rattle.model_image.specs.Text.{text_in, first_difference}
-use Rattle.cold_start.specs.FirstImage.{KeepsOrEmpties, sectors_needed}
+use Rattle.cold_start.specs.FirstImage.{sectors_needed}
+use Rattle.checkpointing.specs.Texts.{HasText}
 use Rattle.opening_answers.specs.declared.refusals.OpenError.{OpenError}
 use Rattle.opening_answers.specs.declared.refusals.OpenError.TheVariants.{Spent as SpentCounter}
 use Rattle.opening_parts.specs.Parts.{OpeningParts}
 use Rattle.opening_answers.specs.Opening.{TellsOpening, SizeFirst, IsOther, IsSpent}
+use Rattle.disk_law.specs.Journal.{JournalState}
 use Rattle.control_life.specs.Opened.{KeepsBy, Begins, Refuses}
 use Rattle.tm_control.specs.OnDisk.{ControlOnDisk}
 use Rattle.tm_control.specs.Closed.{Opens}
@@ -44,7 +46,7 @@ use Rattle.session_lives.specs.declared.place.Idle.{Idle}
 use Rattle.session_lives.specs.declared.place.Place.TheVariants.{Up, Down}
 use Rattle.session_lives.specs.declared.place.Kept.{Kept}
 use Rattle.session_lives.specs.declared.place.Session.{Session}
-use Rattle.session_lives.specs.Running.{life_of, last_of, last_up, kept_of, outage_of, session_at, session_of, session_down, setting_of, LeadsBy, IsFoundAs, IsRefusedFirst, Recalls, IsUnopened, Holds, IsUpSound, IsDownSound, IsSound, IsSoundAt, error_of}
+use Rattle.session_lives.specs.Running.{life_of, last_of, last_up, kept_of, outage_of, session_at, session_of, session_down, setting_of, LeadsBy, IsFoundAs, IsBrokenAs, IsRefusedFirst, Recalls, IsUnopened, IsOfText, Holds, IsUpSound, IsDownSound, IsSound, IsSoundAt, error_of}
 use Rattle.session_lives.specs.Openings.{how_of, kept_by, with_last, HasOpened, StaysIdle, HasFailed, HasGone, RefusesSpent, FindsSpent, SpentBehind, IsToldSo, IsRefusalTold, IsRestartedSo, UndoneBy, IsServedSo, restart_of}
 use Rattle.session_lives.proofs.Ends.{state_with, same_state, outage_with, life_with, same_life, stops_one, rose_from}
 
@@ -59,10 +61,6 @@ ok_is a b e = cc
 
 pub ok_or_err : (a : LastingState) (fault : Fault) → SameAnswer (Ok a) (Err fault) → ⊥
 ok_or_err a fault e = cc
-
-true_or_false : (b : Bool) → b ≡ true → b ≡ false → ⊥
-true_or_false true is not = cc
-true_or_false false is not = cc
 
 some_last : (last : Option Life) → is_some last ≡ true → is_some (option_map last_of last) ≡ true
 some_last None is = cc
@@ -160,12 +158,12 @@ module _ {D : Type 0} (state : D → DiskState) (is_disk : (disk : D) → IsDisk
   told_state parts opening text (inr cold) =
       subst (λ s. Recovers idle.system (state idle.disk).shown (Ok s)) (sym cold.begun.empty) (zeros_are_empty idle.system (state idle.disk).shown cold.zeros)
 
-  may_open : (cold : Bool) (opening : LastingState) → Begins (how_of cold) idle.system idle.text (state idle.disk) opening → setting.tells ≡ true
+  may_open : (cold : Bool) (opening : LastingState) (journal : JournalState) (next : ℕ) → Begins (how_of cold) idle.system idle.text (state idle.disk) opening journal.restart journal.log next → setting.tells ≡ true
       → MayOpen cold setting outage (count_of idle.last cold opening.steps) opening
-  may_open false opening begins tells =
+  may_open false opening journal next begins tells =
       found_by (state idle.disk).shown opening (shown_holds tells)
       (subst (λ s. Recovers s (state idle.disk).shown (Ok opening)) sound.system_is (told_state begins.parts opening idle.text (begins.found refl (tells_now tells))))
-  may_open true opening begins tells =
+  may_open true opening journal next begins tells =
       ((begins.cold refl).empty ∙ ap empty_state sound.system_is, answered_as idle.last sound.answered)
     where
       answered_as : (last : Option Life) → LastAnswered system (option_map last_of last) (kept_of last) → LastAnswered system (option_map last_of last) (count_of last true opening.steps)
@@ -229,23 +227,48 @@ module _ {D : Type 0} (state : D → DiskState) (is_disk : (disk : D) → IsDisk
   alike_holds first image alike (inr unopened) =
       inr (record { no_life = unopened.no_life; before = unopened.before; left = unopened.left; alike = λ answer is. alike answer (unopened.alike answer is) })
 
-  broken_by : (cold : Bool) (first image : Image) → KeepsBy (how_of cold) system first image → Holds state system source handed (StandsDown outage) first
+  broken_by : (cold : Bool) (first image : Image) → KeepsBy (how_of cold) system source first image → Holds state system source handed (StandsDown outage) first
       → Holds state system source handed (StandsDown (outage_with outage.last (or_cold cold outage.emptied) true)) image
-  broken_by false first image alike holds = keeps_holding false image (alike_holds first image alike holds)
+  broken_by false first image keeps holds = keeps_holding false image (alike_holds first image keeps.alike holds)
   broken_by true first image (inl same) holds = keeps_holding true image (subst (λ i. Holds state system source handed (StandsDown outage) i) (sym same) holds)
-  broken_by true first image (inr empty) holds = inl (record { state = empty_state system; recovers = empty; may = (0, inr (refl, refl)) })
+  broken_by true first image (inr empty) holds = inl (record { state = empty_state system; recovers = empty.recovers; may = (0, inr (refl, refl)) })
 
-  same_image : (cold : Bool) (image : Image) → KeepsBy (how_of cold) system image image
-  same_image false image = λ answer is. is
+  same_image : (cold : Bool) (image : Image) → KeepsBy (how_of cold) system source image image
+  same_image false image = record { alike = λ answer is. is; texts = inl refl }
   same_image true image = inl refl
+
+  abbrev outage_behind : Bool → Outage
+  outage_behind cold = outage_with outage.last (or_cold cold outage.emptied) true
+
+  -- its text
+  text_same : (cold : Bool) (first image : Image) → image ≡ first → IsOfText state system source handed (StandsDown outage) first → IsOfText state system source handed (StandsDown (outage_behind cold)) image
+  text_same cold first image same (inl has) = inl (subst (λ (i : Image). HasText system source i) (sym same) has)
+  text_same cold first image same (inr there) = inr (record { no_life = there.no_life; left = subst (λ (i : Image). (state handed).may_leave i) (sym same) there.left })
+
+  text_by : (cold : Bool) (first image : Image) → KeepsBy (how_of cold) system source first image → IsOfText state system source handed (StandsDown outage) first
+      → IsOfText state system source handed (StandsDown (outage_behind cold)) image
+  text_by false first image keeps text = ⊎_elim (λ same. text_same false first image same text) (λ has. inl has) keeps.texts
+  text_by true first image (inl same) text = text_same true first image same text
+  text_by true first image (inr empty) text = inl empty.has_text
+
+  failed_from : (cold : Bool) (gone : HasFailed state idle old cold session) (image : Image) → (state gone.after.disk).may_leave image → ComesFrom (KeepsBy (how_of cold) system source) (state idle.disk) image
+  failed_from cold gone image left =
+      let moved : Within (KeepsBy (how_of cold) system idle.text) (state idle.disk) (state gone.disk) =
+      subst (λ s. Within (KeepsBy (how_of cold) s idle.text) (state idle.disk) (state gone.disk)) sound.system_is gone.back.any_moment in
+      let within : Within (KeepsBy (how_of cold) system source) (state idle.disk) (state gone.disk) =
+      subst (λ (t : List ℕ). Within (KeepsBy (how_of cold) system t) (state idle.disk) (state gone.disk)) sound.text_is moved in
+      within_each (KeepsBy (how_of cold) system source) (state idle.disk) (state gone.disk) (is_disk idle.disk) (same_image cold) within image
+      ((is_disk gone.disk).now_counts (state idle.disk).clock image within.later (gone.cut.no_more image left))
+
+  failed_texts : (cold : Bool) (gone : HasFailed state idle old cold session) (image : Image) → (state gone.after.disk).may_leave image → IsOfText state system source handed (StandsDown (outage_behind cold)) image
+  failed_texts cold gone image left =
+      let comes = failed_from cold gone image left in
+      text_by cold comes.before image comes.by (sound.texts comes.before comes.left)
 
   failed_holds : (cold : Bool) (gone : HasFailed state idle old cold session) (image : Image) → (state gone.after.disk).may_leave image
       → Holds state system source handed (StandsDown (outage_with outage.last (or_cold cold outage.emptied) true)) image
   failed_holds cold gone image left =
-      let within : Within (KeepsBy (how_of cold) system) (state idle.disk) (state gone.disk) = subst (λ s. Within (KeepsBy (how_of cold) s) (state idle.disk) (state gone.disk)) sound.system_is gone.back.any_moment in
-      let comes : ComesFrom (KeepsBy (how_of cold) system) (state idle.disk) image =
-      within_each (KeepsBy (how_of cold) system) (state idle.disk) (state gone.disk) (is_disk idle.disk) (same_image cold) within image
-      ((is_disk gone.disk).now_counts (state idle.disk).clock image within.later (gone.cut.no_more image left)) in
+      let comes = failed_from cold gone image left in
       broken_by cold comes.before image comes.by (sound.images comes.before comes.left)
 
   failed_sound : (cold : Bool) → HasFailed state idle old cold session → IsSound state system source handed session
@@ -257,7 +280,7 @@ module _ {D : Type 0} (state : D → DiskState) (is_disk : (disk : D) → IsDisk
         system_is = gone.back.system_is ∙ sound.system_is;
         text_is = gone.back.text_is ∙ sound.text_is;
         size = λ begun. sound.size (ap is_some (sym gone.last) ∙ begun);
-        texts = λ begun calm. absurd (true_or_false gone.after.stopped gone.stopped calm);
+        texts = λ image left. subst (λ o. IsOfText state system source handed (StandsDown o) image) (sym outage_is) (failed_texts cold gone image left);
         stays = stays_on (state handed) (state gone.disk) (state gone.after.disk) stays gone.cut.stays;
         stops = subst (λ n. AreStops (state handed).faults session.kept.stops.items n) (sym gone.cut.faults)
             (subst (λ s. AreStops (state handed).faults s (state gone.disk).faults) (sym gone.stops)
@@ -284,7 +307,7 @@ module _ {D : Type 0} (state : D → DiskState) (is_disk : (disk : D) → IsDisk
         system_is = idles.system_is ∙ sound.system_is;
         text_is = idles.text_is ∙ sound.text_is;
         size = λ begun. sound.size (ap is_some (sym idles.last) ∙ begun);
-        texts = λ begun calm image left. sound.texts (ap is_some (sym idles.last) ∙ begun) (sym idles.stopped ∙ calm) image (idles.wrote.keeps.no_more image left);
+        texts = λ image left. subst (λ o. IsOfText state system source handed (StandsDown o) image) (sym outage_is) (sound.texts image (idles.wrote.keeps.no_more image left));
         stays = stays_on (state handed) (state idle.disk) (state idles.after.disk) sound.stays idles.wrote.keeps.stays;
         stops = subst (λ n. AreStops (state handed).faults session.kept.stops.items n) (sym idles.wrote.no_fault)
             (subst (λ s. AreStops (state handed).faults s (state idle.disk).faults) (sym idles.stops) sound.stops);
@@ -314,21 +337,25 @@ module _ {D : Type 0} (state : D → DiskState) (is_disk : (disk : D) → IsDisk
       let need : needed ≡ sectors_needed system = refuses.size.right_need ∙ ap sectors_needed sound.system_is in
       omega (arith, enough, need, refuses.size.right_size, sound.stays.size, refuses.size.less)
 
-  no_text : (place : ℕ) → Refuses (how_of false) idle.system idle.text (state idle.disk) (error_of (Text place)) → is_some idle.last ≡ true → setting.tells ≡ true → idle.stopped ≡ false → ⊥
-  no_text place refuses begun tells calm =
+  -- the text of what is shown is the definition's
+  no_other : (place : ℕ) → Refuses (how_of false) idle.system idle.text (state idle.disk) (error_of (Text place)) → setting.tells ≡ true → HasText system source (state idle.disk).shown → ⊥
+  no_other place refuses tells text =
       let other : IsOther idle.system idle.text (state idle.disk).shown place = refuses.found refl (tells_now tells) in
       let has : restart_in (snapshot_area system) (state idle.disk).shown ≡ Ok (Some other.restart) =
       subst (λ s. restart_in (snapshot_area s) (state idle.disk).shown ≡ Ok (Some other.restart)) sound.system_is other.has_restart in
-      let same : text_in (state idle.disk).shown other.restart.text ≡ idle.text =
-      sound.texts begun calm (state idle.disk).shown ((is_disk idle.disk).shown_left (tells_now tells)) other.restart has ∙ sym sound.text_is in
-      no_difference idle.text (text_in (state idle.disk).shown other.restart.text) place same other.differs
+      no_difference idle.text (text_in (state idle.disk).shown other.restart.text) place (text other.restart has ∙ sym sound.text_is) other.differs
 
-  may_refuse : (cold : Bool) (refusal : ImageRefused) → Refuses (how_of cold) idle.system idle.text (state idle.disk) (error_of refusal) → is_some idle.last ≡ true
-      → MayRefuse setting.tells idle.stopped refusal
+  shown_text : setting.tells ≡ true → IsOfText state system source handed (StandsDown outage) (state idle.disk).shown
+  shown_text tells = sound.texts (state idle.disk).shown ((is_disk idle.disk).shown_left (tells_now tells))
+
+  no_text : (place : ℕ) → Refuses (how_of false) idle.system idle.text (state idle.disk) (error_of (Text place)) → is_some idle.last ≡ true → setting.tells ≡ true → ⊥
+  no_text place refuses begun tells = ⊎_elim (λ text. no_other place refuses tells text) (λ there. never_none idle.last begun there.no_life) (shown_text tells)
+
+  may_refuse : (cold : Bool) (refusal : ImageRefused) → Refuses (how_of cold) idle.system idle.text (state idle.disk) (error_of refusal) → is_some idle.last ≡ true → MayRefuse setting.tells refusal
   may_refuse cold (Size needed has) refuses begun = no_size cold needed has refuses begun
   may_refuse true (Text place) refuses begun = absurd (refuses.cold refl)
   may_refuse false (Text place) refuses begun =
-      ⊎_elim (λ tells. ⊎_elim (λ stopped. inr stopped) (λ calm. absurd (no_text place refuses begun tells calm)) (cases_Bool idle.stopped)) (λ silent. inl silent) (cases_Bool setting.tells)
+      ⊎_elim (λ tells. absurd (no_text place refuses begun tells)) (λ silent. silent) (cases_Bool setting.tells)
   may_refuse true (Rule rule sector) refuses begun = absurd (refuses.cold refl)
   may_refuse false (Rule rule sector) refuses begun =
       ⊎_elim (λ tells. absurd (no_rule rule sector refuses begun tells)) (λ silent. silent) (cases_Bool setting.tells)
@@ -349,7 +376,7 @@ module _ {D : Type 0} (state : D → DiskState) (is_disk : (disk : D) → IsDisk
 
   alike_found : (lasting : LastingState) → Recovers system (state idle.disk).shown (Ok lasting) → (last : Option LastLife) → last ≡ None → (kept : ℕ) → IsLeft setting last kept lasting
       → (image : Image) → (state handed).may_leave image → RecoversAlike system image (state idle.disk).shown
-  alike_found lasting recovers (Some life) none kept left image there = cc
+  alike_found lasting recovers (Some life) none kept left image there answer is = cc
   alike_found lasting recovers None none kept left image there answer is =
       let found = left image there in
       subst (λ (a : Result LastingState Fault). Recovers system (state idle.disk).shown a) (one_answer_of system found.found (Ok lasting) answer found.recovers (found.alike answer is)) recovers
@@ -366,57 +393,50 @@ module _ {D : Type 0} (state : D → DiskState) (is_disk : (disk : D) → IsDisk
   size_first : (error : OpenError) → SizeFirst idle.system (state idle.disk).size (Err error) → SizeFirst system (state handed).size (Err error)
   size_first error size = subst (λ n. SizeFirst system n (Err error)) sound.stays.size (subst (λ s. SizeFirst s (state idle.disk).size (Err error)) sound.system_is size)
 
-  tells_first : (error : OpenError) → TellsOpening idle.system idle.text (state idle.disk).shown (Err error) → TellsOpening system source (state idle.disk).shown (Err error)
-  tells_first error tells =
-      subst (λ (t : List ℕ). TellsOpening system t (state idle.disk).shown (Err error)) sound.text_is
-      (subst (λ s. TellsOpening s idle.text (state idle.disk).shown (Err error)) sound.system_is tells)
+  -- of a disk that tells nothing no image is named
+  silent_first : setting.tells ≡ false → (image : Image) → (state handed).may_leave image → ⊥
+  silent_first silent image there = leaves_none (state handed) (is_disk handed) silent image there
 
-  -- So the disk was refused as it was handed in; or a cold start broke off since, and what is shown is empty.
-  refused_first : (error : OpenError) → Refuses (how_of false) idle.system idle.text (state idle.disk) error → outage.last ≡ None
-      → IsRefusedFirst state system source handed error ⊎ ((setting.tells ≡ true) × (outage.emptied ≡ true) × Recovers system (state idle.disk).shown (Ok (empty_state system)))
-  refused_first error refuses none = ⊎_elim told silent (cases_Bool setting.tells)
+  broken_shown : (rule sector : ℕ) → Refuses (how_of false) idle.system idle.text (state idle.disk) (error_of (Rule rule sector)) → setting.tells ≡ true
+      → Recovers system (state idle.disk).shown (Err (rule, sector))
+  broken_shown rule sector refuses tells = subst (λ s. Recovers s (state idle.disk).shown (Err (rule, sector))) sound.system_is (refuses.found refl (tells_now tells)).recovers
+
+  broken_first : (rule sector : ℕ) → Refuses (how_of false) idle.system idle.text (state idle.disk) (error_of (Rule rule sector)) → outage.last ≡ None → (image : Image) → (state handed).may_leave image
+      → IsBrokenAs system image rule sector
+  broken_first rule sector refuses none image there = ⊎_elim told (λ silent. absurd (silent_first silent image there)) (cases_Bool setting.tells)
     where
-      abbrev Refused : Type 0
-      Refused = IsRefusedFirst state system source handed error ⊎ ((setting.tells ≡ true) × (outage.emptied ≡ true) × Recovers system (state idle.disk).shown (Ok (empty_state system)))
+      of : setting.tells ≡ true → AlikeFirst → IsBrokenAs system image rule sector
+      of tells (inl alike) = record { found = (state idle.disk).shown; alike = alike image there; broken = broken_shown rule sector refuses tells }
+      of tells (inr (emptied, empty)) =
+          absurd (ok_or_err (empty_state system) (rule, sector) (one_answer_of system (state idle.disk).shown (Ok (empty_state system)) (Err (rule, sector)) empty (broken_shown rule sector refuses tells)))
 
-      by_alike : setting.tells ≡ true → AlikeFirst → Refused
-      by_alike tells (inl alike) = inl (record {
-        size = size_first error refuses.size;
-        images = λ image there. record { found = (state idle.disk).shown; alike = alike image there; refused = tells_first error (refuses.found refl (tells_now tells)) };
-      })
-      by_alike tells (inr (emptied, empty)) = inr (tells, emptied, empty)
+      told : setting.tells ≡ true → IsBrokenAs system image rule sector
+      told tells = of tells (alike_first none (shown_holds tells))
 
-      told : setting.tells ≡ true → Refused
-      told tells = by_alike tells (alike_first none (shown_holds tells))
-
-      silent : setting.tells ≡ false → Refused
-      silent dumb = inl (record { size = size_first error refuses.size; images = λ image there. absurd (leaves_none (state handed) (is_disk handed) dumb image there) })
-
-  too_small_first : (cold : Bool) (needed has : ℕ) → Refuses (how_of cold) idle.system idle.text (state idle.disk) (error_of (Size needed has)) → IsRefusedFirst state system source handed (error_of (Size needed has))
-  too_small_first cold needed has refuses = record {
-    size = size_first (error_of (Size needed has)) refuses.size;
-    images = λ image there. record { found = image; alike = λ answer is. is; refused = tt };
-  }
-
-  may_refuse_first : (cold : Bool) (refusal : ImageRefused) → Refuses (how_of cold) idle.system idle.text (state idle.disk) (error_of refusal) → outage.last ≡ None → MayRefuseFirst setting outage.emptied refusal
-  may_refuse_first cold (Size needed has) refuses none = too_small_first cold needed has refuses
-  may_refuse_first true (Rule rule sector) refuses none = absurd (refuses.cold refl)
-  may_refuse_first false (Rule rule sector) refuses none = of (refused_first (error_of (Rule rule sector)) refuses none)
+  other_first : (place : ℕ) → Refuses (how_of false) idle.system idle.text (state idle.disk) (error_of (Text place)) → (image : Image) → (state handed).may_leave image → IsOther system source image place
+  other_first place refuses image there = ⊎_elim told (λ silent. absurd (silent_first silent image there)) (cases_Bool setting.tells)
     where
-      of : IsRefusedFirst state system source handed (error_of (Rule rule sector)) ⊎ ((setting.tells ≡ true) × (outage.emptied ≡ true) × Recovers system (state idle.disk).shown (Ok (empty_state system)))
-          → IsRefusedFirst state system source handed (error_of (Rule rule sector))
-      of (inl first) = first
-      of (inr (tells, emptied, empty)) =
-          let broken : Recovers system (state idle.disk).shown (Err (rule, sector)) =
-          subst (λ s. Recovers s (state idle.disk).shown (Err (rule, sector))) sound.system_is (refuses.found refl (tells_now tells)).recovers in
-          absurd (ok_or_err (empty_state system) (rule, sector) (one_answer_of system (state idle.disk).shown (Ok (empty_state system)) (Err (rule, sector)) empty broken))
-  may_refuse_first true (Text place) refuses none = absurd (refuses.cold refl)
-  may_refuse_first false (Text place) refuses none = of (refused_first (error_of (Text place)) refuses none)
-    where
-      of : IsRefusedFirst state system source handed (error_of (Text place)) ⊎ ((setting.tells ≡ true) × (outage.emptied ≡ true) × Recovers system (state idle.disk).shown (Ok (empty_state system)))
-          → MayRefuseFirst setting outage.emptied (Text place)
-      of (inl first) = inl first
-      of (inr (tells, emptied, empty)) = inr emptied
+      shown_other : setting.tells ≡ true → IsOther system source (state idle.disk).shown place
+      shown_other tells =
+          subst (λ (t : List ℕ). IsOther system t (state idle.disk).shown place) sound.text_is
+          (subst (λ s. IsOther s idle.text (state idle.disk).shown place) sound.system_is (refuses.found refl (tells_now tells)))
+
+      of : setting.tells ≡ true → IsOfText state system source handed (StandsDown outage) (state idle.disk).shown → IsOther system source image place
+      of tells (inl text) = absurd (no_other place refuses tells text)
+      of tells (inr shown) =
+          subst (λ (i : Image). IsOther system source i place) (sound.handed_alone (state idle.disk).shown shown.left ∙ sym (sound.handed_alone image there)) (shown_other tells)
+
+      told : setting.tells ≡ true → IsOther system source image place
+      told tells = of tells (shown_text tells)
+
+  refused_first : (cold : Bool) (refusal : ImageRefused) → Refuses (how_of cold) idle.system idle.text (state idle.disk) (error_of refusal) → outage.last ≡ None → IsRefusedFirst state system source handed refusal
+  refused_first cold (Size needed has) refuses none = record { size = size_first (error_of (Size needed has)) refuses.size; images = λ image there. tt }
+  refused_first true (Rule rule sector) refuses none = absurd (refuses.cold refl)
+  refused_first false (Rule rule sector) refuses none =
+      record { size = size_first (error_of (Rule rule sector)) refuses.size; images = λ image there. broken_first rule sector refuses none image there }
+  refused_first true (Text place) refuses none = absurd (refuses.cold refl)
+  refused_first false (Text place) refuses none =
+      record { size = size_first (error_of (Text place)) refuses.size; images = λ image there. other_first place refuses image there }
 
   -- ---- a counter is spent
 
@@ -438,12 +458,22 @@ module _ {D : Type 0} (state : D → DiskState) (is_disk : (disk : D) → IsDisk
       }
 
   spent_first : (counter : Counter) → Refuses (how_of false) idle.system idle.text (state idle.disk) (SpentCounter counter) → outage.last ≡ None → setting.spends ⊎ (outage.emptied ≡ true)
-  spent_first counter refuses none = of (refused_first (SpentCounter counter) refuses none)
+  spent_first counter refuses none = ⊎_elim told (λ silent. inl (record { counter = counter; images = λ image there. absurd (silent_first silent image there) })) (cases_Bool setting.tells)
     where
-      of : IsRefusedFirst state system source handed (SpentCounter counter) ⊎ ((setting.tells ≡ true) × (outage.emptied ≡ true) × Recovers system (state idle.disk).shown (Ok (empty_state system)))
-          → setting.spends ⊎ (outage.emptied ≡ true)
-      of (inl first) = inl (record { counter = counter; spent = first })
-      of (inr (tells, emptied, empty)) = inr emptied
+      of : setting.tells ≡ true → AlikeFirst → setting.spends ⊎ (outage.emptied ≡ true)
+      of tells (inl alike) = inl (record {
+        counter = counter;
+        images = λ image there. record {
+          found = (state idle.disk).shown;
+          alike = alike image there;
+          spent = subst (λ (t : List ℕ). IsSpent system t (state idle.disk).shown counter) sound.text_is
+              (subst (λ s. IsSpent s idle.text (state idle.disk).shown counter) sound.system_is (refuses.found refl (tells_now tells)));
+        };
+      })
+      of tells (inr (emptied, empty)) = inr emptied
+
+      told : setting.tells ≡ true → setting.spends ⊎ (outage.emptied ≡ true)
+      told tells = of tells (alike_first none (shown_holds tells))
 
   spent_down : (cold : Bool) → RefusesSpent state idle cold → SpentBehind outage.last setting outage
   spent_down true spent = absurd (spent.refuses.cold refl)
@@ -465,15 +495,15 @@ module _ {D : Type 0} (state : D → DiskState) (is_disk : (disk : D) → IsDisk
   refused cold true refusal text served is idles refuses (printed, same) =
       subst (λ s. Restarted cold text s) (sym printed)
       (inr (inr (record { refusal = refusal; begun = some_last idle.last is; may = may_refuse cold refusal refuses is; stays = idle_state idles; printed = same })))
-  refused cold false refusal text served is idles refuses undone = 
-      subst (λ s. Restarted cold text s) (sym undone) (idle_state idles, no_life is, may_refuse_first cold refusal refuses (no_life is))
+  refused cold false refusal text served is idles refuses undone =
+      subst (λ s. Restarted cold text s) (sym undone) (idle_state idles, (no_life is, refused_first cold refusal refuses (no_life is)))
 
   -- a life that opened, and a disk that failed
   pub opens_gone : (cold : Bool) → HasOpened state idle old cold session → OpensLife cold setting before outage (session_of session)
   opens_gone cold gone = record {
     kept = count_of idle.last cold gone.control.control.opening.steps;
     state = gone.control.control.opening;
-    may = λ tells. may_open cold gone.control.control.opening gone.opens.begins tells;
+    may = λ tells. may_open cold gone.control.control.opening gone.control.journal gone.control.next_unit gone.opens.begins tells;
     goes = opened_state cold gone;
   }
 

@@ -12,7 +12,7 @@ use Rattle.session_lives.specs.declared.place.Place.{Place}
 use Rattle.session_lives.specs.declared.place.Place.TheVariants.{Up, Down}
 use Rattle.session_lives.specs.declared.place.Kept.{Kept}
 use Rattle.session_lives.specs.declared.place.Session.{Session}
-use Rattle.session_lives.specs.Running.{life_of, Holds}
+use Rattle.session_lives.specs.Running.{life_of, session_of, Holds, IsSound}
 
 abbrev pub listed : Option Life → List Life
 listed None = []
@@ -50,3 +50,8 @@ pub record Remains {D : Type 0} (state : D → DiskState) (system : System) (sou
   pub stops_are : stops ≡ last.stops
   pub counted : AreStops (state handed).faults stops (state disk).faults
   pub images : (image : Image) → (state disk).may_leave image → Holds state system source handed last.standing image
+
+-- So it is, whatever disk was handed in.
+abbrev pub LeavesSo : {D : Type 0} → (D → DiskState) → Session D → D → List Life → List Stop → Type 0
+LeavesSo {D} state session disk lives stops =
+    (system : System) → (source : List ℕ) → (handed : D) → IsSound state system source handed session → Remains state system source handed disk (session_of session) lives stops

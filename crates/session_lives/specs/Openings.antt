@@ -1,5 +1,5 @@
 -- Openings, the ends of lives, and what serving a block comes to.
-use Rattle.std.specs.Prelude.{◌≡◌, ℕ, ◌-◌, ◌++◌, Bool, true, false, if◌then◌else◌, List, [], ◌∷◌, Option, Some, None}
+use Rattle.std.specs.Prelude.{◌≡◌, ◌⊎◌, ℕ, ◌-◌, ◌++◌, Bool, true, false, if◌then◌else◌, List, [], ◌∷◌, Option, Some, None}
 use Rattle.std.specs.Option.{is_some}
 use Rattle.model_disk.specs.Disk.{DiskState, Stays, NoMore, Only, IsCut}
 use Rattle.model_system.specs.System.{System}
@@ -11,7 +11,7 @@ use Rattle.model_session.specs.Text.{broken_text, opened_text, image_text}
 use Rattle.model_machine.specs.Machine.{LastingState}
 use Rattle.model_machine.specs.declared.counts.Counter.{Counter}
 use Rattle.model_session.specs.Lives.{LastLife, now_in}
-use Rattle.model_session.specs.Standing.{Setting, Outage, Standing, SessionState, MayBeFound, MayRefuseFirst, or_cold}
+use Rattle.model_session.specs.Standing.{Setting, Outage, Standing, SessionState, MayBeFound, or_cold}
 use Rattle.model_session.specs.Standing.Standing.{Up as StandsUp, Down as StandsDown}
 use Rattle.model_session.specs.Session.{IsServed, IsBegunBy}
 use Rattle.control_life.specs.declared.how.How.{How}
@@ -227,7 +227,7 @@ SpentAt setting (StandsDown outage) = SpentBehind outage.last setting outage
 
 abbrev pub MayRefuseAt : Setting → Standing → ImageRefused → Type 0
 MayRefuseAt setting (StandsUp life) refusal = ⊥
-MayRefuseAt setting (StandsDown outage) refusal = (outage.last ≡ None) × MayRefuseFirst setting outage.emptied refusal
+MayRefuseAt setting (StandsDown outage) refusal = (outage.last ≡ None) × setting.refuses refusal
 
 -- Why a block was not served: for want of memory; since a counter is spent; or since the disk can't be opened, which ends a session
 -- in which no life has begun.

@@ -1,5 +1,5 @@
 -- A session as it runs: where it stands, what it keeps beside, and what holds of these.
-use Rattle.std.specs.Prelude.{◌≡◌, ◌⊎◌, ℕ, ◌+◌, ◌<◌, ◌≤◌, true, false, List, length, map, Option, Some, None, Ok, Err, IsTrue, vec_len, vec_capacity}
+use Rattle.std.specs.Prelude.{◌≡◌, ◌⊎◌, ℕ, ◌+◌, ◌<◌, ◌≤◌, true, List, length, map, Option, Some, None, Ok, Err, IsTrue, vec_len, vec_capacity}
 use Rattle.std.specs.Option.{option_map, is_some}
 use Rattle.model_disk.specs.Disk.{Image, DiskState, Stays, Only}
 use Rattle.model_system.specs.System.{System}
@@ -15,8 +15,8 @@ use Rattle.model_session.specs.declared.asked.ImageRefused.TheVariants.{Rule, Te
 use Rattle.cold_start.specs.FirstImage.{sectors_needed}
 use Rattle.checkpointing.specs.Texts.{HasText}
 use Rattle.opening_answers.specs.declared.refusals.OpenError.{OpenError}
-use Rattle.opening_answers.specs.declared.refusals.OpenError.TheVariants.{BadImage, WrongDefinition, TooSmall, Spent as SpentCounter}
-use Rattle.opening_answers.specs.Opening.{SizeFirst, TellsOpening}
+use Rattle.opening_answers.specs.declared.refusals.OpenError.TheVariants.{BadImage, WrongDefinition, TooSmall}
+use Rattle.opening_answers.specs.Opening.{SizeFirst, IsOther, IsSpent}
 use Rattle.tm_control.specs.OnDisk.{ControlOnDisk}
 use Rattle.control_life.specs.declared.life.Life.{Life}
 use Rattle.session_lives.specs.declared.place.Idle.{Idle}
@@ -79,22 +79,34 @@ error_of (Rule rule sector) = BadImage rule sector
 error_of (OtherText place) = WrongDefinition place
 error_of (Size needed has) = TooSmall needed has
 
--- An image that recovers as this one does is refused so, where the definition has this text.
-pub record IsRefusedAs (system : System) (source : List ℕ) (image : Image) (error : OpenError) : Type 0 where
+-- An image that recovers as this one does breaks the rule.
+pub record IsBrokenAs (system : System) (image : Image) (rule sector : ℕ) : Type 0 where
   pub found : Image
   pub alike : RecoversAlike system image found
-  pub refused : TellsOpening system source found (Err error)
+  pub broken : Recovers system found (Err (rule, sector))
 
--- The disk that was handed in can't be opened: it has too few sectors; or it has enough, and each image that a crash might have
--- left of it is refused so.
-pub record IsRefusedFirst {D : Type 0} (state : D → DiskState) (system : System) (source : List ℕ) (handed : D) (error : OpenError) : Type 0 where
-  pub size : SizeFirst system (state handed).size (Err error)
-  pub images : (image : Image) → (state handed).may_leave image → IsRefusedAs system source image error
+-- The image can't be opened: it breaks a rule, or its text isn't the definition's.
+abbrev pub IsRefusedAs : System → List ℕ → Image → ImageRefused → Type 0
+IsRefusedAs system source image (Rule rule sector) = IsBrokenAs system image rule sector
+IsRefusedAs system source image (OtherText place) = IsOther system source image place
+IsRefusedAs system source image (Size needed has) = Unit {0}
+
+-- The disk that was handed in can't be opened: it has too few sectors; or it has enough, and so it is with each image that a crash
+-- might have left of it.
+pub record IsRefusedFirst {D : Type 0} (state : D → DiskState) (system : System) (source : List ℕ) (handed : D) (refusal : ImageRefused) : Type 0 where
+  pub size : SizeFirst system (state handed).size (Err (error_of refusal))
+  pub images : (image : Image) → (state handed).may_leave image → IsRefusedAs system source image refusal
+
+-- a counter is spent of an image that recovers as this one does
+pub record IsSpentAs (system : System) (source : List ℕ) (image : Image) (counter : Counter) : Type 0 where
+  pub found : Image
+  pub alike : RecoversAlike system image found
+  pub spent : IsSpent system source found counter
 
 -- a counter of it is spent
 pub record IsSpentFirst {D : Type 0} (state : D → DiskState) (system : System) (source : List ℕ) (handed : D) : Type 0 where
   pub counter : Counter
-  pub spent : IsRefusedFirst state system source handed (SpentCounter counter)
+  pub images : (image : Image) → (state handed).may_leave image → IsSpentAs system source image counter
 
 -- the setting of a session over the disk that was handed in, whose definition has this text
 abbrev pub setting_of : {D : Type 0} → (D → DiskState) → System → List ℕ → D → Setting
@@ -103,7 +115,7 @@ setting_of state system source handed = record {
   can_arm = (state handed).can_arm;
   tells = (state handed).tells;
   begins = λ opening. (image : Image) → (state handed).may_leave image → IsFoundAs system image opening;
-  refuses = λ refusal. IsRefusedFirst state system source handed (error_of refusal);
+  refuses = λ refusal. IsRefusedFirst state system source handed refusal;
   spends = IsSpentFirst state system source handed;
 }
 
@@ -173,14 +185,21 @@ pub record IsUpSound {D : Type 0} (state : D → DiskState) (system : System) (s
   pub began : control.began ≤ (state control.disk).faults
   pub legal : AreLegal system (map life_of kept.lives.items)
 
--- The system is down, and the disk holds what the outage allows. Once a life has begun it has sectors enough, and the definition's
--- text until the disk fails.
+-- The image is of the definition's text; or no life has begun, and it is one that was handed in.
+pub record IsHanded {D : Type 0} (state : D → DiskState) (handed : D) (standing : Standing) (image : Image) : Type 0 where
+  pub no_life : HasNoLife standing
+  pub left : (state handed).may_leave image
+
+abbrev pub IsOfText : {D : Type 0} → (D → DiskState) → System → List ℕ → D → Standing → Image → Type 0
+IsOfText state system source handed standing image = HasText system source image ⊎ IsHanded state handed standing image
+
+-- The system is down, and the disk holds what the outage allows. Once a life has begun it has sectors enough.
 pub record IsDownSound {D : Type 0} (state : D → DiskState) (system : System) (source : List ℕ) (handed : D) (idle : Idle D) (kept : Kept) : Type 0 where
   pub handed_alone : Only (state handed).shown (state handed)
   pub system_is : idle.system ≡ system
   pub text_is : idle.text ≡ source
   pub size : is_some idle.last ≡ true → sectors_needed system ≤ (state handed).size
-  pub texts : is_some idle.last ≡ true → idle.stopped ≡ false → (image : Image) → (state idle.disk).may_leave image → HasText system source image
+  pub texts : (image : Image) → (state idle.disk).may_leave image → IsOfText state system source handed (StandsDown (outage_of idle)) image
   pub stays : Stays (state handed) (state idle.disk)
   pub stops : AreStops (state handed).faults kept.stops.items (state idle.disk).faults
   pub legal : AreLegal system (map life_of kept.lives.items)

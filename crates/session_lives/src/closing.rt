@@ -1,9 +1,8 @@
 //! What a session has come to.
-ghost use Rattle.std.specs.Prelude.{◌≡◌, ℕ, List, ◌<◌, ◌++◌, false, vec_len, vec_capacity};
-ghost use Rattle.model_system.specs.System.{System as ModelSystem};
+ghost use Rattle.std.specs.Prelude.{◌≡◌, ◌<◌, ◌++◌, false, vec_len, vec_capacity};
 ghost use Rattle.model_session.specs.Standing.{is_stopped};
-ghost use Rattle.session_lives.specs.Running.{IsReady, IsSound, standing_of, session_of};
-ghost use Rattle.session_lives.specs.Closing.{IsClosed, IsClosedUp, IsClosedDown, HasRoomIf, Remains, listed};
+ghost use Rattle.session_lives.specs.Running.{IsReady, standing_of};
+ghost use Rattle.session_lives.specs.Closing.{IsClosed, IsClosedUp, IsClosedDown, HasRoomIf, LeavesSo, listed};
 
 use crate::place::{Idle, Kept, Place, Session};
 use tm_control::{Closed, Control, Life};
@@ -22,7 +21,15 @@ pub struct Over<D: Disk> {
 pub fn close<D: Disk>(session: Session<D>) -> Over<D>
     requires ready { IsReady D.state session }
     ensures closed { IsClosed D.state session result.disk result.lives.items result.stops.items }
-    ensures remains { (system : ModelSystem) → (source : List ℕ) → (handed : D) → IsSound D.state system source handed session → Remains D.state system source handed result.disk (session_of session) result.lives.items result.stops.items }
+    ensures leaves { LeavesSo D.state session result.disk result.lives.items result.stops.items }
+    ensures stopped { result.stopped ≡ is_stopped (standing_of session.place) }
+{
+    hand_over(session)
+}
+
+fn hand_over<D: Disk>(session: Session<D>) -> Over<D>
+    requires ready { IsReady D.state session }
+    ensures closed { IsClosed D.state session result.disk result.lives.items result.stops.items }
     ensures stopped { result.stopped ≡ is_stopped (standing_of session.place) }
 {
     let Session { place, kept } = session;

@@ -8,7 +8,7 @@ use std::test::Fail;
 /// Codes with scratch pads: one that repeats what it gets, one that counts in its pad, one that shows what its pad
 /// was, one that takes what it gets for its pad, and one that gives its pad back twice. One without a pad switches
 /// to them. Two regions have the class of all.
-const CONVERSING: &[u8] = b"IMSCTRL QBYTES=1048576,LOGS=256
+pub const CONVERSING: &[u8] = b"IMSCTRL QBYTES=1048576,LOGS=256
 APPLCTN PSB=CONVP
 TRANSACT CODE=CONV,SPA=34
 APPLCTN PSB=COUNTP

@@ -61,7 +61,7 @@ fn expect_regions(
 
 #[test]
 fn two_regions(rt: HostRuntime) -> Result<(), Fail> {
-    let table: [(&[u8], &[u8]); 7] = [
+    let table: [(&[u8], &[u8]); 8] = [
         // A reader waits for a transfer, and then sees what that has left.
         (
             b"IN T1 1 XFER 0001 0002 5\nIN T2 1 BAL 0001\nTURN 1\nTURN 2\nTURN 1\nTURN 1\nTURN 2\nTURN 2\nTURN 1\nTURN 1\nTURN 1\nTURN 1\nTURN 1\nTURN 2\nTURN 2\nTURN 2\nRECV T2\n",
@@ -97,6 +97,12 @@ fn two_regions(rt: HostRuntime) -> Result<(), Fail> {
         (
             b"IN T1 1 ADD 0001\nIN T2 1 ADD 0001\nTURN 1\nTURN 1\nTURN 1\nTURN 2\nTURN 2\nTURN 2\nTURN 1\nTURN 2\nTURN 1\nTURN 1\nTURN 1\nTURN 1\nTURN 2\nTURN 2\nTURN 2\nTURN 2\nTURN 2\nTURN 2\nTURN 2\nRECV T1\nRECV T2\n",
             b"ACK T1 1\nACK T2 1\nR1 SCHEDULED ADD 3\nR1 GU 0 OK\nR1 GU 1 OK\nR2 SCHEDULED ADD 4\nR2 GU 0 OK\nR2 GU 1 OK\nR1 WAITS ACC/0001 BY 2\nR2 U0777 2 CYCLE 1,2\nR1 GHU 1 OK\nR1 REPL 1 OK\nR1 ISRT 0 OK\nR1 DONE ADD 3\nR2 SCHEDULED ADD 4\nR2 GU 0 OK\nR2 GU 1 OK\nR2 GHU 1 OK\nR2 REPL 1 OK\nR2 ISRT 0 OK\nR2 DONE ADD 4\nOUT T1 1 000100001001\nOUT T2 1 000100001002\n",
+        ),
+        // A region is shown to wait as long as what it waits for is blocked, for a record and for the sequence of the roots.
+        // The lowest region at work forbids a freeze.
+        (
+            b"IN T1 1 XFER 0001 0002 5\nIN T2 1 BAL 0001\nTURN 1\nTURN 2\nTURN 1\nTURN 1\nTURN 2\n/DISPLAY ACTIVE\nTURN 2\n/DISPLAY ACTIVE\nTURN 1\nTURN 1\nTURN 1\nTURN 1\nTURN 1\n/DISPLAY ACTIVE\n/CHECKPOINT FREEZE\nIN T1 2 OPEN 0003 1\nTURN 1\nTURN 1\nTURN 1\n/CHECKPOINT FREEZE\nTURN 2\nTURN 2\nTURN 2\nIN T2 2 OPEN 0004 1\nTURN 2\nTURN 2\nTURN 2\n/DISPLAY ACTIVE\n/DISPLAY TRANSACTION OPEN\n",
+            b"ACK T1 1\nACK T2 1\nR1 SCHEDULED XFER 3\nR2 SCHEDULED BAL 4\nR1 GU 0 OK\nR1 GHU 1 OK\nR2 GU 0 OK\nREGION 1 XFER 3\nREGION 2 BAL 4\nR2 WAITS ACC/0001 BY 1\nREGION 1 XFER 3\nREGION 2 BAL 4 WAITS ACC/0001 BY 1\nR1 REPL 1 OK\nR1 GHU 1 OK\nR1 REPL 1 OK\nR1 ISRT 0 OK\nR1 DONE XFER 3\nREGION 1 IDLE\nREGION 2 BAL 4\nREFUSED FREEZE REGION 2 MESSAGE 4\nACK T1 2\nR1 SCHEDULED OPEN 5\nR1 GU 0 OK\nR1 ISRT 1 OK\nREFUSED FREEZE REGION 1 MESSAGE 5\nR2 GU 1 OK\nR2 ISRT 0 OK\nR2 DONE BAL 4\nACK T2 2\nR2 SCHEDULED OPEN 6\nR2 GU 0 OK\nR2 WAITS ACC BY 1\nREGION 1 OPEN 5\nREGION 2 OPEN 6 WAITS ACC BY 1\nTRANSACTION OPEN CLASS 1 PRIORITY 1 QUEUED 0 STARTED\n",
         ),
     ];
     for session in &table {

@@ -21,6 +21,8 @@ mod run;
 mod screen_tests;
 mod summed;
 #[cfg(test)]
+mod sector_tests;
+#[cfg(test)]
 mod tests;
 mod words;
 #[cfg(test)]

@@ -11,10 +11,22 @@ use tm_disk::{Disk, MemDisk};
 use tm_edge::{MemSink, MemSource};
 
 /// What a session over a disk comes to, and the disk, cut off: its status, and whether this was printed.
-fn serve<D: Disk + Drop>(
+pub fn serve<D: Disk + Drop>(
     rt: &impl Abort,
     alloc: Global,
     texts: &[&[u8]],
+    disk: D,
+    wanted: (u8, &[u8]),
+) -> Result<D, Fail> {
+    serve_to(rt, alloc, texts, &[], disk, wanted)
+}
+
+/// The same, where the sink fails at these calls.
+fn serve_to<D: Disk + Drop>(
+    rt: &impl Abort,
+    alloc: Global,
+    texts: &[&[u8]],
+    puts: &[u64],
     disk: D,
     wanted: (u8, &[u8]),
 ) -> Result<D, Fail> {
@@ -23,7 +35,7 @@ fn serve<D: Disk + Drop>(
         words.push(String::from_str(alloc, word)?)?;
     }
     let mut source = MemSource::new(joined(alloc, texts)?, Vec::new(alloc));
-    let mut sink = MemSink::new(alloc, Vec::new(alloc));
+    let mut sink = MemSink::new(alloc, puts.to_vec(alloc)?);
     sink.reserve(8192)?;
     let mut disk = disk;
     disk.cut(0);
@@ -43,7 +55,7 @@ fn expect(rt: &impl Abort, alloc: Global, lines: &[u8], wanted: (u8, &[u8])) -> 
 /// Power that fails, and what is sent again.
 #[test]
 fn power(rt: HostRuntime) -> Result<(), Fail> {
-    let table: [(&[u8], u8, &[u8]); 8] = [
+    let table: [(&[u8], u8, &[u8]); 11] = [
         // What was acknowledged is there behind a restart, and is taken once.
         (
             b"IN T1 1 ECHO A\nPOWER 0\nRECV T1\n/ERESTART\nIN T1 1 ECHO A\nQUIET 100\nRECV T1\n",
@@ -84,6 +96,23 @@ fn power(rt: HostRuntime) -> Result<(), Fail> {
             b"POWER IN 1 0\nIN T1 1 ECHO HELLO\n",
             3,
             b"ARMED 1\nSTOPPED\nSTATUS 3 DOWN\n",
+        ),
+        // An armed write and its pick stay over a checkpoint, a freeze and an opening, and end with a cut. A second takes the place
+        // of the first.
+        (
+            b"POWER IN 3 0\n/CHECKPOINT FREEZE\n/ERESTART\n/ERESTART\n/CHECKPOINT\n",
+            0,
+            b"ARMED 3\nFROZEN 2\nSTOPPED\nRESTARTED\nCHECKPOINT 4\n",
+        ),
+        (
+            b"POWER IN 9 1\nPOWER IN 1 0\n/STOP LTERM T1\n/ERESTART\n/DISPLAY LTERM T1\n",
+            0,
+            b"ARMED 9\nARMED 1\nSTOPPED\nRESTARTED\nLTERM T1 IN 0 OUT 0 KEPT 0 STARTED\n",
+        ),
+        (
+            b"POWER IN 1 1\nPOWER 0\n/ERESTART\n/STOP LTERM T1\n/DISPLAY LTERM T1\n",
+            0,
+            b"ARMED 1\nPOWER\nRESTARTED\nSTOPPED T1\nLTERM T1 IN 0 OUT 0 KEPT 0 STOPPED\n",
         ),
         // A stop within turns is told alone.
         (
@@ -156,9 +185,9 @@ fn armed(alloc: Global, write: u8) -> Result<Vec<u8>, Fail> {
 }
 
 /// A transfer that has replaced one account, up to a checkpoint.
-const HALF: &[u8] = b"IN T1 1 XFER 0001 0002 5\nTURN 1\nTURN 1\nTURN 1\nTURN 1\n";
+pub const HALF: &[u8] = b"IN T1 1 XFER 0001 0002 5\nTURN 1\nTURN 1\nTURN 1\nTURN 1\n";
 
-const HALF_PRINTED: &[u8] =
+pub const HALF_PRINTED: &[u8] =
     b"ACK T1 1\nR1 SCHEDULED XFER 3\nR1 GU 0 OK\nR1 GHU 1 OK\nR1 REPL 1 OK\n";
 
 /// Behind a stop the transfer is done anew.
@@ -250,6 +279,133 @@ fn stopped_sessions(rt: HostRuntime) -> Result<(), Fail> {
         for pick in 0..4u8 {
             ends_so(&rt, alloc, write, pick)?;
         }
+    }
+    Ok(())
+}
+
+/// The bank with the least log areas and queues, and with room for two accounts.
+fn small_bank(alloc: Global) -> Result<Vec<u8>, Fail> {
+    let Some(behind) = BANK.get(55..) else {
+        return Err("the system is too short".into());
+    };
+    let front = b"IMSCTRL QBYTES=131072,LOGS=64\nDBD NAME=ACC,ROOTS=2\n";
+    Ok(joined(alloc, &[front, behind, BANK_PROGRAMS])?)
+}
+
+/// Whether a session of the small bank ends so, over a disk of which this call fails, a read, a write or a sync.
+fn ends_at(alloc: Global, source: &[u8], call: u64, wanted: &(u8, &[u8])) -> Result<bool, Fail> {
+    let mut words = Vec::new(alloc);
+    for word in DRILL {
+        words.push(String::from_str(alloc, word)?)?;
+    }
+    let mut fails = Vec::new(alloc);
+    fails.push(call)?;
+    let disk = MemDisk::new(alloc, 455, fails)?;
+    let mut source = MemSource::new(source.to_vec(alloc)?, Vec::new(alloc));
+    let mut sink = MemSink::new(alloc, Vec::new(alloc));
+    sink.reserve(8192)?;
+    let outcome = run(alloc, &words, &mut source, &mut sink, disk);
+    Ok(
+        status_number(outcome.status) == wanted.0
+            && sink.bytes() == wanted.1
+            && outcome.stops.items.len() == 1,
+    )
+}
+
+/// Each call of the disk fails in turn: those of the first opening, which tells nothing; of the input; of the turn that completes it;
+/// of the acknowledgement; of the checkpoint; of the restart; and at last one with which the session ends while it is down. Nothing that
+/// was acknowledged is lost, and what was not is as if it had not been sent.
+const FAILING: [(u8, &[u8]); 7] = [
+    (
+        0,
+        b"DOWN\nDOWN\nDOWN\nDOWN\nDOWN\nDOWN\nRESTARTED\nUP\nACK T9 1\nQUIET 5\nOUT T9 1 OPENED 0001\nACKED T9 1\nCHECKPOINT 2\nLTERM T9 IN 1 OUT 1 KEPT 0 STARTED\nACK T2 1\nQUIET 5\nOUT T2 1 0001 00001000\n",
+    ),
+    (
+        0,
+        b"STOPPED\nDOWN\nDOWN\nDOWN\nDOWN\nDOWN\nRESTARTED\nUP\nACK T9 1\nQUIET 5\nOUT T9 1 OPENED 0001\nACKED T9 1\nCHECKPOINT 3\nLTERM T9 IN 1 OUT 1 KEPT 0 STARTED\nACK T2 1\nQUIET 5\nOUT T2 1 0001 00001000\n",
+    ),
+    (
+        0,
+        b"ACK T9 1\nSTOPPED\nDOWN\nDOWN\nDOWN\nDOWN\nRESTARTED\nUP\nALREADY T9 1\nQUIET 5\nOUT T9 1 OPENED 0001\nACKED T9 1\nCHECKPOINT 3\nLTERM T9 IN 1 OUT 1 KEPT 0 STARTED\nACK T2 1\nQUIET 5\nOUT T2 1 0001 00001000\n",
+    ),
+    (
+        0,
+        b"ACK T9 1\nQUIET 5\nOUT T9 1 OPENED 0001\nSTOPPED\nDOWN\nDOWN\nRESTARTED\nUP\nALREADY T9 1\nQUIET 0\nOUT T9 1 OPENED 0001\nACKED T9 1\nCHECKPOINT 3\nLTERM T9 IN 1 OUT 1 KEPT 0 STARTED\nACK T2 1\nQUIET 5\nOUT T2 1 0001 00001000\n",
+    ),
+    (
+        0,
+        b"ACK T9 1\nQUIET 5\nOUT T9 1 OPENED 0001\nACKED T9 1\nSTOPPED\nDOWN\nRESTARTED\nUP\nALREADY T9 1\nQUIET 0\nNONE T9\nALREADY T9 1\nCHECKPOINT 3\nLTERM T9 IN 1 OUT 1 KEPT 0 STARTED\nACK T2 1\nQUIET 5\nOUT T2 1 0001 00001000\n",
+    ),
+    (
+        0,
+        b"ACK T9 1\nQUIET 5\nOUT T9 1 OPENED 0001\nACKED T9 1\nCHECKPOINT 2\nPOWER\nSTOPPED\nRESTARTED\nALREADY T9 1\nQUIET 0\nNONE T9\nALREADY T9 1\nCHECKPOINT 4\nLTERM T9 IN 1 OUT 1 KEPT 0 STARTED\nACK T2 1\nQUIET 5\nOUT T2 1 0001 00001000\n",
+    ),
+    (
+        3,
+        b"ACK T9 1\nQUIET 5\nOUT T9 1 OPENED 0001\nACKED T9 1\nCHECKPOINT 2\nPOWER\nRESTARTED\nUP\nALREADY T9 1\nQUIET 0\nNONE T9\nALREADY T9 1\nSTOPPED\nDOWN\nDOWN\nDOWN\nDOWN\nSTATUS 3 DOWN\n",
+    ),
+];
+
+#[test]
+fn failing_calls(rt: HostRuntime) -> Result<(), Fail> {
+    let alloc = rt.alloc();
+    let bank = small_bank(alloc)?;
+    let restarts = b"POWER 0\n/ERESTART\n/ERESTART\n";
+    let source = joined(alloc, &[&bank, SHORT, restarts, SHORT, THERE])?;
+    let mut call = 1u16;
+    for wanted in &FAILING {
+        let mut ended = false;
+        for _ in 0..1000u16 {
+            if !ends_at(alloc, &source, u64::from(call), wanted)? {
+                break;
+            }
+            ended = true;
+            // The calls of the last line go on behind the first of them.
+            if wanted.0 == 3 {
+                break;
+            }
+            call = call.saturating_add(1);
+        }
+        assert!(rt; ended);
+    }
+    Ok(())
+}
+
+/// Where an answer can't be written the program ends, and what it answered is there. Sent again, all of it stands once.
+#[test]
+fn failing_answers(rt: HostRuntime) -> Result<(), Fail> {
+    let alloc = rt.alloc();
+    let table: [(&[u8], &[u8]); 5] = [
+        (
+            b"",
+            b"ALREADY T9 1\nQUIET 5\nOUT T9 1 OPENED 0001\nACKED T9 1\nCHECKPOINT 3\n",
+        ),
+        (
+            b"ACK T9 1\n",
+            b"ALREADY T9 1\nQUIET 0\nOUT T9 1 OPENED 0001\nACKED T9 1\nCHECKPOINT 3\n",
+        ),
+        (
+            b"ACK T9 1\nQUIET 5\n",
+            b"ALREADY T9 1\nQUIET 0\nOUT T9 1 OPENED 0001\nACKED T9 1\nCHECKPOINT 3\n",
+        ),
+        (
+            b"ACK T9 1\nQUIET 5\nOUT T9 1 OPENED 0001\n",
+            b"ALREADY T9 1\nQUIET 0\nNONE T9\nALREADY T9 1\nCHECKPOINT 3\n",
+        ),
+        (
+            b"ACK T9 1\nQUIET 5\nOUT T9 1 OPENED 0001\nACKED T9 1\n",
+            b"ALREADY T9 1\nQUIET 0\nNONE T9\nALREADY T9 1\nCHECKPOINT 4\n",
+        ),
+    ];
+    let bank = small_bank(alloc)?;
+    let mut put = 1u8;
+    for (before, behind) in &table {
+        let disk = MemDisk::new(alloc, 455, Vec::new(alloc))?;
+        let fails = [u64::from(put)];
+        let disk = serve_to(&rt, alloc, &[&bank, SHORT], &fails, disk, (5, before))?;
+        let wanted = joined(alloc, &[behind, THERE_PRINTED])?;
+        let _ = serve(&rt, alloc, &[&bank, SHORT, THERE], disk, (0, &wanted))?;
+        put = put.saturating_add(1);
     }
     Ok(())
 }

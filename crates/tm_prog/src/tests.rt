@@ -43,9 +43,9 @@ END
 ";
 
 /// One message from its line to its acknowledged reply.
-const FIRST: &[u8] = b"IN T1 1 ECHO HELLO\nTURN 1\nTURN 1\nTURN 1\nTURN 1\nRECV T1\nACK T1 1\n";
+pub const FIRST: &[u8] = b"IN T1 1 ECHO HELLO\nTURN 1\nTURN 1\nTURN 1\nTURN 1\nRECV T1\nACK T1 1\n";
 
-const FIRST_PRINTED: &[u8] =
+pub const FIRST_PRINTED: &[u8] =
     b"ACK T1 1\nR1 SCHEDULED ECHO 1\nR1 GU 0 OK\nR1 ISRT 0 OK\nR1 DONE ECHO 1\nOUT T1 1 ECHO HELLO\nACKED T1 1\n";
 
 /// These texts, one behind another.

@@ -32,7 +32,7 @@ use Rattle.session_lives.specs.declared.place.Kept.{Kept}
 use Rattle.session_lives.specs.declared.place.Session.{Session}
 use Rattle.session_lives.specs.Running.{life_of, last_of, kept_of, outage_of, standing_of, session_at, session_of, setting_of, error_of, IsDownSound, IsSound, Leads, LeadsBy}
 use Rattle.session_lives.specs.Openings.{HasGone, StaysIdle}
-use Rattle.session_lives.specs.Closing.{listed, IsClosedDown, IsClosedAt, IsClosed, Remains}
+use Rattle.session_lives.specs.Closing.{listed, IsClosedDown, IsClosedAt, IsClosed, Remains, LeavesSo}
 use Rattle.session_lives.proofs.Ends.{same_state, outage_with}
 use Rattle.session_lives.proofs.Restarted.{opens_gone, fails_gone, gone_sound}
 use Rattle.tm_session.specs.declared.outcome.Ended.{Ended}
@@ -65,7 +65,7 @@ module _ {D : Type 0} (state : D → DiskState) (is_disk : (disk : D) → IsDisk
     system_is = b.system_is;
     text_is = b.text_is;
     size = λ begun. absurd (no_first b.idle.last b.last_is begun);
-    texts = λ begun. absurd (no_first b.idle.last b.last_is begun);
+    texts = λ image left. inr (record { no_life = ap (λ l. option_map last_of l) b.last_is; left = subst (λ d. (state d).may_leave image) b.disk_is left });
     stays = first_stays;
     stops = subst (λ s. AreStops (state handed).faults s (state b.idle.disk).faults) (sym b.stops) first_stays.faults;
     legal = subst (λ l. AreLegal system (map life_of l)) (sym b.lives) tt;
@@ -245,7 +245,7 @@ module _ {D : Type 0} (state : D → DiskState) (system : System) (source : List
       (lives : List Life) (stops : List Stop) → IsRead told mid count system source → IfSome told (λ bytes. source ≡ definition_text (definition_lines (lines_of bytes)))
       → Begins (setting_of state system source handed) (session_of a) → IsSound state system source handed a
       → Leads state (λ setting x y. HasDriven setting count mid (unread held left) w w' x y ended) a b → status ≡ by_standing (is_stopped (standing_of b.place)) ended
-      → ((system : System) → (source : List ℕ) → (handed : D) → IsSound state system source handed b → Remains state system source handed disk (session_of b) lives stops)
+      → LeavesSo state b disk lives stops
       → IsSession state told left w w' handed disk status lives stops
   is_session told mid held left w w' count disk a b ended status lives stops definition text_is begins sound leads at over =
       let led : LeadsBy state (λ setting x y. HasDriven setting count mid (unread held left) w w' x y ended) system source handed a b = leads system source handed sound in

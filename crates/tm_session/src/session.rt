@@ -1,14 +1,13 @@
 //! A whole session.
-ghost use Rattle.std.specs.Prelude.{◌≡◌, ℕ, List, ◌≤◌, length, IfOk, IfErr, OnOk};
+ghost use Rattle.std.specs.Prelude.{◌≡◌, ◌≤◌, length, IfOk, IfErr, OnOk};
 ghost use Rattle.model_disk.specs.Disk.{Only};
 ghost use Rattle.tm_edge.specs.Lines.{unread};
-ghost use Rattle.model_system.specs.System.{System as ModelSystem};
 ghost use Rattle.model_session.specs.Standing.{is_stopped};
 ghost use Rattle.tm_session.specs.Opened as spec;
 ghost use Rattle.tm_session.specs.Opened.{IsRead, HasBegun, IsNothing};
 ghost use Rattle.tm_session.specs.Outcome.{HasCause, IsBack, IsReadToEnd};
-ghost use Rattle.session_lives.specs.Running.{IsReady, IsSound, standing_of, session_of};
-ghost use Rattle.session_lives.specs.Closing.{IsClosed, Remains};
+ghost use Rattle.session_lives.specs.Running.{IsReady, standing_of};
+ghost use Rattle.session_lives.specs.Closing.{IsClosed, LeavesSo};
 ghost use Rattle.tm_session.specs.Headline.{IsSession, IsUnbegun};
 
 use crate::driver::serve_lines;
@@ -145,7 +144,7 @@ fn refusal(opening: Opening) -> Option<Ended>
 fn finish<D: Disk>(session: Session<D>, status: Ended) -> Outcome<D>
     requires ready { IsReady D.state session }
     ensures closed { IsClosed D.state session result.disk result.lives result.stops }
-    ensures remains { (system : ModelSystem) → (source : List ℕ) → (handed : D) → IsSound D.state system source handed session → Remains D.state system source handed result.disk (session_of session) result.lives result.stops }
+    ensures leaves { LeavesSo D.state session result.disk result.lives result.stops }
     ensures status { result.status ≡ spec.by_standing (is_stopped (standing_of session.place)) status }
 {
     let Over {
