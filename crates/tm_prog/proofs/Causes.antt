@@ -24,7 +24,6 @@ use Rattle.sysdef_text.specs.Ends.{definition_lines}
 use Rattle.tm_prog.specs.declared.words.Workload.{Workload}
 use Rattle.tm_prog.specs.Words.{WordFault, word_fault, workload_of}
 use Rattle.tm_prog.specs.Workload.{told_by, text_of as workload_bytes, summary_of, status_by, IsWritten, IsToldBy, IsTold, IsWorkload}
-use Rattle.tm_prog.proofs.Telling.{no_rise}
 use Rattle.tm_prog.specs.Status.{IsServed, IsByWords, IsRefused, IsRun, IsLastLine, IsWithinLimits, IsServedBy, IsServedWhole, IsComplete, status_text}
 
 -- ---- limits
@@ -183,6 +182,10 @@ module _ {D : Type 0} (state : D → DiskState) (is_disk : (disk : D) → IsDisk
   complete (Limit n) told left old mid new r r' w w1 w2 session cause last reads writes within = absurd (session_limit n told left old mid session within)
 
   -- ---- a workload
+
+  no_rise : HasRisen 0 0 → ⊥
+  no_rise (inl more) = omega (arith, more)
+  no_rise (inr last) = omega (arith, last)
 
   -- where the session of these bytes was served, and memory was wanting behind it
   memory_behind : (ended : Ended) (told left old new : Option (List ℕ)) → Session told left old new ended → Complete told Memory
