@@ -86,14 +86,15 @@ workload_of _ = None
 abbrev pub sectors_of : List ℕ → ℕ
 sectors_of word = unwrap_or (sectors_in word) 0
 
-abbrev pub memory_of : List ℕ → List ℕ → ℕ
-memory_of command size = if bytes_eq command (codes "workload") then 16384 else sectors_of size
-
 abbrev pub disk_in : List (List ℕ) → DiskWords
-disk_in (command ∷ kind ∷ size ∷ []) = InMemory (memory_of command size)
+disk_in (command ∷ kind ∷ size ∷ []) = InMemory (sectors_of size)
 disk_in (command ∷ kind ∷ path ∷ size ∷ words) = InFile (sectors_of size)
 disk_in _ = InMemory 0
 
+abbrev pub disk_for : Option Workload → List (List ℕ) → DiskWords
+disk_for (Some workload) words = InMemory 16384
+disk_for None words = disk_in words
+
 abbrev pub disk_by : Option WordFault → List (List ℕ) → DiskWords
-disk_by None words = disk_in words
+disk_by None words = disk_for (workload_of words) words
 disk_by (Some fault) words = InMemory 0

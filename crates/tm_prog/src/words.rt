@@ -38,20 +38,13 @@ pub fn disk_words(words: &[String]) -> DiskWords
     if find_word_fault(words).is_some() {
         return DiskWords::InMemory(0);
     }
+    if workload_of(words).is_some() {
+        return DiskWords::InMemory(WORKLOAD_SIZE);
+    }
     match words {
-        [command, _, size] => DiskWords::InMemory(memory_of(command, size)),
+        [_, _, size] => DiskWords::InMemory(sectors_of(size)),
         [_, _, _, size, ..] => DiskWords::InFile(sectors_of(size)),
         _ => DiskWords::InMemory(0),
-    }
-}
-
-fn memory_of(command: &String, size: &String) -> u32
-    ensures { result ≡ spec.memory_of (string_bytes command.now) (string_bytes size.now) }
-{
-    if command.as_bytes() == b"workload".as_slice() {
-        WORKLOAD_SIZE
-    } else {
-        sectors_of(size)
     }
 }
 
