@@ -11,11 +11,10 @@ use Rattle.restart_data.specs.Snapshot.{sectors_of}
 use Rattle.system_types.specs.Valid.{IsSystem}
 use Rattle.model_image.specs.Areas.{snapshot_area}
 use Rattle.model_image.specs.Recovered.{Recovers}
-use Rattle.model_image.proofs.Answers.{zeros_are_empty}
 use Rattle.snapshot_records.specs.Spelled.{Adds}
 use Rattle.snapshot_records.proofs.Begun.{HasSnapshot, recovers_begun}
 use Rattle.cold_start.specs.declared.laying_cold.Places.{Places}
-use Rattle.cold_start.specs.FirstImage.{IsFirst, IsFirstImage, KeepsOrEmpties, first_records}
+use Rattle.cold_start.specs.FirstImage.{IsFirst, IsFirstImage, BeginsImage, first_records}
 use Rattle.cold_start.specs.Filling.{AreOf, IsWritten, Begins}
 use Rattle.cold_start.proofs.Emptied.{blank_restart, empty_is, empty_sound}
 use Rattle.cold_start.proofs.Names.{codes_apart}
@@ -46,19 +45,19 @@ module _ (system : System) (text bytes : List ℕ) (now : RestartSector) (valid 
           subst (λ (j : ℕ). sector_at image j ≡ blank) (omega (arith, low, are.blanks)) (written.laid.blanks x (omega (arith, low, high, are.blanks, are.count)));
     }
 
-    begins_keeps : (before after : Image) → Begins places text bytes now before after → KeepsOrEmpties system before after
-    begins_keeps before after begins =
+    begins_image : (before after : Image) → Begins places text bytes now before after → BeginsImage system text bytes now before after
+    begins_image before after begins =
         ⊎_elim (λ same. inl same)
         (λ rest. ⊎_elim
-        (λ (zeros : sector_at after 0 ≡ blank). inr (zeros_are_empty system after (ap (restart_of (snapshot_area system)) zeros ∙ blank_restart (snapshot_area system))))
-        (λ (written : IsWritten places text bytes now after). inr (first_recovers after (first_image after written)))
+        (λ (zeros : sector_at after 0 ≡ blank). inr (inl (ap (restart_of (snapshot_area system)) zeros ∙ blank_restart (snapshot_area system))))
+        (λ (written : IsWritten places text bytes now after). inr (inr (first_image after written)))
         rest)
         begins
 
     module _ (old new : DiskState) where
-      pub keeps_or_empties : Within (Begins places text bytes now) old new → Within (KeepsOrEmpties system) old new
-      keeps_or_empties within =
-          within_where (Begins places text bytes now) (KeepsOrEmpties system) old new (λ before after left begins. begins_keeps before after begins) within
+      pub begins_within : Within (Begins places text bytes now) old new → Within (BeginsImage system text bytes now) old new
+      begins_within within =
+          within_where (Begins places text bytes now) (BeginsImage system text bytes now) old new (λ before after left begins. begins_image before after begins) within
 
       pub all_first : Follows (λ before after. IsWritten places text bytes now after) old new → Follows (λ before after. IsFirstImage system text bytes now after) old new
       all_first follows =

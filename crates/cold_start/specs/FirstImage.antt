@@ -1,5 +1,5 @@
 -- The first image of a system's disk.
-use Rattle.std.specs.Prelude.{◌≡◌, ◌⊎◌, ℕ, ◌+◌, ◌<◌, ◌≤◌, List, [], length, Some, Ok}
+use Rattle.std.specs.Prelude.{◌≡◌, ◌⊎◌, ℕ, ◌+◌, ◌<◌, ◌≤◌, List, [], length, Some, None, Ok}
 use Rattle.model_disk.specs.Disk.{Image, sector_at}
 use Rattle.tm_disk.specs.Sector.{blank}
 use Rattle.model_system.specs.System.{System}
@@ -9,7 +9,6 @@ use Rattle.restart_data.specs.declared.restart.RestartSector.{RestartSector}
 use Rattle.restart_data.specs.Restart.{restart_in}
 use Rattle.restart_data.specs.Snapshot.{snapshot_in}
 use Rattle.model_image.specs.Areas.{snapshot_area, snapshot_first, log_first, data_first}
-use Rattle.model_image.specs.Recovered.{Recovers}
 use Rattle.snapshot_records.specs.Records.{snapshot_records}
 use Rattle.cold_start.specs.Filling.{text_sectors, text_sector}
 
@@ -37,6 +36,7 @@ pub record IsFirstImage (system : System) (text bytes : List ℕ) (now : Restart
   pub snapshot : snapshot_in now.sectors image (snapshot_first system now.snapshot) now.checkpoint ≡ Ok bytes
   pub blanks : (k : ℕ) → log_first system 0 ≤ k → k < sectors_needed system → sector_at image k ≡ blank
 
--- The image is the one before, or recovers to the empty state.
-abbrev pub KeepsOrEmpties : System → Image → Image → Type 0
-KeepsOrEmpties system before after = (after ≡ before) ⊎ Recovers system after (Ok (empty_state system))
+-- The image is the one before; or its restart sector is all zeros; or it is the first image.
+abbrev pub BeginsImage : System → List ℕ → List ℕ → RestartSector → Image → Image → Type 0
+BeginsImage system text bytes now before after =
+    (after ≡ before) ⊎ ((restart_in (snapshot_area system) after ≡ Ok None) ⊎ IsFirstImage system text bytes now after)

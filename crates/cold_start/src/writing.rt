@@ -4,7 +4,7 @@ ghost use Rattle.model_disk.specs.Disk.{Stays, Within, Follows, Only, FailedSinc
 ghost use Rattle.restart_data.specs.Restart.{IsRestart};
 ghost use Rattle.restart_data.specs.Snapshot.{sectors_of};
 ghost use Rattle.snapshot_records.specs.Spelled.{Adds};
-ghost use Rattle.cold_start.specs.FirstImage.{IsFirst, IsFirstImage, KeepsOrEmpties, first_records, sectors_needed};
+ghost use Rattle.cold_start.specs.FirstImage.{IsFirst, IsFirstImage, BeginsImage, first_records, sectors_needed};
 
 use crate::beginning::begin;
 use crate::places::places;
@@ -30,8 +30,8 @@ pub fn write_image<D: Disk>(
     requires valid { IsRestart now.now }
     requires sectors { now.now.sectors ≡ sectors_of (length bytes.now) }
     ensures stays { Stays (D.state disk.old) (D.state disk.new) }
-    // Whenever a crash comes, it leaves the image before, or one that recovers to the empty state.
-    ensures any_moment { Within (KeepsOrEmpties system.now) (D.state disk.old) (D.state disk.new) }
+    // Whenever a crash comes, it leaves the image before, one whose restart sector is all zeros, or the first image.
+    ensures any_moment { Within (BeginsImage system.now text.now bytes.now now.now) (D.state disk.old) (D.state disk.new) }
     // Then it leaves the first image.
     ensures done { OnOk result (Follows (λ before after. IsFirstImage system.now text.now bytes.now now.now after) (D.state disk.old) (D.state disk.new)) }
     ensures synced { OnOk result (Only (D.state disk.new).shown (D.state disk.new)) }

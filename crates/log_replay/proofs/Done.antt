@@ -16,6 +16,9 @@ use Rattle.record_replay.specs.Waiting.{of_unit}
 use Rattle.image_records.specs.Kept.{KeptState}
 use Rattle.replay_law.proofs.Bools.{both}
 use Rattle.record_replay.specs.Judged.{lasting_in, AreFree, AreSound}
+use Rattle.model_queues.specs.Queue.{messages_of}
+use Rattle.record_replay.specs.Tallied.{Counts, Follows}
+use Rattle.record_replay.proofs.Right.{follows_sound}
 use Rattle.record_replay.specs.Working.{WorkState, IsAt, Comes}
 use Rattle.log_replay.specs.Replaying.{Ends}
 use Rattle.log_replay.proofs.Tables.{kept_is}
@@ -31,14 +34,16 @@ pub record IsOn (system : System) (kept : KeptState) (records rest : List Record
   pub at : IsAt system replay work
   pub same : replay_all system rest replay ≡ replay_all system records (start system kept)
 
-pub begins : (system : System) (kept : KeptState) (records : List Record) (work : WorkState) → AreSound system kept → work.kept ≡ kept → work.units ≡ [] → IsOn system kept records records work
-begins system kept records work sound same none = record {
+pub begins : (system : System) (kept : KeptState) (records : List Record) (work : WorkState) → AreSound system kept → work.kept ≡ kept → work.units ≡ [] →
+    Counts (messages_of kept.queues.queued) work.tally.counts → work.tally.faults ≡ 0 → IsOn system kept records records work
+begins system kept records work sound same none counts faults = record {
   replay = start system kept;
   at = record {
     lasting = ap (lasting_in system) (sym same);
     free = subst (AreFree system) (sym same) sound.free;
     sound = sound.sound;
     waiting = λ unit. ap (of_unit unit) none;
+    follows = subst (λ (k : KeptState). Follows system k work.tally) (sym same) (follows_sound system kept work.tally sound counts faults);
   };
   same = refl;
 }
@@ -53,6 +58,9 @@ module _ (system : System) (kept : KeptState) (records rest : List Record) (r : 
 -- tables at a point of the replay may be gone on with
 pub sound_at : (system : System) (kept : KeptState) (records rest : List Record) (work : WorkState) → IsOn system kept records rest work → AreSound system work.kept
 sound_at system kept records rest work on = record { sound = ap (breaks_a_rule system) (sym on.at.lasting) ∙ on.at.sound; free = on.at.free }
+
+pub follows_at : (system : System) (kept : KeptState) (records rest : List Record) (work : WorkState) → IsOn system kept records rest work → Follows system work.kept work.tally
+follows_at system kept records rest work on = on.at.follows
 
 pub ends : (system : System) (kept : KeptState) (records : List Record) (work : WorkState) → IsOn system kept records [] work → Ends system (replay_of system records (lasting_in system kept)) (Some work.kept)
 ends system kept records work on = (

@@ -59,7 +59,7 @@ fn replay_all(
     requires { AreSound system.now kept }
     ensures { IfOk result (Ends system.now (replay_of system.now records.items (lasting_in system.now kept))) }
 {
-    let mut working = Working::new(alloc, kept);
+    let mut working = Working::new(alloc, kept)?;
     for r in records {
         let fine = replay_record(alloc, system, &mut working, r)?;
         if !fine {

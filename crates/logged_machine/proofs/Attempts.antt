@@ -1,10 +1,10 @@
 -- An attempt of a call, by what it told.
 use Rattle.std.proofs.Common.{◌≡◌, ◌≤◌, ◌<◌, ◌+◌, ◌^◌, ℕ, Bool, true, false, List, length, refl, sym, ◌∙◌, ap, subst, arith}
-use Rattle.std.specs.Prelude.{IfSome, Option, Some, None, Result, Ok, Err}
+use Rattle.std.specs.Prelude.{IfSome, Option, Some, None, Result, Ok, Err, ◌++◌}
 use Rattle.std.specs.List.{flat_map}
 use Rattle.std.specs.Option.{is_some}
 use Rattle.std.proofs.Common.{lt-ltb}
-use Rattle.model_disk.specs.Disk.{Image, DiskState, Stays, Within, FailedSince}
+use Rattle.model_disk.specs.Disk.{Image, DiskState, Stays, Within, WritesAtMost, FailedSince}
 use Rattle.model_enqueue.specs.declared.victim.Victim.{Victim}
 use Rattle.model_machine.specs.Machine.{Moment}
 use Rattle.model_command.specs.declared.answer.Answer.{Answer}
@@ -12,10 +12,11 @@ use Rattle.model_command.specs.declared.command.Command.{Command}
 use Rattle.model_machine.specs.Commands.{lasting_command}
 use Rattle.model_machine.specs.Lasting.{LastingStep}
 use Rattle.model_machine.specs.Steps.{lasting_step}
-use Rattle.model_machine.specs.History.{after_entry}
+use Rattle.model_machine.specs.History.{after_entry, call_of}
 use Rattle.model_machine.specs.declared.entry.Acked.{Acked}
 use Rattle.model_machine.specs.declared.entry.AckRefused.{AckRefused}
 use Rattle.model_machine.specs.declared.entry.CommandRefused.{CommandRefused}
+use Rattle.model_machine.specs.declared.entry.ControlCall.{ControlCall}
 use Rattle.model_machine.specs.declared.entry.ControlCall.TheVariants.{Input, Acknowledge, Turn, Command as CommandCall}
 use Rattle.model_machine.specs.declared.entry.ControlFault.{ControlFault}
 use Rattle.model_machine.specs.declared.entry.ControlFault.TheVariants.{Disk}
@@ -31,10 +32,11 @@ use Rattle.tm_types.specs.Name.{IsName}
 use Rattle.log_records.specs.declared.record.Record.{Record}
 use Rattle.log_records.specs.Spelling.{spelling}
 use Rattle.log_writer.specs.Writer.{Writer}
-use Rattle.log_writer.specs.Log.{IsReady}
+use Rattle.log_writer.specs.Log.{IsReady, AddsFront, sectors_of}
 use Rattle.disk_law.specs.Life.{LifeOnDisk}
 use Rattle.disk_law.specs.Changes.{with_bytes}
 use Rattle.disk_law.specs.Journal.{JournalState}
+use Rattle.journal.specs.State.{forced}
 use Rattle.tm_machine.specs.Answers.{IsAnswered}
 use Rattle.tm_machine.specs.OnSlots.{HasSlots, TellByCall, TurnsSo, changes_told, slots_now, turn_records}
 use Rattle.tm_machine.specs.Parts.{PartsState}
@@ -52,7 +54,9 @@ use Rattle.machine_life.specs.Counted.{IsCounted}
 use Rattle.parts_life.specs.Logged.{IsLogged}
 use Rattle.logged_machine.specs.Logged.{LoggedState}
 use Rattle.control_life.specs.Faults.{fault_in}
-use Rattle.logged_machine.specs.Doing.{Did}
+use Rattle.logged_machine.specs.Doing.{Did, GoesOnIn, Tried}
+use Rattle.logged_machine.specs.Frugal.{AppendsAlone, ForceFails, ForcesAll, WritesBy, has_lasting_step, own_bytes, own_records}
+use Rattle.logged_machine.proofs.Frugality.{area_is, writes_log}
 use Rattle.logged_machine.proofs.Answered.{ack_unfaulted, command_unfaulted, input_unfaulted}
 use Rattle.logged_machine.proofs.Logging.{area}
 use Rattle.logged_machine.proofs.Once.{Forces, failed, is, is_broken, is_still, quiet, quiet_logged, was, wrote, wrote_logged}
@@ -68,15 +72,41 @@ pub record Attempt {D : Type 0} (state : D → DiskState) (parts parts' : PartsS
   pub step : Option LastingStep
   pub steps : is_some step ≡ has_step
   pub goes : GoesBy step (flat_map spelling records) parts.system parts'.moment (slots_now parts') units' next' logged.life
+  pub own : records ≡ own_records parts units (call_of entry)
+  pub step_is : step ≡ lasting_step parts.system parts.moment (call_of entry)
+  pub unit_up : next' ≤ next + 1
 
 module _ {D : Type 0} (state : D → DiskState) (parts parts' : PartsState) (text : List ℕ) (journal mid : JournalState) (units units' : List ℕ) (next next' : ℕ) (disk : D) (entry : Entry) (has_step up : Bool)
     (a : Attempt state parts parts' text journal mid units units' next next' disk entry has_step) where
+  -- ---- what it writes
+
+  step_has : has_lasting_step parts (call_of entry) ≡ has_step
+  step_has = ap is_some (sym a.step_is) ∙ a.steps
+
+  log_is : mid.log ≡ with_bytes (own_bytes parts units (call_of entry)) journal.log
+  log_is = a.told.log ∙ ap (λ (rs : List Record). with_bytes (flat_map spelling rs) journal.log) a.own
+
+  writes_quiet : has_step ≡ false → WritesBy state (fault_in entry) (has_lasting_step parts (call_of entry)) (own_bytes parts units (call_of entry)) journal mid disk disk
+  writes_quiet none =
+      let w : AppendsAlone (own_bytes parts units (call_of entry)) journal mid disk disk = record { log = log_is; restart = a.told.restart; disk_is = refl } in
+      subst (λ (f : Option ControlFault). WritesBy state f (has_lasting_step parts (call_of entry)) (own_bytes parts units (call_of entry)) journal mid disk disk) (sym a.no_fault)
+      (subst (λ (b : Bool). WritesBy state None b (own_bytes parts units (call_of entry)) journal mid disk disk) (sym (step_has ∙ none)) w)
+
+  on_quiet : (up' : Bool) → GoesOnIn (record { machine = parts; text = text; served = up; journal = journal; units = units; next_unit = next; disk = disk }) (record { machine = parts'; text = text; served = up'; journal = mid; units = units'; next_unit = next'; disk = disk })
+  on_quiet up' =
+      let s : mid.log.sequence ≡ journal.log.sequence = ap (λ (w : Writer). w.sequence) a.told.log in
+      let p : mid.log.place ≡ journal.log.place = ap (λ (w : Writer). w.place) a.told.log in
+      record { restart = a.told.restart; sequence = omega (arith, s, p); unit = a.unit_up }
+
   -- without a step nothing is written
-  pub did_quiet : up ≡ true → has_step ≡ false → Did state (fault_in entry) (record { machine = parts; text = text; served = up; journal = journal; next_unit = next; disk = disk }) (record { machine = parts'; text = text; served = up; journal = mid; next_unit = next'; disk = disk }) entry
+  did_quiet : up ≡ true → has_step ≡ false → Did state (fault_in entry) (record { machine = parts; text = text; served = up; journal = journal; units = units; next_unit = next; disk = disk }) (record { machine = parts'; text = text; served = up; journal = mid; units = units'; next_unit = next'; disk = disk }) entry
   did_quiet served none =
       subst (λ (f : Option ControlFault). Did state f (was state parts parts' text journal mid units units' next next' disk up a.logged a.as_many entry a.answered a.records a.told a.step a.goes)
       (is_still state parts parts' text journal mid units units' next next' disk up a.logged a.as_many entry a.answered a.records a.told a.step a.goes) entry) (sym a.no_fault)
       (quiet state parts parts' text journal mid units units' next next' disk up a.logged a.as_many entry a.answered a.records a.told a.step a.goes served (a.steps ∙ none))
+
+  pub tried_quiet : up ≡ true → has_step ≡ false → Tried state (fault_in entry) (record { machine = parts; text = text; served = up; journal = journal; units = units; next_unit = next; disk = disk }) (record { machine = parts'; text = text; served = up; journal = mid; units = units'; next_unit = next'; disk = disk }) entry
+  tried_quiet served none = record { did = did_quiet served none; writes = writes_quiet none; on = λ now. on_quiet up }
 
   pub logged_quiet : has_step ≡ false → IsLogged parts' units' next' mid text (state disk)
   logged_quiet none = quiet_logged state parts parts' text journal mid units units' next next' disk up a.logged a.as_many entry a.answered a.records a.told a.step a.goes (a.steps ∙ none)
@@ -99,26 +129,92 @@ module _ {D : Type 0} (state : D → DiskState) (parts parts' : PartsState) (tex
 
   -- ---- with a step
   module _ (some : has_step ≡ true) (journal' : JournalState) (disk' : D) where
-    pub did_forced : up ≡ true → Forces mid.log journal'.log (state disk) (state disk') → journal'.restart ≡ mid.restart
-        → Did state (fault_in entry) (record { machine = parts; text = text; served = up; journal = journal; next_unit = next; disk = disk }) (record { machine = parts'; text = text; served = up; journal = journal'; next_unit = next'; disk = disk' }) entry
+    did_forced : up ≡ true → Forces mid.log journal'.log (state disk) (state disk') → journal'.restart ≡ mid.restart
+        → Did state (fault_in entry) (record { machine = parts; text = text; served = up; journal = journal; units = units; next_unit = next; disk = disk }) (record { machine = parts'; text = text; served = up; journal = journal'; units = units'; next_unit = next'; disk = disk' }) entry
     did_forced served f restart =
         subst (λ (x : Option ControlFault). Did state x (was state parts parts' text journal mid units units' next next' disk up a.logged a.as_many entry a.answered a.records a.told a.step a.goes)
         (is state parts parts' text journal mid units units' next next' disk up a.logged a.as_many entry a.answered a.records a.told a.step a.goes (a.steps ∙ some) journal' disk') entry) (sym a.no_fault)
         (wrote state parts parts' text journal mid units units' next next' disk up a.logged a.as_many entry a.answered a.records a.told a.step a.goes (a.steps ∙ some) journal' disk' served f restart)
 
+    on_forced : Forces mid.log journal'.log (state disk) (state disk') → journal'.restart ≡ mid.restart → GoesOnIn (record { machine = parts; text = text; served = up; journal = journal; units = units; next_unit = next; disk = disk }) (record { machine = parts'; text = text; served = up; journal = journal'; units = units'; next_unit = next'; disk = disk' })
+    on_forced f restart =
+        let s : journal'.log.sequence ≡ journal.log.sequence = ap (λ (w : Writer). w.sequence) f.log_is ∙ ap (λ (w : Writer). w.sequence) a.told.log in
+        let p : journal'.log.place ≡ journal.log.place + sectors_of (length (journal.log.appended ++ flat_map spelling a.records)) = ap (λ (w : Writer). w.place) (f.log_is ∙ ap forced a.told.log) in
+        record {
+          restart = restart ∙ a.told.restart;
+          sequence =
+              within journal.log.sequence journal.log.place (sectors_of (length (journal.log.appended ++ flat_map spelling a.records))) journal.log.count parts.system.logs journal'.log.sequence journal'.log.place s p
+              a.told.fits (area_is parts units next journal text (state disk) a.logged);
+          unit = a.unit_up;
+        }
+      where
+        within : (s p n c l t q : ℕ) → t ≡ s → q ≡ p + n → p + n ≤ c → c ≡ l → t + q ≤ s + p + l
+        within s p n c l t q a b d e = omega (arith, a, b, d, e)
+
+    writes_forced : Forces mid.log journal'.log (state disk) (state disk') → journal'.restart ≡ mid.restart → WritesAtMost (sectors_of (length mid.log.appended)) (state disk) (state disk')
+        → WritesBy state (fault_in entry) (has_lasting_step parts (call_of entry)) (own_bytes parts units (call_of entry)) journal journal' disk disk'
+    writes_forced f restart most =
+        let w : ForcesAll state (own_bytes parts units (call_of entry)) journal journal' disk disk' = record {
+          log = f.log_is ∙ ap forced log_is;
+          restart = restart ∙ a.told.restart;
+          writes = writes_log journal.log mid.log (own_bytes parts units (call_of entry)) (state disk) (state disk') log_is f.within most;
+        } in
+        subst (λ (x : Option ControlFault). WritesBy state x (has_lasting_step parts (call_of entry)) (own_bytes parts units (call_of entry)) journal journal' disk disk') (sym a.no_fault)
+        (subst (λ (b : Bool). WritesBy state None b (own_bytes parts units (call_of entry)) journal journal' disk disk') (sym (step_has ∙ some)) w)
+
+    pub tried_forced : up ≡ true → Forces mid.log journal'.log (state disk) (state disk') → journal'.restart ≡ mid.restart → WritesAtMost (sectors_of (length mid.log.appended)) (state disk) (state disk')
+        → Tried state (fault_in entry) (record { machine = parts; text = text; served = up; journal = journal; units = units; next_unit = next; disk = disk }) (record { machine = parts'; text = text; served = up; journal = journal'; units = units'; next_unit = next'; disk = disk' }) entry
+    tried_forced served f restart most = record { did = did_forced served f restart; writes = writes_forced f restart most; on = λ now. on_forced f restart }
+
     pub logged_forced : Forces mid.log journal'.log (state disk) (state disk') → journal'.restart ≡ mid.restart → IsLogged parts' units' next' journal' text (state disk')
     logged_forced f restart = wrote_logged state parts parts' text journal mid units units' next next' disk up a.logged a.as_many entry a.answered a.records a.told a.step a.goes (a.steps ∙ some) journal' disk' f restart
 
     -- the disk failed
-    pub did_failed : (broken : Entry) → fault_in broken ≡ Some Disk → after_entry parts.system parts.moment broken ≡ after_entry parts.system parts.moment entry
+    did_failed : (broken : Entry) → fault_in broken ≡ Some Disk → after_entry parts.system parts.moment broken ≡ after_entry parts.system parts.moment entry
         → Within (Rattle.log_writer.specs.Log.AddsFront mid.log) (state disk) (state disk') → Stays (state disk) (state disk') → FailedSince (state disk) (state disk')
-        → Did state (fault_in broken) (record { machine = parts; text = text; served = up; journal = journal; next_unit = next; disk = disk }) (record { machine = parts'; text = text; served = false; journal = journal'; next_unit = next'; disk = disk' }) broken
+        → Did state (fault_in broken) (record { machine = parts; text = text; served = up; journal = journal; units = units; next_unit = next; disk = disk }) (record { machine = parts'; text = text; served = false; journal = journal'; units = units'; next_unit = next'; disk = disk' }) broken
     did_failed broken fault same within stays cause =
         subst (λ (x : Option ControlFault). Did state x (was state parts parts' text journal mid units units' next next' disk up a.logged a.as_many entry a.answered a.records a.told a.step a.goes)
         (is_broken state parts parts' text journal mid units units' next next' disk up a.logged a.as_many entry a.answered a.records a.told a.step a.goes (a.steps ∙ some) journal' disk') broken) (sym fault)
         (failed state parts parts' text journal mid units units' next next' disk up a.logged a.as_many entry a.answered a.records a.told a.step a.goes (a.steps ∙ some) journal' disk' broken same within stays cause)
 
+    writes_failed : (broken : Entry) → fault_in broken ≡ Some Disk → call_of broken ≡ call_of entry → journal'.restart ≡ mid.restart
+        → Within (AddsFront mid.log) (state disk) (state disk') → WritesAtMost (sectors_of (length mid.log.appended)) (state disk) (state disk')
+        → WritesBy state (fault_in broken) (has_lasting_step parts (call_of broken)) (own_bytes parts units (call_of broken)) journal journal' disk disk'
+    writes_failed broken fault same restart within most =
+        let w : ForceFails state (own_bytes parts units (call_of entry)) journal journal' disk disk' = record {
+          restart = restart ∙ a.told.restart;
+          writes = writes_log journal.log mid.log (own_bytes parts units (call_of entry)) (state disk) (state disk') log_is within most;
+        } in
+        subst (λ (c : ControlCall). WritesBy state (fault_in broken) (has_lasting_step parts c) (own_bytes parts units c) journal journal' disk disk') (sym same)
+        (subst (λ (x : Option ControlFault). WritesBy state x (has_lasting_step parts (call_of entry)) (own_bytes parts units (call_of entry)) journal journal' disk disk') (sym fault)
+        (subst (λ (b : Bool). WritesBy state (Some Disk) b (own_bytes parts units (call_of entry)) journal journal' disk disk') (sym (step_has ∙ some)) w))
+
+    pub tried_failed : (broken : Entry) → fault_in broken ≡ Some Disk → after_entry parts.system parts.moment broken ≡ after_entry parts.system parts.moment entry → call_of broken ≡ call_of entry
+        → Within (AddsFront mid.log) (state disk) (state disk') → Stays (state disk) (state disk') → FailedSince (state disk) (state disk') → journal'.restart ≡ mid.restart
+        → WritesAtMost (sectors_of (length mid.log.appended)) (state disk) (state disk') → Tried state (fault_in broken) (record { machine = parts; text = text; served = up; journal = journal; units = units; next_unit = next; disk = disk }) (record { machine = parts'; text = text; served = false; journal = journal'; units = units'; next_unit = next'; disk = disk' }) broken
+    tried_failed broken fault same call within stays cause restart most = record {
+      did = did_failed broken fault same within stays cause;
+      writes = writes_failed broken fault call restart within most;
+      on = λ now. absurd (down now);
+    } where
+      down : false ≡ true → ⊥
+      down e = cc
+
 -- ---- the calls
+
+-- a turn takes one number at most
+next_up : (turned : Turned) (next : ℕ) → next_after turned next ≤ next + 1
+next_up (Scheduled code id) next = omega arith
+next_up (Called function pcb status) next = omega arith
+next_up (Next code id further) next = omega arith
+next_up (QC code id) next = omega arith
+next_up (Done code id) next = omega arith
+next_up (Abended code id abend) next = omega arith
+next_up Idle next = omega arith
+next_up (Held need limit) next = omega arith
+next_up (Waits resource by) next = omega arith
+next_up (Backed victims) next = omega arith
 
 module _ {D : Type 0} (state : D → DiskState) (parts parts' : PartsState) (text : List ℕ) (journal mid : JournalState) (units : List ℕ) (next : ℕ) (disk : D)
     (h : IsLogged parts units next journal text (state disk)) (counted : IsCounted 4294967296 parts.moment.lasting next journal) (had : HasSlots parts) (has : HasSlots parts') where
@@ -133,6 +229,9 @@ module _ {D : Type 0} (state : D → DiskState) (parts parts' : PartsState) (tex
     records = records_of parts.system parts.moment 0 (Input terminal number segments);
     told = told;
     step = lasting_step parts.system parts.moment (Input terminal number segments);
+    own = refl;
+    step_is = refl;
+    unit_up = omega arith;
     steps = input_steps parts parts' terminal number segments answer answered;
     goes =
         input_of_parts parts parts' units next h.life h.carried counted.counts had has databases terminal number segments answer answered (lt-ltb number 2000000000000000000 small)
@@ -150,6 +249,9 @@ module _ {D : Type 0} (state : D → DiskState) (parts parts' : PartsState) (tex
     records = records_of parts.system parts.moment 0 (Acknowledge terminal number);
     told = told;
     step = lasting_step parts.system parts.moment (Acknowledge terminal number);
+    own = refl;
+    step_is = refl;
+    unit_up = omega arith;
     steps = ack_steps parts parts' terminal number answer answered;
     goes =
         ack_of_parts parts parts' units next h.life h.carried counted.counts had has databases terminal number answer answered
@@ -167,6 +269,9 @@ module _ {D : Type 0} (state : D → DiskState) (parts parts' : PartsState) (tex
     records = records_of parts.system parts.moment 0 (CommandCall command);
     told = told;
     step = lasting_step parts.system parts.moment (CommandCall command);
+    own = refl;
+    step_is = refl;
+    unit_up = omega arith;
     steps = command_steps parts parts' command answer answered;
     goes =
         command_of_parts parts parts' units next h.life h.carried counted.counts had has databases command answer answered named
@@ -184,6 +289,9 @@ module _ {D : Type 0} (state : D → DiskState) (parts parts' : PartsState) (tex
     records = turn_records parts (unit_of units region) region;
     told = told;
     step = lasting_step parts.system parts.moment (Turn region);
+    own = refl;
+    step_is = refl;
+    unit_up = next_up turned next;
     steps = turn_steps parts parts' region turned answered;
     goes =
         turn_of_parts parts parts' units next h.life h.carried counted.counts had has region turned answered turns quiet

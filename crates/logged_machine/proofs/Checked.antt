@@ -87,4 +87,4 @@ taken_did state old new freeze number stays free r = record {
 
 pub is_taken : {D : Type 0} (state : D → DiskState) (old new : LoggedState D) → ((image : Image) → (state new.disk).may_leave image → HasNumber new.machine.system new.journal.restart.checkpoint image) → Refreshed state old new
     → IsTaken new.machine.system new.journal.restart.checkpoint old.journal new.journal (state new.disk)
-is_taken state old new images r = record { above = omega (arith, r.number); now = refl; images = images; synced = r.synced }
+is_taken state old new images r = record { next = r.number; now = refl; images = images; synced = r.synced }

@@ -30,10 +30,10 @@ module _ {D : Type 0} (state : D → DiskState) (parts parts' : PartsState) (tex
     (h : IsLogged parts units next journal text (state disk)) (system : parts'.system ≡ parts.system) (moment : parts'.moment ≡ parts.moment) (stays : Stays (state disk) (state disk'))
     (any : Within (KeepsRecovery parts.system) (state disk) (state disk')) (texts : Within (KeepsText parts.system) (state disk) (state disk')) where
   abbrev pub was : LoggedState D
-  was = record { machine = parts; text = text; served = up; journal = journal; next_unit = next; disk = disk }
+  was = record { machine = parts; text = text; served = up; journal = journal; units = units; next_unit = next; disk = disk }
 
   abbrev pub is : Bool → LoggedState D
-  is served = record { machine = parts'; text = text; served = served; journal = journal'; next_unit = next; disk = disk' }
+  is served = record { machine = parts'; text = text; served = served; journal = journal'; units = units; next_unit = next; disk = disk' }
 
   leaves : Leaves (Brings parts.system text parts.moment.lasting parts.moment.lasting) (state disk) (state disk')
   leaves = record {
@@ -62,6 +62,17 @@ module _ {D : Type 0} (state : D → DiskState) (parts parts' : PartsState) (tex
       below : (s p n c : ℕ) → s + p < 1000000000000000000 → p + n ≤ c → c < 2 ^ 32 → s + p + n < 1000000000000000000 + 4294967296
       below s p n c a b d = omega (arith, a, b, d)
 
+  sequence_on : journal'.log.sequence ≡ sequence_behind journal.log → journal'.log.sequence ≤ journal.log.sequence + journal.log.place + parts.system.logs
+  sequence_on is =
+      let fits : journal.log.place + sectors_of (length journal.log.appended) ≤ journal.log.count =
+      subst (λ (x : Writer). x.place + sectors_of (length x.appended) ≤ x.count) h.writer h.carried.is.is_life.appended.fits in
+      let count : journal.log.count ≡ parts.system.logs =
+      sym (ap (λ (x : Writer). x.count) h.writer) ∙ h.carried.is.is_life.writer.count ∙ ap (λ (s : System). s.logs) h.carried.is.of_system in
+      below journal.log.sequence journal.log.place (sectors_of (length journal.log.appended)) journal.log.count parts.system.logs journal'.log.sequence is fits count
+    where
+      below : (s p n c l t : ℕ) → t ≡ s + p + n → p + n ≤ c → c ≡ l → t ≤ s + p + l
+      below s p n c l t is fits count = omega (arith, is, fits, count)
+
   pub refreshed : up ≡ true → IsCounted 0 parts.moment.lasting next journal → journal'.restart.checkpoint ≡ journal.restart.checkpoint + 1 → journal'.restart.epoch ≡ journal.restart.epoch
       → journal'.log.sequence ≡ sequence_behind journal.log → journal'.log.place ≡ 0 → Only (state disk').shown (state disk') → (state disk').faults ≡ (state disk).faults → Refreshed state was (is up)
   refreshed served counted number epoch sequence place synced no_fault = record {
@@ -78,6 +89,9 @@ module _ {D : Type 0} (state : D → DiskState) (parts parts' : PartsState) (tex
     };
     synced = synced;
     place = place;
+    epoch = epoch;
+    sequence = sequence_on sequence;
+    unit = refl;
   }
 
   pub broke : FailedSince (state disk) (state disk') → Broke state was (is false) × LeavesSo state was (is false) parts.moment.lasting × Keeps state was (is false)
@@ -168,7 +182,7 @@ module _ {D : Type 0} (state : D → DiskState) (parts parts' : PartsState) (tex
       (subst (λ (d : D). IsLogged parts units next journal text (state d)) (sym same.disk_is) h))
 
   abbrev pub logged_of : Bool → PartsState → JournalState → D → LoggedState D
-  logged_of up p j d = record { machine = p; text = text; served = up; journal = j; next_unit = next; disk = d }
+  logged_of up p j d = record { machine = p; text = text; served = up; journal = j; units = units; next_unit = next; disk = d }
 
   pub same_all : (up : Bool) → logged_of up parts' journal' disk' ≡ logged_of up parts journal disk
   same_all up =

@@ -30,7 +30,7 @@ module _ {D : Type 0} (state : D → DiskState) (how : How) (system : System) (t
     text_is = refl;
     stays = stays_same (state disk);
     cause = wrote_nothing (state disk);
-    any_moment = within_same (KeepsBy how system) (state disk);
+    any_moment = within_same (KeepsBy how system text) (state disk);
   }
 
   -- There is no memory.
@@ -41,13 +41,13 @@ module _ {D : Type 0} (state : D → DiskState) (how : How) (system : System) (t
     text_is = refl;
     stays = stays_same (state disk);
     cause = wrote_nothing (state disk);
-    any_moment = within_same (KeepsBy how system) (state disk);
+    any_moment = within_same (KeepsBy how system text) (state disk);
   }
 
   -- The parts were opened.
-  pub opens_so : (old new : D) (parts : PartsState) (journal : JournalState) (next : ℕ) (opening : LastingState) → parts.system ≡ system → OpensOn how system text (state old) (state new) parts opening → Stays (state old) (state new)
-      → Within (KeepsBy how system) (state old) (state new) → Opens state how system text old (record { machine = parts; text = text; served = true; journal = journal; next_unit = next; disk = new }) opening
-  opens_so old new parts journal next opening same opens stays any = record {
+  pub opens_so : (old new : D) (parts : PartsState) (journal : JournalState) (units : List ℕ) (next : ℕ) (opening : LastingState) → parts.system ≡ system → OpensOn how system text (state old) (state new) parts journal next opening → Stays (state old) (state new)
+      → Within (KeepsBy how system text) (state old) (state new) → Opens state how system text old (record { machine = parts; text = text; served = true; journal = journal; units = units; next_unit = next; disk = new }) opening
+  opens_so old new parts journal units next opening same opens stays any = record {
     system_is = same;
     moment = opens.moment;
     text_is = refl;
@@ -61,5 +61,5 @@ module _ {D : Type 0} (state : D → DiskState) (how : How) (system : System) (t
 
   -- They were not.
   pub refused_so : (old new : D) (error : OpenError) (back : System) → back ≡ system → Refuses how system text (state old) error → OpeningCause (Err error) (state old) (state new) → Stays (state old) (state new)
-      → Within (KeepsBy how system) (state old) (state new) → HandsBack state how system text old error new back text
+      → Within (KeepsBy how system text) (state old) (state new) → HandsBack state how system text old error new back text
   refused_so old new error back same refuses cause stays any = record { refuses = refuses; system_is = same; text_is = refl; stays = stays; cause = cause; any_moment = any }

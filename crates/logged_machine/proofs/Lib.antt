@@ -9,3 +9,4 @@ pub mod Checkpointed
 pub mod Serving
 pub mod Checked
 pub mod Handed
+pub mod Frugality

@@ -47,10 +47,10 @@ module _ {D : Type 0} (state : D → DiskState) (parts parts' : PartsState) (tex
     (h : IsLogged parts units next journal text (state disk)) (as_many : length units' ≡ length units) (entry : Entry) (answered : IsAnswered parts parts' entry) (records : List Record) (told : Appends records journal mid)
     (step : Option LastingStep) (goes : GoesBy step (flat_map spelling records) parts.system parts'.moment (slots_now parts') units' next' h.life) where
   abbrev pub was : LoggedState D
-  was = record { machine = parts; text = text; served = up; journal = journal; next_unit = next; disk = disk }
+  was = record { machine = parts; text = text; served = up; journal = journal; units = units; next_unit = next; disk = disk }
 
   abbrev pub is_still : LoggedState D
-  is_still = record { machine = parts'; text = text; served = up; journal = mid; next_unit = next'; disk = disk }
+  is_still = record { machine = parts'; text = text; served = up; journal = mid; units = units'; next_unit = next'; disk = disk }
 
   same_lasting : lasting_with was entry ≡ parts'.moment.lasting
   same_lasting = ap (λ (m : Moment). m.lasting) (sym answered.after)
@@ -81,7 +81,7 @@ module _ {D : Type 0} (state : D → DiskState) (parts parts' : PartsState) (tex
     leaves within = force_leaves parts units next journal text (state disk) h parts' units' next' answered.system as_many (flat_map spelling records) mid.log told.log steps (state disk') within
 
     abbrev pub is : LoggedState D
-    is = record { machine = parts'; text = text; served = up; journal = journal'; next_unit = next'; disk = disk' }
+    is = record { machine = parts'; text = text; served = up; journal = journal'; units = units'; next_unit = next'; disk = disk' }
 
     -- the step was forced
     pub wrote : up ≡ true → Forces mid.log journal'.log (state disk) (state disk') → journal'.restart ≡ mid.restart → Did state None was is entry
@@ -107,7 +107,7 @@ module _ {D : Type 0} (state : D → DiskState) (parts parts' : PartsState) (tex
 
     -- the disk failed in the force
     abbrev pub is_broken : LoggedState D
-    is_broken = record { machine = parts'; text = text; served = false; journal = journal'; next_unit = next'; disk = disk' }
+    is_broken = record { machine = parts'; text = text; served = false; journal = journal'; units = units'; next_unit = next'; disk = disk' }
 
     pub failed : (broken : Entry) → after_entry parts.system parts.moment broken ≡ after_entry parts.system parts.moment entry
         → Within (AddsFront mid.log) (state disk) (state disk') → Stays (state disk) (state disk') → FailedSince (state disk) (state disk') → Did state (Some Disk) was is_broken broken

@@ -1,15 +1,16 @@
 -- What one attempt of a call leaves, and what a checkpoint does.
-use Rattle.std.specs.Prelude.{◌≡◌, ◌+◌, Bool, true, false, Option, Some, None}
+use Rattle.std.specs.Prelude.{◌≡◌, ℕ, ◌+◌, ◌*◌, ◌≤◌, Bool, true, false, Option, Some, None}
 use Rattle.model_disk.specs.Disk.{DiskState, FailedSince, Only}
 use Rattle.machine_life.specs.Counted.{IsCounted}
 use Rattle.model_machine.specs.Machine.{LastingState}
-use Rattle.model_machine.specs.History.{after_entry}
+use Rattle.model_machine.specs.History.{after_entry, call_of}
 use Rattle.model_machine.specs.declared.entry.Entry.{Entry}
 use Rattle.model_machine.specs.declared.entry.ControlFault.{ControlFault}
 use Rattle.model_machine.specs.declared.entry.ControlFault.TheVariants.{Memory, Disk, Spent}
 use Rattle.logged_machine.specs.Logged.{LoggedState}
 use Rattle.logged_machine.specs.Goes.{Keeps, WentOn, StoodStill}
 use Rattle.logged_machine.specs.Leaving.{Brings, Leaves}
+use Rattle.logged_machine.specs.Frugal.{IsFrugal, Raises, WritesBy, has_lasting_step, own_bytes}
 
 -- what lasts with the call of an entry
 abbrev pub lasting_with : {D : Type 0} → LoggedState D → Entry → LastingState
@@ -34,6 +35,29 @@ pub record Did {D : Type 0} (state : D → DiskState) (fault : Option ControlFau
   pub did : DidBy state fault old new entry
   pub keeps : Keeps state old new
 
+-- The log went on in its area, and with it the number of the next unit.
+pub record GoesOnIn {D : Type 0} (old new : LoggedState D) : Type 0 where
+  pub restart : new.journal.restart ≡ old.journal.restart
+  pub sequence : new.journal.log.sequence + new.journal.log.place ≤ old.journal.log.sequence + old.journal.log.place + old.machine.system.logs
+  pub unit : new.next_unit ≤ old.next_unit + 1
+
+-- One attempt, in the log's area as it is.
+pub record Tried {D : Type 0} (state : D → DiskState) (fault : Option ControlFault) (old new : LoggedState D) (entry : Entry) : Type 0 where
+  pub did : Did state fault old new entry
+  pub writes : WritesBy state fault (has_lasting_step old.machine (call_of entry)) (own_bytes old.machine old.units (call_of entry)) old.journal new.journal old.disk new.disk
+  pub on : new.served ≡ true → GoesOnIn old new
+
+-- A call, behind one checkpoint or none.
+pub record Done {D : Type 0} (state : D → DiskState) (fault : Option ControlFault) (old new : LoggedState D) (entry : Entry) : Type 0 where
+  pub did : Did state fault old new entry
+  pub raises : new.served ≡ true → Raises (2 * old.machine.system.logs) old.journal new.journal old.next_unit new.next_unit
+
+-- A call that takes a checkpoint only where one is due.
+pub record DoneFrugally {D : Type 0} (state : D → DiskState) (fault : Option ControlFault) (old new : LoggedState D) (entry : Entry) : Type 0 where
+  pub did : Did state fault old new entry
+  pub raises : new.served ≡ true → Raises (2 * old.machine.system.logs) old.journal new.journal old.next_unit new.next_unit
+  pub frugal : IsFrugal state fault old.machine old.units (call_of entry) old.journal new.journal old.disk new.disk
+
 -- A checkpoint was taken: the machine stands where it stood. Its number is the next one, its log
 -- area is empty, and a crash leaves what is shown.
 pub record Refreshed {D : Type 0} (state : D → DiskState) (old new : LoggedState D) : Type 0 where
@@ -44,6 +68,9 @@ pub record Refreshed {D : Type 0} (state : D → DiskState) (old new : LoggedSta
   pub counted : IsCounted 4294967296 new.machine.moment.lasting new.next_unit new.journal
   pub synced : Only (state new.disk).shown (state new.disk)
   pub place : new.journal.log.place ≡ 0
+  pub epoch : new.journal.restart.epoch ≡ old.journal.restart.epoch
+  pub sequence : new.journal.log.sequence ≤ old.journal.log.sequence + old.journal.log.place + old.machine.system.logs
+  pub unit : new.next_unit ≡ old.next_unit
 
 -- None was taken: there was no memory, and nothing happened; or the disk failed, and whatever a crash leaves recovers to what
 -- lasted.

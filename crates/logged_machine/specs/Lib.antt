@@ -5,3 +5,4 @@ pub mod Taken
 pub mod Leaving
 pub mod Doing
 pub mod Spending
+pub mod Frugal

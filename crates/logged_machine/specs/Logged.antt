@@ -8,13 +8,14 @@ use Rattle.opening_answers.specs.Opening.{counters, first_spent}
 use Rattle.disk_law.specs.Journal.{JournalState}
 use Rattle.tm_machine.specs.Parts.{PartsState}
 
--- The machine; the text of its definition; whether its calls are served; what it keeps of its log; the number of the next
--- unit; and its disk.
+-- The machine; the text of its definition; whether its calls are served; what it keeps of its log; the numbers of the
+-- regions' units; the number of the next unit; and its disk.
 pub record LoggedState (D : Type 0) : Type 0 where
   pub machine : PartsState
   pub text : List ℕ
   pub served : Bool
   pub journal : JournalState
+  pub units : List ℕ
   pub next_unit : ℕ
   pub disk : D
 

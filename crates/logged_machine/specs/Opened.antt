@@ -8,7 +8,7 @@ use Rattle.control_life.specs.declared.how.How.{How}
 use Rattle.control_life.specs.Opened.{Begins, KeepsBy}
 use Rattle.logged_machine.specs.Logged.{LoggedState}
 
--- The machine stands where that begins.
+-- The machine stands where that begins, and so does all that it counts on.
 pub record Opens {D : Type 0} (state : D → DiskState) (how : How) (system : System) (text : List ℕ) (disk : D) (new : LoggedState D) (opening : LastingState) : Type 0 where
   pub system_is : new.machine.system ≡ system
   pub moment : new.machine.moment ≡ start_of system opening
@@ -17,5 +17,5 @@ pub record Opens {D : Type 0} (state : D → DiskState) (how : How) (system : Sy
   pub no_fault : (state new.disk).faults ≡ (state disk).faults
   pub stays : Stays (state disk) (state new.disk)
   pub size : sectors_needed system ≤ (state disk).size
-  pub begins : Begins how system text (state disk) opening
-  pub any_moment : Within (KeepsBy how system) (state disk) (state new.disk)
+  pub begins : Begins how system text (state disk) opening new.journal.restart new.journal.log new.next_unit
+  pub any_moment : Within (KeepsBy how system text) (state disk) (state new.disk)

@@ -1,5 +1,5 @@
 -- A checkpoint that was taken.
-use Rattle.std.specs.Prelude.{◌≡◌, ℕ, ◌<◌, List, [], Some, Ok}
+use Rattle.std.specs.Prelude.{◌≡◌, ℕ, ◌+◌, List, [], Some, Ok}
 use Rattle.model_disk.specs.Disk.{Image, DiskState, Only}
 use Rattle.model_system.specs.System.{System}
 use Rattle.restart_data.specs.declared.restart.RestartSector.{RestartSector}
@@ -17,9 +17,9 @@ pub record HasNumber (system : System) (number : ℕ) (image : Image) : Type 0 w
   pub checkpoint : restart.checkpoint ≡ number
   pub empty : chain system.logs image (log_first system restart.log) restart.sequence restart.epoch ≡ []
 
--- The checkpoint has this number, above the one before. So has each image that a crash may leave, and that is the one shown.
+-- The checkpoint has this number, the next one. So has each image that a crash may leave, and that is the one shown.
 pub record IsTaken (system : System) (number : ℕ) (old new : JournalState) (disk : DiskState) : Type 0 where
-  pub above : old.restart.checkpoint < number
+  pub next : number ≡ old.restart.checkpoint + 1
   pub now : new.restart.checkpoint ≡ number
   pub images : (image : Image) → disk.may_leave image → HasNumber system number image
   pub synced : Only disk.shown disk

@@ -1,11 +1,14 @@
 //! Inputs of terminals.
-ghost use Rattle.std.specs.Prelude.{◌≡◌, ◌<◌, length, nat_le, true, None, IfOk, OnErr};
+ghost use Rattle.std.specs.Prelude.{◌≡◌, ◌<◌, ◌*◌, length, nat_le, true, None, IfErr, IfOk, OnErr};
 ghost use Rattle.parts_life.specs.Steps.{is_new};
+ghost use Rattle.model_machine.specs.declared.entry.ControlCall.TheVariants.{Input};
 ghost use Rattle.model_machine.specs.declared.entry.Entry.TheVariants.{Accept};
 ghost use Rattle.logged_machine.specs.Logged.{LastsNow, spent_now};
 ghost use Rattle.logged_machine.specs.Goes.{Keeps, GoesBy, CrashesBy};
 ghost use Rattle.control_life.specs.Faults.{fault_in};
-ghost use Rattle.logged_machine.specs.Doing.{Did};
+ghost use Rattle.logged_machine.specs.Doing.{Done, DoneFrugally, Tried};
+ghost use Rattle.logged_machine.specs.Frugal.{IsFrugal, Raises, own_bytes};
+ghost use Rattle.step_telling.specs.Untold.{WhereFull};
 ghost use Rattle.machine_telling.specs.Telling.{HasRoom};
 ghost use Rattle.machine_life.specs.Counted.{IsCounted};
 
@@ -33,6 +36,8 @@ impl<D: Disk> LoggedMachine<D> {
         ensures crash { CrashesBy D.state (fault_in (Accept terminal.now number segments result)) self.old self.new (Accept terminal.now number segments result) }
         ensures lasts { LastsNow D.state self.new }
         ensures keeps { Keeps D.state self.old self.new }
+        ensures frugal { IsFrugal D.state (fault_in (Accept terminal.now number segments result)) self.old.machine self.old.units (Input terminal.now number segments) self.old.journal self.new.journal self.old.disk self.new.disk }
+        ensures raises { self.new.served ≡ true → Raises (2 * self.old.machine.system.logs) self.old.journal self.new.journal self.old.next_unit self.new.next_unit }
     {
         let _before = self.is_served();
         let answer = self.accept_any(terminal, number, segments);
@@ -50,7 +55,7 @@ impl<D: Disk> LoggedMachine<D> {
         requires some { 0 < length segments }
         requires served { self.old.served ≡ true }
         requires counted { IsCounted 0 self.old.machine.moment.lasting self.old.next_unit self.old.journal }
-        ensures did { Did D.state (fault_in (Accept terminal.now number segments result)) self.old self.new (Accept terminal.now number segments result) }
+        ensures did { DoneFrugally D.state (fault_in (Accept terminal.now number segments result)) self.old self.new (Accept terminal.now number segments result) }
     {
         if is_past(number) {
             return Err(InputRefused::Fault(ControlFault::Memory));
@@ -74,7 +79,7 @@ impl<D: Disk> LoggedMachine<D> {
         requires counted { IsCounted 0 self.old.machine.moment.lasting self.old.next_unit self.old.journal }
         requires small { number < 2000000000000000000 }
         requires again { again ≡ segments }
-        ensures did { Did D.state (fault_in (Accept terminal.now number segments result)) self.old self.new (Accept terminal.now number segments result) }
+        ensures did { DoneFrugally D.state (fault_in (Accept terminal.now number segments result)) self.old self.new (Accept terminal.now number segments result) }
     {
         let room = room_left(&self.journal);
         match self.accept_once(terminal, number, segments, room) {
@@ -95,7 +100,7 @@ impl<D: Disk> LoggedMachine<D> {
         requires served { self.old.served ≡ true }
         requires counted { IsCounted 0 self.old.machine.moment.lasting self.old.next_unit self.old.journal }
         requires small { number < 2000000000000000000 }
-        ensures did { Did D.state (fault_in (Accept terminal.now number segments result)) self.old self.new (Accept terminal.now number segments result) }
+        ensures did { Done D.state (fault_in (Accept terminal.now number segments result)) self.old self.new (Accept terminal.now number segments result) }
     {
         match self.refresh() {
             Ok(()) => self.accept_fresh(terminal, number, segments),
@@ -114,7 +119,7 @@ impl<D: Disk> LoggedMachine<D> {
         requires served { self.old.served ≡ true }
         requires counted { IsCounted 4294967296 self.old.machine.moment.lasting self.old.next_unit self.old.journal }
         requires small { number < 2000000000000000000 }
-        ensures did { Did D.state (fault_in (Accept terminal.now number segments result)) self.old self.new (Accept terminal.now number segments result) }
+        ensures did { Tried D.state (fault_in (Accept terminal.now number segments result)) self.old self.new (Accept terminal.now number segments result) }
     {
         let room = all_room(&self.journal);
         match self.accept_once(terminal, number, segments, room) {
@@ -136,8 +141,9 @@ impl<D: Disk> LoggedMachine<D> {
         requires counted { IsCounted 4294967296 self.old.machine.moment.lasting self.old.next_unit self.old.journal }
         requires small { number < 2000000000000000000 }
         requires room { HasRoom room self.old.journal.log }
-        ensures did { IfOk result (λ answer. Did D.state (fault_in (Accept terminal.now number segments answer)) self.old self.new (Accept terminal.now number segments answer)) }
+        ensures did { IfOk result (λ answer. Tried D.state (fault_in (Accept terminal.now number segments answer)) self.old self.new (Accept terminal.now number segments answer)) }
         ensures same { OnErr result (self.new ≡ self.old) }
+        ensures full { IfErr result (WhereFull (room < length (own_bytes self.old.machine self.old.units (Input terminal.now number segments)))) }
     {
         let told = tell_input(
             self.alloc,

@@ -1,10 +1,13 @@
 //! Acknowledgements of replies.
-ghost use Rattle.std.specs.Prelude.{◌≡◌, true, None, IfOk, OnErr};
+ghost use Rattle.std.specs.Prelude.{◌≡◌, ◌<◌, ◌*◌, length, true, None, IfErr, IfOk, OnErr};
+ghost use Rattle.model_machine.specs.declared.entry.ControlCall.TheVariants.{Acknowledge};
 ghost use Rattle.model_machine.specs.declared.entry.Entry.TheVariants.{Acked as AckedEntry};
 ghost use Rattle.logged_machine.specs.Logged.{LastsNow, spent_now};
 ghost use Rattle.logged_machine.specs.Goes.{Keeps, GoesBy, CrashesBy};
 ghost use Rattle.control_life.specs.Faults.{fault_in};
-ghost use Rattle.logged_machine.specs.Doing.{Did};
+ghost use Rattle.logged_machine.specs.Doing.{Done, DoneFrugally, Tried};
+ghost use Rattle.logged_machine.specs.Frugal.{IsFrugal, Raises, own_bytes};
+ghost use Rattle.step_telling.specs.Untold.{WhereFull};
 ghost use Rattle.machine_telling.specs.Telling.{HasRoom};
 ghost use Rattle.machine_life.specs.Counted.{IsCounted};
 ghost use Rattle.parts_life.specs.Steps.{is_removed};
@@ -24,6 +27,8 @@ impl<D: Disk> LoggedMachine<D> {
         ensures crash { CrashesBy D.state (fault_in (AckedEntry terminal.now number result)) self.old self.new (AckedEntry terminal.now number result) }
         ensures lasts { LastsNow D.state self.new }
         ensures keeps { Keeps D.state self.old self.new }
+        ensures frugal { IsFrugal D.state (fault_in (AckedEntry terminal.now number result)) self.old.machine self.old.units (Acknowledge terminal.now number) self.old.journal self.new.journal self.old.disk self.new.disk }
+        ensures raises { self.new.served ≡ true → Raises (2 * self.old.machine.system.logs) self.old.journal self.new.journal self.old.next_unit self.new.next_unit }
     {
         let _before = self.is_served();
         let answer = self.acknowledge_any(terminal, number);
@@ -35,7 +40,7 @@ impl<D: Disk> LoggedMachine<D> {
     fn acknowledge_any(&mut self, terminal: &Name, number: u64) -> Result<Acked, AckRefused>
         requires served { self.old.served ≡ true }
         requires counted { IsCounted 0 self.old.machine.moment.lasting self.old.next_unit self.old.journal }
-        ensures did { Did D.state (fault_in (AckedEntry terminal.now number result)) self.old self.new (AckedEntry terminal.now number result) }
+        ensures did { DoneFrugally D.state (fault_in (AckedEntry terminal.now number result)) self.old self.new (AckedEntry terminal.now number result) }
     {
         let room = room_left(&self.journal);
         match self.acknowledge_once(terminal, number, room) {
@@ -49,7 +54,7 @@ impl<D: Disk> LoggedMachine<D> {
     fn acknowledge_behind(&mut self, terminal: &Name, number: u64) -> Result<Acked, AckRefused>
         requires served { self.old.served ≡ true }
         requires counted { IsCounted 0 self.old.machine.moment.lasting self.old.next_unit self.old.journal }
-        ensures did { Did D.state (fault_in (AckedEntry terminal.now number result)) self.old self.new (AckedEntry terminal.now number result) }
+        ensures did { Done D.state (fault_in (AckedEntry terminal.now number result)) self.old self.new (AckedEntry terminal.now number result) }
     {
         match self.refresh() {
             Ok(()) => self.acknowledge_fresh(terminal, number),
@@ -61,7 +66,7 @@ impl<D: Disk> LoggedMachine<D> {
     fn acknowledge_fresh(&mut self, terminal: &Name, number: u64) -> Result<Acked, AckRefused>
         requires served { self.old.served ≡ true }
         requires counted { IsCounted 4294967296 self.old.machine.moment.lasting self.old.next_unit self.old.journal }
-        ensures did { Did D.state (fault_in (AckedEntry terminal.now number result)) self.old self.new (AckedEntry terminal.now number result) }
+        ensures did { Tried D.state (fault_in (AckedEntry terminal.now number result)) self.old self.new (AckedEntry terminal.now number result) }
     {
         let room = all_room(&self.journal);
         match self.acknowledge_once(terminal, number, room) {
@@ -80,8 +85,9 @@ impl<D: Disk> LoggedMachine<D> {
         requires served { self.old.served ≡ true }
         requires counted { IsCounted 4294967296 self.old.machine.moment.lasting self.old.next_unit self.old.journal }
         requires room { HasRoom room self.old.journal.log }
-        ensures did { IfOk result (λ answer. Did D.state (fault_in (AckedEntry terminal.now number answer)) self.old self.new (AckedEntry terminal.now number answer)) }
+        ensures did { IfOk result (λ answer. Tried D.state (fault_in (AckedEntry terminal.now number answer)) self.old self.new (AckedEntry terminal.now number answer)) }
         ensures same { OnErr result (self.new ≡ self.old) }
+        ensures full { IfErr result (WhereFull (room < length (own_bytes self.old.machine self.old.units (Acknowledge terminal.now number)))) }
     {
         let told = tell_acknowledgement(
             self.alloc,

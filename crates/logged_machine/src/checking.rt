@@ -5,6 +5,7 @@ ghost use Rattle.model_machine.specs.Commands.{checkpoint_answer, unless_busy};
 ghost use Rattle.model_machine.specs.declared.entry.Entry.TheVariants.{Checked};
 ghost use Rattle.machine_life.specs.Counted.{IsCounted};
 ghost use Rattle.logged_machine.specs.Doing.{Did};
+ghost use Rattle.logged_machine.specs.Frugal.{Raises};
 ghost use Rattle.logged_machine.specs.Goes.{Keeps, GoesBy, CrashesBy};
 ghost use Rattle.control_life.specs.Faults.{fault_in};
 ghost use Rattle.logged_machine.specs.Logged.{LastsNow, spent_now};
@@ -25,6 +26,7 @@ impl<D: Disk> LoggedMachine<D> {
         ensures crash { CrashesBy D.state (fault_in (Checked freeze result)) self.old self.new (Checked freeze result) }
         ensures lasts { LastsNow D.state self.new }
         ensures keeps { Keeps D.state self.old self.new }
+        ensures raises { self.new.served ≡ true → Raises self.old.machine.system.logs self.old.journal self.new.journal self.old.next_unit self.new.next_unit }
         ensures taken { IfOk result (λ number. IsTaken self.new.machine.system number self.old.journal self.new.journal (D.state self.new.disk)) }
     {
         let _before = self.is_served();
@@ -38,6 +40,7 @@ impl<D: Disk> LoggedMachine<D> {
         requires served { self.old.served ≡ true }
         requires counted { IsCounted 0 self.old.machine.moment.lasting self.old.next_unit self.old.journal }
         ensures did { Did D.state (fault_in (Checked freeze result)) self.old self.new (Checked freeze result) }
+        ensures raises { self.new.served ≡ true → Raises self.old.machine.system.logs self.old.journal self.new.journal self.old.next_unit self.new.next_unit }
         ensures taken { IfOk result (λ number. IsTaken self.new.machine.system number self.old.journal self.new.journal (D.state self.new.disk)) }
     {
         let _regions = self.parts.region_count();
@@ -54,6 +57,7 @@ impl<D: Disk> LoggedMachine<D> {
         requires stays { again self.old.machine ≡ self.old.machine.moment }
         requires free { (number : ℕ) → checkpoint_answer self.old.machine.moment freeze number ≡ Ok number }
         ensures did { Did D.state (fault_in (Checked freeze result)) self.old self.new (Checked freeze result) }
+        ensures raises { self.new.served ≡ true → Raises self.old.machine.system.logs self.old.journal self.new.journal self.old.next_unit self.new.next_unit }
         ensures taken { IfOk result (λ number. IsTaken self.new.machine.system number self.old.journal self.new.journal (D.state self.new.disk)) }
     {
         match self.refresh() {

@@ -1,12 +1,15 @@
 //! Commands of an operator.
-ghost use Rattle.std.specs.Prelude.{◌≡◌, true, None, IfOk, OnErr};
+ghost use Rattle.std.specs.Prelude.{◌≡◌, ◌<◌, ◌*◌, length, true, None, IfErr, IfOk, OnErr};
 ghost use Rattle.std.specs.Option.{is_some};
+ghost use Rattle.model_machine.specs.declared.entry.ControlCall.TheVariants.{Command as CommandCall};
 ghost use Rattle.model_machine.specs.declared.entry.Entry.TheVariants.{Commanded};
 ghost use Rattle.model_machine.specs.Commands.{IsServed, lasting_command, command_answer};
 ghost use Rattle.logged_machine.specs.Logged.{LastsNow, spent_now};
 ghost use Rattle.logged_machine.specs.Goes.{Keeps, GoesBy, CrashesBy};
 ghost use Rattle.control_life.specs.Faults.{fault_in};
-ghost use Rattle.logged_machine.specs.Doing.{Did};
+ghost use Rattle.logged_machine.specs.Doing.{Done, DoneFrugally, Tried};
+ghost use Rattle.logged_machine.specs.Frugal.{IsFrugal, Raises, own_bytes};
+ghost use Rattle.step_telling.specs.Untold.{WhereFull};
 ghost use Rattle.machine_telling.specs.Telling.{HasRoom};
 ghost use Rattle.machine_life.specs.Counted.{IsCounted};
 ghost use Rattle.parts_life.specs.Steps.{is_lasting};
@@ -36,6 +39,8 @@ impl<D: Disk> LoggedMachine<D> {
         ensures crash { CrashesBy D.state (fault_in (Commanded command.now result)) self.old self.new (Commanded command.now result) }
         ensures lasts { LastsNow D.state self.new }
         ensures keeps { Keeps D.state self.old self.new }
+        ensures frugal { IsFrugal D.state (fault_in (Commanded command.now result)) self.old.machine self.old.units (CommandCall command.now) self.old.journal self.new.journal self.old.disk self.new.disk }
+        ensures raises { self.new.served ≡ true → Raises (2 * self.old.machine.system.logs) self.old.journal self.new.journal self.old.next_unit self.new.next_unit }
     {
         let _before = self.is_served();
         let answer = self.command_any(command);
@@ -48,7 +53,7 @@ impl<D: Disk> LoggedMachine<D> {
         requires command { IsServed command.now }
         requires served { self.old.served ≡ true }
         requires counted { IsCounted 0 self.old.machine.moment.lasting self.old.next_unit self.old.journal }
-        ensures did { Did D.state (fault_in (Commanded command.now result)) self.old self.new (Commanded command.now result) }
+        ensures did { DoneFrugally D.state (fault_in (Commanded command.now result)) self.old self.new (Commanded command.now result) }
     {
         let room = room_left(&self.journal);
         match self.command_once(command, room) {
@@ -63,7 +68,7 @@ impl<D: Disk> LoggedMachine<D> {
         requires command { IsServed command.now }
         requires served { self.old.served ≡ true }
         requires counted { IsCounted 0 self.old.machine.moment.lasting self.old.next_unit self.old.journal }
-        ensures did { Did D.state (fault_in (Commanded command.now result)) self.old self.new (Commanded command.now result) }
+        ensures did { Done D.state (fault_in (Commanded command.now result)) self.old self.new (Commanded command.now result) }
     {
         match self.refresh() {
             Ok(()) => self.command_fresh(command),
@@ -76,7 +81,7 @@ impl<D: Disk> LoggedMachine<D> {
         requires command { IsServed command.now }
         requires served { self.old.served ≡ true }
         requires counted { IsCounted 4294967296 self.old.machine.moment.lasting self.old.next_unit self.old.journal }
-        ensures did { Did D.state (fault_in (Commanded command.now result)) self.old self.new (Commanded command.now result) }
+        ensures did { Tried D.state (fault_in (Commanded command.now result)) self.old self.new (Commanded command.now result) }
     {
         let room = all_room(&self.journal);
         match self.command_once(command, room) {
@@ -95,8 +100,9 @@ impl<D: Disk> LoggedMachine<D> {
         requires served { self.old.served ≡ true }
         requires counted { IsCounted 4294967296 self.old.machine.moment.lasting self.old.next_unit self.old.journal }
         requires room { HasRoom room self.old.journal.log }
-        ensures did { IfOk result (λ answer. Did D.state (fault_in (Commanded command.now answer)) self.old self.new (Commanded command.now answer)) }
+        ensures did { IfOk result (λ answer. Tried D.state (fault_in (Commanded command.now answer)) self.old self.new (Commanded command.now answer)) }
         ensures same { OnErr result (self.new ≡ self.old) }
+        ensures full { IfErr result (WhereFull (room < length (own_bytes self.old.machine self.old.units (CommandCall command.now)))) }
     {
         let told = tell_command(
             self.alloc,

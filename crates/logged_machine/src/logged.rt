@@ -41,7 +41,7 @@ impl<D: Disk> Model for LoggedMachine<D> {
 
     ghost Value = { LoggedState D };
 
-    ghost view = { λ m. record { machine = m.parts; text = m.text; served = m.served; journal = m.journal; next_unit = m.next_unit; disk = m.disk } };
+    ghost view = { λ m. record { machine = m.parts; text = m.text; served = m.served; journal = m.journal; units = m.units.items; next_unit = m.next_unit; disk = m.disk } };
 
     ghost invariant = { λ m. m.served ≡ true → IsLogged m.parts m.units.items m.next_unit m.journal m.text (D.state m.disk) };
 }

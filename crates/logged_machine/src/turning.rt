@@ -1,12 +1,15 @@
 //! Turns of regions.
-ghost use Rattle.std.specs.Prelude.{◌≡◌, true, None, IfOk, OnErr};
+ghost use Rattle.std.specs.Prelude.{◌≡◌, ◌<◌, ◌*◌, length, true, None, IfErr, IfOk, OnErr};
 ghost use Rattle.model_machine.specs.Machine.{IsRegion};
+ghost use Rattle.model_machine.specs.declared.entry.ControlCall.TheVariants.{Turn as TurnCall};
 ghost use Rattle.model_machine.specs.declared.entry.Entry.TheVariants.{Turn as TurnEntry};
 ghost use Rattle.tm_machine.specs.Told.{ends_work};
 ghost use Rattle.logged_machine.specs.Logged.{LastsNow, spent_now};
 ghost use Rattle.logged_machine.specs.Goes.{Keeps, GoesBy, CrashesBy};
 ghost use Rattle.control_life.specs.Faults.{fault_in};
-ghost use Rattle.logged_machine.specs.Doing.{Did};
+ghost use Rattle.logged_machine.specs.Doing.{Done, DoneFrugally, Tried};
+ghost use Rattle.logged_machine.specs.Frugal.{IsFrugal, Raises, own_bytes};
+ghost use Rattle.step_telling.specs.Untold.{WhereFull};
 ghost use Rattle.machine_telling.specs.Telling.{HasRoom};
 ghost use Rattle.machine_life.specs.Counted.{IsCounted};
 
@@ -25,6 +28,8 @@ impl<D: Disk> LoggedMachine<D> {
         ensures crash { CrashesBy D.state (fault_in (TurnEntry region result)) self.old self.new (TurnEntry region result) }
         ensures lasts { LastsNow D.state self.new }
         ensures keeps { Keeps D.state self.old self.new }
+        ensures frugal { IsFrugal D.state (fault_in (TurnEntry region result)) self.old.machine self.old.units (TurnCall region) self.old.journal self.new.journal self.old.disk self.new.disk }
+        ensures raises { self.new.served ≡ true → Raises (2 * self.old.machine.system.logs) self.old.journal self.new.journal self.old.next_unit self.new.next_unit }
     {
         let _before = self.is_served();
         let turned = self.turn_any(region);
@@ -37,7 +42,7 @@ impl<D: Disk> LoggedMachine<D> {
         requires region { IsRegion self.old.machine.system region }
         requires served { self.old.served ≡ true }
         requires counted { IsCounted 0 self.old.machine.moment.lasting self.old.next_unit self.old.journal }
-        ensures did { Did D.state (fault_in (TurnEntry region result)) self.old self.new (TurnEntry region result) }
+        ensures did { DoneFrugally D.state (fault_in (TurnEntry region result)) self.old self.new (TurnEntry region result) }
     {
         let room = room_left(&self.journal);
         match self.turn_once(region, room) {
@@ -52,7 +57,7 @@ impl<D: Disk> LoggedMachine<D> {
         requires region { IsRegion self.old.machine.system region }
         requires served { self.old.served ≡ true }
         requires counted { IsCounted 0 self.old.machine.moment.lasting self.old.next_unit self.old.journal }
-        ensures did { Did D.state (fault_in (TurnEntry region result)) self.old self.new (TurnEntry region result) }
+        ensures did { Done D.state (fault_in (TurnEntry region result)) self.old self.new (TurnEntry region result) }
     {
         match self.refresh() {
             Ok(()) => self.turn_fresh(region),
@@ -65,10 +70,10 @@ impl<D: Disk> LoggedMachine<D> {
         requires region { IsRegion self.old.machine.system region }
         requires served { self.old.served ≡ true }
         requires counted { IsCounted 4294967296 self.old.machine.moment.lasting self.old.next_unit self.old.journal }
-        ensures did { Did D.state (fault_in (TurnEntry region result)) self.old self.new (TurnEntry region result) }
+        ensures did { Tried D.state (fault_in (TurnEntry region result)) self.old self.new (TurnEntry region result) }
     {
-        let room = all_room(&self.journal);
-        match self.turn_once(region, room) {
+        let all = all_room(&self.journal);
+        match self.turn_once(region, all) {
             Ok(turned) => turned,
             Err(_) => Err(ControlFault::Memory),
         }
@@ -84,8 +89,9 @@ impl<D: Disk> LoggedMachine<D> {
         requires served { self.old.served ≡ true }
         requires counted { IsCounted 4294967296 self.old.machine.moment.lasting self.old.next_unit self.old.journal }
         requires room { HasRoom room self.old.journal.log }
-        ensures did { IfOk result (λ turned. Did D.state (fault_in (TurnEntry region turned)) self.old self.new (TurnEntry region turned)) }
+        ensures did { IfOk result (λ turned. Tried D.state (fault_in (TurnEntry region turned)) self.old self.new (TurnEntry region turned)) }
         ensures same { OnErr result (self.new ≡ self.old) }
+        ensures full { IfErr result (WhereFull (room < length (own_bytes self.old.machine self.old.units (TurnCall region)))) }
     {
         let unit = unit_of(self.units.as_slice(), region);
         let told = tell_turn(

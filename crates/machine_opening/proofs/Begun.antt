@@ -78,10 +78,11 @@ module _ (system : System) (parts : PartsState) (text : List ℕ) (opening : Ope
 -- ---- as the calls have it
 
 -- What was looked at is the machine's system.
-pub opens_on : (how : How) (seen system : System) (text : List ℕ) (old new : DiskState) (machine : PartsState) (opening : OpeningParts) (state : LastingState) → seen ≡ system → BeginsOn seen text opening state new
+pub opens_on : (how : How) (seen system : System) (text : List ℕ) (old new : DiskState) (machine : PartsState) (opening : OpeningParts) (state : LastingState) (journal : JournalState) (next : ℕ)
+    → journal.log ≡ first_writer system opening.now → journal.restart ≡ opening.now → next ≡ opening.next_unit → seen ≡ system → BeginsOn seen text opening state new
     → SizeFirst seen old.size (Ok (opening, state)) → OpeningCause (Ok (opening, state)) old new → (how ≡ Found → IsTrue old.tells → TellsOpening seen text old.shown (Ok (opening, state)))
-    → (how ≡ Cold → TellsCold seen (Ok (opening, state))) → ((some : LastingState) → IsOpenedWith system some opening → machine.moment ≡ start_of system some) → OpensOn how system text old new machine state
-opens_on how seen system text old new machine opening state same b size cause by_found by_cold moment = record {
+    → (how ≡ Cold → TellsCold seen (Ok (opening, state))) → ((some : LastingState) → IsOpenedWith system some opening → machine.moment ≡ start_of system some) → OpensOn how system text old new machine journal next state
+opens_on how seen system text old new machine opening state journal next log restart unit same b size cause by_found by_cold moment = record {
   moment = moment state (opened_with system text opening state new (subst (λ (y : System). BeginsOn y text opening state new) same b));
   no_fault = cause;
   size = subst (λ (y : System). sectors_needed y ≤ old.size) same size;
@@ -89,6 +90,9 @@ opens_on how seen system text old new machine opening state same b size cause by
     parts = opening;
     found = λ is tells. subst (λ (y : System). TellsOpening y text old.shown (Ok (opening, state))) same (by_found is tells);
     cold = λ is. subst (λ (y : System). TellsCold y (Ok (opening, state))) same (by_cold is);
+    restart_is = restart;
+    log_is = log;
+    unit_is = unit;
   };
 }
 

@@ -5,6 +5,7 @@ use Rattle.model_system.specs.System.{System}
 use Rattle.model_machine.specs.Machine.{LastingState, start_of}
 use Rattle.model_image.specs.Holding.{HoldsStores}
 use Rattle.cold_start.specs.FirstImage.{sectors_needed}
+use Rattle.disk_law.specs.Journal.{JournalState}
 use Rattle.opening_parts.specs.Parts.{AreOpeningParts, OpeningParts}
 use Rattle.opening_answers.specs.Opening.{MayBegin}
 use Rattle.opening_answers.specs.Renewal.{IsRenewed}
@@ -12,12 +13,12 @@ use Rattle.tm_machine.specs.Parts.{PartsState}
 use Rattle.control_life.specs.declared.how.How.{How}
 use Rattle.control_life.specs.Opened.{Begins}
 
--- The machine stands where that begins.
-pub record OpensOn (how : How) (system : System) (text : List ℕ) (old new : DiskState) (machine : PartsState) (opening : LastingState) : Type 0 where
+-- The machine stands where that begins, and so do its journal and the number of the next unit.
+pub record OpensOn (how : How) (system : System) (text : List ℕ) (old new : DiskState) (machine : PartsState) (journal : JournalState) (next_unit : ℕ) (opening : LastingState) : Type 0 where
   pub moment : machine.moment ≡ start_of system opening
   pub no_fault : new.faults ≡ old.faults
   pub size : sectors_needed system ≤ old.size
-  pub begins : Begins how system text old opening
+  pub begins : Begins how system text old opening journal.restart journal.log next_unit
 
 -- ---- what it begins with
 

@@ -30,7 +30,7 @@ pub(crate) fn look<D: Disk>(
     ensures cold { how ≡ Cold → TellsCold system.now result }
     ensures begins { IfOk result (λ opened. BeginsOn system.now text.now opened.0 opened.1 (D.state disk.new)) }
     ensures stays { Stays (D.state disk.old) (D.state disk.new) }
-    ensures any_moment { Within (KeepsBy how system.now) (D.state disk.old) (D.state disk.new) }
+    ensures any_moment { Within (KeepsBy how system.now text.now) (D.state disk.old) (D.state disk.new) }
     ensures cause { OpeningCause result (D.state disk.old) (D.state disk.new) }
 {
     match how {

@@ -31,12 +31,12 @@ pub fn open<D: Disk>(
     requires text { length text.now ≤ 262144 }
     requires only { Only (D.state disk.old).shown (D.state disk.old) }
     ensures system { parts.new.system ≡ parts.old.system }
-    ensures opens { IfOk result (λ opened. OpensOn how parts.old.system text.entry.now (D.state disk.old) (D.state disk.new) parts.new opened.2) }
+    ensures opens { IfOk result (λ opened. OpensOn how parts.old.system text.entry.now (D.state disk.old) (D.state disk.new) parts.new opened.0 opened.1 opened.2) }
     ensures logged { IfOk result (λ opened. IsLogged parts.new (no_units (length parts.old.system.regions)) opened.1 opened.0 text.entry.now (D.state disk.new)) }
     ensures refuses { IfErr result (λ error. Refuses how parts.old.system text.entry.now (D.state disk.old) error) }
     ensures cause { IfErr result (λ error. OpeningCause (Err error) (D.state disk.old) (D.state disk.new)) }
     ensures stays { Stays (D.state disk.old) (D.state disk.new) }
-    ensures any_moment { Within (KeepsBy how parts.old.system) (D.state disk.old) (D.state disk.new) }
+    ensures any_moment { Within (KeepsBy how parts.old.system text.entry.now) (D.state disk.old) (D.state disk.new) }
 {
     match look(alloc, disk, parts.system(), text, how) {
         Ok((opening, lasting)) => {

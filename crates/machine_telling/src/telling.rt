@@ -1,14 +1,15 @@
 //! Calls of the machine whose records are told behind what was appended to the log.
-ghost use Rattle.std.specs.Prelude.{◌≡◌, ◌<◌, false, length, IfOk, IfSome, OnOk, OnErr, Ok};
+ghost use Rattle.std.specs.Prelude.{◌≡◌, ◌<◌, false, length, IfOk, IfErr, IfSome, OnOk, OnErr, Ok};
 ghost use Rattle.model_machine.specs.Machine.{IsRegion};
 ghost use Rattle.model_machine.specs.declared.entry.Entry.TheVariants.{Accept, Acked as AckedEntry, Commanded, Turn as TurnEntry};
 ghost use Rattle.model_machine.specs.declared.entry.ControlCall.TheVariants.{Input, Acknowledge, Command as CommandCall};
 ghost use Rattle.model_machine.specs.Commands.{IsServed, lasting_command};
 ghost use Rattle.tm_types.specs.Commands.{name_in};
 ghost use Rattle.tm_types.specs.Name.{IsName};
+ghost use Rattle.step_telling.specs.Untold.{WhereFull};
 ghost use Rattle.tm_machine.specs.Answers.{IsAnswered};
-ghost use Rattle.tm_machine.specs.OnSlots.{TurnsSo, TellByCall, HasSlots, changes_told, turn_records};
-ghost use Rattle.tm_machine.specs.Told.{records_of};
+ghost use Rattle.tm_machine.specs.OnSlots.{TurnsSo, TellByCall, HasSlots, IsTurnLonger, changes_told, turn_records};
+ghost use Rattle.tm_machine.specs.Told.{IsLonger, records_of};
 ghost use Rattle.machine_telling.specs.Telling.{HasRoom, Appends, is_input_fault};
 
 use crate::bytes::see_bytes;
@@ -21,7 +22,8 @@ use std::alloc::Global;
 use tm_machine::Parts;
 use tm_types::{Name, Segments};
 
-/// Lets the machine take an input. The records of what lasts of it are appended; a refusal changes nothing.
+/// Lets the machine take an input. The records of what lasts of it are appended; a refusal changes nothing, and is `Full` only
+/// where the records are longer than the room.
 pub fn tell_input(
     alloc: Global,
     parts: &mut Parts,
@@ -36,6 +38,7 @@ pub fn tell_input(
     ensures answer { IfOk result (λ answer. IsAnswered parts.old parts.new (Accept terminal.now number segments answer)) }
     ensures no_fault { IfOk result (λ answer. is_input_fault answer ≡ false) }
     ensures told { OnOk result (Appends (records_of parts.old.system parts.old.moment 0 (Input terminal.now number segments)) journal.old journal.new) }
+    ensures full { IfErr result (WhereFull (IsLonger parts.old.system parts.old.moment 0 room (Input terminal.now number segments))) }
     ensures databases { parts.new.databases ≡ parts.old.databases }
     ensures before { HasSlots parts.old }
     ensures behind { OnOk result (HasSlots parts.new) }
@@ -68,6 +71,7 @@ pub fn tell_acknowledgement(
     requires room { HasRoom room journal.old.log }
     ensures answer { IfOk result (λ answer. IsAnswered parts.old parts.new (AckedEntry terminal.now number answer)) }
     ensures told { OnOk result (Appends (records_of parts.old.system parts.old.moment 0 (Acknowledge terminal.now number)) journal.old journal.new) }
+    ensures full { IfErr result (WhereFull (IsLonger parts.old.system parts.old.moment 0 room (Acknowledge terminal.now number))) }
     ensures databases { parts.new.databases ≡ parts.old.databases }
     ensures before { HasSlots parts.old }
     ensures behind { OnOk result (HasSlots parts.new) }
@@ -97,6 +101,7 @@ pub fn tell_command(
     ensures answer { IfOk result (λ answer. IsAnswered parts.old parts.new (Commanded command.now answer)) }
     ensures named { IfSome (lasting_command command.now) (λ does. IsName (name_in does)) }
     ensures told { OnOk result (Appends (records_of parts.old.system parts.old.moment 0 (CommandCall command.now)) journal.old journal.new) }
+    ensures full { IfErr result (WhereFull (IsLonger parts.old.system parts.old.moment 0 room (CommandCall command.now))) }
     ensures databases { parts.new.databases ≡ parts.old.databases }
     ensures before { HasSlots parts.old }
     ensures behind { OnOk result (HasSlots parts.new) }
@@ -127,6 +132,7 @@ pub fn tell_turn(
     requires room { HasRoom room journal.old.log }
     ensures answer { IfOk result (λ turned. IsAnswered parts.old parts.new (TurnEntry region (Ok turned))) }
     ensures told { OnOk result (Appends (turn_records parts.old unit region) journal.old journal.new) }
+    ensures full { IfErr result (WhereFull (IsTurnLonger parts.old unit room region)) }
     ensures slots { IfOk result (TurnsSo parts.old parts.new unit region) }
     ensures calls { IfOk result (TellByCall (changes_told parts.old unit region)) }
     ensures before { HasSlots parts.old }

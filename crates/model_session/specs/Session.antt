@@ -1,5 +1,6 @@
 -- A session: for each block of its lines where it leads, and what is printed for it.
 use Rattle.std.specs.Prelude.{◌≡◌, ◌⊎◌, ℕ, Bool, true, false, List, [], ◌∷◌, ◌++◌, length}
+use Rattle.std.specs.Option.{is_some}
 use Rattle.model_machine.specs.declared.entry.Entry.{Entry}
 use Rattle.model_machine.specs.declared.entry.ControlCall.{ControlCall}
 use Rattle.model_machine.specs.declared.entry.ControlCall.TheVariants.{Turn}
@@ -94,15 +95,17 @@ pub record FailsToOpen (cold : Bool) (old : SessionState) (outage : Outage) (new
   pub stop : Stop
   pub ends : new ≡ failed old outage cold stop
 
--- Once a life has begun no rule is broken by a disk that tells its contents.
+-- Once a life has begun the disk has sectors enough; and where it tells its contents, no rule is broken and the text is the
+-- definition's.
 abbrev pub MayRefuse : Bool → ImageRefused → Type 0
 MayRefuse tells (Rule rule sector) = tells ≡ false
-MayRefuse tells (OtherText place) = Unit {0}
-MayRefuse tells (Size needed has) = Unit {0}
+MayRefuse tells (OtherText place) = tells ≡ false
+MayRefuse tells (Size needed has) = ⊥
 
--- The disk can't be opened.
-pub record IsNotOpened (setting : Setting) (old new : SessionState) (text : List ℕ) : Type 0 where
+-- The disk can't be opened, and a life had begun before.
+pub record IsNotOpened (setting : Setting) (outage : Outage) (old new : SessionState) (text : List ℕ) : Type 0 where
   pub refusal : ImageRefused
+  pub begun : is_some outage.last ≡ true
   pub may : MayRefuse setting.tells refusal
   pub stays : new ≡ old
   pub printed : text ≡ image_text refusal
@@ -111,7 +114,7 @@ abbrev pub IsRestarted : Bool → Setting → SessionState → Outage → Sessio
 IsRestarted cold setting old outage new text =
     (Opens cold setting old outage new × (text ≡ opened_text cold))
     ⊎ (FailsToOpen cold old outage new × (text ≡ broken_text))
-    ⊎ IsNotOpened setting old new text
+    ⊎ IsNotOpened setting outage old new text
 
 -- Only a restart is served.
 abbrev pub IsServedDown : Asked → Setting → SessionState → Outage → SessionState → List ℕ → Type 0

@@ -3,15 +3,19 @@ use Rattle.std.specs.Prelude.{◌≡◌, ◌⊎◌, ℕ, ◌+◌, ◌≤◌, Boo
 use Rattle.model_machine.specs.declared.entry.Entry.{Entry}
 use Rattle.model_system.specs.System.{System}
 use Rattle.model_machine.specs.Machine.{LastingState, empty_state}
+use Rattle.model_session.specs.declared.asked.ImageRefused.{ImageRefused}
 use Rattle.model_session.specs.Lives.{LifeState, LastLife, now_in, longer, with_life, HasAnswered, Leaves}
 
--- A session's system; whether its disk can be told to stop at a write to come, and whether it tells its contents; and
--- the states that the disk recovers to as it is handed in, of which there is one at most.
+-- A session's system; whether its disk can be told to stop at a write to come, and whether it tells its contents; the
+-- states that the disk recovers to as it is handed in, of which there is one at most; and why it can't be opened as it is
+-- handed in: by a refusal, or since a counter is spent.
 pub record Setting : Type 1 where
   pub system : System
   pub can_arm : Bool
   pub tells : Bool
   pub begins : LastingState → Type 0
+  pub refuses : ImageRefused → Type 0
+  pub spends : Type 0
 
 -- The system is down: the last life, if one has begun; whether a cold start broke off since; and whether the disk has
 -- failed since that life was opened.

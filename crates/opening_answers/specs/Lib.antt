@@ -1,2 +1,3 @@
 pub mod Renewal
 pub mod Opening
+pub mod Keeping

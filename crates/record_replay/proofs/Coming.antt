@@ -1,6 +1,6 @@
 -- What a record does to the replay of the definition.
 use Rattle.std.proofs.Common.{◌≡◌, Bool, true, false, not, List, [], ◌∷◌, ◌++◌, ℕ, zero, suc, refl, sym, ◌∙◌, ap, subst, Some, None}
-use Rattle.std.specs.Prelude.{if◌then◌else◌, Option, ◌==◌, filter}
+use Rattle.std.specs.Prelude.{if◌then◌else◌, Option, ◌==◌, filter, Result, Ok, Err, IfOk}
 use Rattle.std.specs.Option.{option_map_or, option_and_then}
 use Rattle.std.proofs.lemmas.Bool.{eqb-true, eq-eqb, ne_eqb}
 use Rattle.std.proofs.lemmas.List.Elements.{filter-append}
@@ -12,6 +12,8 @@ use Rattle.log_records.specs.declared.record.Record.TheVariants.{Input, Command,
 use Rattle.model_image.specs.States.{breaks_a_rule}
 use Rattle.model_image.specs.Replay.{Replay, is_of_unit, with_waiting, without_unit, with_lasting, replayed, is_known, unless_it_breaks, replay_one, accepts, commands}
 use Rattle.record_replay.specs.Judged.{lasting_in, AreFree, Leaves}
+use Rattle.image_records.specs.Kept.{KeptState}
+use Rattle.record_replay.specs.Tallied.{TallyState, Follows}
 use Rattle.record_replay.specs.Waiting.{of_unit, ChangesUnit}
 use Rattle.record_replay.specs.Working.{WorkState, IsAt, Comes, Waits, IsDone, waits_for, of_unit_of, does_now, LeavesUnits}
 
@@ -150,8 +152,8 @@ module _ (system : System) (r : Record) (replay : Replay) (old new : WorkState) 
       ap (λ b. if b then option_and_then (unless_it_breaks system) (replayed system r replay) else None) is ∙ ap (option_and_then (unless_it_breaks system)) done
 
   -- it waits for its unit's sync point
-  waits_on : is_known system r ≡ true → (unit : ℕ) → waits_for r ≡ Some unit → new.kept ≡ old.kept → ChangesUnit unit (λ records. records ++ r ∷ []) old.units new.units → Comes system (replay_one system r replay) new true
-  waits_on known unit is same changes = (
+  waits_on : is_known system r ≡ true → (unit : ℕ) → waits_for r ≡ Some unit → new.kept ≡ old.kept → ChangesUnit unit (λ records. records ++ r ∷ []) old.units new.units → new.tally ≡ old.tally → Comes system (replay_one system r replay) new true
+  waits_on known unit is same changes alike = (
     with_waiting r replay,
     known_is known (Some (with_waiting r replay)) (waiting_done system r unit is replay) ∙ ap (λ b. if b then None else Some (with_waiting r replay)) at.sound,
     record {
@@ -159,6 +161,7 @@ module _ (system : System) (r : Record) (replay : Replay) (old new : WorkState) 
       free = subst (AreFree system) (sym same) at.free;
       sound = at.sound;
       waiting = λ u. changes u ∙ by_unit u (unit == u) refl;
+      follows = subst (λ (t : TallyState). Follows system new.kept t) (sym alike) (subst (λ (k : KeptState). Follows system k old.tally) (sym same) at.follows);
     },
   ) where
     by_unit : (u : ℕ) (b : Bool) → unit == u ≡ b → (if b then of_unit u old.units ++ r ∷ [] else of_unit u old.units) ≡ filter (is_of_unit u) (replay.waiting ++ r ∷ [])
@@ -170,7 +173,7 @@ module _ (system : System) (r : Record) (replay : Replay) (old new : WorkState) 
           by_test false test = at.waiting u ∙ sym (append-nil (filter (is_of_unit u) replay.waiting)) ∙ ap (λ b. filter (is_of_unit u) replay.waiting ++ (if b then r ∷ [] else [])) test
 
   pub waits : is_known system r ≡ true → (unit : ℕ) → waits_for r ≡ Some unit → (fine : Bool) → Waits unit r old new fine → Comes system (replay_one system r replay) new fine
-  waits known unit is fine w = subst (Comes system (replay_one system r replay) new) (sym w.is_fine) (waits_on known unit is w.kept w.units)
+  waits known unit is fine w = subst (Comes system (replay_one system r replay) new) (sym w.is_fine) (waits_on known unit is w.kept w.units w.tally)
 
   -- it is done at once
   module _ (known : is_known system r ≡ true) (is : waits_for r ≡ None) (units : LeavesUnits r old.units new.units) where
@@ -182,8 +185,8 @@ module _ (system : System) (r : Record) (replay : Replay) (old new : WorkState) 
         ∙ ap (λ (l : LastingState). with_lasting (left_by r replay) (does_now system r (of_unit_of r old.units) l)) at.lasting
         ∙ ap (with_lasting (left_by r replay)) done)
 
-    pub comes : (fine : Bool) → Leaves system (does_now system r (of_unit_of r old.units) (lasting_in system old.kept)) new.kept fine → Comes system (replay_one system r replay) new fine
-    comes true leaves =
+    pub comes : (fine : Bool) → Leaves system (does_now system r (of_unit_of r old.units) (lasting_in system old.kept)) new.kept fine → (fine ≡ true → Follows system new.kept new.tally) → Comes system (replay_one system r replay) new fine
+    comes true leaves follows =
         let after = lasting_in system new.kept in (
           record (left_by r replay) { lasting = after },
           answer_is (Some after) leaves.0 ∙ ap (λ b. if b then None else Some (record (left_by r replay) { lasting = after })) leaves.1,
@@ -192,22 +195,28 @@ module _ (system : System) (r : Record) (replay : Replay) (old new : WorkState) 
             free = leaves.2;
             sound = leaves.1;
             waiting = left_waiting r replay old.units new.units at.waiting units;
+            follows = follows refl;
           },
         )
-    comes false broken = by_answer (does_now system r (of_unit_of r old.units) (lasting_in system old.kept)) refl broken where
+    comes false broken follows = by_answer (does_now system r (of_unit_of r old.units) (lasting_in system old.kept)) refl broken where
       by_answer : (answer : Option LastingState) → does_now system r (of_unit_of r old.units) (lasting_in system old.kept) ≡ answer → option_map_or (breaks_a_rule system) answer true ≡ true → replay_one system r replay ≡ None
       by_answer None done broken = answer_is None done
       by_answer (Some after) done broken = answer_is (Some after) done ∙ ap (λ b. if b then None else Some (record (left_by r replay) { lasting = after })) broken
 
 -- a record that doesn't wait
 pub done_now : (system : System) (r : Record) (replay : Replay) (old new : WorkState) (at : IsAt system replay old) → is_known system r ≡ true → waits_for r ≡ None → (fine : Bool) → IsDone system r old new fine → Comes system (replay_one system r replay) new fine
-done_now system r replay old new at known is fine done = comes system r replay old new at known is done.units fine done.lasting
+done_now system r replay old new at known is fine done = comes system r replay old new at known is done.units fine done.lasting done.follows
 
 -- an input is done at once
 pub input_done : (system : System) (unit id : ℕ) (origin code : List ℕ) (number : ℕ) (conversation : Bool) (segments : List (List ℕ)) (old new : WorkState) (fine : Bool) →
-    Leaves system (accepts system id origin code number conversation segments (lasting_in system old.kept)) new.kept fine → new.units ≡ old.units → IsDone system (Input unit id origin code number conversation segments) old new fine
-input_done system unit id origin code number conversation segments old new fine leaves same = record { lasting = leaves; units = same }
+    Leaves system (accepts system id origin code number conversation segments (lasting_in system old.kept)) new.kept fine → new.units ≡ old.units → (fine ≡ true → Follows system new.kept new.tally) → IsDone system (Input unit id origin code number conversation segments) old new fine
+input_done system unit id origin code number conversation segments old new fine leaves same follows = record { lasting = leaves; units = same; follows = follows }
 
 pub command_done : (system : System) (text : List ℕ) (old new : WorkState) (fine : Bool) →
-    Leaves system (commands text (lasting_in system old.kept)) new.kept fine → new.units ≡ old.units → IsDone system (Command text) old new fine
-command_done system text old new fine leaves same = record { lasting = leaves; units = same }
+    Leaves system (commands text (lasting_in system old.kept)) new.kept fine → new.units ≡ old.units → (fine ≡ true → Follows system new.kept new.tally) → IsDone system (Command text) old new fine
+command_done system text old new fine leaves same follows = record { lasting = leaves; units = same; follows = follows }
+
+-- two facts of what is answered give a third one
+pub of_both : {X Y : Type 0} (r : Result X Y) (P Q R : X → Type 0) → ((x : X) → P x → Q x → R x) → IfOk r P → IfOk r Q → IfOk r R
+of_both (Ok x) P Q R from p q = from x p q
+of_both (Err e) P Q R from p q = tt

@@ -1,8 +1,7 @@
 -- What a command leaves of the tables.
-use Rattle.std.proofs.Common.{◌≡◌, ℕ, Bool, true, false, not, ◌&&◌, List, [], ◌∷◌, drop, refl, sym, ap, ◌∙◌, subst, Some, None}
+use Rattle.std.proofs.Common.{◌≡◌, ℕ, Bool, true, false, not, List, [], ◌∷◌, drop, refl, sym, Some, None}
 use Rattle.std.specs.Prelude.{Option, if◌then◌else◌, ◌==◌}
 use Rattle.std.specs.List.{list_all}
-use Rattle.std.specs.Option.{is_some, option_map_or}
 use Rattle.tm_types.specs.declared.command.LastingCommand.{LastingCommand}
 use Rattle.tm_types.specs.declared.command.LastingCommand.TheVariants.{StartTransaction, StopTransaction, StartTerminal, StopTerminal, DequeueFirst, DequeueAll, Exit}
 use Rattle.model_conversation.specs.declared.conversation.TerminalConversation.{TerminalConversation}
@@ -10,21 +9,18 @@ use Rattle.model_conversation.specs.Terminals.{is_of as is_of_terminal, with_ter
 use Rattle.model_queues.specs.Outputs.{with_terminal, without_first}
 use Rattle.model_system.specs.Lists.{change_at}
 use Rattle.model_system.specs.System.{System}
-use Rattle.model_machine.specs.declared.lasting.CodeSetting.{CodeSetting}
-use Rattle.model_machine.specs.declared.lasting.TerminalState.{TerminalState}
 use Rattle.model_machine.specs.Lasting.{applied, stopped_code, stopped_terminal, without_replies}
 use Rattle.model_machine.specs.Lasting.LastingStep.{Commands}
-use Rattle.model_machine.specs.Machine.{LastingState, setting_place, terminal_place}
-use Rattle.model_image.specs.States.{breaks_a_rule, has_right_pad, is_next, is_setting, is_small, run_up_to}
+use Rattle.model_machine.specs.Machine.{setting_place, terminal_place}
+use Rattle.model_image.specs.States.{has_right_pad, is_next, is_setting, is_small, run_up_to}
 use Rattle.image_records.specs.Kept.{KeptState}
 use Rattle.replay_law.proofs.Bools.{both, first_of, second_of}
 use Rattle.replay_law.proofs.Conversing.{put}
 use Rattle.replay_law.proofs.Lists.{all_changed}
 use Rattle.replay_law.proofs.Ordered.{all_at, run_drop}
-use Rattle.record_replay.specs.Steps.{ends_none, step_commands}
-use Rattle.record_replay.specs.Judged.{AreFree, AreSound, KeepsRest, are_right, is_run, lasting_in}
+use Rattle.record_replay.specs.Steps.{step_commands}
+use Rattle.record_replay.specs.Judged.{AreFree, AreSound, KeepsRest, is_run, lasting_in}
 use Rattle.record_replay.proofs.Before.{inputs_before, numbers_before, pads_before, rest_before}
-use Rattle.record_replay.proofs.Usual.{right_before}
 
 module _ (system : System) where
   pub commands_is : (command : LastingCommand) (kept : KeptState) → applied (Commands command) (lasting_in system kept) ≡ lasting_in system (step_commands command kept)
@@ -103,12 +99,3 @@ module _ (system : System) where
     pads_commanded (DequeueFirst terminal) = sym (pads_before system kept before)
     pads_commanded (DequeueAll terminal) = sym (pads_before system kept before)
     pads_commanded (Exit terminal) = sym (ended terminal kept.conversations (pads_before system kept before))
-
-    pub right_commanded : (command : LastingCommand) → ends_none command ≡ true → are_right system (step_commands command kept) ≡ true
-    right_commanded (StartTransaction code) none = right_before system kept before
-    right_commanded (StopTransaction code) none = right_before system kept before
-    right_commanded (StartTerminal terminal) none = right_before system kept before
-    right_commanded (StopTerminal terminal) none = right_before system kept before
-    right_commanded (DequeueFirst terminal) none = right_before system kept before
-    right_commanded (DequeueAll terminal) none = right_before system kept before
-    right_commanded (Exit terminal) none = cc

@@ -195,7 +195,7 @@ module _ (system : System) (kept : KeptState) (before : AreSound system kept) (t
 -- ---- a discarded message
 
 module _ (system : System) (kept : KeptState) (before : AreSound system kept) (id : ℕ) (abend : AbendCode) (number : ℕ) where
-  discarded_by : (P : KeptState → Type 0) → ((message : Message) → P (with_discarded id abend message kept)) → (new : KeptState) → step_discards id abend number kept ≡ Some new → P new
+  pub discarded_by : (P : KeptState → Type 0) → ((message : Message) → P (with_discarded id abend message kept)) → (new : KeptState) → step_discards id abend number kept ≡ Some new → P new
   discarded_by P made new is = by_found (message_at id kept.queues.queued) is where
     by_number : (message : Message) (b : Bool) → (if b then Some (with_discarded id abend message kept) else None) ≡ Some new → P new
     by_number message true is = let e : with_discarded id abend message kept ≡ new = cc in subst P e (made message)
@@ -275,7 +275,7 @@ module _ (system : System) (kept : KeptState) (before : AreSound system kept) (p
   terminals_stay : (after : KeptState) → does_all records kept ≡ Some after → after.terminals ≡ kept.terminals
   terminals_stay after done = all_keep (λ k. k.terminals ≡ kept.terminals) (λ terminal segments k same. same) (λ message k is same. same) (λ id k same. same) records kept after done refl
 
-  conversations_stay : (after : KeptState) → does_all records kept ≡ Some after → after.conversations ≡ kept.conversations
+  pub conversations_stay : (after : KeptState) → does_all records kept ≡ Some after → after.conversations ≡ kept.conversations
   conversations_stay after done = all_keep (λ k. k.conversations ≡ kept.conversations) (λ terminal segments k same. same) (λ message k is same. same) (λ id k same. same) records kept after done refl
 
   pub inputs_synced : (new : KeptState) → step_syncs pad records kept ≡ Some new → true ≡ list_all (λ t. is_small t.last) new.terminals

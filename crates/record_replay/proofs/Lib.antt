@@ -7,8 +7,9 @@ pub mod Leaving
 pub mod Coming
 pub mod Units
 pub mod Abended
-pub mod Copies
 pub mod Placed
 pub mod Stepped
-pub mod Usual
+pub mod Talks
+pub mod Counting
+pub mod Right
 pub mod Commands

@@ -1,23 +1,18 @@
 -- What doing a record comes to, and which states keep their rules.
 use Rattle.std.specs.Prelude.{◌≡◌, ℕ, ◌==◌, Bool, true, false, not, ◌&&◌, if◌then◌else◌, List, [], map, Option, Some}
 use Rattle.std.specs.List.{list_all, list_any}
-use Rattle.std.specs.Option.{option_map_or, is_none, is_some}
+use Rattle.std.specs.Option.{option_map_or, is_none}
 use Rattle.std.specs.Str.{bytes_eq}
 use Rattle.tm_types.specs.declared.message.Message.{Message}
 use Rattle.model_conversation.specs.declared.conversation.TerminalConversation.{TerminalConversation}
 use Rattle.model_conversation.specs.Terminals.{conversation_at}
-use Rattle.model_conversation.specs.declared.conversation.PadChange.{PadChange}
-use Rattle.model_conversation.specs.declared.conversation.PadChange.TheVariants.{Stays, New, Ends}
-use Rattle.log_records.specs.declared.record.Record.{Record}
-use Rattle.log_records.specs.declared.record.Record.TheVariants.{Input}
 use Rattle.model_system.specs.Codes.{code_at}
 use Rattle.model_system.specs.System.{System}
 use Rattle.model_queues.specs.declared.queued.Queued.{Queued}
 use Rattle.model_queues.specs.declared.replies.TerminalReplies.{TerminalReplies}
-use Rattle.model_queues.specs.Queue.{messages_of, message_at}
-use Rattle.model_queues.specs.Outputs.{replies_at}
+use Rattle.model_queues.specs.Queue.{messages_of}
 use Rattle.model_machine.specs.Machine.{LastingState}
-use Rattle.model_image.specs.States.{is_setting, ascend_below, run_up_to, is_terminal, is_code, has_no_pad, are_alone, is_small, breaks_a_rule}
+use Rattle.model_image.specs.States.{is_setting, ascend_below, run_up_to, is_terminal, is_code, are_alone, is_small, breaks_a_rule}
 use Rattle.image_records.specs.Kept.{KeptState}
 use Rattle.record_replay.specs.Steps.{is_over}
 
@@ -42,38 +37,19 @@ pub record AreFree (system : System) (kept : KeptState) : Type 0 where
   pub limit : kept.queues.limit ≡ system.qbytes
   pub holders : list_all has_no_holder kept.queues.queued ≡ true
 
--- a message of no conversation that is known whatever conversations there are
-abbrev pub is_plain : System → List ℕ → List ℕ → Bool → Bool
-is_plain system origin code conversation =
-    not conversation && (is_terminal system origin && is_code system code && option_map_or (λ code. code.transaction.scratch_pad == 0) (code_at system.codes code) true)
-
--- a record that leaves messages known and alone, among those of a unit
-abbrev pub is_usual : System → Record → Bool
-is_usual system (Input unit id origin code number conversation segments) = is_plain system origin code conversation
-is_usual system _ = true
-
-abbrev pub stays : PadChange → Bool
-stays Stays = true
-stays (New text) = false
-stays Ends = false
-
-abbrev pub are_usual : System → PadChange → List Record → Bool
-are_usual system pad records = stays pad && list_all (is_usual system) records
-
--- a message of no conversation, whose origin is a terminal that is kept
-abbrev pub ends_plainly : ℕ → KeptState → Bool
-ends_plainly id kept = option_map_or (λ message. not message.conversation && is_some (replies_at message.origin kept.outputs)) (message_at id kept.queues.queued) false
-
 -- A step was done on the tables; or it can't be, or a number may not be counted on.
 abbrev pub Does : Option KeptState → KeptState → Bool → Type 0
 Does answer new true = answer ≡ Some new
 Does answer new false = option_map_or is_over answer true ≡ true
 
--- a message is known beside these conversations
+-- a message of this origin to this code, which belongs to a conversation or to none, is known beside these conversations
+abbrev pub knows_by : System → List TerminalConversation → List ℕ → List ℕ → Bool → Bool
+knows_by system conversations origin code conversation =
+    is_terminal system origin && is_code system code
+    && (if conversation then option_map_or (λ c. bytes_eq c.code code) (conversation_at origin conversations) false else option_map_or (λ code. code.transaction.scratch_pad == 0) (code_at system.codes code) true)
+
 abbrev pub knows : System → List TerminalConversation → Message → Bool
-knows system conversations message =
-    is_terminal system message.origin && is_code system message.code
-    && (if message.conversation then option_map_or (λ c. bytes_eq c.code message.code) (conversation_at message.origin conversations) false else has_no_pad system message)
+knows system conversations message = knows_by system conversations message.origin message.code message.conversation
 
 -- the messages are known, and at most one of each conversation waits
 abbrev pub are_right : System → KeptState → Bool

@@ -1,4 +1,5 @@
 pub mod Waiting
 pub mod Steps
 pub mod Judged
+pub mod Tallied
 pub mod Working

@@ -149,8 +149,3 @@ commanded (Exit terminal) kept = record kept { conversations = padded Ends termi
 
 abbrev pub step_commands : LastingCommand → KeptState → KeptState
 step_commands command kept = with_counted (commanded command kept)
-
--- no command but the end of a conversation touches messages that belong to one
-abbrev pub ends_none : LastingCommand → Bool
-ends_none (Exit terminal) = false
-ends_none _ = true

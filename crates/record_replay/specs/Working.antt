@@ -8,19 +8,23 @@ use Rattle.model_image.specs.States.{breaks_a_rule}
 use Rattle.model_image.specs.Replay.{Replay, is_of_unit, accepts, acknowledges, commands, discards, syncs}
 use Rattle.image_records.specs.Kept.{KeptState}
 use Rattle.record_replay.specs.Judged.{lasting_in, AreFree, Leaves}
+use Rattle.record_replay.specs.Tallied.{TallyState, Follows}
 use Rattle.record_replay.specs.Waiting.{of_unit, ChangesUnit}
 
--- the tables, and the records of units that have no sync point yet
+-- the tables, the records of units that have no sync point yet, and the messages of conversations
 pub record WorkState : Type 0 where
   pub kept : KeptState
   pub units : List (ℕ × List Record)
+  pub tally : TallyState
 
--- It is at this point of a replay: the tables have what lasts, which breaks no rule, and each unit's records wait.
+-- It is at this point of a replay: the tables have what lasts, which breaks no rule, each unit's records wait, and the
+-- messages are counted.
 pub record IsAt (system : System) (replay : Replay) (work : WorkState) : Type 0 where
   pub lasting : replay.lasting ≡ lasting_in system work.kept
   pub free : AreFree system work.kept
   pub sound : breaks_a_rule system replay.lasting ≡ false
   pub waiting : (unit : ℕ) → of_unit unit work.units ≡ filter (is_of_unit unit) replay.waiting
+  pub follows : Follows system work.kept work.tally
 
 -- a record was done again, or breaks the rule
 abbrev pub Comes : System → Option Replay → WorkState → Bool → Type 0
@@ -60,8 +64,10 @@ pub record Waits (unit : ℕ) (r : Record) (old new : WorkState) (fine : Bool) :
   pub is_fine : fine ≡ true
   pub kept : new.kept ≡ old.kept
   pub units : ChangesUnit unit (λ records. records ++ r ∷ []) old.units new.units
+  pub tally : new.tally ≡ old.tally
 
 -- a record was done that doesn't wait
 pub record IsDone (system : System) (r : Record) (old new : WorkState) (fine : Bool) : Type 0 where
   pub lasting : Leaves system (does_now system r (of_unit_of r old.units) (lasting_in system old.kept)) new.kept fine
   pub units : LeavesUnits r old.units new.units
+  pub follows : fine ≡ true → Follows system new.kept new.tally

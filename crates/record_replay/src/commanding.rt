@@ -1,12 +1,13 @@
 //! Commands of a log, done on the tables.
 ghost use Rattle.std.specs.Prelude.{◌≡◌, ◌<◌, ◌^◌};
-ghost use Rattle.record_replay.specs.Steps.{commanded, ends_none, step_commands};
+ghost use Rattle.record_replay.specs.Steps.{commanded, step_commands};
+ghost use Rattle.record_replay.specs.Tallied.{ended_by};
 
 use crate::places::change_pad;
 use command_changes::{dequeue_all, dequeue_first, stop_code, stop_terminal};
 use image_records::Kept;
 use model_conversation::PadChange;
-use tm_types::LastingCommand;
+use tm_types::{LastingCommand, Name};
 
 /// Does a command.
 pub fn command(kept: &mut Kept, command: &LastingCommand)
@@ -33,12 +34,12 @@ fn do_command(kept: &mut Kept, command: &LastingCommand)
     }
 }
 
-/// Whether a command ends no conversation.
-pub fn ends_none(command: &LastingCommand) -> bool
-    ensures { result ≡ ends_none command.now }
+/// The terminal whose conversation a command ends.
+pub fn ended_by(command: &LastingCommand) -> Option<Name>
+    ensures { result ≡ ended_by command.now }
 {
     match command {
-        LastingCommand::Exit(_) => false,
-        _ => true,
+        LastingCommand::Exit(terminal) => Some(*terminal),
+        _ => None,
     }
 }

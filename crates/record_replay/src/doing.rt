@@ -1,17 +1,21 @@
 //! The records of a unit, done at its sync point.
 ghost use Rattle.std.specs.Option.{option_map};
-ghost use Rattle.std.specs.Prelude.{◌≡◌, ◌+◌, ◌<◌, ◌^◌, IfOk, OnOk, IsSomeAnd};
+ghost use Rattle.std.specs.Prelude.{◌≡◌, ◌+◌, ◌<◌, ◌^◌, true, IfOk, OnOk, IsSomeAnd};
 ghost use Rattle.model_image.specs.States.{is_small};
 ghost use Rattle.model_queues.specs.Queue.{IsNewId, message_at};
 ghost use Rattle.model_queues.specs.Outputs.{replies_at};
-ghost use Rattle.record_replay.specs.Judged.{Does, IsOrderly};
+ghost use Rattle.record_replay.specs.Judged.{Does, IsOrderly, knows};
+ghost use Rattle.record_replay.specs.Tallied.{Adds, Follows, Removes};
 ghost use Rattle.record_replay.specs.Steps.{with_added, with_replied, with_gone, does, does_all, replies, switches};
 
+use crate::judging::is_known;
 use crate::sizes::bytes_of;
+use crate::tally::Tally;
 use crate::waiting::UnitRecords;
 use image_records::Kept;
 use log_records::Record;
 use out_queues::Outputs;
+use system_types::System;
 use tm_types::{Memory, Message, Name, Segments};
 
 /// From this number on a number isn't counted on.
@@ -84,13 +88,20 @@ pub fn next_at(outputs: &Outputs, terminal: &Name) -> Option<u64>
 
 /// Does the records of a unit, in their order. False: a number isn't the next one, what a record is about isn't there, or a
 /// number may not be counted on.
-pub fn do_all(kept: &mut Kept, mut records: UnitRecords) -> Result<bool, Memory>
-    requires { IsOrderly kept.old }
+pub fn do_all(
+    system: &System,
+    kept: &mut Kept,
+    tally: &mut Tally,
+    mut records: UnitRecords,
+) -> Result<bool, Memory>
+    requires orderly { IsOrderly kept.old }
+    requires follows { Follows system.now kept.old tally.old }
     ensures done { IfOk result (Does (does_all records kept.old) kept.new) }
     ensures orderly { OnOk result (IsOrderly kept.new) }
+    ensures follows { IfOk result (λ fine. fine ≡ true → Follows system.now kept.new tally.new) }
 {
     while let Some(r) = records.pop() {
-        let fine = do_record(kept, r)?;
+        let fine = do_record(system, kept, tally, r)?;
         if !fine {
             return Ok(false);
         }
@@ -98,10 +109,12 @@ pub fn do_all(kept: &mut Kept, mut records: UnitRecords) -> Result<bool, Memory>
     Ok(true)
 }
 
-fn do_record(kept: &mut Kept, r: Record) -> Result<bool, Memory>
-    requires { IsOrderly kept.old }
+fn do_record(system: &System, kept: &mut Kept, tally: &mut Tally, r: Record) -> Result<bool, Memory>
+    requires orderly { IsOrderly kept.old }
+    requires follows { Follows system.now kept.old tally.old }
     ensures done { IfOk result (Does (does r kept.old) kept.new) }
     ensures orderly { OnOk result (IsOrderly kept.new) }
+    ensures follows { IfOk result (λ fine. fine ≡ true → Follows system.now kept.new tally.new) }
 {
     match r {
         Record::Reply {
@@ -119,7 +132,9 @@ fn do_record(kept: &mut Kept, r: Record) -> Result<bool, Memory>
             segments,
             ..
         } => switch(
+            system,
             kept,
+            tally,
             number,
             Message {
                 id,
@@ -129,7 +144,7 @@ fn do_record(kept: &mut Kept, r: Record) -> Result<bool, Memory>
                 segments,
             },
         ),
-        Record::Completed { id, .. } => Ok(complete(kept, id)),
+        Record::Completed { id, .. } => complete(system, kept, tally, id),
         _ => Ok(true),
     }
 }
@@ -140,6 +155,8 @@ fn reply(kept: &mut Kept, terminal: &Name, number: u64, segments: Segments) -> R
     requires { IsOrderly kept.old }
     ensures done { IfOk result (Does (replies terminal.now number segments kept.old) kept.new) }
     ensures orderly { OnOk result (IsOrderly kept.new) }
+    ensures queues { OnOk result (kept.new.queues ≡ kept.old.queues) }
+    ensures conversations { OnOk result (kept.new.conversations ≡ kept.old.conversations) }
 {
     let Some(next) = next_at(&kept.outputs, terminal) else {
         return Ok(number == 1);
@@ -156,10 +173,18 @@ fn reply(kept: &mut Kept, terminal: &Name, number: u64, segments: Segments) -> R
 
 /// A switched message stands behind all others, if its id is the next one.
 #[tactic(auto, using(crate::proofs::Orders::switch_over, crate::proofs::Orders::orderly_added, crate::proofs::Orders::id_above, crate::proofs::Orders::id_small))]
-fn switch(kept: &mut Kept, number: u64, message: Message) -> Result<bool, Memory>
-    requires { IsOrderly kept.old }
+fn switch(
+    system: &System,
+    kept: &mut Kept,
+    tally: &mut Tally,
+    number: u64,
+    message: Message,
+) -> Result<bool, Memory>
+    requires orderly { IsOrderly kept.old }
+    requires follows { Follows system.now kept.old tally.old }
     ensures done { IfOk result (Does (switches number message kept.old) kept.new) }
     ensures orderly { OnOk result (IsOrderly kept.new) }
+    ensures follows { IfOk result (λ fine. fine ≡ true → Follows system.now kept.new tally.new) }
 {
     if kept.next_id != message.id {
         return Ok(false);
@@ -170,20 +195,60 @@ fn switch(kept: &mut Kept, number: u64, message: Message) -> Result<bool, Memory
     if !is_small_after(message.id) {
         return Ok(false);
     }
+    count_added(system, kept, tally, &message)?;
     add_message(kept, message)?;
     Ok(true)
 }
 
+fn count_added(
+    system: &System,
+    kept: &Kept,
+    tally: &mut Tally,
+    message: &Message,
+) -> Result<(), Memory>
+    ensures { OnOk result (Adds message.now.origin message.now.conversation (knows system.now kept.now.conversations message.now) tally.old tally.new) }
+{
+    let known = is_known(
+        system,
+        kept,
+        &message.origin,
+        &message.code,
+        message.conversation,
+    );
+    tally.add(&message.origin, message.conversation, known)
+}
+
 /// A completed message goes, if it is there.
 #[tactic(auto, using(crate::proofs::Orders::orderly_gone))]
-fn complete(kept: &mut Kept, id: u64) -> bool
-    requires { IsOrderly kept.old }
-    ensures done { Does (option_map (λ _. with_gone id kept.old) (message_at id kept.old.queues.queued)) kept.new result }
-    ensures orderly { IsOrderly kept.new }
+fn complete(system: &System, kept: &mut Kept, tally: &mut Tally, id: u64) -> Result<bool, Memory>
+    requires orderly { IsOrderly kept.old }
+    requires follows { Follows system.now kept.old tally.old }
+    ensures done { IfOk result (Does (option_map (λ _. with_gone id kept.old) (message_at id kept.old.queues.queued)) kept.new) }
+    ensures orderly { OnOk result (IsOrderly kept.new) }
+    ensures follows { IfOk result (λ fine. fine ≡ true → Follows system.now kept.new tally.new) }
 {
-    if kept.queues.find(id).is_none() {
-        return false;
-    }
+    let Some(message) = kept.queues.find(id) else {
+        return Ok(false);
+    };
+    count_removed(system, kept, tally, message)?;
     kept.queues.remove(id);
-    true
+    Ok(true)
+}
+
+fn count_removed(
+    system: &System,
+    kept: &Kept,
+    tally: &mut Tally,
+    message: &Message,
+) -> Result<(), Memory>
+    ensures { OnOk result (Removes message.now.origin message.now.conversation (knows system.now kept.now.conversations message.now) tally.old tally.new) }
+{
+    let known = is_known(
+        system,
+        kept,
+        &message.origin,
+        &message.code,
+        message.conversation,
+    );
+    tally.remove(&message.origin, message.conversation, known)
 }

@@ -12,5 +12,6 @@ mod places;
 mod replaying;
 mod sizes;
 mod steps;
+mod tally;
 mod waiting;
 mod working;

@@ -1,17 +1,19 @@
 //! One record of a log, done again.
-ghost use Rattle.std.specs.Prelude.{◌≡◌, None, Some, false, IfOk};
+ghost use Rattle.std.specs.Prelude.{◌≡◌, None, Some, true, false, IfOk};
 ghost use Rattle.std.specs.Option.{option_map_or};
 ghost use Rattle.tm_types.specs.Commands.{command_in};
 ghost use Rattle.model_image.specs.Replay.{Replay, accepts, acknowledges, commands, discards, syncs, is_known, names_known, replay_one};
 ghost use Rattle.model_machine.specs.Lasting.{applied};
 ghost use Rattle.model_machine.specs.Lasting.LastingStep.{Commands};
 ghost use Rattle.record_replay.specs.Judged.{lasting_in, AreSound, Leaves};
+ghost use Rattle.record_replay.specs.Tallied.{Follows};
 ghost use Rattle.record_replay.specs.Working.{IsAt, Comes, IsDone, Waits, waits_for};
 
-use crate::commanding::{command, ends_none};
+use crate::commanding::{command, ended_by};
 use crate::doing::is_small;
-use crate::judging::{are_usual, has_pad_at, has_pad_of, is_plain, is_sound};
-use crate::steps::{accept, acknowledge, discard, ends_plainly, origin_done, sync};
+use crate::judging::{ends_pad, has_pad_at, has_pad_of, is_known, is_sound};
+use crate::steps::{accept, acknowledge, count_discarded, discard, found, origin_done, sync};
+use crate::tally::Tally;
 use crate::waiting::{UnitRecords, push, take};
 use crate::working::Working;
 use image_records::{Kept, is_code, is_terminal};
@@ -29,10 +31,11 @@ pub fn replay_record(
     working: &mut Working,
     r: Record,
 ) -> Result<bool, Memory>
-    requires { AreSound system.now working.old.kept }
+    requires sound { AreSound system.now working.old.kept }
+    requires follows { Follows system.now working.old.kept working.old.tally }
     ensures { IfOk result (λ fine. (replay : Replay) → IsAt system.now replay working.old → Comes system.now (replay_one system.now r replay) working.new fine) }
 {
-    let known = is_known(alloc, system, &r)?;
+    let known = names_are_known(alloc, system, &r)?;
     if !known {
         return Ok(false);
     }
@@ -69,6 +72,7 @@ fn waits_for(r: &Record) -> Option<u64>
 /// Does a record that is no unit's, or that is its sync point.
 fn do_now(alloc: Global, system: &System, working: &mut Working, r: Record) -> Result<bool, Memory>
     requires sound { AreSound system.now working.old.kept }
+    requires follows { Follows system.now working.old.kept working.old.tally }
     requires now { waits_for r ≡ None }
     ensures { IfOk result (IsDone system.now r working.old working.new) }
 {
@@ -85,6 +89,7 @@ fn do_now(alloc: Global, system: &System, working: &mut Working, r: Record) -> R
             alloc,
             system,
             &mut working.kept,
+            &mut working.tally,
             number,
             Message {
                 id,
@@ -95,21 +100,29 @@ fn do_now(alloc: Global, system: &System, working: &mut Working, r: Record) -> R
             },
         ),
         Record::Acknowledged { terminal, number } => {
-            replay_acknowledged(alloc, system, &mut working.kept, &terminal, number)
+            replay_acknowledged(system, &mut working.kept, &working.tally, &terminal, number)
         }
         Record::Discarded {
             id,
             abend,
             number,
             ..
-        } => replay_discarded(alloc, system, &mut working.kept, id, abend, number),
+        } => replay_discarded(
+            alloc,
+            system,
+            &mut working.kept,
+            &mut working.tally,
+            id,
+            abend,
+            number,
+        ),
         Record::SyncPoint { unit, pad } => {
             let records = take(alloc, &mut working.units, unit);
-            replay_sync_point(alloc, system, &mut working.kept, records, pad)
+            replay_sync_point(system, &mut working.kept, &mut working.tally, records, pad)
         }
         Record::Change { .. } => Ok(true),
         Record::Command { text } => {
-            replay_command(alloc, system, &mut working.kept, text.as_slice())
+            replay_command(system, &mut working.kept, &working.tally, text.as_slice())
         }
         _ => Ok(false),
     }
@@ -119,108 +132,129 @@ fn replay_input(
     alloc: Global,
     system: &System,
     kept: &mut Kept,
+    tally: &mut Tally,
     number: u64,
     message: Message,
 ) -> Result<bool, Memory>
-    requires { AreSound system.now kept.old }
-    ensures { IfOk result (Leaves system.now (accepts system.now message.id message.origin message.code number message.conversation message.segments (lasting_in system.now kept.old)) kept.new) }
+    requires sound { AreSound system.now kept.old }
+    requires follows { Follows system.now kept.old tally.old }
+    ensures leaves { IfOk result (Leaves system.now (accepts system.now message.id message.origin message.code number message.conversation message.segments (lasting_in system.now kept.old)) kept.new) }
+    ensures follows { IfOk result (λ fine. fine ≡ true → Follows system.now kept.new tally.new) }
 {
     let origin = message.origin;
-    let plain = is_plain(system, &origin, &message.code, message.conversation);
+    let code = message.code;
+    let conversation = message.conversation;
     let fine = accept(alloc, system, kept, number, message)?;
     if !fine {
         return Ok(false);
     }
+    let known = is_known(system, kept, &origin, &code, conversation);
+    tally.add(&origin, conversation, known)?;
     let pads = has_pad_at(system, kept, &origin);
-    is_sound(alloc, system, kept, is_small(number), pads, plain)
+    let right = tally.is_right(false, &None);
+    Ok(is_sound(system, kept, is_small(number), pads, right))
 }
 
 fn replay_acknowledged(
-    alloc: Global,
     system: &System,
     kept: &mut Kept,
+    tally: &Tally,
     terminal: &Name,
     number: u64,
 ) -> Result<bool, Memory>
-    requires { AreSound system.now kept.old }
-    ensures { IfOk result (Leaves system.now (acknowledges terminal.now number (lasting_in system.now kept.old)) kept.new) }
+    requires sound { AreSound system.now kept.old }
+    requires follows { Follows system.now kept.old tally.now }
+    ensures leaves { IfOk result (Leaves system.now (acknowledges terminal.now number (lasting_in system.now kept.old)) kept.new) }
+    ensures follows { IfOk result (λ fine. fine ≡ true → Follows system.now kept.new tally.now) }
 {
     let fine = acknowledge(kept, terminal, number);
     if !fine {
         return Ok(false);
     }
-    is_sound(alloc, system, kept, true, true, true)
+    Ok(is_sound(system, kept, true, true, true))
 }
 
 fn replay_command(
-    alloc: Global,
     system: &System,
     kept: &mut Kept,
+    tally: &Tally,
     text: &[u8],
 ) -> Result<bool, Memory>
-    requires { AreSound system.now kept.old }
-    ensures { IfOk result (Leaves system.now (commands text.now (lasting_in system.now kept.old)) kept.new) }
+    requires sound { AreSound system.now kept.old }
+    requires follows { Follows system.now kept.old tally.now }
+    ensures leaves { IfOk result (Leaves system.now (commands text.now (lasting_in system.now kept.old)) kept.new) }
+    ensures follows { IfOk result (λ fine. fine ≡ true → Follows system.now kept.new tally.now) }
 {
     match LastingCommand::read(text) {
-        Some(spelled) => do_spelled(alloc, system, kept, &spelled),
+        Some(spelled) => Ok(do_spelled(system, kept, tally, &spelled)),
         None => Ok(false),
     }
 }
 
-fn do_spelled(
-    alloc: Global,
-    system: &System,
-    kept: &mut Kept,
-    spelled: &LastingCommand,
-) -> Result<bool, Memory>
-    requires { AreSound system.now kept.old }
-    ensures { IfOk result (Leaves system.now (Some (applied (Commands spelled.now) (lasting_in system.now kept.old))) kept.new) }
+fn do_spelled(system: &System, kept: &mut Kept, tally: &Tally, spelled: &LastingCommand) -> bool
+    requires sound { AreSound system.now kept.old }
+    requires follows { Follows system.now kept.old tally.now }
+    ensures leaves { Leaves system.now (Some (applied (Commands spelled.now) (lasting_in system.now kept.old))) kept.new result }
+    ensures follows { result ≡ true → Follows system.now kept.new tally.now }
 {
-    let plain = ends_none(spelled);
+    let ended = ended_by(spelled);
     command(kept, spelled);
-    is_sound(alloc, system, kept, true, true, plain)
+    let right = tally.is_right(true, &ended);
+    is_sound(system, kept, true, true, right)
 }
 
 fn replay_discarded(
     alloc: Global,
     system: &System,
     kept: &mut Kept,
+    tally: &mut Tally,
     id: u64,
     abend: AbendCode,
     number: u64,
 ) -> Result<bool, Memory>
-    requires { AreSound system.now kept.old }
-    ensures { IfOk result (Leaves system.now (discards id abend number (lasting_in system.now kept.old)) kept.new) }
+    requires sound { AreSound system.now kept.old }
+    requires follows { Follows system.now kept.old tally.old }
+    ensures leaves { IfOk result (Leaves system.now (discards id abend number (lasting_in system.now kept.old)) kept.new) }
+    ensures follows { IfOk result (λ fine. fine ≡ true → Follows system.now kept.new tally.new) }
 {
-    let plain = ends_plainly(kept, id);
+    let Some(message) = found(kept, id) else {
+        return Ok(false);
+    };
+    count_discarded(system, kept, tally, message)?;
+    let ends = message.conversation;
+    let origin = Some(message.origin);
     let fine = discard(alloc, kept, id, abend, number)?;
     if !fine {
         return Ok(false);
     }
-    is_sound(alloc, system, kept, true, true, plain)
+    let right = tally.is_right(ends, &origin);
+    Ok(is_sound(system, kept, true, true, right))
 }
 
 fn replay_sync_point(
-    alloc: Global,
     system: &System,
     kept: &mut Kept,
+    tally: &mut Tally,
     records: UnitRecords,
     pad: PadChange,
 ) -> Result<bool, Memory>
-    requires { AreSound system.now kept.old }
-    ensures { IfOk result (Leaves system.now (syncs pad records (lasting_in system.now kept.old)) kept.new) }
+    requires sound { AreSound system.now kept.old }
+    requires follows { Follows system.now kept.old tally.old }
+    ensures leaves { IfOk result (Leaves system.now (syncs pad records (lasting_in system.now kept.old)) kept.new) }
+    ensures follows { IfOk result (λ fine. fine ≡ true → Follows system.now kept.new tally.new) }
 {
     let origin = origin_done(kept, &records);
-    let usual = are_usual(system, &pad, &records);
-    let fine = sync(kept, records, pad)?;
+    let ends = ends_pad(&pad);
+    let fine = sync(system, kept, tally, records, pad)?;
     if !fine {
         return Ok(false);
     }
     let pads = has_pad_of(system, kept, &origin);
-    is_sound(alloc, system, kept, true, pads, usual)
+    let right = tally.is_right(ends, &origin);
+    Ok(is_sound(system, kept, true, pads, right))
 }
 
-fn is_known(alloc: Global, system: &System, r: &Record) -> Result<bool, Memory>
+fn names_are_known(alloc: Global, system: &System, r: &Record) -> Result<bool, Memory>
     ensures { IfOk result (λ is. is ≡ is_known system.now r.now) }
 {
     match r {

@@ -4,16 +4,19 @@ ghost use Rattle.std.specs.List.{list_all};
 ghost use Rattle.std.specs.Option.{is_some, option_copied, option_map};
 ghost use Rattle.model_image.specs.States.{is_small};
 ghost use Rattle.model_image.specs.Replay.{completed_id};
-ghost use Rattle.model_queues.specs.Queue.{message_at};
+ghost use Rattle.model_queues.specs.Queue.{message_at, messages_of};
 ghost use Rattle.model_queues.specs.Outputs.{next_of, replies_at};
 ghost use Rattle.model_system.specs.Lists.{change_at};
 ghost use Rattle.model_machine.specs.Lasting.{with_begun, with_last};
-ghost use Rattle.record_replay.specs.Judged.{AreSmall, Does, IsOrderly, ends_plainly};
+ghost use Rattle.record_replay.specs.Judged.{AreSmall, Does, IsOrderly};
+ghost use Rattle.record_replay.specs.Tallied.{Discards, Follows, IsTold, Tells};
 ghost use Rattle.record_replay.specs.Steps.{step_accepts, step_acknowledges, step_discards, step_syncs, with_gone, with_told, with_pad_at, completed_by, first_completed, message_done};
 
 use crate::abend::abend_segments;
 use crate::doing::{add_message, add_reply, do_all, is_small_after, next_at};
+use crate::judging::is_known;
 use crate::places::{begin, begins_with, change_pad, discarded_pad, input_place, note_input};
+use crate::tally::Tally;
 use crate::waiting::UnitRecords;
 use image_records::Kept;
 use log_records::Record;
@@ -131,23 +134,37 @@ pub fn discard(
     Ok(true)
 }
 
-/// Whether the message of this id belongs to no conversation, and its origin is a terminal that is kept.
-pub fn ends_plainly(kept: &Kept, id: u64) -> bool
-    ensures { result ≡ ends_plainly id kept.now }
+/// Counts what a discarded message leaves.
+pub fn count_discarded(
+    system: &System,
+    kept: &Kept,
+    tally: &mut Tally,
+    message: &Message,
+) -> Result<(), Memory>
+    ensures { OnOk result (Discards system.now kept.now message.now tally.old tally.new) }
 {
-    match found(kept, id) {
-        Some(message) => is_plainly_told(kept, message),
-        None => false,
+    tally.remove(&message.origin, message.conversation, true)?;
+    let told = has_terminal(&kept.outputs, &message.origin);
+    count_told(system, kept, tally, &message.origin, told)
+}
+
+fn count_told(
+    system: &System,
+    kept: &Kept,
+    tally: &mut Tally,
+    origin: &Name,
+    told: bool,
+) -> Result<(), Memory>
+    ensures { OnOk result (IsTold system.now kept.now origin.now told tally.old tally.new) }
+{
+    if told {
+        return Ok(());
     }
+    let known = is_known(system, kept, origin, origin, false);
+    tally.add(origin, false, known)
 }
 
-fn is_plainly_told(kept: &Kept, message: &Message) -> bool
-    ensures { result ≡ (not message.now.conversation && is_some (replies_at message.now.origin kept.now.outputs)) }
-{
-    !message.conversation && has_terminal(&kept.outputs, &message.origin)
-}
-
-fn found(kept: &Kept, id: u64) -> Option<&Message>
+pub fn found(kept: &Kept, id: u64) -> Option<&Message>
     ensures { option_copied result ≡ message_at id kept.now.queues.queued }
 {
     kept.queues.find(id)
@@ -214,15 +231,23 @@ fn has_terminal(outputs: &Outputs, name: &Name) -> bool
 }
 
 /// A unit reaches its sync point: its records are done, and this becomes of the pad of the message that they complete.
-pub fn sync(kept: &mut Kept, records: UnitRecords, pad: PadChange) -> Result<bool, Memory>
+pub fn sync(
+    system: &System,
+    kept: &mut Kept,
+    tally: &mut Tally,
+    records: UnitRecords,
+    pad: PadChange,
+) -> Result<bool, Memory>
     requires orderly { IsOrderly kept.old }
     requires steps { kept.old.steps < 2 ^ 62 }
+    requires follows { Follows system.now kept.old tally.old }
     ensures done { IfOk result (Does (step_syncs pad records kept.old) kept.new) }
     ensures small { OnOk result (AreSmall kept.new) }
+    ensures tells { IfOk result (λ fine. fine ≡ true → Tells system.now kept.old.conversations (messages_of kept.new.queues.queued) tally.new) }
 {
     let origin = origin_done(kept, &records);
     let steps = steps_after(kept);
-    let fine = do_all(kept, records)?;
+    let fine = do_all(system, kept, tally, records)?;
     if !fine {
         return Ok(false);
     }

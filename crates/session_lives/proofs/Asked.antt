@@ -21,12 +21,13 @@ use Rattle.model_machine.specs.History.{May, AddsNothing, AddsEntry, is_fault, c
 use Rattle.model_session.specs.declared.asked.Asked.TheVariants.{Call, PowerIn}
 use Rattle.model_session.specs.Text.{entry_text, command_text, armed_text}
 use Rattle.control_life.specs.Faults.{fault_in}
-use Rattle.tm_control.specs.OnDisk.{ControlOnDisk}
-use Rattle.tm_control.specs.Calls.{StaysSo, AddsBy, AddedNothing, Answered as IsAnswered}
+use Rattle.model_machine.specs.declared.counts.Counter.{Counter}
+use Rattle.tm_control.specs.OnDisk.{ControlOnDisk, spent_now}
+use Rattle.tm_control.specs.Calls.{StaysSo, AddsBy, AddedNothing, SpentBy, StaysSpent, Answered as IsAnswered}
 use Rattle.session_lives.specs.declared.called.Called.{Called}
 use Rattle.session_lives.specs.declared.called.Called.TheVariants.{Answered, Power, Broke, Memory, Spent}
 use Rattle.model_session.specs.Lives.{ends_life}
-use Rattle.session_lives.specs.Asking.{called_by, IsAsked}
+use Rattle.session_lives.specs.Asking.{called_by, IsSpentUp, IsAsked}
 
 -- an entry with a fault
 pub fault_is : (entry : Entry) (fault : ControlFault) → fault_in entry ≡ Some fault → is_fault entry ≡ true
@@ -56,36 +57,62 @@ fault_is (Checked freeze (Err (CheckpointFault met))) fault e = refl
 fault_is (Checked freeze (Ok number)) fault e = cc
 fault_is (Checked freeze (Err (BusyRegion region id))) fault e = cc
 
+-- ---- counters
+
+module _ {D : Type 0} (old new : ControlOnDisk D) where
+  spent_of : (counter : Counter) (was : Option Counter) → spent_now old ≡ was → SpentBy was (Some (SpentCounter counter)) → IsSpentUp old
+  spent_of counter (Some other) is by = record { counter = other; spent = is }
+  spent_of counter None is by = absurd (by counter refl)
+
+  -- a call told of a counter that is spent
+  pub spent_up : (counter : Counter) → SpentBy (spent_now old) (Some (SpentCounter counter)) → StaysSpent (Some (SpentCounter counter)) old new → IsSpentUp new
+  spent_up counter by same = subst (λ (c : ControlOnDisk D). IsSpentUp c) (sym same) (spent_of counter (spent_now old) refl by)
+
+-- ---- calls
+
 module _ {D : Type 0} (state : D → DiskState) where
   asked_of_fault : (fault : Option ControlFault) (entry : Entry) (old new : ControlOnDisk D) (text : List ℕ) → ends_life entry ≡ false → fault_in entry ≡ fault
+      → SpentBy (spent_now old) fault → StaysSpent fault old new
       → AddsBy state fault old new entry → text ≡ entry_text old.control.system (now_of old.control) entry → IsAsked state (Call (call_of entry)) old new text (called_by fault)
-  asked_of_fault None entry old new text on is adds printed = record { entry = entry; asked = refl; answered = adds; goes_on = on; printed = printed }
-  asked_of_fault (Some Disk) entry old new text on is adds printed = record { entry = entry; asked = refl; fault = fault_is entry Disk is; broke = adds }
-  asked_of_fault (Some NoMemory) entry old new text on is adds printed = adds
-  asked_of_fault (Some (SpentCounter counter)) entry old new text on is adds printed = adds
+  asked_of_fault None entry old new text on is spent same adds printed = record { entry = entry; asked = refl; answered = adds; goes_on = on; printed = printed }
+  asked_of_fault (Some Disk) entry old new text on is spent same adds printed = record { entry = entry; asked = refl; fault = fault_is entry Disk is; broke = adds }
+  asked_of_fault (Some NoMemory) entry old new text on is spent same adds printed = adds
+  asked_of_fault (Some (SpentCounter counter)) entry old new text on is spent same adds printed = (adds, spent_up old new counter spent same)
 
   -- a call that was made and ends no life, with what is printed where it was answered
   pub asked_call : (entry : Entry) (old new : ControlOnDisk D) (text : List ℕ) (called : Called) → ends_life entry ≡ false → called ≡ called_by (fault_in entry)
+      → SpentBy (spent_now old) (fault_in entry) → StaysSpent (fault_in entry) old new
       → AddsBy state (fault_in entry) old new entry → text ≡ entry_text old.control.system (now_of old.control) entry → IsAsked state (Call (call_of entry)) old new text called
-  asked_call entry old new text called on is adds printed =
-      subst (λ c. IsAsked state (Call (call_of entry)) old new text c) (sym is) (asked_of_fault (fault_in entry) entry old new text on refl adds printed)
+  asked_call entry old new text called on is spent same adds printed =
+      subst (λ c. IsAsked state (Call (call_of entry)) old new text c) (sym is) (asked_of_fault (fault_in entry) entry old new text on refl spent same adds printed)
+
+  -- a call that met a fault
+  pub asked_fault : (fault : ControlFault) (entry : Entry) (old new : ControlOnDisk D) (text : List ℕ) (called : Called) → ends_life entry ≡ false → fault_in entry ≡ Some fault
+      → called ≡ called_by (Some fault) → SpentBy (spent_now old) (Some fault) → StaysSpent (Some fault) old new → AddsBy state (Some fault) old new entry
+      → IsAsked state (Call (call_of entry)) old new text called
+  asked_fault Disk entry old new text called on is how spent same adds =
+      subst (λ c. IsAsked state (Call (call_of entry)) old new text c) (sym how) (record { entry = entry; asked = refl; fault = fault_is entry Disk is; broke = adds })
+  asked_fault NoMemory entry old new text called on is how spent same adds = subst (λ c. IsAsked state (Call (call_of entry)) old new text c) (sym how) adds
+  asked_fault (SpentCounter counter) entry old new text called on is how spent same adds =
+      subst (λ c. IsAsked state (Call (call_of entry)) old new text c) (sym how) (adds, spent_up old new counter spent same)
 
   asked_ahead : (fault : Option ControlFault) (entry : Entry) (old new : ControlOnDisk D) (text : List ℕ) → ends_life entry ≡ false → fault_in entry ≡ fault
+      → SpentBy (spent_now old) fault → StaysSpent fault old new
       → AddsBy state fault old new entry → (May old.control.system (now_of old.control) entry → text ≡ entry_text old.control.system (now_of old.control) entry)
       → IsAsked state (Call (call_of entry)) old new text (called_by fault)
-  asked_ahead None entry old new text on is adds printed = record { entry = entry; asked = refl; answered = adds; goes_on = on; printed = printed adds.adds.may }
-  asked_ahead (Some Disk) entry old new text on is adds printed = record { entry = entry; asked = refl; fault = fault_is entry Disk is; broke = adds }
-  asked_ahead (Some NoMemory) entry old new text on is adds printed = adds
-  asked_ahead (Some (SpentCounter counter)) entry old new text on is adds printed = adds
+  asked_ahead None entry old new text on is spent same adds printed = record { entry = entry; asked = refl; answered = adds; goes_on = on; printed = printed adds.adds.may }
+  asked_ahead (Some Disk) entry old new text on is spent same adds printed = record { entry = entry; asked = refl; fault = fault_is entry Disk is; broke = adds }
+  asked_ahead (Some NoMemory) entry old new text on is spent same adds printed = adds
+  asked_ahead (Some (SpentCounter counter)) entry old new text on is spent same adds printed = (adds, spent_up old new counter spent same)
 
   -- a command whose text was made before, by the answer at its place
   pub asked_command : (command : Command) (answer : Result Answer CommandRefused) (old new : ControlOnDisk D) (text : List ℕ) (called : Called)
-      → called ≡ called_by (fault_in (Commanded command answer)) → AddsBy state (fault_in (Commanded command answer)) old new (Commanded command answer)
+      → called ≡ called_by (fault_in (Commanded command answer)) → SpentBy (spent_now old) (fault_in (Commanded command answer)) → StaysSpent (fault_in (Commanded command answer)) old new → AddsBy state (fault_in (Commanded command answer)) old new (Commanded command answer)
       → text ≡ command_text (command_answer old.control.system (now_of old.control) command) → IsAsked state (Call (CommandCall command)) old new text called
-  asked_command command answer old new text called is adds printed =
+  asked_command command answer old new text called is spent same adds printed =
       let entry : Entry = Commanded command answer in
       subst (λ c. IsAsked state (Call (call_of entry)) old new text c) (sym is)
-      (asked_ahead (fault_in entry) entry old new text refl refl adds (λ may. printed ∙ sym (ap (entry_text old.control.system (now_of old.control)) may.answer)))
+      (asked_ahead (fault_in entry) entry old new text refl refl spent same adds (λ may. printed ∙ sym (ap (entry_text old.control.system (now_of old.control)) may.answer)))
 
   -- what stays over two calls
   pub stays_so : (a : ControlOnDisk D) → StaysSo state a a

@@ -43,17 +43,17 @@ module _ {D : Type 0} (state : D → DiskState) (block : Block) (text : List ℕ
   pub block_up : (control : ControlOnDisk D) (kept : Kept) (session : Session D) (asked : Asked) (served : Served) → asked ≡ asked_of control.control.system block
       → Leads state (λ setting old new. IsServedSo asked text served setting old new) (session_up control kept) session
       → Leads state (λ setting old new. IsServedSo (asked_of setting.system block) text served setting old new) (session_up control kept) session
-  block_up control kept session asked served is leads = λ system handed sound.
-      let led : LeadsBy state (λ setting old new. IsServedSo (asked_of system block) text served setting old new) system handed (session_up control kept) session =
-      subst (λ (a : Asked). LeadsBy state (λ setting old new. IsServedSo a text served setting old new) system handed (session_up control kept) session)
-      (is ∙ ap (λ s. asked_of s block) sound.system_is) (leads system handed sound) in
+  block_up control kept session asked served is leads = λ system source handed sound.
+      let led : LeadsBy state (λ setting old new. IsServedSo (asked_of system block) text served setting old new) system source handed (session_up control kept) session =
+      subst (λ (a : Asked). LeadsBy state (λ setting old new. IsServedSo a text served setting old new) system source handed (session_up control kept) session)
+      (is ∙ ap (λ s. asked_of s block) sound.system_is) (leads system source handed sound) in
       record { goes = led.goes; sound = led.sound }
 
   pub block_down : (idle : Idle D) (kept : Kept) (session : Session D) (asked : Asked) (served : Served) → asked ≡ asked_of idle.system block
       → Leads state (λ setting old new. IsServedSo asked text served setting old new) (session_down idle kept) session
       → Leads state (λ setting old new. IsServedSo (asked_of setting.system block) text served setting old new) (session_down idle kept) session
-  block_down idle kept session asked served is leads = λ system handed sound.
-      let led : LeadsBy state (λ setting old new. IsServedSo (asked_of system block) text served setting old new) system handed (session_down idle kept) session =
-      subst (λ (a : Asked). LeadsBy state (λ setting old new. IsServedSo a text served setting old new) system handed (session_down idle kept) session)
-      (is ∙ ap (λ s. asked_of s block) sound.system_is) (leads system handed sound) in
+  block_down idle kept session asked served is leads = λ system source handed sound.
+      let led : LeadsBy state (λ setting old new. IsServedSo (asked_of system block) text served setting old new) system source handed (session_down idle kept) session =
+      subst (λ (a : Asked). LeadsBy state (λ setting old new. IsServedSo a text served setting old new) system source handed (session_down idle kept) session)
+      (is ∙ ap (λ s. asked_of s block) sound.system_is) (leads system source handed sound) in
       record { goes = led.goes; sound = led.sound }

@@ -11,6 +11,8 @@ use Rattle.model_machine.specs.declared.entry.ControlFault.TheVariants.{Disk}
 use Rattle.model_machine.specs.Machine.{LastingState, start_of}
 use Rattle.model_machine.specs.History.{is_fault, moment_after, now_of}
 use Rattle.model_image.specs.Recovered.{Recovers}
+use Rattle.checkpointing.specs.Texts.{HasText}
+use Rattle.cold_start.specs.FirstImage.{sectors_needed}
 use Rattle.disk_law.specs.Kept.{RecoversEither}
 use Rattle.model_session.specs.Lives.{LifeState, LastLife, AreLegal, HasAnswered, Leaves, longer}
 use Rattle.model_session.specs.Standing.{Setting, Standing, Outage, SessionState, Stop, AreStops, LastAnswered, IsLeft, gone_on, ended, broken}
@@ -129,27 +131,27 @@ pub answered_of : (s s' : System) (o o' : LastingState) (h h' : List Entry) (cou
 answered_of s s' o o' h h' count a b c answered =
     subst (λ h. HasAnswered s' (life_with o' h) count) c (subst (λ o. HasAnswered s' (life_with o h) count) b (subst (λ s. HasAnswered s (life_with o h) count) a answered))
 
-module _ {D : Type 0} (state : D → DiskState) (system : System) (handed : D) (c : ControlOnDisk D) (system_is : c.control.system ≡ system) where
+module _ {D : Type 0} (state : D → DiskState) (system : System) (source : List ℕ) (handed : D) (c : ControlOnDisk D) (system_is : c.control.system ≡ system) where
   -- what the disk holds of it
   recalls : (outage : Outage) (image : Image) (lasting : LastingState) → Recovers c.control.system image (Ok lasting) → Leaves system (last_up c) (lasting.steps - c.control.opening.steps) lasting
-      → outage.last ≡ Some (last_up c) → Holds state system handed (StandsDown outage) image
+      → outage.last ≡ Some (last_up c) → Holds state system source handed (StandsDown outage) image
   recalls outage image lasting recovers leaves last = inl (record {
     state = lasting;
     recovers = subst (λ s. Recovers s image (Ok lasting)) system_is recovers;
-    may = (lasting.steps - c.control.opening.steps, inl (subst (λ l. IsLeft (setting_of state system handed) l (lasting.steps - c.control.opening.steps) lasting) (sym last) leaves));
+    may = (lasting.steps - c.control.opening.steps, inl (subst (λ l. IsLeft (setting_of state system source handed) l (lasting.steps - c.control.opening.steps) lasting) (sym last) leaves));
   })
 
   lasting_in : (entries : List Entry) → lasting_after c.control.system c.control.opening entries ≡ lasting_after system c.control.opening entries
   lasting_in entries = ap (λ s. lasting_after s c.control.opening entries) system_is
 
   up_images : (outage : Outage) (image : Image) → LastsBy true c.control c.text (state c.disk) → (state c.disk).may_leave image → outage.last ≡ Some (last_up c)
-      → Holds state system handed (StandsDown outage) image
+      → Holds state system source handed (StandsDown outage) image
   up_images outage image lasts left last =
       recalls outage image (now_of c.control).lasting (lasts.images image left) (leaves_all system (last_up c) (now_of c.control).lasting (lasting_in c.control.history)) last
 
   down_either : (outage : Outage) (image : Image) (before : List Entry) (entry : Entry) → c.control.history ≡ before ++ entry ∷ [] → is_fault entry ≡ true
       → RecoversEither c.control.system (lasting_after c.control.system c.control.opening before) (lasting_after c.control.system c.control.opening c.control.history) image
-      → outage.last ≡ Some (last_up c) → Holds state system handed (StandsDown outage) image
+      → outage.last ≡ Some (last_up c) → Holds state system source handed (StandsDown outage) image
   down_either outage image before entry all fault (inl one) last =
       recalls outage image (lasting_after c.control.system c.control.opening before) one
       (leaves_before system (last_up c) (lasting_after c.control.system c.control.opening before) before entry all fault (lasting_in before)) last
@@ -158,24 +160,34 @@ module _ {D : Type 0} (state : D → DiskState) (system : System) (handed : D) (
       (leaves_all system (last_up c) (lasting_after c.control.system c.control.opening c.control.history) (lasting_in c.control.history)) last
 
   down_images : (outage : Outage) (image : Image) → LastsBy false c.control c.text (state c.disk) → (state c.disk).may_leave image → outage.last ≡ Some (last_up c)
-      → Holds state system handed (StandsDown outage) image
+      → Holds state system source handed (StandsDown outage) image
   down_images outage image lasts left last = down_either outage image lasts.before lasts.entry lasts.all (fault_is lasts.entry Disk lasts.fault) (lasts.images image left) last
 
   images_by : (up : Bool) (outage : Outage) (image : Image) → LastsBy up c.control c.text (state c.disk) → (state c.disk).may_leave image → outage.last ≡ Some (last_up c)
-      → Holds state system handed (StandsDown outage) image
+      → Holds state system source handed (StandsDown outage) image
   images_by true outage image lasts left last = up_images outage image lasts left last
   images_by false outage image lasts left last = down_images outage image lasts left last
 
+  texts_by : (up : Bool) (image : Image) → LastsBy up c.control c.text (state c.disk) → (state c.disk).may_leave image → HasText c.control.system c.text image
+  texts_by true image lasts left = lasts.texts image left
+  texts_by false image lasts left = lasts.texts image left
+
   -- a life that has ended leaves all sound
-  pub down_sound : Only (state handed).shown (state handed) → (old new : Kept) (stopped : Bool) (idle : Idle D) → GoesDown state c old new stopped idle → Stays (state handed) (state c.disk)
-      → AreLegal system (map life_of old.lives.items) → AreStops (state handed).faults new.stops.items (state c.disk).faults → IsDownSound state system handed idle new
-  down_sound alone old new stopped idle down stays legal stops =
+  pub down_sound : Only (state handed).shown (state handed) → c.text ≡ source → sectors_needed system ≤ (state handed).size → (old new : Kept) (stopped : Bool) (idle : Idle D)
+      → GoesDown state c old new stopped idle → Stays (state handed) (state c.disk)
+      → AreLegal system (map life_of old.lives.items) → AreStops (state handed).faults new.stops.items (state c.disk).faults → IsDownSound state system source handed idle new
+  down_sound alone text_is size old new stopped idle down stays legal stops =
       let disk : Stays (state handed) (state down.disk) = subst (λ d. Stays (state handed) (state d)) (sym down.closes.disk_is) stays in
       let faults : (state idle.disk).faults ≡ (state c.disk).faults = down.laid.faults ∙ ap (λ d. (state d).faults) down.closes.disk_is in
       let outage : outage_of idle ≡ outage_with (Some (last_up c)) false stopped = outage_is state c old new stopped idle (last_up c) down refl refl in
       record {
         handed_alone = alone;
         system_is = down.closes.system_is ∙ system_is;
+        text_is = down.closes.text_is ∙ text_is;
+        size = λ begun. size;
+        texts = λ image left.
+            inl (subst (λ (t : List ℕ). HasText system t image) text_is (subst (λ (s : System). HasText s c.text image) system_is
+            (texts_by c.up image down.lasts (subst (λ d. (state d).may_leave image) down.closes.disk_is (down.laid.no_more image left)))));
         stays = stays_on (state handed) (state down.disk) (state idle.disk) disk down.laid.stays;
         stops = subst (λ n. AreStops (state handed).faults new.stops.items n) (sym faults) stops;
         legal = subst (λ l. AreLegal system l) (sym (same_kept old new down.lives)) legal;

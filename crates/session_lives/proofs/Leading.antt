@@ -7,16 +7,16 @@ use Rattle.session_lives.specs.Running.{Course, Leads, LeadsBy}
 
 module _ {D : Type 0} (state : D → DiskState) where
   pub leads_same : (P : Course) (a : Session D) → ((setting : Setting) (x : SessionState) → P setting x x) → Leads state P a a
-  leads_same P a goes = λ system handed sound. record { goes = goes _ _; sound = sound }
+  leads_same P a goes = λ system source handed sound. record { goes = goes _ _; sound = sound }
 
   pub leads_map : (P Q : Course) (a b : Session D) → ((setting : Setting) (x y : SessionState) → P setting x y → Q setting x y) → Leads state P a b → Leads state Q a b
-  leads_map P Q a b goes one = λ system handed sound.
-      let led : LeadsBy state P system handed a b = one system handed sound in
+  leads_map P Q a b goes one = λ system source handed sound.
+      let led : LeadsBy state P system source handed a b = one system source handed sound in
       record { goes = goes _ _ _ led.goes; sound = led.sound }
 
   pub leads_then : (P Q R : Course) (a b c : Session D) → ((setting : Setting) (x y z : SessionState) → P setting x y → Q setting y z → R setting x z)
       → Leads state P a b → Leads state Q b c → Leads state R a c
-  leads_then P Q R a b c goes one two = λ system handed sound.
-      let first : LeadsBy state P system handed a b = one system handed sound in
-      let second : LeadsBy state Q system handed b c = two system handed first.sound in
+  leads_then P Q R a b c goes one two = λ system source handed sound.
+      let first : LeadsBy state P system source handed a b = one system source handed sound in
+      let second : LeadsBy state Q system source handed b c = two system source handed first.sound in
       record { goes = goes _ _ _ _ first.goes second.goes; sound = second.sound }

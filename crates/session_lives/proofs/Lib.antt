@@ -7,3 +7,5 @@ pub mod Leading
 pub mod Refusals
 pub mod Restarted
 pub mod Serving
+pub mod Remaining
+pub mod Valid

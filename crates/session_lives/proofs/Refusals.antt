@@ -65,7 +65,7 @@ module _ {D : Type 0} (state : D → DiskState) (idle : Idle D) (old kept : Kept
   gone_by (BadImage rule sector) handed refused = (idles handed.system_is handed.text_is handed.cause refused, handed.refuses)
   gone_by (WrongDefinition place) handed refused = (idles handed.system_is handed.text_is handed.cause refused, handed.refuses)
   gone_by (TooSmall needed has) handed refused = (idles handed.system_is handed.text_is handed.cause refused, handed.refuses)
-  gone_by (Spent counter) handed refused = idles handed.system_is handed.text_is handed.cause refused
+  gone_by (Spent counter) handed refused = (idles handed.system_is handed.text_is handed.cause refused, record { counter = counter; refuses = handed.refuses })
   gone_by Memory handed refused = idles handed.system_is handed.text_is handed.cause refused
 
   pub refused_gone : (error : OpenError) (opening : Opening) → HandsBack state (how_of cold) idle.system idle.text idle.disk error disk system text

@@ -1,11 +1,11 @@
 -- A system that was down, and what a restart comes to.
-use Rattle.std.proofs.Common.{◌≡◌, ◌⊎◌, ℕ, ◌+◌, ◌-◌, ◌≤◌, Bool, true, false, List, [], ◌∷◌, ◌++◌, map, sym, ◌∙◌, ap, subst, refl, arith, inl, inr, ⊎_elim}
+use Rattle.std.proofs.Common.{◌≡◌, ◌⊎◌, ℕ, suc, ◌+◌, ◌-◌, ◌≤◌, Bool, true, false, List, [], ◌∷◌, ◌++◌, map, sym, ◌∙◌, ap, subst, refl, arith, inl, inr, ⊎_elim}
 use Rattle.std.proofs.lemmas.List.{map-append}
-use Rattle.std.proofs.lemmas.Bool.{cases_Bool}
-use Rattle.std.specs.Prelude.{Option, Some, None, Result, Ok, Err, IsTrue}
+use Rattle.std.proofs.lemmas.Bool.{cases_Bool, eq-eqb}
+use Rattle.std.specs.Prelude.{◌==◌, if◌then◌else◌, Option, Some, None, Result, Ok, Err, IsTrue}
 use Rattle.std.specs.Option.{option_map, is_some}
 use Rattle.model_disk.specs.Disk.{Image, DiskState, IsDisk, Stays, ComesFrom, Within, Only, Rose}
-use Rattle.model_disk.proofs.Words.{stays_on, within_each}
+use Rattle.model_disk.proofs.Words.{stays_on, within_each, leaves_none}
 use Rattle.model_system.specs.System.{System}
 use Rattle.model_machine.specs.Machine.{LastingState, empty_state}
 use Rattle.model_image.specs.Alike.{RecoversAlike}
@@ -18,12 +18,21 @@ use Rattle.model_session.specs.declared.asked.Asked.{Asked}
 use Rattle.model_session.specs.declared.asked.Asked.TheVariants.{Bad, BadCommand, Stopped, Call, Quiet, Power, PowerIn, Restart, ColdStart}
 use Rattle.model_session.specs.Text.{broken_text, opened_text, image_text, down_text}
 use Rattle.model_session.specs.Lives.{LifeState, LastLife, AreLegal, Leaves, with_life}
-use Rattle.model_session.specs.Standing.{Setting, Standing, Outage, SessionState, Stop, AreStops, MayBeFound, MayHold, LastAnswered, IsLeft, HasNoLife, or_cold, opened, failed}
+use Rattle.model_session.specs.Standing.{Setting, Standing, Outage, SessionState, Stop, AreStops, MayBeFound, MayHold, LastAnswered, IsLeft, or_cold, opened, failed}
 use Rattle.model_session.specs.Standing.Standing.{Up as StandsUp, Down as StandsDown}
 use Rattle.model_session.specs.Session.{MayOpen, MayRefuse, IsRestarted, Opens as OpensLife, FailsToOpen}
-use Rattle.cold_start.specs.FirstImage.{KeepsOrEmpties}
+use Rattle.restart_data.specs.Restart.{restart_in}
+use Rattle.model_machine.specs.declared.counts.Counter.{Counter}
+use Rattle.model_image.specs.Areas.{snapshot_area}
+use Rattle.model_image.specs.Counters.{next_sequence}
+use Rattle.model_image.specs.Text.{text_in, first_difference}
+use Rattle.cold_start.specs.FirstImage.{sectors_needed}
+use Rattle.checkpointing.specs.Texts.{HasText}
+use Rattle.opening_answers.specs.declared.refusals.OpenError.{OpenError}
+use Rattle.opening_answers.specs.declared.refusals.OpenError.TheVariants.{Spent as SpentCounter}
 use Rattle.opening_parts.specs.Parts.{OpeningParts}
-use Rattle.opening_answers.specs.Opening.{TellsOpening}
+use Rattle.opening_answers.specs.Opening.{TellsOpening, SizeFirst, IsOther, IsSpent}
+use Rattle.disk_law.specs.Journal.{JournalState}
 use Rattle.control_life.specs.Opened.{KeepsBy, Begins, Refuses}
 use Rattle.tm_control.specs.OnDisk.{ControlOnDisk}
 use Rattle.tm_control.specs.Closed.{Opens}
@@ -32,13 +41,13 @@ use Rattle.session_lives.specs.declared.called.Opening.{Opening}
 use Rattle.session_lives.specs.declared.called.Opening.TheVariants.{Opened, Broke as OpeningBroke, Refused, Memory as OpeningMemory, Spent as OpeningSpent}
 use Rattle.session_lives.specs.declared.called.Served.{Served}
 use Rattle.session_lives.specs.declared.called.Served.TheVariants.{Printed, Broke, Undone as NotServed}
-use Rattle.session_lives.specs.declared.called.Undone.TheVariants.{Memory as NoMemory, Spent as SpentCounter, Image as BadImage}
+use Rattle.session_lives.specs.declared.called.Undone.TheVariants.{Memory as NoMemory, Spent as NoCounter, Image as BadImage}
 use Rattle.session_lives.specs.declared.place.Idle.{Idle}
 use Rattle.session_lives.specs.declared.place.Place.TheVariants.{Up, Down}
 use Rattle.session_lives.specs.declared.place.Kept.{Kept}
 use Rattle.session_lives.specs.declared.place.Session.{Session}
-use Rattle.session_lives.specs.Running.{life_of, last_of, last_up, kept_of, outage_of, session_at, session_of, session_down, setting_of, LeadsBy, IsFoundAs, Recalls, IsUnopened, Holds, IsUpSound, IsDownSound, IsSound, IsSoundAt}
-use Rattle.session_lives.specs.Openings.{how_of, kept_by, with_last, HasOpened, StaysIdle, HasFailed, HasGone, IsToldSo, IsRefusalTold, IsRestartedSo, UndoneBy, IsServedSo, restart_of, error_of}
+use Rattle.session_lives.specs.Running.{life_of, last_of, last_up, kept_of, outage_of, session_at, session_of, session_down, setting_of, LeadsBy, IsFoundAs, IsBrokenAs, IsRefusedFirst, Recalls, IsUnopened, IsOfText, Holds, IsUpSound, IsDownSound, IsSound, IsSoundAt, error_of}
+use Rattle.session_lives.specs.Openings.{how_of, kept_by, with_last, HasOpened, StaysIdle, HasFailed, HasGone, RefusesSpent, FindsSpent, SpentBehind, IsToldSo, IsRefusalTold, IsRestartedSo, UndoneBy, IsServedSo, restart_of}
 use Rattle.session_lives.proofs.Ends.{state_with, same_state, outage_with, life_with, same_life, stops_one, rose_from}
 
 some_is : (a b : Bool) → Some b ≡ Some a → a ≡ b
@@ -50,8 +59,30 @@ SameAnswer a b = a ≡ b
 ok_is : (a b : LastingState) → SameAnswer (Ok a) (Ok b) → a ≡ b
 ok_is a b e = cc
 
-ok_or_err : (a : LastingState) (fault : Fault) → SameAnswer (Ok a) (Err fault) → ⊥
+pub ok_or_err : (a : LastingState) (fault : Fault) → SameAnswer (Ok a) (Err fault) → ⊥
 ok_or_err a fault e = cc
+
+some_last : (last : Option Life) → is_some last ≡ true → is_some (option_map last_of last) ≡ true
+some_last None is = cc
+some_last (Some life) is = refl
+
+-- ---- texts
+
+some_none : (place : ℕ) (o : Option ℕ) → o ≡ None → o ≡ Some place → ⊥
+some_none place o none some = cc
+
+first_none : (same : Bool) (rest : Option ℕ) → same ≡ true → rest ≡ None → (if same then option_map (λ n. suc n) rest else Some 0) ≡ None
+first_none true rest is none = ap (option_map (λ n. suc n)) none
+first_none false rest is none = cc
+
+no_difference_in : (text : List ℕ) → first_difference text text ≡ None
+no_difference_in [] = refl
+no_difference_in (b ∷ text) = first_none (b == b) (first_difference text text) (eq-eqb b b refl) (no_difference_in text)
+
+-- a text doesn't differ from itself
+pub no_difference : (text there : List ℕ) (place : ℕ) → there ≡ text → first_difference text there ≡ Some place → ⊥
+no_difference text there place same differs =
+    some_none place (first_difference text there) (ap (first_difference text) same ∙ no_difference_in text) differs
 
 -- ---- lives
 
@@ -76,13 +107,13 @@ legal_with system (first ∷ lives) None answered kept legal is = legal
 legal_with system [] (Some life) answered kept legal is = (is.legal, is.numbers, tt)
 legal_with system (first ∷ lives) (Some life) answered kept legal is = (legal.0, legal.1, legal_with system lives (Some life) answered kept legal.2 is)
 
-module _ {D : Type 0} (state : D → DiskState) (is_disk : (disk : D) → IsDisk (state disk)) (system : System) (handed : D) (idle : Idle D) (old : Kept) (session : Session D)
-    (sound : IsDownSound state system handed idle old) where
+module _ {D : Type 0} (state : D → DiskState) (is_disk : (disk : D) → IsDisk (state disk)) (system : System) (source : List ℕ) (handed : D) (idle : Idle D) (old : Kept) (session : Session D)
+    (sound : IsDownSound state system source handed idle old) where
   abbrev before : SessionState
   before = session_at (Down idle) old
 
   abbrev setting : Setting
-  setting = setting_of state system handed
+  setting = setting_of state system source handed
 
   abbrev outage : Outage
   outage = outage_of idle
@@ -107,7 +138,7 @@ module _ {D : Type 0} (state : D → DiskState) (is_disk : (disk : D) → IsDisk
   count_found kept opening (inl left) = inl (counted_as idle.last kept opening left)
   count_found kept opening (inr emptied) = inr emptied
 
-  found_by : (image : Image) (opening : LastingState) → Holds state system handed (StandsDown outage) image → Recovers system image (Ok opening)
+  found_by : (image : Image) (opening : LastingState) → Holds state system source handed (StandsDown outage) image → Recovers system image (Ok opening)
       → MayBeFound setting outage (count_of idle.last false opening.steps) opening
   found_by image opening (inl recalls) recovers =
       let same : opening ≡ recalls.state = ok_is opening recalls.state (one_answer_of system image (Ok opening) (Ok recalls.state) recovers recalls.recovers) in
@@ -118,7 +149,7 @@ module _ {D : Type 0} (state : D → DiskState) (is_disk : (disk : D) → IsDisk
   tells_now : setting.tells ≡ true → (state idle.disk).tells ≡ true
   tells_now tells = sound.stays.tells ∙ tells
 
-  shown_holds : setting.tells ≡ true → Holds state system handed (StandsDown outage) (state idle.disk).shown
+  shown_holds : setting.tells ≡ true → Holds state system source handed (StandsDown outage) (state idle.disk).shown
   shown_holds tells = sound.images (state idle.disk).shown ((is_disk idle.disk).shown_left (tells_now tells))
 
   -- what the disk tells when it was opened
@@ -127,12 +158,12 @@ module _ {D : Type 0} (state : D → DiskState) (is_disk : (disk : D) → IsDisk
   told_state parts opening text (inr cold) =
       subst (λ s. Recovers idle.system (state idle.disk).shown (Ok s)) (sym cold.begun.empty) (zeros_are_empty idle.system (state idle.disk).shown cold.zeros)
 
-  may_open : (cold : Bool) (opening : LastingState) → Begins (how_of cold) idle.system idle.text (state idle.disk) opening → setting.tells ≡ true
+  may_open : (cold : Bool) (opening : LastingState) (journal : JournalState) (next : ℕ) → Begins (how_of cold) idle.system idle.text (state idle.disk) opening journal.restart journal.log next → setting.tells ≡ true
       → MayOpen cold setting outage (count_of idle.last cold opening.steps) opening
-  may_open false opening begins tells =
+  may_open false opening journal next begins tells =
       found_by (state idle.disk).shown opening (shown_holds tells)
       (subst (λ s. Recovers s (state idle.disk).shown (Ok opening)) sound.system_is (told_state begins.parts opening idle.text (begins.found refl (tells_now tells))))
-  may_open true opening begins tells =
+  may_open true opening journal next begins tells =
       ((begins.cold refl).empty ∙ ap empty_state sound.system_is, answered_as idle.last sound.answered)
     where
       answered_as : (last : Option Life) → LastAnswered system (option_map last_of last) (kept_of last) → LastAnswered system (option_map last_of last) (count_of last true opening.steps)
@@ -140,6 +171,9 @@ module _ {D : Type 0} (state : D → DiskState) (is_disk : (disk : D) → IsDisk
       answered_as (Some life) is = is
 
   -- ---- a life opened
+
+  sectors_there : sectors_needed idle.system ≤ (state idle.disk).size → sectors_needed system ≤ (state handed).size
+  sectors_there enough = subst (λ n. sectors_needed system ≤ n) sound.stays.size (subst (λ s. sectors_needed s ≤ (state idle.disk).size) sound.system_is enough)
 
   opened_state : (cold : Bool) (gone : HasOpened state idle old cold session) → session_of session ≡ opened before outage (count_of idle.last cold gone.control.control.opening.steps) gone.control.control.opening
   opened_state cold gone =
@@ -149,11 +183,13 @@ module _ {D : Type 0} (state : D → DiskState) (is_disk : (disk : D) → IsDisk
       (ap (map life_of) gone.lives ∙ lives_with old.lives.items idle.last cold gone.control.control.opening.steps) gone.stops
       (ap StandsUp (same_life gone.control.control.opening gone.control.control.opening [] gone.control.control.history refl gone.opens.history))
 
-  opened_sound : (cold : Bool) → HasOpened state idle old cold session → IsSound state system handed session
+  opened_sound : (cold : Bool) → HasOpened state idle old cold session → IsSound state system source handed session
   opened_sound cold gone =
-      subst (λ p. IsSoundAt state system handed p session.kept) (sym gone.place) (record {
+      subst (λ p. IsSoundAt state system source handed p session.kept) (sym gone.place) (record {
         handed_alone = sound.handed_alone;
         system_is = gone.opens.system_is ∙ sound.system_is;
+        text_is = gone.opens.text_is ∙ sound.text_is;
+        size = sectors_there gone.opens.size;
         stays = stays_on (state handed) (state idle.disk) (state gone.control.disk) sound.stays gone.opens.stays;
         stops = subst (λ n. AreStops (state handed).faults session.kept.stops.items n) (sym gone.opens.began)
             (subst (λ s. AreStops (state handed).faults s (state idle.disk).faults) (sym gone.stops) sound.stops);
@@ -177,7 +213,7 @@ module _ {D : Type 0} (state : D → DiskState) (is_disk : (disk : D) → IsDisk
       (ap (map life_of) gone.lives) gone.stops (ap StandsDown (outage_after gone.after (or_cold cold outage.emptied) true gone.last gone.emptied gone.stopped))
 
   -- what was held before is held still, where a cold start may have emptied it
-  keeps_holding : (cold : Bool) (image : Image) → Holds state system handed (StandsDown outage) image → Holds state system handed (StandsDown (outage_with outage.last (or_cold cold outage.emptied) true)) image
+  keeps_holding : (cold : Bool) (image : Image) → Holds state system source handed (StandsDown outage) image → Holds state system source handed (StandsDown (outage_with outage.last (or_cold cold outage.emptied) true)) image
   keeps_holding cold image (inl recalls) = inl (record { state = recalls.state; recovers = recalls.recovers; may = (recalls.may.0, still cold recalls.may.1) })
     where
       still : (cold : Bool) → MayBeFound setting outage recalls.may.0 recalls.state → MayBeFound setting (outage_with outage.last (or_cold cold outage.emptied) true) recalls.may.0 recalls.state
@@ -186,37 +222,65 @@ module _ {D : Type 0} (state : D → DiskState) (is_disk : (disk : D) → IsDisk
       still false (inr emptied) = inr emptied
   keeps_holding cold image (inr unopened) = inr (record { no_life = unopened.no_life; before = unopened.before; left = unopened.left; alike = unopened.alike })
 
-  alike_holds : (first image : Image) → RecoversAlike system first image → Holds state system handed (StandsDown outage) first → Holds state system handed (StandsDown outage) image
+  alike_holds : (first image : Image) → RecoversAlike system first image → Holds state system source handed (StandsDown outage) first → Holds state system source handed (StandsDown outage) image
   alike_holds first image alike (inl recalls) = inl (record { state = recalls.state; recovers = alike (Ok recalls.state) recalls.recovers; may = recalls.may })
   alike_holds first image alike (inr unopened) =
       inr (record { no_life = unopened.no_life; before = unopened.before; left = unopened.left; alike = λ answer is. alike answer (unopened.alike answer is) })
 
-  broken_by : (cold : Bool) (first image : Image) → KeepsBy (how_of cold) system first image → Holds state system handed (StandsDown outage) first
-      → Holds state system handed (StandsDown (outage_with outage.last (or_cold cold outage.emptied) true)) image
-  broken_by false first image alike holds = keeps_holding false image (alike_holds first image alike holds)
-  broken_by true first image (inl same) holds = keeps_holding true image (subst (λ i. Holds state system handed (StandsDown outage) i) (sym same) holds)
-  broken_by true first image (inr empty) holds = inl (record { state = empty_state system; recovers = empty; may = (0, inr (refl, refl)) })
+  broken_by : (cold : Bool) (first image : Image) → KeepsBy (how_of cold) system source first image → Holds state system source handed (StandsDown outage) first
+      → Holds state system source handed (StandsDown (outage_with outage.last (or_cold cold outage.emptied) true)) image
+  broken_by false first image keeps holds = keeps_holding false image (alike_holds first image keeps.alike holds)
+  broken_by true first image (inl same) holds = keeps_holding true image (subst (λ i. Holds state system source handed (StandsDown outage) i) (sym same) holds)
+  broken_by true first image (inr empty) holds = inl (record { state = empty_state system; recovers = empty.recovers; may = (0, inr (refl, refl)) })
 
-  same_image : (cold : Bool) (image : Image) → KeepsBy (how_of cold) system image image
-  same_image false image = λ answer is. is
+  same_image : (cold : Bool) (image : Image) → KeepsBy (how_of cold) system source image image
+  same_image false image = record { alike = λ answer is. is; texts = inl refl }
   same_image true image = inl refl
 
+  abbrev outage_behind : Bool → Outage
+  outage_behind cold = outage_with outage.last (or_cold cold outage.emptied) true
+
+  -- its text
+  text_same : (cold : Bool) (first image : Image) → image ≡ first → IsOfText state system source handed (StandsDown outage) first → IsOfText state system source handed (StandsDown (outage_behind cold)) image
+  text_same cold first image same (inl has) = inl (subst (λ (i : Image). HasText system source i) (sym same) has)
+  text_same cold first image same (inr there) = inr (record { no_life = there.no_life; left = subst (λ (i : Image). (state handed).may_leave i) (sym same) there.left })
+
+  text_by : (cold : Bool) (first image : Image) → KeepsBy (how_of cold) system source first image → IsOfText state system source handed (StandsDown outage) first
+      → IsOfText state system source handed (StandsDown (outage_behind cold)) image
+  text_by false first image keeps text = ⊎_elim (λ same. text_same false first image same text) (λ has. inl has) keeps.texts
+  text_by true first image (inl same) text = text_same true first image same text
+  text_by true first image (inr empty) text = inl empty.has_text
+
+  failed_from : (cold : Bool) (gone : HasFailed state idle old cold session) (image : Image) → (state gone.after.disk).may_leave image → ComesFrom (KeepsBy (how_of cold) system source) (state idle.disk) image
+  failed_from cold gone image left =
+      let moved : Within (KeepsBy (how_of cold) system idle.text) (state idle.disk) (state gone.disk) =
+      subst (λ s. Within (KeepsBy (how_of cold) s idle.text) (state idle.disk) (state gone.disk)) sound.system_is gone.back.any_moment in
+      let within : Within (KeepsBy (how_of cold) system source) (state idle.disk) (state gone.disk) =
+      subst (λ (t : List ℕ). Within (KeepsBy (how_of cold) system t) (state idle.disk) (state gone.disk)) sound.text_is moved in
+      within_each (KeepsBy (how_of cold) system source) (state idle.disk) (state gone.disk) (is_disk idle.disk) (same_image cold) within image
+      ((is_disk gone.disk).now_counts (state idle.disk).clock image within.later (gone.cut.no_more image left))
+
+  failed_texts : (cold : Bool) (gone : HasFailed state idle old cold session) (image : Image) → (state gone.after.disk).may_leave image → IsOfText state system source handed (StandsDown (outage_behind cold)) image
+  failed_texts cold gone image left =
+      let comes = failed_from cold gone image left in
+      text_by cold comes.before image comes.by (sound.texts comes.before comes.left)
+
   failed_holds : (cold : Bool) (gone : HasFailed state idle old cold session) (image : Image) → (state gone.after.disk).may_leave image
-      → Holds state system handed (StandsDown (outage_with outage.last (or_cold cold outage.emptied) true)) image
+      → Holds state system source handed (StandsDown (outage_with outage.last (or_cold cold outage.emptied) true)) image
   failed_holds cold gone image left =
-      let within : Within (KeepsBy (how_of cold) system) (state idle.disk) (state gone.disk) = subst (λ s. Within (KeepsBy (how_of cold) s) (state idle.disk) (state gone.disk)) sound.system_is gone.back.any_moment in
-      let comes : ComesFrom (KeepsBy (how_of cold) system) (state idle.disk) image =
-      within_each (KeepsBy (how_of cold) system) (state idle.disk) (state gone.disk) (is_disk idle.disk) (same_image cold) within image
-      ((is_disk gone.disk).now_counts (state idle.disk).clock image within.later (gone.cut.no_more image left)) in
+      let comes = failed_from cold gone image left in
       broken_by cold comes.before image comes.by (sound.images comes.before comes.left)
 
-  failed_sound : (cold : Bool) → HasFailed state idle old cold session → IsSound state system handed session
+  failed_sound : (cold : Bool) → HasFailed state idle old cold session → IsSound state system source handed session
   failed_sound cold gone =
       let outage_is : outage_of gone.after ≡ outage_with outage.last (or_cold cold outage.emptied) true = outage_after gone.after (or_cold cold outage.emptied) true gone.last gone.emptied gone.stopped in
       let stays : Stays (state handed) (state gone.disk) = stays_on (state handed) (state idle.disk) (state gone.disk) sound.stays gone.back.stays in
-      subst (λ p. IsSoundAt state system handed p session.kept) (sym gone.place) (record {
+      subst (λ p. IsSoundAt state system source handed p session.kept) (sym gone.place) (record {
         handed_alone = sound.handed_alone;
         system_is = gone.back.system_is ∙ sound.system_is;
+        text_is = gone.back.text_is ∙ sound.text_is;
+        size = λ begun. sound.size (ap is_some (sym gone.last) ∙ begun);
+        texts = λ image left. subst (λ o. IsOfText state system source handed (StandsDown o) image) (sym outage_is) (failed_texts cold gone image left);
         stays = stays_on (state handed) (state gone.disk) (state gone.after.disk) stays gone.cut.stays;
         stops = subst (λ n. AreStops (state handed).faults session.kept.stops.items n) (sym gone.cut.faults)
             (subst (λ s. AreStops (state handed).faults s (state gone.disk).faults) (sym gone.stops)
@@ -224,7 +288,7 @@ module _ {D : Type 0} (state : D → DiskState) (is_disk : (disk : D) → IsDisk
             (rose_from (state idle.disk).faults (state idle.disk).faults (state gone.disk).faults (omega arith) gone.back.cause)));
         legal = subst (λ l. AreLegal system (map life_of l)) (sym gone.lives) sound.legal;
         answered = subst (λ l. LastAnswered system (option_map last_of l) (kept_of l)) (sym gone.last) sound.answered;
-        images = λ image left. subst (λ o. Holds state system handed (StandsDown o) image) (sym outage_is) (failed_holds cold gone image left);
+        images = λ image left. subst (λ o. Holds state system source handed (StandsDown o) image) (sym outage_is) (failed_holds cold gone image left);
       })
 
   -- ---- all is as it was
@@ -235,18 +299,21 @@ module _ {D : Type 0} (state : D → DiskState) (is_disk : (disk : D) → IsDisk
       ∙ same_state (map life_of old.lives.items) (map life_of session.kept.lives.items) old.stops.items session.kept.stops.items (StandsDown outage) (StandsDown (outage_of idles.after))
       (ap (map life_of) idles.lives) idles.stops (ap StandsDown (outage_after idles.after outage.emptied outage.stopped idles.last idles.emptied idles.stopped))
 
-  idle_sound : StaysIdle state idle old session → IsSound state system handed session
+  idle_sound : StaysIdle state idle old session → IsSound state system source handed session
   idle_sound idles =
       let outage_is : outage_of idles.after ≡ outage = outage_after idles.after outage.emptied outage.stopped idles.last idles.emptied idles.stopped in
-      subst (λ p. IsSoundAt state system handed p session.kept) (sym idles.place) (record {
+      subst (λ p. IsSoundAt state system source handed p session.kept) (sym idles.place) (record {
         handed_alone = sound.handed_alone;
         system_is = idles.system_is ∙ sound.system_is;
+        text_is = idles.text_is ∙ sound.text_is;
+        size = λ begun. sound.size (ap is_some (sym idles.last) ∙ begun);
+        texts = λ image left. subst (λ o. IsOfText state system source handed (StandsDown o) image) (sym outage_is) (sound.texts image (idles.wrote.keeps.no_more image left));
         stays = stays_on (state handed) (state idle.disk) (state idles.after.disk) sound.stays idles.wrote.keeps.stays;
         stops = subst (λ n. AreStops (state handed).faults session.kept.stops.items n) (sym idles.wrote.no_fault)
             (subst (λ s. AreStops (state handed).faults s (state idle.disk).faults) (sym idles.stops) sound.stops);
         legal = subst (λ l. AreLegal system (map life_of l)) (sym idles.lives) sound.legal;
         answered = subst (λ l. LastAnswered system (option_map last_of l) (kept_of l)) (sym idles.last) sound.answered;
-        images = λ image left. subst (λ o. Holds state system handed (StandsDown o) image) (sym outage_is) (sound.images image (idles.wrote.keeps.no_more image left));
+        images = λ image left. subst (λ o. Holds state system source handed (StandsDown o) image) (sym outage_is) (sound.images image (idles.wrote.keeps.no_more image left));
       })
 
   -- ---- a disk that can't be opened
@@ -264,40 +331,179 @@ module _ {D : Type 0} (state : D → DiskState) (is_disk : (disk : D) → IsDisk
       (λ unopened. never_none idle.last begun unopened.no_life)
       (shown_holds tells)
 
+  no_size : (cold : Bool) (needed has : ℕ) → Refuses (how_of cold) idle.system idle.text (state idle.disk) (error_of (Size needed has)) → is_some idle.last ≡ true → ⊥
+  no_size cold needed has refuses begun =
+      let enough : sectors_needed system ≤ (state handed).size = sound.size begun in
+      let need : needed ≡ sectors_needed system = refuses.size.right_need ∙ ap sectors_needed sound.system_is in
+      omega (arith, enough, need, refuses.size.right_size, sound.stays.size, refuses.size.less)
+
+  -- the text of what is shown is the definition's
+  no_other : (place : ℕ) → Refuses (how_of false) idle.system idle.text (state idle.disk) (error_of (Text place)) → setting.tells ≡ true → HasText system source (state idle.disk).shown → ⊥
+  no_other place refuses tells text =
+      let other : IsOther idle.system idle.text (state idle.disk).shown place = refuses.found refl (tells_now tells) in
+      let has : restart_in (snapshot_area system) (state idle.disk).shown ≡ Ok (Some other.restart) =
+      subst (λ s. restart_in (snapshot_area s) (state idle.disk).shown ≡ Ok (Some other.restart)) sound.system_is other.has_restart in
+      no_difference idle.text (text_in (state idle.disk).shown other.restart.text) place (text other.restart has ∙ sym sound.text_is) other.differs
+
+  shown_text : setting.tells ≡ true → IsOfText state system source handed (StandsDown outage) (state idle.disk).shown
+  shown_text tells = sound.texts (state idle.disk).shown ((is_disk idle.disk).shown_left (tells_now tells))
+
+  no_text : (place : ℕ) → Refuses (how_of false) idle.system idle.text (state idle.disk) (error_of (Text place)) → is_some idle.last ≡ true → setting.tells ≡ true → ⊥
+  no_text place refuses begun tells = ⊎_elim (λ text. no_other place refuses tells text) (λ there. never_none idle.last begun there.no_life) (shown_text tells)
+
   may_refuse : (cold : Bool) (refusal : ImageRefused) → Refuses (how_of cold) idle.system idle.text (state idle.disk) (error_of refusal) → is_some idle.last ≡ true → MayRefuse setting.tells refusal
-  may_refuse cold (Text place) refuses begun = tt
-  may_refuse cold (Size needed has) refuses begun = tt
+  may_refuse cold (Size needed has) refuses begun = no_size cold needed has refuses begun
+  may_refuse true (Text place) refuses begun = absurd (refuses.cold refl)
+  may_refuse false (Text place) refuses begun =
+      ⊎_elim (λ tells. absurd (no_text place refuses begun tells)) (λ silent. silent) (cases_Bool setting.tells)
   may_refuse true (Rule rule sector) refuses begun = absurd (refuses.cold refl)
   may_refuse false (Rule rule sector) refuses begun =
       ⊎_elim (λ tells. absurd (no_rule rule sector refuses begun tells)) (λ silent. silent) (cases_Bool setting.tells)
 
-  no_life : is_some idle.last ≡ false → HasNoLife (StandsDown outage)
+  no_life : is_some idle.last ≡ false → outage.last ≡ None
   no_life none = of idle.last none
     where
       of : (last : Option Life) → is_some last ≡ false → option_map last_of last ≡ None
       of None none = refl
       of (Some life) none = cc
 
+  -- ---- while no life has begun
+
+  -- What is shown recovers as what was handed in; or a cold start broke off since, and it is empty.
+  abbrev AlikeFirst : Type 0
+  AlikeFirst = ((image : Image) → (state handed).may_leave image → RecoversAlike system image (state idle.disk).shown)
+      ⊎ ((outage.emptied ≡ true) × Recovers system (state idle.disk).shown (Ok (empty_state system)))
+
+  alike_found : (lasting : LastingState) → Recovers system (state idle.disk).shown (Ok lasting) → (last : Option LastLife) → last ≡ None → (kept : ℕ) → IsLeft setting last kept lasting
+      → (image : Image) → (state handed).may_leave image → RecoversAlike system image (state idle.disk).shown
+  alike_found lasting recovers (Some life) none kept left image there answer is = cc
+  alike_found lasting recovers None none kept left image there answer is =
+      let found = left image there in
+      subst (λ (a : Result LastingState Fault). Recovers system (state idle.disk).shown a) (one_answer_of system found.found (Ok lasting) answer found.recovers (found.alike answer is)) recovers
+
+  alike_first : outage.last ≡ None → Holds state system source handed (StandsDown outage) (state idle.disk).shown → AlikeFirst
+  alike_first none (inl recalls) = of recalls.may.1
+    where
+      of : MayBeFound setting outage recalls.may.0 recalls.state → AlikeFirst
+      of (inl left) = inl (alike_found recalls.state recalls.recovers outage.last none recalls.may.0 left)
+      of (inr (emptied, empty)) = inr (emptied, subst (λ s. Recovers system (state idle.disk).shown (Ok s)) empty recalls.recovers)
+  alike_first none (inr unopened) = inl (λ image there.
+      subst (λ (i : Image). RecoversAlike system i (state idle.disk).shown) (sym (sound.handed_alone image there ∙ sym (sound.handed_alone unopened.before unopened.left))) unopened.alike)
+
+  size_first : (error : OpenError) → SizeFirst idle.system (state idle.disk).size (Err error) → SizeFirst system (state handed).size (Err error)
+  size_first error size = subst (λ n. SizeFirst system n (Err error)) sound.stays.size (subst (λ s. SizeFirst s (state idle.disk).size (Err error)) sound.system_is size)
+
+  -- of a disk that tells nothing no image is named
+  silent_first : setting.tells ≡ false → (image : Image) → (state handed).may_leave image → ⊥
+  silent_first silent image there = leaves_none (state handed) (is_disk handed) silent image there
+
+  broken_shown : (rule sector : ℕ) → Refuses (how_of false) idle.system idle.text (state idle.disk) (error_of (Rule rule sector)) → setting.tells ≡ true
+      → Recovers system (state idle.disk).shown (Err (rule, sector))
+  broken_shown rule sector refuses tells = subst (λ s. Recovers s (state idle.disk).shown (Err (rule, sector))) sound.system_is (refuses.found refl (tells_now tells)).recovers
+
+  broken_first : (rule sector : ℕ) → Refuses (how_of false) idle.system idle.text (state idle.disk) (error_of (Rule rule sector)) → outage.last ≡ None → (image : Image) → (state handed).may_leave image
+      → IsBrokenAs system image rule sector
+  broken_first rule sector refuses none image there = ⊎_elim told (λ silent. absurd (silent_first silent image there)) (cases_Bool setting.tells)
+    where
+      of : setting.tells ≡ true → AlikeFirst → IsBrokenAs system image rule sector
+      of tells (inl alike) = record { found = (state idle.disk).shown; alike = alike image there; broken = broken_shown rule sector refuses tells }
+      of tells (inr (emptied, empty)) =
+          absurd (ok_or_err (empty_state system) (rule, sector) (one_answer_of system (state idle.disk).shown (Ok (empty_state system)) (Err (rule, sector)) empty (broken_shown rule sector refuses tells)))
+
+      told : setting.tells ≡ true → IsBrokenAs system image rule sector
+      told tells = of tells (alike_first none (shown_holds tells))
+
+  other_first : (place : ℕ) → Refuses (how_of false) idle.system idle.text (state idle.disk) (error_of (Text place)) → (image : Image) → (state handed).may_leave image → IsOther system source image place
+  other_first place refuses image there = ⊎_elim told (λ silent. absurd (silent_first silent image there)) (cases_Bool setting.tells)
+    where
+      shown_other : setting.tells ≡ true → IsOther system source (state idle.disk).shown place
+      shown_other tells =
+          subst (λ (t : List ℕ). IsOther system t (state idle.disk).shown place) sound.text_is
+          (subst (λ s. IsOther s idle.text (state idle.disk).shown place) sound.system_is (refuses.found refl (tells_now tells)))
+
+      of : setting.tells ≡ true → IsOfText state system source handed (StandsDown outage) (state idle.disk).shown → IsOther system source image place
+      of tells (inl text) = absurd (no_other place refuses tells text)
+      of tells (inr shown) =
+          subst (λ (i : Image). IsOther system source i place) (sound.handed_alone (state idle.disk).shown shown.left ∙ sym (sound.handed_alone image there)) (shown_other tells)
+
+      told : setting.tells ≡ true → IsOther system source image place
+      told tells = of tells (shown_text tells)
+
+  refused_first : (cold : Bool) (refusal : ImageRefused) → Refuses (how_of cold) idle.system idle.text (state idle.disk) (error_of refusal) → outage.last ≡ None → IsRefusedFirst state system source handed refusal
+  refused_first cold (Size needed has) refuses none = record { size = size_first (error_of (Size needed has)) refuses.size; images = λ image there. tt }
+  refused_first true (Rule rule sector) refuses none = absurd (refuses.cold refl)
+  refused_first false (Rule rule sector) refuses none =
+      record { size = size_first (error_of (Rule rule sector)) refuses.size; images = λ image there. broken_first rule sector refuses none image there }
+  refused_first true (Text place) refuses none = absurd (refuses.cold refl)
+  refused_first false (Text place) refuses none =
+      record { size = size_first (error_of (Text place)) refuses.size; images = λ image there. other_first place refuses image there }
+
+  -- ---- a counter is spent
+
+  spent_found : (counter : Counter) → Refuses (how_of false) idle.system idle.text (state idle.disk) (SpentCounter counter) → setting.tells ≡ true → FindsSpent setting outage
+  spent_found counter refuses tells =
+      let is : IsSpent idle.system idle.text (state idle.disk).shown counter = refuses.found refl (tells_now tells) in
+      record {
+        kept = count_of idle.last false is.state.steps;
+        state = is.state;
+        found = found_by (state idle.disk).shown is.state (shown_holds tells) (subst (λ s. Recovers s (state idle.disk).shown (Ok is.state)) sound.system_is is.found.recovers);
+        spent = record {
+          epoch = is.restart.epoch;
+          sequence = next_sequence idle.system (state idle.disk).shown is.restart;
+          checkpoint = is.restart.checkpoint;
+          unit = is.unit;
+          counter = counter;
+          spent = is.spent;
+        };
+      }
+
+  spent_first : (counter : Counter) → Refuses (how_of false) idle.system idle.text (state idle.disk) (SpentCounter counter) → outage.last ≡ None → setting.spends ⊎ (outage.emptied ≡ true)
+  spent_first counter refuses none = ⊎_elim told (λ silent. inl (record { counter = counter; images = λ image there. absurd (silent_first silent image there) })) (cases_Bool setting.tells)
+    where
+      of : setting.tells ≡ true → AlikeFirst → setting.spends ⊎ (outage.emptied ≡ true)
+      of tells (inl alike) = inl (record {
+        counter = counter;
+        images = λ image there. record {
+          found = (state idle.disk).shown;
+          alike = alike image there;
+          spent = subst (λ (t : List ℕ). IsSpent system t (state idle.disk).shown counter) sound.text_is
+              (subst (λ s. IsSpent s idle.text (state idle.disk).shown counter) sound.system_is (refuses.found refl (tells_now tells)));
+        };
+      })
+      of tells (inr (emptied, empty)) = inr emptied
+
+      told : setting.tells ≡ true → setting.spends ⊎ (outage.emptied ≡ true)
+      told tells = of tells (alike_first none (shown_holds tells))
+
+  spent_down : (cold : Bool) → RefusesSpent state idle cold → SpentBehind outage.last setting outage
+  spent_down true spent = absurd (spent.refuses.cold refl)
+  spent_down false spent = of outage.last refl
+    where
+      of : (last : Option LastLife) → outage.last ≡ last → SpentBehind last setting outage
+      of None none = spent_first spent.counter spent.refuses none
+      of (Some life) is = λ tells. spent_found spent.counter spent.refuses tells
+
   -- ---- all of it
 
   abbrev Restarted : Bool → List ℕ → Served → Type 0
   Restarted cold text Printed = IsRestarted cold setting before outage (session_of session) text
   Restarted cold text Broke = IsRestarted cold setting before outage (session_of session) broken_text
-  Restarted cold text (NotServed undone) = (session_of session ≡ before) × UndoneBy undone before
+  Restarted cold text (NotServed undone) = (session_of session ≡ before) × UndoneBy undone setting before
 
   refused : (cold begun : Bool) (refusal : ImageRefused) (text : List ℕ) (served : Served) → is_some idle.last ≡ begun → StaysIdle state idle old session
       → Refuses (how_of cold) idle.system idle.text (state idle.disk) (error_of refusal) → IsRefusalTold begun refusal text served → Restarted cold text served
   refused cold true refusal text served is idles refuses (printed, same) =
       subst (λ s. Restarted cold text s) (sym printed)
-      (inr (inr (record { refusal = refusal; may = may_refuse cold refusal refuses is; stays = idle_state idles; printed = same })))
-  refused cold false refusal text served is idles refuses undone = subst (λ s. Restarted cold text s) (sym undone) (idle_state idles, no_life is)
+      (inr (inr (record { refusal = refusal; begun = some_last idle.last is; may = may_refuse cold refusal refuses is; stays = idle_state idles; printed = same })))
+  refused cold false refusal text served is idles refuses undone =
+      subst (λ s. Restarted cold text s) (sym undone) (idle_state idles, (no_life is, refused_first cold refusal refuses (no_life is)))
 
   -- a life that opened, and a disk that failed
   pub opens_gone : (cold : Bool) → HasOpened state idle old cold session → OpensLife cold setting before outage (session_of session)
   opens_gone cold gone = record {
     kept = count_of idle.last cold gone.control.control.opening.steps;
     state = gone.control.control.opening;
-    may = λ tells. may_open cold gone.control.control.opening gone.opens.begins tells;
+    may = λ tells. may_open cold gone.control.control.opening gone.control.journal gone.control.next_unit gone.opens.begins tells;
     goes = opened_state cold gone;
   }
 
@@ -312,23 +518,23 @@ module _ {D : Type 0} (state : D → DiskState) (is_disk : (disk : D) → IsDisk
       subst (λ s. Restarted cold text s) (sym broke) (inr (inl (fails_gone cold gone, refl)))
   restarted cold (Refused refusal) text served gone told = refused cold (is_some idle.last) refusal text served refl gone.0 gone.1 told
   restarted cold OpeningMemory text served gone why = subst (λ s. Restarted cold text s) (sym why) (idle_state gone, tt)
-  restarted cold OpeningSpent text served gone why = subst (λ s. Restarted cold text s) (sym why) (idle_state gone, tt)
+  restarted cold OpeningSpent text served (gone, spent) why = subst (λ s. Restarted cold text s) (sym why) (idle_state gone, spent_down cold spent)
 
-  pub gone_sound : (cold : Bool) (opening : Opening) → HasGone state idle old cold session opening → IsSound state system handed session
+  pub gone_sound : (cold : Bool) (opening : Opening) → HasGone state idle old cold session opening → IsSound state system source handed session
   gone_sound cold Opened gone = opened_sound cold gone
   gone_sound cold OpeningBroke gone = failed_sound cold gone
   gone_sound cold (Refused refusal) gone = idle_sound gone.0
   gone_sound cold OpeningMemory gone = idle_sound gone
-  gone_sound cold OpeningSpent gone = idle_sound gone
+  gone_sound cold OpeningSpent gone = idle_sound gone.0
 
   -- a block that asks for a restart
   served_restart : (asked : Asked) (text : List ℕ) (served : Served) (cold : Bool) → restart_of asked ≡ Some cold → Restarted cold text served → IsServedSo asked text served setting before (session_of session)
   served_restart Restart text Printed cold is one = subst (λ c. IsRestarted c setting before outage (session_of session) text) (some_is cold false is) one
   served_restart Restart text Broke cold is one = subst (λ c. IsRestarted c setting before outage (session_of session) broken_text) (some_is cold false is) one
-  served_restart Restart text (NotServed undone) cold is one = one
+  served_restart Restart text (NotServed undone) cold is one = (one.0, subst (λ s. UndoneBy undone setting s) (sym one.0) one.1)
   served_restart ColdStart text Printed cold is one = subst (λ c. IsRestarted c setting before outage (session_of session) text) (some_is cold true is) one
   served_restart ColdStart text Broke cold is one = subst (λ c. IsRestarted c setting before outage (session_of session) broken_text) (some_is cold true is) one
-  served_restart ColdStart text (NotServed undone) cold is one = one
+  served_restart ColdStart text (NotServed undone) cold is one = (one.0, subst (λ s. UndoneBy undone setting s) (sym one.0) one.1)
   served_restart (Bad rule) text served cold is one = cc
   served_restart (BadCommand rule) text served cold is one = cc
   served_restart (Stopped terminal number reason) text served cold is one = cc
@@ -338,7 +544,7 @@ module _ {D : Type 0} (state : D → DiskState) (is_disk : (disk : D) → IsDisk
   served_restart (PowerIn writes pick) text served cold is one = cc
 
   pub served_down : (asked : Asked) (text : List ℕ) (served : Served) (cold : Bool) → restart_of asked ≡ Some cold → IsRestartedSo state idle old cold session text served
-      → LeadsBy state (λ setting old new. IsServedSo asked text served setting old new) system handed (session_down idle old) session
+      → LeadsBy state (λ setting old new. IsServedSo asked text served setting old new) system source handed (session_down idle old) session
   served_down asked text served cold is one = record {
     goes = served_restart asked text served cold is (restarted cold one.opening text served one.gone one.told);
     sound = gone_sound cold one.opening one.gone;

@@ -29,18 +29,18 @@ use Rattle.session_lives.specs.declared.place.Place.TheVariants.{Up, Down}
 use Rattle.session_lives.specs.declared.place.Kept.{Kept}
 use Rattle.session_lives.specs.declared.place.Session.{Session}
 use Rattle.session_lives.specs.Running.{life_of, last_up, session_at, session_of, session_up, setting_of, IsUpReady, IsUpSound, IsSound, IsSoundAt, IsReadyAt, LeadsBy}
-use Rattle.session_lives.specs.Asking.{IsAsked, IsFrozen, Does, Freezes, Fails, PowersOff, Undoes}
-use Rattle.session_lives.specs.Openings.{GoesOn, HasEndedLife, IsAloneBy, IsSettled, IsServedSo}
+use Rattle.session_lives.specs.Asking.{IsAsked, IsFrozen, Does, Freezes, Fails, PowersOff, Undoes, IsSpentUp}
+use Rattle.session_lives.specs.Openings.{GoesOn, HasEndedLife, HasSpent, IsAloneBy, IsSettled, UndoneBy, IsServedSo}
 use Rattle.session_lives.proofs.Asked.{stays_so}
 use Rattle.session_lives.proofs.Ends.{up_state, same_up, ended_state, broken_state, down_sound, stop_behind, no_stop}
 
-module _ {D : Type 0} (state : D → DiskState) (system : System) (handed : D) (a b : ControlOnDisk D) (old kept : Kept) (session : Session D) (text : List ℕ)
-    (sound : IsUpSound state system handed a old) (stays : StaysSo state a b) (lives : kept.lives ≡ old.lives) (stops : kept.stops ≡ old.stops) where
+module _ {D : Type 0} (state : D → DiskState) (system : System) (source : List ℕ) (handed : D) (a b : ControlOnDisk D) (old kept : Kept) (session : Session D) (text : List ℕ)
+    (sound : IsUpSound state system source handed a old) (stays : StaysSo state a b) (lives : kept.lives ≡ old.lives) (stops : kept.stops ≡ old.stops) where
   abbrev before : SessionState
   before = session_at (Up a) old
 
   abbrev setting : Setting
-  setting = setting_of state system handed
+  setting = setting_of state system source handed
 
   -- where the session stands now
   goes_up : GoesOn b kept session → session_of session ≡ session_at (Up b) kept
@@ -73,13 +73,15 @@ module _ {D : Type 0} (state : D → DiskState) (system : System) (handed : D) (
 
   -- ---- what is sound behind it
 
-  pub up_sound : GoesOn b kept session → IsSound state system handed session
+  pub up_sound : GoesOn b kept session → IsSound state system source handed session
   up_sound on =
-      subst (λ p. IsSoundAt state system handed p session.kept) (sym on.place)
-      (subst (λ k. IsSoundAt state system handed (Up b) k) (sym on.kept)
+      subst (λ p. IsSoundAt state system source handed p session.kept) (sym on.place)
+      (subst (λ k. IsSoundAt state system source handed (Up b) k) (sym on.kept)
       (record {
         handed_alone = sound.handed_alone;
         system_is = stays.system ∙ sound.system_is;
+        text_is = stays.text ∙ sound.text_is;
+        size = sound.size;
         stays = stays_on (state handed) (state a.disk) (state b.disk) sound.stays stays.disk;
         stops = subst (λ v. AreStops (state handed).faults v.items b.began) (sym stops) (subst (λ n. AreStops (state handed).faults old.stops.items n) (sym stays.began) sound.stops);
         began = subst (λ n. n ≤ (state b.disk).faults) (sym stays.began) (omega (arith, sound.began, stays.disk.faults));
@@ -98,17 +100,17 @@ module _ {D : Type 0} (state : D → DiskState) (system : System) (handed : D) (
   began_before : b.began ≤ (state a.disk).faults
   began_before = subst (λ n. n ≤ (state a.disk).faults) (sym stays.began) sound.began
 
-  pub power_sound : HasEndedLife state b kept false session → IsSound state system handed session
+  pub power_sound : HasEndedLife state b kept false session → IsSound state system source handed session
   power_sound over =
-      subst (λ p. IsSoundAt state system handed p session.kept) (sym over.place)
-      (down_sound state system handed b (stays.system ∙ sound.system_is) sound.handed_alone kept session.kept false over.idle over.down stays_now legal_now
-      (no_stop state system handed b (stays.system ∙ sound.system_is) kept session.kept over.idle over.down stops_now (omega (arith, began_before, stays.disk.faults))))
+      subst (λ p. IsSoundAt state system source handed p session.kept) (sym over.place)
+      (down_sound state system source handed b (stays.system ∙ sound.system_is) sound.handed_alone (stays.text ∙ sound.text_is) sound.size kept session.kept false over.idle over.down stays_now legal_now
+      (no_stop state system source handed b (stays.system ∙ sound.system_is) kept session.kept over.idle over.down stops_now (omega (arith, began_before, stays.disk.faults))))
 
-  pub broke_sound : HasEndedLife state b kept true session → Rose (state a.disk).faults (state b.disk).faults → IsSound state system handed session
+  pub broke_sound : HasEndedLife state b kept true session → Rose (state a.disk).faults (state b.disk).faults → IsSound state system source handed session
   broke_sound over rose =
-      subst (λ p. IsSoundAt state system handed p session.kept) (sym over.place)
-      (down_sound state system handed b (stays.system ∙ sound.system_is) sound.handed_alone kept session.kept true over.idle over.down stays_now legal_now
-      (stop_behind state system handed b (stays.system ∙ sound.system_is) kept session.kept over.idle (state a.disk).faults over.down stops_now began_before stays.disk.faults rose))
+      subst (λ p. IsSoundAt state system source handed p session.kept) (sym over.place)
+      (down_sound state system source handed b (stays.system ∙ sound.system_is) sound.handed_alone (stays.text ∙ sound.text_is) sound.size kept session.kept true over.idle over.down stays_now legal_now
+      (stop_behind state system source handed b (stays.system ∙ sound.system_is) kept session.kept over.idle (state a.disk).faults over.down stops_now began_before stays.disk.faults rose))
 
   -- ---- what was served
 
@@ -232,28 +234,44 @@ module _ {D : Type 0} (state : D → DiskState) (system : System) (handed : D) (
   undoes Restart added on = nothing on added
   undoes ColdStart added on = nothing on added
 
+  -- a counter is spent
+  has_spent : IsSpentUp b → HasSpent (now_in system (last_up b)).lasting
+  has_spent spent =
+      subst (λ s. HasSpent (moment_after s (start_of s b.control.opening) b.control.history).lasting) (stays.system ∙ sound.system_is)
+      (record {
+        epoch = b.journal.restart.epoch;
+        sequence = b.journal.log.sequence + b.journal.log.place;
+        checkpoint = b.journal.restart.checkpoint;
+        unit = b.next_unit;
+        counter = spent.counter;
+        spent = spent.spent;
+      })
+
+  spent_now_at : GoesOn b kept session → IsSpentUp b → UndoneBy SpentCounter setting (session_of session)
+  spent_now_at on spent = subst (λ s. UndoneBy SpentCounter setting s) (sym (goes_up on)) (has_spent spent)
+
   -- ---- all of it
 
   pub served_up : (asked : Asked) (called : Called) (served : Served) → IsAsked state asked a b text called → IsSettled state b kept called session served
-      → LeadsBy state (λ setting old new. IsServedSo asked text served setting old new) system handed (session_up a old) session
+      → LeadsBy state (λ setting old new. IsServedSo asked text served setting old new) system source handed (session_up a old) session
   served_up asked Answered served does_it (on, printed) =
-      subst (λ s. LeadsBy state (λ setting old new. IsServedSo asked text s setting old new) system handed (session_up a old) session) (sym printed)
+      subst (λ s. LeadsBy state (λ setting old new. IsServedSo asked text s setting old new) system source handed (session_up a old) session) (sym printed)
       (record { goes = does asked does_it on; sound = up_sound on })
   served_up asked Frozen served frozen (over, printed) =
-      subst (λ s. LeadsBy state (λ setting old new. IsServedSo asked text s setting old new) system handed (session_up a old) session) (sym printed)
+      subst (λ s. LeadsBy state (λ setting old new. IsServedSo asked text s setting old new) system source handed (session_up a old) session) (sym printed)
       (record { goes = freezes asked frozen over; sound = power_sound over })
   served_up asked (Power pick) served power (over, printed) =
-      subst (λ s. LeadsBy state (λ setting old new. IsServedSo asked text s setting old new) system handed (session_up a old) session) (sym printed)
+      subst (λ s. LeadsBy state (λ setting old new. IsServedSo asked text s setting old new) system source handed (session_up a old) session) (sym printed)
       (record { goes = powers asked pick power over; sound = power_sound over })
   served_up asked Broke served failed (over, broke) =
-      subst (λ s. LeadsBy state (λ setting old new. IsServedSo asked text s setting old new) system handed (session_up a old) session) (sym broke)
+      subst (λ s. LeadsBy state (λ setting old new. IsServedSo asked text s setting old new) system source handed (session_up a old) session) (sym broke)
       (record { goes = fails asked failed over; sound = broke_sound over (rose_in asked failed) })
   served_up asked Memory served undone (on, why) =
-      subst (λ s. LeadsBy state (λ setting old new. IsServedSo asked text s setting old new) system handed (session_up a old) session) (sym why)
+      subst (λ s. LeadsBy state (λ setting old new. IsServedSo asked text s setting old new) system source handed (session_up a old) session) (sym why)
       (record { goes = (undoes asked undone on, tt); sound = up_sound on })
-  served_up asked Spent served undone (on, why) =
-      subst (λ s. LeadsBy state (λ setting old new. IsServedSo asked text s setting old new) system handed (session_up a old) session) (sym why)
-      (record { goes = (undoes asked undone on, tt); sound = up_sound on })
+  served_up asked Spent served (undone, spent) (on, why) =
+      subst (λ s. LeadsBy state (λ setting old new. IsServedSo asked text s setting old new) system source handed (session_up a old) session) (sym why)
+      (record { goes = (undoes asked undone on, spent_now_at on spent); sound = up_sound on })
 
 -- ---- what is ready behind it
 
@@ -325,4 +343,4 @@ module _ {D : Type 0} (state : D → DiskState) (a b : ControlOnDisk D) (old kep
   ready_up asked (Power pick) served power settled = ready_over false settled.0
   ready_up asked Broke served failed settled = ready_over true settled.0
   ready_up asked Memory served undone settled = ready_on (up_undone asked undone) settled.0
-  ready_up asked Spent served undone settled = ready_on (up_undone asked undone) settled.0
+  ready_up asked Spent served undone settled = ready_on (up_undone asked undone.0) settled.0

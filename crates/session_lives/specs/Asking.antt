@@ -12,7 +12,8 @@ use Rattle.model_session.specs.declared.asked.Asked.TheVariants.{Bad, BadCommand
 use Rattle.model_session.specs.Text.{entry_text, bad_line_text, bad_command_text, stopped_text, power_text, armed_text, up_text}
 use Rattle.model_session.specs.Turns.{IsQuieted, IsBrokenOff, quieted_text, region_after}
 use Rattle.model_session.specs.Lives.{ends_life}
-use Rattle.tm_control.specs.OnDisk.{ControlOnDisk}
+use Rattle.model_machine.specs.declared.counts.Counter.{Counter}
+use Rattle.tm_control.specs.OnDisk.{ControlOnDisk, spent_now}
 use Rattle.tm_control.specs.Calls.{Answered as IsAnswered, BrokeOff, AddedNothing}
 use Rattle.session_lives.specs.declared.called.Called.{Called}
 use Rattle.session_lives.specs.declared.called.Called.TheVariants.{Answered, Frozen, Power, Broke, Memory, Spent}
@@ -124,10 +125,15 @@ abbrev pub Undoes : {D : Type 0} → (D → DiskState) → Asked → ControlOnDi
 Undoes state (Quiet most) old new = AddedNothing state old new ⊎ TurnsStand state most old new
 Undoes state _ old new = AddedNothing state old new
 
+-- a counter stands at its limit
+pub record IsSpentUp {D : Type 0} (control : ControlOnDisk D) : Type 0 where
+  pub counter : Counter
+  pub spent : spent_now control ≡ Some counter
+
 abbrev pub IsAsked : {D : Type 0} → (D → DiskState) → Asked → ControlOnDisk D → ControlOnDisk D → List ℕ → Called → Type 0
 IsAsked state asked old new text Answered = Does state asked old new text
 IsAsked state asked old new text Frozen = Freezes state asked old new text
 IsAsked state asked old new text (Power pick) = PowersOff state asked pick old new text
 IsAsked state asked old new text Broke = Fails state asked old new
 IsAsked state asked old new text Memory = Undoes state asked old new
-IsAsked state asked old new text Spent = Undoes state asked old new
+IsAsked state asked old new text Spent = Undoes state asked old new × IsSpentUp new

@@ -2,3 +2,4 @@ pub mod Asking
 pub mod Turning
 pub mod Running
 pub mod Openings
+pub mod Closing

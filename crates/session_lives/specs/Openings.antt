@@ -1,5 +1,5 @@
 -- Openings, the ends of lives, and what serving a block comes to.
-use Rattle.std.specs.Prelude.{◌≡◌, ℕ, ◌-◌, ◌++◌, Bool, true, false, if◌then◌else◌, List, [], ◌∷◌, Option, Some, None}
+use Rattle.std.specs.Prelude.{◌≡◌, ◌⊎◌, ℕ, ◌-◌, ◌++◌, Bool, true, false, if◌then◌else◌, List, [], ◌∷◌, Option, Some, None}
 use Rattle.std.specs.Option.{is_some}
 use Rattle.model_disk.specs.Disk.{DiskState, Stays, NoMore, Only, IsCut}
 use Rattle.model_system.specs.System.{System}
@@ -8,14 +8,18 @@ use Rattle.model_session.specs.declared.asked.Asked.TheVariants.{Restart, ColdSt
 use Rattle.model_session.specs.declared.asked.ImageRefused.{ImageRefused}
 use Rattle.model_session.specs.declared.asked.ImageRefused.TheVariants.{Rule, Text, Size}
 use Rattle.model_session.specs.Text.{broken_text, opened_text, image_text}
-use Rattle.model_session.specs.Standing.{Setting, SessionState, HasNoLife, or_cold}
+use Rattle.model_machine.specs.Machine.{LastingState}
+use Rattle.model_machine.specs.declared.counts.Counter.{Counter}
+use Rattle.model_session.specs.Lives.{LastLife, now_in}
+use Rattle.model_session.specs.Standing.{Setting, Outage, Standing, SessionState, MayBeFound, or_cold}
+use Rattle.model_session.specs.Standing.Standing.{Up as StandsUp, Down as StandsDown}
 use Rattle.model_session.specs.Session.{IsServed, IsBegunBy}
 use Rattle.control_life.specs.declared.how.How.{How}
 use Rattle.control_life.specs.declared.how.How.TheVariants.{Found, Cold}
 use Rattle.opening_answers.specs.declared.refusals.OpenError.{OpenError}
 use Rattle.opening_answers.specs.declared.refusals.OpenError.TheVariants.{BadImage, WrongDefinition, TooSmall, Spent as SpentCounter, Disk, Memory as NoMemory}
 use Rattle.tm_control.specs.OnDisk.{ControlOnDisk, Lasts}
-use Rattle.opening_answers.specs.Opening.{WroteNothing}
+use Rattle.opening_answers.specs.Opening.{WroteNothing, counters, first_spent}
 use Rattle.tm_control.specs.Closed.{Opens, Closes}
 use Rattle.control_life.specs.Opened.{Refuses}
 use Rattle.control_life.specs.Opened.{HandsBack}
@@ -33,7 +37,7 @@ use Rattle.session_lives.specs.declared.place.Place.{Place}
 use Rattle.session_lives.specs.declared.place.Place.TheVariants.{Up, Down}
 use Rattle.session_lives.specs.declared.place.Kept.{Kept}
 use Rattle.session_lives.specs.declared.place.Session.{Session}
-use Rattle.session_lives.specs.Running.{IsDownReady}
+use Rattle.session_lives.specs.Running.{IsDownReady, error_of}
 
 -- ---- the end of a life
 
@@ -106,11 +110,6 @@ pub record HasFailed {D : Type 0} (state : D → DiskState) (idle : Idle D) (old
   pub lives : session.kept.lives.items ≡ old.lives.items
   pub stops : session.kept.stops.items ≡ old.stops.items ++ ((state idle.disk).faults, (state disk).faults) ∷ []
 
-abbrev pub error_of : ImageRefused → OpenError
-error_of (Rule rule sector) = BadImage rule sector
-error_of (Text place) = WrongDefinition place
-error_of (Size needed has) = TooSmall needed has
-
 -- how an opening went by its refusal
 abbrev pub opening_by : OpenError → Opening
 opening_by Disk = OpeningBroke
@@ -160,6 +159,11 @@ IsRefusedSo state disk system text last emptied stopped cold began old OpeningMe
 IsRefusedSo state disk system text last emptied stopped cold began old OpeningSpent session = IsBack disk system text last emptied stopped old session
 IsRefusedSo state disk system text last emptied stopped cold began old Opened session = ⊥
 
+-- a counter is spent
+pub record RefusesSpent {D : Type 0} (state : D → DiskState) (idle : Idle D) (cold : Bool) : Type 0 where
+  pub counter : Counter
+  pub refuses : Refuses (how_of cold) idle.system idle.text (state idle.disk) (SpentCounter counter)
+
 -- how an opening went
 abbrev pub HasGone : {D : Type 0} → (D → DiskState) → Idle D → Kept → Bool → Session D → Opening → Type 0
 HasGone state idle old cold session Opened = HasOpened state idle old cold session
@@ -167,7 +171,7 @@ HasGone state idle old cold session OpeningBroke = HasFailed state idle old cold
 HasGone state idle old cold session (Refused refusal) =
     StaysIdle state idle old session × Refuses (how_of cold) idle.system idle.text (state idle.disk) (error_of refusal)
 HasGone state idle old cold session OpeningMemory = StaysIdle state idle old session
-HasGone state idle old cold session OpeningSpent = StaysIdle state idle old session
+HasGone state idle old cold session OpeningSpent = StaysIdle state idle old session × RefusesSpent state idle cold
 
 -- how a call was settled: the life goes on, or it has ended
 pub record GoesOn {D : Type 0} (control : ControlOnDisk D) (old : Kept) (session : Session D) : Type 0 where
@@ -195,17 +199,49 @@ IsSettled state control old CallSpent session served = GoesOn control old sessio
 
 -- ---- a block
 
--- What a block comes to: it was served, with the text that was printed, or that of a stop; or it was not, and only turns of a
--- QUIET may stand of it. A disk that can't be opened ends a session in which no life has begun.
-abbrev pub UndoneBy : Undone → SessionState → Type 0
-UndoneBy (Image refusal) old = HasNoLife old.standing
-UndoneBy Memory old = Unit {0}
-UndoneBy Spent old = Unit {0}
+-- A counter is spent where what lasts is this. How far the log, the checkpoints and the units have come doesn't show in it.
+pub record HasSpent (state : LastingState) : Type 0 where
+  pub epoch : ℕ
+  pub sequence : ℕ
+  pub checkpoint : ℕ
+  pub unit : ℕ
+  pub counter : Counter
+  pub spent : first_spent (counters epoch sequence checkpoint unit state) ≡ Some counter
 
+-- a counter is spent of what is found
+pub record FindsSpent (setting : Setting) (outage : Outage) : Type 0 where
+  pub kept : ℕ
+  pub state : LastingState
+  pub found : MayBeFound setting outage kept state
+  pub spent : HasSpent state
+
+-- A counter is spent: of the life while the system is up; of what a restart finds, behind a life; of the disk as it was handed in,
+-- while no life has begun, or of what a cold start left that broke off since.
+abbrev pub SpentBehind : Option LastLife → Setting → Outage → Type 0
+SpentBehind None setting outage = setting.spends ⊎ (outage.emptied ≡ true)
+SpentBehind (Some life) setting outage = setting.tells ≡ true → FindsSpent setting outage
+
+abbrev pub SpentAt : Setting → Standing → Type 0
+SpentAt setting (StandsUp life) = HasSpent (now_in setting.system life).lasting
+SpentAt setting (StandsDown outage) = SpentBehind outage.last setting outage
+
+abbrev pub MayRefuseAt : Setting → Standing → ImageRefused → Type 0
+MayRefuseAt setting (StandsUp life) refusal = ⊥
+MayRefuseAt setting (StandsDown outage) refusal = (outage.last ≡ None) × setting.refuses refusal
+
+-- Why a block was not served: for want of memory; since a counter is spent; or since the disk can't be opened, which ends a session
+-- in which no life has begun.
+abbrev pub UndoneBy : Undone → Setting → SessionState → Type 0
+UndoneBy (Image refusal) setting new = MayRefuseAt setting new.standing refusal
+UndoneBy Memory setting new = Unit {0}
+UndoneBy Spent setting new = SpentAt setting new.standing
+
+-- What a block comes to: it was served, with the text that was printed, or that of a stop; or it was not, and only turns of a
+-- QUIET may stand of it.
 abbrev pub IsServedSo : Asked → List ℕ → Served → Setting → SessionState → SessionState → Type 0
 IsServedSo asked text Printed setting old new = IsServed asked setting old new text
 IsServedSo asked text Broke setting old new = IsServed asked setting old new broken_text
-IsServedSo asked text (NotServed undone) setting old new = IsBegunBy asked setting.system old old.standing new × UndoneBy undone old
+IsServedSo asked text (NotServed undone) setting old new = IsBegunBy asked setting.system old old.standing new × UndoneBy undone setting new
 
 -- a block that asks for a restart, and for a cold start or not
 abbrev pub restart_of : Asked → Option Bool

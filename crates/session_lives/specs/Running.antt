@@ -1,14 +1,22 @@
 -- A session as it runs: where it stands, what it keeps beside, and what holds of these.
-use Rattle.std.specs.Prelude.{◌≡◌, ◌⊎◌, ℕ, ◌+◌, ◌<◌, ◌≤◌, true, List, length, map, Option, Some, None, Ok, vec_len, vec_capacity}
-use Rattle.std.specs.Option.{option_map}
+use Rattle.std.specs.Prelude.{◌≡◌, ◌⊎◌, ℕ, ◌+◌, ◌<◌, ◌≤◌, true, List, length, map, Option, Some, None, Ok, Err, IsTrue, vec_len, vec_capacity}
+use Rattle.std.specs.Option.{option_map, is_some}
 use Rattle.model_disk.specs.Disk.{Image, DiskState, Stays, Only}
 use Rattle.model_system.specs.System.{System}
 use Rattle.model_machine.specs.Machine.{LastingState}
+use Rattle.model_machine.specs.declared.counts.Counter.{Counter}
 use Rattle.model_image.specs.Recovered.{Recovers}
 use Rattle.model_image.specs.Alike.{RecoversAlike}
 use Rattle.model_session.specs.Lives.{LifeState, LastLife, AreLegal}
 use Rattle.model_session.specs.Standing.{Setting, Outage, Standing, SessionState, LastAnswered, MayHold, HasNoLife, AreStops}
 use Rattle.model_session.specs.Standing.Standing.{Up as StandsUp, Down as StandsDown}
+use Rattle.model_session.specs.declared.asked.ImageRefused.{ImageRefused}
+use Rattle.model_session.specs.declared.asked.ImageRefused.TheVariants.{Rule, Text as OtherText, Size}
+use Rattle.cold_start.specs.FirstImage.{sectors_needed}
+use Rattle.checkpointing.specs.Texts.{HasText}
+use Rattle.opening_answers.specs.declared.refusals.OpenError.{OpenError}
+use Rattle.opening_answers.specs.declared.refusals.OpenError.TheVariants.{BadImage, WrongDefinition, TooSmall}
+use Rattle.opening_answers.specs.Opening.{SizeFirst, IsOther, IsSpent}
 use Rattle.tm_control.specs.OnDisk.{ControlOnDisk}
 use Rattle.control_life.specs.declared.life.Life.{Life}
 use Rattle.session_lives.specs.declared.place.Idle.{Idle}
@@ -65,13 +73,50 @@ pub record IsFoundAs (system : System) (image : Image) (state : LastingState) : 
   pub alike : RecoversAlike system image found
   pub recovers : Recovers system found (Ok state)
 
--- the setting of a session over the disk that was handed in
-abbrev pub setting_of : {D : Type 0} → (D → DiskState) → System → D → Setting
-setting_of state system handed = record {
+-- why the disk can't be opened, as an opening tells it
+abbrev pub error_of : ImageRefused → OpenError
+error_of (Rule rule sector) = BadImage rule sector
+error_of (OtherText place) = WrongDefinition place
+error_of (Size needed has) = TooSmall needed has
+
+-- An image that recovers as this one does breaks the rule.
+pub record IsBrokenAs (system : System) (image : Image) (rule sector : ℕ) : Type 0 where
+  pub found : Image
+  pub alike : RecoversAlike system image found
+  pub broken : Recovers system found (Err (rule, sector))
+
+-- The image can't be opened: it breaks a rule, or its text isn't the definition's.
+abbrev pub IsRefusedAs : System → List ℕ → Image → ImageRefused → Type 0
+IsRefusedAs system source image (Rule rule sector) = IsBrokenAs system image rule sector
+IsRefusedAs system source image (OtherText place) = IsOther system source image place
+IsRefusedAs system source image (Size needed has) = Unit {0}
+
+-- The disk that was handed in can't be opened: it has too few sectors; or it has enough, and so it is with each image that a crash
+-- might have left of it.
+pub record IsRefusedFirst {D : Type 0} (state : D → DiskState) (system : System) (source : List ℕ) (handed : D) (refusal : ImageRefused) : Type 0 where
+  pub size : SizeFirst system (state handed).size (Err (error_of refusal))
+  pub images : (image : Image) → (state handed).may_leave image → IsRefusedAs system source image refusal
+
+-- a counter is spent of an image that recovers as this one does
+pub record IsSpentAs (system : System) (source : List ℕ) (image : Image) (counter : Counter) : Type 0 where
+  pub found : Image
+  pub alike : RecoversAlike system image found
+  pub spent : IsSpent system source found counter
+
+-- a counter of it is spent
+pub record IsSpentFirst {D : Type 0} (state : D → DiskState) (system : System) (source : List ℕ) (handed : D) : Type 0 where
+  pub counter : Counter
+  pub images : (image : Image) → (state handed).may_leave image → IsSpentAs system source image counter
+
+-- the setting of a session over the disk that was handed in, whose definition has this text
+abbrev pub setting_of : {D : Type 0} → (D → DiskState) → System → List ℕ → D → Setting
+setting_of state system source handed = record {
   system = system;
   can_arm = (state handed).can_arm;
   tells = (state handed).tells;
   begins = λ opening. (image : Image) → (state handed).may_leave image → IsFoundAs system image opening;
+  refuses = λ refusal. IsRefusedFirst state system source handed refusal;
+  spends = IsSpentFirst state system source handed;
 }
 
 -- The image recovers to a state that the session's standing allows.
@@ -87,8 +132,21 @@ pub record IsUnopened {D : Type 0} (state : D → DiskState) (system : System) (
   pub left : (state handed).may_leave before
   pub alike : RecoversAlike system before image
 
-abbrev pub Holds : {D : Type 0} → (D → DiskState) → System → D → Standing → Image → Type 0
-Holds state system handed standing image = Recalls (setting_of state system handed) standing image ⊎ IsUnopened state system handed standing image
+abbrev pub Holds : {D : Type 0} → (D → DiskState) → System → List ℕ → D → Standing → Image → Type 0
+Holds state system source handed standing image = Recalls (setting_of state system source handed) standing image ⊎ IsUnopened state system handed standing image
+
+-- an image recovers to a state
+pub record RecoversToState (system : System) (image : Image) : Type 0 where
+  pub state : LastingState
+  pub recovers : Recovers system image (Ok state)
+
+-- The disk can be opened as it is handed in: it tells its contents, and has sectors enough; each image that a crash might have left
+-- of it recovers to a state; and where its sector 0 isn't all zeros, its text is the definition's.
+pub record IsValidDisk (system : System) (source : List ℕ) (disk : DiskState) : Type 0 where
+  pub tells : IsTrue disk.tells
+  pub size : sectors_needed system ≤ disk.size
+  pub recovers : (image : Image) → disk.may_leave image → RecoversToState system image
+  pub texts : (image : Image) → disk.may_leave image → HasText system source image
 
 -- ---- what is so between two blocks
 
@@ -117,39 +175,53 @@ abbrev pub IsReady : {D : Type 0} → (D → DiskState) → Session D → Type 0
 IsReady state session = IsReadyAt state session.place session.kept
 
 -- The system is up. The stops lie behind one another, and before its life.
-pub record IsUpSound {D : Type 0} (state : D → DiskState) (system : System) (handed : D) (control : ControlOnDisk D) (kept : Kept) : Type 0 where
+pub record IsUpSound {D : Type 0} (state : D → DiskState) (system : System) (source : List ℕ) (handed : D) (control : ControlOnDisk D) (kept : Kept) : Type 0 where
   pub handed_alone : Only (state handed).shown (state handed)
   pub system_is : control.control.system ≡ system
+  pub text_is : control.text ≡ source
+  pub size : sectors_needed system ≤ (state handed).size
   pub stays : Stays (state handed) (state control.disk)
   pub stops : AreStops (state handed).faults kept.stops.items control.began
   pub began : control.began ≤ (state control.disk).faults
   pub legal : AreLegal system (map life_of kept.lives.items)
 
--- The system is down, and the disk holds what the outage allows.
-pub record IsDownSound {D : Type 0} (state : D → DiskState) (system : System) (handed : D) (idle : Idle D) (kept : Kept) : Type 0 where
+-- The image is of the definition's text; or no life has begun, and it is one that was handed in.
+pub record IsHanded {D : Type 0} (state : D → DiskState) (handed : D) (standing : Standing) (image : Image) : Type 0 where
+  pub no_life : HasNoLife standing
+  pub left : (state handed).may_leave image
+
+abbrev pub IsOfText : {D : Type 0} → (D → DiskState) → System → List ℕ → D → Standing → Image → Type 0
+IsOfText state system source handed standing image = HasText system source image ⊎ IsHanded state handed standing image
+
+-- The system is down, and the disk holds what the outage allows. Once a life has begun it has sectors enough.
+pub record IsDownSound {D : Type 0} (state : D → DiskState) (system : System) (source : List ℕ) (handed : D) (idle : Idle D) (kept : Kept) : Type 0 where
   pub handed_alone : Only (state handed).shown (state handed)
   pub system_is : idle.system ≡ system
+  pub text_is : idle.text ≡ source
+  pub size : is_some idle.last ≡ true → sectors_needed system ≤ (state handed).size
+  pub texts : (image : Image) → (state idle.disk).may_leave image → IsOfText state system source handed (StandsDown (outage_of idle)) image
   pub stays : Stays (state handed) (state idle.disk)
   pub stops : AreStops (state handed).faults kept.stops.items (state idle.disk).faults
   pub legal : AreLegal system (map life_of kept.lives.items)
   pub answered : LastAnswered system (option_map last_of idle.last) (kept_of idle.last)
-  pub images : (image : Image) → (state idle.disk).may_leave image → Holds state system handed (StandsDown (outage_of idle)) image
+  pub images : (image : Image) → (state idle.disk).may_leave image → Holds state system source handed (StandsDown (outage_of idle)) image
 
-abbrev pub IsSoundAt : {D : Type 0} → (D → DiskState) → System → D → Place D → Kept → Type 0
-IsSoundAt state system handed (Up control) kept = IsUpSound state system handed control kept
-IsSoundAt state system handed (Down idle) kept = IsDownSound state system handed idle kept
+abbrev pub IsSoundAt : {D : Type 0} → (D → DiskState) → System → List ℕ → D → Place D → Kept → Type 0
+IsSoundAt state system source handed (Up control) kept = IsUpSound state system source handed control kept
+IsSoundAt state system source handed (Down idle) kept = IsDownSound state system source handed idle kept
 
-abbrev pub IsSound : {D : Type 0} → (D → DiskState) → System → D → Session D → Type 0
-IsSound state system handed session = IsSoundAt state system handed session.place session.kept
+abbrev pub IsSound : {D : Type 0} → (D → DiskState) → System → List ℕ → D → Session D → Type 0
+IsSound state system source handed session = IsSoundAt state system source handed session.place session.kept
 
 -- a relation of two states of a session, over its setting
 abbrev pub Course : Type 1
 Course = Setting → SessionState → SessionState → Type 0
 
 -- Whatever disk was handed in: it leads on by this relation, and what is so between two blocks is so again.
-pub record LeadsBy {D : Type 0} (state : D → DiskState) (by : Course) (system : System) (handed : D) (old new : Session D) : Type 0 where
-  pub goes : by (setting_of state system handed) (session_of old) (session_of new)
-  pub sound : IsSound state system handed new
+pub record LeadsBy {D : Type 0} (state : D → DiskState) (by : Course) (system : System) (source : List ℕ) (handed : D) (old new : Session D) : Type 0 where
+  pub goes : by (setting_of state system source handed) (session_of old) (session_of new)
+  pub sound : IsSound state system source handed new
 
 abbrev pub Leads : {D : Type 0} → (D → DiskState) → Course → Session D → Session D → Type 0
-Leads {D} state by old new = (system : System) → (handed : D) → IsSound state system handed old → LeadsBy state by system handed old new
+Leads {D} state by old new =
+    (system : System) → (source : List ℕ) → (handed : D) → IsSound state system source handed old → LeadsBy state by system source handed old new

@@ -9,7 +9,7 @@ use Rattle.tm_control.specs.OnDisk.{ControlOnDisk}
 use Rattle.tm_control.specs.Calls.{StaysSo}
 use Rattle.session_lives.specs.declared.turns.Turning.{Turning}
 use Rattle.session_lives.specs.declared.turns.Turning.TheVariants.{Ended, Broke, Memory, Spent}
-use Rattle.session_lives.specs.Asking.{AddsEntries, FailsTurning, TurnsStand}
+use Rattle.session_lives.specs.Asking.{AddsEntries, FailsTurning, TurnsStand, IsSpentUp}
 
 -- so many turns were done so far
 pub record TurnsSoFar {D : Type 0} (state : D → DiskState) (count : ℕ) (old new : ControlOnDisk D) : Type 0 where
@@ -37,4 +37,4 @@ abbrev pub HasTurned : {D : Type 0} → (D → DiskState) → ℕ → Turning �
 HasTurned state most (Ended count quiet) old new = HasEnded state most count quiet old new
 HasTurned state most Broke old new = FailsTurning state most old new
 HasTurned state most Memory old new = TurnsStand state most old new
-HasTurned state most Spent old new = TurnsStand state most old new
+HasTurned state most Spent old new = TurnsStand state most old new × IsSpentUp new

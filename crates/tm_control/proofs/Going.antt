@@ -21,7 +21,10 @@ use Rattle.logged_machine.specs.Logged.{LoggedState, LastsNow}
 use Rattle.logged_machine.specs.Goes.{Keeps, WentOn, Failed, StoodStill, GoesBy, CrashesBy}
 use Rattle.control_life.specs.Faults.{fault_in}
 use Rattle.tm_control.specs.OnDisk.{ControlOnDisk, IsUp, IsDown, Lasts, LastsBy, lasting_after}
-use Rattle.tm_control.specs.Calls.{StaysSo, AddsBy, CrashesSo, CrashesAlone, is_noted, noted}
+use Rattle.model_machine.specs.declared.entry.ControlCall.{ControlCall}
+use Rattle.tm_machine.specs.Parts.{PartsState}
+use Rattle.logged_machine.specs.Frugal.{IsFrugal}
+use Rattle.tm_control.specs.Calls.{StaysSo, AddsBy, CrashesSo, CrashesAlone, is_noted, noted, parts_now}
 use Rattle.tm_control.specs.Inside.{IsServed, IsBroken, Holds, HoldsBy, last_checked}
 use Rattle.tm_control.proofs.Numbers.{ascend_more, last_more, Numbers, Next, next_number, fault_ascends}
 
@@ -32,10 +35,27 @@ seen machine opening history room began = record {
   text = machine.text;
   up = machine.served;
   began = began;
+  databases = machine.machine.databases;
   journal = machine.journal;
+  units = machine.units;
   next_unit = machine.next_unit;
   disk = machine.disk;
 }
+
+-- ---- the parts are those of the machine
+
+with_moment : PartsState → Moment → PartsState
+with_moment parts moment = record { system = parts.system; moment = moment; databases = parts.databases }
+
+parts_are : {D : Type 0} (machine : LoggedState D) (opening : LastingState) (history : List Entry) (room began steps : ℕ) → IsServed machine opening history steps → parts_now (seen machine opening history room began) ≡ machine.machine
+parts_are machine opening history room began steps h = ap (with_moment machine.machine) h.moment
+
+-- so what its calls write is what those of the machine do
+pub frugal_too : {D : Type 0} (state : D → DiskState) (machine : LoggedState D) (opening : LastingState) (history : List Entry) (room began steps : ℕ) → IsServed machine opening history steps
+    → (fault : Option ControlFault) (call : ControlCall) (journal : JournalState) (disk : D) → IsFrugal state fault machine.machine machine.units call machine.journal journal machine.disk disk
+    → IsFrugal state fault (parts_now (seen machine opening history room began)) machine.units call machine.journal journal machine.disk disk
+frugal_too state machine opening history room began steps h fault call journal disk =
+    subst (λ (p : PartsState). IsFrugal state fault p machine.units call machine.journal journal machine.disk disk) (sym (parts_are machine opening history room began steps h))
 
 -- ---- lasting steps are counted on
 

@@ -68,5 +68,5 @@ fault_ascends (Commanded command answer) fault last e = tt
 -- a checkpoint's number is the one that holds behind it
 pub taken_numbers : (freeze : Bool) (result : Result ℕ CheckpointRefused) (system : System) (old new : JournalState) (disk : DiskState)
     → IfOk result (λ number. IsTaken system number old new disk) → Numbers (Checked freeze result) old.restart.checkpoint new.restart.checkpoint
-taken_numbers freeze (Ok number) system old new disk h = (h.above, omega (arith, h.now))
+taken_numbers freeze (Ok number) system old new disk h = (omega (arith, h.next), omega (arith, h.now))
 taken_numbers freeze (Err refused) system old new disk h = tt

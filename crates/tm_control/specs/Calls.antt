@@ -1,5 +1,5 @@
 -- What a call of a control region does.
-use Rattle.std.specs.Prelude.{◌≡◌, ◌++◌, Bool, true, false, List, [], ◌∷◌, Option, Some, None, Ok}
+use Rattle.std.specs.Prelude.{◌≡◌, ℕ, ◌++◌, Bool, true, false, List, [], ◌∷◌, Option, Some, None, Ok}
 use Rattle.model_disk.specs.Disk.{Image, DiskState, Stays, FailedSince}
 use Rattle.model_machine.specs.History.{AddsEntry, AddsNothing, IsCall, call_of, now_of}
 use Rattle.model_machine.specs.declared.counts.Counter.{Counter}
@@ -8,6 +8,8 @@ use Rattle.model_machine.specs.declared.entry.ControlFault.{ControlFault}
 use Rattle.model_machine.specs.declared.entry.ControlFault.TheVariants.{Memory, Disk, Spent}
 use Rattle.model_image.specs.Recovered.{Recovers}
 use Rattle.disk_law.specs.Kept.{RecoversEither}
+use Rattle.tm_machine.specs.Parts.{PartsState}
+use Rattle.logged_machine.specs.Frugal.{IsFrugal, Raises}
 use Rattle.tm_control.specs.OnDisk.{ControlOnDisk, lasting_after}
 
 -- what no call changes
@@ -40,11 +42,19 @@ pub record AddedNothing {D : Type 0} (state : D → DiskState) (old new : Contro
   pub up : new.up ≡ true
   pub no_fault : (state new.disk).faults ≡ (state old.disk).faults
 
+-- What it keeps of its log, the databases and the numbers of units are as they were.
+pub record KeepsLog {D : Type 0} (old new : ControlOnDisk D) : Type 0 where
+  pub databases : new.databases ≡ old.databases
+  pub journal : new.journal ≡ old.journal
+  pub units : new.units ≡ old.units
+  pub next_unit : new.next_unit ≡ old.next_unit
+
 -- A reply was shown: its entry stands at the end, and the disk is as it was.
 pub record Shows {D : Type 0} (state : D → DiskState) (old new : ControlOnDisk D) (entry : Entry) : Type 0 where
   pub adds : AddsEntry old.control new.control entry
   pub up : new.up ≡ true
   pub disk : new.disk ≡ old.disk
+  pub log : KeepsLog old new
   pub stays : StaysSo state old new
 
 -- What a call adds, by the fault that its entry has in place of the answer.
@@ -85,7 +95,22 @@ CrashesSo state (Some Disk) old new entry = CrashesEither state old new entry
 CrashesSo state (Some Memory) old new entry = CrashesAlone state old new
 CrashesSo state (Some (Spent counter)) old new entry = CrashesAlone state old new
 
+-- ---- writes
+
+-- the parts of its machine, where its history has come to
+abbrev pub parts_now : {D : Type 0} → ControlOnDisk D → PartsState
+parts_now c = record { system = c.control.system; moment = now_of c.control; databases = c.databases }
+
+-- A call that leaves 32 sectors of the log's area free with its own records takes no checkpoint, and writes to the log alone:
+-- no more sectors than what was appended takes, and none where no step lasts of it.
+abbrev pub WritesFrugally : {D : Type 0} → (D → DiskState) → Option ControlFault → ControlOnDisk D → ControlOnDisk D → Entry → Type 0
+WritesFrugally state fault old new entry = IsFrugal state fault (parts_now old) old.units (call_of entry) old.journal new.journal old.disk new.disk
+
 -- ---- counters
+
+-- While it is up, the log's next sequence has risen by so many sectors at most, and no other counter of its log by more than one.
+abbrev pub RaisesBy : {D : Type 0} → ℕ → ControlOnDisk D → ControlOnDisk D → Type 0
+RaisesBy sectors old new = new.up ≡ true → Raises sectors old.journal new.journal old.next_unit new.next_unit
 
 -- The call says that a counter is spent exactly where one stands at its limit, and names the first. It is looked at before
 -- all else.

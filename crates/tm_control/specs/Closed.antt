@@ -11,7 +11,7 @@ use Rattle.control_life.specs.Opened.{KeepsBy, Begins}
 use Rattle.control_life.specs.declared.life.Life.{Life}
 use Rattle.tm_control.specs.OnDisk.{ControlOnDisk, lasting_after}
 
--- A control region was opened: it is up, and has no entry yet.
+-- A control region was opened: it is up, and has no entry yet. What it counts on stands where it begins.
 pub record Opens {D : Type 0} (state : D → DiskState) (how : How) (system : System) (text : List ℕ) (disk : D) (new : ControlOnDisk D) : Type 0 where
   pub system_is : new.control.system ≡ system
   pub text_is : new.text ≡ text
@@ -21,8 +21,8 @@ pub record Opens {D : Type 0} (state : D → DiskState) (how : How) (system : Sy
   pub no_fault : (state new.disk).faults ≡ (state disk).faults
   pub stays : Stays (state disk) (state new.disk)
   pub size : sectors_needed system ≤ (state disk).size
-  pub begins : Begins how system text (state disk) new.control.opening
-  pub any_moment : Within (KeepsBy how system) (state disk) (state new.disk)
+  pub begins : Begins how system text (state disk) new.control.opening new.journal.restart new.journal.log new.next_unit
+  pub any_moment : Within (KeepsBy how system text) (state disk) (state new.disk)
 
 -- The life is the opening with the history, which is legal; the numbers of its checkpoints ascend. It is kept with the lasting steps that were answered, and no ring
 -- of regions that wait for one another stands behind these. The disk, the system and the text are handed back, with the

@@ -8,6 +8,7 @@ use Rattle.model_machine.specs.declared.counts.Counter.{Counter}
 use Rattle.model_machine.specs.declared.entry.Entry.{Entry}
 use Rattle.model_machine.specs.declared.entry.ControlFault.TheVariants.{Disk}
 use Rattle.opening_answers.specs.Opening.{counters, first_spent}
+use Rattle.program_rows.specs.State.{DatabasesState}
 use Rattle.disk_law.specs.Journal.{JournalState}
 use Rattle.model_image.specs.Recovered.{Recovers}
 use Rattle.disk_law.specs.Kept.{RecoversEither}
@@ -15,13 +16,16 @@ use Rattle.checkpointing.specs.Texts.{HasText}
 use Rattle.control_life.specs.Faults.{fault_in}
 
 -- The control region as its history tells it; the definition's text; whether it is up; how often its disk had failed when
--- it was opened; what it keeps of its log; the number of the next unit; and its disk.
+-- it was opened; the databases as they are, with what each region has changed; what it keeps of its log; the numbers of the
+-- regions' units; the number of the next unit; and its disk.
 pub record ControlOnDisk (D : Type 0) : Type 0 where
   pub control : ControlState
   pub text : List ℕ
   pub up : Bool
   pub began : ℕ
+  pub databases : DatabasesState
   pub journal : JournalState
+  pub units : List ℕ
   pub next_unit : ℕ
   pub disk : D
 

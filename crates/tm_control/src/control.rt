@@ -1,5 +1,5 @@
 //! The calls of the control region.
-ghost use Rattle.std.specs.Prelude.{◌≡◌, ◌+◌, ◌-◌, ◌<◌, ◌≤◌, ◌↔◌, length, true, if◌then◌else◌, IfOk, IfErr, OnOk, OnErr, IsTrue};
+ghost use Rattle.std.specs.Prelude.{◌≡◌, ◌+◌, ◌-◌, ◌*◌, ◌<◌, ◌≤◌, ◌↔◌, length, true, if◌then◌else◌, IfOk, IfErr, OnOk, OnErr, IsTrue};
 ghost use Rattle.std.specs.Borrow.{sem};
 ghost use Rattle.std.specs.Io.BufRead.{Rests};
 ghost use Rattle.model_disk.specs.Disk.{Keeps, Only, armed};
@@ -14,7 +14,7 @@ ghost use Rattle.control_life.specs.Opened.{HandsBack};
 ghost use Rattle.logged_machine.specs.Logged.{LastsNow};
 ghost use Rattle.logged_machine.specs.Taken.{IsTaken};
 ghost use Rattle.tm_control.specs.OnDisk.{Lasts, spent_now};
-ghost use Rattle.tm_control.specs.Calls.{StaysSo, Shows, AddsBy, CrashesSo, SpentBy, StaysSpent};
+ghost use Rattle.tm_control.specs.Calls.{StaysSo, Shows, AddsBy, CrashesSo, KeepsLog, RaisesBy, SpentBy, StaysSpent, WritesFrugally};
 ghost use Rattle.tm_control.specs.Closed.{Opens, Closes};
 ghost use Rattle.tm_control.specs.contracts.control.Control.{the_row};
 
@@ -35,8 +35,8 @@ use tm_disk::Disk;
 use tm_types::{Bytes, Memory, Name, Segments};
 
 /// The control region on its disk. Contracts see its system, what it opened with, its history and the room for further
-/// entries; what its machine has come to follows from these. They see its disk too, whether it is up, and what it keeps of
-/// its log.
+/// entries; what its machine has come to follows from these. They see its disk too, whether it is up, its databases with what
+/// open units have changed, and what it keeps of its log.
 #[derive(Drop)]
 pub struct Control<D: Disk> {
     alloc: Global,
@@ -63,7 +63,9 @@ impl<D: Disk> Model for Control<D> {
       text = c.machine.text;
       up = c.machine.served;
       began = c.began;
+      databases = c.machine.machine.databases;
       journal = c.machine.journal;
+      units = c.machine.units;
       next_unit = c.machine.next_unit;
       disk = c.machine.disk;
     } };
@@ -164,6 +166,7 @@ impl<D: Disk> Control<D> {
         ensures stays { StaysSo D.state self.old self.new }
         ensures up { self.new.up ≡ true }
         ensures keeps { Keeps (D.state self.old.disk) (D.state self.new.disk) }
+        ensures log { KeepsLog self.old self.new }
         ensures no_fault { (D.state self.new.disk).faults ≡ (D.state self.old.disk).faults }
         ensures armed { IsTrue result → (D.state self.new.disk).until_stop ≡ armed n (D.state self.old.disk).until_stop }
         ensures lasts { Lasts D.state self.new }
@@ -177,6 +180,7 @@ impl<D: Disk> Control<D> {
         ensures same { AddsNothing self.old.control self.new.control }
         ensures ok { OnOk result (n ≤ self.new.control.room) }
         ensures err { OnErr result (self.new ≡ self.old) }
+        ensures log { KeepsLog self.old self.new }
         ensures stays { StaysSo D.state self.old self.new }
         ensures up { self.new.up ≡ true }
         ensures disk { self.new.disk ≡ self.old.disk }
@@ -200,6 +204,8 @@ impl<D: Disk> Control<D> {
         ensures lasts { Lasts D.state self.new }
         ensures spent { SpentBy (spent_now self.old) (fault_in (Accept terminal.now number segments result)) }
         ensures nothing { StaysSpent (fault_in (Accept terminal.now number segments result)) self.old self.new }
+        ensures frugal { WritesFrugally D.state (fault_in (Accept terminal.now number segments result)) self.old self.new (Accept terminal.now number segments result) }
+        ensures raises { RaisesBy (2 * self.old.control.system.logs) self.old self.new }
         ensures stays { StaysSo D.state self.old self.new }
     {
         if let Some(counter) = self.machine.spent() {
@@ -257,6 +263,8 @@ impl<D: Disk> Control<D> {
         ensures lasts { Lasts D.state self.new }
         ensures spent { SpentBy (spent_now self.old) (fault_in (AckedEntry terminal.now number result)) }
         ensures nothing { StaysSpent (fault_in (AckedEntry terminal.now number result)) self.old self.new }
+        ensures frugal { WritesFrugally D.state (fault_in (AckedEntry terminal.now number result)) self.old self.new (AckedEntry terminal.now number result) }
+        ensures raises { RaisesBy (2 * self.old.control.system.logs) self.old self.new }
         ensures stays { StaysSo D.state self.old self.new }
     {
         if let Some(counter) = self.machine.spent() {
@@ -280,6 +288,8 @@ impl<D: Disk> Control<D> {
         ensures lasts { Lasts D.state self.new }
         ensures spent { SpentBy (spent_now self.old) (fault_in (TurnEntry region result)) }
         ensures nothing { StaysSpent (fault_in (TurnEntry region result)) self.old self.new }
+        ensures frugal { WritesFrugally D.state (fault_in (TurnEntry region result)) self.old self.new (TurnEntry region result) }
+        ensures raises { RaisesBy (2 * self.old.control.system.logs) self.old self.new }
         ensures stays { StaysSo D.state self.old self.new }
     {
         if let Some(counter) = self.machine.spent() {
@@ -303,6 +313,8 @@ impl<D: Disk> Control<D> {
         ensures lasts { Lasts D.state self.new }
         ensures spent { SpentBy (spent_now self.old) (fault_in (Commanded command.now result)) }
         ensures nothing { StaysSpent (fault_in (Commanded command.now result)) self.old self.new }
+        ensures frugal { WritesFrugally D.state (fault_in (Commanded command.now result)) self.old self.new (Commanded command.now result) }
+        ensures raises { RaisesBy (2 * self.old.control.system.logs) self.old self.new }
         ensures stays { StaysSo D.state self.old self.new }
     {
         if let Some(counter) = self.machine.spent() {
@@ -328,6 +340,7 @@ impl<D: Disk> Control<D> {
         ensures lasts { Lasts D.state self.new }
         ensures spent { SpentBy (spent_now self.old) (fault_in (Checked freeze result)) }
         ensures nothing { StaysSpent (fault_in (Checked freeze result)) self.old self.new }
+        ensures raises { RaisesBy self.old.control.system.logs self.old self.new }
         ensures stays { StaysSo D.state self.old self.new }
         ensures taken { IfOk result (λ number. IsTaken self.new.control.system number self.old.journal self.new.journal (D.state self.new.disk)) }
     {

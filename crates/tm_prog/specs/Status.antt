@@ -10,11 +10,11 @@ use Rattle.tm_session.specs.declared.outcome.Ended.{Ended}
 use Rattle.tm_session.specs.declared.outcome.Ended.TheVariants.{Done, Words, BadLine, BadCross, Down, Read, Write, Image, Memory, Limit, Spent}
 use Rattle.model_session.specs.declared.asked.ImageRefused.TheVariants.{Rule, Text, Size}
 use Rattle.model_session.specs.Standing.{Stop}
-use Rattle.model_disk.specs.Disk.{DiskState}
+use Rattle.model_disk.specs.Disk.{DiskState, FailedSince}
 use Rattle.sysdef_text.specs.Ends.{definition_lines}
-use Rattle.tm_session.specs.Source.{judged}
+use Rattle.tm_session.specs.Source.{judged, definition_text}
 use Rattle.tm_session.specs.Outcome.{HasCause}
-use Rattle.tm_session.specs.Headline.{IsSession}
+use Rattle.tm_session.specs.Headline.{IsSession, IsValidDisk}
 use Rattle.tm_prog.specs.Words.{WordFault, word_fault}
 
 -- The line that a status ends with; 0 and 5 have none.
@@ -68,11 +68,6 @@ abbrev pub IsWithinLimits : Option (List ℕ) → Type 0
 IsWithinLimits (Some bytes) = (length (cut_lines bytes) ≤ 1000000) × (list_all is_short (cut_lines bytes) ≡ true)
 IsWithinLimits None = ⊥
 
--- the status by the definition: 0 where it breaks no rule
-abbrev pub judged_status : Result System Ended → Ended
-judged_status (Ok system) = Done
-judged_status (Err ended) = ended
-
 -- a status that the disk decides: it can't be opened, a counter of it is spent, or it failed
 abbrev pub is_by_disk : Ended → Bool
 is_by_disk Down = true
@@ -80,11 +75,22 @@ is_by_disk (Image refusal) = true
 is_by_disk Spent = true
 is_by_disk _ = false
 
--- Where nothing else comes between, the status is that of the definition; or memory was wanting, or the disk decides it.
-abbrev pub IsComplete : Option (List ℕ) → Ended → Type 0
-IsComplete (Some bytes) status =
-    (status ≡ judged_status (judged (definition_lines (lines_of bytes)))) ⊎ ((status ≡ Memory) ⊎ (is_by_disk status ≡ true))
-IsComplete None status = Unit {0}
+-- The status where the definition breaks no rule is 0, memory was wanting, or the disk decides it. Where the disk didn't fail there
+-- is no stop; and where it was valid too, only a spent counter is left of what the disk decides.
+pub record IsServedWhole (system : System) (text : List ℕ) (handed disk : DiskState) (status : Ended) (stops : List Stop) : Type 0 where
+  pub status_is : (status ≡ Done) ⊎ ((status ≡ Memory) ⊎ (is_by_disk status ≡ true))
+  pub calm : ¬ FailedSince handed disk → stops ≡ []
+  pub valid : ¬ FailedSince handed disk → IsValidDisk system text handed → (status ≡ Done) ⊎ ((status ≡ Memory) ⊎ (status ≡ Spent))
+
+-- Where nothing else comes between, a definition that breaks a rule has the status of that rule, or memory was wanting.
+abbrev pub IsServedBy : Result System Ended → List ℕ → DiskState → DiskState → Ended → List Stop → Type 0
+IsServedBy (Ok system) text handed disk status stops = IsServedWhole system text handed disk status stops
+IsServedBy (Err ended) text handed disk status stops = (status ≡ ended) ⊎ (status ≡ Memory)
+
+abbrev pub IsComplete : Option (List ℕ) → DiskState → DiskState → Ended → List Stop → Type 0
+IsComplete (Some bytes) handed disk status stops =
+    IsServedBy (judged (definition_lines (lines_of bytes))) (definition_text (definition_lines (lines_of bytes))) handed disk status stops
+IsComplete None handed disk status stops = Unit {0}
 
 -- the number of a status
 abbrev pub status_number : Ended → ℕ

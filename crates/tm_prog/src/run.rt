@@ -24,8 +24,8 @@ const LAST_ROOM: usize = 128;
 /// leaves the status as it is. The disk is opened behind the definition, and handed back in the end.
 ///
 /// Status 1 comes exactly where the words break a rule, and 2 exactly where the definition breaks
-/// one; 3 where the source ended while the system was down by a stop; 4 and 5 only where the source or the sink failed in this
-/// call; 6 where the disk can't be opened and no life has begun; 9 where a line has 4,097
+/// one; 3 exactly where the source ended while the system was down by a stop, which is told; 4 and 5 only where the source or the
+/// sink failed in this call; 6 where no life has begun and the disk, as it was handed in, can't be opened; 9 where a line has 4,097
 /// bytes or more or is past the millionth, or a counter is spent; 7 for want of memory. Status 0 says that the source was
 /// read to its end. With every status but 4 and 5 no call over the source or the sink failed, the
 /// writing of the status line apart.
@@ -42,10 +42,11 @@ pub fn run<S: Source, K: Sink, D: Disk>(
     ensures taken { IsBack (S.left source.old) (S.left source.new) }
     ensures whole { IsReadToEnd result.status (S.left source.new) }
 
-    // Where the words are valid, no count of the source or the sink rose and no limit is met, the status is that of the definition, or memory was wanting, or the disk decides it.
+    // Where the words are valid, no count of the source or the sink rose and no limit is met, the status is that of the definition, or memory was wanting, or the disk decides it: not where it
+    // can be opened as it is handed in and doesn't fail, but by a spent counter.
     ensures complete { IsNone (word_fault (map (λ word. string_bytes word) words.now)) →
         ¬ HasRisen (S.faults source.old) (S.faults source.new) → ¬ HasRisen (K.faults sink.old) (K.faults sink.new) →
-        IsWithinLimits (S.left source.old) → IsComplete (S.left source.old) result.status }
+        IsWithinLimits (S.left source.old) → IsComplete (S.left source.old) (D.state disk) (D.state result.disk) result.status result.stops }
 {
     let mut line = Printed::new(alloc);
     if line.make_room(LAST_ROOM).is_err() {

@@ -1,12 +1,12 @@
 -- What the writes of a restart leave, for what was made of an image.
-use Rattle.std.proofs.Common.{◌≡◌, ℕ, ◌≤◌, false, List, [], length, sym, subst, ⊎_elim, IsTrue}
+use Rattle.std.proofs.Common.{◌≡◌, ℕ, ◌≤◌, false, List, [], length, sym, ◌∙◌, ap, subst, inl, inr, ⊎_elim, IsTrue}
 use Rattle.std.proofs.lemmas.Bool.{cases_Bool}
 use Rattle.model_disk.specs.Disk.{Image, DiskState, IsDisk, Follows, Within, Only}
 use Rattle.model_disk.proofs.Words.{within_where, leaves_none}
 use Rattle.model_system.specs.System.{System}
 use Rattle.model_machine.specs.Machine.{LastingState}
 use Rattle.restart_data.specs.declared.restart.RestartSector.{RestartSector}
-use Rattle.model_image.specs.Alike.{RecoversAlike}
+use Rattle.model_image.specs.Text.{text_in}
 use Rattle.model_image.specs.Areas.{snapshot_area}
 use Rattle.model_image.specs.Holding.{HoldsStores}
 use Rattle.snapshot_records.specs.Records.{snapshot_records}
@@ -16,9 +16,12 @@ use Rattle.renewal.proofs.Behind.{rows_found}
 use Rattle.renewal.proofs.Recovering.{IsNextLife}
 use Rattle.renewal.proofs.Stored.{stores_held}
 use Rattle.opening_parts.specs.Parts.{OpeningParts}
+use Rattle.checkpointing.specs.Texts.{HasText}
+use Rattle.opening_answers.specs.Keeping.{KeepsImage}
 use Rattle.opening_answers.specs.Renewal.{IsRenewed}
 use Rattle.tm_restart.specs.Prepared.{IsPrepared, IsMadeOf}
-use Rattle.tm_restart.proofs.Reopened.{is_renewed, names_none, rewrites_recover}
+use Rattle.tm_restart.proofs.Reopened.{is_renewed, names_none, rewrites_recover, unread_text}
+use Rattle.tm_restart.proofs.Renewed.{same_restart}
 
 module _ (system : System) (text : List ℕ) (given : Given) (parts : OpeningParts) (state : LastingState) (bytes : List ℕ) (now : RestartSector) (prepared : IsPrepared system text given parts state bytes now) where
   has : (P : RestartSector → Type 0) → P parts.now → P now
@@ -32,15 +35,24 @@ module _ (system : System) (text : List ℕ) (given : Given) (parts : OpeningPar
     fits = has (λ (r : RestartSector). r.sectors ≤ snapshot_area system) prepared.begins.sectors;
   }
 
-  alike : (a e : Image) → IsMadeOf system text given parts state now a → Rewrites system given bytes now a e → RecoversAlike system a e
-  alike a e made rewrites =
-      rewrites_recover system made.restart made.snapshot given bytes now (next_life a made) parts.next_unit state prepared.whole.read prepared.whole.spelled a e made.before made.recovers rewrites
-
   renewed : (a e : Image) → IsMadeOf system text given parts state now a → IsRewritten system given bytes now a e → IsRenewed system text parts.now parts.next_unit state e
   renewed a e made done =
       subst (λ (r : RestartSector). IsRenewed system text r parts.next_unit state e) (sym prepared.has_sector)
       (is_renewed system made.restart made.snapshot given bytes now a e made.before done (next_life a made) parts.next_unit state prepared.whole.read prepared.whole.spelled made.recovers text made.same_text
       (has (λ (r : RestartSector). r.text ≡ length text) prepared.begins.text_size) made.has_text)
+
+  -- At any moment the image is of the definition's text.
+  texts : (a e : Image) → IsMadeOf system text given parts state now a → Rewrites system given bytes now a e → HasText system text e
+  texts a e made (inl unread) = unread_text system made.restart made.snapshot given now a e made.before unread text made.has_text
+  texts a e made (inr done) = λ restart found.
+      let is : IsRenewed system text parts.now parts.next_unit state e = renewed a e made done in
+      ap (λ (r : RestartSector). text_in e r.text) (sym (same_restart parts.now restart (sym is.restart ∙ found))) ∙ is.has_text
+
+  kept : (a e : Image) → IsMadeOf system text given parts state now a → Rewrites system given bytes now a e → KeepsImage system text a e
+  kept a e made rewrites = record {
+    alike = rewrites_recover system made.restart made.snapshot given bytes now (next_life a made) parts.next_unit state prepared.whole.read prepared.whole.spelled a e made.before made.recovers rewrites;
+    texts = inr (texts a e made rewrites);
+  }
 
   held : (a e : Image) → IsMadeOf system text given parts state now a → IsRewritten system given bytes now a e → HoldsStores system parts.stores.stores e
   held a e made done =
@@ -57,8 +69,8 @@ module _ (system : System) (text : List ℕ) (given : Given) (parts : OpeningPar
         (λ (silent : old.tells ≡ false). absurd (leaves_none old is_disk silent a left))
         (cases_Bool old.tells)
 
-    pub laid_within : Within (Rewrites system given bytes now) old new → Within (RecoversAlike system) old new
-    laid_within within = within_where (Rewrites system given bytes now) (RecoversAlike system) old new (λ a e left rewrites. alike a e (each_made a left) rewrites) within
+    pub laid_within : Within (Rewrites system given bytes now) old new → Within (KeepsImage system text) old new
+    laid_within within = within_where (Rewrites system given bytes now) (KeepsImage system text) old new (λ a e left rewrites. kept a e (each_made a left) rewrites) within
 
     module _ (follows : Follows (IsRewritten system given bytes now) old new) where
       pub all_renewed : (image : Image) → new.may_leave image → IsRenewed system text parts.now parts.next_unit state image

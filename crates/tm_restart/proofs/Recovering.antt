@@ -1,5 +1,5 @@
 -- What a call leaves that reads an image, and then opens it or begins it cold.
-use Rattle.std.proofs.Common.{◌≡◌, ℕ, false, sym, subst, inl, inr, ⊎_elim, arith, None, Ok, Err, IsTrue}
+use Rattle.std.proofs.Common.{◌≡◌, ℕ, false, sym, subst, refl, inl, inr, ⊎_elim, arith, None, Ok, Err, IsTrue}
 use Rattle.std.specs.Prelude.{Result, List}
 use Rattle.std.proofs.lemmas.Bool.{cases_Bool}
 use Rattle.model_disk.specs.Disk.{Image, DiskState, IsDisk, ComesFrom, Within, Only, Keeps}
@@ -12,7 +12,7 @@ use Rattle.model_image.specs.Areas.{snapshot_area}
 use Rattle.model_image.specs.Faults.{Fault}
 use Rattle.model_image.specs.Recovered.{Recovers}
 use Rattle.model_image.proofs.Answers.{one_answer_of, zeros_are_empty}
-use Rattle.cold_start.specs.FirstImage.{KeepsOrEmpties}
+use Rattle.opening_answers.specs.Keeping.{KeepsImage, IsEmptied, KeepsOrEmpties}
 use Rattle.opening_answers.specs.declared.refusals.OpenError.{OpenError}
 use Rattle.opening_answers.specs.declared.refusals.OpenError.TheVariants.{BadImage, WrongDefinition, TooSmall, Spent, Disk, Memory}
 use Rattle.opening_parts.specs.Parts.{OpeningParts}
@@ -20,24 +20,28 @@ use Rattle.opening_answers.specs.Opening.{TellsCold, TellsOpening}
 
 -- ---- what is left
 
-module _ (system : System) (old mid : DiskState) (keeps : Keeps old mid) where
-  -- reading leaves what recovers alike
-  pub read_within : Within (RecoversAlike system) old mid
+module _ (system : System) (text : List ℕ) (old mid : DiskState) (keeps : Keeps old mid) where
+  -- the same image
+  same_image : (image : Image) → KeepsImage system text image image
+  same_image image = record { alike = λ answer is. is; texts = inl refl }
+
+  -- reading leaves what was there
+  pub read_within : Within (KeepsImage system text) old mid
   read_within = record {
     later = keeps.elapses.later;
     from = λ time image early left.
-        ⊎_elim (λ past. inl past) (λ now. inr (record { before = image; left = keeps.no_more image now; by = λ answer is. is })) (keeps.elapses.nothing_else time image early left);
+        ⊎_elim (λ past. inl past) (λ now. inr (record { before = image; left = keeps.no_more image now; by = same_image image })) (keeps.elapses.nothing_else time image early left);
     keeps = λ time image early left. keeps.elapses.keeps time image early left;
   }
 
   -- what recovers alike behind a reading does so before
-  pub read_then : (new : DiskState) → Within (RecoversAlike system) mid new → Within (RecoversAlike system) old new
+  pub read_then : (new : DiskState) → Within (KeepsImage system text) mid new → Within (KeepsImage system text) old new
   read_then new after = record {
     later = omega (arith, keeps.elapses.later, after.later);
     from = λ time image early left.
         ⊎_elim
-        (λ past. ⊎_elim (λ older. inl older) (λ now. inr (record { before = image; left = keeps.no_more image now; by = λ answer is. is })) (keeps.elapses.nothing_else time image early past))
-        (λ (w : ComesFrom (RecoversAlike system) mid image). inr (record { before = w.before; left = keeps.no_more w.before w.left; by = w.by }))
+        (λ past. ⊎_elim (λ older. inl older) (λ now. inr (record { before = image; left = keeps.no_more image now; by = same_image image })) (keeps.elapses.nothing_else time image early past))
+        (λ (w : ComesFrom (KeepsImage system text) mid image). inr (record { before = w.before; left = keeps.no_more w.before w.left; by = w.by }))
         (after.from time image (omega (arith, early, keeps.elapses.later)) left);
     keeps = λ time image early left. after.keeps time image (omega (arith, early, keeps.elapses.later)) (keeps.elapses.keeps time image early left);
   }
@@ -53,21 +57,21 @@ module _ (system : System) (old mid : DiskState) (keeps : Keeps old mid) where
         (λ (silent : old.tells ≡ false). absurd (leaves_none old is_disk silent a left))
         (cases_Bool old.tells)
 
-    alike : (a e : Image) → old.may_leave a → KeepsOrEmpties system a e → RecoversAlike system a e
+    alike : (a e : Image) → old.may_leave a → KeepsOrEmpties system text a e → KeepsImage system text a e
     alike a e left by =
         ⊎_elim
-        (λ (same : e ≡ a). λ (answer : Result LastingState Fault) (is : Recovers system a answer). subst (λ (i : Image). Recovers system i answer) (sym same) is)
-        (λ (empty : Recovers system e (Ok (empty_state system))). emptied a e left empty)
+        (λ (same : e ≡ a). record { alike = λ (answer : Result LastingState Fault) (is : Recovers system a answer). subst (λ (i : Image). Recovers system i answer) (sym same) is; texts = inl same })
+        (λ (empty : IsEmptied system text e). record { alike = emptied a e left empty.recovers; texts = inr empty.has_text })
         by
 
     -- an image of zeros that was read, and begun cold, recovers alike
-    pub cold_within : Within (KeepsOrEmpties system) mid new → Within (RecoversAlike system) old new
+    pub cold_within : Within (KeepsOrEmpties system text) mid new → Within (KeepsImage system text) old new
     cold_within after = record {
       later = omega (arith, keeps.elapses.later, after.later);
       from = λ time image early left.
           ⊎_elim
-          (λ past. ⊎_elim (λ older. inl older) (λ now. inr (record { before = image; left = keeps.no_more image now; by = λ answer is. is })) (keeps.elapses.nothing_else time image early past))
-          (λ (w : ComesFrom (KeepsOrEmpties system) mid image). inr (record { before = w.before; left = keeps.no_more w.before w.left; by = alike w.before image (keeps.no_more w.before w.left) w.by }))
+          (λ past. ⊎_elim (λ older. inl older) (λ now. inr (record { before = image; left = keeps.no_more image now; by = same_image image })) (keeps.elapses.nothing_else time image early past))
+          (λ (w : ComesFrom (KeepsOrEmpties system text) mid image). inr (record { before = w.before; left = keeps.no_more w.before w.left; by = alike w.before image (keeps.no_more w.before w.left) w.by }))
           (after.from time image (omega (arith, early, keeps.elapses.later)) left);
       keeps = λ time image early left. after.keeps time image (omega (arith, early, keeps.elapses.later)) (keeps.elapses.keeps time image early left);
     }

@@ -1,13 +1,14 @@
 -- What a cold start has written is the first image of a life.
-use Rattle.std.proofs.Common.{◌≡◌, ℕ, zero, suc, ◌+◌, ◌<◌, ◌≤◌, Bool, false, not, ◌||◌, List, [], ◌∷◌, length, take, drop, map, refl, sym, ◌∙◌, ap, subst, arith, Some, None, Ok, nat_le, nat_lt}
-use Rattle.std.specs.Prelude.{find, slice_get, slice_index_or}
+use Rattle.std.proofs.Common.{◌≡◌, ℕ, zero, suc, ◌+◌, ◌<◌, ◌≤◌, Bool, false, not, ◌||◌, List, [], ◌∷◌, length, take, drop, map, refl, sym, ◌∙◌, ap, subst, inl, inr, ⊎_elim, arith, Some, None, Ok, nat_le, nat_lt}
+use Rattle.std.specs.Prelude.{◌⊎◌, Option, Result, find, slice_get, slice_index_or}
 use Rattle.std.specs.Option.{option_map}
 use Rattle.std.specs.Int.{w16, from_be_bytes}
 use Rattle.std.proofs.lemmas.Option.{none-some, same_Some}
 use Rattle.tm_types.specs.declared.dbd.Dbd.{Dbd}
 use Rattle.model_rows.specs.declared.row.Row.{Row}
 use Rattle.model_rows.specs.Record.{spelling}
-use Rattle.model_disk.specs.Disk.{Image, DiskState, sector_at, Follows}
+use Rattle.model_disk.specs.Disk.{Image, DiskState, sector_at, Within, Follows}
+use Rattle.model_disk.proofs.Words.{within_where}
 use Rattle.tm_disk.specs.Sector.{zeros, blank}
 use Rattle.model_queues.specs.Outputs.{fresh_terminal}
 use Rattle.model_system.specs.System.{System}
@@ -16,7 +17,7 @@ use Rattle.log_records.specs.declared.record.Record.{Record}
 use Rattle.log_sectors.specs.Sealed.{opened}
 use Rattle.log_sectors.proofs.Sealing.{opened-blank}
 use Rattle.restart_data.specs.declared.restart.RestartSector.{RestartSector}
-use Rattle.restart_data.specs.Restart.{IsRestart}
+use Rattle.restart_data.specs.Restart.{IsRestart, restart_in}
 use Rattle.restart_data.specs.Fields.{number2_at, are_zeros}
 use Rattle.restart_data.proofs.Zeros.{blank_is, take-zeros, drop-zeros, are_zeros-zeros}
 use Rattle.seg_store.specs.Slots.{Stored, free_slots}
@@ -24,13 +25,14 @@ use Rattle.seg_store.specs.Stores.{empty_store, empty_stores}
 use Rattle.system_types.specs.Valid.{IsSystem}
 use Rattle.model_image.specs.Ahead.{NoneAhead}
 use Rattle.model_image.specs.Holding.{HoldsStores}
-use Rattle.model_image.specs.Areas.{log_first, data_first}
+use Rattle.model_image.specs.Areas.{snapshot_area, log_first, data_first}
 use Rattle.model_image.specs.Slots.{used_in, bytes_in, is_wrong_length}
 use Rattle.model_image.specs.Slots.Source.{Spelled}
 use Rattle.model_image.specs.Recovered.{snapshot_from}
+use Rattle.model_image.proofs.Answers.{zeros_are_empty}
 use Rattle.model_image.proofs.Places.{slot_above, slot_below, both_logs}
 use Rattle.snapshot_records.specs.Records.{snapshot_records}
-use Rattle.cold_start.specs.FirstImage.{IsFirst, IsFirstImage, first_records}
+use Rattle.cold_start.specs.FirstImage.{IsFirst, IsFirstImage, BeginsImage, first_records}
 use Rattle.snapshot_records.specs.Spelled.{Adds}
 use Rattle.snapshot_records.proofs.Read.{no_changes, read_from}
 use Rattle.cold_start.proofs.Emptied.{empty_is, empty_sound}
@@ -41,10 +43,23 @@ use Rattle.model_machine.specs.declared.counts.Counter.TheVariants as counter
 use Rattle.model_image.specs.Text.{text_in}
 use Rattle.count_law.proofs.Told.{empty_counted}
 use Rattle.first_parts.specs.Made.{IsMade}
+use Rattle.checkpointing.specs.Texts.{HasText}
+use Rattle.opening_answers.specs.Keeping.{KeepsOrEmpties}
 use Rattle.opening_answers.specs.Opening.{IsBegun, MayBegin, counters, first_spent}
 use Rattle.opening_parts.specs.Parts.{OpeningParts}
 use Rattle.opening_answers.specs.Renewal.{IsRenewed}
 use Rattle.first_parts.proofs.TextBack.{text_back}
+
+-- ---- restart sectors
+
+abbrev IsSameRead : Result (Option RestartSector) ℕ → Result (Option RestartSector) ℕ → Type 0
+IsSameRead a b = a ≡ b
+
+pub none_or_some : (restart : RestartSector) → IsSameRead (Ok None) (Ok (Some restart)) → ⊥
+none_or_some restart e = cc
+
+pub same_restart : (a b : RestartSector) → IsSameRead (Ok (Some a)) (Ok (Some b)) → a ≡ b
+same_restart a b e = cc
 
 -- ---- the first snapshot
 
@@ -156,6 +171,29 @@ module _ (system : System) (text bytes : List ℕ) (parts : OpeningParts) (state
             spelled = ap bytes_in is_blank ∙ no_bytes ∙ sym (ap (λ (rows : List Row). spelling rows) none);
           };
     }
+
+  -- ---- at any moment
+
+  module _ (short : length text ≤ 262144) where
+    no_restart : (after : Image) → restart_in (snapshot_area system) after ≡ Ok None → HasText system text after
+    no_restart after zeros = λ restart found. absurd (none_or_some restart (sym zeros ∙ found))
+
+    first_text : (after : Image) → IsFirstImage system text bytes now after → HasText system text after
+    first_text after is = λ restart found.
+        ap (λ (r : RestartSector). text_in after r.text) (sym (same_restart now restart (sym is.restart ∙ found)))
+        ∙ ap (λ (n : ℕ). text_in after n) made.text_size ∙ text_back text after is.has_text short
+
+    empties : (before after : Image) → BeginsImage system text bytes now before after → KeepsOrEmpties system text before after
+    empties before after begins =
+        ⊎_elim (λ (same : after ≡ before). inl same)
+        (λ rest. ⊎_elim
+        (λ (zeros : restart_in (snapshot_area system) after ≡ Ok None). inr (record { recovers = zeros_are_empty system after zeros; has_text = no_restart after zeros }))
+        (λ (is : IsFirstImage system text bytes now after). inr (record { recovers = first_recovers system text bytes now made.defined made.records made.first after is; has_text = first_text after is }))
+        rest)
+        begins
+
+    pub empties_within : (old new : DiskState) → Within (BeginsImage system text bytes now) old new → Within (KeepsOrEmpties system text) old new
+    empties_within old new within = within_where (BeginsImage system text bytes now) (KeepsOrEmpties system text) old new (λ before after left begins. empties before after begins) within
 
   module _ (short : length text ≤ 262144) (old new : DiskState) (follows : Follows (λ before after. IsFirstImage system text bytes now after) old new) where
     pub all_renewed : (image : Image) → new.may_leave image → IsRenewed system text parts.now parts.next_unit state image

@@ -4,13 +4,13 @@ use Rattle.std.specs.Prelude.{Option, Result, if◌then◌else◌, ◌==◌}
 use Rattle.std.specs.Option.{option_map}
 use Rattle.std.specs.List.{flat_map}
 use Rattle.std.proofs.lemmas.Bool.{eqb-true}
-use Rattle.model_disk.specs.Disk.{Image, DiskState, sector_at, Within}
-use Rattle.model_disk.proofs.Words.{within_where}
+use Rattle.model_disk.specs.Disk.{Image, sector_at}
 use Rattle.model_system.specs.System.{System}
 use Rattle.model_machine.specs.Machine.{LastingState}
 use Rattle.log_records.specs.declared.record.Record.{Record}
 use Rattle.log_records.specs.Spelling.{spelling}
 use Rattle.restart_data.specs.declared.restart.RestartSector.{RestartSector}
+use Rattle.restart_data.specs.Restart.{restart_in, restart_of}
 use Rattle.model_image.specs.Alike.{RecoversAlike}
 use Rattle.model_image.specs.Faults.{Fault}
 use Rattle.model_image.proofs.Answers.{one_answer_of}
@@ -24,6 +24,7 @@ use Rattle.snapshot_records.specs.Records.{snapshot_records}
 use Rattle.snapshot_records.proofs.Plain.{none_named}
 use Rattle.snapshot_records.proofs.Read.{IsRead}
 use Rattle.checkpointing.specs.Checkpoint.{InArea}
+use Rattle.checkpointing.specs.Texts.{HasText}
 use Rattle.renewal.specs.Given.{Given, IsGiven}
 use Rattle.renewal.specs.Before.{IsBefore}
 use Rattle.renewal.specs.Telling.{TellsState}
@@ -31,6 +32,7 @@ use Rattle.renewal.specs.Writing.{ChangesUnread, IsRewritten, Rewrites}
 use Rattle.renewal.proofs.Unreading.{named_slot, unread_recovers}
 use Rattle.renewal.proofs.Recovering.{IsNextLife, renewed_restart, renewed_snapshot, renewed_ahead, renewed_recovers}
 use Rattle.opening_answers.specs.Renewal.{IsRenewed}
+use Rattle.tm_restart.proofs.Renewed.{same_restart}
 
 -- ---- texts
 
@@ -100,6 +102,28 @@ module _ (system : System) (r : RestartSector) (snapshot : List Record) (given :
           none_ahead = renewed_ahead system r snapshot given bytes now a e before done next records state tells recovers;
         }
 
+-- ---- before all is written
+
+module _ (system : System) (r : RestartSector) (snapshot : List Record) (given : Given) (now : RestartSector) (a e : Image) (before : IsBefore system r snapshot given now a) (changes : ChangesUnread system given now a e) where
+  unread_stays : (k : ℕ) → k < 1 + 64 → sector_at e k ≡ sector_at a k
+  unread_stays k high =
+      ⊎_elim (λ same. same)
+      (λ other.
+      ⊎_elim
+      (λ (w : IsGiven system given k (sector_at e k)).
+      let slot = named_slot system r snapshot given now a before k (sector_at e k) w in
+      absurd (omega (arith, high, slot.sector, slot_above system slot.place slot.number, log_above system 2)))
+      (λ (in_ : InArea (snapshot_first system now.snapshot) (snapshot_area system) k). absurd (omega (arith, in_.low, high)))
+      other)
+      (changes.each k)
+
+  pub unread_text : (text : List ℕ) → first_difference text (text_in a r.text) ≡ None → HasText system text e
+  unread_text text none = λ restart found.
+      let again : restart_in (snapshot_area system) e ≡ restart_in (snapshot_area system) a = ap (restart_of (snapshot_area system)) (unread_stays 0 (omega arith)) in
+      ap (λ (q : RestartSector). text_in e q.text) (sym (same_restart r restart (sym before.restart ∙ sym again ∙ found)))
+      ∙ ap (λ (l : List ℕ). take r.text l) (bytes_same 64 a e 1 (λ k low high. unread_stays k high))
+      ∙ sym (one_text text (text_in a r.text) none)
+
 -- ---- at any moment
 
 tells_state : (system : System) (checkpoint unit : ℕ) (state : LastingState) (bytes : List ℕ) → IsRead system checkpoint unit state [] → bytes ≡ flat_map spelling (snapshot_records checkpoint unit state []) → TellsState system bytes (snapshot_records checkpoint unit state []) state
@@ -120,7 +144,3 @@ module _ (system : System) (r : RestartSector) (snapshot : List Record) (given :
       subst (λ (found : Result LastingState Fault). Recovers system e found) (one_answer_of system a (Ok state) answer recovers is)
       (renewed_recovers system r snapshot given bytes now a e before done next (snapshot_records now.checkpoint unit state []) state (tells_state system now.checkpoint unit state bytes read spelled) recovers))
       rewrites
-
-  pub reopened_within : (old new : DiskState) → ((image : Image) → old.may_leave image → IsBefore system r snapshot given now image) → ((image : Image) → old.may_leave image → Recovers system image (Ok state)) → Within (Rewrites system given bytes now) old new → Within (RecoversAlike system) old new
-  reopened_within old new before recovers within =
-      within_where (Rewrites system given bytes now) (RecoversAlike system) old new (λ a e left rewrites. rewrites_recover a e (before a left) (recovers a left) rewrites) within

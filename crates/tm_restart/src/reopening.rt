@@ -1,10 +1,10 @@
 //! An image that was found is opened.
 ghost use Rattle.std.specs.Prelude.{◌≤◌, length, IsTrue, IfOk, OnOk};
 ghost use Rattle.model_disk.specs.Disk.{Image, Stays, Within, Only};
-ghost use Rattle.model_image.specs.Alike.{RecoversAlike};
 ghost use Rattle.model_image.specs.Holding.{HoldsStores};
 ghost use Rattle.cold_start.specs.FirstImage.{sectors_needed};
 ghost use Rattle.opening_parts.specs.Parts.{AreOpeningParts};
+ghost use Rattle.opening_answers.specs.Keeping.{KeepsImage};
 ghost use Rattle.opening_answers.specs.Renewal.{IsRenewed};
 ghost use Rattle.opening_answers.specs.Opening.{SizeFirst, TellsOpening, MayBegin, OpeningCause};
 ghost use Rattle.image_finding.specs.Found.{IsJudged, IsSeen};
@@ -42,7 +42,7 @@ fn lay<D: Disk>(
     ensures parts { IfOk result (λ opened. AreOpeningParts system.now opened.1 opened.0) }
     ensures begins { IfOk result (λ opened. MayBegin system.now text.now opened.0 opened.1) }
     ensures stays { Stays (D.state disk.old) (D.state disk.new) }
-    ensures any_moment { Within (RecoversAlike system.now) (D.state disk.old) (D.state disk.new) }
+    ensures any_moment { Within (KeepsImage system.now text.now) (D.state disk.old) (D.state disk.new) }
     ensures done { IfOk result (λ opened. (image : Image) → (D.state disk.new).may_leave image → IsRenewed system.now text.now opened.0.now opened.0.next_unit opened.1 image) }
     ensures stored { IfOk result (λ opened. (image : Image) → (D.state disk.new).may_leave image → HoldsStores system.now opened.0.stores.stores image) }
     ensures synced { OnOk result (Only (D.state disk.new).shown (D.state disk.new)) }
@@ -73,7 +73,7 @@ pub(crate) fn reopen<D: Disk>(
     ensures parts { IfOk result (λ opened. AreOpeningParts system.now opened.1 opened.0) }
     ensures begins { IfOk result (λ opened. MayBegin system.now text.now opened.0 opened.1) }
     ensures stays { Stays (D.state disk.old) (D.state disk.new) }
-    ensures any_moment { Within (RecoversAlike system.now) (D.state disk.old) (D.state disk.new) }
+    ensures any_moment { Within (KeepsImage system.now text.now) (D.state disk.old) (D.state disk.new) }
     ensures done { IfOk result (λ opened. (image : Image) → (D.state disk.new).may_leave image → IsRenewed system.now text.now opened.0.now opened.0.next_unit opened.1 image) }
     ensures stored { IfOk result (λ opened. (image : Image) → (D.state disk.new).may_leave image → HoldsStores system.now opened.0.stores.stores image) }
     ensures synced { OnOk result (Only (D.state disk.new).shown (D.state disk.new)) }

@@ -1,9 +1,9 @@
 //! Restarts.
 ghost use Rattle.std.specs.Prelude.{◌≤◌, length, IsTrue, IfOk, OnOk};
 ghost use Rattle.model_disk.specs.Disk.{Image, Stays, Within, Only};
-ghost use Rattle.model_image.specs.Alike.{RecoversAlike};
 ghost use Rattle.model_image.specs.Holding.{HoldsStores};
 ghost use Rattle.opening_parts.specs.Parts.{AreOpeningParts};
+ghost use Rattle.opening_answers.specs.Keeping.{KeepsImage};
 ghost use Rattle.opening_answers.specs.Renewal.{IsRenewed};
 ghost use Rattle.opening_answers.specs.Opening.{SizeFirst, TellsOpening, MayBegin, OpeningCause};
 
@@ -36,8 +36,8 @@ pub fn recover<D: Disk>(
     ensures parts { IfOk result (λ opened. AreOpeningParts system.now opened.1 opened.0) }
     ensures begins { IfOk result (λ opened. MayBegin system.now text.now opened.0 opened.1) }
     ensures stays { Stays (D.state disk.old) (D.state disk.new) }
-    // Whenever a crash comes, what it leaves recovers as before.
-    ensures any_moment { Within (RecoversAlike system.now) (D.state disk.old) (D.state disk.new) }
+    // Whenever a crash comes, what it leaves recovers as before, and is the image before or one of this text.
+    ensures any_moment { Within (KeepsImage system.now text.now) (D.state disk.old) (D.state disk.new) }
     // Then each image recovers to the state that is answered, with that restart sector and an empty log.
     ensures done { IfOk result (λ opened. (image : Image) → (D.state disk.new).may_leave image → IsRenewed system.now text.now opened.0.now opened.0.next_unit opened.1 image) }
     // The databases that are answered stand in their sectors, slot by slot.

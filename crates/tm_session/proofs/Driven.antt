@@ -21,8 +21,8 @@ use Rattle.session_lives.specs.declared.called.Served.{Served}
 use Rattle.session_lives.specs.declared.called.Served.TheVariants.{Printed, Broke, Undone as NotServed}
 use Rattle.session_lives.specs.declared.called.Undone.{Undone}
 use Rattle.session_lives.specs.declared.called.Undone.TheVariants.{Memory as NoMemory, Spent as SpentCounter, Image as BadImage}
-use Rattle.session_lives.specs.Openings.{IsServedSo}
-use Rattle.tm_session.specs.Outcome.{HasWritten, is_undone, left_if, left_by}
+use Rattle.session_lives.specs.Openings.{UndoneBy, IsServedSo}
+use Rattle.tm_session.specs.Outcome.{HasWritten, is_undone, left_if, left_by, UndoneAs}
 use Rattle.tm_session.specs.Driving.{ended_by, IsWritten, IsFinished, IsBroken, Serves, Stops, FailsAt}
 
 -- ---- what was written
@@ -82,6 +82,11 @@ undone_ended NoMemory = refl
 undone_ended SpentCounter = refl
 undone_ended (BadImage refusal) = refl
 
+undone_as : (undone : Undone) (setting : Setting) (last : SessionState) → UndoneBy undone setting last → UndoneAs (ended_by undone) setting last
+undone_as NoMemory setting last cause = tt
+undone_as SpentCounter setting last cause = cause
+undone_as (BadImage refusal) setting last cause = cause
+
 pub undone_broken : (undone : Undone) → IsBroken (ended_by undone)
 undone_broken undone = inr (undone_ended undone)
 
@@ -92,12 +97,12 @@ module _ (setting : Setting) (block : Block) (w w' : Option (List ℕ)) (a b : S
   wrote text None here printed = record { text = text; served = served_one setting block a b text here; printed = printed }
   wrote text (Some ended) here (writing, front) = inl (record {
     writing = writing;
-    stops = λ others. record { mid = b; text = text; served = served_one setting block a b text here; unprinted = refl; printed = front };
+    stops = λ others. record { mid = b; text = text; served = served_one setting block a b text here; unprinted = refl; undone = tt; printed = front };
   })
 
-  undone : (why : Undone) (ended : Option Ended) → IsBegunBy (asked_of setting.system block) setting.system a a.standing b → w' ≡ w → ended ≡ Some (ended_by why)
+  undone : (why : Undone) (ended : Option Ended) → IsBegunBy (asked_of setting.system block) setting.system a a.standing b → UndoneBy why setting b → w' ≡ w → ended ≡ Some (ended_by why)
       → MatchOption ended (Serves setting (block ∷ []) w w' a b) (λ ended. FailsAt setting ended block w w' a b)
-  undone why ended begun same is =
+  undone why ended begun cause same is =
       subst (λ e. MatchOption e (Serves setting (block ∷ []) w w' a b) (λ ended. FailsAt setting ended block w w' a b)) (sym is)
       (inr (record {
         undone = undone_ended why;
@@ -106,6 +111,7 @@ module _ (setting : Setting) (block : Block) (w w' : Option (List ℕ)) (a b : S
           text = [];
           served = (refl, refl);
           unprinted = subst (λ u. left_if u setting.system (block ∷ others) a b) (sym (undone_ended why)) begun;
+          undone = undone_as why setting b cause;
           printed = all_written (ended_by why) w w' same;
         };
       }))
@@ -114,7 +120,7 @@ module _ (setting : Setting) (block : Block) (w w' : Option (List ℕ)) (a b : S
       → MatchOption ended (Serves setting (block ∷ []) w w' a b) (λ ended. FailsAt setting ended block w w' a b)
   whole_block Printed text ended here finished = wrote text ended here finished
   whole_block Broke text ended here finished = wrote broken_text ended here finished
-  whole_block (NotServed why) text ended here finished = undone why ended here.0 finished.0 finished.1
+  whole_block (NotServed why) text ended here finished = undone why ended here.0 here.1 finished.0 finished.1
 
 -- ---- several blocks
 
@@ -136,6 +142,7 @@ serves_stops setting ended xs ys others w w1 w2 a b c first second = record {
   text = first.text ++ second.text;
   served = served_on setting xs ys a b second.mid first.text second.text first.served second.served;
   unprinted = second.unprinted;
+  undone = second.undone;
   printed = written_behind ended w w1 w2 first.text second.text first.printed second.printed;
 }
 
@@ -160,16 +167,17 @@ none_if : (undone : Bool) (system : System) (others : List Block) (a : SessionSt
 none_if true system others a = none_begun system others a
 none_if false system others a = refl
 
-pub stops_none : (setting : Setting) (ended : Ended) (others : List Block) (written : Option (List ℕ)) (a : SessionState) → Stops setting ended [] others written written a a
-stops_none setting ended others written a = record {
+pub stops_none : (setting : Setting) (ended : Ended) (others : List Block) (written : Option (List ℕ)) (a : SessionState) → UndoneAs ended setting a → Stops setting ended [] others written written a a
+stops_none setting ended others written a cause = record {
   mid = a;
   text = [];
   served = (refl, refl);
   unprinted = none_if (is_undone ended) setting.system others a;
+  undone = cause;
   printed = all_written ended written written refl;
 }
 
 -- blocks that were served last of all
 pub stops_served : (setting : Setting) (blocks : List Block) (w w' : Option (List ℕ)) (a b : SessionState) → Serves setting blocks w w' a b → Stops setting Done blocks [] w w' a b
 stops_served setting blocks w w' a b one =
-    subst (λ bs. Stops setting Done bs [] w w' a b) (append-nil blocks) (serves_stops setting Done blocks [] [] w w' w' a b b one (stops_none setting Done [] w' b))
+    subst (λ bs. Stops setting Done bs [] w w' a b) (append-nil blocks) (serves_stops setting Done blocks [] [] w w' w' a b b one (stops_none setting Done [] w' b tt))

@@ -7,3 +7,4 @@ pub mod Endings
 pub mod Judging
 pub mod Opened
 pub mod Whole
+pub mod Complete

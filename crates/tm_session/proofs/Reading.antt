@@ -10,7 +10,7 @@ use Rattle.tm_edge.specs.Lines.{CutLine, IsTooLong, ServesTold, line_size}
 use Rattle.tm_edge.proofs.ServedSoFar.{none_served, one_served}
 use Rattle.tm_session.specs.declared.outcome.Ended.{Ended}
 use Rattle.tm_session.specs.declared.outcome.Ended.TheVariants.{Done, Words, BadLine, BadCross, Down, Read, Write, Image, Memory, Limit, Spent}
-use Rattle.tm_session.specs.Outcome.{ending_of, texts_of, is_undone, AreSettled, IsLimit, IsAtLimit, IsBack, IsReadToEnd, HasCause}
+use Rattle.tm_session.specs.Outcome.{ending_of, texts_of, is_undone, UndoneAs, AreSettled, IsLimit, IsAtLimit, IsBack, IsReadToEnd, HasCause}
 use Rattle.tm_session.specs.Outcome.Ending.{Whole, Stopped, NotBegun}
 use Rattle.tm_session.specs.Unread.{IsUnread}
 use Rattle.tm_session.specs.Driving.{Stops, Goes, Ends, EndsWhole, IsBroken, AreClosed, ahead_with, kept_blocks, may_pass, IsBehind, behind_last, StopsBetween, StopsAt, StopsWhole, StopsLast, StopsHere, Steps, ReadSoFar, SoFar, ReadsTold, HasDriven}
@@ -256,6 +256,22 @@ stopped_begun : (ended : Ended) → (ending_of ended ≡ Stopped) ⊎ (ended ≡
 stopped_begun ended (inl stopped) = λ e. let never : Stopped ≡ NotBegun = sym stopped ∙ e in cc
 stopped_begun ended (inr memory) = subst (λ s. ending_of s ≢ NotBegun) (sym memory) (λ e. cc)
 
+-- what ends between two lines is no block that could not be served
+stopped_cause : (ended : Ended) (setting : Setting) (last : SessionState) → (ending_of ended ≡ Stopped) ⊎ (ended ≡ Memory) → UndoneAs ended setting last
+stopped_cause Done setting last why = tt
+stopped_cause Down setting last why = tt
+stopped_cause Read setting last why = tt
+stopped_cause Write setting last why = tt
+stopped_cause Memory setting last why = tt
+stopped_cause (Limit n) setting last why = tt
+stopped_cause (Words word rule) setting last why = tt
+stopped_cause (BadLine line rule) setting last why = tt
+stopped_cause (BadCross line rule) setting last why = tt
+stopped_cause Spent setting last (inl stopped) = cc
+stopped_cause Spent setting last (inr memory) = cc
+stopped_cause (Image refusal) setting last (inl stopped) = cc
+stopped_cause (Image refusal) setting last (inr memory) = cc
+
 broken_begun : (ended : Ended) → IsBroken ended → ending_of ended ≢ NotBegun
 broken_begun ended broken = broken_cases (λ s. ending_of s ≢ NotBegun) ended broken (λ e. cc) (λ e. cc) (λ e. cc) (λ refusal e. cc)
 
@@ -359,7 +375,7 @@ module _ (setting : Setting) (before count : ℕ) (told now told' : Option (List
     begun = stopped_begun ended stops.stopped;
     not_down = stopped_up ended stops.stopped;
     stops = serves_stops setting ended far.blocks [] [] w w1 w2 a b c far.serves
-        (subst (λ v. Stops setting ended [] [] w1 v b c) (sym stops.printed) (subst (λ d. Stops setting ended [] [] w1 w1 b d) (sym stops.same) (stops_none setting ended [] w1 b)));
+        (subst (λ v. Stops setting ended [] [] w1 v b c) (sym stops.printed) (subst (λ d. Stops setting ended [] [] w1 w1 b d) (sym stops.same) (stops_none setting ended [] w1 b (stopped_cause ended setting b stops.stopped))));
     read = subst (λ bs. ReadsTold before told told' bs [] ended) (sym (append-nil far.blocks))
         (between_read before count told now told' pending w1 w2 b c far.blocks ended far.read far.shut few stops);
   }

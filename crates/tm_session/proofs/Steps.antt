@@ -117,7 +117,7 @@ ends_longer setting block line w a seen plus takes = record {
   blocks = [];
   others = [];
   front = λ served. ap (λ bs. closed (served ++ bs)) (longer block line [] seen plus) ∙ open_last served (and_line block line) takes ∙ sym (append-nil served);
-  stops = stops_none setting Memory [] w a;
+  stops = stops_none setting Memory [] w a tt;
 }
 
 -- another line closes it
@@ -221,7 +221,7 @@ goes_passed setting pending line w a passed = record {
 -- ---- the end of the source
 
 pub whole_none : (setting : Setting) (w : Option (List ℕ)) (a : SessionState) → EndsWhole setting Done None w w a a
-whole_none setting w a = record { blocks = []; others = []; settled = inl (refl, refl, refl); stops = stops_none setting Done [] w a }
+whole_none setting w a = record { blocks = []; others = []; settled = inl (refl, refl, refl); stops = stops_none setting Done [] w a tt }
 
 pub whole_served : (setting : Setting) (block : Block) (w w' : Option (List ℕ)) (a b : SessionState) → Serves setting (block ∷ []) w w' a b → EndsWhole setting Done (Some block) w w' a b
 whole_served setting block w w' a b serves = record { blocks = block ∷ []; others = []; settled = inl (refl, refl, refl); stops = stops_served setting (block ∷ []) w w' a b serves }

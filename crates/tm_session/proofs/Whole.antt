@@ -2,7 +2,7 @@
 use Rattle.std.proofs.Common.{◌≡◌, ◌≢◌, ◌⊎◌, ℕ, ◌≤◌, Bool, true, false, List, [], ◌∷◌, ◌++◌, length, map, sym, ◌∙◌, ap, subst, refl, arith, inl, inr}
 use Rattle.std.proofs.lemmas.List.{append-nil, map-append}
 use Rattle.std.specs.Prelude.{Option, Some, None, IfSome, Ok}
-use Rattle.std.specs.Option.{option_map}
+use Rattle.std.specs.Option.{option_map, is_some}
 use Rattle.model_disk.specs.Disk.{Image, DiskState, IsDisk, Stays, Only}
 use Rattle.model_disk.proofs.Words.{stays_same}
 use Rattle.model_system.specs.System.{System}
@@ -18,7 +18,8 @@ use Rattle.model_session.specs.Session.{Begins, Opens as OpensLife, FailsToOpen}
 use Rattle.opening_answers.specs.Opening.{WroteNothing}
 use Rattle.control_life.specs.declared.how.How.TheVariants.{Found}
 use Rattle.control_life.specs.Opened.{Refuses}
-use Rattle.tm_control.specs.OnDisk.{ControlOnDisk, LastsBy}
+use Rattle.opening_answers.specs.declared.refusals.OpenError.{OpenError}
+use Rattle.opening_answers.specs.declared.refusals.OpenError.TheVariants.{Spent as NoCounter}
 use Rattle.control_life.specs.declared.life.Life.{Life}
 use Rattle.tm_edge.specs.Lines.{unread, lines_of}
 use Rattle.sysdef_text.specs.Ends.{definition_lines}
@@ -29,23 +30,28 @@ use Rattle.session_lives.specs.declared.place.Place.{Place}
 use Rattle.session_lives.specs.declared.place.Place.TheVariants.{Up, Down}
 use Rattle.session_lives.specs.declared.place.Kept.{Kept}
 use Rattle.session_lives.specs.declared.place.Session.{Session}
-use Rattle.session_lives.specs.Running.{life_of, last_of, last_up, kept_of, outage_of, session_at, session_of, setting_of, Holds, IsUpReady, IsDownReady, IsReady, IsReadyAt, IsUpSound, IsDownSound, IsSound, IsSoundAt, Leads, LeadsBy}
-use Rattle.session_lives.specs.Openings.{HasGone, StaysIdle, how_of, error_of}
-use Rattle.session_lives.proofs.Ends.{same_state, outage_with, same_life, answered_of, stops_higher}
-use Rattle.session_lives.proofs.Restarted.{legal_with, opens_gone, fails_gone, gone_sound}
+use Rattle.session_lives.specs.Running.{life_of, last_of, kept_of, outage_of, standing_of, session_at, session_of, setting_of, error_of, IsDownSound, IsSound, Leads, LeadsBy}
+use Rattle.session_lives.specs.Openings.{HasGone, StaysIdle}
+use Rattle.session_lives.specs.Closing.{listed, IsClosedDown, IsClosedAt, IsClosed, Remains, LeavesSo}
+use Rattle.session_lives.proofs.Ends.{same_state, outage_with}
+use Rattle.session_lives.proofs.Restarted.{opens_gone, fails_gone, gone_sound}
 use Rattle.tm_session.specs.declared.outcome.Ended.{Ended}
 use Rattle.tm_session.specs.declared.outcome.Ended.TheVariants.{Done, Words, BadLine, BadCross, Down as DownAtEnd, Read, Write, Image as BadImage, Memory, Limit, Spent}
 use Rattle.tm_session.specs.Source.{judged, definition_text}
-use Rattle.tm_session.specs.Outcome.{ending_of, texts_of, HasWritten, left_by, IsBy}
+use Rattle.tm_session.specs.Outcome.{ending_of, HasWritten, left_by, UndoneAs, IsBy}
 use Rattle.tm_session.specs.Sources.{HasRead, HasReadTold}
 use Rattle.tm_session.specs.Outcome.Ending.{NotBegun}
 use Rattle.tm_session.specs.Driving.{HasDriven, ReadsTold}
 use Rattle.tm_session.specs.Opening.{ReadsDefinition}
-use Rattle.tm_session.specs.Opened.{IsRead, HasBegun, IsNothing, refusal, down_at_end, by_standing, listed, IsFinishedUp, IsFinishedDown, IsFinishedAt, IsFinished}
+use Rattle.tm_session.specs.Opened.{IsRead, HasBegun, IsNothing, refusal, down_at_end, by_standing}
 use Rattle.tm_session.specs.Headline.{HasLived, HasSession, IsSession, Defines, IsUnbegun, IsNeverOpened, IsRefusal, ToldNothing}
 use Rattle.tm_session.proofs.Opened.{whole_session}
 
 -- ---- how a session begins
+
+no_first : (last : Option Life) → last ≡ None → is_some last ≡ true → ⊥
+no_first None none some = cc
+no_first (Some life) none some = cc
 
 module _ {D : Type 0} (state : D → DiskState) (is_disk : (disk : D) → IsDisk (state disk)) (system : System) (text : List ℕ) (handed : D) (session : Session D) (ended : Option Ended)
     (alone : Only (state handed).shown (state handed)) (b : HasBegun state system text handed session ended) where
@@ -53,10 +59,13 @@ module _ {D : Type 0} (state : D → DiskState) (is_disk : (disk : D) → IsDisk
   first_stays = subst (λ d. Stays (state handed) (state d)) (sym b.disk_is) (stays_same (state handed))
 
   -- no life has begun
-  first_sound : IsDownSound state system handed b.idle b.kept
+  first_sound : IsDownSound state system text handed b.idle b.kept
   first_sound = record {
     handed_alone = alone;
     system_is = b.system_is;
+    text_is = b.text_is;
+    size = λ begun. absurd (no_first b.idle.last b.last_is begun);
+    texts = λ image left. inr (record { no_life = ap (λ l. option_map last_of l) b.last_is; left = subst (λ d. (state d).may_leave image) b.disk_is left });
     stays = first_stays;
     stops = subst (λ s. AreStops (state handed).faults s (state b.idle.disk).faults) (sym b.stops) first_stays.faults;
     legal = subst (λ l. AreLegal system (map life_of l)) (sym b.lives) tt;
@@ -77,47 +86,47 @@ module _ {D : Type 0} (state : D → DiskState) (is_disk : (disk : D) → IsDisk
   first_state =
       same_state [] (map life_of b.kept.lives.items) [] b.kept.stops.items (StandsDown no_life) (StandsDown (outage_of b.idle)) (ap (map life_of) b.lives) b.stops (ap StandsDown first_outage)
 
-  begins_by : (opening : Opening) → HasGone state b.idle b.kept false session opening → refusal opening ≡ None → Begins (setting_of state system handed) (session_of session)
+  begins_by : (opening : Opening) → HasGone state b.idle b.kept false session opening → refusal opening ≡ None → Begins (setting_of state system text handed) (session_of session)
   begins_by Opened gone none =
-      inl (subst (λ o. OpensLife false (setting_of state system handed) unbegun o (session_of session)) first_outage
-      (subst (λ s. OpensLife false (setting_of state system handed) s (outage_of b.idle) (session_of session)) first_state
-      (opens_gone state is_disk system handed b.idle b.kept session first_sound false gone)))
+      inl (subst (λ o. OpensLife false (setting_of state system text handed) unbegun o (session_of session)) first_outage
+      (subst (λ s. OpensLife false (setting_of state system text handed) s (outage_of b.idle) (session_of session)) first_state
+      (opens_gone state is_disk system text handed b.idle b.kept session first_sound false gone)))
   begins_by Broke gone none =
       inr (subst (λ o. FailsToOpen false unbegun o (session_of session)) first_outage
       (subst (λ s. FailsToOpen false s (outage_of b.idle) (session_of session)) first_state
-      (fails_gone state is_disk system handed b.idle b.kept session first_sound false gone)))
+      (fails_gone state is_disk system text handed b.idle b.kept session first_sound false gone)))
   begins_by (Refused refused) gone none = cc
   begins_by NoMemory gone none = cc
   begins_by SpentCounter gone none = cc
 
-  pub begins : ended ≡ None → Begins (setting_of state system handed) (session_of session)
+  pub begins : ended ≡ None → Begins (setting_of state system text handed) (session_of session)
   begins none = begins_by b.opening b.gone (sym b.ends ∙ none)
 
-  pub begun_sound : IsSound state system handed session
-  begun_sound = gone_sound state is_disk system handed b.idle b.kept session first_sound false b.opening b.gone
+  pub begun_sound : IsSound state system text handed session
+  begun_sound = gone_sound state is_disk system text handed b.idle b.kept session first_sound false b.opening b.gone
 
   -- ---- or it was refused
+
+  refuses_first : (error : OpenError) → Refuses Found b.idle.system b.idle.text (state b.idle.disk) error → Refuses Found system text (state handed) error
+  refuses_first error refuses =
+      subst (λ d. Refuses Found system text (state d) error) b.disk_is
+      (subst (λ t. Refuses Found system t (state b.idle.disk) error) b.text_is
+      (subst (λ s. Refuses Found s b.idle.text (state b.idle.disk) error) b.system_is refuses))
+
+  why_is : (a b : Ended) → Some a ≡ Some b → a ≡ b
+  why_is a b e = cc
 
   idles_by : (opening : Opening) (why : Ended) → HasGone state b.idle b.kept false session opening → refusal opening ≡ Some why
       → StaysIdle state b.idle b.kept session × IsRefusal system text (state handed) why
   idles_by (Refused refused) why gone is = (
     gone.0,
-    subst (λ e. IsRefusal system text (state handed) e) (some_is (BadImage refused) why is)
-        (subst (λ d. Refuses Found system text (state d) (error_of refused)) b.disk_is
-        (subst (λ t. Refuses Found system t (state b.idle.disk) (error_of refused)) b.text_is
-        (subst (λ s. Refuses Found s b.idle.text (state b.idle.disk) (error_of refused)) b.system_is gone.1))),
+    subst (λ e. IsRefusal system text (state handed) e) (why_is (BadImage refused) why is) (refuses_first (error_of refused) gone.1),
   )
-    where
-      some_is : (a b : Ended) → Some a ≡ Some b → a ≡ b
-      some_is a b e = cc
-  idles_by NoMemory why gone is = (gone, subst (λ e. IsRefusal system text (state handed) e) (some_is Memory why is) tt)
-    where
-      some_is : (a b : Ended) → Some a ≡ Some b → a ≡ b
-      some_is a b e = cc
-  idles_by SpentCounter why gone is = (gone, subst (λ e. IsRefusal system text (state handed) e) (some_is Spent why is) tt)
-    where
-      some_is : (a b : Ended) → Some a ≡ Some b → a ≡ b
-      some_is a b e = cc
+  idles_by NoMemory why gone is = (gone, subst (λ e. IsRefusal system text (state handed) e) (why_is Memory why is) tt)
+  idles_by SpentCounter why gone is = (
+    gone.0,
+    subst (λ e. IsRefusal system text (state handed) e) (why_is Spent why is) (record { counter = gone.1.counter; refuses = refuses_first (NoCounter gone.1.counter) gone.1.refuses }),
+  )
   idles_by Opened why gone is = cc
   idles_by Broke why gone is = cc
 
@@ -127,9 +136,9 @@ module _ {D : Type 0} (state : D → DiskState) (is_disk : (disk : D) → IsDisk
 
   never_by : (told told' w : Option (List ℕ)) (why status : Ended) (disk : D) (lives : List Life) (stops : List Stop) → IfSome told (λ bytes. Defines bytes system)
       → IfSome told (λ bytes. text ≡ definition_text (definition_lines (lines_of bytes))) → (idles : StaysIdle state b.idle b.kept session) → IsRefusal system text (state handed) why
-      → IsFinishedDown idles.after session.kept why status disk lives stops → IsSession state told told' w w handed disk status lives stops
-  never_by told told' w why status disk lives stops defines text_is idles refused over =
-      let same : status ≡ why = over.status_is ∙ unstopped idles.after.stopped why (idles.stopped ∙ b.stopped_is) in
+      → status ≡ by_standing idles.after.stopped why → IsClosedDown idles.after session.kept disk lives stops → IsSession state told told' w w handed disk status lives stops
+  never_by told told' w why status disk lives stops defines text_is idles refused at over =
+      let same : status ≡ why = at ∙ unstopped idles.after.stopped why (idles.stopped ∙ b.stopped_is) in
       let none : idles.after.last ≡ None = idles.last ∙ b.last_is in
       inr (
         inr (record {
@@ -148,11 +157,12 @@ module _ {D : Type 0} (state : D → DiskState) (is_disk : (disk : D) → IsDisk
       )
 
   pub never_opened : (told told' w : Option (List ℕ)) (why status : Ended) (disk : D) (lives : List Life) (stops : List Stop) → ended ≡ Some why → IfSome told (λ bytes. Defines bytes system)
-      → IfSome told (λ bytes. text ≡ definition_text (definition_lines (lines_of bytes))) → IsFinished state session why status disk lives stops
+      → IfSome told (λ bytes. text ≡ definition_text (definition_lines (lines_of bytes))) → status ≡ by_standing (is_stopped (standing_of session.place)) why → IsClosed state session disk lives stops
       → IsSession state told told' w w handed disk status lives stops
-  never_opened told told' w why status disk lives stops is defines text_is over =
+  never_opened told told' w why status disk lives stops is defines text_is at over =
       let one = idles_by b.opening why b.gone (sym b.ends ∙ is) in
-      never_by told told' w why status disk lives stops defines text_is one.0 one.1 (subst (λ p. IsFinishedAt state p session.kept why status disk lives stops) one.0.place over)
+      never_by told told' w why status disk lives stops defines text_is one.0 one.1 (at ∙ ap (λ p. by_standing (is_stopped (standing_of p)) why) one.0.place)
+      (subst (λ p. IsClosedAt state p session.kept disk lives stops) one.0.place over)
 
 -- ---- how it ends
 
@@ -202,76 +212,11 @@ by_is false Memory standing not is = tt
 by_is false (Limit n) standing not is = tt
 by_is false Spent standing not is = tt
 
--- What is left of it, and what was kept.
-pub record Remains {D : Type 0} (state : D → DiskState) (system : System) (handed disk : D) (last : SessionState) (lives : List Life) (stops : List Stop) : Type 0 where
-  pub lives_are : AreAllLives system last (map life_of lives)
-  pub legal : AreLegal system (map life_of lives)
-  pub stops_are : stops ≡ last.stops
-  pub counted : AreStops (state handed).faults stops (state disk).faults
-  pub images : (image : Image) → (state disk).may_leave image → Holds state system handed last.standing image
-
-lives_listed : (lives : List Life) (last : Option Life) → map life_of (lives ++ listed last) ≡ with_life (map life_of lives) (option_map last_of last) (kept_of last)
-lives_listed lives None = ap (map life_of) (append-nil lives)
-lives_listed lives (Some life) = map-append life_of lives (life ∷ [])
-
-module _ {D : Type 0} (state : D → DiskState) (system : System) (handed : D) where
-  down_remains : (idle : Idle D) (kept : Kept) (ended status : Ended) (disk : D) (lives : List Life) (stops : List Stop) → IsDownSound state system handed idle kept
-      → IsFinishedDown idle kept ended status disk lives stops → Remains state system handed disk (session_at (Down idle) kept) lives stops
-  down_remains idle kept ended status disk lives stops sound over =
-      let all : map life_of lives ≡ with_life (map life_of kept.lives.items) (option_map last_of idle.last) (kept_of idle.last) = ap (map life_of) over.lives_are ∙ lives_listed kept.lives.items idle.last in
-      record {
-        lives_are = record { count = kept_of idle.last; answered = sound.answered; are = all };
-        legal = subst (λ l. AreLegal system l) (sym all) (legal_with system (map life_of kept.lives.items) (option_map last_of idle.last) (kept_of idle.last) (kept_of idle.last) sound.legal sound.answered);
-        stops_are = over.stops_are;
-        counted = subst (λ d. AreStops (state handed).faults stops (state d).faults) (sym over.disk_is)
-            (subst (λ s. AreStops (state handed).faults s (state idle.disk).faults) (sym over.stops_are) sound.stops);
-        images = λ image left. sound.images image (subst (λ d. (state d).may_leave image) over.disk_is left);
-      }
-
-  up_holds : (control : ControlOnDisk D) (up : Bool) → up ≡ true → control.control.system ≡ system → LastsBy up control.control control.text (state control.disk) → (image : Image)
-      → (state control.disk).may_leave image → Holds state system handed (StandsUp (last_up control)) image
-  up_holds control false is same lasts image left = cc
-  up_holds control true is same lasts image left = inl (record {
-    state = (now_of control.control).lasting;
-    recovers = subst (λ s. Recovers s image (Ok (now_of control.control).lasting)) same (lasts.images image left);
-    may = ap (λ s. (moment_after s (start_of s control.control.opening) control.control.history).lasting) same;
-  })
-
-  up_remains : (control : ControlOnDisk D) (kept : Kept) (ended status : Ended) (disk : D) (lives : List Life) (stops : List Stop) → IsUpReady control kept → IsUpSound state system handed control kept
-      → IsFinishedUp state control kept ended status disk lives stops → Remains state system handed disk (session_at (Up control) kept) lives stops
-  up_remains control kept ended status disk lives stops ready sound over =
-      let life : LifeState = kept_life (last_up control) over.life.kept in
-      let same : life_of over.life ≡ life = ap (λ l. kept_life l over.life.kept) (same_life control.control.opening over.life.opening control.control.history over.life.history over.closes.opening over.closes.history) in
-      let all : map life_of lives ≡ with_life (map life_of kept.lives.items) (Some (last_up control)) over.life.kept =
-      ap (map life_of) over.lives_are ∙ map-append life_of kept.lives.items (over.life ∷ []) ∙ ap (λ l. map life_of kept.lives.items ++ l ∷ []) same in
-      let answered : HasAnswered system (last_up control) over.life.kept =
-      answered_of control.control.system system control.control.opening control.control.opening control.control.history control.control.history over.life.kept
-      sound.system_is refl refl (record { legal = over.closes.legal; numbers = over.closes.numbers; counted = over.closes.kept }) in
-      record {
-        lives_are = record { count = over.life.kept; answered = answered; are = all };
-        legal = subst (λ l. AreLegal system l) (sym all) (legal_with system (map life_of kept.lives.items) (Some (last_up control)) over.life.kept over.life.kept sound.legal answered);
-        stops_are = over.stops_are;
-        counted = subst (λ d. AreStops (state handed).faults stops (state d).faults) (sym over.closes.disk_is)
-            (subst (λ s. AreStops (state handed).faults s (state control.disk).faults) (sym over.stops_are)
-            (stops_higher (state handed).faults control.began (state control.disk).faults kept.stops.items sound.stops sound.began));
-        images = λ image left. up_holds control control.up ready.up sound.system_is over.lasts image (subst (λ d. (state d).may_leave image) over.closes.disk_is left);
-      }
-
-  remains_at : (place : Place D) (kept : Kept) (ended status : Ended) (disk : D) (lives : List Life) (stops : List Stop) → IsReadyAt state place kept → IsSoundAt state system handed place kept
-      → IsFinishedAt state place kept ended status disk lives stops → Remains state system handed disk (session_at place kept) lives stops
-  remains_at (Up control) kept ended status disk lives stops ready sound over = up_remains control kept ended status disk lives stops ready sound over
-  remains_at (Down idle) kept ended status disk lives stops ready sound over = down_remains idle kept ended status disk lives stops sound over
-
-  -- how it stands tells whether the system is down by a stop
-  pub status_at : (place : Place D) (kept : Kept) (ended status : Ended) (disk : D) (lives : List Life) (stops : List Stop) → IsFinishedAt state place kept ended status disk lives stops
-      → status ≡ by_standing (is_stopped (session_at place kept).standing) ended
-  status_at (Up control) kept ended status disk lives stops over = over.status_is
-  status_at (Down idle) kept ended status disk lives stops over = over.status_is
-
+module _ {D : Type 0} (state : D → DiskState) (system : System) (source : List ℕ) (handed : D) where
   lived_by : (told mid : Option (List ℕ)) (held : List ℕ) (left w w' : Option (List ℕ)) (texts : List (List ℕ)) (disk : D) (first last : SessionState) (stopped : Bool) (ended : Ended)
-      (lives : List Life) (stops : List Stop) → ReadsDefinition told texts mid → Begins (setting_of state system handed) first
-      → HasDriven (setting_of state system handed) (length texts) mid (unread held left) w w' first last ended → is_stopped last.standing ≡ stopped
-      → Remains state system handed disk last lives stops → HasLived state system told left w w' handed disk (by_standing stopped ended) (map life_of lives) stops
+      (lives : List Life) (stops : List Stop) → ReadsDefinition told texts mid → Begins (setting_of state system source handed) first
+      → HasDriven (setting_of state system source handed) (length texts) mid (unread held left) w w' first last ended → is_stopped last.standing ≡ stopped
+      → Remains state system source handed disk last lives stops → HasLived state system source told left w w' handed disk (by_standing stopped ended) (map life_of lives) stops
   lived_by told mid held left w w' texts disk first last stopped ended lives stops definition begins driven is rest = record {
     blocks = driven.blocks;
     others = driven.others;
@@ -283,6 +228,7 @@ module _ {D : Type 0} (state : D → DiskState) (system : System) (handed : D) w
     begins = begins;
     session = driven.stops.served;
     unprinted = by_stopped (λ s. left_by s system driven.others driven.stops.mid last) stopped ended driven.stops.unprinted (λ one. one);
+    undone = by_stopped (λ s. UndoneAs s (setting_of state system source handed) last) stopped ended driven.stops.undone (λ one. tt);
     read = by_stopped (λ s. HasReadTold told left driven.blocks driven.others s) stopped ended (whole_session ended told mid held left texts driven.blocks driven.others definition driven.read)
         (read_down told left driven.blocks driven.others);
     written = by_stopped (λ s. HasWritten w w' driven.stops.text s) stopped ended driven.stops.printed (λ one. one);
@@ -295,19 +241,23 @@ module _ {D : Type 0} (state : D → DiskState) (system : System) (handed : D) w
   }
 
   -- a session that was driven from where it began
-  pub is_session : (told mid : Option (List ℕ)) (held : List ℕ) (left w w' : Option (List ℕ)) (count : ℕ) (text : List ℕ) (disk : D) (a b : Session D) (ended status : Ended)
-      (lives : List Life) (stops : List Stop) → IsRead told mid count system text → Begins (setting_of state system handed) (session_of a) → IsSound state system handed a
-      → Leads state (λ setting x y. HasDriven setting count mid (unread held left) w w' x y ended) a b → IsReady state b → IsFinished state b ended status disk lives stops
+  pub is_session : (told mid : Option (List ℕ)) (held : List ℕ) (left w w' : Option (List ℕ)) (count : ℕ) (disk : D) (a b : Session D) (ended status : Ended)
+      (lives : List Life) (stops : List Stop) → IsRead told mid count system source → IfSome told (λ bytes. source ≡ definition_text (definition_lines (lines_of bytes)))
+      → Begins (setting_of state system source handed) (session_of a) → IsSound state system source handed a
+      → Leads state (λ setting x y. HasDriven setting count mid (unread held left) w w' x y ended) a b → status ≡ by_standing (is_stopped (standing_of b.place)) ended
+      → LeavesSo state b disk lives stops
       → IsSession state told left w w' handed disk status lives stops
-  is_session told mid held left w w' count text disk a b ended status lives stops definition begins sound leads ready over =
-      let led : LeadsBy state (λ setting x y. HasDriven setting count mid (unread held left) w w' x y ended) system handed a b = leads system handed sound in
+  is_session told mid held left w w' count disk a b ended status lives stops definition text_is begins sound leads at over =
+      let led : LeadsBy state (λ setting x y. HasDriven setting count mid (unread held left) w w' x y ended) system source handed a b = leads system source handed sound in
       inl (record {
         system = system;
         defines = definition.defines;
-        lived = subst (λ s. HasLived state system told left w w' handed disk s (map life_of lives) stops) (sym (status_at b.place b.kept ended status disk lives stops over))
-            (lived_by told mid held left w w' definition.texts disk (session_of a) (session_of b) (is_stopped (session_of b).standing) ended lives stops definition.read begins
-            (subst (λ n. HasDriven (setting_of state system handed) n mid (unread held left) w w' (session_of a) (session_of b) ended) (sym definition.counted) led.goes) refl
-            (remains_at b.place b.kept ended status disk lives stops ready led.sound over));
+        text = source;
+        text_is = text_is;
+        lived = subst (λ s. HasLived state system source told left w w' handed disk s (map life_of lives) stops) (sym at)
+            (lived_by told mid held left w w' definition.texts disk (session_of a) (session_of b) (is_stopped (standing_of b.place)) ended lives stops definition.read begins
+            (subst (λ n. HasDriven (setting_of state system source handed) n mid (unread held left) w w' (session_of a) (session_of b) ended) (sym definition.counted) led.goes) refl
+            (over system source handed led.sound));
       })
 
 -- a session that has not begun

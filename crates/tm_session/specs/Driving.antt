@@ -14,7 +14,7 @@ use Rattle.session_lives.specs.declared.called.Served.{Served}
 use Rattle.session_lives.specs.declared.called.Served.TheVariants.{Printed, Broke, Undone as NotServed}
 use Rattle.session_lives.specs.declared.called.Undone.{Undone}
 use Rattle.session_lives.specs.declared.called.Undone.TheVariants.{Memory as NoMemory, Spent as SpentCounter, Image as BadImage}
-use Rattle.tm_session.specs.Outcome.{ending_of, texts_of, HasWritten, left_by, is_undone, AreSettled, IsAtLimit, IsBack}
+use Rattle.tm_session.specs.Outcome.{ending_of, texts_of, HasWritten, left_by, is_undone, UndoneAs, AreSettled, IsAtLimit, IsBack}
 use Rattle.tm_session.specs.Outcome.Ending.{Stopped, NotBegun}
 
 -- ---- blocks that were served
@@ -31,6 +31,7 @@ pub record Stops (setting : Setting) (ended : Ended) (blocks others : List Block
   pub text : List ℕ
   pub served : AreServed setting blocks old mid text
   pub unprinted : left_by ended setting.system others mid new
+  pub undone : UndoneAs ended setting new
   pub printed : HasWritten written written' text ended
 
 -- serving this block failed: its text was not written whole, or it could not be served

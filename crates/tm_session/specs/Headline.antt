@@ -8,6 +8,8 @@ use Rattle.model_session.specs.Standing.{SessionState, Stop, AreAllLives, AreSto
 use Rattle.model_session.specs.Session.{Begins, AreServed}
 use Rattle.tm_edge.specs.Lines.{lines_of}
 use Rattle.control_life.specs.declared.how.How.TheVariants.{Found}
+use Rattle.model_machine.specs.declared.counts.Counter.{Counter}
+use Rattle.opening_answers.specs.declared.refusals.OpenError.TheVariants.{Spent as SpentCounter}
 use Rattle.opening_answers.specs.Opening.{WroteNothing}
 use Rattle.control_life.specs.Opened.{Refuses}
 use Rattle.control_life.specs.declared.life.Life.{Life}
@@ -16,18 +18,18 @@ use Rattle.tm_session.specs.declared.outcome.Ended.TheVariants.{BadLine, BadCros
 use Rattle.sysdef_text.specs.Ends.{definition_lines}
 use Rattle.tm_session.specs.Source.{judged, definition_text}
 use Rattle.tm_session.specs.Opening.{IsCutShort}
-use Rattle.tm_session.specs.Outcome.{ending_of, HasWritten, left_by, IsBy}
+use Rattle.tm_session.specs.Outcome.{ending_of, HasWritten, left_by, UndoneAs, IsBy}
 use Rattle.tm_session.specs.Sources.{HasReadTold}
 use Rattle.tm_session.specs.Outcome.Ending.{NotBegun}
-use Rattle.session_lives.specs.Running.{life_of, setting_of, Holds}
-use Rattle.session_lives.specs.Openings.{error_of}
+use Rattle.session_lives.specs.Running.{life_of, setting_of, Holds, error_of, IsValidDisk as IsValid}
 
 -- A session of the system over the disk that was handed in. It begins with an opening of the disk. Blocks of lines were
 -- served, each the source's next one, and what is printed for them, and nothing else, was written. They led through the lives
 -- and the stops that are told, and each image that a crash of the disk may leave as it is handed back recovers to what the
 -- session's standing allows: the state after a front of the last life's lasting steps that has all that were answered, and
--- while the system is up after all of them.
-pub record HasLived {D : Type 0} (state : D → DiskState) (system : System) (told told' old new : Option (List ℕ)) (handed disk : D) (ended : Ended) (lives : List LifeState) (stops : List Stop) : Type 0 where
+-- while the system is up after all of them. Where a block could not be served since a counter is spent, or since the disk can't be
+-- opened, that has its cause.
+pub record HasLived {D : Type 0} (state : D → DiskState) (system : System) (source : List ℕ) (told told' old new : Option (List ℕ)) (handed disk : D) (ended : Ended) (lives : List LifeState) (stops : List Stop) : Type 0 where
   pub blocks : List Block
   pub others : List Block
   pub first : SessionState
@@ -35,17 +37,22 @@ pub record HasLived {D : Type 0} (state : D → DiskState) (system : System) (to
   pub last : SessionState
   pub text : List ℕ
   pub begun : ending_of ended ≢ NotBegun
-  pub begins : Begins (setting_of state system handed) first
-  pub session : AreServed (setting_of state system handed) blocks first mid text
+  pub begins : Begins (setting_of state system source handed) first
+  pub session : AreServed (setting_of state system source handed) blocks first mid text
   pub unprinted : left_by ended system others mid last
+  pub undone : UndoneAs ended (setting_of state system source handed) last
   pub read : HasReadTold told told' blocks others ended
   pub written : HasWritten old new text ended
   pub lives_are : AreAllLives system last lives
   pub legal : AreLegal system lives
   pub stops_are : stops ≡ last.stops
   pub counted : AreStops (state handed).faults stops (state disk).faults
-  pub images : (image : Image) → (state disk).may_leave image → Holds state system handed last.standing image
+  pub images : (image : Image) → (state disk).may_leave image → Holds state system source handed last.standing image
   pub by : IsBy ended last.standing
+
+-- the disk that is handed in can be opened for the system, whose definition has this text
+abbrev pub IsValidDisk : System → List ℕ → DiskState → Type 0
+IsValidDisk system text disk = IsValid system text disk
 
 -- the source's definition defines this system; it breaks a rule
 abbrev pub Defines : List ℕ → System → Type 0
@@ -68,10 +75,15 @@ pub record HasNotBegun {D : Type 0} (told : Option (List ℕ)) (handed disk : D)
   pub unbegun : IsUnbegun told ended
   pub same : disk ≡ handed
 
+-- a counter of the disk that was handed in is spent
+pub record IsSpentDisk (system : System) (text : List ℕ) (disk : DiskState) : Type 0 where
+  pub counter : Counter
+  pub refuses : Refuses Found system text disk (SpentCounter counter)
+
 -- why the disk that was handed in is not opened: it can't be, a counter is spent, or memory was wanting
 abbrev pub IsRefusal : System → List ℕ → DiskState → Ended → Type 0
 IsRefusal system text disk (BadImage refusal) = Refuses Found system text disk (error_of refusal)
-IsRefusal system text disk Spent = Unit {0}
+IsRefusal system text disk Spent = IsSpentDisk system text disk
 IsRefusal system text disk Memory = Unit {0}
 IsRefusal system text disk _ = ⊥
 
@@ -94,7 +106,9 @@ pub record ToldNothing (old new : Option (List ℕ)) (lives : List Life) (stops 
 pub record HasSession {D : Type 0} (state : D → DiskState) (told told' old new : Option (List ℕ)) (handed disk : D) (ended : Ended) (lives : List Life) (stops : List Stop) : Type 0 where
   pub system : System
   pub defines : IfSome told (λ bytes. Defines bytes system)
-  pub lived : HasLived state system told told' old new handed disk ended (map life_of lives) stops
+  pub text : List ℕ
+  pub text_is : IfSome told (λ bytes. text ≡ definition_text (definition_lines (lines_of bytes)))
+  pub lived : HasLived state system text told told' old new handed disk ended (map life_of lives) stops
 
 abbrev pub IsSession : {D : Type 0} → (D → DiskState) → Option (List ℕ) → Option (List ℕ) → Option (List ℕ) → Option (List ℕ) → D → D → Ended → List Life → List Stop → Type 0
 IsSession state told told' old new handed disk ended lives stops =

@@ -2,16 +2,12 @@
 use Rattle.std.specs.Prelude.{◌≡◌, ℕ, ◌++◌, ◌<◌, Bool, true, false, List, [], ◌∷◌, length, map, Option, Some, None, IfSome}
 use Rattle.model_disk.specs.Disk.{DiskState}
 use Rattle.model_system.specs.System.{System}
-use Rattle.tm_control.specs.OnDisk.{ControlOnDisk, Lasts}
-use Rattle.tm_control.specs.Closed.{Closes}
 use Rattle.control_life.specs.declared.life.Life.{Life}
 use Rattle.session_lives.specs.declared.called.Opening.{Opening}
 use Rattle.session_lives.specs.declared.called.Opening.TheVariants.{Opened, Broke, Refused, Memory as NoMemory, Spent as SpentCounter}
 use Rattle.tm_session.specs.declared.outcome.Ended.{Ended}
 use Rattle.tm_session.specs.declared.outcome.Ended.TheVariants.{Done, Words, BadLine, BadCross, Down as DownAtEnd, Read, Write, Image, Memory, Limit, Spent}
 use Rattle.session_lives.specs.declared.place.Idle.{Idle}
-use Rattle.session_lives.specs.declared.place.Place.{Place}
-use Rattle.session_lives.specs.declared.place.Place.TheVariants.{Up, Down}
 use Rattle.session_lives.specs.declared.place.Kept.{Kept}
 use Rattle.session_lives.specs.declared.place.Session.{Session}
 use Rattle.tm_session.specs.Opening.{ReadsDefinition}
@@ -66,34 +62,3 @@ down_at_end ended = ended
 abbrev pub by_standing : Bool → Ended → Ended
 by_standing true ended = down_at_end ended
 by_standing false ended = ended
-
-abbrev pub listed : Option Life → List Life
-listed None = []
-listed (Some life) = life ∷ []
-
--- so many are there, of as many as there is room for
-abbrev pub HasRoomIf : Option Life → ℕ → ℕ → Type 0
-HasRoomIf None count room = Unit {0}
-HasRoomIf (Some life) count room = count < room
-
--- A session that was up has ended, or one that was down.
-pub record IsFinishedUp {D : Type 0} (state : D → DiskState) (control : ControlOnDisk D) (kept : Kept) (ended status : Ended) (disk : D) (lives : List Life) (stops : List (ℕ × ℕ)) : Type 0 where
-  pub life : Life
-  pub closes : Closes control disk life control.control.system control.text control.began
-  pub lasts : Lasts state control
-  pub status_is : status ≡ ended
-  pub lives_are : lives ≡ kept.lives.items ++ life ∷ []
-  pub stops_are : stops ≡ kept.stops.items
-
-pub record IsFinishedDown {D : Type 0} (idle : Idle D) (kept : Kept) (ended status : Ended) (disk : D) (lives : List Life) (stops : List (ℕ × ℕ)) : Type 0 where
-  pub disk_is : disk ≡ idle.disk
-  pub status_is : status ≡ by_standing idle.stopped ended
-  pub lives_are : lives ≡ kept.lives.items ++ listed idle.last
-  pub stops_are : stops ≡ kept.stops.items
-
-abbrev pub IsFinishedAt : {D : Type 0} → (D → DiskState) → Place D → Kept → Ended → Ended → D → List Life → List (ℕ × ℕ) → Type 0
-IsFinishedAt state (Up control) kept ended status disk lives stops = IsFinishedUp state control kept ended status disk lives stops
-IsFinishedAt state (Down idle) kept ended status disk lives stops = IsFinishedDown idle kept ended status disk lives stops
-
-abbrev pub IsFinished : {D : Type 0} → (D → DiskState) → Session D → Ended → Ended → D → List Life → List (ℕ × ℕ) → Type 0
-IsFinished state session ended status disk lives stops = IsFinishedAt state session.place session.kept ended status disk lives stops

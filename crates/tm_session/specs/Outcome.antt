@@ -3,8 +3,10 @@ use Rattle.std.specs.Prelude.{◌≡◌, ◌≢◌, ℕ, ◌<◌, ◌≤◌, ◌
 use Rattle.std.specs.Io.KnownBytes.{append_known, IsAtEnd}
 use Rattle.model_system.specs.System.{System}
 use Rattle.model_session.specs.Blocks.{Block, blocks_of, closed}
-use Rattle.model_session.specs.Standing.{SessionState, Standing, is_stopped}
+use Rattle.model_session.specs.Standing.{Setting, SessionState, Standing, is_stopped}
 use Rattle.model_session.specs.Session.{IsBegun}
+use Rattle.session_lives.specs.declared.called.Undone.TheVariants.{Spent as SpentCounter, Image as BadImage}
+use Rattle.session_lives.specs.Openings.{UndoneBy}
 use Rattle.tm_edge.specs.Fault.{HasRisen, AppendsFront}
 use Rattle.tm_edge.specs.Lines.{CutLine, IsTooLong}
 use Rattle.tm_session.specs.declared.outcome.Ended.{Ended}
@@ -95,6 +97,12 @@ left_if false system others old new = new ≡ old
 
 abbrev pub left_by : Ended → System → List Block → SessionState → SessionState → Type 0
 left_by ended system others old new = left_if (is_undone ended) system others old new
+
+-- Why a block could not be served: a counter is spent, or no life has begun and the disk can't be opened.
+abbrev pub UndoneAs : Ended → Setting → SessionState → Type 0
+UndoneAs Spent setting last = UndoneBy SpentCounter setting last
+UndoneAs (Image refusal) setting last = UndoneBy (BadImage refusal) setting last
+UndoneAs _ setting last = Unit {0}
 
 -- whether the system is down by a stop, at the end of the source
 abbrev pub IsBy : Ended → Standing → Type 0

@@ -1,19 +1,21 @@
 //! A whole session.
-ghost use Rattle.std.specs.Prelude.{◌≡◌, ◌<◌, ◌≤◌, ◌++◌, length, vec_len, vec_capacity, IfOk, IfErr, OnOk};
+ghost use Rattle.std.specs.Prelude.{◌≡◌, ◌≤◌, length, IfOk, IfErr, OnOk};
 ghost use Rattle.model_disk.specs.Disk.{Only};
 ghost use Rattle.tm_edge.specs.Lines.{unread};
-ghost use Rattle.tm_session.specs.Opened.{IsRead, HasBegun, IsNothing, IsFinished, IsFinishedUp, IsFinishedDown, refusal, by_standing, down_at_end, HasRoomIf, listed};
+ghost use Rattle.model_session.specs.Standing.{is_stopped};
+ghost use Rattle.tm_session.specs.Opened as spec;
+ghost use Rattle.tm_session.specs.Opened.{IsRead, HasBegun, IsNothing};
 ghost use Rattle.tm_session.specs.Outcome.{HasCause, IsBack, IsReadToEnd};
-ghost use Rattle.session_lives.specs.Running.{IsReady};
+ghost use Rattle.session_lives.specs.Running.{IsReady, standing_of};
+ghost use Rattle.session_lives.specs.Closing.{IsClosed, LeavesSo};
 ghost use Rattle.tm_session.specs.Headline.{IsSession, IsUnbegun};
 
 use crate::driver::serve_lines;
 use crate::outcome::{Ended, Lives, Outcome, Stops};
 use crate::source::{judge, read_definition, text_of};
-use session_lives::{Idle, Kept, Opening, Place, Session, open};
+use session_lives::{Idle, Kept, Opening, Over, Session, close, open};
 use std::alloc::Global;
 use system_types::System;
-use tm_control::{Closed, Control, Life};
 use tm_disk::Disk;
 use tm_edge::{Lines, Sink, Source};
 use tm_types::Bytes;
@@ -127,7 +129,7 @@ fn begin<D: Disk>(
 
 /// How a session ends whose first opening went so.
 fn refusal(opening: Opening) -> Option<Ended>
-    ensures { result ≡ refusal opening }
+    ensures { result ≡ spec.refusal opening }
 {
     match opening {
         Opening::Opened => None,
@@ -141,77 +143,36 @@ fn refusal(opening: Opening) -> Option<Ended>
 /// What a session came to.
 fn finish<D: Disk>(session: Session<D>, status: Ended) -> Outcome<D>
     requires ready { IsReady D.state session }
-    ensures { IsFinished D.state session status result.status result.disk result.lives result.stops }
+    ensures closed { IsClosed D.state session result.disk result.lives result.stops }
+    ensures leaves { LeavesSo D.state session result.disk result.lives result.stops }
+    ensures status { result.status ≡ spec.by_standing (is_stopped (standing_of session.place)) status }
 {
-    let Session { place, kept } = session;
-    match place {
-        Place::Up(control) => finish_up(control, kept, status),
-        Place::Down(idle) => finish_down(idle, kept, status),
-    }
-}
-
-/// What a session came to that ended while the system was up.
-fn finish_up<D: Disk>(control: Control<D>, kept: Kept, status: Ended) -> Outcome<D>
-    requires { vec_len kept.lives < vec_capacity kept.lives }
-    ensures { IsFinishedUp D.state control kept status result.status result.disk result.lives result.stops }
-{
-    let Kept { lives, stops, .. } = kept;
-    let mut lives = lives;
-    let Closed { disk, life, .. } = control.into_disk();
-    lives.push_reserved(life);
+    let Over {
+        disk,
+        lives,
+        stops,
+        stopped,
+    } = close(session);
     Outcome {
-        status,
+        status: by_standing(status, stopped),
         disk,
         lives: Lives { items: lives },
         stops: Stops { items: stops },
     }
 }
 
-/// What a session came to that ended while the system was down.
-fn finish_down<D: Disk>(idle: Idle<D>, kept: Kept, status: Ended) -> Outcome<D>
-    requires { HasRoomIf idle.last (vec_len kept.lives) (vec_capacity kept.lives) }
-    ensures { IsFinishedDown idle kept status result.status result.disk result.lives result.stops }
-{
-    let Kept { lives, stops, .. } = kept;
-    let Idle {
-        disk,
-        last,
-        stopped,
-        ..
-    } = idle;
-    Outcome {
-        status: by_standing(status, stopped),
-        disk,
-        lives: Lives {
-            items: with_life(lives, last),
-        },
-        stops: Stops { items: stops },
-    }
-}
-
 /// A session whose source was read to its end while the system was down by a stop ends so.
 fn by_standing(status: Ended, stopped: bool) -> Ended
-    ensures { result ≡ by_standing stopped status }
+    ensures { result ≡ spec.by_standing stopped status }
 {
     if stopped { down_at_end(status) } else { status }
 }
 
 fn down_at_end(status: Ended) -> Ended
-    ensures { result ≡ down_at_end status }
+    ensures { result ≡ spec.down_at_end status }
 {
     match status {
         Ended::Done => Ended::Down,
         _ => status,
     }
-}
-
-fn with_life(lives: Vec<Life>, last: Option<Life>) -> Vec<Life>
-    requires { HasRoomIf last (vec_len lives) (vec_capacity lives) }
-    ensures { result.items ≡ lives.items ++ listed last }
-{
-    let mut lives = lives;
-    if let Some(life) = last {
-        lives.push_reserved(life);
-    }
-    lives
 }

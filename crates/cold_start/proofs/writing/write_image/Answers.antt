@@ -1,10 +1,10 @@
 use Rattle.cold_start.proofs.ThreeSteps.{on_ok}
-use Rattle.cold_start.proofs.FirstWritten.{keeps_or_empties, all_first}
+use Rattle.cold_start.proofs.FirstWritten.{begins_within, all_first}
 use Rattle.cold_start.proofs.writing.write_image.Goals as goal
 
 pub returns-clause-any_moment : goal.returns-clause-any_moment
 returns-clause-any_moment g c =
-    keeps_or_empties c.args.system.now c.args.text.now c.args.bytes.now c.args.now.now c.terminals-terminals.ensures.valid c.requires.records c.requires.first
+    begins_within c.args.system.now c.args.text.now c.args.bytes.now c.args.now.now c.terminals-terminals.ensures.valid c.requires.records c.requires.first
     c.places-places.result c.places-places.ensures.value c.requires.sectors c.requires.few (g.D.Disk.state c.args.disk.now) (g.D.Disk.state c.begin.new.disk) c.begin.ensures.any_moment
 
 pub returns-clause-done : goal.returns-clause-done

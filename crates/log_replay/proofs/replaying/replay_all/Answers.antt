@@ -11,8 +11,9 @@ use Rattle.log_replay.proofs.replaying.replay_all.Goals as goal
 
 pub loop-r-init : goal.loop-r-init
 loop-r-init c = (
-  subst (λ (rest : List Record). IsOn c.args.system.now c.args.kept c.args.records.items rest c.new-working.result) (sym c.into_iter-r-iterator.ensures.into_iter_gives.0)
-      (begins c.args.system.now c.args.kept c.args.records.items c.new-working.result c.requires c.new-working.ensures.kept c.new-working.ensures.units),
+  subst (λ (rest : List Record). IsOn c.args.system.now c.args.kept c.args.records.items rest c.in_ok-working.working) (sym c.into_iter-r-iterator.ensures.into_iter_gives.0)
+      (begins c.args.system.now c.args.kept c.args.records.items c.in_ok-working.working c.requires c.in_ok-working.ensures.kept c.in_ok-working.ensures.units
+      c.in_ok-working.ensures.counts c.in_ok-working.ensures.faults),
   let lengths = c.into_iter-r-iterator.ensures.into_iter_gives.1 in
       let items = ap (λ (xs : List Record). length xs) c.into_iter-r-iterator.ensures.into_iter_gives.0 in
       omega arith,

@@ -2,6 +2,7 @@ use Rattle.std.proofs.Common.{subst, ap, ◌∙◌}
 use Rattle.record_replay.specs.Steps.{does_all}
 use Rattle.record_replay.specs.Judged.{Does}
 use Rattle.record_replay.proofs.Stepped.{sync_over, sync_counted, sync_small_then, small_now}
+use Rattle.record_replay.proofs.Right.{sync_tells}
 use Rattle.record_replay.proofs.steps.sync.Goals as goal
 
 pub returns-then-not-fine-clause-done : goal.returns-then-not-fine-clause-done
@@ -21,3 +22,9 @@ returns-clause-done c =
 pub returns-clause-small : goal.returns-clause-small
 returns-clause-small c =
     sync_small_then c.args.pad c.do_all.new.kept c.change_pad_at.new.kept c.count_to.new.kept c.origin_done-origin.result c.steps_after-steps.result c.in_ok-fine.ensures.orderly c.change_pad_at.ensures c.count_to.ensures
+
+pub returns-clause-tells : goal.returns-clause-tells
+returns-clause-tells c surely =
+    sync_tells c.args.system.now c.args.pad c.args.records c.args.kept.now c.do_all.new.kept c.change_pad_at.new.kept c.count_to.new.kept c.do_all.new.tally c.origin_done-origin.result c.steps_after-steps.result
+    (subst (Does (does_all c.args.records c.args.kept.now) c.do_all.new.kept) c.if-not-fine.false c.in_ok-fine.ensures.done)
+    c.change_pad_at.ensures c.count_to.ensures (c.in_ok-fine.ensures.follows c.if-not-fine.false)

@@ -11,4 +11,4 @@ returns-clause-asked g c =
     let printed : c.push.new.self.text ≡ command_text (command_answer c.args.control.now.control.system (now_of c.args.control.now.control) c.args.command.now) =
     c.push.ensures.text ∙ ap (λ t. c.make_room.new.self.text ++ t) c.deref.ensures.value ∙ ap (λ t. t ++ c.in-Ok.text.items) (c.make_room.ensures.text ∙ c.requires.empty) ∙ c.in-Ok.ensures in
     asked_command g.D.Disk.state c.args.command.now c.command-answer.result c.args.control.now c.command-answer.new.self c.push.new.self.text
-    c.command_called.result (c.command_called.ensures c.args.command.now) c.command-answer.ensures.adds printed
+    c.command_called.result (c.command_called.ensures c.args.command.now) c.command-answer.ensures.spent c.command-answer.ensures.nothing c.command-answer.ensures.adds printed

@@ -1,8 +1,9 @@
 -- the line of a turn
 use Rattle.std.proofs.Common.{◌≡◌, [], ◌++◌, ◌∙◌, ap, refl}
-use Rattle.std.specs.Prelude.{Ok}
+use Rattle.std.specs.Prelude.{Ok, Err}
 use Rattle.model_machine.specs.declared.entry.Entry.TheVariants.{Turn}
 use Rattle.model_session.specs.Text.{turned_text}
+use Rattle.session_lives.proofs.Asked.{asked_fault}
 use Rattle.session_lives.proofs.asking.answer_turn.Goals as goal
 
 pub returns-in-Ok-clause-asked : goal.returns-in-Ok-clause-asked
@@ -17,3 +18,8 @@ returns-in-Ok-clause-asked g c =
       goes_on = refl;
       printed = c.turned_line.ensures ∙ ap (λ t. t ++ turned_text c.databases.result.now c.args.region c.in-Ok.turned) empty ∙ ap (λ d. turned_text d c.args.region c.in-Ok.turned) databases;
     }
+
+pub returns-in-Err-clause-asked : goal.returns-in-Err-clause-asked
+returns-in-Err-clause-asked g c =
+    asked_fault g.D.Disk.state c.in-Err.fault (Turn c.args.region (Err c.in-Err.fault)) c.args.control.now c.turn-answer.new.self c.make_room.new.self.text c.called.result refl refl c.called.ensures
+    (rw c.in-Err.is at c.turn-answer.ensures.spent) (rw c.in-Err.is at c.turn-answer.ensures.nothing) (rw c.in-Err.is at c.turn-answer.ensures.adds)

@@ -2,6 +2,7 @@
 use Rattle.std.proofs.Common.{◌≡◌, ◌+◌, ◌%◌, false, length, ap, sym, ◌∙◌, refl, arith}
 use Rattle.model_machine.specs.declared.entry.ControlFault.TheVariants.{Disk}
 use Rattle.model_session.specs.Turns.{region_after}
+use Rattle.session_lives.proofs.Asked.{spent_up}
 use Rattle.session_lives.proofs.Turned.{turned_next, turned_fails, turns_end, turns_stand}
 use Rattle.session_lives.proofs.turns.turn_while_left.Goals as goal
 
@@ -22,9 +23,11 @@ returns-in-Err-Memory-clause-turned g c =
     (sym c.quiet.ensures ∙ c.if-quiet.false) (rw c.in-Err-Memory.field-0-is at c.in-Err-Memory.ensures.adds)
 
 pub returns-in-Err-Spent-clause-turned : goal.returns-in-Err-Spent-clause-turned
-returns-in-Err-Spent-clause-turned g c =
-    turns_stand g.D.Disk.state c.args.most c.loop-turns.turns c.args.control.now c.loop-turns.control c.turn.new.self c.loop-turns.invariant c.loop-turns-test.true
-    (sym c.quiet.ensures ∙ c.if-quiet.false) (rw c.in-Err-Spent.field-0-is at c.in-Err-Spent.ensures.adds)
+returns-in-Err-Spent-clause-turned g c = (
+  turns_stand g.D.Disk.state c.args.most c.loop-turns.turns c.args.control.now c.loop-turns.control c.turn.new.self c.loop-turns.invariant c.loop-turns-test.true
+      (sym c.quiet.ensures ∙ c.if-quiet.false) (rw c.in-Err-Spent.field-0-is at c.in-Err-Spent.ensures.adds),
+  spent_up c.loop-turns.control c.turn.new.self _ (rw c.in-Err-Spent.field-0-is at c.in-Err-Spent.ensures.spent) (rw c.in-Err-Spent.field-0-is at c.in-Err-Spent.ensures.nothing),
+)
 
 pub loop-turns-preserved : goal.loop-turns-preserved
 loop-turns-preserved g c =

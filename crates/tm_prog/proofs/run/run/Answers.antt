@@ -13,7 +13,7 @@ returns-then-is_err-clause-headline g c =
 
 pub returns-clause-complete : goal.returns-clause-complete
 returns-clause-complete g c = λ valid reads writes within.
-    complete_run g.D.Disk.state c.args.disk c.serve-outcome.result.disk c.serve-outcome.result.lives c.serve-outcome.result.stops (map (λ word. string_bytes word) c.args.words.now)
+    complete_run g.D.Disk.state g.met.D.Disk.is_disk c.args.disk c.serve-outcome.result.disk c.serve-outcome.result.lives c.serve-outcome.result.stops (map (λ word. string_bytes word) c.args.words.now)
     (g.S.Source.left c.args.source.now) (g.S.Source.left c.serve-outcome.new.source) (g.K.Sink.written c.args.sink.now) (g.K.Sink.written c.print_last-2.new.sink) c.serve-outcome.result.status
     (g.S.Source.faults c.args.source.now) (g.S.Source.faults c.serve-outcome.new.source) (g.K.Sink.faults c.args.sink.now) (g.K.Sink.faults c.print_last-2.new.sink)
     (search rules) valid reads writes within

@@ -3,14 +3,14 @@ use Rattle.model_disk.specs.Disk.{Image}
 use Rattle.opening_answers.specs.Opening.{TellsOpening}
 use Rattle.opening_answers.proofs.Reading.{read_cause, told_before, told_behind}
 use Rattle.image_finding.specs.Found.{FindAlways, TellsFind, IsSeen}
-use Rattle.tm_restart.proofs.Recovering.{cold_within, read_then}
+use Rattle.tm_restart.proofs.Recovering.{cold_within, read_then, read_within}
 use Rattle.tm_restart.proofs.restarting.recover.Goals as goal
 
 pub returns-in-Ok-None-clause-any_moment : goal.returns-in-Ok-None-clause-any_moment
 returns-in-Ok-None-clause-any_moment g c =
     let system = c.args.system.now in
     let old = g.D.Disk.state c.args.disk.now in
-    cold_within system old (g.D.Disk.state c.find.new.disk) c.in-Ok-None.ensures.keeps (g.D.Disk.state c.cold.new.disk) (g.met.D.Disk.is_disk c.args.disk.now) c.requires.only
+    cold_within system c.args.text.now old (g.D.Disk.state c.find.new.disk) c.in-Ok-None.ensures.keeps (g.D.Disk.state c.cold.new.disk) (g.met.D.Disk.is_disk c.args.disk.now) c.requires.only
     (λ tells. subst (λ found. TellsFind system c.args.text.now old.shown (Ok found)) c.in-Ok-None.field-0-is (c.in-Ok-None.ensures.value tells)) c.cold.ensures.any_moment
 
 pub reopen-requires-clause-judged : goal.reopen-requires-clause-judged
@@ -30,7 +30,11 @@ returns-in-Ok-Some-clause-value g c =
 
 pub returns-in-Ok-Some-clause-any_moment : goal.returns-in-Ok-Some-clause-any_moment
 returns-in-Ok-Some-clause-any_moment g c =
-    read_then c.args.system.now (g.D.Disk.state c.args.disk.now) (g.D.Disk.state c.find.new.disk) c.in-Ok-Some.ensures.keeps (g.D.Disk.state c.reopen.new.disk) c.reopen.ensures.any_moment
+    read_then c.args.system.now c.args.text.now (g.D.Disk.state c.args.disk.now) (g.D.Disk.state c.find.new.disk) c.in-Ok-Some.ensures.keeps (g.D.Disk.state c.reopen.new.disk) c.reopen.ensures.any_moment
+
+pub returns-in-Err-clause-any_moment : goal.returns-in-Err-clause-any_moment
+returns-in-Err-clause-any_moment g c =
+    read_within c.args.system.now c.args.text.now (g.D.Disk.state c.args.disk.now) (g.D.Disk.state c.find.new.disk) c.in-Err.ensures.keeps
 
 pub returns-in-Ok-Some-clause-cause : goal.returns-in-Ok-Some-clause-cause
 returns-in-Ok-Some-clause-cause g c =

@@ -2,8 +2,16 @@ use Rattle.std.proofs.Common.{sym}
 use Rattle.model_disk.specs.Disk.{Follows}
 use Rattle.log_sectors.proofs.Links.{at_ok}
 use Rattle.cold_start.specs.FirstImage.{IsFirstImage}
-use Rattle.tm_restart.proofs.Renewed.{begun, may_begin, all_renewed, all_hold}
+use Rattle.tm_restart.proofs.Renewed.{begun, may_begin, empties_within, all_renewed, all_hold}
 use Rattle.tm_restart.proofs.starting.lay.Goals as goal
+
+pub returns-then-is_err-clause-any_moment : goal.returns-then-is_err-clause-any_moment
+returns-then-is_err-clause-any_moment g c =
+    empties_within c.args.system.now c.args.text.now c.args.bytes.now c.args.parts c.args.lasting c.args.now.now c.requires.made c.requires.text (g.D.Disk.state c.args.disk.now) (g.D.Disk.state c.write_image.new.disk) c.write_image.ensures.any_moment
+
+pub returns-clause-any_moment : goal.returns-clause-any_moment
+returns-clause-any_moment g c =
+    empties_within c.args.system.now c.args.text.now c.args.bytes.now c.args.parts c.args.lasting c.args.now.now c.requires.made c.requires.text (g.D.Disk.state c.args.disk.now) (g.D.Disk.state c.write_image.new.disk) c.write_image.ensures.any_moment
 
 pub returns-clause-value : goal.returns-clause-value
 returns-clause-value g c = begun c.args.system.now c.args.text.now c.args.bytes.now c.args.parts c.args.lasting c.args.now.now c.requires.made

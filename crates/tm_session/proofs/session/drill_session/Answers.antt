@@ -4,14 +4,14 @@ use Rattle.std.specs.Prelude.{Option}
 use Rattle.tm_edge.specs.Lines.{unread}
 use Rattle.model_session.specs.Standing.{is_stopped}
 use Rattle.tm_session.specs.Outcome.{IsBack}
-use Rattle.session_lives.specs.Running.{session_at}
+use Rattle.session_lives.specs.Running.{standing_of}
 use Rattle.tm_session.specs.Headline.{IsUnbegun}
 use Rattle.tm_session.specs.Opened.{IsRead}
 use Rattle.tm_session.proofs.Begun.{begun_is}
 use Rattle.tm_session.proofs.Endings.{never_cause, driven_cause}
 use Rattle.tm_session.proofs.Judging.{text_told}
 use Rattle.tm_session.proofs.Taking.{back_whole, back_twice}
-use Rattle.tm_session.proofs.Whole.{begins, begun_sound, never_opened, status_at, is_session, nothing_session}
+use Rattle.tm_session.proofs.Whole.{begins, begun_sound, never_opened, is_session, nothing_session}
 use Rattle.tm_session.proofs.session.drill_session.Goals as goal
 
 pub returns-in-Err-clause-session : goal.returns-in-Err-clause-session
@@ -27,19 +27,20 @@ returns-in-Some-clause-session g c =
     (begun_is c.new-lines.result (g.S.Source.left c.args.source.now) c.new-lines.ensures) c.in-Ok.ensures.read in
     never_opened g.D.Disk.state g.met.D.Disk.is_disk c.in-Ok.read.1 c.in-Ok.read.2 c.args.disk c.begin-session.result.0 c.begin-session.result.1 c.requires.only c.begin-session.ensures.begun
     (g.S.Source.left c.args.source.now) (g.S.Source.left c.read_system.new.source) (g.K.Sink.written c.args.sink.now) c.in-Some.status c.finish.result.status c.finish.result.disk c.finish.result.lives c.finish.result.stops
-    c.in-Some.is read.defines (text_told (g.S.Source.left c.args.source.now) (unread c.read_system.new.lines (g.S.Source.left c.read_system.new.source)) read.texts c.in-Ok.read.2 read.read read.joined) c.finish.ensures
+    c.in-Some.is read.defines (text_told (g.S.Source.left c.args.source.now) (unread c.read_system.new.lines (g.S.Source.left c.read_system.new.source)) read.texts c.in-Ok.read.2 read.read read.joined) c.finish.ensures.status c.finish.ensures.closed
 
 pub returns-clause-session : goal.returns-clause-session
 returns-clause-session g c =
     let read : IsRead (g.S.Source.left c.args.source.now) (unread c.read_system.new.lines (g.S.Source.left c.read_system.new.source)) c.in-Ok.read.0 c.in-Ok.read.1 c.in-Ok.read.2 =
     subst (λ (told : Option (List ℕ)). IsRead told (unread c.read_system.new.lines (g.S.Source.left c.read_system.new.source)) c.in-Ok.read.0 c.in-Ok.read.1 c.in-Ok.read.2)
     (begun_is c.new-lines.result (g.S.Source.left c.args.source.now) c.new-lines.ensures) c.in-Ok.ensures.read in
-    is_session g.D.Disk.state c.in-Ok.read.1 c.args.disk (g.S.Source.left c.args.source.now) (unread c.read_system.new.lines (g.S.Source.left c.read_system.new.source)) c.serve_lines-session.new.lines (g.S.Source.left c.serve_lines-session.new.source)
-    (g.K.Sink.written c.args.sink.now) (g.K.Sink.written c.serve_lines-session.new.sink) c.in-Ok.read.0 c.in-Ok.read.2 c.finish-in-None.result.disk c.begin-session.result.0 c.serve_lines-session.result.0 c.serve_lines-session.result.1
+    is_session g.D.Disk.state c.in-Ok.read.1 c.in-Ok.read.2 c.args.disk (g.S.Source.left c.args.source.now) (unread c.read_system.new.lines (g.S.Source.left c.read_system.new.source)) c.serve_lines-session.new.lines (g.S.Source.left c.serve_lines-session.new.source)
+    (g.K.Sink.written c.args.sink.now) (g.K.Sink.written c.serve_lines-session.new.sink) c.in-Ok.read.0 c.finish-in-None.result.disk c.begin-session.result.0 c.serve_lines-session.result.0 c.serve_lines-session.result.1
     c.finish-in-None.result.status c.finish-in-None.result.lives c.finish-in-None.result.stops read
+    (text_told (g.S.Source.left c.args.source.now) (unread c.read_system.new.lines (g.S.Source.left c.read_system.new.source)) read.texts c.in-Ok.read.2 read.read read.joined)
     (begins g.D.Disk.state g.met.D.Disk.is_disk c.in-Ok.read.1 c.in-Ok.read.2 c.args.disk c.begin-session.result.0 c.begin-session.result.1 c.requires.only c.begin-session.ensures.begun c.in-None.is)
     (begun_sound g.D.Disk.state g.met.D.Disk.is_disk c.in-Ok.read.1 c.in-Ok.read.2 c.args.disk c.begin-session.result.0 c.begin-session.result.1 c.requires.only c.begin-session.ensures.begun)
-    c.serve_lines-session.ensures.driven c.serve_lines-session.ensures.ready c.finish-in-None.ensures
+    c.serve_lines-session.ensures.driven c.finish-in-None.ensures.status c.finish-in-None.ensures.leaves
 
 pub returns-in-Err-clause-taken : goal.returns-in-Err-clause-taken
 returns-in-Err-clause-taken g c =
@@ -59,15 +60,15 @@ returns-clause-taken g c =
 pub returns-in-Some-clause-cause : goal.returns-in-Some-clause-cause
 returns-in-Some-clause-cause g c =
     let session = c.begin-session.result.0 in
-    never_cause (is_stopped (session_at session.place session.kept).standing) c.begin-session.ensures.begun.opening c.in-Some.status c.finish.result.status
+    never_cause (is_stopped (standing_of session.place)) c.begin-session.ensures.begun.opening c.in-Some.status c.finish.result.status
     (g.S.Source.faults c.args.source.now) (g.S.Source.faults c.read_system.new.source) (g.K.Sink.faults c.args.sink.now) (sym c.begin-session.ensures.begun.ends ∙ c.in-Some.is)
-    (status_at g.D.Disk.state c.in-Ok.read.1 c.args.disk session.place session.kept c.in-Some.status c.finish.result.status c.finish.result.disk c.finish.result.lives c.finish.result.stops c.finish.ensures) c.in-Ok.ensures.calm
+    c.finish.ensures.status c.in-Ok.ensures.calm
 
 pub returns-clause-cause : goal.returns-clause-cause
 returns-clause-cause g c =
     let session = c.serve_lines-session.result.0 in
-    driven_cause (is_stopped (session_at session.place session.kept).standing) c.serve_lines-session.result.1 c.finish-in-None.result.status
+    driven_cause (is_stopped (standing_of session.place)) c.serve_lines-session.result.1 c.finish-in-None.result.status
     (g.S.Source.faults c.args.source.now) (g.S.Source.faults c.read_system.new.source) (g.S.Source.faults c.serve_lines-session.new.source) (g.K.Sink.faults c.args.sink.now) (g.K.Sink.faults c.serve_lines-session.new.sink)
     c.serve_lines-session.ensures.cause
-    (status_at g.D.Disk.state c.in-Ok.read.1 c.args.disk session.place session.kept c.serve_lines-session.result.1 c.finish-in-None.result.status c.finish-in-None.result.disk c.finish-in-None.result.lives c.finish-in-None.result.stops c.finish-in-None.ensures)
+    c.finish-in-None.ensures.status
     c.in-Ok.ensures.calm

@@ -3,7 +3,7 @@ use Rattle.std.proofs.Common.{Err}
 use Rattle.model_machine.specs.declared.entry.AckRefused.TheVariants.{Fault}
 use Rattle.model_machine.specs.declared.entry.ControlFault.TheVariants.{Memory}
 use Rattle.model_machine.specs.declared.entry.Entry.TheVariants.{Acked}
-use Rattle.logged_machine.proofs.Checkpointed.{nothing_done}
+use Rattle.logged_machine.proofs.Frugality.{tried_nothing}
 use Rattle.logged_machine.proofs.logged.LoggedMachine.acknowledge_fresh.Goals as goal
 
 pub returns-in-Ok : goal.returns-in-Ok
@@ -15,5 +15,5 @@ returns-in-Ok g c = record {
 pub returns-in-Err : goal.returns-in-Err
 returns-in-Err g c = record {
   did =
-      nothing_done g.D.Disk.state c.args.self.now c.acknowledge_once.new.self (Acked c.args.terminal.now c.args.number (Err (Fault Memory))) c.in-Err.ensures.same c.requires.served;
+      tried_nothing g.D.Disk.state c.args.self.now c.acknowledge_once.new.self (Acked c.args.terminal.now c.args.number (Err (Fault Memory))) c.in-Err.ensures.same c.requires.served;
 }

@@ -7,5 +7,5 @@ invariant_of-self g c =
 
 pub returns-clause-lasts : goal.returns-clause-lasts
 returns-clause-lasts g c =
-    λ up. are_lasting g.D.Disk.state (record { machine = c.self.inside.parts; text = c.self.inside.text; served = c.self.inside.served; journal = c.self.inside.journal; next_unit = c.self.inside.next_unit; disk = c.arm.new.self }) c.self.inside.units.items
+    λ up. are_lasting g.D.Disk.state (record { machine = c.self.inside.parts; text = c.self.inside.text; served = c.self.inside.served; journal = c.self.inside.journal; units = c.self.inside.units.items; next_unit = c.self.inside.next_unit; disk = c.arm.new.self }) c.self.inside.units.items
     (kept_logged c.self.inside.parts c.self.inside.units.items c.self.inside.next_unit c.self.inside.journal c.self.inside.text (g.D.Disk.state c.self.inside.disk) (g.D.Disk.state c.arm.new.self) c.arm.ensures.keeps (c.self.invariant up))

@@ -8,6 +8,7 @@ use Rattle.control_life.specs.Faults.{fault_in}
 use Rattle.logged_machine.specs.Taken.{IsTaken}
 use Rattle.logged_machine.proofs.Checked.{is_taken, taken_did}
 use Rattle.logged_machine.proofs.Checkpointed.{unrefreshed}
+use Rattle.logged_machine.proofs.Frugality.{checked_raises, unchecked_raises}
 use Rattle.logged_machine.proofs.logged.LoggedMachine.checkpoint_free.Goals as goal
 
 pub number_taken-requires-clause-served : goal.number_taken-requires-clause-served
@@ -28,3 +29,9 @@ returns-in-Ok-clause-taken g c =
 
 pub returns-in-Err-clause-did : goal.returns-in-Err-clause-did
 returns-in-Err-clause-did g c = unrefreshed g.D.Disk.state c.args.self.now c.refresh.new.self (Checked c.args.freeze (Err (Fault c.in-Err.fault))) c.in-Err.fault c.requires.served c.in-Err.ensures.fault
+
+pub returns-in-Ok-clause-raises : goal.returns-in-Ok-clause-raises
+returns-in-Ok-clause-raises g c = λ up. checked_raises g.D.Disk.state c.args.self.now c.refresh.new.self c.in-Ok.ensures.done
+
+pub returns-in-Err-clause-raises : goal.returns-in-Err-clause-raises
+returns-in-Err-clause-raises g c = λ up. unchecked_raises g.D.Disk.state c.args.self.now c.refresh.new.self c.in-Err.fault c.in-Err.ensures.fault up

@@ -1,10 +1,13 @@
 -- a first attempt, and one behind a checkpoint
-use Rattle.std.proofs.Common.{Err}
+use Rattle.std.proofs.Common.{Err, subst}
 use Rattle.model_machine.specs.declared.entry.CommandRefused.TheVariants.{Fault}
 use Rattle.model_machine.specs.declared.entry.ControlFault.TheVariants.{Memory}
 use Rattle.model_machine.specs.declared.entry.Entry.TheVariants.{Commanded}
 use Rattle.control_life.specs.Faults.{fault_in}
-use Rattle.logged_machine.proofs.Checkpointed.{counted_more, counted_same, did_same, nothing_done, served_same}
+use Rattle.machine_telling.specs.Telling.{IsAllBut}
+use Rattle.logged_machine.specs.Logged.{LoggedState}
+use Rattle.logged_machine.proofs.Checkpointed.{counted_more, counted_same, served_same}
+use Rattle.logged_machine.proofs.Frugality.{done_due, done_nothing, done_once}
 use Rattle.logged_machine.proofs.logged.LoggedMachine.command_any.Goals as goal
 
 pub command_once-requires-clause-counted : goal.command_once-requires-clause-counted
@@ -19,17 +22,20 @@ command_behind-requires-clause-counted g c = counted_same 0 c.args.self.now c.co
 pub returns-in-Ok : goal.returns-in-Ok
 returns-in-Ok g c = record {
   did =
-      c.in-Ok.ensures.did;
+      done_once g.D.Disk.state (fault_in (Commanded c.args.command.now c.in-Ok.answer)) c.args.self.now c.command_once.new.self (Commanded c.args.command.now c.in-Ok.answer) c.in-Ok.ensures.did;
 }
 
 pub returns-in-Err-Memory : goal.returns-in-Err-Memory
 returns-in-Err-Memory g c = record {
   did =
-      nothing_done g.D.Disk.state c.args.self.now c.command_once.new.self (Commanded c.args.command.now (Err (Fault Memory))) c.in-Err-Memory.ensures.same c.requires.served;
+      done_nothing g.D.Disk.state c.args.self.now c.command_once.new.self (Commanded c.args.command.now (Err (Fault Memory))) c.in-Err-Memory.ensures.same c.requires.served;
 }
 
 pub returns-in-Err-Full : goal.returns-in-Err-Full
 returns-in-Err-Full g c = record {
   did =
-      did_same g.D.Disk.state (fault_in (Commanded c.args.command.now c.command_behind.result)) c.args.self.now c.command_once.new.self c.command_behind.new.self (Commanded c.args.command.now c.command_behind.result) c.in-Err-Full.ensures.same c.command_behind.ensures.did;
+      done_due g.D.Disk.state (fault_in (Commanded c.args.command.now c.command_behind.result)) c.args.self.now c.command_once.new.self c.command_behind.new.self
+      (Commanded c.args.command.now c.command_behind.result) c.room_left-room.result c.in-Err-Full.ensures.same
+      (subst (λ (v : LoggedState _). IsAllBut c.room_left-room.result v.journal.log) c.self.view_is c.room_left-room.ensures.all)
+      c.in-Err-Full.ensures.full c.command_behind.ensures.did;
 }

@@ -9,7 +9,7 @@ pub turn_any-turned-requires-clause-counted : goal.turn_any-turned-requires-clau
 turn_any-turned-requires-clause-counted g c = counted_now c.args.self.now.machine.moment.lasting c.args.self.now.next_unit c.args.self.now.journal c.requires.unspent
 
 pub returns-clause-goes : goal.returns-clause-goes
-returns-clause-goes g c = goes g.D.Disk.state c.args.self.now c.turn_any-turned.new.self (Turn c.args.region c.turn_any-turned.result) (c.is_served-before.ensures.lasts c.requires.served) (g.met.D.Disk.is_disk c.args.self.now.disk) (g.met.D.Disk.is_disk c.turn_any-turned.new.self.disk) (fault_in (Turn c.args.region c.turn_any-turned.result)) c.turn_any-turned.ensures.did.did
+returns-clause-goes g c = goes g.D.Disk.state c.args.self.now c.turn_any-turned.new.self (Turn c.args.region c.turn_any-turned.result) (c.is_served-before.ensures.lasts c.requires.served) (g.met.D.Disk.is_disk c.args.self.now.disk) (g.met.D.Disk.is_disk c.turn_any-turned.new.self.disk) (fault_in (Turn c.args.region c.turn_any-turned.result)) c.turn_any-turned.ensures.did.did.did
 
 pub returns-clause-crash : goal.returns-clause-crash
-returns-clause-crash g c = crashes g.D.Disk.state c.args.self.now c.turn_any-turned.new.self (Turn c.args.region c.turn_any-turned.result) (c.is_served-before.ensures.lasts c.requires.served) (g.met.D.Disk.is_disk c.args.self.now.disk) (g.met.D.Disk.is_disk c.turn_any-turned.new.self.disk) (fault_in (Turn c.args.region c.turn_any-turned.result)) c.turn_any-turned.ensures.did.did
+returns-clause-crash g c = crashes g.D.Disk.state c.args.self.now c.turn_any-turned.new.self (Turn c.args.region c.turn_any-turned.result) (c.is_served-before.ensures.lasts c.requires.served) (g.met.D.Disk.is_disk c.args.self.now.disk) (g.met.D.Disk.is_disk c.turn_any-turned.new.self.disk) (fault_in (Turn c.args.region c.turn_any-turned.result)) c.turn_any-turned.ensures.did.did.did

@@ -4,8 +4,7 @@ use Rattle.model_machine.specs.Machine.{IsRegion}
 use Rattle.model_system.specs.System.{System}
 use Rattle.model_machine.specs.declared.entry.Entry.TheVariants.{Turn}
 use Rattle.control_life.specs.Faults.{fault_in}
-use Rattle.logged_machine.proofs.Checkpointed.{unrefreshed}
-use Rattle.logged_machine.proofs.Doing.{did_behind}
+use Rattle.logged_machine.proofs.Frugality.{done_behind, done_untaken}
 use Rattle.logged_machine.proofs.logged.LoggedMachine.turn_behind.Goals as goal
 
 pub turn_fresh-requires-clause-region : goal.turn_fresh-requires-clause-region
@@ -20,11 +19,11 @@ turn_fresh-requires-clause-counted g c = c.in-Ok.ensures.done.counted
 pub returns-in-Ok : goal.returns-in-Ok
 returns-in-Ok g c = record {
   did =
-      did_behind g.D.Disk.state c.args.self.now c.refresh.new.self c.turn_fresh.new.self (Turn c.args.region c.turn_fresh.result) c.in-Ok.ensures.done (fault_in (Turn c.args.region c.turn_fresh.result)) c.turn_fresh.ensures.did;
+      done_behind g.D.Disk.state (fault_in (Turn c.args.region c.turn_fresh.result)) c.args.self.now c.refresh.new.self c.turn_fresh.new.self (Turn c.args.region c.turn_fresh.result) c.in-Ok.ensures.done c.turn_fresh.ensures.did;
 }
 
 pub returns-in-Err : goal.returns-in-Err
 returns-in-Err g c = record {
   did =
-      unrefreshed g.D.Disk.state c.args.self.now c.refresh.new.self (Turn c.args.region (Err c.in-Err.fault)) c.in-Err.fault c.requires.served c.in-Err.ensures.fault;
+      done_untaken g.D.Disk.state c.args.self.now c.refresh.new.self (Turn c.args.region (Err c.in-Err.fault)) c.in-Err.fault c.requires.served c.in-Err.ensures.fault;
 }

@@ -56,3 +56,6 @@ returns-clause-lasts g c =
     c.steps_of-self-inside.ensures c.checkpoint-answer.ensures.goes c.checkpoint-answer.ensures.crash
     (subst (λ (e : Entry). c.note.new.history.items ≡ noted (is_noted (fault_in e)) c.self.inside.history.items e) c.checked_entry.ensures
     (c.note.ensures ∙ ap (λ (es : List Entry). noted (is_noted (fault_in c.checked_entry.result)) es c.checked_entry.result) c.reserve.ensures.items))).0.lasts
+
+pub returns-clause-raises : goal.returns-clause-raises
+returns-clause-raises g c = rw (sym c.self.view_is) c.checkpoint-answer.ensures.raises

@@ -5,7 +5,8 @@ use Rattle.model_machine.specs.declared.entry.Entry.TheVariants.{Commanded}
 use Rattle.control_life.specs.Faults.{fault_in}
 use Rattle.tm_control.specs.Calls.{is_noted, noted}
 use Rattle.tm_control.specs.OnDisk.{ControlOnDisk}
-use Rattle.tm_control.proofs.Going.{called, is_served}
+use Rattle.model_machine.specs.declared.entry.ControlCall.TheVariants.{Command as CommandCall}
+use Rattle.tm_control.proofs.Going.{called, frugal_too, is_served}
 use Rattle.tm_control.proofs.control.Control.command.Goals as goal
 
 pub invariant_of-self-2 : goal.invariant_of-self-2
@@ -55,3 +56,12 @@ returns-clause-lasts g c =
     c.steps_of-self-inside.ensures c.command-answer.ensures.goes c.command-answer.ensures.crash
     (subst (λ (e : Entry). c.note.new.history.items ≡ noted (is_noted (fault_in e)) c.self.inside.history.items e) c.command_entry.ensures
     (c.note.ensures ∙ ap (λ (es : List Entry). noted (is_noted (fault_in c.command_entry.result)) es c.command_entry.result) c.reserve.ensures.items))).0.lasts
+
+pub returns-clause-frugal : goal.returns-clause-frugal
+returns-clause-frugal g c = rw (sym c.self.view_is)
+    (frugal_too g.D.Disk.state c.self.inside.machine c.self.inside.opening c.self.inside.history.items _ c.self.inside.began c.self.inside.steps
+    (is_served g.D.Disk.state c.self.inside.machine c.self.inside.opening c.self.inside.history.items c.self.inside.steps (ap (λ (v : ControlOnDisk _). v.up) c.self.view_is ∙ c.requires.up) c.self.invariant)
+    (fault_in (Commanded c.args.command.now c.command-answer.result)) (CommandCall c.args.command.now) c.command-answer.new.self.journal c.command-answer.new.self.disk c.command-answer.ensures.frugal)
+
+pub returns-clause-raises : goal.returns-clause-raises
+returns-clause-raises g c = rw (sym c.self.view_is) c.command-answer.ensures.raises

@@ -5,7 +5,8 @@ use Rattle.model_machine.specs.declared.entry.Entry.TheVariants.{Accept}
 use Rattle.control_life.specs.Faults.{fault_in}
 use Rattle.tm_control.specs.Calls.{is_noted, noted}
 use Rattle.tm_control.specs.OnDisk.{ControlOnDisk}
-use Rattle.tm_control.proofs.Going.{called, is_served}
+use Rattle.model_machine.specs.declared.entry.ControlCall.TheVariants.{Input}
+use Rattle.tm_control.proofs.Going.{called, frugal_too, is_served}
 use Rattle.tm_control.proofs.control.Control.input.Goals as goal
 
 pub invariant_of-self-2 : goal.invariant_of-self-2
@@ -55,3 +56,12 @@ returns-clause-lasts g c =
     c.steps_of-self-inside.ensures c.accept-answer.ensures.goes c.accept-answer.ensures.crash
     (subst (λ (e : Entry). c.note.new.history.items ≡ noted (is_noted (fault_in e)) c.self.inside.history.items e) (c.input_entry.ensures ∙ ap (λ (s : List (List ℕ)). Accept c.args.terminal.now c.args.number s c.accept-answer.result) c.in-Ok.ensures)
     (c.note.ensures ∙ ap (λ (es : List Entry). noted (is_noted (fault_in c.input_entry.result)) es c.input_entry.result) c.reserve.ensures.items))).0.lasts
+
+pub returns-clause-frugal : goal.returns-clause-frugal
+returns-clause-frugal g c = rw (sym c.self.view_is)
+    (frugal_too g.D.Disk.state c.self.inside.machine c.self.inside.opening c.self.inside.history.items _ c.self.inside.began c.self.inside.steps
+    (is_served g.D.Disk.state c.self.inside.machine c.self.inside.opening c.self.inside.history.items c.self.inside.steps (ap (λ (v : ControlOnDisk _). v.up) c.self.view_is ∙ c.requires.up) c.self.invariant)
+    (fault_in (Accept c.args.terminal.now c.args.number c.args.segments c.accept-answer.result)) (Input c.args.terminal.now c.args.number c.args.segments) c.accept-answer.new.self.journal c.accept-answer.new.self.disk c.accept-answer.ensures.frugal)
+
+pub returns-clause-raises : goal.returns-clause-raises
+returns-clause-raises g c = rw (sym c.self.view_is) c.accept-answer.ensures.raises

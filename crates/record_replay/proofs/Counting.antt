@@ -1,15 +1,19 @@
--- Copying messages whose ids ascend, from each to the first one above it.
-use Rattle.std.proofs.Common.{◌≡◌, ℕ, ◌<◌, ◌++◌, ◌∷◌, [], List, refl, sym, ap, ◌∙◌, subst, arith, Bool, true, false, cond, append_assoc, ltb}
+-- Counting messages whose ids ascend, from each to the first one above it.
+use Rattle.std.proofs.Common.{◌≡◌, ℕ, ◌<◌, ◌+◌, ◌&&◌, ◌++◌, ◌∷◌, [], List, refl, sym, ap, ◌∙◌, subst, arith, Bool, true, false, cond, append_assoc, ltb}
 use Rattle.std.specs.Prelude.{Option, None, Some, map, filter, find, slice_get}
 use Rattle.std.specs.List.{AllByRecursion}
 use Rattle.std.specs.Ordering.{nat_cmp, is_lt}
+use Rattle.std.specs.Str.{bytes_eq}
 use Rattle.std.specs.declared.cmp.Ordering.TheVariants.{Less}
 use Rattle.std.proofs.lemmas.Bool.{le-ltb, ltb-true}
 use Rattle.std.proofs.lemmas.List.{append-nil}
 use Rattle.std.proofs.lemmas.Map.Keys.{sorted_head, sorted_tail}
 use Rattle.tm_types.specs.declared.message.Message.{Message}
+use Rattle.model_conversation.specs.Input.{is_conversing}
 use Rattle.msg_queues.proofs.Keys.{later_than}
-use Rattle.conversation.proofs.Walking.{Ascend, above, left, IsAt}
+use Rattle.record_replay.specs.Tallied.{one_if, count_at, Counts}
+use Rattle.record_replay.proofs.Talks.{talks_behind}
+use Rattle.conversation.proofs.Walking.{Ascend, above, left}
 use Rattle.conversation.proofs.Walking as walking
 
 abbrev ids : List Message → List ℕ
@@ -55,23 +59,23 @@ find_first test (m ∷ ms) =
       | false ↦ find_first test ms
     ]
 
--- the messages that were copied, and those from the next one on
+-- the messages that were counted, and those from the next one on
 pub record Has (ms made : List Message) (next : Option Message) : Type 0 where
   pub rest : List Message
   pub whole : ms ≡ made ++ rest
   pub here : next ≡ slice_get rest 0
 
-pub starts : (ms : List Message) (next : Option Message) → next ≡ slice_get ms 0 → Has ms [] next
+starts : (ms : List Message) (next : Option Message) → next ≡ slice_get ms 0 → Has ms [] next
 starts ms next e = record { rest = ms; whole = refl; here = e }
 
-pub ends : (ms made : List Message) (next : Option Message) → Has ms made next → next ≡ None → made ≡ ms
+ends : (ms made : List Message) (next : Option Message) → Has ms made next → next ≡ None → made ≡ ms
 ends ms made next has none = by has.rest has.whole (sym none ∙ has.here)
   where
     by : (rest : List Message) → ms ≡ made ++ rest → None ≡ slice_get rest 0 → made ≡ ms
     by [] w h = sym (w ∙ append-nil made)
     by (r ∷ rest) w h = let clash : None ≡ Some r = h in absurd (cc)
 
-pub goes : (ms made : List Message) (next after : Option Message) (m : Message) → Ascend ms → Has ms made next → next ≡ Some m
+goes : (ms made : List Message) (next after : Option Message) (m : Message) → Ascend ms → Has ms made next → next ≡ Some m
     → after ≡ find (λ message. ltb m.id message.id) ms → Has ms (made ++ m ∷ []) after
 goes ms made next after m order has is e = by has.rest has.whole (sym is ∙ has.here)
   where
@@ -92,11 +96,40 @@ none_passed : (ms : List Message) → find (λ _. false) ms ≡ None
 none_passed [] = refl
 none_passed (m ∷ ms) = none_passed ms
 
-pub fewer : (ms made : List Message) (next after : Option Message) (m : Message) → Ascend ms → Has ms made next → next ≡ Some m
+fewer : (ms made : List Message) (next after : Option Message) (m : Message) → Ascend ms → Has ms made next → next ≡ Some m
     → after ≡ find (λ message. ltb m.id message.id) ms → left after ms < left next ms
 fewer ms made next after m order has is e =
     walking.fewer (λ _. false) ms next after m order (record { before = made; rest = has.rest; whole = has.whole; passed = none_passed made; here = has.here }) is e
 
-pub none_first : (ms : List Message) → slice_get ms 0 ≡ None → ms ≡ []
+none_first : (ms : List Message) → slice_get ms 0 ≡ None → ms ≡ []
 none_first [] none = refl
 none_first (m ∷ ms) none = cc
+
+-- ---- counts
+
+-- the counts are those of the messages up to the next one
+pub record HasCounted (ms : List Message) (counts : List (List ℕ × ℕ)) (next : Option Message) : Type 0 where
+  pub made : List Message
+  pub has : Has ms made next
+  pub counted : Counts made counts
+
+pub counting : (ms : List Message) (counts : List (List ℕ × ℕ)) (next : Option Message) → ((name : List ℕ) → count_at name counts ≡ 0) → next ≡ slice_get ms 0 → HasCounted ms counts next
+counting ms counts next none e = record { made = []; has = starts ms next e; counted = none }
+
+pub counted_more : (ms : List Message) (counts more : List (List ℕ × ℕ)) (next after : Option Message) (m : Message) → Ascend ms → HasCounted ms counts next → next ≡ Some m → after ≡ find (λ message. ltb m.id message.id) ms →
+    ((name : List ℕ) → count_at name more ≡ count_at name counts + one_if (bytes_eq m.origin name && m.conversation)) → HasCounted ms more after
+counted_more ms counts more next after m order has is e counts_more = record {
+  made = has.made ++ m ∷ [];
+  has = goes ms has.made next after m order has.has is e;
+  counted = λ name. counts_more name ∙ ap (λ n. n + one_if (is_conversing name m)) (has.counted name) ∙ sym (talks_behind name has.made m);
+}
+
+pub counted_fewer : (ms : List Message) (counts : List (List ℕ × ℕ)) (next after : Option Message) (m : Message) → Ascend ms → HasCounted ms counts next → next ≡ Some m
+    → after ≡ find (λ message. ltb m.id message.id) ms → left after ms < left next ms
+counted_fewer ms counts next after m order has is e = fewer ms has.made next after m order has.has is e
+
+pub all_counted : (ms : List Message) (counts : List (List ℕ × ℕ)) (next : Option Message) → HasCounted ms counts next → next ≡ None → Counts ms counts
+all_counted ms counts next has none = subst (λ (ms : List Message). Counts ms counts) (ends ms has.made next has.has none) has.counted
+
+pub none_counted : (ms : List Message) (counts : List (List ℕ × ℕ)) → ((name : List ℕ) → count_at name counts ≡ 0) → slice_get ms 0 ≡ None → Counts ms counts
+none_counted ms counts none first = subst (λ (ms : List Message). Counts ms counts) (sym (none_first ms first)) none

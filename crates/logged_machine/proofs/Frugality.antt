@@ -1,0 +1,144 @@
+-- What a call writes, and how far it raises what is counted on.
+use Rattle.std.proofs.Common.{◌≡◌, ◌≤◌, ◌<◌, ◌+◌, ◌*◌, ℕ, Bool, true, false, List, length, refl, sym, ◌∙◌, ap, subst, arith, ⊎_elim, inl, inr}
+use Rattle.std.specs.Prelude.{Option, Some, None}
+use Rattle.model_disk.specs.Disk.{DiskState, ComesFrom, Within, WritesAtMost}
+use Rattle.model_system.specs.System.{System}
+use Rattle.model_machine.specs.History.{call_of}
+use Rattle.model_machine.specs.declared.entry.Entry.{Entry}
+use Rattle.model_machine.specs.declared.entry.ControlFault.{ControlFault}
+use Rattle.model_machine.specs.declared.entry.ControlFault.TheVariants.{Memory, Disk, Spent}
+use Rattle.log_writer.specs.Writer.{Writer}
+use Rattle.log_writer.specs.Log.{AddsFront, ChangesOnly, sectors_of}
+use Rattle.disk_law.specs.Changes.{with_bytes}
+use Rattle.disk_law.specs.Journal.{JournalState}
+use Rattle.tm_machine.specs.Parts.{PartsState}
+use Rattle.parts_life.specs.Logged.{IsLogged}
+use Rattle.machine_telling.specs.Telling.{IsAllBut}
+use Rattle.logged_machine.specs.Logged.{LoggedState}
+use Rattle.logged_machine.specs.Doing.{Done, DoneFrugally, GoesOnIn, Refreshed, Tried, Unrefreshed}
+use Rattle.logged_machine.specs.Frugal.{DoesNothing, Raises, WritesBy, WritesLog, has_lasting_step, own_bytes}
+use Rattle.logged_machine.proofs.Checkpointed.{nothing, unrefreshed}
+use Rattle.logged_machine.proofs.Doing.{did_behind}
+
+-- ---- what a force writes
+
+-- where the log gained a front, no other sectors have changed
+only_there : (log : Writer) (old new : DiskState) → Within (AddsFront log) old new → Within (ChangesOnly (log.first + log.place) (sectors_of (length log.appended))) old new
+only_there log old new within = record {
+  later = within.later;
+  from = λ time image early left.
+      ⊎_elim (λ was. inl was)
+      (λ (c : ComesFrom (AddsFront log) old image). inr (record { before = c.before; left = c.left; by = c.by.changes }))
+      (within.from time image early left);
+  keeps = within.keeps;
+}
+
+pub writes_log : (log mid : Writer) (own : List ℕ) (old new : DiskState) → mid ≡ with_bytes own log → Within (AddsFront mid) old new → WritesAtMost (sectors_of (length mid.appended)) old new
+    → WritesLog (with_bytes own log) old new
+writes_log log mid own old new is within most = subst (λ (w : Writer). WritesLog w old new) is (record { most = most; only = only_there mid old new within })
+
+-- ---- the log's area
+
+-- the log's area is one of the system
+pub area_is : (parts : PartsState) (units : List ℕ) (next : ℕ) (journal : JournalState) (text : List ℕ) (disk : DiskState) → IsLogged parts units next journal text disk → journal.log.count ≡ parts.system.logs
+area_is parts units next journal text disk h =
+    sym (ap (λ (w : Writer). w.count) h.writer) ∙ h.carried.is.is_life.writer.count ∙ ap (λ (s : System). s.logs) h.carried.is.of_system
+
+-- ---- one attempt, and a call
+
+module _ {D : Type 0} (state : D → DiskState) where
+  still_on : (l : LoggedState D) → GoesOnIn l l
+  still_on l = record { restart = refl; sequence = omega arith; unit = omega arith }
+
+  nothing_raised : (l : LoggedState D) → Raises (2 * l.machine.system.logs) l.journal l.journal l.next_unit l.next_unit
+  nothing_raised l = record { epoch = refl; sequence = omega arith; checkpoint = omega arith; unit = omega arith }
+
+  nothing_written : (l : LoggedState D) (step : Bool) (own : List ℕ) → WritesBy state (Some Memory) step own l.journal l.journal l.disk l.disk
+  nothing_written l step own = let d : DoesNothing l.journal l.journal l.disk l.disk = record { journal = refl; disk_is = refl } in d
+
+  -- An attempt that left all as it was.
+  pub tried_nothing : (old new : LoggedState D) (entry : Entry) → new ≡ old → old.served ≡ true → Tried state (Some Memory) old new entry
+  tried_nothing old new entry same served =
+      subst (λ (l : LoggedState D). Tried state (Some Memory) old l entry) (sym same)
+      (record { did = nothing state old entry served; writes = nothing_written old (has_lasting_step old.machine (call_of entry)) (own_bytes old.machine old.units (call_of entry)); on = λ up. still_on old })
+
+  -- A call that left all as it was.
+  pub done_nothing : (old new : LoggedState D) (entry : Entry) → new ≡ old → old.served ≡ true → DoneFrugally state (Some Memory) old new entry
+  done_nothing old new entry same served =
+      subst (λ (l : LoggedState D). DoneFrugally state (Some Memory) old l entry) (sym same)
+      (record {
+        did = nothing state old entry served;
+        raises = λ up. nothing_raised old;
+        frugal = λ free. nothing_written old (has_lasting_step old.machine (call_of entry)) (own_bytes old.machine old.units (call_of entry));
+      })
+
+  on_raises : (old new : LoggedState D) → GoesOnIn old new → Raises (2 * old.machine.system.logs) old.journal new.journal old.next_unit new.next_unit
+  on_raises old new on = record {
+    epoch = ap (λ r. r.epoch) on.restart;
+    sequence = omega (arith, on.sequence);
+    checkpoint = let same : new.journal.restart.checkpoint ≡ old.journal.restart.checkpoint = ap (λ r. r.checkpoint) on.restart in omega (arith, same);
+    unit = on.unit;
+  }
+
+  -- An attempt that needed no checkpoint.
+  pub done_once : (fault : Option ControlFault) (old new : LoggedState D) (entry : Entry) → Tried state fault old new entry → DoneFrugally state fault old new entry
+  done_once fault old new entry t = record { did = t.did; raises = λ up. on_raises old new (t.on up); frugal = λ free. t.writes }
+
+  -- One whose records leave fewer than 32 sectors free went on behind a checkpoint.
+  pub done_due : (fault : Option ControlFault) (old mid new : LoggedState D) (entry : Entry) (room : ℕ) → mid ≡ old → IsAllBut room old.journal.log → room < length (own_bytes old.machine old.units (call_of entry))
+      → Done state fault mid new entry → DoneFrugally state fault old new entry
+  done_due fault old mid new entry room same all longer done =
+      let d : Done state fault old new entry = subst (λ (l : LoggedState D). Done state fault l new entry) same done in
+      record { did = d.did; raises = d.raises; frugal = λ free. absurd (over room (length (own_bytes old.machine old.units (call_of entry))) longer (all (length (own_bytes old.machine old.units (call_of entry))) free)) }
+    where
+      over : (a b : ℕ) → a < b → b ≤ a → ⊥
+      over a b less more = omega (arith, less, more)
+
+  -- ---- behind a checkpoint
+
+  pub done_behind : (fault : Option ControlFault) (old mid new : LoggedState D) (entry : Entry) → Refreshed state old mid → Tried state fault mid new entry → Done state fault old new entry
+  done_behind fault old mid new entry fresh t = record {
+    did = did_behind state old mid new entry fresh fault t.did;
+    raises = λ up.
+        let on : GoesOnIn mid new = t.on up in
+        let logs : mid.machine.system.logs ≡ old.machine.system.logs = ap (λ (s : System). s.logs) fresh.keeps.system in
+        let number : new.journal.restart.checkpoint ≡ mid.journal.restart.checkpoint = ap (λ r. r.checkpoint) on.restart in
+        record {
+          epoch = ap (λ r. r.epoch) on.restart ∙ fresh.epoch;
+          sequence = omega (arith, on.sequence, fresh.sequence, fresh.place, logs);
+          checkpoint = omega (arith, number, fresh.number);
+          unit = omega (arith, on.unit, fresh.unit);
+        };
+  }
+
+  -- None was taken.
+  pub done_untaken : (old new : LoggedState D) (entry : Entry) (fault : ControlFault) → old.served ≡ true → Unrefreshed state old new fault → Done state (Some fault) old new entry
+  done_untaken old new entry Memory served same =
+      let d : DoneFrugally state (Some Memory) old new entry = done_nothing old new entry same served in
+      record { did = d.did; raises = d.raises }
+  done_untaken old new entry Disk served h = record { did = unrefreshed state old new entry Disk served h; raises = λ up. absurd (down up) }
+    where
+      down : new.served ≡ true → ⊥
+      down up = apart (sym h.0.served ∙ up)
+        where
+          apart : false ≡ true → ⊥
+          apart e = cc
+  done_untaken old new entry (Spent counter) served h = absurd h
+
+  -- ---- checkpoints as calls
+
+  pub checked_raises : (old new : LoggedState D) → Refreshed state old new → Raises old.machine.system.logs old.journal new.journal old.next_unit new.next_unit
+  checked_raises old new fresh = record {
+    epoch = fresh.epoch;
+    sequence = omega (arith, fresh.sequence, fresh.place);
+    checkpoint = omega (arith, fresh.number);
+    unit = omega (arith, fresh.unit);
+  }
+
+  pub unchecked_raises : (old new : LoggedState D) (fault : ControlFault) → Unrefreshed state old new fault → new.served ≡ true → Raises old.machine.system.logs old.journal new.journal old.next_unit new.next_unit
+  unchecked_raises old new Memory same up = subst (λ (l : LoggedState D). Raises old.machine.system.logs old.journal l.journal old.next_unit l.next_unit) (sym same) (record { epoch = refl; sequence = omega arith; checkpoint = omega arith; unit = omega arith })
+  unchecked_raises old new Disk h up = absurd (apart (sym h.0.served ∙ up))
+    where
+      apart : false ≡ true → ⊥
+      apart e = cc
+  unchecked_raises old new (Spent counter) h up = absurd h

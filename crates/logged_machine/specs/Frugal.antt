@@ -1,0 +1,94 @@
+-- What a call other than a checkpoint writes, and how far a call raises what is counted on.
+use Rattle.std.specs.Prelude.{◌≡◌, ℕ, ◌+◌, ◌≤◌, Bool, true, false, List, length, Option, Some, None}
+use Rattle.std.specs.List.{flat_map}
+use Rattle.std.specs.Option.{is_some}
+use Rattle.model_disk.specs.Disk.{DiskState, Within, WritesAtMost}
+use Rattle.model_machine.specs.Steps.{lasting_step}
+use Rattle.model_machine.specs.declared.entry.ControlCall.{ControlCall}
+use Rattle.model_machine.specs.declared.entry.ControlCall.TheVariants.{Input, Receive, Acknowledge, Turn, Command, Checkpoint}
+use Rattle.model_machine.specs.declared.entry.ControlFault.{ControlFault}
+use Rattle.model_machine.specs.declared.entry.ControlFault.TheVariants.{Memory, Disk, Spent}
+use Rattle.log_records.specs.declared.record.Record.{Record}
+use Rattle.log_records.specs.Spelling.{spelling}
+use Rattle.log_writer.specs.Writer.{Writer}
+use Rattle.log_writer.specs.Log.{ChangesOnly, sectors_of}
+use Rattle.disk_law.specs.Changes.{with_bytes}
+use Rattle.disk_law.specs.Journal.{JournalState}
+use Rattle.journal.specs.State.{LeavesSectors, forced}
+use Rattle.tm_machine.specs.OnSlots.{turn_records}
+use Rattle.tm_machine.specs.Parts.{PartsState}
+use Rattle.tm_machine.specs.Told.{records_of}
+use Rattle.machine_life.specs.Turning.{unit_of}
+
+-- ---- what a call appends
+
+-- The records of a call of its own, by the machine and the numbers of the regions' units: those of the step that lasts of it,
+-- and of a turn also what its call changes in the databases.
+abbrev pub own_records : PartsState → List ℕ → ControlCall → List Record
+own_records parts units (Turn region) = turn_records parts (unit_of units region) region
+own_records parts units (Input terminal number segments) = records_of parts.system parts.moment 0 (Input terminal number segments)
+own_records parts units (Receive terminal) = records_of parts.system parts.moment 0 (Receive terminal)
+own_records parts units (Acknowledge terminal number) = records_of parts.system parts.moment 0 (Acknowledge terminal number)
+own_records parts units (Command command) = records_of parts.system parts.moment 0 (Command command)
+own_records parts units (Checkpoint freeze) = records_of parts.system parts.moment 0 (Checkpoint freeze)
+
+abbrev pub own_bytes : PartsState → List ℕ → ControlCall → List ℕ
+own_bytes parts units call = flat_map spelling (own_records parts units call)
+
+-- whether a step lasts of it
+abbrev pub has_lasting_step : PartsState → ControlCall → Bool
+has_lasting_step parts call = is_some (lasting_step parts.system parts.moment call)
+
+-- ---- what it writes
+
+-- The disk was told to write no more sectors than what was appended takes. No others have changed than so many in the log's
+-- area, behind those that were written before.
+pub record WritesLog (log : Writer) (old new : DiskState) : Type 0 where
+  pub most : WritesAtMost (sectors_of (length log.appended)) old new
+  pub only : Within (ChangesOnly (log.first + log.place) (sectors_of (length log.appended))) old new
+
+-- The call's records were appended. Nothing was written.
+pub record AppendsAlone {D : Type 0} (own : List ℕ) (old new : JournalState) (disk disk' : D) : Type 0 where
+  pub log : new.log ≡ with_bytes own old.log
+  pub restart : new.restart ≡ old.restart
+  pub disk_is : disk' ≡ disk
+
+-- They were appended, and all was forced.
+pub record ForcesAll {D : Type 0} (state : D → DiskState) (own : List ℕ) (old new : JournalState) (disk disk' : D) : Type 0 where
+  pub log : new.log ≡ forced (with_bytes own old.log)
+  pub restart : new.restart ≡ old.restart
+  pub writes : WritesLog (with_bytes own old.log) (state disk) (state disk')
+
+-- The disk failed while all was forced.
+pub record ForceFails {D : Type 0} (state : D → DiskState) (own : List ℕ) (old new : JournalState) (disk disk' : D) : Type 0 where
+  pub restart : new.restart ≡ old.restart
+  pub writes : WritesLog (with_bytes own old.log) (state disk) (state disk')
+
+-- Nothing was done.
+pub record DoesNothing {D : Type 0} (old new : JournalState) (disk disk' : D) : Type 0 where
+  pub journal : new ≡ old
+  pub disk_is : disk' ≡ disk
+
+-- A call that takes no checkpoint, by the fault that it has in place of an answer and by whether a step lasts of it. Where none
+-- does, the disk can't fail in it.
+abbrev pub WritesBy : {D : Type 0} → (D → DiskState) → Option ControlFault → Bool → List ℕ → JournalState → JournalState → D → D → Type 0
+WritesBy state None true own old new disk disk' = ForcesAll state own old new disk disk'
+WritesBy state None false own old new disk disk' = AppendsAlone own old new disk disk'
+WritesBy state (Some Disk) true own old new disk disk' = ForceFails state own old new disk disk'
+WritesBy state (Some Disk) false own old new disk disk' = ⊥
+WritesBy state (Some Memory) step own old new disk disk' = DoesNothing old new disk disk'
+WritesBy state (Some (Spent counter)) step own old new disk disk' = DoesNothing old new disk disk'
+
+-- A call that leaves 32 sectors of the log's area free with its own records takes no checkpoint.
+abbrev pub IsFrugal : {D : Type 0} → (D → DiskState) → Option ControlFault → PartsState → List ℕ → ControlCall → JournalState → JournalState → D → D → Type 0
+IsFrugal state fault parts units call old new disk disk' =
+    LeavesSectors old.log (length (own_bytes parts units call)) → WritesBy state fault (has_lasting_step parts call) (own_bytes parts units call) old new disk disk'
+
+-- ---- what it counts on
+
+-- The epoch stays. The log's next sequence rises by so many sectors at most, the checkpoint and the next unit by one.
+pub record Raises (sectors : ℕ) (old new : JournalState) (next next' : ℕ) : Type 0 where
+  pub epoch : new.restart.epoch ≡ old.restart.epoch
+  pub sequence : new.log.sequence + new.log.place ≤ old.log.sequence + old.log.place + sectors
+  pub checkpoint : new.restart.checkpoint ≤ old.restart.checkpoint + 1
+  pub unit : next' ≤ next + 1

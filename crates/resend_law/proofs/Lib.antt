@@ -1,0 +1,4 @@
+pub mod Sessions
+pub mod Steps
+pub mod Inputs
+pub mod Replies

@@ -1,0 +1,69 @@
+-- What is left of a session that is closed.
+use Rattle.std.proofs.Common.{◌≡◌, ℕ, ◌≤◌, Bool, true, false, List, [], ◌∷◌, ◌++◌, map, sym, ◌∙◌, ap, subst, refl, inl}
+use Rattle.std.proofs.lemmas.List.{append-nil, map-append}
+use Rattle.std.specs.Prelude.{Option, Some, None, Ok}
+use Rattle.std.specs.Option.{option_map}
+use Rattle.model_disk.specs.Disk.{Image, DiskState}
+use Rattle.model_system.specs.System.{System}
+use Rattle.model_machine.specs.Machine.{start_of}
+use Rattle.model_machine.specs.History.{moment_after, now_of}
+use Rattle.model_image.specs.Recovered.{Recovers}
+use Rattle.model_session.specs.Lives.{LifeState, AreLegal, HasAnswered, kept_life, with_life}
+use Rattle.model_session.specs.Standing.{Stop, AreStops}
+use Rattle.model_session.specs.Standing.Standing.{Up as StandsUp}
+use Rattle.tm_control.specs.OnDisk.{ControlOnDisk, LastsBy}
+use Rattle.control_life.specs.declared.life.Life.{Life}
+use Rattle.session_lives.specs.declared.place.Idle.{Idle}
+use Rattle.session_lives.specs.declared.place.Place.TheVariants.{Up, Down}
+use Rattle.session_lives.specs.declared.place.Kept.{Kept}
+use Rattle.session_lives.specs.Running.{life_of, last_of, last_up, kept_of, session_at, Holds, IsUpReady, IsUpSound, IsDownSound}
+use Rattle.session_lives.specs.Closing.{listed, IsClosedUp, IsClosedDown, Remains}
+use Rattle.session_lives.proofs.Ends.{same_life, answered_of, stops_higher}
+use Rattle.session_lives.proofs.Restarted.{legal_with}
+
+lives_listed : (lives : List Life) (last : Option Life) → map life_of (lives ++ listed last) ≡ with_life (map life_of lives) (option_map last_of last) (kept_of last)
+lives_listed lives None = ap (map life_of) (append-nil lives)
+lives_listed lives (Some life) = map-append life_of lives (life ∷ [])
+
+module _ {D : Type 0} (state : D → DiskState) (system : System) (source : List ℕ) (handed : D) where
+  pub down_remains : (idle : Idle D) (kept : Kept) (disk : D) (lives : List Life) (stops : List Stop) → IsDownSound state system source handed idle kept
+      → IsClosedDown idle kept disk lives stops → Remains state system source handed disk (session_at (Down idle) kept) lives stops
+  down_remains idle kept disk lives stops sound over =
+      let all : map life_of lives ≡ with_life (map life_of kept.lives.items) (option_map last_of idle.last) (kept_of idle.last) = ap (map life_of) over.lives_are ∙ lives_listed kept.lives.items idle.last in
+      record {
+        lives_are = record { count = kept_of idle.last; answered = sound.answered; are = all };
+        legal = subst (λ l. AreLegal system l) (sym all) (legal_with system (map life_of kept.lives.items) (option_map last_of idle.last) (kept_of idle.last) (kept_of idle.last) sound.legal sound.answered);
+        stops_are = over.stops_are;
+        counted = subst (λ d. AreStops (state handed).faults stops (state d).faults) (sym over.disk_is)
+            (subst (λ s. AreStops (state handed).faults s (state idle.disk).faults) (sym over.stops_are) sound.stops);
+        images = λ image left. sound.images image (subst (λ d. (state d).may_leave image) over.disk_is left);
+      }
+
+  up_holds : (control : ControlOnDisk D) (up : Bool) → up ≡ true → control.control.system ≡ system → LastsBy up control.control control.text (state control.disk) → (image : Image)
+      → (state control.disk).may_leave image → Holds state system source handed (StandsUp (last_up control)) image
+  up_holds control false is same lasts image left = cc
+  up_holds control true is same lasts image left = inl (record {
+    state = (now_of control.control).lasting;
+    recovers = subst (λ s. Recovers s image (Ok (now_of control.control).lasting)) same (lasts.images image left);
+    may = ap (λ s. (moment_after s (start_of s control.control.opening) control.control.history).lasting) same;
+  })
+
+  pub up_remains : (control : ControlOnDisk D) (kept : Kept) (disk : D) (lives : List Life) (stops : List Stop) → IsUpReady control kept → IsUpSound state system source handed control kept
+      → IsClosedUp state control kept disk lives stops → Remains state system source handed disk (session_at (Up control) kept) lives stops
+  up_remains control kept disk lives stops ready sound over =
+      let life : LifeState = kept_life (last_up control) over.life.kept in
+      let same : life_of over.life ≡ life = ap (λ l. kept_life l over.life.kept) (same_life control.control.opening over.life.opening control.control.history over.life.history over.closes.opening over.closes.history) in
+      let all : map life_of lives ≡ with_life (map life_of kept.lives.items) (Some (last_up control)) over.life.kept =
+      ap (map life_of) over.lives_are ∙ map-append life_of kept.lives.items (over.life ∷ []) ∙ ap (λ l. map life_of kept.lives.items ++ l ∷ []) same in
+      let answered : HasAnswered system (last_up control) over.life.kept =
+      answered_of control.control.system system control.control.opening control.control.opening control.control.history control.control.history over.life.kept
+      sound.system_is refl refl (record { legal = over.closes.legal; numbers = over.closes.numbers; counted = over.closes.kept }) in
+      record {
+        lives_are = record { count = over.life.kept; answered = answered; are = all };
+        legal = subst (λ l. AreLegal system l) (sym all) (legal_with system (map life_of kept.lives.items) (Some (last_up control)) over.life.kept over.life.kept sound.legal answered);
+        stops_are = over.stops_are;
+        counted = subst (λ d. AreStops (state handed).faults stops (state d).faults) (sym over.closes.disk_is)
+            (subst (λ s. AreStops (state handed).faults s (state control.disk).faults) (sym over.stops_are)
+            (stops_higher (state handed).faults control.began (state control.disk).faults kept.stops.items sound.stops sound.began));
+        images = λ image left. up_holds control control.up ready.up sound.system_is over.lasts image (subst (λ d. (state d).may_leave image) over.closes.disk_is left);
+      }

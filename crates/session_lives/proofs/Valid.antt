@@ -1,0 +1,22 @@
+-- A disk that can be opened is not refused.
+use Rattle.std.proofs.Common.{◌≡◌, ℕ, ◌≤◌, List, refl, arith, Ok, Err}
+use Rattle.model_disk.specs.Disk.{DiskState, IsDisk}
+use Rattle.model_system.specs.System.{System}
+use Rattle.model_image.proofs.Answers.{one_answer_of}
+use Rattle.model_session.specs.declared.asked.ImageRefused.{ImageRefused}
+use Rattle.model_session.specs.declared.asked.ImageRefused.TheVariants.{Rule, Text, Size}
+use Rattle.opening_answers.specs.Opening.{IsOther}
+use Rattle.control_life.specs.declared.how.How.TheVariants.{Found}
+use Rattle.control_life.specs.Opened.{Refuses}
+use Rattle.session_lives.specs.Running.{IsValidDisk, error_of}
+use Rattle.session_lives.proofs.Restarted.{no_difference, ok_or_err}
+
+pub valid_opens : (system : System) (source : List ℕ) (disk : DiskState) (refusal : ImageRefused) → IsDisk disk → IsValidDisk system source disk → Refuses Found system source disk (error_of refusal) → ⊥
+valid_opens system source disk (Size needed has) is_disk valid refuses =
+    omega (arith, valid.size, refuses.size.right_need, refuses.size.right_size, refuses.size.less)
+valid_opens system source disk (Rule rule sector) is_disk valid refuses =
+    let good = valid.recovers disk.shown (is_disk.shown_left valid.tells) in
+    ok_or_err good.state (rule, sector) (one_answer_of system disk.shown (Ok good.state) (Err (rule, sector)) good.recovers (refuses.found refl valid.tells).recovers)
+valid_opens system source disk (Text place) is_disk valid refuses =
+    let other : IsOther system source disk.shown place = refuses.found refl valid.tells in
+    no_difference source _ place (valid.texts disk.shown (is_disk.shown_left valid.tells) other.restart other.has_restart) other.differs

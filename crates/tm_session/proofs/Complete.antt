@@ -1,0 +1,76 @@
+-- A session without a stop is not down by one, and its disk was opened.
+use Rattle.std.proofs.Common.{◌≡◌, ℕ, ◌+◌, ◌≤◌, Bool, true, false, List, [], ◌∷◌, map, sym, ◌∙◌, ap, subst, refl, arith, inl, inr, ⊎_elim}
+use Rattle.std.specs.Prelude.{Option, Some, None}
+use Rattle.model_disk.specs.Disk.{DiskState, IsDisk, Rose}
+use Rattle.model_system.specs.System.{System}
+use Rattle.model_session.specs.declared.asked.ImageRefused.{ImageRefused}
+use Rattle.model_session.specs.Blocks.{Block}
+use Rattle.model_session.specs.Lives.{LifeState}
+use Rattle.model_session.specs.Standing.{Setting, SessionState, Standing, Stop, AreStops, last_life}
+use Rattle.model_session.specs.Standing.Standing.{Up, Down}
+use Rattle.model_session.proofs.Stopping.{HasStops, stops_told, stops_begun}
+use Rattle.control_life.specs.declared.how.How.TheVariants.{Found}
+use Rattle.control_life.specs.Opened.{Refuses}
+use Rattle.control_life.specs.declared.life.Life.{Life}
+use Rattle.tm_edge.specs.Lines.{lines_of}
+use Rattle.sysdef_text.specs.Ends.{definition_lines}
+use Rattle.session_lives.specs.Running.{life_of, setting_of, error_of}
+use Rattle.session_lives.specs.Openings.{MayRefuseAt}
+use Rattle.session_lives.proofs.Valid.{valid_opens}
+use Rattle.tm_session.specs.declared.outcome.Ended.{Ended}
+use Rattle.tm_session.specs.declared.outcome.Ended.TheVariants.{Down as DownAtEnd, Image}
+use Rattle.tm_session.specs.Source.{definition_text}
+use Rattle.tm_session.specs.Outcome.{left_if, is_undone}
+use Rattle.tm_session.specs.Headline.{HasLived, HasSession, IsNeverOpened, IsValidDisk}
+
+-- ---- counts
+
+reaches : (low high : ℕ) (stops : List Stop) → AreStops low stops high → low ≤ high
+reaches low high [] h = h
+reaches low high ((began, end) ∷ stops) h = omega (arith, h.0, h.1, reaches end high stops h.3)
+
+-- a stop is told only where the count rose
+stop_rose : (low high : ℕ) (stop : Stop) (stops : List Stop) → AreStops low (stop ∷ stops) high → Rose low high
+stop_rose low high (began, end) stops h =
+    let up : end ≤ high = reaches end high stops h.3 in
+    ⊎_elim (λ (risen : began + 1 ≤ end). inl (omega (arith, h.0, risen, up))) (λ (full : 18446744073709551615 ≤ end). inr (omega (arith, full, up))) h.2
+
+pub no_stops : (low high : ℕ) (stops : List Stop) → AreStops low stops high → (Rose low high → ⊥) → stops ≡ []
+no_stops low high [] h calm = refl
+no_stops low high (stop ∷ stops) h calm = absurd (calm (stop_rose low high stop stops h))
+
+-- ---- a session
+
+left_stops : (undone : Bool) (system : System) (others : List Block) (mid last : SessionState) → left_if undone system others mid last → HasStops mid → HasStops last
+left_stops true system others mid last left h = stops_begun system others mid last left h
+left_stops false system others mid last left h = subst HasStops (sym left) h
+
+no_life_at : (setting : Setting) (standing : Standing) (refusal : ImageRefused) → MayRefuseAt setting standing refusal → last_life standing ≡ None
+no_life_at setting (Up life) refusal may = absurd may
+no_life_at setting (Down outage) refusal may = may.0
+
+module _ {D : Type 0} (state : D → DiskState) (system : System) (source : List ℕ) (handed disk : D) (told left old new : Option (List ℕ)) (lives : List LifeState) (stops : List Stop) where
+  lived_stops : (ended : Ended) (h : HasLived state system source told left old new handed disk ended lives stops) → HasStops h.last
+  lived_stops ended h =
+      left_stops (is_undone ended) system h.others h.mid h.last h.unprinted (stops_told (setting_of state system source handed) h.blocks h.first h.mid h.text h.begins h.session)
+
+  never_down : HasLived state system source told left old new handed disk DownAtEnd lives stops → stops ≡ [] → ⊥
+  never_down h none = (lived_stops DownAtEnd h).stopped h.by (sym h.stops_are ∙ none)
+
+  never_refused : (refusal : ImageRefused) → HasLived state system source told left old new handed disk (Image refusal) lives stops → stops ≡ [] → ⊥
+  never_refused refusal h none =
+      (lived_stops (Image refusal) h).unbegun (no_life_at (setting_of state system source handed) h.last.standing refusal h.undone) (sym h.stops_are ∙ none)
+
+module _ {D : Type 0} (state : D → DiskState) (handed disk : D) (told left old new : Option (List ℕ)) (lives : List Life) (stops : List Stop) where
+  pub not_down : HasSession state told left old new handed disk DownAtEnd lives stops → stops ≡ [] → ⊥
+  not_down h none = never_down state h.system h.text handed disk told left old new (map life_of lives) stops h.lived none
+
+  pub not_refused : (refusal : ImageRefused) → HasSession state told left old new handed disk (Image refusal) lives stops → stops ≡ [] → ⊥
+  not_refused refusal h none = never_refused state h.system h.text handed disk told left old new (map life_of lives) stops refusal h.lived none
+
+-- nor is a disk refused that can be opened
+pub valid_opened : {D : Type 0} (state : D → DiskState) (bytes : List ℕ) (handed disk : D) (refusal : ImageRefused) → IsDisk (state handed) → (never : IsNeverOpened state (Some bytes) handed disk (Image refusal))
+    → IsValidDisk never.system (definition_text (definition_lines (lines_of bytes))) (state handed) → ⊥
+valid_opened state bytes handed disk refusal is_disk never valid =
+    valid_opens never.system (definition_text (definition_lines (lines_of bytes))) (state handed) refusal is_disk valid
+    (subst (λ (t : List ℕ). Refuses Found never.system t (state handed) (error_of refusal)) never.text_is never.refusal)
