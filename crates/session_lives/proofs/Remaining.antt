@@ -15,9 +15,11 @@ use Rattle.tm_control.specs.OnDisk.{ControlOnDisk, LastsBy}
 use Rattle.control_life.specs.declared.life.Life.{Life}
 use Rattle.session_lives.specs.declared.place.Idle.{Idle}
 use Rattle.session_lives.specs.declared.place.Place.TheVariants.{Up, Down}
+use Rattle.session_lives.specs.declared.place.Place.{Place}
 use Rattle.session_lives.specs.declared.place.Kept.{Kept}
-use Rattle.session_lives.specs.Running.{life_of, last_of, last_up, kept_of, session_at, Holds, IsUpReady, IsUpSound, IsDownSound}
-use Rattle.session_lives.specs.Closing.{listed, IsClosedUp, IsClosedDown, Remains}
+use Rattle.session_lives.specs.declared.place.Session.{Session}
+use Rattle.session_lives.specs.Running.{life_of, last_of, last_up, kept_of, session_at, Holds, IsUpReady, IsReady, IsReadyAt, IsUpSound, IsDownSound, IsSoundAt}
+use Rattle.session_lives.specs.Closing.{listed, IsClosedUp, IsClosedDown, IsClosedAt, IsClosed, Remains, LeavesSo}
 use Rattle.session_lives.proofs.Ends.{same_life, answered_of, stops_higher}
 use Rattle.session_lives.proofs.Restarted.{legal_with}
 
@@ -26,7 +28,7 @@ lives_listed lives None = ap (map life_of) (append-nil lives)
 lives_listed lives (Some life) = map-append life_of lives (life ∷ [])
 
 module _ {D : Type 0} (state : D → DiskState) (system : System) (source : List ℕ) (handed : D) where
-  pub down_remains : (idle : Idle D) (kept : Kept) (disk : D) (lives : List Life) (stops : List Stop) → IsDownSound state system source handed idle kept
+  down_remains : (idle : Idle D) (kept : Kept) (disk : D) (lives : List Life) (stops : List Stop) → IsDownSound state system source handed idle kept
       → IsClosedDown idle kept disk lives stops → Remains state system source handed disk (session_at (Down idle) kept) lives stops
   down_remains idle kept disk lives stops sound over =
       let all : map life_of lives ≡ with_life (map life_of kept.lives.items) (option_map last_of idle.last) (kept_of idle.last) = ap (map life_of) over.lives_are ∙ lives_listed kept.lives.items idle.last in
@@ -48,7 +50,7 @@ module _ {D : Type 0} (state : D → DiskState) (system : System) (source : List
     may = ap (λ s. (moment_after s (start_of s control.control.opening) control.control.history).lasting) same;
   })
 
-  pub up_remains : (control : ControlOnDisk D) (kept : Kept) (disk : D) (lives : List Life) (stops : List Stop) → IsUpReady control kept → IsUpSound state system source handed control kept
+  up_remains : (control : ControlOnDisk D) (kept : Kept) (disk : D) (lives : List Life) (stops : List Stop) → IsUpReady control kept → IsUpSound state system source handed control kept
       → IsClosedUp state control kept disk lives stops → Remains state system source handed disk (session_at (Up control) kept) lives stops
   up_remains control kept disk lives stops ready sound over =
       let life : LifeState = kept_life (last_up control) over.life.kept in
@@ -67,3 +69,13 @@ module _ {D : Type 0} (state : D → DiskState) (system : System) (source : List
             (stops_higher (state handed).faults control.began (state control.disk).faults kept.stops.items sound.stops sound.began));
         images = λ image left. up_holds control control.up ready.up sound.system_is over.lasts image (subst (λ d. (state d).may_leave image) over.closes.disk_is left);
       }
+
+  remains_at : (place : Place D) (kept : Kept) (disk : D) (lives : List Life) (stops : List Stop) → IsReadyAt state place kept → IsSoundAt state system source handed place kept
+      → IsClosedAt state place kept disk lives stops → Remains state system source handed disk (session_at place kept) lives stops
+  remains_at (Up control) kept disk lives stops ready sound over = up_remains control kept disk lives stops ready sound over
+  remains_at (Down idle) kept disk lives stops ready sound over = down_remains idle kept disk lives stops sound over
+
+pub closed_leaves : {D : Type 0} (state : D → DiskState) (session : Session D) (disk : D) (lives : List Life) (stops : List Stop) → IsReady state session → IsClosed state session disk lives stops
+    → LeavesSo state session disk lives stops
+closed_leaves state session disk lives stops ready over = λ system source handed sound.
+    remains_at state system source handed session.place session.kept disk lives stops ready sound over

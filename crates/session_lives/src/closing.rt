@@ -24,6 +24,14 @@ pub fn close<D: Disk>(session: Session<D>) -> Over<D>
     ensures leaves { LeavesSo D.state session result.disk result.lives.items result.stops.items }
     ensures stopped { result.stopped ≡ is_stopped (standing_of session.place) }
 {
+    hand_over(session)
+}
+
+fn hand_over<D: Disk>(session: Session<D>) -> Over<D>
+    requires ready { IsReady D.state session }
+    ensures closed { IsClosed D.state session result.disk result.lives.items result.stops.items }
+    ensures stopped { result.stopped ≡ is_stopped (standing_of session.place) }
+{
     let Session { place, kept } = session;
     match place {
         Place::Up(control) => close_up(control, kept),
