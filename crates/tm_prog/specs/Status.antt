@@ -15,7 +15,9 @@ use Rattle.sysdef_text.specs.Ends.{definition_lines}
 use Rattle.tm_session.specs.Source.{judged, definition_text}
 use Rattle.tm_session.specs.Outcome.{HasCause}
 use Rattle.tm_session.specs.Headline.{IsSession, IsValidDisk}
-use Rattle.tm_prog.specs.Words.{WordFault, word_fault}
+use Rattle.tm_prog.specs.declared.words.Workload.{Workload}
+use Rattle.tm_prog.specs.Words.{WordFault, word_fault, workload_of}
+use Rattle.tm_prog.specs.Workload.{IsWorkload}
 
 -- The line that a status ends with; 0 and 5 have none.
 abbrev pub status_text : Ended → List ℕ
@@ -49,19 +51,28 @@ pub record IsRefused {D : Type 0} (fault : WordFault) (old new : Option (List �
   pub nothing : new ≡ old
   pub same : disk ≡ handed
 
--- Otherwise the session is served.
-abbrev pub IsByWords : {D : Type 0} → (D → DiskState) → Option WordFault → Option (List ℕ) → Option (List ℕ) → Option (List ℕ) → Option (List ℕ) → D → D → Ended → List Life → List Stop → Type 0
-IsByWords state (Some fault) told left old new handed disk status lives stops = IsRefused fault old new handed disk status lives stops
-IsByWords state None told left old new handed disk status lives stops = IsSession state told left old new handed disk status lives stops
+-- Otherwise the session is served: that of a workload, and then the source isn't touched; or that of the source.
+abbrev pub IsServed : {D : Type 0} → (D → DiskState) → Option Workload → Option (List ℕ) → Option (List ℕ) → Option (List ℕ) → Option (List ℕ) → List ℕ → D → D → Ended → List Life → List Stop → Type 0
+IsServed state (Some workload) told left old new summary handed disk status lives stops =
+    (left ≡ told) × IsWorkload state workload old new summary handed disk status lives stops
+IsServed state None told left old new summary handed disk status lives stops =
+    (summary ≡ []) × IsSession state told left old new handed disk status lives stops
 
--- A run: what the words ask for is done, which has its cause in the counts of faults; and then the status
--- line is printed, where the status has one.
+abbrev pub IsByWords : {D : Type 0} → (D → DiskState) → Option WordFault → Option Workload → Option (List ℕ) → Option (List ℕ) → Option (List ℕ) → Option (List ℕ) → List ℕ → D → D → Ended → List Life → List Stop → Type 0
+IsByWords state (Some fault) workload told left old new summary handed disk status lives stops =
+    (summary ≡ []) × IsRefused fault old new handed disk status lives stops
+IsByWords state None workload told left old new summary handed disk status lives stops =
+    IsServed state workload told left old new summary handed disk status lives stops
+
+-- A run: what the words ask for is done, which has its cause in the counts of faults; and then the status line is printed, where
+-- the status has one. Before it stands the summary of a workload whose session was not run to its end.
 pub record IsRun {D : Type 0} (state : D → DiskState) (words : List (List ℕ)) (told left old new : Option (List ℕ)) (handed disk : D) (status : Ended) (lives : List Life) (stops : List Stop) (reads_old reads_new writes_old writes_new : ℕ) : Type 0 where
   pub before : Option (List ℕ)
+  pub summary : List ℕ
   pub writes : ℕ
-  pub session : IsByWords state (word_fault words) told left old before handed disk status lives stops
+  pub session : IsByWords state (word_fault words) (workload_of words) told left old before summary handed disk status lives stops
   pub cause : HasCause status reads_old reads_new writes_old writes
-  pub last : IsLastLine before new (status_text status) writes writes_new
+  pub last : IsLastLine before new (summary ++ status_text status) writes writes_new
 
 -- no limit is met in these bytes: at most a million lines, none of 4,097 bytes or more
 abbrev pub IsWithinLimits : Option (List ℕ) → Type 0

@@ -5,6 +5,7 @@ use Rattle.std.specs.Str.{bytes_eq}
 use Rattle.model_session.specs.Numbers.{number_in}
 use Rattle.tm_prog.specs.declared.words.DiskWords.{DiskWords}
 use Rattle.tm_prog.specs.declared.words.DiskWords.TheVariants.{InMemory, InFile}
+use Rattle.tm_prog.specs.declared.words.Workload.{Workload}
 
 -- a word that breaks a rule: its number, counted from 1, and the rule
 pub record WordFault : Type 0 where
@@ -14,9 +15,10 @@ pub record WordFault : Type 0 where
 abbrev pub fault_at : ℕ → ℕ → Option WordFault
 fault_at word rule = Some (record { word = word; rule = rule })
 
--- The words are `drill MEM n` or `drill FILE path n`. Rule 1: an unknown command, or a word that is neither MEM nor FILE where
--- one of them must stand; rule 2: a word is missing; rule 3: a word is too many; rule 4: no number of sectors, which is from
--- 1 to 65,536. The first word that breaks a rule counts.
+-- The words are `drill MEM n`, `drill FILE path n` or `workload seed n`. Rule 1: an unknown command, or a word that is neither
+-- MEM nor FILE where one of them must stand; rule 2: a word is missing; rule 3: a word is too many; rule 4: no number in its
+-- range. Of sectors there are 1 to 65,536, of transfers 1 to 10,000, and a seed is any number of 64 bits. The first word that
+-- breaks a rule counts.
 abbrev pub sectors_in : List ℕ → Option ℕ
 sectors_in word = number_in 1 65536 word
 
@@ -38,9 +40,25 @@ disk_fault (kind ∷ words) =
     if bytes_eq kind (codes "MEM") then size_fault 3 words
     else if bytes_eq kind (codes "FILE") then path_fault words else fault_at 2 1
 
+abbrev pub seed_in : List ℕ → Option ℕ
+seed_in word = number_in 0 18446744073709551615 word
+
+abbrev pub transfers_in : List ℕ → Option ℕ
+transfers_in word = number_in 1 10000 word
+
+abbrev pub transfers_fault : List (List ℕ) → Option WordFault
+transfers_fault [] = fault_at 3 2
+transfers_fault (transfers ∷ words) = if is_some (transfers_in transfers) then more_fault 4 words else fault_at 3 4
+
+abbrev pub workload_fault : List (List ℕ) → Option WordFault
+workload_fault [] = fault_at 2 2
+workload_fault (seed ∷ words) = if is_some (seed_in seed) then transfers_fault words else fault_at 2 4
+
 abbrev pub word_fault : List (List ℕ) → Option WordFault
 word_fault [] = fault_at 1 2
-word_fault (command ∷ words) = if bytes_eq command (codes "drill") then disk_fault words else fault_at 1 1
+word_fault (command ∷ words) =
+    if bytes_eq command (codes "drill") then disk_fault words
+    else if bytes_eq command (codes "workload") then workload_fault words else fault_at 1 1
 
 -- the word fault as a pair
 abbrev pub FaultIs : Option WordFault → Option (ℕ × ℕ) → Type 0
@@ -49,15 +67,30 @@ FaultIs None None = ⊤
 FaultIs (Some fault) None = ⊥
 FaultIs None (Some pair) = ⊥
 
+-- ---- a workload
+
+-- the workload that the words ask for, if they ask for one
+abbrev pub workload_by : Option ℕ → Option ℕ → Option Workload
+workload_by (Some seed) (Some transfers) = Some (record { seed = seed; transfers = transfers })
+workload_by _ _ = None
+
+abbrev pub workload_of : List (List ℕ) → Option Workload
+workload_of (command ∷ seed ∷ transfers ∷ []) =
+    if bytes_eq command (codes "workload") then workload_by (seed_in seed) (transfers_in transfers) else None
+workload_of _ = None
+
 -- ---- the disk
 
--- The disk that the words ask for: one in memory with so many sectors, or the file that the third word names. Words that
--- break a rule get none in memory.
+-- The disk that the words ask for: one in memory with so many sectors, or the file that the third word names. That of a
+-- workload has 16,384 in memory. Words that break a rule get none in memory.
 abbrev pub sectors_of : List ℕ → ℕ
 sectors_of word = unwrap_or (sectors_in word) 0
 
+abbrev pub memory_of : List ℕ → List ℕ → ℕ
+memory_of command size = if bytes_eq command (codes "workload") then 16384 else sectors_of size
+
 abbrev pub disk_in : List (List ℕ) → DiskWords
-disk_in (command ∷ kind ∷ size ∷ []) = InMemory (sectors_of size)
+disk_in (command ∷ kind ∷ size ∷ []) = InMemory (memory_of command size)
 disk_in (command ∷ kind ∷ path ∷ size ∷ words) = InFile (sectors_of size)
 disk_in _ = InMemory 0
 

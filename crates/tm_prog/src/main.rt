@@ -1,4 +1,5 @@
-//! A transaction manager: its sessions are served as `drill`, from standard input to standard output.
+//! A transaction manager: its sessions are served as `drill`, from standard input to standard output; a `workload` makes its session
+//! by itself.
 #![tactic(auto)]
 
 ghost use Rattle.std.specs.Prelude.{◌≡◌};
@@ -18,6 +19,7 @@ mod outage_tests;
 mod run;
 #[cfg(test)]
 mod screen_tests;
+mod summed;
 #[cfg(test)]
 mod sector_tests;
 #[cfg(test)]

@@ -1,12 +1,14 @@
 //! The top call.
-ghost use Rattle.std.specs.Prelude.{◌≡◌, ◌≤◌, ◌++◌, ◌∷◌, decimal, [], length, map, string_bytes, IsNone};
+ghost use Rattle.std.specs.Prelude.{◌≡◌, ◌≤◌, ◌++◌, ◌∷◌, decimal, [], length, map, string_bytes, IsNone, IsSome};
 ghost use Rattle.model_disk.specs.Disk.{Only};
 ghost use Rattle.tm_edge.specs.Fault.{HasRisen};
 ghost use Rattle.tm_session.specs.Outcome.{HasCause, IsBack, IsReadToEnd};
-ghost use Rattle.tm_prog.specs.Words.{word_fault};
+ghost use Rattle.tm_prog.specs.Words.{word_fault, workload_of};
+ghost use Rattle.tm_prog.specs.Workload.{told_by};
 ghost use Rattle.tm_prog.specs.Status.{status_text, IsLastLine, IsByWords, IsRun, IsWithinLimits, IsComplete};
 
-use crate::words::find_word_fault;
+use crate::words::{find_word_fault, workload_of};
+use crate::summed::run_workload;
 use model_session::ImageRefused;
 use session_text::Printed;
 use std::alloc::Global;
@@ -15,13 +17,15 @@ use tm_edge::{Sink, Source};
 use tm_session::{Ended, Lives, Outcome, Stops, drill_session};
 
 /// The room that the last line needs at most.
-const LAST_ROOM: usize = 128;
+pub(crate) const LAST_ROOM: usize = 128;
 
-/// Serves a session by the words that the program is called with, which are `drill` and the disk's.
+/// Serves a session by the words that the program is called with, which are `drill` and the disk's, or `workload`, a seed and how
+/// many transfers it has.
 ///
-/// The source holds a definition and then the lines of the session, whose answers are printed to the
+/// The source of a drill holds a definition and then the lines of the session, whose answers are printed to the
 /// sink; and then the line of the status, where it has one. A status line that can't be written
 /// leaves the status as it is. The disk is opened behind the definition, and handed back in the end.
+/// A workload is served so too, over its own text: the source isn't touched, and the summary is printed in place of the answers.
 ///
 /// Status 1 comes exactly where the words break a rule, and 2 exactly where the definition breaks
 /// one; 3 exactly where the source ended while the system was down by a stop, which is told; 4 and 5 only where the source or the
@@ -40,47 +44,59 @@ pub fn run<S: Source, K: Sink, D: Disk>(
     ensures headline { IsRun D.state (map (λ word. string_bytes word) words.now) (S.left source.old) (S.left source.new) (K.written sink.old) (K.written sink.new) disk result.disk result.status result.lives result.stops
         (S.faults source.old) (S.faults source.new) (K.faults sink.old) (K.faults sink.new) }
     ensures taken { IsBack (S.left source.old) (S.left source.new) }
-    ensures whole { IsReadToEnd result.status (S.left source.new) }
+    // The source of a drill is read to its end where the status says so; that of a workload isn't touched.
+    ensures whole { IsNone (workload_of (map (λ word. string_bytes word) words.now)) → IsReadToEnd result.status (S.left source.new) }
+    ensures untouched { IsSome (workload_of (map (λ word. string_bytes word) words.now)) → source.new ≡ source.old }
 
     // Where the words are valid, no count of the source or the sink rose and no limit is met, the status is that of the definition, or memory was wanting, or the disk decides it: not where it
     // can be opened as it is handed in and doesn't fail, but by a spent counter.
     ensures complete { IsNone (word_fault (map (λ word. string_bytes word) words.now)) →
         ¬ HasRisen (S.faults source.old) (S.faults source.new) → ¬ HasRisen (K.faults sink.old) (K.faults sink.new) →
-        IsWithinLimits (S.left source.old) → IsComplete (S.left source.old) (D.state disk) (D.state result.disk) result.status result.stops }
+        IsWithinLimits (told_by (workload_of (map (λ word. string_bytes word) words.now)) (S.left source.old)) →
+        IsComplete (told_by (workload_of (map (λ word. string_bytes word) words.now)) (S.left source.old)) (D.state disk) (D.state result.disk) result.status result.stops }
 {
     let mut line = Printed::new(alloc);
     if line.make_room(LAST_ROOM).is_err() {
         print_last(sink, b"STATUS 7 MEMORY\n");
         return unbegun(alloc, disk, Ended::Memory);
     }
-    let outcome = serve(alloc, words, source, sink, disk);
+    let outcome = serve(alloc, words, source, sink, &mut line, disk);
     status_line(&mut line, outcome.status);
     print_last(sink, line.as_slice());
     outcome
 }
 
-/// Serves a session, where the words break no rule.
+/// Serves a session, where the words break no rule. The summary of a workload whose session wasn't run to its end is left in the
+/// text of the last line.
 fn serve<S: Source, K: Sink, D: Disk>(
     alloc: Global,
     words: &[String],
     source: &mut S,
     sink: &mut K,
+    line: &mut Printed,
     disk: D,
 ) -> Outcome<D>
     requires only { Only (D.state disk).shown (D.state disk) }
-    ensures session { IsByWords D.state (word_fault (map (λ word. string_bytes word) words.now)) (S.left source.old) (S.left source.new) (K.written sink.old) (K.written sink.new) disk result.disk result.status result.lives result.stops }
+    requires room { LAST_ROOM ≤ line.old.room }
+    requires fresh { line.old.text ≡ [] }
+    ensures session { IsByWords D.state (word_fault (map (λ word. string_bytes word) words.now)) (workload_of (map (λ word. string_bytes word) words.now)) (S.left source.old) (S.left source.new) (K.written sink.old) (K.written sink.new) line.new.text disk result.disk result.status result.lives result.stops }
     ensures cause { HasCause result.status (S.faults source.old) (S.faults source.new) (K.faults sink.old) (K.faults sink.new) }
     ensures taken { IsBack (S.left source.old) (S.left source.new) }
-    ensures whole { IsReadToEnd result.status (S.left source.new) }
+    ensures whole { IsNone (workload_of (map (λ word. string_bytes word) words.now)) → IsReadToEnd result.status (S.left source.new) }
+    ensures untouched { IsSome (workload_of (map (λ word. string_bytes word) words.now)) → source.new ≡ source.old }
+    ensures room { LAST_ROOM ≤ line.new.room }
 {
-    match find_word_fault(words) {
-        Some((word, rule)) => unbegun(alloc, disk, Ended::Words(word, rule)),
+    if let Some((word, rule)) = find_word_fault(words) {
+        return unbegun(alloc, disk, Ended::Words(word, rule));
+    }
+    match workload_of(words) {
+        Some(workload) => run_workload(alloc, workload, sink, line, disk),
         None => drill_session(alloc, source, sink, disk),
     }
 }
 
 /// An outcome without a life.
-fn unbegun<D: Disk>(alloc: Global, disk: D, status: Ended) -> Outcome<D>
+pub(crate) fn unbegun<D: Disk>(alloc: Global, disk: D, status: Ended) -> Outcome<D>
     ensures status { result.status ≡ status }
     ensures lives { result.lives ≡ [] }
     ensures stops { result.stops ≡ [] }

@@ -1,5 +1,5 @@
 //! The words that the program is called with.
-ghost use Rattle.std.specs.Prelude.{◌≡◌, ◌≤◌, map, string_bytes};
+ghost use Rattle.std.specs.Prelude.{◌≡◌, ◌≤◌, map, string_bytes, IfSome};
 ghost use Rattle.tm_prog.specs.Words as spec;
 ghost use Rattle.tm_prog.specs.Words.{FaultIs, word_fault, disk_by};
 
@@ -14,10 +14,24 @@ pub enum DiskWords {
     InFile(u32),
 }
 
+/// A workload: the seed of its transfers, and how many there are.
+#[derive(Clone, Copy, Debug, PartialEq, Eq)]
+pub(crate) struct Workload {
+    pub(crate) seed: u64,
+    pub(crate) transfers: u32,
+}
+
 /// The most sectors of a disk.
 const GREATEST_SIZE: u64 = 65_536;
 
-/// The disk that the words ask for. Words that break a rule get one in memory that has no sector.
+/// The most transfers of a workload.
+const GREATEST_COUNT: u64 = 10_000;
+
+/// The sectors of a workload's disk.
+const WORKLOAD_SIZE: u32 = 16_384;
+
+/// The disk that the words ask for. A workload gets one in memory of 16,384 sectors, and words that break a rule get one in
+/// memory that has no sector.
 pub fn disk_words(words: &[String]) -> DiskWords
     ensures { result ≡ disk_by (word_fault (map (λ word. string_bytes word) words.now)) (map (λ word. string_bytes word) words.now) }
 {
@@ -25,9 +39,19 @@ pub fn disk_words(words: &[String]) -> DiskWords
         return DiskWords::InMemory(0);
     }
     match words {
-        [_, _, size] => DiskWords::InMemory(sectors_of(size)),
+        [command, _, size] => DiskWords::InMemory(memory_of(command, size)),
         [_, _, _, size, ..] => DiskWords::InFile(sectors_of(size)),
         _ => DiskWords::InMemory(0),
+    }
+}
+
+fn memory_of(command: &String, size: &String) -> u32
+    ensures { result ≡ spec.memory_of (string_bytes command.now) (string_bytes size.now) }
+{
+    if command.as_bytes() == b"workload".as_slice() {
+        WORKLOAD_SIZE
+    } else {
+        sectors_of(size)
     }
 }
 
@@ -56,10 +80,13 @@ pub(crate) fn find_word_fault(words: &[String]) -> Option<(u32, u32)>
     let [command, words @ ..] = words else {
         return Some((1, 2));
     };
-    if command.as_bytes() != b"drill".as_slice() {
-        return Some((1, 1));
+    if command.as_bytes() == b"drill".as_slice() {
+        return disk_fault(words);
     }
-    disk_fault(words)
+    if command.as_bytes() == b"workload".as_slice() {
+        return workload_fault(words);
+    }
+    Some((1, 1))
 }
 
 fn disk_fault(words: &[String]) -> Option<(u32, u32)>
@@ -100,5 +127,70 @@ fn size_fault(number: u32, words: &[String]) -> Option<(u32, u32)>
         None
     } else {
         Some((number + 1, 3))
+    }
+}
+
+fn workload_fault(words: &[String]) -> Option<(u32, u32)>
+    ensures { FaultIs (spec.workload_fault (map (λ word. string_bytes word) words.now)) result }
+{
+    let [seed, words @ ..] = words else {
+        return Some((2, 2));
+    };
+    if seed_in(seed).is_none() {
+        return Some((2, 4));
+    }
+    transfers_fault(words)
+}
+
+fn transfers_fault(words: &[String]) -> Option<(u32, u32)>
+    ensures { FaultIs (spec.transfers_fault (map (λ word. string_bytes word) words.now)) result }
+{
+    let [transfers, words @ ..] = words else {
+        return Some((3, 2));
+    };
+    if transfers_in(transfers).is_none() {
+        return Some((3, 4));
+    }
+    if words.is_empty() { None } else { Some((4, 3)) }
+}
+
+fn seed_in(word: &String) -> Option<u64>
+    ensures { result ≡ spec.seed_in (string_bytes word.now) }
+{
+    number_in(0, u64::MAX, word.as_bytes())
+}
+
+fn transfers_in(word: &String) -> Option<u32>
+    ensures value { result ≡ spec.transfers_in (string_bytes word.now) }
+    ensures few { IfSome result (λ transfers. transfers ≤ 10000) }
+{
+    match number_in(1, GREATEST_COUNT, word.as_bytes()) {
+        Some(number) => Some(number as u32),
+        None => None,
+    }
+}
+
+/// The workload that the words ask for, if they ask for one.
+pub(crate) fn workload_of(words: &[String]) -> Option<Workload>
+    ensures value { result ≡ spec.workload_of (map (λ word. string_bytes word) words.now) }
+    ensures few { IfSome result (λ workload. workload.transfers ≤ 10000) }
+{
+    let [command, seed, transfers] = words else {
+        return None;
+    };
+    if command.as_bytes() != b"workload".as_slice() {
+        return None;
+    }
+    workload_by(seed_in(seed), transfers_in(transfers))
+}
+
+fn workload_by(seed: Option<u64>, transfers: Option<u32>) -> Option<Workload>
+    requires { IfSome transfers (λ transfers. transfers ≤ 10000) }
+    ensures value { result ≡ spec.workload_by seed transfers }
+    ensures few { IfSome result (λ workload. workload.transfers ≤ 10000) }
+{
+    match (seed, transfers) {
+        (Some(seed), Some(transfers)) => Some(Workload { seed, transfers }),
+        _ => None,
     }
 }

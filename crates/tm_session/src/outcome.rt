@@ -1,4 +1,6 @@
 //! How a session ended, and what it came to.
+ghost use Rattle.std.specs.Prelude.{◌≡◌};
+
 use control_life::Life;
 use model_session::ImageRefused;
 use std::marker::Model;
@@ -45,6 +47,15 @@ impl Model for Lives {
     ghost Value = { List Life };
 
     ghost view = { λ l. l.items.items };
+}
+
+impl Lives {
+    /// The lives, in order.
+    pub fn as_slice(&self) -> &[Life]
+        ensures { result.now ≡ self.now }
+    {
+        &self.items
+    }
 }
 
 /// The stops of a session: for each life and each opening that a disk fault ended how often the disk had failed when that
