@@ -19,9 +19,9 @@ mod outage_tests;
 mod run;
 #[cfg(test)]
 mod screen_tests;
-mod summed;
 #[cfg(test)]
 mod sector_tests;
+mod summed;
 #[cfg(test)]
 mod tests;
 mod words;

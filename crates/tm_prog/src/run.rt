@@ -7,8 +7,8 @@ ghost use Rattle.tm_prog.specs.Words.{word_fault, workload_of};
 ghost use Rattle.tm_prog.specs.Workload.{told_by};
 ghost use Rattle.tm_prog.specs.Status.{status_text, IsLastLine, IsByWords, IsRun, IsWithinLimits, IsComplete};
 
-use crate::words::{find_word_fault, workload_of};
 use crate::summed::run_workload;
+use crate::words::{find_word_fault, workload_of};
 use model_session::ImageRefused;
 use session_text::Printed;
 use std::alloc::Global;

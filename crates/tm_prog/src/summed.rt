@@ -76,7 +76,13 @@ fn sum_up<K: Sink, D: Disk>(
     ensures faults { IsFaultedBy result.status (K.faults sink.old) (K.faults sink.new) }
     ensures room { LAST_ROOM ≤ line.new.room }
 {
-    let text = summary(alloc, workload.seed, workload.transfers, outcome.lives.as_slice(), transcript.text());
+    let text = summary(
+        alloc,
+        workload.seed,
+        workload.transfers,
+        outcome.lives.as_slice(),
+        transcript.text(),
+    );
     match text {
         Ok(text) => {
             let status = tell(outcome.status, text.as_slice(), sink, line);
@@ -138,6 +144,16 @@ fn with_status<D: Disk>(outcome: Outcome<D>, status: Ended) -> Outcome<D>
     ensures lives { result.lives ≡ outcome.lives }
     ensures stops { result.stops ≡ outcome.stops }
 {
-    let Outcome { disk, lives, stops, .. } = outcome;
-    Outcome { status, disk, lives, stops }
+    let Outcome {
+        disk,
+        lives,
+        stops,
+        ..
+    } = outcome;
+    Outcome {
+        status,
+        disk,
+        lives,
+        stops,
+    }
 }
