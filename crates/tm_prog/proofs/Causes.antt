@@ -9,7 +9,8 @@ use Rattle.model_system.specs.System.{System}
 use Rattle.model_session.specs.declared.asked.ImageRefused.{ImageRefused}
 use Rattle.model_session.specs.Standing.{Stop}
 use Rattle.control_life.specs.declared.life.Life.{Life}
-use Rattle.tm_edge.specs.Fault.{HasRisen}
+use Rattle.std.specs.Io.KnownBytes.{append_known}
+use Rattle.tm_edge.specs.Fault.{HasRisen, AppendsFront}
 use Rattle.tm_edge.specs.Lines.{CutLine, cut_lines, lines_of, is_short, line_size, line_text, behind_line, HasServed, IsTooLong}
 use Rattle.tm_edge.proofs.ServedSoFar.{long_first}
 use Rattle.tm_edge.proofs.CutLines.{cut_first}
@@ -20,8 +21,11 @@ use Rattle.tm_session.specs.Source.{judged, definition_text}
 use Rattle.tm_session.specs.Headline.{IsSession, Defines, BreaksRule}
 use Rattle.tm_session.proofs.Complete.{no_stops, not_down, not_refused, valid_opened}
 use Rattle.sysdef_text.specs.Ends.{definition_lines}
-use Rattle.tm_prog.specs.Words.{WordFault, word_fault}
-use Rattle.tm_prog.specs.Status.{IsByWords, IsRefused, IsRun, IsLastLine, IsWithinLimits, IsServedBy, IsServedWhole, IsComplete, status_text}
+use Rattle.tm_prog.specs.declared.words.Workload.{Workload}
+use Rattle.tm_prog.specs.Words.{WordFault, word_fault, workload_of}
+use Rattle.tm_prog.specs.Workload.{told_by, text_of as workload_bytes, summary_of, status_by, IsWritten, IsToldBy, IsTold, IsWorkload}
+use Rattle.tm_prog.proofs.Telling.{no_rise}
+use Rattle.tm_prog.specs.Status.{IsServed, IsByWords, IsRefused, IsRun, IsLastLine, IsWithinLimits, IsServedBy, IsServedWhole, IsComplete, status_text}
 
 -- ---- limits
 
@@ -178,16 +182,92 @@ module _ {D : Type 0} (state : D → DiskState) (is_disk : (disk : D) → IsDisk
   complete (BadCross line rule) told left old mid new r r' w w1 w2 session cause last reads writes within = bad_cross line rule told left old mid session
   complete (Limit n) told left old mid new r r' w w1 w2 session cause last reads writes within = absurd (session_limit n told left old mid session within)
 
+  -- ---- a workload
+
+  -- where the session of these bytes was served, and memory was wanting behind it
+  memory_behind : (ended : Ended) (told left old new : Option (List ℕ)) → Session told left old new ended → Complete told Memory
+  memory_behind ended (Some bytes) left old new session =
+      memory_of (judged (definition_lines (lines_of bytes))) (text_of bytes) (no_stop (Some bytes) left old new ended session)
+  memory_behind ended None left old new session = tt
+
+  complete_by : (ended : Ended) (told left old new : Option (List ℕ)) (writes : ℕ) → Session told left old new ended → HasCause ended 0 0 0 writes → IsWithinLimits told → Complete told (status_by ended)
+  complete_by Done told left old new writes session cause within = by_done told left old new session
+  complete_by Memory told left old new writes session cause within = by_memory told left old new session
+  complete_by Down told left old new writes session cause within = by_down told left old new session
+  complete_by (Image refusal) told left old new writes session cause within = by_image refusal told left old new session
+  complete_by Spent told left old new writes session cause within = by_spent told left old new session
+  complete_by Read told left old new writes session cause within = absurd (no_rise cause.0)
+  complete_by Write told left old new writes session cause within = memory_behind Write told left old new session
+  complete_by (Words word rule) told left old new writes session cause within = absurd (no_words word rule told left old new session)
+  complete_by (BadLine line rule) told left old new writes session cause within = bad_line line rule told left old new session
+  complete_by (BadCross line rule) told left old new writes session cause within = bad_cross line rule told left old new session
+  complete_by (Limit n) told left old new writes session cause within = absurd (session_limit n told left old new session within)
+
+  -- the sink failed
+  risen : (status : Ended) (mid new : Option (List ℕ)) (summary : List ℕ) (r r' w w1 w2 : ℕ) → status ≡ Write → summary ≡ []
+      → HasCause status r r' w w1 → IsLastLine mid new (summary ++ status_text status) w1 w2 → HasRisen w w2
+  risen status mid new summary r r' w w1 w2 is none cause last =
+      let calm : IsLastLine mid new [] w1 w2 = subst (λ (line : List ℕ). IsLastLine mid new line w1 w2) (ap (λ (l : List ℕ). l ++ status_text status) none ∙ ap status_text is) last in
+      let rose : HasCause Write r r' w w1 = subst (λ (s : Ended). HasCause s r r' w w1) is cause in
+      subst (HasRisen w) (sym calm.1) rose.1
+
+  module _ (text : List ℕ) (summed : List ℕ) (printed left : List ℕ) (old mid new : Option (List ℕ)) (summary : List ℕ) (status : Ended) (r r' w w1 w2 writes : ℕ)
+      (cause : HasCause status r r' w w1) (last : IsLastLine mid new (summary ++ status_text status) w1 w2) (calm : ¬ HasRisen w w2) (within : IsWithinLimits (Some text)) where
+    abbrev Told : Type 0
+    Told = Complete (Some text) status
+
+    as : (ended : Ended) → Session (Some text) (Some left) (Some []) (Some printed) ended → HasCause ended 0 0 0 writes → status ≡ status_by ended → Told
+    as ended session why is = subst (λ (s : Ended). Complete (Some text) s) (sym is) (complete_by ended (Some text) (Some left) (Some []) (Some printed) writes session why within)
+
+    as_written : Session (Some text) (Some left) (Some []) (Some printed) Done → HasCause Done 0 0 0 writes → IsWritten summed status old mid summary → Told
+    as_written session why told = done_or told.written
+      where
+        done_or : ((status ≡ Done) × (mid ≡ append_known old summed)) ⊎ ((status ≡ Write) × AppendsFront old mid summed) → Told
+        done_or (inl whole) = as Done session why whole.0
+        done_or (inr front) = absurd (calm (risen status mid new summary r r' w w1 w2 front.0 told.none cause last))
+
+    as_told : (ended : Ended) → Session (Some text) (Some left) (Some []) (Some printed) ended → HasCause ended 0 0 0 writes → IsToldBy ended summed status old mid summary → Told
+    as_told Done session why told = as_written session why told
+    as_told (Words word rule) session why told = as (Words word rule) session why told.status_is
+    as_told (BadLine line rule) session why told = as (BadLine line rule) session why told.status_is
+    as_told (BadCross line rule) session why told = as (BadCross line rule) session why told.status_is
+    as_told Down session why told = as Down session why told.status_is
+    as_told Read session why told = as Read session why told.status_is
+    as_told Write session why told = as Write session why told.status_is
+    as_told (Image refusal) session why told = as (Image refusal) session why told.status_is
+    as_told Memory session why told = as Memory session why told.status_is
+    as_told (Limit n) session why told = as (Limit n) session why told.status_is
+    as_told Spent session why told = as Spent session why told.status_is
+
+    as_any : (ended : Ended) → Session (Some text) (Some left) (Some []) (Some printed) ended → HasCause ended 0 0 0 writes → IsTold ended summed status old mid summary → Told
+    as_any ended session why (inl told) = as_told ended session why told
+    as_any ended session why (inr untold) =
+        subst (λ (s : Ended). Complete (Some text) s) (sym untold.status_is) (memory_behind ended (Some text) (Some left) (Some []) (Some printed) session)
+
+  -- ---- by the words
+
+  complete_served : (workload : Option Workload) (told left old mid new : Option (List ℕ)) (summary : List ℕ) (status : Ended) (r r' w w1 w2 : ℕ)
+      → IsServed state workload told left old mid summary handed disk status lives stops → HasCause status r r' w w1 → IsLastLine mid new (summary ++ status_text status) w1 w2
+      → ¬ HasRisen r r' → ¬ HasRisen w w2 → IsWithinLimits (told_by workload told) → Complete (told_by workload told) status
+  complete_served (Some workload) told left old mid new summary status r r' w w1 w2 served cause last reads writes within =
+      let run : IsWorkload state workload old mid summary handed disk status lives stops = served.1 in
+      as_any (workload_bytes workload) (summary_of workload lives run.printed) run.printed run.drilled.left old mid new summary status r r' w w1 w2 run.drilled.writes cause last writes within
+      run.ended run.drilled.session run.drilled.cause run.told
+  complete_served None told left old mid new summary status r r' w w1 w2 served cause last reads writes within =
+      complete status told left old mid new r r' w w1 w2 served.1 cause
+      (subst (λ (line : List ℕ). IsLastLine mid new line w1 w2) (ap (λ (l : List ℕ). l ++ status_text status) served.0) last) reads writes within
+
   never : true ≡ false → ⊥
   never e = cc
 
-  session_of : (fault : Option WordFault) (told left old new : Option (List ℕ)) (status : Ended) → IsNone fault → IsByWords state fault told left old new handed disk status lives stops
-      → Session told left old new status
-  session_of None told left old new status none session = session
-  session_of (Some fault) told left old new status none session = absurd (never none)
+  served_of : (fault : Option WordFault) (workload : Option Workload) (told left old new : Option (List ℕ)) (summary : List ℕ) (status : Ended) → IsNone fault
+      → IsByWords state fault workload told left old new summary handed disk status lives stops → IsServed state workload told left old new summary handed disk status lives stops
+  served_of None workload told left old new summary status none served = served
+  served_of (Some fault) workload told left old new summary status none served = absurd (never none)
 
   pub complete_run : (words : List (List ℕ)) (told left old new : Option (List ℕ)) (status : Ended) (r r' w w' : ℕ)
-      → IsRun state words told left old new handed disk status lives stops r r' w w' → IsNone (word_fault words) → ¬ HasRisen r r' → ¬ HasRisen w w' → IsWithinLimits told → Complete told status
+      → IsRun state words told left old new handed disk status lives stops r r' w w' → IsNone (word_fault words) → ¬ HasRisen r r' → ¬ HasRisen w w'
+      → IsWithinLimits (told_by (workload_of words) told) → Complete (told_by (workload_of words) told) status
   complete_run words told left old new status r r' w w' run none reads writes within =
-      complete status told left old run.before new r r' w run.writes w'
-      (session_of (word_fault words) told left old run.before status none run.session) run.cause run.last reads writes within
+      complete_served (workload_of words) told left old run.before new run.summary status r r' w run.writes w'
+      (served_of (word_fault words) (workload_of words) told left old run.before run.summary status none run.session) run.cause run.last reads writes within

@@ -89,7 +89,7 @@ kept_calm ended by status text summary w is (inl kept) =
 kept_calm ended by status text summary w is (inr untold) = calm_by status w (λ e. memory_is (sym untold.0 ∙ e))
 
 -- the first number of faults is no rise
-no_rise : HasRisen 0 0 → ⊥
+pub no_rise : HasRisen 0 0 → ⊥
 no_rise (inl more) = omega (arith, more)
 no_rise (inr last) = omega (arith, last)
 

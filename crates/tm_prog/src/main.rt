@@ -25,6 +25,8 @@ mod summed;
 #[cfg(test)]
 mod tests;
 mod words;
+#[cfg(test)]
+mod workload_tests;
 
 use run::{print_last, run};
 use std::alloc::Global;
