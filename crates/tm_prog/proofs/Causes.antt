@@ -187,7 +187,7 @@ module _ {D : Type 0} (state : D → DiskState) (is_disk : (disk : D) → IsDisk
   session_of (Some fault) told left old new status none session = absurd (never none)
 
   pub complete_run : (words : List (List ℕ)) (told left old new : Option (List ℕ)) (status : Ended) (r r' w w' : ℕ)
-      → IsRun state words told left old new handed disk status lives stops r r' w w' → IsNone (word_fault words) → ¬ HasRisen r r' → ¬ HasRisen w w' → IsWithinLimits told → Complete told status
+      → IsRun state words told left old new handed disk status lives stops r r' w w' → IsNone (word_fault words) → ¬ HasRisen r r' → ¬ HasRisen w w' → IsWithinLimits told → IsComplete told (state handed) (state disk) status stops
   complete_run words told left old new status r r' w w' run none reads writes within =
       complete status told left old run.before new r r' w run.writes w'
       (session_of (word_fault words) told left old run.before status none run.session) run.cause run.last reads writes within
