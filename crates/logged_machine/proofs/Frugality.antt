@@ -7,10 +7,13 @@ use Rattle.model_machine.specs.History.{call_of}
 use Rattle.model_machine.specs.declared.entry.Entry.{Entry}
 use Rattle.model_machine.specs.declared.entry.ControlFault.{ControlFault}
 use Rattle.model_machine.specs.declared.entry.ControlFault.TheVariants.{Memory, Disk, Spent}
+use Rattle.log_records.specs.declared.untold.Untold.{Untold}
+use Rattle.log_records.specs.declared.untold.Untold.TheVariants.{Full}
 use Rattle.log_writer.specs.Writer.{Writer}
 use Rattle.log_writer.specs.Log.{AddsFront, ChangesOnly, sectors_of}
 use Rattle.disk_law.specs.Changes.{with_bytes}
 use Rattle.disk_law.specs.Journal.{JournalState}
+use Rattle.step_telling.specs.Untold.{WhereFull}
 use Rattle.tm_machine.specs.Parts.{PartsState}
 use Rattle.parts_life.specs.Logged.{IsLogged}
 use Rattle.machine_telling.specs.Telling.{IsAllBut}
@@ -43,6 +46,10 @@ writes_log log mid own old new is within most = subst (λ (w : Writer). WritesLo
 pub area_is : (parts : PartsState) (units : List ℕ) (next : ℕ) (journal : JournalState) (text : List ℕ) (disk : DiskState) → IsLogged parts units next journal text disk → journal.log.count ≡ parts.system.logs
 area_is parts units next journal text disk h =
     sym (ap (λ (w : Writer). w.count) h.writer) ∙ h.carried.is.is_life.writer.count ∙ ap (λ (s : System). s.logs) h.carried.is.of_system
+
+-- what is told of want of room
+pub longer : (P : Type 0) (untold : Untold) → untold ≡ Full → WhereFull P untold → P
+longer P untold is told = subst (λ (u : Untold). WhereFull P u) is told
 
 -- ---- one attempt, and a call
 

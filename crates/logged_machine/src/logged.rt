@@ -101,6 +101,8 @@ impl<D: Disk> LoggedMachine<D> {
         ensures machine { self.new.machine ≡ self.old.machine }
         ensures served { self.new.served ≡ self.old.served }
         ensures journal { self.new.journal ≡ self.old.journal }
+        ensures units { self.new.units ≡ self.old.units }
+        ensures next_unit { self.new.next_unit ≡ self.old.next_unit }
         ensures keeps { Keeps D.state self.old self.new }
         ensures disk { KeepsDisk (D.state self.old.disk) (D.state self.new.disk) }
         ensures no_fault { (D.state self.new.disk).faults ≡ (D.state self.old.disk).faults }

@@ -289,8 +289,8 @@ call_fine : (terminal : List ℕ) (number : ℕ) (system : System) (moment : Mom
 call_fine terminal number system moment (Input other above segments) =
     accepts_fine terminal other number above (kept_input system moment.lasting other segments) moment.lasting (input_answer system moment other above segments)
     (λ id new t there.
-        let next = next_by (terminal_at moment.lasting.terminals other) above moment.lasting.next_id id (later_refusals system moment other segments) new t there in
-        omega (arith, next))
+    let next = next_by (terminal_at moment.lasting.terminals other) above moment.lasting.next_id id (later_refusals system moment other segments) new t there in
+    omega (arith, next))
 call_fine terminal number system moment (Receive other) = tt
 call_fine terminal number system moment (Acknowledge other n) = acknowledges_fine terminal other number moment.lasting (ack_answer moment other n)
 call_fine terminal number system moment (Turn region) =

@@ -82,17 +82,17 @@ module _ (P : LastingState → Type 0) (system : System) (kind : ControlCall →
   one_more keeps life entry is has kept state h =
       ⊎_elim
       (λ all. subst P (sym (h.left ∙ ap (λ es. (moment_of system life es).lasting) all))
-          (subst (λ (m : Moment). P m.lasting) (sym (moment_after-append system (moment_of system life []) life.history entry))
-          (keeps (now_in system life) entry is (now_has life has))))
+      (subst (λ (m : Moment). P m.lasting) (sym (moment_after-append system (moment_of system life []) life.history entry))
+      (keeps (now_in system life) entry is (now_has life has))))
       (λ (ends : EndsRest life.history entry h.front h.rest). has kept state (record {
-          front = h.front;
-          rest = ends.others;
-          split = ends.before;
-          unanswered = first_of (list_all is_fault ends.others) (list_all is_fault (entry ∷ []))
-              (sym (list_all-append is_fault ends.others (entry ∷ [])) ∙ ap (list_all is_fault) (sym ends.rest_is) ∙ h.unanswered);
-          left = h.left;
-          counted = h.counted;
-        }))
+        front = h.front;
+        rest = ends.others;
+        split = ends.before;
+        unanswered = first_of (list_all is_fault ends.others) (list_all is_fault (entry ∷ []))
+            (sym (list_all-append is_fault ends.others (entry ∷ [])) ∙ ap (list_all is_fault) (sym ends.rest_is) ∙ h.unanswered);
+        left = h.left;
+        counted = h.counted;
+      }))
       (last_in life.history entry h.front h.rest h.split)
 
   pub more : IsKeptBy P system kind → (life : LastLife) (entries : List Entry) → list_all (λ e. kind (call_of e)) entries ≡ true → Leaving life → Leaving (longer life entries)
@@ -113,9 +113,9 @@ module _ (P : LastingState → Type 0) (system : System) (kind : ControlCall →
       ⊎_elim
       (λ all. subst P (sym (h.left ∙ ap (λ es. (moment_of system life es).lasting) all)) has)
       (λ (ends : EndsRest life.history entry h.front h.rest).
-          absurd (differ (sym (first_of (is_fault entry) true
-          (second_of (list_all is_fault ends.others) (is_fault entry && true)
-          (sym (list_all-append is_fault ends.others (entry ∷ [])) ∙ ap (list_all is_fault) (sym ends.rest_is) ∙ h.unanswered))) ∙ fine)))
+      absurd (differ (sym (first_of (is_fault entry) true
+      (second_of (list_all is_fault ends.others) (is_fault entry && true)
+      (sym (list_all-append is_fault ends.others (entry ∷ [])) ∙ ap (list_all is_fault) (sym ends.rest_is) ∙ h.unanswered))) ∙ fine)))
       (last_in life.history entry h.front h.rest h.split)
     where
       differ : true ≡ false → ⊥
@@ -172,7 +172,7 @@ module _ (P : LastingState → Type 0) (setting : Setting) (kind : ControlCall �
       (more P setting.system kind keeps life (h.turns ++ h.entry ∷ [])
       (list_all-append (λ e. kind (call_of e)) h.turns (h.entry ∷ [])
       ∙ both (list_all (λ e. kind (call_of e)) h.turns) (kind (call_of h.entry) && true) all
-          (both (kind (call_of h.entry)) true (ap kind h.breaks.asked ∙ turns (region_after setting.system (length h.turns))) refl))
+      (both (kind (call_of h.entry)) true (ap kind h.breaks.asked ∙ turns (region_after setting.system (length h.turns))) refl))
       (leaving life has)))
 
   served_up : (asked : Asked) (old : SessionState) (life : LastLife) (new : SessionState) (text : List ℕ) → asks_only kind asked ≡ true

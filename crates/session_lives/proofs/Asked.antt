@@ -1,25 +1,26 @@
 -- What was asked of a control region, by the fault that its call met.
 use Rattle.std.proofs.Common.{◌≡◌, ℕ, Bool, true, false, List, [], ◌∷◌, sym, ◌∙◌, ap, subst, refl}
-use Rattle.std.specs.Prelude.{◌↔◌, IsTrue, Option, Some, None, Result, Ok, Err}
-use Rattle.model_disk.specs.Disk.{DiskState}
+use Rattle.std.specs.Prelude.{◌↔◌, IfOk, IsTrue, Option, Some, None, Result, Ok, Err}
+use Rattle.model_disk.specs.Disk.{DiskState, Only}
 use Rattle.model_disk.proofs.Words.{stays_same, stays_on}
 use Rattle.model_machine.specs.declared.entry.Entry.{Entry}
 use Rattle.model_machine.specs.declared.entry.Entry.TheVariants.{Accept, Show, Acked, Turn, Commanded, Checked}
 use Rattle.model_machine.specs.declared.entry.ControlCall.{ControlCall}
-use Rattle.model_machine.specs.declared.entry.ControlCall.TheVariants.{Command as CommandCall}
+use Rattle.model_machine.specs.declared.entry.ControlCall.TheVariants.{Command as CommandCall, Checkpoint as CheckpointCall}
 use Rattle.model_machine.specs.declared.entry.ControlFault.{ControlFault}
 use Rattle.model_machine.specs.declared.entry.ControlFault.TheVariants.{Memory as NoMemory, Disk, Spent as SpentCounter}
 use Rattle.model_machine.specs.declared.entry.InputRefused.TheVariants.{Terminal, StoppedTerminal, Expected, Conversation, Code, StoppedCode, SegmentsOver, QueueFull, Fault as InputFault}
 use Rattle.model_machine.specs.declared.entry.AckRefused.TheVariants.{Unknown, Ahead, Fault as AckFault}
 use Rattle.model_machine.specs.declared.entry.CommandRefused.{CommandRefused}
 use Rattle.model_machine.specs.declared.entry.CommandRefused.TheVariants.{UnknownName, Busy, NoConversation, Fault as CommandFault}
+use Rattle.model_machine.specs.declared.entry.CheckpointRefused.{CheckpointRefused}
 use Rattle.model_machine.specs.declared.entry.CheckpointRefused.TheVariants.{BusyRegion, Fault as CheckpointFault}
 use Rattle.model_command.specs.declared.command.Command.{Command}
 use Rattle.model_command.specs.declared.answer.Answer.{Answer}
 use Rattle.model_machine.specs.Commands.{command_answer}
 use Rattle.model_machine.specs.History.{May, AddsNothing, AddsEntry, is_fault, call_of, now_of}
 use Rattle.model_session.specs.declared.asked.Asked.TheVariants.{Call, PowerIn}
-use Rattle.model_session.specs.Text.{entry_text, command_text, armed_text}
+use Rattle.model_session.specs.Text.{entry_text, command_text, checkpoint_text, armed_text}
 use Rattle.control_life.specs.Faults.{fault_in}
 use Rattle.model_machine.specs.declared.counts.Counter.{Counter}
 use Rattle.tm_control.specs.OnDisk.{ControlOnDisk, spent_now}
@@ -27,7 +28,7 @@ use Rattle.tm_control.specs.Calls.{StaysSo, AddsBy, AddedNothing, SpentBy, Stays
 use Rattle.session_lives.specs.declared.called.Called.{Called}
 use Rattle.session_lives.specs.declared.called.Called.TheVariants.{Answered, Power, Broke, Memory, Spent}
 use Rattle.model_session.specs.Lives.{ends_life}
-use Rattle.session_lives.specs.Asking.{called_by, IsSpentUp, IsAsked}
+use Rattle.session_lives.specs.Asking.{called_by, ended_by, IsSpentUp, IsAsked}
 
 -- an entry with a fault
 pub fault_is : (entry : Entry) (fault : ControlFault) → fault_in entry ≡ Some fault → is_fault entry ≡ true
@@ -113,6 +114,32 @@ module _ {D : Type 0} (state : D → DiskState) where
       let entry : Entry = Commanded command answer in
       subst (λ c. IsAsked state (Call (call_of entry)) old new text c) (sym is)
       (asked_ahead (fault_in entry) entry old new text refl refl spent same adds (λ may. printed ∙ sym (ap (entry_text old.control.system (now_of old.control)) may.answer)))
+
+  -- a checkpoint, by its answer; behind a freeze a crash leaves the shown disk alone
+  checked_by : {P : ℕ → Type 0} (freeze : Bool) (answer : Result ℕ CheckpointRefused) (old new : ControlOnDisk D) (text : List ℕ)
+      → SpentBy (spent_now old) (fault_in (Checked freeze answer)) → StaysSpent (fault_in (Checked freeze answer)) old new
+      → AddsBy state (fault_in (Checked freeze answer)) old new (Checked freeze answer) → IfOk answer P → ((number : ℕ) → P number → Only (state new.disk).shown (state new.disk))
+      → text ≡ checkpoint_text freeze answer → IsAsked state (Call (CheckpointCall freeze)) old new text (ended_by (ends_life (Checked freeze answer)) (fault_in (Checked freeze answer)))
+  checked_by true (Ok number) old new text spent same adds taken only printed =
+      record { entry = Checked true (Ok number); asked = refl; answered = adds; ends = refl; printed = printed; only = only number taken }
+  checked_by false (Ok number) old new text spent same adds taken only printed =
+      record { entry = Checked false (Ok number); asked = refl; answered = adds; goes_on = refl; printed = printed }
+  checked_by true (Err (CheckpointFault fault)) old new text spent same adds taken only printed =
+      asked_fault fault (Checked true (Err (CheckpointFault fault))) old new text (called_by (Some fault)) refl refl refl spent same adds
+  checked_by false (Err (CheckpointFault fault)) old new text spent same adds taken only printed =
+      asked_fault fault (Checked false (Err (CheckpointFault fault))) old new text (called_by (Some fault)) refl refl refl spent same adds
+  checked_by true (Err (BusyRegion region id)) old new text spent same adds taken only printed =
+      record { entry = Checked true (Err (BusyRegion region id)); asked = refl; answered = adds; goes_on = refl; printed = printed }
+  checked_by false (Err (BusyRegion region id)) old new text spent same adds taken only printed =
+      record { entry = Checked false (Err (BusyRegion region id)); asked = refl; answered = adds; goes_on = refl; printed = printed }
+
+  pub asked_checkpoint : {P : ℕ → Type 0} (freeze : Bool) (answer : Result ℕ CheckpointRefused) (old new : ControlOnDisk D) (text : List ℕ) (called : Called)
+      → called ≡ ended_by (ends_life (Checked freeze answer)) (fault_in (Checked freeze answer))
+      → SpentBy (spent_now old) (fault_in (Checked freeze answer)) → StaysSpent (fault_in (Checked freeze answer)) old new
+      → AddsBy state (fault_in (Checked freeze answer)) old new (Checked freeze answer) → IfOk answer P → ((number : ℕ) → P number → Only (state new.disk).shown (state new.disk))
+      → text ≡ checkpoint_text freeze answer → IsAsked state (Call (CheckpointCall freeze)) old new text called
+  asked_checkpoint {P = P} freeze answer old new text called is spent same adds taken only printed =
+      subst (λ c. IsAsked state (Call (CheckpointCall freeze)) old new text c) (sym is) (checked_by {P = P} freeze answer old new text spent same adds taken only printed)
 
   -- what stays over two calls
   pub stays_so : (a : ControlOnDisk D) → StaysSo state a a

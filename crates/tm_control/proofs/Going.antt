@@ -44,7 +44,7 @@ seen machine opening history room began = record {
 
 -- ---- the parts are those of the machine
 
-with_moment : PartsState → Moment → PartsState
+abbrev with_moment : PartsState → Moment → PartsState
 with_moment parts moment = record { system = parts.system; moment = moment; databases = parts.databases }
 
 parts_are : {D : Type 0} (machine : LoggedState D) (opening : LastingState) (history : List Entry) (room began steps : ℕ) → IsServed machine opening history steps → parts_now (seen machine opening history room began) ≡ machine.machine
@@ -56,6 +56,19 @@ pub frugal_too : {D : Type 0} (state : D → DiskState) (machine : LoggedState D
     → IsFrugal state fault (parts_now (seen machine opening history room began)) machine.units call machine.journal journal machine.disk disk
 frugal_too state machine opening history room began steps h fault call journal disk =
     subst (λ (p : PartsState). IsFrugal state fault p machine.units call machine.journal journal machine.disk disk) (sym (parts_are machine opening history room began steps h))
+
+-- ---- an opening
+
+pub lasts_open : {D : Type 0} (state : D → DiskState) (machine : LoggedState D) (opening : LastingState) (history : List Entry) (room began : ℕ) → history ≡ [] → machine.machine.moment ≡ start_of machine.machine.system opening
+    → machine.served ≡ true → LastsNow state machine → Lasts state (seen machine opening history room began)
+lasts_open state machine opening history room began none moment served lasts =
+    subst (λ (h : List Entry). LastsBy machine.served (seen machine opening h room began).control machine.text (state machine.disk)) (sym none)
+    (subst (λ (b : Bool). LastsBy b (seen machine opening [] room began).control machine.text (state machine.disk)) (sym served)
+    (record {
+      legal = tt;
+      images = λ image left. subst (λ (m : Moment). Recovers machine.machine.system image (Ok m.lasting)) moment ((lasts served).recover image left);
+      texts = (lasts served).have_text;
+    }))
 
 -- ---- lasting steps are counted on
 

@@ -270,7 +270,7 @@ module _ {D : Type 0} (state : D → DiskState) (is_disk : (disk : D) → IsDisk
 
   pub complete_run : (words : List (List ℕ)) (told left old new : Option (List ℕ)) (status : Ended) (r r' w w' : ℕ)
       → IsRun state words told left old new handed disk status lives stops r r' w w' → IsNone (word_fault words) → ¬ HasRisen r r' → ¬ HasRisen w w'
-      → IsWithinLimits (told_by (workload_of words) told) → Complete (told_by (workload_of words) told) status
+      → IsWithinLimits (told_by (workload_of words) told) → IsComplete (told_by (workload_of words) told) (state handed) (state disk) status stops
   complete_run words told left old new status r r' w w' run none reads writes within =
       complete_served (workload_of words) told left old run.before new run.summary status r r' w run.writes w'
       (served_of (word_fault words) (workload_of words) told left old run.before run.summary status none run.session) run.cause run.last reads writes within

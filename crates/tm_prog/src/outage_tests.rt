@@ -283,17 +283,44 @@ fn stopped_sessions(rt: HostRuntime) -> Result<(), Fail> {
     Ok(())
 }
 
-/// The bank with the least log areas and queues, and with room for two accounts.
-fn small_bank(alloc: Global) -> Result<Vec<u8>, Fail> {
-    let Some(behind) = BANK.get(55..) else {
-        return Err("the system is too short".into());
-    };
-    let front = b"IMSCTRL QBYTES=131072,LOGS=64\nDBD NAME=ACC,ROOTS=2\n";
-    Ok(joined(alloc, &[front, behind, BANK_PROGRAMS])?)
-}
+/// Accounts that are opened and looked at, with the least log areas and queues.
+const SMALL: &[u8] = b"IMSCTRL QBYTES=131072,LOGS=64
+DBD NAME=ACC,ROOTS=2
+SEGM NAME=ACCT,PARENT=0,KEY=4,BYTES=12
+APPLCTN PSB=OPENP
+PCB TYPE=DB,DBDNAME=ACC,PROCOPT=A
+TRANSACT CODE=OPEN
+APPLCTN PSB=BALP
+PCB TYPE=DB,DBDNAME=ACC,PROCOPT=A
+TRANSACT CODE=BAL
+NAME LTERM=T2
+NAME LTERM=T9
+REGION CLASS=(1)
+PROGRAM OPENP
+CALL GU 0 A
+WORD B A 2
+WORD C A 3
+PAD C 8
+SET E B C
+CALL ISRT 1 E ACCT
+SET G \"OPENED \" B
+CALL ISRT 0 G
+END
+ENDPROG
+PROGRAM BALP
+CALL GU 0 A
+WORD B A 2
+CALL GU 1 E ACCT=B
+CUT F E 5 8
+SET G B \" \" F
+CALL ISRT 0 G
+END
+ENDPROG
+END
+";
 
-/// Whether a session of the small bank ends so, over a disk of which this call fails, a read, a write or a sync.
-fn ends_at(alloc: Global, source: &[u8], call: u64, wanted: &(u8, &[u8])) -> Result<bool, Fail> {
+/// Whether a session ends so, over a disk of which this call fails, a read, a write or a sync.
+fn ends_at(alloc: Global, call: u64, wanted: (u8, &[u8])) -> Result<bool, Fail> {
     let mut words = Vec::new(alloc);
     for word in DRILL {
         words.push(String::from_str(alloc, word)?)?;
@@ -301,7 +328,9 @@ fn ends_at(alloc: Global, source: &[u8], call: u64, wanted: &(u8, &[u8])) -> Res
     let mut fails = Vec::new(alloc);
     fails.push(call)?;
     let disk = MemDisk::new(alloc, 455, fails)?;
-    let mut source = MemSource::new(source.to_vec(alloc)?, Vec::new(alloc));
+    let restarts = b"POWER 0\n/ERESTART\n/ERESTART\n";
+    let lines = joined(alloc, &[SMALL, SHORT, restarts, SHORT, THERE])?;
+    let mut source = MemSource::new(lines, Vec::new(alloc));
     let mut sink = MemSink::new(alloc, Vec::new(alloc));
     sink.reserve(8192)?;
     let outcome = run(alloc, &words, &mut source, &mut sink, disk);
@@ -312,63 +341,66 @@ fn ends_at(alloc: Global, source: &[u8], call: u64, wanted: &(u8, &[u8])) -> Res
     )
 }
 
-/// Each call of the disk fails in turn: those of the first opening, which tells nothing; of the input; of the turn that completes it;
-/// of the acknowledgement; of the checkpoint; of the restart; and at last one with which the session ends while it is down. Nothing that
-/// was acknowledged is lost, and what was not is as if it had not been sent.
-const FAILING: [(u8, &[u8]); 7] = [
-    (
-        0,
-        b"DOWN\nDOWN\nDOWN\nDOWN\nDOWN\nDOWN\nRESTARTED\nUP\nACK T9 1\nQUIET 5\nOUT T9 1 OPENED 0001\nACKED T9 1\nCHECKPOINT 2\nLTERM T9 IN 1 OUT 1 KEPT 0 STARTED\nACK T2 1\nQUIET 5\nOUT T2 1 0001 00001000\n",
-    ),
-    (
-        0,
-        b"STOPPED\nDOWN\nDOWN\nDOWN\nDOWN\nDOWN\nRESTARTED\nUP\nACK T9 1\nQUIET 5\nOUT T9 1 OPENED 0001\nACKED T9 1\nCHECKPOINT 3\nLTERM T9 IN 1 OUT 1 KEPT 0 STARTED\nACK T2 1\nQUIET 5\nOUT T2 1 0001 00001000\n",
-    ),
-    (
-        0,
-        b"ACK T9 1\nSTOPPED\nDOWN\nDOWN\nDOWN\nDOWN\nRESTARTED\nUP\nALREADY T9 1\nQUIET 5\nOUT T9 1 OPENED 0001\nACKED T9 1\nCHECKPOINT 3\nLTERM T9 IN 1 OUT 1 KEPT 0 STARTED\nACK T2 1\nQUIET 5\nOUT T2 1 0001 00001000\n",
-    ),
-    (
-        0,
-        b"ACK T9 1\nQUIET 5\nOUT T9 1 OPENED 0001\nSTOPPED\nDOWN\nDOWN\nRESTARTED\nUP\nALREADY T9 1\nQUIET 0\nOUT T9 1 OPENED 0001\nACKED T9 1\nCHECKPOINT 3\nLTERM T9 IN 1 OUT 1 KEPT 0 STARTED\nACK T2 1\nQUIET 5\nOUT T2 1 0001 00001000\n",
-    ),
-    (
-        0,
-        b"ACK T9 1\nQUIET 5\nOUT T9 1 OPENED 0001\nACKED T9 1\nSTOPPED\nDOWN\nRESTARTED\nUP\nALREADY T9 1\nQUIET 0\nNONE T9\nALREADY T9 1\nCHECKPOINT 3\nLTERM T9 IN 1 OUT 1 KEPT 0 STARTED\nACK T2 1\nQUIET 5\nOUT T2 1 0001 00001000\n",
-    ),
-    (
-        0,
-        b"ACK T9 1\nQUIET 5\nOUT T9 1 OPENED 0001\nACKED T9 1\nCHECKPOINT 2\nPOWER\nSTOPPED\nRESTARTED\nALREADY T9 1\nQUIET 0\nNONE T9\nALREADY T9 1\nCHECKPOINT 4\nLTERM T9 IN 1 OUT 1 KEPT 0 STARTED\nACK T2 1\nQUIET 5\nOUT T2 1 0001 00001000\n",
-    ),
-    (
-        3,
-        b"ACK T9 1\nQUIET 5\nOUT T9 1 OPENED 0001\nACKED T9 1\nCHECKPOINT 2\nPOWER\nRESTARTED\nUP\nALREADY T9 1\nQUIET 0\nNONE T9\nALREADY T9 1\nSTOPPED\nDOWN\nDOWN\nDOWN\nDOWN\nSTATUS 3 DOWN\n",
-    ),
-];
-
+/// Each call of the disk fails in turn, so many of each answer. Nothing that was acknowledged is lost, and what was not is as if it had
+/// not been sent.
 #[test]
 fn failing_calls(rt: HostRuntime) -> Result<(), Fail> {
     let alloc = rt.alloc();
-    let bank = small_bank(alloc)?;
-    let restarts = b"POWER 0\n/ERESTART\n/ERESTART\n";
-    let source = joined(alloc, &[&bank, SHORT, restarts, SHORT, THERE])?;
-    let mut call = 1u16;
-    for wanted in &FAILING {
-        let mut ended = false;
-        for _ in 0..1000u16 {
-            if !ends_at(alloc, &source, u64::from(call), wanted)? {
-                break;
-            }
-            ended = true;
-            // The calls of the last line go on behind the first of them.
-            if wanted.0 == 3 {
-                break;
-            }
+    let table: [(u16, &[u8]); 5] = [
+        // The first opening reads sector 0, makes it zeros and syncs, writes a sector of text, two log areas, two data sectors and a snapshot,
+        // syncs, and writes and syncs the restart sector. Where it fails it tells nothing.
+        (
+            138,
+            b"DOWN\nDOWN\nDOWN\nDOWN\nDOWN\nDOWN\nRESTARTED\nUP\nACK T9 1\nQUIET 5\nOUT T9 1 OPENED 0001\nACKED T9 1\nCHECKPOINT 2\nLTERM T9 IN 1 OUT 1 KEPT 0 STARTED\nACK T2 1\nQUIET 5\nOUT T2 1 0001 00001000\n",
+        ),
+        // The input is written and synced.
+        (
+            2,
+            b"STOPPED\nDOWN\nDOWN\nDOWN\nDOWN\nDOWN\nRESTARTED\nUP\nACK T9 1\nQUIET 5\nOUT T9 1 OPENED 0001\nACKED T9 1\nCHECKPOINT 3\nLTERM T9 IN 1 OUT 1 KEPT 0 STARTED\nACK T2 1\nQUIET 5\nOUT T2 1 0001 00001000\n",
+        ),
+        // So is its completion.
+        (
+            2,
+            b"ACK T9 1\nSTOPPED\nDOWN\nDOWN\nDOWN\nDOWN\nRESTARTED\nUP\nALREADY T9 1\nQUIET 5\nOUT T9 1 OPENED 0001\nACKED T9 1\nCHECKPOINT 3\nLTERM T9 IN 1 OUT 1 KEPT 0 STARTED\nACK T2 1\nQUIET 5\nOUT T2 1 0001 00001000\n",
+        ),
+        // So is the acknowledgement.
+        (
+            2,
+            b"ACK T9 1\nQUIET 5\nOUT T9 1 OPENED 0001\nSTOPPED\nDOWN\nDOWN\nRESTARTED\nUP\nALREADY T9 1\nQUIET 0\nOUT T9 1 OPENED 0001\nACKED T9 1\nCHECKPOINT 3\nLTERM T9 IN 1 OUT 1 KEPT 0 STARTED\nACK T2 1\nQUIET 5\nOUT T2 1 0001 00001000\n",
+        ),
+        // The checkpoint writes and syncs a data sector, a snapshot and the restart sector.
+        (
+            6,
+            b"ACK T9 1\nQUIET 5\nOUT T9 1 OPENED 0001\nACKED T9 1\nSTOPPED\nDOWN\nRESTARTED\nUP\nALREADY T9 1\nQUIET 0\nNONE T9\nALREADY T9 1\nCHECKPOINT 3\nLTERM T9 IN 1 OUT 1 KEPT 0 STARTED\nACK T2 1\nQUIET 5\nOUT T2 1 0001 00001000\n",
+        ),
+    ];
+    let mut call = 0u64;
+    for (calls, wanted) in &table {
+        for _ in 0..*calls {
             call = call.saturating_add(1);
+            assert!(rt; ends_at(alloc, call, (0, wanted))?);
         }
-        assert!(rt; ended);
     }
     Ok(())
+}
+
+/// The same for the calls of a restart, which are those behind, and for one with which the session ends while it is down.
+#[test]
+fn failing_restarts(rt: HostRuntime) -> Result<(), Fail> {
+    let alloc = rt.alloc();
+    let restarted: &[u8] =
+        b"ACK T9 1\nQUIET 5\nOUT T9 1 OPENED 0001\nACKED T9 1\nCHECKPOINT 2\nPOWER\nSTOPPED\nRESTARTED\nALREADY T9 1\nQUIET 0\nNONE T9\nALREADY T9 1\nCHECKPOINT 4\nLTERM T9 IN 1 OUT 1 KEPT 0 STARTED\nACK T2 1\nQUIET 5\nOUT T2 1 0001 00001000\n";
+    let stopped: &[u8] =
+        b"ACK T9 1\nQUIET 5\nOUT T9 1 OPENED 0001\nACKED T9 1\nCHECKPOINT 2\nPOWER\nRESTARTED\nUP\nALREADY T9 1\nQUIET 0\nNONE T9\nALREADY T9 1\nSTOPPED\nDOWN\nDOWN\nDOWN\nDOWN\nSTATUS 3 DOWN\n";
+    for call in 151..1000u64 {
+        if !ends_at(alloc, call, (0, restarted))? {
+            // It has read all of both log areas, and written a snapshot and the restart sector.
+            assert!(rt; call > 151 + 128 + 2);
+            assert!(rt; ends_at(alloc, call, (3, stopped))?);
+            return Ok(());
+        }
+    }
+    Err("no session ends while it is down".into())
 }
 
 /// Where an answer can't be written the program ends, and what it answered is there. Sent again, all of it stands once.
@@ -397,14 +429,13 @@ fn failing_answers(rt: HostRuntime) -> Result<(), Fail> {
             b"ALREADY T9 1\nQUIET 0\nNONE T9\nALREADY T9 1\nCHECKPOINT 4\n",
         ),
     ];
-    let bank = small_bank(alloc)?;
     let mut put = 1u8;
     for (before, behind) in &table {
         let disk = MemDisk::new(alloc, 455, Vec::new(alloc))?;
         let fails = [u64::from(put)];
-        let disk = serve_to(&rt, alloc, &[&bank, SHORT], &fails, disk, (5, before))?;
+        let disk = serve_to(&rt, alloc, &[SMALL, SHORT], &fails, disk, (5, before))?;
         let wanted = joined(alloc, &[behind, THERE_PRINTED])?;
-        let _ = serve(&rt, alloc, &[&bank, SHORT, THERE], disk, (0, &wanted))?;
+        let _ = serve(&rt, alloc, &[SMALL, SHORT, THERE], disk, (0, &wanted))?;
         put = put.saturating_add(1);
     }
     Ok(())

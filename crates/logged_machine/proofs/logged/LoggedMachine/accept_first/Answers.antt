@@ -10,7 +10,7 @@ use Rattle.machine_telling.specs.Telling.{IsAllBut}
 use Rattle.logged_machine.specs.Logged.{LoggedState}
 use Rattle.logged_machine.specs.Frugal.{own_bytes}
 use Rattle.logged_machine.proofs.Checkpointed.{counted_more, counted_same, served_same}
-use Rattle.logged_machine.proofs.Frugality.{done_due, done_nothing, done_once}
+use Rattle.logged_machine.proofs.Frugality.{done_due, done_nothing, done_once, longer}
 use Rattle.logged_machine.proofs.logged.LoggedMachine.accept_first.Goals as goal
 
 pub accept_once-requires-clause-counted : goal.accept_once-requires-clause-counted
@@ -44,7 +44,7 @@ returns-in-Err-Full g c = record {
       (done_due g.D.Disk.state (fault_in (Accept c.args.terminal.now c.args.number c.args.again c.accept_behind.result)) c.args.self.now c.accept_once.new.self c.accept_behind.new.self
       (Accept c.args.terminal.now c.args.number c.args.again c.accept_behind.result) c.room_left-room.result c.in-Err-Full.ensures.same
       (subst (λ (v : LoggedState _). IsAllBut c.room_left-room.result v.journal.log) c.self.view_is c.room_left-room.ensures.all)
-      (subst (λ (segments : List (List ℕ)). c.room_left-room.result < length (own_bytes c.args.self.now.machine c.args.self.now.units (Input c.args.terminal.now c.args.number segments))) (sym c.requires.again) c.in-Err-Full.ensures.full) c.accept_behind.ensures.did);
+      (subst (λ (segments : List (List ℕ)). c.room_left-room.result < length (own_bytes c.args.self.now.machine c.args.self.now.units (Input c.args.terminal.now c.args.number segments))) (sym c.requires.again) (longer _ c.in-Err-Full.field-0 c.in-Err-Full.field-0-is c.in-Err-Full.ensures.full)) c.accept_behind.ensures.did);
 }
 
 pub accept_behind-requires-clause-some : goal.accept_behind-requires-clause-some

@@ -7,7 +7,7 @@ use Rattle.control_life.specs.Faults.{fault_in}
 use Rattle.machine_telling.specs.Telling.{IsAllBut}
 use Rattle.logged_machine.specs.Logged.{LoggedState}
 use Rattle.logged_machine.proofs.Checkpointed.{counted_more, counted_same, served_same}
-use Rattle.logged_machine.proofs.Frugality.{done_due, done_nothing, done_once}
+use Rattle.logged_machine.proofs.Frugality.{done_due, done_nothing, done_once, longer}
 use Rattle.logged_machine.proofs.logged.LoggedMachine.command_any.Goals as goal
 
 pub command_once-requires-clause-counted : goal.command_once-requires-clause-counted
@@ -37,5 +37,5 @@ returns-in-Err-Full g c = record {
       done_due g.D.Disk.state (fault_in (Commanded c.args.command.now c.command_behind.result)) c.args.self.now c.command_once.new.self c.command_behind.new.self
       (Commanded c.args.command.now c.command_behind.result) c.room_left-room.result c.in-Err-Full.ensures.same
       (subst (λ (v : LoggedState _). IsAllBut c.room_left-room.result v.journal.log) c.self.view_is c.room_left-room.ensures.all)
-      c.in-Err-Full.ensures.full c.command_behind.ensures.did;
+      (longer _ c.in-Err-Full.field-0 c.in-Err-Full.field-0-is c.in-Err-Full.ensures.full) c.command_behind.ensures.did;
 }

@@ -7,7 +7,7 @@ use Rattle.model_machine.specs.declared.entry.Entry.TheVariants.{Turn}
 use Rattle.control_life.specs.Faults.{fault_in}
 use Rattle.machine_telling.specs.Telling.{IsAllBut}
 use Rattle.logged_machine.proofs.Checkpointed.{counted_more, counted_same, served_same}
-use Rattle.logged_machine.proofs.Frugality.{done_due, done_nothing, done_once}
+use Rattle.logged_machine.proofs.Frugality.{done_due, done_nothing, done_once, longer}
 use Rattle.logged_machine.proofs.logged.LoggedMachine.turn_any.Goals as goal
 
 pub turn_once-requires-clause-counted : goal.turn_once-requires-clause-counted
@@ -40,5 +40,5 @@ returns-in-Err-Full g c = record {
       done_due g.D.Disk.state (fault_in (Turn c.args.region c.turn_behind.result)) c.args.self.now c.turn_once.new.self c.turn_behind.new.self
       (Turn c.args.region c.turn_behind.result) c.room_left-room.result c.in-Err-Full.ensures.same
       (subst (λ (v : LoggedState _). IsAllBut c.room_left-room.result v.journal.log) c.self.view_is c.room_left-room.ensures.all)
-      c.in-Err-Full.ensures.full c.turn_behind.ensures.did;
+      (longer _ c.in-Err-Full.field-0 c.in-Err-Full.field-0-is c.in-Err-Full.ensures.full) c.turn_behind.ensures.did;
 }

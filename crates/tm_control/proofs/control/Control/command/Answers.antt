@@ -59,7 +59,7 @@ returns-clause-lasts g c =
 
 pub returns-clause-frugal : goal.returns-clause-frugal
 returns-clause-frugal g c = rw (sym c.self.view_is)
-    (frugal_too g.D.Disk.state c.self.inside.machine c.self.inside.opening c.self.inside.history.items _ c.self.inside.began c.self.inside.steps
+    (frugal_too g.D.Disk.state c.self.inside.machine c.self.inside.opening c.self.inside.history.items 0 c.self.inside.began c.self.inside.steps
     (is_served g.D.Disk.state c.self.inside.machine c.self.inside.opening c.self.inside.history.items c.self.inside.steps (ap (λ (v : ControlOnDisk _). v.up) c.self.view_is ∙ c.requires.up) c.self.invariant)
     (fault_in (Commanded c.args.command.now c.command-answer.result)) (CommandCall c.args.command.now) c.command-answer.new.self.journal c.command-answer.new.self.disk c.command-answer.ensures.frugal)
 

@@ -59,7 +59,7 @@ returns-clause-lasts g c =
 
 pub returns-clause-frugal : goal.returns-clause-frugal
 returns-clause-frugal g c = rw (sym c.self.view_is)
-    (frugal_too g.D.Disk.state c.self.inside.machine c.self.inside.opening c.self.inside.history.items _ c.self.inside.began c.self.inside.steps
+    (frugal_too g.D.Disk.state c.self.inside.machine c.self.inside.opening c.self.inside.history.items 0 c.self.inside.began c.self.inside.steps
     (is_served g.D.Disk.state c.self.inside.machine c.self.inside.opening c.self.inside.history.items c.self.inside.steps (ap (λ (v : ControlOnDisk _). v.up) c.self.view_is ∙ c.requires.up) c.self.invariant)
     (fault_in (Accept c.args.terminal.now c.args.number c.args.segments c.accept-answer.result)) (Input c.args.terminal.now c.args.number c.args.segments) c.accept-answer.new.self.journal c.accept-answer.new.self.disk c.accept-answer.ensures.frugal)
 
