@@ -219,28 +219,28 @@ module _ {D : Type 0} (state : D → DiskState) (is_disk : (disk : D) → IsDisk
     abbrev Told : Type 0
     Told = Complete (Some text) status
 
-    ends_as : (ended : Ended) → Session (Some text) (Some left) (Some []) (Some printed) ended → HasCause ended 0 0 0 writes → status ≡ status_by ended → Told
-    ends_as ended session why is = subst (λ (s : Ended). Complete (Some text) s) (sym is) (complete_by ended (Some text) (Some left) (Some []) (Some printed) writes session why within)
+    as_ended : (ended : Ended) → Session (Some text) (Some left) (Some []) (Some printed) ended → HasCause ended 0 0 0 writes → status ≡ status_by ended → Told
+    as_ended ended session why is = subst (λ (s : Ended). Complete (Some text) s) (sym is) (complete_by ended (Some text) (Some left) (Some []) (Some printed) writes session why within)
 
     as_written : Session (Some text) (Some left) (Some []) (Some printed) Done → HasCause Done 0 0 0 writes → IsWritten summed status old mid summary → Told
     as_written session why told = done_or told.written
       where
         done_or : ((status ≡ Done) × (mid ≡ append_known old summed)) ⊎ ((status ≡ Write) × AppendsFront old mid summed) → Told
-        done_or (inl whole) = ends_as Done session why whole.0
+        done_or (inl whole) = as_ended Done session why whole.0
         done_or (inr front) = absurd (calm (risen status mid new summary r r' w w1 w2 front.0 told.none cause last))
 
     as_told : (ended : Ended) → Session (Some text) (Some left) (Some []) (Some printed) ended → HasCause ended 0 0 0 writes → IsToldBy ended summed status old mid summary → Told
     as_told Done session why told = as_written session why told
-    as_told (Words word rule) session why told = ends_as (Words word rule) session why told.status_is
-    as_told (BadLine line rule) session why told = ends_as (BadLine line rule) session why told.status_is
-    as_told (BadCross line rule) session why told = ends_as (BadCross line rule) session why told.status_is
-    as_told Down session why told = ends_as Down session why told.status_is
-    as_told Read session why told = ends_as Read session why told.status_is
-    as_told Write session why told = ends_as Write session why told.status_is
-    as_told (Image refusal) session why told = ends_as (Image refusal) session why told.status_is
-    as_told Memory session why told = ends_as Memory session why told.status_is
-    as_told (Limit n) session why told = ends_as (Limit n) session why told.status_is
-    as_told Spent session why told = ends_as Spent session why told.status_is
+    as_told (Words word rule) session why told = as_ended (Words word rule) session why told.status_is
+    as_told (BadLine line rule) session why told = as_ended (BadLine line rule) session why told.status_is
+    as_told (BadCross line rule) session why told = as_ended (BadCross line rule) session why told.status_is
+    as_told Down session why told = as_ended Down session why told.status_is
+    as_told Read session why told = as_ended Read session why told.status_is
+    as_told Write session why told = as_ended Write session why told.status_is
+    as_told (Image refusal) session why told = as_ended (Image refusal) session why told.status_is
+    as_told Memory session why told = as_ended Memory session why told.status_is
+    as_told (Limit n) session why told = as_ended (Limit n) session why told.status_is
+    as_told Spent session why told = as_ended Spent session why told.status_is
 
     as_any : (ended : Ended) → Session (Some text) (Some left) (Some []) (Some printed) ended → HasCause ended 0 0 0 writes → IsTold ended summed status old mid summary → Told
     as_any ended session why (inl told) = as_told ended session why told
