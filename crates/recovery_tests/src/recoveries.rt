@@ -1,4 +1,5 @@
 //! What images recover to, and what their recoveries leave.
+use log_writer::LogWriter;
 use restart_data::RestartSector;
 use small_images::images::{
     ACCOUNT, CONV, COUNTS, ECHO, FIRST, MESSAGE, OTHER, REPLY, SECOND, THIRD, change, image, plain,
@@ -292,6 +293,49 @@ fn what_each_record_does(rt: HostRuntime) -> Result<(), Fail> {
                 let found = lines(alloc, &mut disk, again)?;
                 assert_eq!(rt; found.as_slice(), expected.as_slice(), "{pick} {log:?}");
             }
+        }
+    }
+    Ok(())
+}
+
+// The disk before, which fails at its n-th write, if n isn't 0; a log is appended by the writer and forced. Whether it was.
+fn armed(alloc: Global, n: u64) -> Result<MemDisk, Fail> {
+    let mut disk = written(alloc, &[])?;
+    if n > 0 {
+        let _armed = disk.arm(n);
+    }
+    Ok(disk)
+}
+
+fn forced(alloc: Global, log: &[&[u8]], n: u64) -> Result<(MemDisk, bool), Fail> {
+    let bytes = joined(alloc, log)?;
+    let mut disk = armed(alloc, n)?;
+    if disk.sectors() != SECTORS || bytes.len() > 4064 {
+        return Err("another disk".into());
+    }
+    let mut writer = LogWriter::new(alloc, LOG_B, 64, 11, 4);
+    writer.append(&bytes)?;
+    let done = writer.force(&mut disk).is_ok();
+    Ok((disk, done))
+}
+
+// Each kind of record is appended and forced by the writer of a log: once that is done, it is recovered whatever a stop leaves;
+// where its write failed, by the pick that keeps the sector.
+#[test]
+fn what_a_forced_record_does(rt: HostRuntime) -> Result<(), Fail> {
+    let alloc = rt.alloc();
+    let before = joined(
+        alloc,
+        &[b"NEXT 5 STEPS 6 \n", T1, T2, CODES, IN3, IN4, b"", ROW],
+    )?;
+    for (log, parts) in DOINGS {
+        let after = joined(alloc, parts)?;
+        for (n, pick) in [(0, 0), (1, 0), (1, 1u64)] {
+            let (mut disk, done) = forced(alloc, log, n)?;
+            assert_eq!(rt; done, n == 0);
+            let expected = if n == pick { &after } else { &before };
+            let found = lines(alloc, &mut disk, pick)?;
+            assert_eq!(rt; found.as_slice(), expected.as_slice(), "{n} {pick} {log:?}");
         }
     }
     Ok(())
