@@ -48,7 +48,7 @@ use Rattle.resend_law.proofs.Sessions.{kept_over, leaves_with, up_has}
 abbrev named : List ℕ → TerminalState → Bool
 named name t = bytes_eq t.name name
 
-abbrev last_in : List ℕ → List TerminalState → ℕ
+abbrev pub last_in : List ℕ → List TerminalState → ℕ
 last_in name ts = option_map_or (λ t. t.last) (terminal_at ts name) 0
 
 less_more : (k n : ℕ) → nat_lt (1 + k) (suc n) ≡ nat_lt k n
@@ -74,17 +74,17 @@ later_place f x xs (Some q) = by (slice_get xs q) where
   by None = refl
 
 -- the terminal of this name is changed
-abbrev change_named : List ℕ → (TerminalState → TerminalState) → List TerminalState → List TerminalState
+abbrev pub change_named : List ℕ → (TerminalState → TerminalState) → List TerminalState → List TerminalState
 change_named name f ts = change_at ts (terminal_place ts name) f
 
-changed_here : (name : List ℕ) (f : TerminalState → TerminalState) (t : TerminalState) (ts : List TerminalState) → bytes_eq t.name name ≡ true → change_named name f (t ∷ ts) ≡ f t ∷ ts
+pub changed_here : (name : List ℕ) (f : TerminalState → TerminalState) (t : TerminalState) (ts : List TerminalState) → bytes_eq t.name name ≡ true → change_named name f (t ∷ ts) ≡ f t ∷ ts
 changed_here name f t ts is = ap (λ p. change_at (t ∷ ts) p f) (place_more (λ u. bytes_eq u.name name) t ts true is)
 
-changed_later : (name : List ℕ) (f : TerminalState → TerminalState) (t : TerminalState) (ts : List TerminalState) → bytes_eq t.name name ≡ false → change_named name f (t ∷ ts) ≡ t ∷ change_named name f ts
+pub changed_later : (name : List ℕ) (f : TerminalState → TerminalState) (t : TerminalState) (ts : List TerminalState) → bytes_eq t.name name ≡ false → change_named name f (t ∷ ts) ≡ t ∷ change_named name f ts
 changed_later name f t ts is =
     ap (λ p. change_at (t ∷ ts) p f) (place_more (λ u. bytes_eq u.name name) t ts false is) ∙ later_place f t ts (terminal_place ts name)
 
-last_cons : (name : List ℕ) (t : TerminalState) (ts : List TerminalState) → last_in name (t ∷ ts) ≡ cond (bytes_eq t.name name) t.last (last_in name ts)
+pub last_cons : (name : List ℕ) (t : TerminalState) (ts : List TerminalState) → last_in name (t ∷ ts) ≡ cond (bytes_eq t.name name) t.last (last_in name ts)
 last_cons name t ts = by (bytes_eq t.name name) where
   by : (b : Bool) → option_map_or (λ (u : TerminalState). u.last) (cond b (Some t) (terminal_at ts name)) 0 ≡ cond b t.last (last_in name ts)
   by true = refl
@@ -151,12 +151,12 @@ all_sent_terminals : (origin : List ℕ) (outputs : List EndedMessage) (lasting 
 all_sent_terminals origin [] lasting = refl
 all_sent_terminals origin (output ∷ outputs) lasting = all_sent_terminals origin outputs (sent origin output lasting) ∙ sent_terminals origin output lasting
 
-finished_terminals : (message : Option Message) (outputs : Message → List EndedMessage) (lasting : LastingState) → (finished_by message outputs lasting).terminals ≡ lasting.terminals
+pub finished_terminals : (message : Option Message) (outputs : Message → List EndedMessage) (lasting : LastingState) → (finished_by message outputs lasting).terminals ≡ lasting.terminals
 finished_terminals None outputs lasting = refl
 finished_terminals (Some message) outputs lasting =
     all_sent_terminals message.origin (outputs message) (record lasting { messages = without_message lasting.messages message.id })
 
-pad_terminals : (message : Option Message) (change : Message → PadChange) (lasting : LastingState) → (with_pad_by message change lasting).terminals ≡ lasting.terminals
+pub pad_terminals : (message : Option Message) (change : Message → PadChange) (lasting : LastingState) → (with_pad_by message change lasting).terminals ≡ lasting.terminals
 pad_terminals None change lasting = refl
 pad_terminals (Some message) change lasting = refl
 
@@ -203,7 +203,7 @@ module _ (terminal : List ℕ) (number : ℕ) where
 -- ---- answers to inputs
 
 -- the answer by the terminal, and by the refusals that come behind the number
-abbrev answer_by : Option TerminalState → ℕ → ℕ → Refusal → Result Taken InputRefused
+abbrev pub answer_by : Option TerminalState → ℕ → ℕ → Refusal → Result Taken InputRefused
 answer_by t number id later =
     unwrap_or
     (option_or (if is_some t then None else Some (Err NoTerminal))
@@ -211,7 +211,7 @@ answer_by t number id later =
     (option_or (option_and_then (λ (u : TerminalState). by_number u.last number) t) later)))
     (Ok (New id))
 
-abbrev later_refusals : System → Moment → List ℕ → List (List ℕ) → Refusal
+abbrev pub later_refusals : System → Moment → List ℕ → List (List ℕ) → Refusal
 later_refusals system moment terminal segments =
     first_of
     (busy_conversation moment.lasting terminal
@@ -241,7 +241,7 @@ next_by (Some v) number next id later h u e = by_stopped v.stopped h ∙ ap (λ 
   by_stopped false is = at (nat_le number v.last) (nat_lt (v.last + 1) number) refl refl is
 
 -- and its terminal is there
-there_by : (t : Option TerminalState) (number next id : ℕ) (later : Refusal) → answer_by t number next later ≡ Ok (New id) → (u : TerminalState) × (t ≡ Some u)
+pub there_by : (t : Option TerminalState) (number next id : ℕ) (later : Refusal) → answer_by t number next later ≡ Ok (New id) → (u : TerminalState) × (t ≡ Some u)
 there_by None number next id later h = absurd (no h) where
   no : Err NoTerminal ≡ Ok (New id) → ⊥
   no e = cc

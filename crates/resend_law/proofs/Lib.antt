@@ -1,4 +1,5 @@
 pub mod Sessions
 pub mod Steps
 pub mod Inputs
+pub mod Again
 pub mod Replies

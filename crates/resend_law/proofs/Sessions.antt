@@ -36,10 +36,10 @@ both true false x y = y
 both false b x y = x
 
 -- the last of a list belongs to its front or to its rest
-record EndsRest {X : Type 0} (xs : List X) (x : X) (front rest : List X) : Type 0 where
-  others : List X
-  before : xs ≡ front ++ others
-  rest_is : rest ≡ others ++ x ∷ []
+pub record EndsRest {X : Type 0} (xs : List X) (x : X) (front rest : List X) : Type 0 where
+  pub others : List X
+  pub before : xs ≡ front ++ others
+  pub rest_is : rest ≡ others ++ x ∷ []
 
 head_is : {X : Type 0} (x y : X) (xs ys : List X) → x ∷ xs ≡ y ∷ ys → x ≡ y
 head_is x y xs ys e = cc
@@ -51,7 +51,7 @@ none_left : {X : Type 0} (xs ys : List X) → [] ≡ xs ++ ys → xs ≡ []
 none_left [] ys e = refl
 none_left (x ∷ xs) ys e = cc
 
-last_in : {X : Type 0} (xs : List X) (x : X) (front rest : List X) → xs ++ x ∷ [] ≡ front ++ rest → (front ≡ xs ++ x ∷ []) ⊎ EndsRest xs x front rest
+pub last_in : {X : Type 0} (xs : List X) (x : X) (front rest : List X) → xs ++ x ∷ [] ≡ front ++ rest → (front ≡ xs ++ x ∷ []) ⊎ EndsRest xs x front rest
 last_in xs x [] rest e = inr (record { others = xs; before = refl; rest_is = sym e })
 last_in [] x (y ∷ front) rest e =
     inl (ap (λ ys. y ∷ ys) (none_left front rest (tail_is x y [] (front ++ rest) e)) ∙ ap (λ z. z ∷ []) (sym (head_is x y [] (front ++ rest) e)))

@@ -7,7 +7,7 @@ use Rattle.tm_types.specs.declared.message.Reply.{Reply}
 use Rattle.model_command.specs.declared.command.Command.TheVariants.{DequeueFirst, DequeueAll}
 use Rattle.model_machine.specs.declared.entry.Entry.{Entry}
 use Rattle.model_machine.specs.declared.entry.ControlCall.{ControlCall}
-use Rattle.model_machine.specs.declared.entry.ControlCall.TheVariants.{Acknowledge, Turn, Command}
+use Rattle.model_machine.specs.declared.entry.ControlCall.TheVariants.{Input, Acknowledge, Command}
 use Rattle.model_system.specs.System.{System}
 use Rattle.model_queues.specs.Outputs.{reply_at}
 use Rattle.model_machine.specs.Machine.{LastingState, Moment, terminal_at}
@@ -56,6 +56,11 @@ all_ask_only kind system blocks = list_all (λ block. asks_only kind (asked_of s
 -- any call
 abbrev pub any_call : ControlCall → Bool
 any_call call = true
+
+-- a call that is no input of the terminal
+abbrev pub spares_input : List ℕ → ControlCall → Bool
+spares_input terminal (Input other number segments) = not (bytes_eq other terminal)
+spares_input terminal _ = true
 
 -- a call that takes no reply of the terminal away
 abbrev pub spares : List ℕ → ControlCall → Bool

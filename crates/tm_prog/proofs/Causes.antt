@@ -1,5 +1,5 @@
 -- Where no count of the source or the sink rose and no limit is met, the status is that of the definition, memory was wanting, or the disk decides it.
-use Rattle.std.proofs.Common.{◌≡◌, ◌≢◌, ℕ, ◌≤◌, ◌<◌, ◌+◌, true, false, ◌&&◌, Bool, List, [], ◌∷◌, ◌++◌, length, sym, ◌∙◌, ap, subst, refl, arith, inl, inr, length-append}
+use Rattle.std.proofs.Common.{◌≡◌, ◌≢◌, ◌⊎◌, ℕ, ◌≤◌, ◌<◌, ◌+◌, true, false, ◌&&◌, Bool, List, [], ◌∷◌, ◌++◌, length, sym, ◌∙◌, ap, subst, refl, arith, inl, inr, length-append}
 use Rattle.std.proofs.lemmas.List.Folds.{list_all-append}
 use Rattle.std.proofs.lemmas.Bool.Decides.{nat_tests}
 use Rattle.std.specs.Prelude.{Option, Some, None, IsNone, IfSome, Result, Ok, Err, nat_le}
@@ -24,7 +24,6 @@ use Rattle.sysdef_text.specs.Ends.{definition_lines}
 use Rattle.tm_prog.specs.declared.words.Workload.{Workload}
 use Rattle.tm_prog.specs.Words.{WordFault, word_fault, workload_of}
 use Rattle.tm_prog.specs.Workload.{told_by, text_of as workload_bytes, summary_of, status_by, IsWritten, IsToldBy, IsTold, IsWorkload}
-use Rattle.tm_prog.proofs.Telling.{no_rise}
 use Rattle.tm_prog.specs.Status.{IsServed, IsByWords, IsRefused, IsRun, IsLastLine, IsWithinLimits, IsServedBy, IsServedWhole, IsComplete, status_text}
 
 -- ---- limits
@@ -184,6 +183,10 @@ module _ {D : Type 0} (state : D → DiskState) (is_disk : (disk : D) → IsDisk
 
   -- ---- a workload
 
+  no_rise : HasRisen 0 0 → ⊥
+  no_rise (inl more) = omega (arith, more)
+  no_rise (inr last) = omega (arith, last)
+
   -- where the session of these bytes was served, and memory was wanting behind it
   memory_behind : (ended : Ended) (told left old new : Option (List ℕ)) → Session told left old new ended → Complete told Memory
   memory_behind ended (Some bytes) left old new session =
@@ -216,28 +219,28 @@ module _ {D : Type 0} (state : D → DiskState) (is_disk : (disk : D) → IsDisk
     abbrev Told : Type 0
     Told = Complete (Some text) status
 
-    as : (ended : Ended) → Session (Some text) (Some left) (Some []) (Some printed) ended → HasCause ended 0 0 0 writes → status ≡ status_by ended → Told
-    as ended session why is = subst (λ (s : Ended). Complete (Some text) s) (sym is) (complete_by ended (Some text) (Some left) (Some []) (Some printed) writes session why within)
+    as_ended : (ended : Ended) → Session (Some text) (Some left) (Some []) (Some printed) ended → HasCause ended 0 0 0 writes → status ≡ status_by ended → Told
+    as_ended ended session why is = subst (λ (s : Ended). Complete (Some text) s) (sym is) (complete_by ended (Some text) (Some left) (Some []) (Some printed) writes session why within)
 
     as_written : Session (Some text) (Some left) (Some []) (Some printed) Done → HasCause Done 0 0 0 writes → IsWritten summed status old mid summary → Told
     as_written session why told = done_or told.written
       where
         done_or : ((status ≡ Done) × (mid ≡ append_known old summed)) ⊎ ((status ≡ Write) × AppendsFront old mid summed) → Told
-        done_or (inl whole) = as Done session why whole.0
+        done_or (inl whole) = as_ended Done session why whole.0
         done_or (inr front) = absurd (calm (risen status mid new summary r r' w w1 w2 front.0 told.none cause last))
 
     as_told : (ended : Ended) → Session (Some text) (Some left) (Some []) (Some printed) ended → HasCause ended 0 0 0 writes → IsToldBy ended summed status old mid summary → Told
     as_told Done session why told = as_written session why told
-    as_told (Words word rule) session why told = as (Words word rule) session why told.status_is
-    as_told (BadLine line rule) session why told = as (BadLine line rule) session why told.status_is
-    as_told (BadCross line rule) session why told = as (BadCross line rule) session why told.status_is
-    as_told Down session why told = as Down session why told.status_is
-    as_told Read session why told = as Read session why told.status_is
-    as_told Write session why told = as Write session why told.status_is
-    as_told (Image refusal) session why told = as (Image refusal) session why told.status_is
-    as_told Memory session why told = as Memory session why told.status_is
-    as_told (Limit n) session why told = as (Limit n) session why told.status_is
-    as_told Spent session why told = as Spent session why told.status_is
+    as_told (Words word rule) session why told = as_ended (Words word rule) session why told.status_is
+    as_told (BadLine line rule) session why told = as_ended (BadLine line rule) session why told.status_is
+    as_told (BadCross line rule) session why told = as_ended (BadCross line rule) session why told.status_is
+    as_told Down session why told = as_ended Down session why told.status_is
+    as_told Read session why told = as_ended Read session why told.status_is
+    as_told Write session why told = as_ended Write session why told.status_is
+    as_told (Image refusal) session why told = as_ended (Image refusal) session why told.status_is
+    as_told Memory session why told = as_ended Memory session why told.status_is
+    as_told (Limit n) session why told = as_ended (Limit n) session why told.status_is
+    as_told Spent session why told = as_ended Spent session why told.status_is
 
     as_any : (ended : Ended) → Session (Some text) (Some left) (Some []) (Some printed) ended → HasCause ended 0 0 0 writes → IsTold ended summed status old mid summary → Told
     as_any ended session why (inl told) = as_told ended session why told

@@ -81,19 +81,21 @@ workload_of _ = None
 
 -- ---- the disk
 
--- The disk that the words ask for: one in memory with so many sectors, or the file that the third word names. That of a
--- workload has 16,384 in memory. Words that break a rule get none in memory.
 abbrev pub sectors_of : List ℕ → ℕ
 sectors_of word = unwrap_or (sectors_in word) 0
 
-abbrev pub memory_of : List ℕ → List ℕ → ℕ
-memory_of command size = if bytes_eq command (codes "workload") then 16384 else sectors_of size
-
+-- one in memory with so many sectors, or the file that the third word names
 abbrev pub disk_in : List (List ℕ) → DiskWords
-disk_in (command ∷ kind ∷ size ∷ []) = InMemory (memory_of command size)
+disk_in (command ∷ kind ∷ size ∷ []) = InMemory (sectors_of size)
 disk_in (command ∷ kind ∷ path ∷ size ∷ words) = InFile (sectors_of size)
 disk_in _ = InMemory 0
 
+-- that of a workload has 16,384 sectors in memory
+abbrev pub disk_for : Option Workload → List (List ℕ) → DiskWords
+disk_for (Some workload) words = InMemory 16384
+disk_for None words = disk_in words
+
+-- the disk that the words ask for; words that break a rule get one without a sector
 abbrev pub disk_by : Option WordFault → List (List ℕ) → DiskWords
-disk_by None words = disk_in words
+disk_by None words = disk_for (workload_of words) words
 disk_by (Some fault) words = InMemory 0

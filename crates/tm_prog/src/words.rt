@@ -35,23 +35,28 @@ const WORKLOAD_SIZE: u32 = 16_384;
 pub fn disk_words(words: &[String]) -> DiskWords
     ensures { result ≡ disk_by (word_fault (map (λ word. string_bytes word) words.now)) (map (λ word. string_bytes word) words.now) }
 {
-    if find_word_fault(words).is_some() {
-        return DiskWords::InMemory(0);
-    }
-    match words {
-        [command, _, size] => DiskWords::InMemory(memory_of(command, size)),
-        [_, _, _, size, ..] => DiskWords::InFile(sectors_of(size)),
-        _ => DiskWords::InMemory(0),
+    match find_word_fault(words) {
+        Some(_) => DiskWords::InMemory(0),
+        None => disk_for(words),
     }
 }
 
-fn memory_of(command: &String, size: &String) -> u32
-    ensures { result ≡ spec.memory_of (string_bytes command.now) (string_bytes size.now) }
+fn disk_for(words: &[String]) -> DiskWords
+    ensures { result ≡ spec.disk_for (spec.workload_of (map (λ word. string_bytes word) words.now)) (map (λ word. string_bytes word) words.now) }
 {
-    if command.as_bytes() == b"workload".as_slice() {
-        WORKLOAD_SIZE
-    } else {
-        sectors_of(size)
+    match workload_of(words) {
+        Some(_) => DiskWords::InMemory(WORKLOAD_SIZE),
+        None => disk_in(words),
+    }
+}
+
+fn disk_in(words: &[String]) -> DiskWords
+    ensures { result ≡ spec.disk_in (map (λ word. string_bytes word) words.now) }
+{
+    match words {
+        [_, _, size] => DiskWords::InMemory(sectors_of(size)),
+        [_, _, _, size, ..] => DiskWords::InFile(sectors_of(size)),
+        _ => DiskWords::InMemory(0),
     }
 }
 

@@ -127,7 +127,7 @@ fn words_of_a_workload(rt: HostRuntime) -> Result<(), Fail> {
     for (words, printed) in &table {
         let (status, found) = told(rt.alloc(), words, &[], (16384, &[]))?;
         assert_eq!(rt; status, 1);
-        assert!(rt; found == *printed);
+        assert!(rt; found.as_slice() == *printed);
     }
     Ok(())
 }
