@@ -89,11 +89,11 @@ fn broken_workloads(rt: HostRuntime) -> Result<(), Fail> {
     let alloc = rt.alloc();
     let words: [&str; 3] = ["workload", "7", "1"];
     let none: &[u8] = b"WORKLOAD 7 1\nACCEPTED 0\nDONE 0\nABENDED 0\nU0777 0\n";
-    // The disk is too small: nothing was done.
+    // The disk is too small: nothing was done. With four regions each snapshot area has 549 sectors.
     let (status, printed) = told(alloc, &words, &[], (1000, &[]))?;
     assert_eq!(rt; status, 6);
     assert!(rt; printed.starts_with(none));
-    assert!(rt; printed.ends_with(b"\nSTATUS 6 SIZE 1517 1000\n"));
+    assert!(rt; printed.ends_with(b"\nSTATUS 6 SIZE 1775 1000\n"));
     // The disk fails at the opening, and the system stays down.
     let (status, printed) = told(alloc, &words, &[], (16384, &[1]))?;
     assert_eq!(rt; status, 3);
