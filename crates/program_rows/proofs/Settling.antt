@@ -1,11 +1,13 @@
 -- Slots that were changed are written.
-use Rattle.std.proofs.Common.{◌≡◌, ℕ, ◌-◌, zero, suc, refl, sym, ◌∙◌, [], ◌∷◌, List, map, get_or, eqb, Bool, true, false}
+use Rattle.std.proofs.Common.{◌≡◌, ℕ, ◌-◌, zero, suc, refl, sym, ◌∙◌, [], ◌∷◌, List, map, ap, subst, get_or, eqb, Bool, true, false}
 use Rattle.std.specs.List.{list_any}
 use Rattle.std.proofs.lemmas.Bool.{false≢true}
 use Rattle.seg_store.specs.Changed.{AllStores}
+use Rattle.seg_store.specs.Slots.{Stored}
 use Rattle.seg_store.specs.WriteBack.{all_written}
 use Rattle.program_rows.specs.declared.opened.Opened.{Opened}
-use Rattle.program_rows.specs.Making.{AreThere, IsWhole}
+use Rattle.program_rows.specs.Open.{records_of, slots_of, AreUnits, AllTouch}
+use Rattle.program_rows.specs.Making.{AreThere, IsWhole, seen}
 
 none_at : (slot : ℕ) (changed : List (List ℕ)) (i : ℕ) → list_any (λ n. eqb n slot) (get_or (map (λ (numbers : List ℕ). let none : List ℕ = [] in none) changed) i []) ≡ false
 none_at slot [] i = refl
@@ -17,3 +19,14 @@ written_there all db slot least e = absurd (false≢true (sym (none_at slot all.
 
 pub whole_settled : (o : Opened) → IsWhole o → IsWhole (record { units = o.units; stores = all_written o.stores; table = o.table })
 whole_settled o w = record { units = w.units; touched = w.touched; marks = written_there o.stores }
+
+-- these stores in place of those with the same slots
+pub whole_put : (o : Opened) (all : AllStores) → IsWhole o → all.stores ≡ o.stores.stores → AreThere all → IsWhole (record { units = o.units; stores = all; table = o.table })
+whole_put o all w same there = record {
+  units = subst (λ (stores : List Stored). AreUnits (records_of o.units.items) stores o.table) (sym same) w.units;
+  touched = subst (λ (stores : List Stored). AllTouch (records_of o.units.items) (slots_of o.units.items) stores o.table) (sym same) w.touched;
+  marks = there;
+}
+
+pub seen_put : (o : Opened) (all : AllStores) → all.stores ≡ o.stores.stores → seen (record { units = o.units; stores = all; table = o.table }) ≡ record (seen o) { changed = all.changed }
+seen_put o all same = ap (λ (stores : List Stored). seen (record { units = o.units; stores = record { stores = stores; changed = all.changed }; table = o.table })) same

@@ -28,6 +28,10 @@ pub record DatabasesState : Type 0 where
   pub touched : List (List Change)
   pub table : EnqueueTable
 
+-- so with these slots that were changed since they were written
+abbrev pub with_marks : List (List ℕ) → DatabasesState → DatabasesState
+with_marks changed databases = record databases { changed = changed }
+
 -- as they are once each changed slot is written
 abbrev pub settled : DatabasesState → DatabasesState
 settled databases = record databases { changed = map (λ numbers. []) databases.changed }

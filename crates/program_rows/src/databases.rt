@@ -15,9 +15,9 @@ ghost use Rattle.change_records.specs.Images.{image_at};
 ghost use Rattle.change_records.specs.Marks.{AreMarked};
 ghost use Rattle.program_rows.specs.OnSlots.{slots_in, all_stores, AreOnSlots, CallsSo};
 ghost use Rattle.program_rows.specs.Telling.{back_told, call_told, touched_after, Tells, IsUntold};
-ghost use Rattle.program_rows.specs.Making.{changed_in};
+ghost use Rattle.program_rows.specs.Making.{changed_in, AreThere};
 ghost use Rattle.seg_store.specs.Stores.{empty_stores, no_changed};
-ghost use Rattle.program_rows.specs.State.{clean_region, committed_rows, data_of, dbds_of, region_at, rows_numbered, rows_of, settled, touched_by, AreRowsOf, IsClean, IsRegionOf};
+ghost use Rattle.program_rows.specs.State.{clean_region, committed_rows, data_of, dbds_of, region_at, rows_numbered, rows_of, settled, touched_by, with_marks, AreRowsOf, IsClean, IsRegionOf};
 ghost use Rattle.program_rows.specs.Isolation.{requests_of_call};
 ghost use Rattle.program_rows.specs.Answering.{blocked_of, told_blocked, regions_after, regions_backed, Gives, IsCommitted, IsGivenUp, LeadsToAbend, Stands, StaysUnlessMade, table_left};
 
@@ -92,6 +92,15 @@ impl Databases {
         ensures { self.new ≡ settled self.old }
     {
         self.opened.stores.settle();
+    }
+
+    /// The stores are these, which have the same slots; what counts as changed among them is told by them. This takes no memory.
+    pub fn put_stores(&mut self, stores: Stores)
+        requires same { stores.stores ≡ self.old.stores }
+        requires there { AreThere stores }
+        ensures { self.new ≡ with_marks stores.changed self.old }
+    {
+        self.opened.stores = stores;
     }
 
     /// The databases have these stores, and no region has changed anything. What the regions hold and wait for stays. This

@@ -8,4 +8,5 @@ mod Changes
 mod Sealing
 pub mod Putting
 mod AllStores
+mod Copied
 pub mod WritingBack

@@ -10,6 +10,7 @@ pub use store::Store;
 pub use stores::Stores;
 
 mod changed;
+mod copying;
 mod data_sectors;
 mod free;
 mod index;

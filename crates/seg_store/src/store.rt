@@ -11,6 +11,7 @@ ghost use Rattle.seg_store.specs.DataSectors.{bytes_of, MayPut, HasPut};
 ghost use Rattle.seg_store.specs.Slots.{image_root, slot_of, lowest_free, slot_for, with_root, rows_of_slots, AreSlots, free_slots, without_root};
 
 use crate::changed::add_changed;
+use crate::copying::{copy_images, copy_index, copy_numbers};
 use crate::data_sectors::put_slots;
 use crate::free::{add_slot, all_free, lowest, take_slot};
 use crate::index::{add_root, next_entry, slot_of, take_root};
@@ -62,6 +63,21 @@ impl Store {
             index: Vec::with_capacity(alloc, dbd.roots as usize)?,
             free: all_free(alloc, dbd.roots)?,
             changed: Vec::with_capacity(alloc, dbd.roots as usize)?,
+        })
+    }
+
+    /// The same store once more, with the same slots changed.
+    pub fn copy(&self) -> Result<Store, Memory>
+        ensures { IfOk result (λ s. s ≡ self.now) }
+    {
+        let roots = self.dbd.roots;
+        Ok(Store {
+            alloc: self.alloc,
+            dbd: self.dbd.clone()?,
+            slots: copy_images(self.alloc, &self.slots)?,
+            index: copy_index(self.alloc, &self.index, roots)?,
+            free: copy_numbers(self.alloc, &self.free, roots)?,
+            changed: copy_numbers(self.alloc, &self.changed, roots)?,
         })
     }
 

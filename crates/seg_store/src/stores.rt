@@ -51,6 +51,15 @@ impl Stores {
         Stores { items }
     }
 
+    /// The same stores once more, with the same slots changed.
+    pub fn copy(&self, alloc: Global) -> Result<Stores, Memory>
+        ensures { IfOk result (λ s. s ≡ self.now) }
+    {
+        Ok(Stores {
+            items: copy_stores(alloc, &self.items)?,
+        })
+    }
+
     /// Writes the records of the changed slots of all databases into their sectors, in ascending order, where the
     /// databases' slots stand one behind the other from the sector `first` on; the answer is how many they are, and none is
     /// changed then. Nothing is synced. `Disk` comes exactly where the disk failed in the call; then all of them still count
@@ -154,4 +163,15 @@ fn are_slots(stores: &[Store])
     for store in stores {
         let _image = store.image(0);
     }
+}
+
+// The same stores once more.
+fn copy_stores(alloc: Global, stores: &[Store]) -> Result<Vec<Store>, Memory>
+    ensures { IfOk result (λ copy. copy.items ≡ stores.now) }
+{
+    let mut copy = Vec::with_capacity(alloc, stores.len())?;
+    for store in stores {
+        copy.push(store.copy()?)?;
+    }
+    Ok(copy)
 }
