@@ -1,5 +1,4 @@
 pub mod Cut
-pub mod Abended
 pub mod Sent
 pub mod Finished
 mod Fresh

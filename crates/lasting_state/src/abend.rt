@@ -1,27 +1,12 @@
 //! What the origin of a message is sent where the work on it ended abnormally.
-ghost use Rattle.std.specs.Prelude.{◌≡◌, IfOk, OnOk};
-ghost use Rattle.tm_types.specs.Name.{IsName};
-ghost use Rattle.tm_types.specs.Segment.{IsSegmentText};
-ghost use Rattle.model_machine.specs.Lasting.{abend_text, abend_outputs};
+ghost use Rattle.std.specs.Prelude.{◌≡◌, IfOk};
+ghost use Rattle.model_machine.specs.Lasting.{abend_outputs};
 
 use model_message::EndedMessage;
 use std::alloc::Global;
 use std::collections::VecDeque;
-use tm_types::{
-    AbendCode, Bytes, Memory, Message, Name, Segment, SegmentRefused, Segments, four_digits,
-};
-
-/// The text of an abend.
-fn abend_text(alloc: Global, code: &Name, abend: AbendCode) -> Result<Bytes, Memory>
-    ensures value { IfOk result (λ text. text ≡ abend_text code.now abend) }
-    ensures named { OnOk result (IsName code.now) }
-{
-    let mut text = Bytes::copied(alloc, b"DFS555I TRAN ")?;
-    text.append(code.as_bytes())?;
-    text.append(b" ABEND U")?;
-    text.append(&four_digits(abend.number))?;
-    Ok(text)
-}
+use step_changes::abend_segments;
+use tm_types::{AbendCode, Memory, Message};
 
 /// What is sent where the work on this message ended abnormally: its text in one segment, to its origin.
 pub fn abend_outputs(
@@ -31,27 +16,11 @@ pub fn abend_outputs(
 ) -> Result<VecDeque<EndedMessage>, Memory>
     ensures { IfOk result (λ outputs. outputs.items ≡ abend_outputs message.now abend) }
 {
-    let text = abend_text(alloc, &message.code, abend)?;
-    let mut segments = Segments::new(alloc);
-    segments.push(segment_of(alloc, text.as_slice())?)?;
+    let segments = abend_segments(alloc, &message.code, abend)?;
     let mut outputs = VecDeque::new(alloc);
     outputs.push_back(EndedMessage {
         to: message.origin,
         segments,
     })?;
     Ok(outputs)
-}
-
-/// The segment of a text that is one.
-#[tactic(auto, using(crate::proofs::Abended::no_bad_byte))]
-pub fn segment_of(alloc: Global, text: &[u8]) -> Result<Segment, Memory>
-    requires { IsSegmentText text.now }
-    ensures { IfOk result (λ segment. segment ≡ text.now) }
-{
-    match Segment::make(alloc, text) {
-        Ok(segment) => Ok(segment),
-        Err(SegmentRefused::Memory) => Err(Memory),
-        Err(SegmentRefused::TooLong(_)) => unreachable!(),
-        Err(SegmentRefused::BadByte(_)) => unreachable!(),
-    }
 }

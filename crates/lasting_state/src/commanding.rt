@@ -5,13 +5,13 @@ ghost use Rattle.step_telling.specs.Untold.{WhereFull};
 ghost use Rattle.lasting_state.specs.Commands.{AppliesCommand, command_done, commanded};
 ghost use Rattle.lasting_state.specs.Telling.{AreBytesOf, IsLonger, Tells};
 
-use crate::conversing::change_pad;
 use crate::limits::COUNT_LIMIT;
 use crate::tables::Tables;
 use command_changes::{dequeue_all, dequeue_first, stop_terminal};
 use log_records::Untold;
 use model_conversation::PadChange;
 use std::alloc::Global;
+use step_changes::change_pad;
 use step_telling::{command_bytes, tell};
 use tm_types::{LastingCommand, Memory};
 

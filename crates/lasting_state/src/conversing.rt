@@ -1,16 +1,16 @@
-//! Inputs as they are kept, and what becomes of conversations.
+//! Inputs as they are kept.
 ghost use Rattle.std.specs.Prelude.{◌≡◌, ◌-◌, true, Some, IfOk};
 ghost use Rattle.tm_types.specs.Segment.{IsSegmentText};
 ghost use Rattle.tm_types.specs.Words.{operands};
 ghost use Rattle.model_conversation.specs.Pads.{begun};
-ghost use Rattle.model_machine.specs.Lasting.{with_begun, without_word, padded, discarded_pad};
+ghost use Rattle.model_machine.specs.Lasting.{without_word};
 ghost use Rattle.lasting_state.specs.Kept.{kept_as, kept_at};
 
-use crate::abend::segment_of;
-use conversation::{Conversations, begun};
-use model_conversation::{Conversation, PadChange};
+use conversation::begun;
+use model_conversation::Conversation;
 use std::alloc::Global;
 use std::marker::Model;
+use step_changes::segment_of;
 use tm_types::{Memory, Message, Name, Segment, Segments, operands};
 
 /// An input as it is to be kept.
@@ -84,36 +84,4 @@ fn left_of(segment: &Segment) -> &[u8]
     ensures text { IsSegmentText result.now }
 {
     operands(segment.text())
-}
-
-/// A conversation begins at the terminal, if one does.
-pub fn begin(conversations: &mut Conversations, terminal: &Name, begins: Option<Conversation>)
-    ensures { conversations.new ≡ with_begun terminal.now begins conversations.old }
-{
-    match begins {
-        Some(conversation) => conversations.place(terminal, conversation),
-        None => {}
-    }
-}
-
-/// This becomes of the pad of the origin's conversation.
-pub fn change_pad(conversations: &mut Conversations, origin: &Name, change: PadChange)
-    ensures { conversations.new ≡ padded change origin.now conversations.old }
-{
-    match change {
-        PadChange::Stays => {}
-        PadChange::New(pad) => conversations.replace(origin, pad),
-        PadChange::Ends => conversations.end(origin),
-    }
-}
-
-/// What becomes of the pad where this message is discarded: its conversation ends, if it belongs to one.
-pub fn discarded_pad(message: &Message) -> PadChange
-    ensures { result ≡ discarded_pad message.now }
-{
-    if message.conversation {
-        PadChange::Ends
-    } else {
-        PadChange::Stays
-    }
 }

@@ -6,12 +6,13 @@ ghost use Rattle.model_queues.specs.Queue.{IsNewId, with_message};
 ghost use Rattle.model_queues.specs.Outputs.{replies_at, with_terminal, with_reply};
 ghost use Rattle.lasting_state.specs.Sending.{switched_message, IsSent};
 
-use crate::limits::{BYTE_LIMIT, COUNT_LIMIT};
+use crate::limits::COUNT_LIMIT;
 use model_message::EndedMessage;
 use msg_queues::Queues;
 use out_queues::Outputs;
 use std::collections::VecDeque;
-use tm_types::{Memory, Message, Name, Segments};
+use step_changes::bytes_of;
+use tm_types::{Memory, Message, Name};
 
 /// Sends these outputs of a message with this origin, in their order, and answers the next id. Want
 /// of memory changes nothing: what was sent before is taken back.
@@ -101,19 +102,4 @@ fn reply(terminals: &mut Outputs, output: EndedMessage) -> Result<(), Memory>
         Ok(_) => Ok(()),
         Err(_) => Err(Memory),
     }
-}
-
-/// The bytes that a message or a reply of these segments counts, or None where they pass the limit
-/// of all counts of bytes.
-pub fn bytes_of(segments: &Segments) -> Option<u64>
-    ensures { IfSome result (λ bytes. (bytes ≡ counted_bytes segments.now) × (bytes ≤ 2 ^ 60)) }
-{
-    let mut bytes: u64 = 48;
-    for segment in segments.iter() {
-        bytes = bytes.checked_add(segment.counted_length())?;
-    }
-    if bytes > BYTE_LIMIT {
-        return None;
-    }
-    Some(bytes)
 }

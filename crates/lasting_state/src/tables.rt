@@ -14,9 +14,9 @@ ghost use Rattle.lasting_state.specs.Showing.{IsShown};
 
 use crate::Shown;
 use crate::abend::abend_outputs;
-use crate::conversing::{KeptInput, begin, change_pad, discarded_pad};
+use crate::conversing::KeptInput;
 use crate::limits::COUNT_LIMIT;
-use crate::sending::{bytes_of, send_all};
+use crate::sending::send_all;
 use crate::terminals::note_input;
 use conversation::{Conversations, without_conversations};
 use first_state::fresh_states;
@@ -29,6 +29,7 @@ use program_rows::Databases;
 use std::alloc::Global;
 use std::collections::VecDeque;
 use std::marker::Model;
+use step_changes::{begin, bytes_of, change_pad, discarded_pad};
 use system_types::System;
 use tm_types::{AbendCode, Memory, Message, Name, Segments};
 

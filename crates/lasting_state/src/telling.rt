@@ -20,7 +20,6 @@ ghost use Rattle.lasting_state.specs.Telling.{AreBytesOf, IsLonger, IsRefused, T
 
 use crate::conversing::KeptInput;
 use crate::limits::COUNT_LIMIT;
-use crate::sending::bytes_of;
 use crate::tables::{Enqueued, Tables};
 use log_records::Untold;
 use model_conversation::PadChange;
@@ -31,6 +30,7 @@ use msg_queues::SLOT_ROOM;
 use out_queues::Outputs;
 use std::alloc::Global;
 use std::collections::VecDeque;
+use step_changes::bytes_of;
 use step_telling::{acknowledged_bytes, completion_bytes, discarding_bytes, input_bytes, tell};
 use tm_types::{AbendCode, Memory, Name};
 

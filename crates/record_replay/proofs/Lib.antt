@@ -6,7 +6,6 @@ pub mod Before
 pub mod Leaving
 pub mod Coming
 pub mod Units
-pub mod Abended
 pub mod Placed
 pub mod Stepped
 pub mod Talks

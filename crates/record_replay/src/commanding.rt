@@ -3,10 +3,10 @@ ghost use Rattle.std.specs.Prelude.{◌≡◌, ◌<◌, ◌^◌};
 ghost use Rattle.record_replay.specs.Steps.{commanded, step_commands};
 ghost use Rattle.record_replay.specs.Tallied.{ended_by};
 
-use crate::places::change_pad;
 use command_changes::{dequeue_all, dequeue_first, stop_code, stop_terminal};
 use image_records::Kept;
 use model_conversation::PadChange;
+use step_changes::change_pad;
 use tm_types::{LastingCommand, Name};
 
 /// Does a command.

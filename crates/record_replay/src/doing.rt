@@ -9,12 +9,12 @@ ghost use Rattle.record_replay.specs.Tallied.{Adds, Follows, Removes};
 ghost use Rattle.record_replay.specs.Steps.{with_added, with_replied, with_gone, does, does_all, replies, switches};
 
 use crate::judging::is_known;
-use crate::sizes::bytes_of;
 use crate::tally::Tally;
 use crate::waiting::UnitRecords;
 use image_records::Kept;
 use log_records::Record;
 use out_queues::Outputs;
+use step_changes::bytes_of;
 use system_types::System;
 use tm_types::{Memory, Message, Name, Segments};
 

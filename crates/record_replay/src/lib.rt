@@ -4,13 +4,11 @@
 pub use replaying::replay_record;
 pub use working::Working;
 
-mod abend;
 mod commanding;
 mod doing;
 mod judging;
 mod places;
 mod replaying;
-mod sizes;
 mod steps;
 mod tally;
 mod waiting;

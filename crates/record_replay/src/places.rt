@@ -5,14 +5,14 @@ ghost use Rattle.std.specs.Option.{is_some, option_copied, option_map_or};
 ghost use Rattle.std.specs.Str.{bytes_eq};
 ghost use Rattle.model_system.specs.Lists.{change_at};
 ghost use Rattle.model_machine.specs.Machine.{terminal_at, terminal_place};
-ghost use Rattle.model_machine.specs.Lasting.{with_last, with_begun, padded, discarded_pad};
+ghost use Rattle.model_machine.specs.Lasting.{with_last};
 ghost use Rattle.model_image.specs.Replay.{pad_size};
 ghost use Rattle.model_image.specs.States.{is_small};
 ghost use Rattle.record_replay.specs.Steps.{begins_with};
 
-use conversation::{Conversations, begun};
+use conversation::begun;
 use image_records::Kept;
-use model_conversation::{Conversation, PadChange};
+use model_conversation::Conversation;
 use model_machine::TerminalState;
 use std::alloc::Global;
 use system_types::System;
@@ -116,37 +116,5 @@ fn pad_size(system: &System, code: &Name) -> u16
     match system.code(code) {
         Some(found) => found.transaction.scratch_pad,
         None => 0,
-    }
-}
-
-/// A conversation begins at the terminal, if one does.
-pub fn begin(conversations: &mut Conversations, terminal: &Name, begins: Option<Conversation>)
-    ensures { conversations.new ≡ with_begun terminal.now begins conversations.old }
-{
-    match begins {
-        Some(conversation) => conversations.place(terminal, conversation),
-        None => {}
-    }
-}
-
-/// This becomes of the pad of the origin's conversation.
-pub fn change_pad(conversations: &mut Conversations, origin: &Name, change: PadChange)
-    ensures { conversations.new ≡ padded change origin.now conversations.old }
-{
-    match change {
-        PadChange::Stays => {}
-        PadChange::New(pad) => conversations.replace(origin, pad),
-        PadChange::Ends => conversations.end(origin),
-    }
-}
-
-/// What becomes of the pad where this message is discarded: its conversation ends, if it belongs to one.
-pub fn discarded_pad(message: &Message) -> PadChange
-    ensures { result ≡ discarded_pad message.now }
-{
-    if message.conversation {
-        PadChange::Ends
-    } else {
-        PadChange::Stays
     }
 }

@@ -12,10 +12,9 @@ ghost use Rattle.record_replay.specs.Judged.{AreSmall, Does, IsOrderly};
 ghost use Rattle.record_replay.specs.Tallied.{Discards, Follows, IsTold, Tells};
 ghost use Rattle.record_replay.specs.Steps.{step_accepts, step_acknowledges, step_discards, step_syncs, with_gone, with_told, with_pad_at, completed_by, first_completed, message_done};
 
-use crate::abend::abend_segments;
 use crate::doing::{add_message, add_reply, do_all, is_small_after, next_at};
 use crate::judging::is_known;
-use crate::places::{begin, begins_with, change_pad, discarded_pad, input_place, note_input};
+use crate::places::{begins_with, input_place, note_input};
 use crate::tally::Tally;
 use crate::waiting::UnitRecords;
 use image_records::Kept;
@@ -23,6 +22,7 @@ use log_records::Record;
 use model_conversation::{Conversation, PadChange};
 use out_queues::{Acked, Outputs};
 use std::alloc::Global;
+use step_changes::{abend_segments, begin, change_pad, discarded_pad};
 use system_types::System;
 use tm_types::{AbendCode, Memory, Message, Name, Segments};
 

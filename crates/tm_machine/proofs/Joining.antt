@@ -26,7 +26,7 @@ use Rattle.model_machine.specs.Machine.{terminal_place, fresh_terminal_state}
 use Rattle.model_machine.specs.Lasting.{KeptInput, code_word, conversing, input_message, kept_alone, kept_by, kept_by_code, kept_first, with_begun}
 use Rattle.model_machine.specs.Steps.{busy_by}
 use Rattle.model_machine.specs.Trial.{Given}
-use Rattle.lasting_state.proofs.Abended.{both, name_prints}
+use Rattle.step_changes.proofs.Abended.{both, name_prints}
 use Rattle.tm_machine.specs.Region.{given_in}
 use Rattle.tm_machine.specs.Parts.{AreApart, AreConversations, IsConversation, IsOfConversation}
 use Rattle.tm_machine.proofs.Conversing.{all_both, all_map, all_append, all_with, alone_append, belongs_still, found_holds, names_stay, no_both, other_terminal, own_terminal}

@@ -29,8 +29,9 @@ fn abend_text(alloc: Global, code: &Name, abend: AbendCode) -> Result<Bytes, Mem
     Ok(text)
 }
 
+/// The segment of a text that is one.
 #[tactic(auto, using(crate::proofs::Abended::no_bad_byte))]
-fn segment_of(alloc: Global, text: &[u8]) -> Result<Segment, Memory>
+pub fn segment_of(alloc: Global, text: &[u8]) -> Result<Segment, Memory>
     requires { IsSegmentText text.now }
     ensures { IfOk result (λ segment. segment ≡ text.now) }
 {

@@ -1,7 +1,7 @@
 use Rattle.std.proofs.Common.{sym, subst}
 use Rattle.tm_types.specs.Segment.{IsSegmentText}
-use Rattle.record_replay.proofs.Abended.{text_is}
-use Rattle.record_replay.proofs.abend.abend_segments.Goals as goal
+use Rattle.step_changes.proofs.Abended.{text_is}
+use Rattle.step_changes.proofs.abend.abend_segments.Goals as goal
 
 pub segment_of-requires : goal.segment_of-requires
 segment_of-requires c =
