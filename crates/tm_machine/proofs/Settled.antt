@@ -1,5 +1,5 @@
--- Parts whose changed slots are written.
-use Rattle.std.proofs.Common.{◌≡◌, ℕ, ◌+◌, suc, List, Option, Some, None}
+-- Parts whose slots count as changed or not.
+use Rattle.std.proofs.Common.{◌≡◌, ℕ, ◌+◌, suc, List, [], Option, Some, None, map}
 use Rattle.std.specs.List.{slice_get}
 use Rattle.model_conversation.specs.declared.conversation.TerminalConversation.{TerminalConversation}
 use Rattle.model_queues.specs.declared.queued.Queued.{Queued}
@@ -9,17 +9,18 @@ use Rattle.model_system.specs.Jobs.{Job}
 use Rattle.model_machine.specs.Trial.{Given}
 use Rattle.message_run.specs.RunState.{RunState}
 use Rattle.message_run.specs.Ahead.{IsAhead}
-use Rattle.program_rows.specs.State.{DatabasesState, IsClean, settled}
+use Rattle.program_rows.specs.State.{DatabasesState, IsClean, settled, with_marks}
 use Rattle.lasting_state.specs.Tables.{TablesState}
 use Rattle.tm_machine.specs.declared.region.Busy.{Busy}
 use Rattle.tm_machine.specs.Region.{IsUnit, IsWork, given_in}
 use Rattle.tm_machine.specs.Parts.{AreParts, AreAtWork, AreIdle, IsAtWork}
 
-clean_settled : (region : ℕ) (d : DatabasesState) → IsClean region d → IsClean region (settled d)
-clean_settled region d clean = record { sees = clean.sees; changed = clean.changed }
+clean_marked : (changed : List (List ℕ)) (region : ℕ) (d : DatabasesState) → IsClean region d → IsClean region (with_marks changed d)
+clean_marked changed region d clean = record { sees = clean.sees; changed = clean.changed }
 
-ahead_settled : (job : Job) (given : Given) (region : ℕ) (d : DatabasesState) (run : RunState) → IsAhead job given region d run → IsAhead job given region (settled d) run
-ahead_settled job given region d run a = record {
+ahead_marked : (changed : List (List ℕ)) (job : Job) (given : Given) (region : ℕ) (d : DatabasesState) (run : RunState) → IsAhead job given region d run
+    → IsAhead job given region (with_marks changed d) run
+ahead_marked changed job given region d run a = record {
   trial = a.trial;
   made = a.made;
   limit = a.limit;
@@ -32,26 +33,29 @@ ahead_settled job given region d run a = record {
   standing = a.standing;
 }
 
-unit_settled : (job : Job) (given : Given) (region : ℕ) (d : DatabasesState) (unit : Option RunState) → IsUnit job given region d unit → IsUnit job given region (settled d) unit
-unit_settled job given region d None clean = clean_settled region d clean
-unit_settled job given region d (Some run) ahead = ahead_settled job given region d run ahead
+unit_marked : (changed : List (List ℕ)) (job : Job) (given : Given) (region : ℕ) (d : DatabasesState) (unit : Option RunState) → IsUnit job given region d unit
+    → IsUnit job given region (with_marks changed d) unit
+unit_marked changed job given region d None clean = clean_marked changed region d clean
+unit_marked changed job given region d (Some run) ahead = ahead_marked changed job given region d run ahead
 
-at_work_settled : (system : System) (d : DatabasesState) (conversations : List TerminalConversation) (queued : List Queued) (regions : List (Option Busy))
-    → AreAtWork system d conversations queued regions → AreAtWork system (settled d) conversations queued regions
-at_work_settled system d conversations queued regions at place busy e =
+at_work_marked : (changed : List (List ℕ)) (system : System) (d : DatabasesState) (conversations : List TerminalConversation) (queued : List Queued) (regions : List (Option Busy))
+    → AreAtWork system d conversations queued regions → AreAtWork system (with_marks changed d) conversations queued regions
+at_work_marked changed system d conversations queued regions at place busy e =
     let a = at place busy e in
     record {
       message = a.message;
       found = a.found;
-      work = record { job = a.work.job; serves = a.work.serves; unit = unit_settled a.work.job (given_in conversations a.message) (place + 1) d busy.unit a.work.unit };
+      work =
+          record { job = a.work.job; serves = a.work.serves; unit = unit_marked changed a.work.job (given_in conversations a.message) (place + 1) d busy.unit a.work.unit };
     }
 
-idle_settled : (d : DatabasesState) (regions : List (Option Busy)) → AreIdle d regions → AreIdle (settled d) regions
-idle_settled d regions idle place e = let i = idle place e in record { clean = clean_settled (place + 1) d i.clean; waits = i.waits }
+idle_marked : (changed : List (List ℕ)) (d : DatabasesState) (regions : List (Option Busy)) → AreIdle d regions → AreIdle (with_marks changed d) regions
+idle_marked changed d regions idle place e = let i = idle place e in record { clean = clean_marked changed (place + 1) d i.clean; waits = i.waits }
 
-pub parts_settled : (system : System) (tables : TablesState) (states : List CodeState) (regions : List (Option Busy)) → AreParts system tables states regions
-    → AreParts system (record tables { databases = settled tables.databases }) states regions
-parts_settled system tables states regions p = record {
+-- what counts as changed is nothing to the parts
+pub parts_marked : (changed : List (List ℕ)) (system : System) (tables : TablesState) (states : List CodeState) (regions : List (Option Busy)) → AreParts system tables states regions
+    → AreParts system (record tables { databases = with_marks changed tables.databases }) states regions
+parts_marked changed system tables states regions p = record {
   valid = p.valid;
   limit = p.limit;
   names = p.names;
@@ -59,8 +63,12 @@ parts_settled system tables states regions p = record {
   states_are = p.states_are;
   settled = p.settled;
   told = p.told;
-  at_work = at_work_settled system tables.databases tables.conversations tables.queues.queued regions p.at_work;
+  at_work = at_work_marked changed system tables.databases tables.conversations tables.queues.queued regions p.at_work;
   conversations = record { names = p.conversations.names; pads = p.conversations.pads; belong = p.conversations.belong; alone = p.conversations.alone };
   databases = record { stores = p.databases.stores; rows = p.databases.rows; regions = p.databases.regions; table = p.databases.table };
-  idle = idle_settled tables.databases regions p.idle;
+  idle = idle_marked changed tables.databases regions p.idle;
 }
+
+pub parts_settled : (system : System) (tables : TablesState) (states : List CodeState) (regions : List (Option Busy)) → AreParts system tables states regions
+    → AreParts system (record tables { databases = settled tables.databases }) states regions
+parts_settled system tables states regions p = parts_marked (map (λ (numbers : List ℕ). []) tables.databases.changed) system tables states regions p

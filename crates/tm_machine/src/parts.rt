@@ -2,7 +2,8 @@
 ghost use Rattle.std.specs.Prelude.{◌≡◌, None, replicate, IfErr, IfOk};
 ghost use Rattle.model_machine.specs.Machine.{empty_state, start_of, IsRegion};
 ghost use Rattle.program_rows.specs.OnSlots.{all_stores, touched_in};
-ghost use Rattle.program_rows.specs.State.{settled};
+ghost use Rattle.program_rows.specs.Making.{AreThere};
+ghost use Rattle.program_rows.specs.State.{settled, with_marks};
 ghost use Rattle.tm_machine.specs.OnSlots.{slots_now, HasSlots};
 
 use crate::region::Busy;
@@ -100,6 +101,15 @@ impl Parts {
         ensures { self.new ≡ record self.old { databases = settled self.old.databases } }
     {
         self.tables.databases_mut().settle();
+    }
+
+    /// The stores are these, which have the same slots; what counts as changed among them is told by them. This takes no memory.
+    pub fn put_stores(&mut self, stores: Stores)
+        requires same { stores.stores ≡ self.old.databases.stores }
+        requires there { AreThere stores }
+        ensures { self.new ≡ record self.old { databases = with_marks stores.changed self.old.databases } }
+    {
+        self.tables.databases_mut().put_stores(stores);
     }
 }
 
