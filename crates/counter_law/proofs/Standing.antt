@@ -12,7 +12,7 @@ use Rattle.model_session.specs.Lives.{LastLife, Leaves, ends_life, moment_of, wi
 use Rattle.model_session.specs.Standing.{IsLeft, MayBeFound, MayHold, Outage, SessionState, Setting, Standing, called_on, last_life, no_life, unbegun}
 use Rattle.model_session.specs.Standing.Standing.{Up, Down}
 use Rattle.model_session.specs.Session.{AreServed, Begins, FailsToOpen, IsBegun, IsBegunBy, IsRestarted, IsServedDown, IsServedUp, MayOpen, Opens, ServedBy}
-use Rattle.counter_law.specs.Counts.{LastsUpTo, OpensUpTo, StandsUpTo, most_raised}
+use Rattle.counter_law.specs.Counts.{LastsUpTo, OpensUpTo, LivesUpTo, most_raised}
 use Rattle.counter_law.specs.Measures.{last_measure, lives_measure, measure}
 use Rattle.counter_law.proofs.Lasting.{empty_lasts, lasts_higher}
 use Rattle.counter_law.proofs.Entries.{entries_last}
@@ -46,7 +46,7 @@ module _ (setting : Setting) (valid : IsSystem setting.system) where
       subst (LastsUpTo (high + most_raised * last_measure outage.last)) (sym empty.1) (empty_lasts setting.system (high + most_raised * last_measure outage.last) (omega (arith, some)))
 
   -- Whatever the disk holds of a session counts up to what the disk handed in had, and 32 more for each opening, entry and stop.
-  pub held_lasts : (high : ℕ) → 1 ≤ high → (state : SessionState) → StandsUpTo setting high state → (held : LastingState) → MayHold setting state.standing held → LastsUpTo (high + most_raised * measure state) held
+  pub held_lasts : (high : ℕ) → 1 ≤ high → (state : SessionState) → LivesUpTo setting high state → (held : LastingState) → MayHold setting state.standing held → LastsUpTo (high + most_raised * measure state) held
   held_lasts high some state h held may = by state.standing refl h may where
     bound : ℕ
     bound = high + most_raised * lives_measure state.lives
@@ -73,44 +73,44 @@ module _ (setting : Setting) (valid : IsSystem setting.system) where
     opening_lasts true bound one outage kept state may h =
         subst (LastsUpTo (bound + most_raised * last_measure outage.last)) (sym may.0) (empty_lasts setting.system (bound + most_raised * last_measure outage.last) (omega (arith, one)))
 
-    same_stands : (old new : SessionState) (standing : Standing) → old.standing ≡ standing → new ≡ old → At old standing → StandsUpTo setting high new
-    same_stands old new standing stands e h = subst (StandsUpTo setting high) (sym e) (subst (At old) (sym stands) h)
+    same_stands : (old new : SessionState) (standing : Standing) → old.standing ≡ standing → new ≡ old → At old standing → LivesUpTo setting high new
+    same_stands old new standing stands e h = subst (LivesUpTo setting high) (sym e) (subst (At old) (sym stands) h)
 
-    called_stands : (b : Bool) (old : SessionState) (life : LastLife) (entries : List Entry) → At old (Up life) → StandsUpTo setting high (called_on b old life entries)
+    called_stands : (b : Bool) (old : SessionState) (life : LastLife) (entries : List Entry) → At old (Up life) → LivesUpTo setting high (called_on b old life entries)
     called_stands true old life entries h = h
     called_stands false old life entries h = h
 
-    opens_stands : (cold : Bool) (old new : SessionState) (outage : Outage) → Opens cold setting old outage new → At old (Down outage) → StandsUpTo setting high new
+    opens_stands : (cold : Bool) (old new : SessionState) (outage : Outage) → Opens cold setting old outage new → At old (Down outage) → LivesUpTo setting high new
     opens_stands cold old new outage opens h =
         let bound = high + most_raised * lives_measure old.lives in
-        subst (StandsUpTo setting high) (sym opens.goes)
+        subst (LivesUpTo setting high) (sym opens.goes)
         (lasts_higher (bound + most_raised * last_measure outage.last) (high + most_raised * lives_measure (with_life old.lives outage.last opens.kept)) opens.state
         (omega (arith, lives_behind old.lives outage.last opens.kept))
         (opening_lasts cold bound (omega (arith, some)) outage opens.kept opens.state (opens.may tells) h))
 
-    fails_stands : (cold : Bool) (old new : SessionState) (outage : Outage) → FailsToOpen cold old outage new → At old (Down outage) → StandsUpTo setting high new
-    fails_stands cold old new outage fails h = subst (StandsUpTo setting high) (sym fails.ends) h
+    fails_stands : (cold : Bool) (old new : SessionState) (outage : Outage) → FailsToOpen cold old outage new → At old (Down outage) → LivesUpTo setting high new
+    fails_stands cold old new outage fails h = subst (LivesUpTo setting high) (sym fails.ends) h
 
     module _ (old new : SessionState) (text : List ℕ) where
-      up_stands : (asked : Asked) (life : LastLife) → old.standing ≡ Up life → IsServedUp asked setting old life new text → At old (Up life) → StandsUpTo setting high new
+      up_stands : (asked : Asked) (life : LastLife) → old.standing ≡ Up life → IsServedUp asked setting old life new text → At old (Up life) → LivesUpTo setting high new
       up_stands (Bad rule) life stands h at = same_stands old new (Up life) stands h.0 at
       up_stands (BadCommand rule) life stands h at = same_stands old new (Up life) stands h.0 at
       up_stands (Stopped terminal number reason) life stands h at = same_stands old new (Up life) stands h.0 at
-      up_stands (Call call) life stands (inl h) at = subst (StandsUpTo setting high) (sym h.goes) (called_stands (ends_life h.entry) old life (h.entry ∷ []) at)
-      up_stands (Call call) life stands (inr h) at = subst (StandsUpTo setting high) (sym h.ends) at
-      up_stands (Quiet most) life stands (inl h) at = subst (StandsUpTo setting high) (sym h.goes) at
-      up_stands (Quiet most) life stands (inr h) at = subst (StandsUpTo setting high) (sym h.ends) at
-      up_stands (Power pick) life stands h at = subst (StandsUpTo setting high) (sym h.0) at
+      up_stands (Call call) life stands (inl h) at = subst (LivesUpTo setting high) (sym h.goes) (called_stands (ends_life h.entry) old life (h.entry ∷ []) at)
+      up_stands (Call call) life stands (inr h) at = subst (LivesUpTo setting high) (sym h.ends) at
+      up_stands (Quiet most) life stands (inl h) at = subst (LivesUpTo setting high) (sym h.goes) at
+      up_stands (Quiet most) life stands (inr h) at = subst (LivesUpTo setting high) (sym h.ends) at
+      up_stands (Power pick) life stands h at = subst (LivesUpTo setting high) (sym h.0) at
       up_stands (PowerIn writes pick) life stands h at = same_stands old new (Up life) stands h.0 at
       up_stands Restart life stands h at = same_stands old new (Up life) stands h.0 at
       up_stands ColdStart life stands h at = same_stands old new (Up life) stands h.0 at
 
-      restart_stands : (cold : Bool) (outage : Outage) → old.standing ≡ Down outage → IsRestarted cold setting old outage new text → At old (Down outage) → StandsUpTo setting high new
+      restart_stands : (cold : Bool) (outage : Outage) → old.standing ≡ Down outage → IsRestarted cold setting old outage new text → At old (Down outage) → LivesUpTo setting high new
       restart_stands cold outage stands (inl h) at = opens_stands cold old new outage h.0 at
       restart_stands cold outage stands (inr (inl h)) at = fails_stands cold old new outage h.0 at
       restart_stands cold outage stands (inr (inr h)) at = same_stands old new (Down outage) stands h.stays at
 
-      down_stands : (asked : Asked) (outage : Outage) → old.standing ≡ Down outage → IsServedDown asked setting old outage new text → At old (Down outage) → StandsUpTo setting high new
+      down_stands : (asked : Asked) (outage : Outage) → old.standing ≡ Down outage → IsServedDown asked setting old outage new text → At old (Down outage) → LivesUpTo setting high new
       down_stands (Bad rule) outage stands h at = same_stands old new (Down outage) stands h.0 at
       down_stands (BadCommand rule) outage stands h at = same_stands old new (Down outage) stands h.0 at
       down_stands (Stopped terminal number reason) outage stands h at = same_stands old new (Down outage) stands h.0 at
@@ -121,28 +121,28 @@ module _ (setting : Setting) (valid : IsSystem setting.system) where
       down_stands Restart outage stands h at = restart_stands false outage stands h at
       down_stands ColdStart outage stands h at = restart_stands true outage stands h at
 
-      by_standing : (standing : Standing) (asked : Asked) → old.standing ≡ standing → ServedBy standing asked setting old new text → At old standing → StandsUpTo setting high new
+      by_standing : (standing : Standing) (asked : Asked) → old.standing ≡ standing → ServedBy standing asked setting old new text → At old standing → LivesUpTo setting high new
       by_standing (Up life) asked stands h at = up_stands asked life stands h at
       by_standing (Down outage) asked stands h at = down_stands asked outage stands h at
 
       -- A block keeps the bound.
-      pub served_stands : (asked : Asked) → ServedBy old.standing asked setting old new text → StandsUpTo setting high old → StandsUpTo setting high new
+      pub served_stands : (asked : Asked) → ServedBy old.standing asked setting old new text → LivesUpTo setting high old → LivesUpTo setting high new
       served_stands asked h at = by_standing old.standing asked refl h at
 
-    pub blocks_stand : (blocks : List Block) (old new : SessionState) (text : List ℕ) → AreServed setting blocks old new text → StandsUpTo setting high old → StandsUpTo setting high new
-    blocks_stand [] old new text h at = subst (StandsUpTo setting high) (sym h.0) at
+    pub blocks_stand : (blocks : List Block) (old new : SessionState) (text : List ℕ) → AreServed setting blocks old new text → LivesUpTo setting high old → LivesUpTo setting high new
+    blocks_stand [] old new text h at = subst (LivesUpTo setting high) (sym h.0) at
     blocks_stand (block ∷ blocks) old new text h at =
         blocks_stand blocks h.mid new h.later h.on (served_stands old h.mid h.first (asked_of setting.system block) h.here at)
 
     -- It holds once the disk has been opened that was handed in, where that counts up to the bound.
-    pub begun_stands : (first : SessionState) → Begins setting first → ((state : LastingState) → setting.begins state → LastsUpTo high state) → StandsUpTo setting high first
+    pub begun_stands : (first : SessionState) → Begins setting first → ((state : LastingState) → setting.begins state → LastsUpTo high state) → LivesUpTo setting high first
     begun_stands first (inl h) handed = opens_stands false unbegun first no_life h (λ state begins. lasts_higher high (high + most_raised * 0) state (omega arith) (handed state begins))
     begun_stands first (inr h) handed = fails_stands false unbegun first no_life h (λ state begins. lasts_higher high (high + most_raised * 0) state (omega arith) (handed state begins))
 
     -- and so do the turns of a QUIET that broke off
-    turned_stands : (asked : Asked) (old new : SessionState) (standing : Standing) → old.standing ≡ standing → IsBegunBy asked setting.system old standing new → At old standing → StandsUpTo setting high new
+    turned_stands : (asked : Asked) (old new : SessionState) (standing : Standing) → old.standing ≡ standing → IsBegunBy asked setting.system old standing new → At old standing → LivesUpTo setting high new
     turned_stands (Quiet most) old new (Up life) stands (inl e) at = same_stands old new (Up life) stands e at
-    turned_stands (Quiet most) old new (Up life) stands (inr h) at = subst (StandsUpTo setting high) (sym h.goes) at
+    turned_stands (Quiet most) old new (Up life) stands (inr h) at = subst (LivesUpTo setting high) (sym h.goes) at
     turned_stands (Quiet most) old new (Down outage) stands e at = same_stands old new (Down outage) stands e at
     turned_stands (Bad rule) old new standing stands e at = same_stands old new standing stands e at
     turned_stands (BadCommand rule) old new standing stands e at = same_stands old new standing stands e at
@@ -153,6 +153,6 @@ module _ (setting : Setting) (valid : IsSystem setting.system) where
     turned_stands Restart old new standing stands e at = same_stands old new standing stands e at
     turned_stands ColdStart old new standing stands e at = same_stands old new standing stands e at
 
-    pub turns_stand : (blocks : List Block) (old new : SessionState) → IsBegun setting.system blocks old new → StandsUpTo setting high old → StandsUpTo setting high new
-    turns_stand [] old new e at = subst (StandsUpTo setting high) (sym e) at
+    pub turns_stand : (blocks : List Block) (old new : SessionState) → IsBegun setting.system blocks old new → LivesUpTo setting high old → LivesUpTo setting high new
+    turns_stand [] old new e at = subst (LivesUpTo setting high) (sym e) at
     turns_stand (block ∷ blocks) old new h at = turned_stands (asked_of setting.system block) old new old.standing refl h at

@@ -27,5 +27,5 @@ OpensUpTo setting high None = (state : LastingState) → setting.begins state �
 OpensUpTo setting high (Some life) = LastsUpTo high life.opening
 
 -- Each life behind the first opened with what the lives before it left, so the bound rises with what these have done.
-abbrev pub StandsUpTo : Setting → ℕ → SessionState → Type 0
-StandsUpTo setting high state = OpensUpTo setting (high + most_raised * lives_measure state.lives) (last_life state.standing)
+abbrev pub LivesUpTo : Setting → ℕ → SessionState → Type 0
+LivesUpTo setting high state = OpensUpTo setting (high + most_raised * lives_measure state.lives) (last_life state.standing)
