@@ -10,9 +10,11 @@ use Rattle.model_machine.specs.Machine.{LastingState}
 use Rattle.system_types.specs.Valid.{IsSystem}
 use Rattle.model_system.specs.System.{System}
 use Rattle.model_session.specs.Blocks.{Block}
-use Rattle.model_session.specs.Lives.{LifeState}
-use Rattle.model_session.specs.Standing.{AreAllLives, MayHold, SessionState, Setting, last_life}
+use Rattle.model_session.specs.Lives.{LifeState, now_in}
+use Rattle.model_session.specs.Standing.{AreAllLives, MayHold, SessionState, Setting, Standing, last_life}
+use Rattle.model_session.specs.Standing.Standing.{Up, Down}
 use Rattle.model_session.specs.Session.{AreServed, Begins, IsBegun}
+use Rattle.counter_law.specs.Spent.{HasSpent, IsSpentAt, SpentBy}
 use Rattle.counter_law.specs.Counts.{LastsUpTo, LivesUpTo, RepliesUpTo, most_raised}
 use Rattle.counter_law.specs.Measures.{call_raises, limit, lives_measure, measure, most_measure, near_limit}
 use Rattle.counter_law.proofs.Lasting.{lasts_higher}
@@ -70,3 +72,22 @@ near_where_spent setting valid tells high some handed blocks others first mid la
     let lasts = session_lasts setting valid tells high some handed blocks others first mid last text begins served behind held may in
     let far = spent_above (high + call_raises * measure last) epoch sequence checkpoint unit held counter e s c u lasts spent in
     was_near high (measure last) (session_rises setting blocks others first mid last text few begins served behind) (omega (arith, far))
+
+-- ---- at a session's end
+
+-- A session over a disk that tells its contents is told that a counter is spent only where the image handed in was near that.
+pub near_at_end : (setting : Setting) → IsSystem setting.system → setting.tells ≡ true → (counts : ℕ → Type 0) (high : ℕ) → 1 ≤ high → counts high → ((state : LastingState) → setting.begins state → LastsUpTo high state)
+    → (blocks others : List Block) (first mid last : SessionState) (text : List ℕ) → length blocks ≤ 1000000 → Begins setting first → AreServed setting blocks first mid text → (last ≡ mid) ⊎ IsBegun setting.system others mid last
+    → IsSpentAt counts setting last → near_limit ≤ high
+near_at_end setting valid tells counts high some counted handed blocks others first mid last text few begins served behind spent = by last.standing refl spent where
+  of_held : (held : LastingState) → MayHold setting last.standing held → HasSpent counts (measure last) held → near_limit ≤ high
+  of_held held may is =
+      let own = is.own high counted in
+      near_where_spent setting valid tells high some handed blocks others first mid last text few begins served behind held may is.epoch is.sequence is.checkpoint is.unit is.counter
+      own.epoch_low own.sequence_low own.checkpoint_low own.unit_low is.spent
+
+  by : (standing : Standing) → last.standing ≡ standing → SpentBy standing counts (measure last) setting → near_limit ≤ high
+  by (Up life) stands is = of_held (now_in setting.system life).lasting (subst (λ s. MayHold setting s (now_in setting.system life).lasting) (sym stands) refl) is
+  by (Down outage) stands is =
+      let finds = is tells in
+      of_held finds.state (subst (λ s. MayHold setting s finds.state) (sym stands) (finds.kept, finds.found)) finds.spent

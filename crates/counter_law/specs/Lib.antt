@@ -1,2 +1,3 @@
 pub mod Counts
 pub mod Measures
+pub mod Spent
