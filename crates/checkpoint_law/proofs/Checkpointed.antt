@@ -93,7 +93,7 @@ module _ (bytes : List ℕ) (stores : AllStores) (touches : Touches) (told : Lis
         subst (λ (s : List Record). IsSome (named_by s (cut_of (log_of life.log a ++ life.log.appended)).records (place + 1) number)) (one_value k.snapshot snapshot (sym k.has_snapshot ∙ read))
         (subst (λ (rs : List Record). IsSome (named_by k.snapshot rs (place + 1) number)) (sym same_records) (k.named place number of_.dbd of_.found of_.below changed))
 
-    stands : Stands parts life.log stores a
+    pub stands : Stands parts life.log stores a
     stands = record { now = k.restart; free = free; over = over; room = l.appended.fits; of_ = may.slots.are_of; fits = may.fits; named = changed_named }
 
     -- Whatever the image recovers to, one with a front of what was appended does.
@@ -172,14 +172,14 @@ module _ (bytes : List ℕ) (stores : AllStores) (touches : Touches) (told : Lis
             subst (λ (sector : List ℕ). HoldsBytes (life.present (place + 1) number) sector) (sym (unchanged_stays place number (record { dbd = dbd; found = found; below = below }) is))
             (k.written place number dbd found below (may.slots.changed place number dbd found below ∙ is))
 
-      has_snapshot : snapshot_from life.system e now_after ≡ Ok told
+      pub has_snapshot : snapshot_from life.system e now_after ≡ Ok told
       has_snapshot =
           let first : ℕ = snapshot_first life.system now_after.snapshot in
           ap (λ (read : Result (List ℕ) Fault). read >>= λ b. or_fault (10, first) (records_of b) >>= λ found. unless_any first (snapshot_rules life.system found) found) done.snapshot
           ∙ ap (λ (found : Option (List Record)). or_fault (10, first) found >>= λ found. unless_any first (snapshot_rules life.system found) found) may.is_snapshot.cut
           ∙ ap (λ (broken : Option ℕ). in_sector first (unless_broken broken told)) may.is_snapshot.unbroken
 
-      none_ahead_after : NoneAhead life.system e life.now.epoch (sequence_behind life.log)
+      pub none_ahead_after : NoneAhead life.system e life.now.epoch (sequence_behind life.log)
       none_ahead_after = next_ahead parts life.log stores a stands e done ahead_behind
 
       slots_after : Rattle.slot_law.specs.Committed.AreCommitted told [] life.may_sync touches life.committed

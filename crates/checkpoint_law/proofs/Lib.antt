@@ -3,3 +3,4 @@ pub mod Anew
 pub mod Checkpointed
 pub mod Opened
 pub mod OnDisk
+pub mod Counting

@@ -1,2 +1,3 @@
 pub mod Checkpointing
 pub mod Opening
+pub mod Counted

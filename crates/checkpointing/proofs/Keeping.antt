@@ -89,7 +89,7 @@ module _ (parts : CheckpointParts) (log : Writer) (stores : AllStores) (a : Imag
         high = omega (arith, in_.high, s.free.snapshot_at, s.free.snapshot_sectors);
       }
 
-      unread_images : ImagesAlike parts.system b e
+      pub unread_images : ImagesAlike parts.system b e
       unread_images =
           unread_alike parts.system parts.now b e forced_restart (λ k.
           ⊎_elim (λ same. inl same)
@@ -97,7 +97,7 @@ module _ (parts : CheckpointParts) (log : Writer) (stores : AllStores) (a : Imag
           (unread.each k))
 
   -- all of it is a front
-  all_front : (b : Image) → AddsAll log a b → AddsFront log a b
+  pub all_front : (b : Image) → AddsAll log a b → AddsFront log a b
   all_front b all = record {
     changes = all.changes;
     each = all.each;

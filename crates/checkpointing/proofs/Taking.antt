@@ -97,6 +97,13 @@ module _ (parts : CheckpointParts) (log : Writer) (stores : AllStores) (old : Di
       within_where (Takes parts log stores) (KeepsText parts.system) old new takes_text
       (within_then (Prepares parts log stores) (WritesSnapshot parts log stores) (MayWrite 0 (restart_sector (next_restart parts log))) (Takes parts log stores) old mid new (λ a c prepares. inl prepares) restart_takes before saved may)
 
+  pub prepared_steps : (new : DiskState) → Within (Prepares parts log stores) old new → Within (Takes parts log stores) old new
+  prepared_steps new within = within_where (Prepares parts log stores) (Takes parts log stores) old new (λ a e left prepares. inl prepares) within
+
+  pub taken_steps : (mid new : DiskState) → Within (Prepares parts log stores) old mid → Follows (WritesSnapshot parts log stores) old mid → Within (MayWrite 0 (restart_sector (next_restart parts log))) mid new → Within (Takes parts log stores) old new
+  taken_steps mid new before saved may =
+      within_then (Prepares parts log stores) (WritesSnapshot parts log stores) (MayWrite 0 (restart_sector (next_restart parts log))) (Takes parts log stores) old mid new (λ a c prepares. inl prepares) restart_takes before saved may
+
   pub prepared_within : (new : DiskState) → Within (Prepares parts log stores) old new → Within (KeepsRecovery parts.system) old new
   prepared_within new within = within_where (Prepares parts log stores) (KeepsRecovery parts.system) old new prepares_recover within
 

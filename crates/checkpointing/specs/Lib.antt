@@ -4,3 +4,4 @@ pub mod Checkpoint
 pub mod Conditions
 pub mod Steps
 pub mod Texts
+pub mod Counts

@@ -10,6 +10,7 @@ ghost use Rattle.checkpointing.specs.Parts.{parts_of, other_area, restart_behind
 ghost use Rattle.checkpointing.specs.Written.{AreOf};
 ghost use Rattle.checkpointing.specs.Checkpoint.{KeepsRecovery, IsCheckpointed};
 ghost use Rattle.checkpointing.specs.Texts.{KeepsText};
+ghost use Rattle.checkpointing.specs.Steps.{Takes};
 ghost use Rattle.checkpointing.specs.Conditions.{HasRestart, NoneIsAhead, ChangedAreNamed, ForceKeeps, SnapshotKeeps};
 
 use crate::steps::prepare;
@@ -85,6 +86,8 @@ pub fn take<D: Disk>(
     ensures any_moment { Within (KeepsRecovery parts.entry.now.system.now) (D.state disk.old) (D.state disk.new) }
     // It is of the same text.
     ensures texts { Within (KeepsText parts.entry.now.system.now) (D.state disk.old) (D.state disk.new) }
+    // It is the one before with a front of the steps done.
+    ensures steps { Within (Takes (parts_of parts.entry.now) log.old stores.now) (D.state disk.old) (D.state disk.new) }
     // Then each image is that of the checkpoint, and no other is left.
     ensures answer { IfOk result (λ restart. restart ≡ next_restart (parts_of parts.entry.now) log.old) }
     ensures done { OnOk result (Follows (IsCheckpointed (parts_of parts.entry.now) log.old stores.now) (D.state disk.old) (D.state disk.new)) }

@@ -9,6 +9,7 @@ ghost use Rattle.checkpointing.specs.Parts.{parts_of, sequence_behind, next_rest
 ghost use Rattle.checkpointing.specs.Written.{AreOf};
 ghost use Rattle.checkpointing.specs.Checkpoint.{KeepsRecovery, IsCheckpointed};
 ghost use Rattle.checkpointing.specs.Texts.{KeepsText};
+ghost use Rattle.checkpointing.specs.Steps.{Takes};
 ghost use Rattle.checkpointing.specs.Conditions.{HasRestart, NoneIsAhead, ChangedAreNamed, ForceKeeps, SnapshotKeeps};
 ghost use Rattle.log_writer.specs.Log.{sectors_of, IsReady, AddsFront, AddsAll};
 ghost use Rattle.disk_law.specs.Life.{LifeOnDisk};
@@ -185,6 +186,7 @@ impl Journal {
         ensures stays { Stays (D.state disk.old) (D.state disk.new) }
         ensures any_moment { Within (KeepsRecovery system.entry.now) (D.state disk.old) (D.state disk.new) }
         ensures texts { Within (KeepsText system.entry.now) (D.state disk.old) (D.state disk.new) }
+        ensures steps { Within (Takes (parts_for system.entry.now self.old.restart snapshot.entry.now) self.old.log stores.now) (D.state disk.old) (D.state disk.new) }
         ensures done { OnOk result (Follows (IsCheckpointed (parts_for system.entry.now self.old.restart snapshot.entry.now) self.old.log stores.now) (D.state disk.old) (D.state disk.new)) }
         // Each image is one of the life behind the checkpoint.
         ensures kept { OnOk result ((life : LifeOnDisk) → (touches : Touches) → (told : List Record) → IsOf system.entry.now self.old stores.now snapshot.entry.now touches told (D.state disk.old) life → AreKept (after_checkpoint snapshot.entry.now touches life) (D.state disk.new)) }
@@ -236,6 +238,7 @@ impl Journal {
         ensures stays { Stays (D.state disk.old) (D.state disk.new) }
         ensures any_moment { Within (KeepsRecovery parts.entry.now.system.now) (D.state disk.old) (D.state disk.new) }
         ensures texts { Within (KeepsText parts.entry.now.system.now) (D.state disk.old) (D.state disk.new) }
+        ensures steps { Within (Takes (parts_of parts.entry.now) self.old.log stores.now) (D.state disk.old) (D.state disk.new) }
         ensures done { OnOk result (Follows (IsCheckpointed (parts_of parts.entry.now) self.old.log stores.now) (D.state disk.old) (D.state disk.new)) }
         ensures restart { OnOk result (self.new.restart ≡ next_restart (parts_of parts.entry.now) self.old.log) }
         ensures log { OnOk result (self.new.log ≡ next_writer (parts_of parts.entry.now) self.old.log) }

@@ -4,6 +4,9 @@ ghost use Rattle.model_disk.specs.Disk.{Stays, Within, Only, FailedSince};
 ghost use Rattle.checkpointing.specs.Checkpoint.{KeepsRecovery};
 ghost use Rattle.checkpointing.specs.Parts.{sequence_behind, next_restart, next_writer};
 ghost use Rattle.checkpointing.specs.Texts.{KeepsText};
+ghost use Rattle.checkpointing.specs.Counts.{CountsUpTo};
+ghost use Rattle.checkpointing.specs.Steps.{Takes};
+ghost use Rattle.checkpoint_law.specs.Counted.{StandsUpTo};
 ghost use Rattle.journal.specs.Checkpoints.{CanCheckpoint, parts_for};
 ghost use Rattle.program_rows.specs.OnSlots.{all_stores};
 ghost use Rattle.tm_machine.specs.OnSlots.{slots_now};
@@ -36,6 +39,9 @@ pub fn checkpoint<D: Disk>(
     ensures stays { Stays (D.state disk.old) (D.state disk.new) }
     ensures any_moment { Within (KeepsRecovery parts.old.system) (D.state disk.old) (D.state disk.new) }
     ensures texts { Within (KeepsText parts.old.system) (D.state disk.old) (D.state disk.new) }
+    // Where its own counters stand up to a bound, each image counts further by the sectors of a log area at most, and so do they.
+    ensures counts { (high : ℕ) → StandsUpTo high journal.old next_unit → Within (λ before after. CountsUpTo parts.old.system (high + parts.old.system.logs) after) (D.state disk.old) (D.state disk.new) }
+    ensures raised { OnOk result ((high : ℕ) → StandsUpTo high journal.old next_unit → StandsUpTo (high + parts.old.system.logs) journal.new next_unit) }
     ensures number { OnOk result (journal.new.restart.checkpoint ≡ journal.old.restart.checkpoint + 1) }
     ensures epoch { OnOk result (journal.new.restart.epoch ≡ journal.old.restart.epoch) }
     ensures sequence { OnOk result (journal.new.log.sequence ≡ sequence_behind journal.old.log) }
@@ -70,6 +76,7 @@ fn take<D: Disk>(
     ensures stays { Stays (D.state disk.old) (D.state disk.new) }
     ensures any_moment { Within (KeepsRecovery parts.old.system) (D.state disk.old) (D.state disk.new) }
     ensures texts { Within (KeepsText parts.old.system) (D.state disk.old) (D.state disk.new) }
+    ensures steps { Within (Takes (parts_for parts.old.system journal.old.restart bytes.entry.now) journal.old.log (all_stores (slots_now parts.old))) (D.state disk.old) (D.state disk.new) }
     ensures restart { OnOk result (journal.new.restart ≡ next_restart (parts_for parts.old.system journal.old.restart bytes.entry.now) journal.old.log) }
     ensures log { OnOk result (journal.new.log ≡ next_writer (parts_for parts.old.system journal.old.restart bytes.entry.now) journal.old.log) }
     ensures synced { OnOk result (Only (D.state disk.new).shown (D.state disk.new)) }

@@ -8,7 +8,10 @@ use Rattle.model_image.specs.Holding.{HoldsStores}
 use Rattle.cold_start.specs.FirstImage.{sectors_needed}
 use Rattle.log_writer.specs.Log.{IsReady}
 use Rattle.log_writer.specs.Writer.{Writer}
+use Rattle.restart_data.specs.declared.restart.RestartSector.{RestartSector}
 use Rattle.checkpoint_law.specs.Opening.{opened_life}
+use Rattle.checkpoint_law.specs.Counted.{TellsUnits, TellUnits}
+use Rattle.checkpoint_law.proofs.Counting.{begun_tells}
 use Rattle.opening_answers.specs.declared.refusals.OpenError.{OpenError}
 use Rattle.opening_answers.specs.Opening.{MayBegin, OpeningCause, SizeFirst, TellsCold, TellsOpening}
 use Rattle.opening_answers.specs.Renewal.{IsRenewed, first_writer}
@@ -59,6 +62,14 @@ module _ (system : System) (parts : PartsState) (text : List ℕ) (opening : Ope
   own_log : (opened_life parts.system text opening.now opening.stores.stores state).log ≡ journal.log
   own_log = ap (λ (y : System). first_writer y opening.now) same ∙ sym log
 
+  -- what it begins with tells of no unit to come
+  own_told : TellUnits parts.system journal opening.next_unit disk
+  own_told image left =
+      let is = own.renewed image left in
+      subst (λ (r : RestartSector). TellsUnits parts.system (record { log = journal.log; restart = r }) opening.next_unit image) (sym restart)
+      (subst (λ (w : Writer). TellsUnits parts.system (record { log = w; restart = opening.now }) opening.next_unit image) own_log
+      (begun_tells parts.system opening.now _ opening.next_unit image is.has_snapshot refl is.none_ahead own.may.restart own.may.some_unit))
+
   -- It is on the disk with its log.
   pub begun : IsLogged parts (no_units (length system.regions)) opening.next_unit journal text disk
   begun = record {
@@ -72,6 +83,7 @@ module _ (system : System) (parts : PartsState) (text : List ℕ) (opening : Ope
     text_is = refl;
     areas = own.size;
     counted = zeros (length system.regions) ∙ ap (λ (y : System). length y.regions) (sym same);
+    told = own_told;
     ready = subst (λ (w : Writer). IsReady w disk) own_log (opened_ready parts text opening state own.are own.may has own_start own_slots disk own.renewed own.stored);
   }
 

@@ -1,6 +1,7 @@
 //! What a life begins with.
 ghost use Rattle.std.specs.Prelude.{◌≡◌, ◌≤◌, length, IfOk, IsTrue};
 ghost use Rattle.model_disk.specs.Disk.{Stays, Within, Only};
+ghost use Rattle.checkpointing.specs.Counts.{RaisesCounts};
 ghost use Rattle.opening_answers.specs.Opening.{OpeningCause, SizeFirst, TellsCold, TellsOpening};
 ghost use Rattle.control_life.specs.declared.how.How.TheVariants.{Found, Cold};
 ghost use Rattle.machine_opening.specs.Opened.{BeginsOn};
@@ -31,6 +32,7 @@ pub(crate) fn look<D: Disk>(
     ensures begins { IfOk result (λ opened. BeginsOn system.now text.now opened.0 opened.1 (D.state disk.new)) }
     ensures stays { Stays (D.state disk.old) (D.state disk.new) }
     ensures any_moment { Within (KeepsBy how system.now text.now) (D.state disk.old) (D.state disk.new) }
+    ensures counts { Within (RaisesCounts 1 system.now) (D.state disk.old) (D.state disk.new) }
     ensures cause { OpeningCause result (D.state disk.old) (D.state disk.new) }
 {
     match how {

@@ -2,6 +2,7 @@
 ghost use Rattle.std.specs.Prelude.{◌≡◌, ◌≤◌, length, IfOk, IfErr, Err};
 ghost use Rattle.model_disk.specs.Disk.{Stays, Within, Only};
 ghost use Rattle.model_machine.specs.Machine.{empty_state, start_of};
+ghost use Rattle.checkpointing.specs.Counts.{RaisesCounts};
 ghost use Rattle.opening_answers.specs.Opening.{OpeningCause};
 ghost use Rattle.machine_life.proofs.Openings.{no_units};
 ghost use Rattle.parts_life.specs.Logged.{IsLogged};
@@ -37,6 +38,8 @@ pub fn open<D: Disk>(
     ensures cause { IfErr result (λ error. OpeningCause (Err error) (D.state disk.old) (D.state disk.new)) }
     ensures stays { Stays (D.state disk.old) (D.state disk.new) }
     ensures any_moment { Within (KeepsBy how parts.old.system text.entry.now) (D.state disk.old) (D.state disk.new) }
+    // No counter of what a crash leaves rises by more than one.
+    ensures counts { Within (RaisesCounts 1 parts.old.system) (D.state disk.old) (D.state disk.new) }
 {
     match look(alloc, disk, parts.system(), text, how) {
         Ok((opening, lasting)) => {

@@ -7,3 +7,4 @@ pub mod Storing
 pub mod Opening
 pub mod Checking
 pub mod Closing
+pub mod Counts

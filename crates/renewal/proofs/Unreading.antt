@@ -10,7 +10,7 @@ use Rattle.model_image.specs.Alike.{RecoversAlike}
 use Rattle.model_image.specs.Areas.{snapshot_area, snapshot_first, data_first}
 use Rattle.model_image.specs.Slots.{named_by}
 use Rattle.model_image.specs.Recovered.{log_in}
-use Rattle.model_image.proofs.Alike.{recovers_alike}
+use Rattle.model_image.proofs.Alike.{ImagesAlike, recovers_alike}
 use Rattle.model_image.proofs.Unread.{InFreeSnapshot, OfNamedSlot, unread_alike}
 use Rattle.checkpointing.specs.Checkpoint.{InArea}
 use Rattle.renewal.specs.Given.{Given, IsGiven}
@@ -52,10 +52,12 @@ module _ (system : System) (r : RestartSector) (snapshot : List Record) (given :
       record { low = omega (arith, in_.low, first); high = omega (arith, in_.high, first) }
 
   -- Only unread sectors are others, so that it recovers alike.
-  pub unread_recovers : (after : Image) → ChangesUnread system given now image after → RecoversAlike system image after
-  unread_recovers after changes =
-      recovers_alike system image after
-      (unread_alike system r image after is.restart (λ k.
+  pub unread_images : (after : Image) → ChangesUnread system given now image after → ImagesAlike system image after
+  unread_images after changes =
+      unread_alike system r image after is.restart (λ k.
       ⊎_elim (λ same. inl same)
       (λ other. ⊎_elim (λ (w : IsGiven system given k (sector_at after k)). inr (inr (inr (named_slot k (sector_at after k) w)))) (λ (in_ : InArea (snapshot_first system now.snapshot) (snapshot_area system) k). inr (inl (free_area k in_))) other)
-      (changes.each k)))
+      (changes.each k))
+
+  pub unread_recovers : (after : Image) → ChangesUnread system given now image after → RecoversAlike system image after
+  unread_recovers after changes = recovers_alike system image after (unread_images after changes)

@@ -17,6 +17,10 @@ use Rattle.renewal.proofs.Recovering.{IsNextLife}
 use Rattle.renewal.proofs.Stored.{stores_held}
 use Rattle.opening_parts.specs.Parts.{OpeningParts}
 use Rattle.checkpointing.specs.Texts.{HasText}
+use Rattle.checkpointing.specs.Counts.{RaisesCounts}
+use Rattle.checkpointing.proofs.Counted.{alike_raises}
+use Rattle.opening_answers.proofs.Counted.{reopened_raises}
+use Rattle.renewal.proofs.Unreading.{unread_images}
 use Rattle.opening_answers.specs.Keeping.{KeepsImage}
 use Rattle.opening_answers.specs.Renewal.{IsRenewed}
 use Rattle.tm_restart.specs.Prepared.{IsPrepared, IsMadeOf}
@@ -54,6 +58,11 @@ module _ (system : System) (text : List ℕ) (given : Given) (parts : OpeningPar
     texts = inr (texts a e made rewrites);
   }
 
+  -- It counts further by one at most.
+  raises : (a e : Image) → IsMadeOf system text given parts state now a → Rewrites system given bytes now a e → RaisesCounts 1 system a e
+  raises a e made (inl unread) = alike_raises 1 system a e (unread_images system made.restart made.snapshot given now a made.before e unread)
+  raises a e made (inr done) = reopened_raises system text parts state a e made.reopened (renewed a e made done) prepared.begins.restart
+
   held : (a e : Image) → IsMadeOf system text given parts state now a → IsRewritten system given bytes now a e → HoldsStores system parts.stores.stores e
   held a e made done =
       stores_held system made.restart made.snapshot given bytes now a e made.before done parts.stores.stores made.loaded (snapshot_records now.checkpoint parts.next_unit state []) (names_none system now.checkpoint parts.next_unit state) state.rows
@@ -71,6 +80,9 @@ module _ (system : System) (text : List ℕ) (given : Given) (parts : OpeningPar
 
     pub laid_within : Within (Rewrites system given bytes now) old new → Within (KeepsImage system text) old new
     laid_within within = within_where (Rewrites system given bytes now) (KeepsImage system text) old new (λ a e left rewrites. kept a e (each_made a left) rewrites) within
+
+    pub laid_counts : Within (Rewrites system given bytes now) old new → Within (RaisesCounts 1 system) old new
+    laid_counts within = within_where (Rewrites system given bytes now) (RaisesCounts 1 system) old new (λ a e left rewrites. raises a e (each_made a left) rewrites) within
 
     module _ (follows : Follows (IsRewritten system given bytes now) old new) where
       pub all_renewed : (image : Image) → new.may_leave image → IsRenewed system text parts.now parts.next_unit state image

@@ -12,6 +12,8 @@ use Rattle.model_image.specs.Areas.{snapshot_area}
 use Rattle.model_image.specs.Faults.{Fault}
 use Rattle.model_image.specs.Recovered.{Recovers}
 use Rattle.model_image.proofs.Answers.{one_answer_of, zeros_are_empty}
+use Rattle.checkpointing.specs.Counts.{RaisesCounts}
+use Rattle.checkpointing.proofs.Counted.{same_raises}
 use Rattle.opening_answers.specs.Keeping.{KeepsImage, IsEmptied, KeepsOrEmpties}
 use Rattle.opening_answers.specs.declared.refusals.OpenError.{OpenError}
 use Rattle.opening_answers.specs.declared.refusals.OpenError.TheVariants.{BadImage, WrongDefinition, TooSmall, Spent, Disk, Memory}
@@ -20,6 +22,28 @@ use Rattle.opening_answers.specs.Opening.{TellsCold, TellsOpening}
 
 -- ---- what is left
 
+-- what each image has by itself, a reading leaves
+module _ (step : Image → Image → Type 0) (still : (image : Image) → step image image) (old mid : DiskState) (keeps : Keeps old mid) where
+  pub reads : Within step old mid
+  reads = record {
+    later = keeps.elapses.later;
+    from = λ time image early left.
+        ⊎_elim (λ past. inl past) (λ now. inr (record { before = image; left = keeps.no_more image now; by = still image })) (keeps.elapses.nothing_else time image early left);
+    keeps = λ time image early left. keeps.elapses.keeps time image early left;
+  }
+
+  -- and what is done behind it
+  pub reads_then : (new : DiskState) → Within step mid new → Within step old new
+  reads_then new after = record {
+    later = omega (arith, keeps.elapses.later, after.later);
+    from = λ time image early left.
+        ⊎_elim
+        (λ past. ⊎_elim (λ older. inl older) (λ now. inr (record { before = image; left = keeps.no_more image now; by = still image })) (keeps.elapses.nothing_else time image early past))
+        (λ (w : ComesFrom step mid image). inr (record { before = w.before; left = keeps.no_more w.before w.left; by = w.by }))
+        (after.from time image (omega (arith, early, keeps.elapses.later)) left);
+    keeps = λ time image early left. after.keeps time image (omega (arith, early, keeps.elapses.later)) (keeps.elapses.keeps time image early left);
+  }
+
 module _ (system : System) (text : List ℕ) (old mid : DiskState) (keeps : Keeps old mid) where
   -- the same image
   same_image : (image : Image) → KeepsImage system text image image
@@ -27,24 +51,18 @@ module _ (system : System) (text : List ℕ) (old mid : DiskState) (keeps : Keep
 
   -- reading leaves what was there
   pub read_within : Within (KeepsImage system text) old mid
-  read_within = record {
-    later = keeps.elapses.later;
-    from = λ time image early left.
-        ⊎_elim (λ past. inl past) (λ now. inr (record { before = image; left = keeps.no_more image now; by = same_image image })) (keeps.elapses.nothing_else time image early left);
-    keeps = λ time image early left. keeps.elapses.keeps time image early left;
-  }
+  read_within = reads (KeepsImage system text) same_image old mid keeps
 
   -- what recovers alike behind a reading does so before
   pub read_then : (new : DiskState) → Within (KeepsImage system text) mid new → Within (KeepsImage system text) old new
-  read_then new after = record {
-    later = omega (arith, keeps.elapses.later, after.later);
-    from = λ time image early left.
-        ⊎_elim
-        (λ past. ⊎_elim (λ older. inl older) (λ now. inr (record { before = image; left = keeps.no_more image now; by = same_image image })) (keeps.elapses.nothing_else time image early past))
-        (λ (w : ComesFrom (KeepsImage system text) mid image). inr (record { before = w.before; left = keeps.no_more w.before w.left; by = w.by }))
-        (after.from time image (omega (arith, early, keeps.elapses.later)) left);
-    keeps = λ time image early left. after.keeps time image (omega (arith, early, keeps.elapses.later)) (keeps.elapses.keeps time image early left);
-  }
+  read_then new after = reads_then (KeepsImage system text) same_image old mid keeps new after
+
+  -- so it is of what is counted on
+  pub read_counts : Within (RaisesCounts 1 system) old mid
+  read_counts = reads (RaisesCounts 1 system) (λ image. same_raises 1 system image image refl) old mid keeps
+
+  pub read_counts_then : (new : DiskState) → Within (RaisesCounts 1 system) mid new → Within (RaisesCounts 1 system) old new
+  read_counts_then new after = reads_then (RaisesCounts 1 system) (λ image. same_raises 1 system image image refl) old mid keeps new after
 
   module _ (new : DiskState) (is_disk : IsDisk old) (only : Only old.shown old) (zeros : IsTrue old.tells → restart_in (snapshot_area system) old.shown ≡ Ok None) where
     emptied : (a e : Image) → old.may_leave a → Recovers system e (Ok (empty_state system)) → RecoversAlike system a e

@@ -44,6 +44,9 @@ use Rattle.model_image.specs.Text.{text_in}
 use Rattle.count_law.proofs.Told.{empty_counted}
 use Rattle.first_parts.specs.Made.{IsMade}
 use Rattle.checkpointing.specs.Texts.{HasText}
+use Rattle.checkpointing.specs.Counts.{RaisesCounts}
+use Rattle.checkpointing.proofs.Counted.{same_raises}
+use Rattle.opening_answers.proofs.Counted.{renewed_up_to}
 use Rattle.opening_answers.specs.Keeping.{KeepsOrEmpties}
 use Rattle.opening_answers.specs.Opening.{IsBegun, MayBegin, counters, first_spent}
 use Rattle.opening_parts.specs.Parts.{OpeningParts}
@@ -194,6 +197,21 @@ module _ (system : System) (text bytes : List ℕ) (parts : OpeningParts) (state
 
     pub empties_within : (old new : DiskState) → Within (BeginsImage system text bytes now) old new → Within (KeepsOrEmpties system text) old new
     empties_within old new within = within_where (BeginsImage system text bytes now) (KeepsOrEmpties system text) old new (λ before after left begins. empties before after begins) within
+
+    -- what a cold start counts on stands at 1
+    raises : (before after : Image) → BeginsImage system text bytes now before after → RaisesCounts 1 system before after
+    raises before after begins =
+        ⊎_elim (λ (same : after ≡ before). same_raises 1 system before after same)
+        (λ rest. ⊎_elim
+        (λ (zeros : restart_in (snapshot_area system) after ≡ Ok None). λ high counts restart found. absurd (none_or_some restart (sym zeros ∙ found)))
+        (λ (is : IsFirstImage system text bytes now after). λ high counts.
+        renewed_up_to system text now 1 (empty_state system) after (renewed_by short after is) made.valid (high + 1)
+        (omega (arith, made.first.epoch)) (omega (arith, made.first.sequence)) (omega (arith, made.first.checkpoint)) (omega arith) (omega arith))
+        rest)
+        begins
+
+    pub raises_within : (old new : DiskState) → Within (BeginsImage system text bytes now) old new → Within (RaisesCounts 1 system) old new
+    raises_within old new within = within_where (BeginsImage system text bytes now) (RaisesCounts 1 system) old new (λ before after left begins. raises before after begins) within
 
   module _ (short : length text ≤ 262144) (old new : DiskState) (follows : Follows (λ before after. IsFirstImage system text bytes now after) old new) where
     pub all_renewed : (image : Image) → new.may_leave image → IsRenewed system text parts.now parts.next_unit state image

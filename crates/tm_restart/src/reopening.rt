@@ -4,6 +4,7 @@ ghost use Rattle.model_disk.specs.Disk.{Image, Stays, Within, Only};
 ghost use Rattle.model_image.specs.Holding.{HoldsStores};
 ghost use Rattle.cold_start.specs.FirstImage.{sectors_needed};
 ghost use Rattle.opening_parts.specs.Parts.{AreOpeningParts};
+ghost use Rattle.checkpointing.specs.Counts.{RaisesCounts};
 ghost use Rattle.opening_answers.specs.Keeping.{KeepsImage};
 ghost use Rattle.opening_answers.specs.Renewal.{IsRenewed};
 ghost use Rattle.opening_answers.specs.Opening.{SizeFirst, TellsOpening, MayBegin, OpeningCause};
@@ -43,6 +44,7 @@ fn lay<D: Disk>(
     ensures begins { IfOk result (λ opened. MayBegin system.now text.now opened.0 opened.1) }
     ensures stays { Stays (D.state disk.old) (D.state disk.new) }
     ensures any_moment { Within (KeepsImage system.now text.now) (D.state disk.old) (D.state disk.new) }
+    ensures counts { Within (RaisesCounts 1 system.now) (D.state disk.old) (D.state disk.new) }
     ensures done { IfOk result (λ opened. (image : Image) → (D.state disk.new).may_leave image → IsRenewed system.now text.now opened.0.now opened.0.next_unit opened.1 image) }
     ensures stored { IfOk result (λ opened. (image : Image) → (D.state disk.new).may_leave image → HoldsStores system.now opened.0.stores.stores image) }
     ensures synced { OnOk result (Only (D.state disk.new).shown (D.state disk.new)) }
@@ -74,6 +76,7 @@ pub(crate) fn reopen<D: Disk>(
     ensures begins { IfOk result (λ opened. MayBegin system.now text.now opened.0 opened.1) }
     ensures stays { Stays (D.state disk.old) (D.state disk.new) }
     ensures any_moment { Within (KeepsImage system.now text.now) (D.state disk.old) (D.state disk.new) }
+    ensures counts { Within (RaisesCounts 1 system.now) (D.state disk.old) (D.state disk.new) }
     ensures done { IfOk result (λ opened. (image : Image) → (D.state disk.new).may_leave image → IsRenewed system.now text.now opened.0.now opened.0.next_unit opened.1 image) }
     ensures stored { IfOk result (λ opened. (image : Image) → (D.state disk.new).may_leave image → HoldsStores system.now opened.0.stores.stores image) }
     ensures synced { OnOk result (Only (D.state disk.new).shown (D.state disk.new)) }

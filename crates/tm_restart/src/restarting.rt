@@ -3,6 +3,7 @@ ghost use Rattle.std.specs.Prelude.{◌≤◌, length, IsTrue, IfOk, OnOk};
 ghost use Rattle.model_disk.specs.Disk.{Image, Stays, Within, Only};
 ghost use Rattle.model_image.specs.Holding.{HoldsStores};
 ghost use Rattle.opening_parts.specs.Parts.{AreOpeningParts};
+ghost use Rattle.checkpointing.specs.Counts.{RaisesCounts};
 ghost use Rattle.opening_answers.specs.Keeping.{KeepsImage};
 ghost use Rattle.opening_answers.specs.Renewal.{IsRenewed};
 ghost use Rattle.opening_answers.specs.Opening.{SizeFirst, TellsOpening, MayBegin, OpeningCause};
@@ -38,6 +39,8 @@ pub fn recover<D: Disk>(
     ensures stays { Stays (D.state disk.old) (D.state disk.new) }
     // Whenever a crash comes, what it leaves recovers as before, and is the image before or one of this text.
     ensures any_moment { Within (KeepsImage system.now text.now) (D.state disk.old) (D.state disk.new) }
+    // No counter rises by more than one.
+    ensures counts { Within (RaisesCounts 1 system.now) (D.state disk.old) (D.state disk.new) }
     // Then each image recovers to the state that is answered, with that restart sector and an empty log.
     ensures done { IfOk result (λ opened. (image : Image) → (D.state disk.new).may_leave image → IsRenewed system.now text.now opened.0.now opened.0.next_unit opened.1 image) }
     // The databases that are answered stand in their sectors, slot by slot.

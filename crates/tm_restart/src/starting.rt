@@ -3,6 +3,7 @@ ghost use Rattle.std.specs.Prelude.{◌≤◌, length, IfOk, OnOk};
 ghost use Rattle.model_disk.specs.Disk.{Image, Stays, Within, Only};
 ghost use Rattle.model_image.specs.Holding.{HoldsStores};
 ghost use Rattle.cold_start.specs.FirstImage.{sectors_needed};
+ghost use Rattle.checkpointing.specs.Counts.{RaisesCounts};
 ghost use Rattle.opening_answers.specs.Keeping.{KeepsOrEmpties};
 ghost use Rattle.first_parts.specs.Made.{IsMade};
 ghost use Rattle.opening_parts.specs.Parts.{AreOpeningParts};
@@ -40,6 +41,7 @@ fn lay<D: Disk>(
     ensures begins { IfOk result (λ opened. MayBegin system.now text.now opened.0 opened.1) }
     ensures stays { Stays (D.state disk.old) (D.state disk.new) }
     ensures any_moment { Within (KeepsOrEmpties system.now text.now) (D.state disk.old) (D.state disk.new) }
+    ensures counts { Within (RaisesCounts 1 system.now) (D.state disk.old) (D.state disk.new) }
     ensures done { IfOk result (λ opened. (image : Image) → (D.state disk.new).may_leave image → IsRenewed system.now text.now opened.0.now opened.0.next_unit opened.1 image) }
     ensures stored { IfOk result (λ opened. (image : Image) → (D.state disk.new).may_leave image → HoldsStores system.now opened.0.stores.stores image) }
     ensures synced { OnOk result (Only (D.state disk.new).shown (D.state disk.new)) }
@@ -66,6 +68,7 @@ fn begin<D: Disk>(
     ensures begins { IfOk result (λ opened. MayBegin system.now text.now opened.0 opened.1) }
     ensures stays { Stays (D.state disk.old) (D.state disk.new) }
     ensures any_moment { Within (KeepsOrEmpties system.now text.now) (D.state disk.old) (D.state disk.new) }
+    ensures counts { Within (RaisesCounts 1 system.now) (D.state disk.old) (D.state disk.new) }
     ensures done { IfOk result (λ opened. (image : Image) → (D.state disk.new).may_leave image → IsRenewed system.now text.now opened.0.now opened.0.next_unit opened.1 image) }
     ensures stored { IfOk result (λ opened. (image : Image) → (D.state disk.new).may_leave image → HoldsStores system.now opened.0.stores.stores image) }
     ensures synced { OnOk result (Only (D.state disk.new).shown (D.state disk.new)) }
@@ -102,6 +105,8 @@ pub fn cold<D: Disk>(
     ensures stays { Stays (D.state disk.old) (D.state disk.new) }
     // Whenever a crash comes, it leaves the image before, or one of this text that recovers to the empty state.
     ensures any_moment { Within (KeepsOrEmpties system.now text.now) (D.state disk.old) (D.state disk.new) }
+    // No counter rises by more than one.
+    ensures counts { Within (RaisesCounts 1 system.now) (D.state disk.old) (D.state disk.new) }
     // Then each image recovers to the empty state, with the restart sector that is answered and an empty log.
     ensures done { IfOk result (λ opened. (image : Image) → (D.state disk.new).may_leave image → IsRenewed system.now text.now opened.0.now opened.0.next_unit opened.1 image) }
     // The databases that are answered stand in their sectors, slot by slot.

@@ -10,7 +10,7 @@ use Rattle.checkpointing.specs.Parts.{CheckpointParts, parts_of, next_restart, n
 use Rattle.checkpointing.specs.Steps.{WritesSnapshot}
 use Rattle.checkpointing.specs.Checkpoint.{IsCheckpointed}
 use Rattle.checkpointing.proofs.Slots.{slots_end}
-use Rattle.checkpointing.proofs.Taking.{Asked, all_asked, next_of_forced, same_writer, begins_empty, prepared_within, taken_within, prepared_text, taken_text, taken_follows, taken_ahead, taken_ready}
+use Rattle.checkpointing.proofs.Taking.{Asked, all_asked, next_of_forced, same_writer, begins_empty, prepared_within, taken_within, prepared_text, prepared_steps, taken_text, taken_steps, taken_follows, taken_ahead, taken_ready}
 use Rattle.checkpointing.proofs.checkpoint.take.Goals as goal
 
 pub prepare-requires-clause-area : goal.prepare-requires-clause-area
@@ -159,4 +159,43 @@ returns-clause-texts g c =
     let sequence : c.next_sequence.result ≡ sequence_behind c.args.log.now = c.next_sequence.ensures ∙ next_of_forced c.prepare.new.log c.args.log.now c.in-Ok.ensures.forced in
     let next : c.next_restart-next.result ≡ next_restart parts c.args.log.now = c.next_restart-next.ensures ∙ ap (restart_behind parts) sequence in
     taken_text parts c.args.log.now c.args.stores.now old disk asked mid new c.prepare.ensures.any_moment saved
+    (subst (λ (r : RestartSector). Within (MayWrite 0 (restart_sector r)) mid new) next c.write_restart.ensures.any_moment)
+
+pub returns-in-Err-clause-steps : goal.returns-in-Err-clause-steps
+returns-in-Err-clause-steps g c =
+    let parts : CheckpointParts = parts_of c.args.parts.now in
+    let old = g.D.Disk.state c.args.disk.now in
+    let disk = g.met.D.Disk.is_disk c.args.disk.now in
+    let asked : Asked parts c.args.log.now c.args.stores.now old =
+    all_asked parts c.args.log.now c.args.stores.now old c.requires.areas c.requires.now c.requires.free c.requires.over c.room-room.ensures.fits c.requires.stores c.requires.fits c.requires.next c.requires.named c.requires.ahead c.requires.force_keeps c.requires.snapshot_keeps in
+    prepared_steps parts c.args.log.now c.args.stores.now old disk asked (g.D.Disk.state c.prepare.new.disk) c.prepare.ensures.any_moment
+
+pub returns-then-is_err-clause-steps : goal.returns-then-is_err-clause-steps
+returns-then-is_err-clause-steps g c =
+    let parts : CheckpointParts = parts_of c.args.parts.now in
+    let old = g.D.Disk.state c.args.disk.now in
+    let disk = g.met.D.Disk.is_disk c.args.disk.now in
+    let asked : Asked parts c.args.log.now c.args.stores.now old =
+    all_asked parts c.args.log.now c.args.stores.now old c.requires.areas c.requires.now c.requires.free c.requires.over c.room-room.ensures.fits c.requires.stores c.requires.fits c.requires.next c.requires.named c.requires.ahead c.requires.force_keeps c.requires.snapshot_keeps in
+    let mid = g.D.Disk.state c.prepare.new.disk in
+    let new = g.D.Disk.state c.write_restart.new.disk in
+    let saved : Follows (WritesSnapshot parts c.args.log.now c.args.stores.now) old mid = c.in-Ok.ensures.done in
+    let sequence : c.next_sequence.result ≡ sequence_behind c.args.log.now = c.next_sequence.ensures ∙ next_of_forced c.prepare.new.log c.args.log.now c.in-Ok.ensures.forced in
+    let next : c.next_restart-next.result ≡ next_restart parts c.args.log.now = c.next_restart-next.ensures ∙ ap (restart_behind parts) sequence in
+    taken_steps parts c.args.log.now c.args.stores.now old disk asked mid new c.prepare.ensures.any_moment saved
+    (subst (λ (r : RestartSector). Within (MayWrite 0 (restart_sector r)) mid new) next c.write_restart.ensures.any_moment)
+
+pub returns-clause-steps : goal.returns-clause-steps
+returns-clause-steps g c =
+    let parts : CheckpointParts = parts_of c.args.parts.now in
+    let old = g.D.Disk.state c.args.disk.now in
+    let disk = g.met.D.Disk.is_disk c.args.disk.now in
+    let asked : Asked parts c.args.log.now c.args.stores.now old =
+    all_asked parts c.args.log.now c.args.stores.now old c.requires.areas c.requires.now c.requires.free c.requires.over c.room-room.ensures.fits c.requires.stores c.requires.fits c.requires.next c.requires.named c.requires.ahead c.requires.force_keeps c.requires.snapshot_keeps in
+    let mid = g.D.Disk.state c.prepare.new.disk in
+    let new = g.D.Disk.state c.write_restart.new.disk in
+    let saved : Follows (WritesSnapshot parts c.args.log.now c.args.stores.now) old mid = c.in-Ok.ensures.done in
+    let sequence : c.next_sequence.result ≡ sequence_behind c.args.log.now = c.next_sequence.ensures ∙ next_of_forced c.prepare.new.log c.args.log.now c.in-Ok.ensures.forced in
+    let next : c.next_restart-next.result ≡ next_restart parts c.args.log.now = c.next_restart-next.ensures ∙ ap (restart_behind parts) sequence in
+    taken_steps parts c.args.log.now c.args.stores.now old disk asked mid new c.prepare.ensures.any_moment saved
     (subst (λ (r : RestartSector). Within (MayWrite 0 (restart_sector r)) mid new) next c.write_restart.ensures.any_moment)

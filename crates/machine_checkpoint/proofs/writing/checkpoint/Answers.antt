@@ -1,10 +1,12 @@
-use Rattle.std.proofs.Common.{sym, subst, List, ℕ, ◌+◌}
+use Rattle.std.proofs.Common.{sym, subst, arith, List, ℕ, ◌+◌}
+use Rattle.model_disk.specs.Disk.{Within}
+use Rattle.checkpointing.specs.Steps.{Takes}
 use Rattle.restart_data.specs.declared.restart.RestartSector.{RestartSector}
 use Rattle.program_rows.specs.OnSlots.{all_stores}
 use Rattle.tm_machine.specs.OnSlots.{slots_now}
-use Rattle.journal.specs.Checkpoints.{CanCheckpoint}
+use Rattle.journal.specs.Checkpoints.{CanCheckpoint, parts_for}
 use Rattle.machine_checkpoint.specs.Taking.{IsSnapshot}
-use Rattle.machine_checkpoint.proofs.Taken.{can}
+use Rattle.machine_checkpoint.proofs.Taken.{can, within_up_to}
 use Rattle.machine_checkpoint.proofs.writing.checkpoint.Goals as goal
 
 pub take-requires : goal.take-requires
@@ -14,3 +16,15 @@ take-requires g c = record {
       (can c.args.parts.now c.args.units.now c.args.next_unit c.args.journal.now c.requires.logged.0 (g.D.Disk.state c.args.disk.now) c.requires.logged.1 c.stores-stores.ensures.has c.requires.counted c.in-Ok.bytes.items
       (subst (λ (r : RestartSector). IsSnapshot c.args.parts.now c.args.units.now c.args.next_unit (r.checkpoint + 1) c.in-Ok.bytes.items) c.restart.ensures c.in-Ok.ensures));
 }
+
+pub returns-in-Ok-take-clause-counts : goal.returns-in-Ok-take-clause-counts
+returns-in-Ok-take-clause-counts g c =
+    within_up_to c.args.parts.now c.args.units.now c.args.next_unit c.args.journal.now c.requires.logged.0 (g.D.Disk.state c.args.disk.now) c.requires.logged.1 c.stores-stores.ensures.has c.requires.counted c.in-Ok.bytes.items
+    (subst (λ (r : RestartSector). IsSnapshot c.args.parts.now c.args.units.now c.args.next_unit (r.checkpoint + 1) c.in-Ok.bytes.items) c.restart.ensures c.in-Ok.ensures) (omega (arith, c.stores-stores.ensures.has.defined.least_logs)) (g.D.Disk.state c.take.new.disk)
+    (subst (λ (b : List ℕ). Within (Takes (parts_for c.args.parts.now.system c.args.journal.now.restart b) c.args.journal.now.log (all_stores (slots_now c.args.parts.now))) (g.D.Disk.state c.args.disk.now) (g.D.Disk.state c.take.new.disk)) c.as_slice.ensures.value c.take.ensures.steps)
+
+pub returns-clause-counts : goal.returns-clause-counts
+returns-clause-counts g c =
+    within_up_to c.args.parts.now c.args.units.now c.args.next_unit c.args.journal.now c.requires.logged.0 (g.D.Disk.state c.args.disk.now) c.requires.logged.1 c.stores-stores.ensures.has c.requires.counted c.in-Ok.bytes.items
+    (subst (λ (r : RestartSector). IsSnapshot c.args.parts.now c.args.units.now c.args.next_unit (r.checkpoint + 1) c.in-Ok.bytes.items) c.restart.ensures c.in-Ok.ensures) (omega (arith, c.stores-stores.ensures.has.defined.least_logs)) (g.D.Disk.state c.take.new.disk)
+    (subst (λ (b : List ℕ). Within (Takes (parts_for c.args.parts.now.system c.args.journal.now.restart b) c.args.journal.now.log (all_stores (slots_now c.args.parts.now))) (g.D.Disk.state c.args.disk.now) (g.D.Disk.state c.take.new.disk)) c.as_slice.ensures.value c.take.ensures.steps)

@@ -3,7 +3,7 @@ use Rattle.model_disk.specs.Disk.{Image}
 use Rattle.opening_answers.specs.Opening.{TellsOpening}
 use Rattle.opening_answers.proofs.Reading.{read_cause, told_before, told_behind}
 use Rattle.image_finding.specs.Found.{FindAlways, TellsFind, IsSeen}
-use Rattle.tm_restart.proofs.Recovering.{cold_within, read_then, read_within}
+use Rattle.tm_restart.proofs.Recovering.{cold_within, read_counts, read_counts_then, read_then, read_within}
 use Rattle.tm_restart.proofs.restarting.recover.Goals as goal
 
 pub returns-in-Ok-None-clause-any_moment : goal.returns-in-Ok-None-clause-any_moment
@@ -39,3 +39,15 @@ returns-in-Err-clause-any_moment g c =
 pub returns-in-Ok-Some-clause-cause : goal.returns-in-Ok-Some-clause-cause
 returns-in-Ok-Some-clause-cause g c =
     read_cause (g.D.Disk.state c.args.disk.now) (g.D.Disk.state c.find.new.disk) (g.D.Disk.state c.reopen.new.disk) c.reopen.result (g.met.D.Disk.is_disk c.args.disk.now) c.in-Ok-Some.ensures.keeps c.in-Ok-Some.ensures.cause c.reopen.ensures.cause
+
+pub returns-in-Ok-None-clause-counts : goal.returns-in-Ok-None-clause-counts
+returns-in-Ok-None-clause-counts g c =
+    read_counts_then c.args.system.now c.args.text.now (g.D.Disk.state c.args.disk.now) (g.D.Disk.state c.find.new.disk) c.in-Ok-None.ensures.keeps (g.D.Disk.state c.cold.new.disk) c.cold.ensures.counts
+
+pub returns-in-Ok-Some-clause-counts : goal.returns-in-Ok-Some-clause-counts
+returns-in-Ok-Some-clause-counts g c =
+    read_counts_then c.args.system.now c.args.text.now (g.D.Disk.state c.args.disk.now) (g.D.Disk.state c.find.new.disk) c.in-Ok-Some.ensures.keeps (g.D.Disk.state c.reopen.new.disk) c.reopen.ensures.counts
+
+pub returns-in-Err-clause-counts : goal.returns-in-Err-clause-counts
+returns-in-Err-clause-counts g c =
+    read_counts c.args.system.now c.args.text.now (g.D.Disk.state c.args.disk.now) (g.D.Disk.state c.find.new.disk) c.in-Err.ensures.keeps
