@@ -51,10 +51,17 @@ use Rattle.parts_life.proofs.Turning.{turn_of_parts}
 use Rattle.parts_life.proofs.Closing.{ack_steps, command_steps, input_steps, room_in_log, turn_steps}
 use Rattle.machine_telling.specs.Telling.{Appends, is_input_fault}
 use Rattle.machine_life.specs.Counted.{IsCounted}
+use Rattle.model_image.specs.Counters.{greatest_unit}
+use Rattle.checkpointing.specs.Counts.{CountsUpTo}
+use Rattle.checkpoint_law.specs.Counted.{StandsUpTo, TellUnits}
+use Rattle.parts_life.proofs.Counts.{force_up_to, forced_tell, quiet_tells}
+use Rattle.parts_life.proofs.OwnUnits.{records_most, turn_most, unit_below}
 use Rattle.parts_life.specs.Logged.{IsLogged}
 use Rattle.logged_machine.specs.Logged.{LoggedState}
 use Rattle.control_life.specs.Faults.{fault_in}
-use Rattle.logged_machine.specs.Doing.{Did, GoesOnIn, Tried}
+use Rattle.logged_machine.specs.Leaving.{Leaves}
+use Rattle.logged_machine.specs.Doing.{Did, GoesOnIn, LeavesCounts, Tried}
+use Rattle.logged_machine.proofs.Leaving.{leaves_same, leaves_within}
 use Rattle.logged_machine.specs.Frugal.{AppendsAlone, ForceFails, ForcesAll, WritesBy, has_lasting_step, own_bytes, own_records}
 use Rattle.logged_machine.proofs.Frugality.{area_is, writes_log}
 use Rattle.logged_machine.proofs.Answered.{ack_unfaulted, command_unfaulted, input_unfaulted}
@@ -75,6 +82,9 @@ pub record Attempt {D : Type 0} (state : D → DiskState) (parts parts' : PartsS
   pub own : records ≡ own_records parts units (call_of entry)
   pub step_is : step ≡ lasting_step parts.system parts.moment (call_of entry)
   pub unit_up : next' ≤ next + 1
+  pub later : next ≤ next'
+  pub fresh : greatest_unit records < next'
+  pub some_logs : 1 ≤ parts.system.logs
 
 module _ {D : Type 0} (state : D → DiskState) (parts parts' : PartsState) (text : List ℕ) (journal mid : JournalState) (units units' : List ℕ) (next next' : ℕ) (disk : D) (entry : Entry) (has_step up : Bool)
     (a : Attempt state parts parts' text journal mid units units' next next' disk entry has_step) where
@@ -105,11 +115,25 @@ module _ {D : Type 0} (state : D → DiskState) (parts parts' : PartsState) (tex
       (is_still state parts parts' text journal mid units units' next next' disk up a.logged a.as_many entry a.answered a.records a.told a.step a.goes) entry) (sym a.no_fault)
       (quiet state parts parts' text journal mid units units' next next' disk up a.logged a.as_many entry a.answered a.records a.told a.step a.goes served (a.steps ∙ none))
 
+  tell_quiet : TellUnits parts.system mid next' (state disk)
+  tell_quiet = quiet_tells parts units next journal text (state disk) a.logged a.records mid a.told.log a.told.restart a.told.valid a.told.bytes a.told.fits next' a.later a.fresh
+
+  -- What a force leaves counts up to this.
+  counts_within : (disk' : D) (new : LoggedState D) → new.disk ≡ disk' → Within (AddsFront mid.log) (state disk) (state disk')
+      → LeavesCounts state parts.system.logs (record { machine = parts; text = text; served = up; journal = journal; units = units; next_unit = next; disk = disk }) new
+  counts_within disk' new is within high stands =
+      subst (λ (d : D). Leaves (CountsUpTo parts.system (high + parts.system.logs)) (state disk) (state d)) (sym is)
+      (leaves_within (AddsFront mid.log) (CountsUpTo parts.system (high + parts.system.logs)) (state disk) (state disk')
+      (λ before after left front.
+      force_up_to parts units next journal text (state disk) a.logged a.records mid a.told.log a.told.restart a.told.valid a.told.bytes a.told.fits next' a.later a.fresh high stands
+      (omega (arith, a.unit_up, stands.unit, a.some_logs)) before after left front)
+      within)
+
   pub tried_quiet : up ≡ true → has_step ≡ false → Tried state (fault_in entry) (record { machine = parts; text = text; served = up; journal = journal; units = units; next_unit = next; disk = disk }) (record { machine = parts'; text = text; served = up; journal = mid; units = units'; next_unit = next'; disk = disk }) entry
-  tried_quiet served none = record { did = did_quiet served none; writes = writes_quiet none; on = λ now. on_quiet up }
+  tried_quiet served none = record { did = did_quiet served none; writes = writes_quiet none; on = λ now. on_quiet up; counts = λ high stands. leaves_same (CountsUpTo parts.system (high + parts.system.logs)) (state disk) }
 
   pub logged_quiet : has_step ≡ false → IsLogged parts' units' next' mid text (state disk)
-  logged_quiet none = quiet_logged state parts parts' text journal mid units units' next next' disk up a.logged a.as_many entry a.answered a.records a.told a.step a.goes (a.steps ∙ none)
+  logged_quiet none = quiet_logged state parts parts' text journal mid units units' next next' disk up a.logged a.as_many entry a.answered a.records a.told a.step a.goes (a.steps ∙ none) tell_quiet
 
   -- ---- what a force asks for
   pub force_area : mid.log.first + mid.log.count ≤ (state disk).size
@@ -164,10 +188,11 @@ module _ {D : Type 0} (state : D → DiskState) (parts parts' : PartsState) (tex
 
     pub tried_forced : up ≡ true → Forces mid.log journal'.log (state disk) (state disk') → journal'.restart ≡ mid.restart → WritesAtMost (sectors_of (length mid.log.appended)) (state disk) (state disk')
         → Tried state (fault_in entry) (record { machine = parts; text = text; served = up; journal = journal; units = units; next_unit = next; disk = disk }) (record { machine = parts'; text = text; served = up; journal = journal'; units = units'; next_unit = next'; disk = disk' }) entry
-    tried_forced served f restart most = record { did = did_forced served f restart; writes = writes_forced f restart most; on = λ now. on_forced f restart }
+    tried_forced served f restart most = record { did = did_forced served f restart; writes = writes_forced f restart most; on = λ now. on_forced f restart; counts = counts_within disk' (record { machine = parts'; text = text; served = up; journal = journal'; units = units'; next_unit = next'; disk = disk' }) refl f.within }
 
     pub logged_forced : Forces mid.log journal'.log (state disk) (state disk') → journal'.restart ≡ mid.restart → IsLogged parts' units' next' journal' text (state disk')
     logged_forced f restart = wrote_logged state parts parts' text journal mid units units' next next' disk up a.logged a.as_many entry a.answered a.records a.told a.step a.goes (a.steps ∙ some) journal' disk' f restart
+        (forced_tell parts units next journal text (state disk) a.logged a.records mid a.told.log a.told.restart a.told.valid a.told.bytes a.told.fits next' a.later a.fresh journal' f.log_is restart (state disk') f.follows)
 
     -- the disk failed
     did_failed : (broken : Entry) → fault_in broken ≡ Some Disk → after_entry parts.system parts.moment broken ≡ after_entry parts.system parts.moment entry
@@ -197,11 +222,25 @@ module _ {D : Type 0} (state : D → DiskState) (parts parts' : PartsState) (tex
       did = did_failed broken fault same within stays cause;
       writes = writes_failed broken fault call restart within most;
       on = λ now. absurd (down now);
+      counts = counts_within disk' (record { machine = parts'; text = text; served = false; journal = journal'; units = units'; next_unit = next'; disk = disk' }) refl within;
     } where
       down : false ≡ true → ⊥
       down e = cc
 
 -- ---- the calls
+
+-- a turn gives no number back
+next_later : (turned : Turned) (next : ℕ) → next ≤ next_after turned next
+next_later (Scheduled code id) next = omega arith
+next_later (Called function pcb status) next = omega arith
+next_later (Next code id further) next = omega arith
+next_later (QC code id) next = omega arith
+next_later (Done code id) next = omega arith
+next_later (Abended code id abend) next = omega arith
+next_later Idle next = omega arith
+next_later (Held need limit) next = omega arith
+next_later (Waits resource by) next = omega arith
+next_later (Backed victims) next = omega arith
 
 -- a turn takes one number at most
 next_up : (turned : Turned) (next : ℕ) → next_after turned next ≤ next + 1
@@ -232,6 +271,9 @@ module _ {D : Type 0} (state : D → DiskState) (parts parts' : PartsState) (tex
     own = refl;
     step_is = refl;
     unit_up = omega arith;
+    later = omega arith;
+    fresh = omega (arith, records_most parts.system parts.moment 0 (Input terminal number segments), h.carried.is.numbers.some);
+    some_logs = omega (arith, had.defined.least_logs);
     steps = input_steps parts parts' terminal number segments answer answered;
     goes =
         input_of_parts parts parts' units next h.life h.carried counted.counts had has databases terminal number segments answer answered (lt-ltb number 2000000000000000000 small)
@@ -252,6 +294,9 @@ module _ {D : Type 0} (state : D → DiskState) (parts parts' : PartsState) (tex
     own = refl;
     step_is = refl;
     unit_up = omega arith;
+    later = omega arith;
+    fresh = omega (arith, records_most parts.system parts.moment 0 (Acknowledge terminal number), h.carried.is.numbers.some);
+    some_logs = omega (arith, had.defined.least_logs);
     steps = ack_steps parts parts' terminal number answer answered;
     goes =
         ack_of_parts parts parts' units next h.life h.carried counted.counts had has databases terminal number answer answered
@@ -272,6 +317,9 @@ module _ {D : Type 0} (state : D → DiskState) (parts parts' : PartsState) (tex
     own = refl;
     step_is = refl;
     unit_up = omega arith;
+    later = omega arith;
+    fresh = omega (arith, records_most parts.system parts.moment 0 (CommandCall command), h.carried.is.numbers.some);
+    some_logs = omega (arith, had.defined.least_logs);
     steps = command_steps parts parts' command answer answered;
     goes =
         command_of_parts parts parts' units next h.life h.carried counted.counts had has databases command answer answered named
@@ -292,6 +340,9 @@ module _ {D : Type 0} (state : D → DiskState) (parts parts' : PartsState) (tex
     own = refl;
     step_is = refl;
     unit_up = next_up turned next;
+    later = next_later turned next;
+    fresh = omega (arith, turn_most parts parts' (unit_of units region) region turned turns quiet, unit_below parts.moment.slots units next region h.carried.is.numbers, next_later turned next);
+    some_logs = omega (arith, had.defined.least_logs);
     steps = turn_steps parts parts' region turned answered;
     goes =
         turn_of_parts parts parts' units next h.life h.carried counted.counts had has region turned answered turns quiet

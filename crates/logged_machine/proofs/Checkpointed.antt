@@ -11,6 +11,8 @@ use Rattle.model_machine.specs.declared.entry.ControlFault.TheVariants.{Memory, 
 use Rattle.checkpointing.specs.Checkpoint.{KeepsRecovery}
 use Rattle.checkpointing.specs.Parts.{sequence_behind}
 use Rattle.checkpointing.specs.Texts.{KeepsText}
+use Rattle.checkpointing.specs.Counts.{CountsUpTo}
+use Rattle.checkpoint_law.specs.Counted.{StandsUpTo}
 use Rattle.log_writer.specs.Writer.{Writer}
 use Rattle.log_writer.specs.Log.{sectors_of}
 use Rattle.disk_law.specs.Journal.{JournalState}
@@ -22,13 +24,14 @@ use Rattle.machine_checkpoint.specs.Taking.{SameAll, Untaken}
 use Rattle.logged_machine.specs.Logged.{LoggedState}
 use Rattle.logged_machine.specs.Goes.{Keeps, StoodStill}
 use Rattle.logged_machine.specs.Leaving.{Brings, Leaves}
-use Rattle.logged_machine.specs.Doing.{Broke, Did, LeavesSo, Refreshed, Unrefreshed, is_memory, lasting_with}
-use Rattle.logged_machine.proofs.Leaving.{leaves_same}
+use Rattle.logged_machine.specs.Doing.{Broke, Did, LeavesCounts, LeavesSo, Refreshed, Unrefreshed, is_memory, lasting_with}
+use Rattle.logged_machine.proofs.Leaving.{leaves_same, leaves_within}
 use Rattle.logged_machine.proofs.Logging.{recover, have_text}
 
 module _ {D : Type 0} (state : D → DiskState) (parts parts' : PartsState) (text : List ℕ) (journal journal' : JournalState) (units : List ℕ) (next : ℕ) (disk disk' : D) (up : Bool)
     (h : IsLogged parts units next journal text (state disk)) (system : parts'.system ≡ parts.system) (moment : parts'.moment ≡ parts.moment) (stays : Stays (state disk) (state disk'))
-    (any : Within (KeepsRecovery parts.system) (state disk) (state disk')) (texts : Within (KeepsText parts.system) (state disk) (state disk')) where
+    (any : Within (KeepsRecovery parts.system) (state disk) (state disk')) (texts : Within (KeepsText parts.system) (state disk) (state disk'))
+    (counts : (high : ℕ) → StandsUpTo high journal next → Within (λ before after. CountsUpTo parts.system (high + parts.system.logs) after) (state disk) (state disk')) where
   abbrev pub was : LoggedState D
   was = record { machine = parts; text = text; served = up; journal = journal; units = units; next_unit = next; disk = disk }
 
@@ -50,6 +53,10 @@ module _ {D : Type 0} (state : D → DiskState) (parts parts' : PartsState) (tex
         (texts.from time image early left))
         (any.from time image early left);
   }
+
+  counted_by : LeavesCounts state parts.system.logs was (is up)
+  counted_by high stands =
+      leaves_within (λ before after. CountsUpTo parts.system (high + parts.system.logs) after) (CountsUpTo parts.system (high + parts.system.logs)) (state disk) (state disk') (λ before after left c. c) (counts high stands)
 
   sequence_low : journal.log.sequence + journal.log.place < 1000000000000000000 → sequence_behind journal.log < 1000000000000000000 + 4294967296
   sequence_low low =
@@ -74,8 +81,9 @@ module _ {D : Type 0} (state : D → DiskState) (parts parts' : PartsState) (tex
       below s p n c l t is fits count = omega (arith, is, fits, count)
 
   pub refreshed : up ≡ true → IsCounted 0 parts.moment.lasting next journal → journal'.restart.checkpoint ≡ journal.restart.checkpoint + 1 → journal'.restart.epoch ≡ journal.restart.epoch
-      → journal'.log.sequence ≡ sequence_behind journal.log → journal'.log.place ≡ 0 → Only (state disk').shown (state disk') → (state disk').faults ≡ (state disk).faults → Refreshed state was (is up)
-  refreshed served counted number epoch sequence place synced no_fault = record {
+      → journal'.log.sequence ≡ sequence_behind journal.log → journal'.log.place ≡ 0 → Only (state disk').shown (state disk') → (state disk').faults ≡ (state disk).faults
+      → ((high : ℕ) → StandsUpTo high journal next → StandsUpTo (high + parts.system.logs) journal' next) → Refreshed state was (is up)
+  refreshed served counted number epoch sequence place synced no_fault raised = record {
     stood = record { moment = moment; served = served; no_fault = no_fault };
     leaves = leaves;
     keeps = record { system = system; text = refl; disk = stays; later = any.later; numbers = λ now. omega (arith, number) };
@@ -92,11 +100,13 @@ module _ {D : Type 0} (state : D → DiskState) (parts parts' : PartsState) (tex
     epoch = epoch;
     sequence = sequence_on sequence;
     unit = refl;
+    counts = counted_by;
+    raised = raised;
   }
 
-  pub broke : FailedSince (state disk) (state disk') → Broke state was (is false) × LeavesSo state was (is false) parts.moment.lasting × Keeps state was (is false)
+  pub broke : FailedSince (state disk) (state disk') → Broke state was (is false) × LeavesSo state was (is false) parts.moment.lasting × Keeps state was (is false) × LeavesCounts state parts.system.logs was (is false)
   broke cause =
-      (record { served = refl; failed = cause }, leaves, record { system = system; text = refl; disk = stays; later = any.later; numbers = λ now. absurd (apart now) })
+      (record { served = refl; failed = cause }, leaves, record { system = system; text = refl; disk = stays; later = any.later; numbers = λ now. absurd (apart now) }, counted_by)
     where
       apart : false ≡ true → ⊥
       apart e = cc
@@ -194,14 +204,15 @@ module _ {D : Type 0} (state : D → DiskState) (parts parts' : PartsState) (tex
 
 module _ {D : Type 0} (state : D → DiskState) (parts parts' : PartsState) (text : List ℕ) (journal journal' : JournalState) (units : List ℕ) (next : ℕ) (disk disk' : D) (up : Bool)
     (h : IsLogged parts units next journal text (state disk)) (system : parts'.system ≡ parts.system) (moment : parts'.moment ≡ parts.moment) (stays : Stays (state disk) (state disk'))
-    (any : Within (KeepsRecovery parts.system) (state disk) (state disk')) (texts : Within (KeepsText parts.system) (state disk) (state disk')) where
+    (any : Within (KeepsRecovery parts.system) (state disk) (state disk')) (texts : Within (KeepsText parts.system) (state disk) (state disk'))
+    (counts : (high : ℕ) → StandsUpTo high journal next → Within (λ before after. CountsUpTo parts.system (high + parts.system.logs) after) (state disk) (state disk')) where
   pub unrefreshed_by : (fault : ControlFault) → Untaken state parts parts' journal journal' disk disk' fault → up ≡ true
-      → Unrefreshed state (was state parts parts' text journal journal' units next disk disk' up h system moment stays any texts)
-      (is state parts parts' text journal journal' units next disk disk' up h system moment stays any texts (is_memory fault)) fault
+      → Unrefreshed state (was state parts parts' text journal journal' units next disk disk' up h system moment stays any texts counts)
+      (is state parts parts' text journal journal' units next disk disk' up h system moment stays any texts counts (is_memory fault)) fault
   unrefreshed_by Memory same served =
       same_all state parts parts' text journal journal' units next disk disk' same true
       ∙ ap (λ (b : Bool). logged_of state parts parts' text journal journal' units next disk disk' same b parts journal disk) (sym served)
-  unrefreshed_by Disk cause served = broke state parts parts' text journal journal' units next disk disk' up h system moment stays any texts cause
+  unrefreshed_by Disk cause served = broke state parts parts' text journal journal' units next disk disk' up h system moment stays any texts counts cause
   unrefreshed_by (Spent counter) none served = absurd none
 
   pub logged_by : (fault : ControlFault) → Untaken state parts parts' journal journal' disk disk' fault → is_memory fault ≡ true → IsLogged parts' units next journal' text (state disk')

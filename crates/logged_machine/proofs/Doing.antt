@@ -1,5 +1,5 @@
 -- A call behind a checkpoint, and a call as its callers see it.
-use Rattle.std.proofs.Common.{true, ◌≡◌, ◌⊎◌, ◌≤◌, ℕ, List, inl, inr, ⊎_elim, refl, sym, ◌∙◌, ap, subst, arith}
+use Rattle.std.proofs.Common.{true, ◌≡◌, ◌⊎◌, ◌≤◌, ◌+◌, ℕ, List, inl, inr, ⊎_elim, refl, sym, ◌∙◌, ap, subst, arith}
 use Rattle.std.specs.Prelude.{Option, Some, None, Ok}
 use Rattle.model_disk.specs.Disk.{Image, DiskState, IsDisk, Stays, FailedSince, Rose}
 use Rattle.model_system.specs.System.{System}
@@ -14,7 +14,9 @@ use Rattle.disk_law.specs.Kept.{RecoversEither}
 use Rattle.logged_machine.specs.Logged.{LoggedState, AreLasting}
 use Rattle.logged_machine.specs.Goes.{Keeps, WentOn, Failed, StoodStill, GoesBy, CrashesBy}
 use Rattle.logged_machine.specs.Leaving.{Brings, Leaves}
-use Rattle.logged_machine.specs.Doing.{Broke, Did, DidBy, LeavesSo, Refreshed, lasting_with}
+use Rattle.checkpointing.specs.Counts.{CountsUpTo}
+use Rattle.checkpointing.proofs.Counted.{up_to_more}
+use Rattle.logged_machine.specs.Doing.{Broke, CountsSince, Did, DidBy, LeavesCounts, LeavesSo, Refreshed, lasting_with}
 use Rattle.logged_machine.proofs.Leaving.{leaves_same, leaves_then, leaves_all, leaves_now}
 
 -- ---- disks
@@ -110,6 +112,12 @@ module _ {D : Type 0} (state : D → DiskState) where
     goes (Some Disk) d = record { served = d.0.served; failed = d.0.failed; have_text = texts (lasting_with old entry) d.1 }
     goes (Some Memory) d = d.0
     goes (Some (Spent counter)) d = d
+
+    -- Whatever a crash might have left since the call began counts up to so much.
+    pub counted : (more : ℕ) → old.machine.system.logs ≤ more → LeavesCounts state more old new → CountsSince state more old new
+    counted more le counts high stands_up image left =
+        leaves_all (CountsUpTo old.machine.system (high + more)) (state old.disk) (state new.disk) old_disk
+        (λ image was. up_to_more old.machine.system (high + old.machine.system.logs) (high + more) image (omega (arith, le)) (before.counts high stands_up image was)) (counts high stands_up) image left
 
     pub crashes : (fault : Option ControlFault) → DidBy state fault old new entry → CrashesBy state fault old new entry
     crashes None d = either (lasting_with old entry) d.1

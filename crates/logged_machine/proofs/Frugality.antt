@@ -1,7 +1,7 @@
 -- What a call writes, and how far it raises what is counted on.
 use Rattle.std.proofs.Common.{◌≡◌, ◌≤◌, ◌<◌, ◌+◌, ◌*◌, ℕ, Bool, true, false, List, length, refl, sym, ◌∙◌, ap, subst, arith, ⊎_elim, inl, inr}
 use Rattle.std.specs.Prelude.{Option, Some, None}
-use Rattle.model_disk.specs.Disk.{DiskState, ComesFrom, Within, WritesAtMost}
+use Rattle.model_disk.specs.Disk.{Image, DiskState, ComesFrom, Within, WritesAtMost}
 use Rattle.model_system.specs.System.{System}
 use Rattle.model_machine.specs.History.{call_of}
 use Rattle.model_machine.specs.declared.entry.Entry.{Entry}
@@ -15,13 +15,17 @@ use Rattle.disk_law.specs.Changes.{with_bytes}
 use Rattle.disk_law.specs.Journal.{JournalState}
 use Rattle.step_telling.specs.Untold.{WhereFull}
 use Rattle.tm_machine.specs.Parts.{PartsState}
+use Rattle.checkpointing.specs.Counts.{CountsUpTo}
+use Rattle.checkpointing.proofs.Counted.{up_to_more}
+use Rattle.checkpoint_law.specs.Counted.{StandsUpTo}
 use Rattle.parts_life.specs.Logged.{IsLogged}
 use Rattle.machine_telling.specs.Telling.{IsAllBut}
 use Rattle.logged_machine.specs.Logged.{LoggedState}
-use Rattle.logged_machine.specs.Doing.{Done, DoneFrugally, GoesOnIn, Refreshed, Tried, Unrefreshed}
+use Rattle.logged_machine.specs.Doing.{Done, DoneFrugally, GoesOnIn, LeavesCounts, Refreshed, Tried, Unrefreshed}
 use Rattle.logged_machine.specs.Frugal.{DoesNothing, Raises, WritesBy, WritesLog, has_lasting_step, own_bytes}
 use Rattle.logged_machine.proofs.Checkpointed.{nothing, unrefreshed}
 use Rattle.logged_machine.proofs.Doing.{did_behind}
+use Rattle.logged_machine.proofs.Leaving.{leaves_same, leaves_same_then, leaves_then}
 
 -- ---- what a force writes
 
@@ -63,11 +67,19 @@ module _ {D : Type 0} (state : D → DiskState) where
   nothing_written : (l : LoggedState D) (step : Bool) (own : List ℕ) → WritesBy state (Some Memory) step own l.journal l.journal l.disk l.disk
   nothing_written l step own = let d : DoesNothing l.journal l.journal l.disk l.disk = record { journal = refl; disk_is = refl } in d
 
+  pub nothing_counted : (l : LoggedState D) (more : ℕ) → LeavesCounts state more l l
+  nothing_counted l more high stands = leaves_same (CountsUpTo l.machine.system (high + more)) (state l.disk)
+
+  counted_further : (old new : LoggedState D) (less more : ℕ) → less ≤ more → LeavesCounts state less old new → LeavesCounts state more old new
+  counted_further old new less more le counts high stands =
+      leaves_same_then (CountsUpTo old.machine.system (high + less)) (CountsUpTo old.machine.system (high + more)) (state old.disk) (state new.disk)
+      (λ image c. up_to_more old.machine.system (high + less) (high + more) image (omega (arith, le)) c) (counts high stands)
+
   -- An attempt that left all as it was.
   pub tried_nothing : (old new : LoggedState D) (entry : Entry) → new ≡ old → old.served ≡ true → Tried state (Some Memory) old new entry
   tried_nothing old new entry same served =
       subst (λ (l : LoggedState D). Tried state (Some Memory) old l entry) (sym same)
-      (record { did = nothing state old entry served; writes = nothing_written old (has_lasting_step old.machine (call_of entry)) (own_bytes old.machine old.units (call_of entry)); on = λ up. still_on old })
+      (record { did = nothing state old entry served; writes = nothing_written old (has_lasting_step old.machine (call_of entry)) (own_bytes old.machine old.units (call_of entry)); on = λ up. still_on old; counts = nothing_counted old old.machine.system.logs })
 
   -- A call that left all as it was.
   pub done_nothing : (old new : LoggedState D) (entry : Entry) → new ≡ old → old.served ≡ true → DoneFrugally state (Some Memory) old new entry
@@ -77,6 +89,7 @@ module _ {D : Type 0} (state : D → DiskState) where
         did = nothing state old entry served;
         raises = λ up. nothing_raised old;
         frugal = λ free. nothing_written old (has_lasting_step old.machine (call_of entry)) (own_bytes old.machine old.units (call_of entry));
+        counts = nothing_counted old (2 * old.machine.system.logs);
       })
 
   on_raises : (old new : LoggedState D) → GoesOnIn old new → Raises (2 * old.machine.system.logs) old.journal new.journal old.next_unit new.next_unit
@@ -89,19 +102,31 @@ module _ {D : Type 0} (state : D → DiskState) where
 
   -- An attempt that needed no checkpoint.
   pub done_once : (fault : Option ControlFault) (old new : LoggedState D) (entry : Entry) → Tried state fault old new entry → DoneFrugally state fault old new entry
-  done_once fault old new entry t = record { did = t.did; raises = λ up. on_raises old new (t.on up); frugal = λ free. t.writes }
+  done_once fault old new entry t = record { did = t.did; raises = λ up. on_raises old new (t.on up); frugal = λ free. t.writes; counts = counted_further old new old.machine.system.logs (2 * old.machine.system.logs) (omega arith) t.counts }
 
   -- One whose records leave fewer than 32 sectors free went on behind a checkpoint.
   pub done_due : (fault : Option ControlFault) (old mid new : LoggedState D) (entry : Entry) (room : ℕ) → mid ≡ old → IsAllBut room old.journal.log → room < length (own_bytes old.machine old.units (call_of entry))
       → Done state fault mid new entry → DoneFrugally state fault old new entry
   done_due fault old mid new entry room same all longer done =
       let d : Done state fault old new entry = subst (λ (l : LoggedState D). Done state fault l new entry) same done in
-      record { did = d.did; raises = d.raises; frugal = λ free. absurd (over room (length (own_bytes old.machine old.units (call_of entry))) longer (all (length (own_bytes old.machine old.units (call_of entry))) free)) }
+      record { did = d.did; raises = d.raises; frugal = λ free. absurd (over room (length (own_bytes old.machine old.units (call_of entry))) longer (all (length (own_bytes old.machine old.units (call_of entry))) free)); counts = d.counts }
     where
       over : (a b : ℕ) → a < b → b ≤ a → ⊥
       over a b less more = omega (arith, less, more)
 
   -- ---- behind a checkpoint
+
+  -- A checkpoint and then an attempt count on by as much each.
+  counted_behind : (old mid new : LoggedState D) → mid.machine.system ≡ old.machine.system → ((high : ℕ) → StandsUpTo high old.journal old.next_unit → StandsUpTo (high + old.machine.system.logs) mid.journal mid.next_unit)
+      → LeavesCounts state old.machine.system.logs old mid → LeavesCounts state mid.machine.system.logs mid new → LeavesCounts state (2 * old.machine.system.logs) old new
+  counted_behind old mid new same raised one two high stands =
+      leaves_then (CountsUpTo old.machine.system (high + old.machine.system.logs)) (CountsUpTo mid.machine.system (high + old.machine.system.logs + mid.machine.system.logs)) (CountsUpTo old.machine.system (high + 2 * old.machine.system.logs))
+      (state old.disk) (state mid.disk) (state new.disk)
+      (λ image c. up_to_more old.machine.system (high + old.machine.system.logs) (high + 2 * old.machine.system.logs) image (omega arith) c)
+      (λ image c.
+      up_to_more old.machine.system (high + old.machine.system.logs + old.machine.system.logs) (high + 2 * old.machine.system.logs) image (omega arith)
+      (subst (λ (s : System). CountsUpTo s (high + old.machine.system.logs + s.logs) image) same c))
+      (one high stands) (two (high + old.machine.system.logs) (raised high stands))
 
   pub done_behind : (fault : Option ControlFault) (old mid new : LoggedState D) (entry : Entry) → Refreshed state old mid → Tried state fault mid new entry → Done state fault old new entry
   done_behind fault old mid new entry fresh t = record {
@@ -116,14 +141,15 @@ module _ {D : Type 0} (state : D → DiskState) where
           checkpoint = omega (arith, number, fresh.number);
           unit = omega (arith, on.unit, fresh.unit);
         };
+    counts = counted_behind old mid new fresh.keeps.system fresh.raised fresh.counts t.counts;
   }
 
   -- None was taken.
   pub done_untaken : (old new : LoggedState D) (entry : Entry) (fault : ControlFault) → old.served ≡ true → Unrefreshed state old new fault → Done state (Some fault) old new entry
   done_untaken old new entry Memory served same =
       let d : DoneFrugally state (Some Memory) old new entry = done_nothing old new entry same served in
-      record { did = d.did; raises = d.raises }
-  done_untaken old new entry Disk served h = record { did = unrefreshed state old new entry Disk served h; raises = λ up. absurd (down up) }
+      record { did = d.did; raises = d.raises; counts = d.counts }
+  done_untaken old new entry Disk served h = record { did = unrefreshed state old new entry Disk served h; raises = λ up. absurd (down up); counts = counted_further old new old.machine.system.logs (2 * old.machine.system.logs) (omega arith) h.3 }
     where
       down : new.served ≡ true → ⊥
       down up = apart (sym h.0.served ∙ up)
@@ -149,3 +175,11 @@ module _ {D : Type 0} (state : D → DiskState) where
       apart : false ≡ true → ⊥
       apart e = cc
   unchecked_raises old new (Spent counter) h up = absurd h
+
+  pub checked_counts : (old new : LoggedState D) → Refreshed state old new → LeavesCounts state (2 * old.machine.system.logs) old new
+  checked_counts old new fresh = counted_further old new old.machine.system.logs (2 * old.machine.system.logs) (omega arith) fresh.counts
+
+  pub unchecked_counts : (old new : LoggedState D) (fault : ControlFault) → Unrefreshed state old new fault → LeavesCounts state (2 * old.machine.system.logs) old new
+  unchecked_counts old new Memory same = subst (λ (l : LoggedState D). LeavesCounts state (2 * old.machine.system.logs) old l) (sym same) (nothing_counted old (2 * old.machine.system.logs))
+  unchecked_counts old new Disk h = counted_further old new old.machine.system.logs (2 * old.machine.system.logs) (omega arith) h.3
+  unchecked_counts old new (Spent counter) h = absurd h

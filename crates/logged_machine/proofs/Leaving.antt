@@ -18,6 +18,13 @@ leaves_then P Q R a b c p q one two = record {
       (two.from time image (omega (arith, early, one.later)) left);
 }
 
+-- what is said less of
+pub leaves_same_then : (P Q : Image → Type 0) (old new : DiskState) → ((image : Image) → P image → Q image) → Leaves P old new → Leaves Q old new
+leaves_same_then P Q old new by leaves = record {
+  later = leaves.later;
+  from = λ time image early left. ⊎_elim (λ was. inl was) (λ h. inr (by image h)) (leaves.from time image early left);
+}
+
 -- images that come from those that might be left before
 pub leaves_within : (S : Image → Image → Type 0) (P : Image → Type 0) (old new : DiskState) → ((before after : Image) → old.may_leave before → S before after → P after)
     → Within S old new → Leaves P old new

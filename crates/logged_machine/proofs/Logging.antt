@@ -29,6 +29,7 @@ use Rattle.tm_machine.specs.Parts.{PartsState}
 use Rattle.machine_life.specs.Carried.{IsCarriedBy}
 use Rattle.machine_life.specs.Going.{GoesOn, StepsOn}
 use Rattle.checkpointing.specs.Texts.{HasText}
+use Rattle.checkpoint_law.specs.Counted.{TellUnits}
 use Rattle.parts_life.specs.Logged.{IsLogged}
 use Rattle.logged_machine.specs.Leaving.{Leaves, Brings}
 use Rattle.logged_machine.proofs.Leaving.{leaves_within}
@@ -123,8 +124,8 @@ module _ (parts : PartsState) (units : List ℕ) (next_unit : ℕ) (journal : Jo
           within
 
       pub stepped : (journal' : JournalState) (new : DiskState) → AreKept (after_step s.step h.life) new → journal'.log ≡ forced mid → journal'.restart ≡ journal.restart → IsReady journal'.log new → new.size ≡ disk.size
-          → IsLogged parts' units' next' journal' text new
-      stepped journal' new kept log restart ready size = record {
+          → TellUnits parts.system journal' next' new → IsLogged parts' units' next' journal' text new
+      stepped journal' new kept log restart ready size tell = record {
         life = after_step s.step h.life;
         carried = subst (λ (y : System). IsCarriedBy y parts'.moment (slots_now parts') units' next' (after_step s.step h.life)) (sym same_system) s.is;
         kept = kept;
@@ -134,13 +135,14 @@ module _ (parts : PartsState) (units : List ℕ) (next_unit : ℕ) (journal : Jo
         areas = subst (λ (n : ℕ). data_first parts'.system (length parts'.system.databases) ≤ n) (sym size) (subst (λ (y : System). data_first y (length y.databases) ≤ disk.size) (sym same_system) h.areas);
         ready = ready;
         counted = all_numbered;
+        told = subst (λ (y : System). TellUnits y journal' next' new) (sym same_system) tell;
       }
 
     -- ---- changes are appended, or nothing is
 
     pub continued : (g : GoesOn bytes parts.system parts'.moment (slots_now parts') units' next' h.life) (journal' : JournalState) → journal'.log ≡ mid → journal'.restart ≡ journal.restart
-        → IsLogged parts' units' next' journal' text disk
-    continued g journal' log restart = record {
+        → TellUnits parts.system journal' next' disk → IsLogged parts' units' next' journal' text disk
+    continued g journal' log restart tell = record {
       life = g.behind;
       carried = subst (λ (y : System). IsCarriedBy y parts'.moment (slots_now parts') units' next' g.behind) (sym same_system) g.is;
       kept = λ image left. g.kept image (h.kept image left);
@@ -150,4 +152,5 @@ module _ (parts : PartsState) (units : List ℕ) (next_unit : ℕ) (journal : Jo
       areas = subst (λ (y : System). data_first y (length y.databases) ≤ disk.size) (sym same_system) h.areas;
       ready = subst (λ (w : Writer). IsReady w disk) (sym (log ∙ told)) (more_ready bytes journal.log disk h.ready);
       counted = all_numbered;
+      told = subst (λ (y : System). TellUnits y journal' next' disk) (sym same_system) tell;
     }

@@ -3,7 +3,7 @@ use Rattle.std.proofs.Common.{◌≡◌, ◌≤◌, ◌+◌, ℕ, Bool, true, fa
 use Rattle.std.specs.Prelude.{Option, Some, None, ◌++◌}
 use Rattle.std.specs.List.{flat_map}
 use Rattle.std.specs.Option.{is_some}
-use Rattle.model_disk.specs.Disk.{Image, DiskState, Stays, Within, FailedSince}
+use Rattle.model_disk.specs.Disk.{Image, DiskState, Stays, Within, Follows, FailedSince}
 use Rattle.model_machine.specs.Machine.{LastingState, Moment}
 use Rattle.model_machine.specs.Lasting.{LastingStep}
 use Rattle.model_machine.specs.History.{after_entry}
@@ -12,10 +12,11 @@ use Rattle.model_machine.specs.declared.entry.ControlFault.TheVariants.{Disk}
 use Rattle.log_records.specs.declared.record.Record.{Record}
 use Rattle.log_records.specs.Spelling.{spelling}
 use Rattle.log_writer.specs.Writer.{Writer}
-use Rattle.log_writer.specs.Log.{IsReady, AddsFront, sectors_of}
+use Rattle.log_writer.specs.Log.{IsReady, AddsFront, AddsAll, sectors_of}
 use Rattle.disk_law.specs.Life.{LifeOnDisk}
 use Rattle.disk_law.specs.Kept.{AreKept}
 use Rattle.step_law.specs.Steps.{StepOnDisk, after_step}
+use Rattle.checkpoint_law.specs.Counted.{TellUnits}
 use Rattle.disk_law.specs.Journal.{JournalState}
 use Rattle.journal.specs.State.{IsStepOf, forced}
 use Rattle.program_rows.specs.OnSlots.{SlotsState}
@@ -42,6 +43,7 @@ pub record Forces (log log' : Writer) (old new : DiskState) : Type 0 where
   pub log_is : log' ≡ forced log
   pub ready : IsReady log' new
   pub no_fault : new.faults ≡ old.faults
+  pub follows : Follows (AddsAll log) old new
 
 module _ {D : Type 0} (state : D → DiskState) (parts parts' : PartsState) (text : List ℕ) (journal mid : JournalState) (units units' : List ℕ) (next next' : ℕ) (disk : D) (up : Bool)
     (h : IsLogged parts units next journal text (state disk)) (as_many : length units' ≡ length units) (entry : Entry) (answered : IsAnswered parts parts' entry) (records : List Record) (told : Appends records journal mid)
@@ -68,10 +70,10 @@ module _ {D : Type 0} (state : D → DiskState) (parts parts' : PartsState) (tex
     };
   }
 
-  pub quiet_logged : is_some step ≡ false → IsLogged parts' units' next' mid text (state disk)
-  quiet_logged none =
+  pub quiet_logged : is_some step ≡ false → TellUnits parts.system mid next' (state disk) → IsLogged parts' units' next' mid text (state disk)
+  quiet_logged none tell =
       continued parts units next journal text (state disk) h parts' units' next' answered.system as_many (flat_map spelling records) mid.log told.log
-      (goes_quiet (flat_map spelling records) parts.system parts'.moment (slots_now parts') units' next' h.life step none goes) mid refl told.restart
+      (goes_quiet (flat_map spelling records) parts.system parts'.moment (slots_now parts') units' next' h.life step none goes) mid refl told.restart tell
 
   module _ (some : is_some step ≡ true) (journal' : JournalState) (disk' : D) where
     steps : StepsOn (flat_map spelling records) parts.system parts'.moment (slots_now parts') units' next' h.life
@@ -99,11 +101,11 @@ module _ {D : Type 0} (state : D → DiskState) (parts parts' : PartsState) (tex
       };
     }
 
-    pub wrote_logged : Forces mid.log journal'.log (state disk) (state disk') → journal'.restart ≡ mid.restart → IsLogged parts' units' next' journal' text (state disk')
-    wrote_logged f restart =
+    pub wrote_logged : Forces mid.log journal'.log (state disk) (state disk') → journal'.restart ≡ mid.restart → TellUnits parts.system journal' next' (state disk') → IsLogged parts' units' next' journal' text (state disk')
+    wrote_logged f restart tell =
         stepped parts units next journal text (state disk) h parts' units' next' answered.system as_many (flat_map spelling records) mid.log told.log steps journal' (state disk')
         (f.kept h.life steps.step (step_of parts units next journal text (state disk) h parts' units' next' answered.system as_many (flat_map spelling records) mid.log told.log steps) h.kept)
-        f.log_is (restart ∙ told.restart) f.ready f.stays.size
+        f.log_is (restart ∙ told.restart) f.ready f.stays.size tell
 
     -- the disk failed in the force
     abbrev pub is_broken : LoggedState D

@@ -8,6 +8,7 @@ use Rattle.model_image.specs.Areas.{data_first}
 use Rattle.std.specs.Prelude.{length}
 use Rattle.tm_machine.specs.Parts.{PartsState}
 use Rattle.parts_life.specs.Logged.{IsLogged}
+use Rattle.parts_life.proofs.Counts.{standing_up_to}
 use Rattle.logged_machine.specs.Logged.{LoggedState, AreLasting}
 use Rattle.logged_machine.proofs.Logging.{recover, have_text}
 
@@ -16,6 +17,7 @@ pub are_lasting : {D : Type 0} (state : D → DiskState) (l : LoggedState D) (un
 are_lasting state l units h = record {
   recover = recover l.machine units l.next_unit l.journal l.text (state l.disk) h;
   have_text = have_text l.machine units l.next_unit l.journal l.text (state l.disk) h;
+  counts = standing_up_to l.machine units l.next_unit l.journal l.text (state l.disk) h;
 }
 
 -- a disk on which nothing was written is as before
@@ -31,6 +33,7 @@ kept_logged parts units next journal text old new keeps h = record {
   areas = subst (λ (n : ℕ). data_first parts.system (length parts.system.databases) ≤ n) (sym keeps.stays.size) h.areas;
   ready = λ image left. h.ready image (keeps.no_more image left);
   counted = h.counted;
+  told = λ image left. h.told image (keeps.no_more image left);
 }
 
 -- no sequence of the log passes its range

@@ -1,6 +1,8 @@
 -- What one attempt of a call leaves, and what a checkpoint does.
 use Rattle.std.specs.Prelude.{◌≡◌, ℕ, ◌+◌, ◌*◌, ◌≤◌, Bool, true, false, Option, Some, None}
-use Rattle.model_disk.specs.Disk.{DiskState, FailedSince, Only}
+use Rattle.model_disk.specs.Disk.{Image, DiskState, FailedSince, Only}
+use Rattle.checkpointing.specs.Counts.{CountsUpTo}
+use Rattle.checkpoint_law.specs.Counted.{StandsUpTo}
 use Rattle.machine_life.specs.Counted.{IsCounted}
 use Rattle.model_machine.specs.Machine.{LastingState}
 use Rattle.model_machine.specs.History.{after_entry, call_of}
@@ -19,6 +21,15 @@ lasting_with l entry = (after_entry l.machine.system l.machine.moment entry).las
 -- Whatever a crash leaves recovers to what lasted, or to this.
 abbrev pub LeavesSo : {D : Type 0} → (D → DiskState) → LoggedState D → LoggedState D → LastingState → Type 0
 LeavesSo state old new after = Leaves (Brings old.machine.system old.text old.machine.moment.lasting after) (state old.disk) (state new.disk)
+
+-- Where what the machine counts on itself stands up to a bound, whatever a crash leaves counts further by so much at most.
+abbrev pub LeavesCounts : {D : Type 0} → (D → DiskState) → ℕ → LoggedState D → LoggedState D → Type 0
+LeavesCounts state more old new = (high : ℕ) → StandsUpTo high old.journal old.next_unit → Leaves (CountsUpTo old.machine.system (high + more)) (state old.disk) (state new.disk)
+
+-- So it is of whatever a crash might have left since the call began.
+abbrev pub CountsSince : {D : Type 0} → (D → DiskState) → ℕ → LoggedState D → LoggedState D → Type 0
+CountsSince state more old new =
+    (high : ℕ) → StandsUpTo high old.journal old.next_unit → (image : Image) → (state new.disk).left_since (state old.disk).clock image → CountsUpTo old.machine.system (high + more) image
 
 -- the disk failed
 pub record Broke {D : Type 0} (state : D → DiskState) (old new : LoggedState D) : Type 0 where
@@ -46,17 +57,20 @@ pub record Tried {D : Type 0} (state : D → DiskState) (fault : Option ControlF
   pub did : Did state fault old new entry
   pub writes : WritesBy state fault (has_lasting_step old.machine (call_of entry)) (own_bytes old.machine old.units (call_of entry)) old.journal new.journal old.disk new.disk
   pub on : new.served ≡ true → GoesOnIn old new
+  pub counts : LeavesCounts state old.machine.system.logs old new
 
 -- A call, behind one checkpoint or none.
 pub record Done {D : Type 0} (state : D → DiskState) (fault : Option ControlFault) (old new : LoggedState D) (entry : Entry) : Type 0 where
   pub did : Did state fault old new entry
   pub raises : new.served ≡ true → Raises (2 * old.machine.system.logs) old.journal new.journal old.next_unit new.next_unit
+  pub counts : LeavesCounts state (2 * old.machine.system.logs) old new
 
 -- A call that takes a checkpoint only where one is due.
 pub record DoneFrugally {D : Type 0} (state : D → DiskState) (fault : Option ControlFault) (old new : LoggedState D) (entry : Entry) : Type 0 where
   pub did : Did state fault old new entry
   pub raises : new.served ≡ true → Raises (2 * old.machine.system.logs) old.journal new.journal old.next_unit new.next_unit
   pub frugal : IsFrugal state fault old.machine old.units (call_of entry) old.journal new.journal old.disk new.disk
+  pub counts : LeavesCounts state (2 * old.machine.system.logs) old new
 
 -- A checkpoint was taken: the machine stands where it stood. Its number is the next one, its log
 -- area is empty, and a crash leaves what is shown.
@@ -71,12 +85,14 @@ pub record Refreshed {D : Type 0} (state : D → DiskState) (old new : LoggedSta
   pub epoch : new.journal.restart.epoch ≡ old.journal.restart.epoch
   pub sequence : new.journal.log.sequence ≤ old.journal.log.sequence + old.journal.log.place + old.machine.system.logs
   pub unit : new.next_unit ≡ old.next_unit
+  pub counts : LeavesCounts state old.machine.system.logs old new
+  pub raised : (high : ℕ) → StandsUpTo high old.journal old.next_unit → StandsUpTo (high + old.machine.system.logs) new.journal new.next_unit
 
 -- None was taken: there was no memory, and nothing happened; or the disk failed, and whatever a crash leaves recovers to what
 -- lasted.
 abbrev pub Unrefreshed : {D : Type 0} → (D → DiskState) → LoggedState D → LoggedState D → ControlFault → Type 0
 Unrefreshed state old new Memory = new ≡ old
-Unrefreshed state old new Disk = Broke state old new × LeavesSo state old new old.machine.moment.lasting × Keeps state old new
+Unrefreshed state old new Disk = Broke state old new × LeavesSo state old new old.machine.moment.lasting × Keeps state old new × LeavesCounts state old.machine.system.logs old new
 Unrefreshed state old new (Spent counter) = ⊥
 
 -- the fault is want of memory

@@ -4,6 +4,8 @@ use Rattle.model_disk.specs.Disk.{Image, DiskState}
 use Rattle.model_machine.specs.declared.counts.Counter.{Counter}
 use Rattle.model_image.specs.Recovered.{Recovers}
 use Rattle.checkpointing.specs.Texts.{HasText}
+use Rattle.checkpointing.specs.Counts.{CountsUpTo}
+use Rattle.checkpoint_law.specs.Counted.{StandsUpTo}
 use Rattle.opening_answers.specs.Opening.{counters, first_spent}
 use Rattle.disk_law.specs.Journal.{JournalState}
 use Rattle.tm_machine.specs.Parts.{PartsState}
@@ -19,10 +21,12 @@ pub record LoggedState (D : Type 0) : Type 0 where
   pub next_unit : ℕ
   pub disk : D
 
--- Each image that a crash may leave is of this text, and recovers to what lasts.
+-- Each image that a crash may leave is of this text, and recovers to what lasts. Where the machine's own counters stand up to a
+-- bound, it counts further by the sectors of a log area at most.
 pub record AreLasting {D : Type 0} (state : D → DiskState) (l : LoggedState D) : Type 0 where
   pub recover : (image : Image) → (state l.disk).may_leave image → Recovers l.machine.system image (Ok l.machine.moment.lasting)
   pub have_text : (image : Image) → (state l.disk).may_leave image → HasText l.machine.system l.text image
+  pub counts : (high : ℕ) → StandsUpTo high l.journal l.next_unit → (image : Image) → (state l.disk).may_leave image → CountsUpTo l.machine.system (high + l.machine.system.logs) image
 
 -- So it is while calls are served.
 abbrev pub LastsNow : {D : Type 0} → (D → DiskState) → LoggedState D → Type 0

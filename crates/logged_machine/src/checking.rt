@@ -1,10 +1,10 @@
 //! Checkpoints that are asked for.
-ghost use Rattle.std.specs.Prelude.{◌≡◌, true, ℕ, None, Ok, IfOk};
+ghost use Rattle.std.specs.Prelude.{◌*◌, ◌≡◌, true, ℕ, None, Ok, IfOk};
 ghost use Rattle.model_disk.specs.Disk.{Image};
 ghost use Rattle.model_machine.specs.Commands.{checkpoint_answer, unless_busy};
 ghost use Rattle.model_machine.specs.declared.entry.Entry.TheVariants.{Checked};
 ghost use Rattle.machine_life.specs.Counted.{IsCounted};
-ghost use Rattle.logged_machine.specs.Doing.{Did};
+ghost use Rattle.logged_machine.specs.Doing.{CountsSince, Did, LeavesCounts};
 ghost use Rattle.logged_machine.specs.Frugal.{Raises};
 ghost use Rattle.logged_machine.specs.Goes.{Keeps, GoesBy, CrashesBy};
 ghost use Rattle.control_life.specs.Faults.{fault_in};
@@ -26,6 +26,7 @@ impl<D: Disk> LoggedMachine<D> {
         ensures crash { CrashesBy D.state (fault_in (Checked freeze result)) self.old self.new (Checked freeze result) }
         ensures lasts { LastsNow D.state self.new }
         ensures keeps { Keeps D.state self.old self.new }
+        ensures counts { CountsSince D.state (2 * self.old.machine.system.logs) self.old self.new }
         ensures raises { self.new.served ≡ true → Raises self.old.machine.system.logs self.old.journal self.new.journal self.old.next_unit self.new.next_unit }
         ensures taken { IfOk result (λ number. IsTaken self.new.machine.system number self.old.journal self.new.journal (D.state self.new.disk)) }
     {
@@ -40,6 +41,7 @@ impl<D: Disk> LoggedMachine<D> {
         requires served { self.old.served ≡ true }
         requires counted { IsCounted 0 self.old.machine.moment.lasting self.old.next_unit self.old.journal }
         ensures did { Did D.state (fault_in (Checked freeze result)) self.old self.new (Checked freeze result) }
+        ensures counts { LeavesCounts D.state (2 * self.old.machine.system.logs) self.old self.new }
         ensures raises { self.new.served ≡ true → Raises self.old.machine.system.logs self.old.journal self.new.journal self.old.next_unit self.new.next_unit }
         ensures taken { IfOk result (λ number. IsTaken self.new.machine.system number self.old.journal self.new.journal (D.state self.new.disk)) }
     {
@@ -57,6 +59,7 @@ impl<D: Disk> LoggedMachine<D> {
         requires stays { again self.old.machine ≡ self.old.machine.moment }
         requires free { (number : ℕ) → checkpoint_answer self.old.machine.moment freeze number ≡ Ok number }
         ensures did { Did D.state (fault_in (Checked freeze result)) self.old self.new (Checked freeze result) }
+        ensures counts { LeavesCounts D.state (2 * self.old.machine.system.logs) self.old self.new }
         ensures raises { self.new.served ≡ true → Raises self.old.machine.system.logs self.old.journal self.new.journal self.old.next_unit self.new.next_unit }
         ensures taken { IfOk result (λ number. IsTaken self.new.machine.system number self.old.journal self.new.journal (D.state self.new.disk)) }
     {

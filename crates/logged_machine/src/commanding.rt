@@ -7,7 +7,7 @@ ghost use Rattle.model_machine.specs.Commands.{IsServed, lasting_command, comman
 ghost use Rattle.logged_machine.specs.Logged.{LastsNow, spent_now};
 ghost use Rattle.logged_machine.specs.Goes.{Keeps, GoesBy, CrashesBy};
 ghost use Rattle.control_life.specs.Faults.{fault_in};
-ghost use Rattle.logged_machine.specs.Doing.{Done, DoneFrugally, Tried};
+ghost use Rattle.logged_machine.specs.Doing.{CountsSince, Done, DoneFrugally, Tried};
 ghost use Rattle.logged_machine.specs.Frugal.{IsFrugal, Raises, own_bytes};
 ghost use Rattle.step_telling.specs.Untold.{WhereFull};
 ghost use Rattle.machine_telling.specs.Telling.{HasRoom};
@@ -39,6 +39,7 @@ impl<D: Disk> LoggedMachine<D> {
         ensures crash { CrashesBy D.state (fault_in (Commanded command.now result)) self.old self.new (Commanded command.now result) }
         ensures lasts { LastsNow D.state self.new }
         ensures keeps { Keeps D.state self.old self.new }
+        ensures counts { CountsSince D.state (2 * self.old.machine.system.logs) self.old self.new }
         ensures frugal { IsFrugal D.state (fault_in (Commanded command.now result)) self.old.machine self.old.units (CommandCall command.now) self.old.journal self.new.journal self.old.disk self.new.disk }
         ensures raises { self.new.served ≡ true → Raises (2 * self.old.machine.system.logs) self.old.journal self.new.journal self.old.next_unit self.new.next_unit }
     {

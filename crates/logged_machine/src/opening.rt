@@ -1,7 +1,8 @@
 //! How a machine with its log is opened.
 ghost use Rattle.std.specs.Prelude.{◌≡◌, ◌≤◌, length, replicate, IfOk, IfErr};
 ghost use Rattle.cold_start.specs.FirstImage.{sectors_needed};
-ghost use Rattle.model_disk.specs.Disk.{Only};
+ghost use Rattle.checkpointing.specs.Counts.{RaisesCounts};
+ghost use Rattle.model_disk.specs.Disk.{Only, Within};
 ghost use Rattle.model_machine.specs.Machine.{empty_state, start_of};
 ghost use Rattle.machine_life.proofs.Openings.{no_units};
 ghost use Rattle.logged_machine.specs.Logged.{LastsNow};
@@ -34,6 +35,9 @@ impl<D: Disk> LoggedMachine<D> {
         requires only { Only (D.state disk).shown (D.state disk) }
         ensures opened { IfOk result (λ opened. Opens D.state how system text disk opened.0 opened.1) }
         ensures lasts { IfOk result (λ opened. LastsNow D.state opened.0) }
+        // No counter of what a crash leaves rises by more than one.
+        ensures counts { IfOk result (λ opened. Within (RaisesCounts 1 system) (D.state disk) (D.state opened.0.disk)) }
+        ensures counts_back { IfErr result (λ refused. Within (RaisesCounts 1 system) (D.state disk) (D.state refused.disk)) }
         ensures refused { IfErr result (λ refused. HandsBack D.state how system text disk refused.error refused.disk refused.system refused.text) }
     {
         let needed = sectors_needed(&system);
@@ -72,6 +76,8 @@ fn open_parts<D: Disk>(
     requires size { sectors_needed parts.system ≤ (D.state disk).size }
     ensures opened { IfOk result (λ opened. Opens D.state how parts.system text disk opened.0 opened.1) }
     ensures lasts { IfOk result (λ opened. LastsNow D.state opened.0) }
+    ensures counts { IfOk result (λ opened. Within (RaisesCounts 1 parts.system) (D.state disk) (D.state opened.0.disk)) }
+    ensures counts_back { IfErr result (λ refused. Within (RaisesCounts 1 parts.system) (D.state disk) (D.state refused.disk)) }
     ensures refused { IfErr result (λ refused. HandsBack D.state how parts.system text disk refused.error refused.disk refused.system refused.text) }
 {
     let Ok(units) = without_units(alloc, parts.system().regions().len()) else {

@@ -8,3 +8,4 @@ pub mod Opening
 pub mod Checking
 pub mod Closing
 pub mod Counts
+pub mod OwnUnits

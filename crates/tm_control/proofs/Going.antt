@@ -1,5 +1,5 @@
 -- A call of a control region, by what it leaves of its machine.
-use Rattle.std.proofs.Common.{◌≡◌, ◌≤◌, ◌⊎◌, ◌+◌, ℕ, Bool, true, false, List, [], ◌∷◌, ◌++◌, refl, sym, ◌∙◌, ap, subst, arith}
+use Rattle.std.proofs.Common.{◌≡◌, ◌≤◌, ◌⊎◌, ◌+◌, ◌*◌, ℕ, Bool, true, false, List, [], ◌∷◌, ◌++◌, refl, sym, ◌∙◌, ap, subst, arith}
 use Rattle.std.specs.Prelude.{Option, Some, None, Ok, if◌then◌else◌}
 use Rattle.std.specs.Option.{option_map_or}
 use Rattle.model_disk.specs.Disk.{Image, DiskState, IsDisk}
@@ -16,6 +16,7 @@ use Rattle.tm_machine.specs.Answers.{IsAnswered}
 use Rattle.model_image.specs.Recovered.{Recovers}
 use Rattle.disk_law.specs.Kept.{RecoversEither}
 use Rattle.checkpointing.specs.Texts.{HasText}
+use Rattle.checkpointing.proofs.Counted.{up_to_more}
 use Rattle.disk_law.specs.Journal.{JournalState}
 use Rattle.logged_machine.specs.Logged.{LoggedState, LastsNow}
 use Rattle.logged_machine.specs.Goes.{Keeps, WentOn, Failed, StoodStill, GoesBy, CrashesBy}
@@ -24,7 +25,7 @@ use Rattle.tm_control.specs.OnDisk.{ControlOnDisk, IsUp, IsDown, Lasts, LastsBy,
 use Rattle.model_machine.specs.declared.entry.ControlCall.{ControlCall}
 use Rattle.tm_machine.specs.Parts.{PartsState}
 use Rattle.logged_machine.specs.Frugal.{IsFrugal}
-use Rattle.tm_control.specs.Calls.{StaysSo, AddsBy, CrashesSo, CrashesAlone, is_noted, noted, parts_now}
+use Rattle.tm_control.specs.Calls.{StaysSo, CountsSince, AddsBy, CrashesSo, CrashesAlone, is_noted, noted, parts_now}
 use Rattle.tm_control.specs.Inside.{IsServed, IsBroken, Holds, HoldsBy, last_checked}
 use Rattle.tm_control.proofs.Numbers.{ascend_more, last_more, Numbers, Next, next_number, fault_ascends}
 
@@ -324,6 +325,13 @@ pub still : {D : Type 0} (state : D → DiskState) (machine : LoggedState D) (op
 still state machine opening history room room' began steps served holds lasts disk image left =
     subst (λ (m : Moment). Recovers machine.machine.system image (Ok m.lasting)) (sym (is_served state machine opening history steps served holds).moment)
     ((lasts served).recover image (disk.now_alone image left))
+
+-- nor does it count further
+pub still_counts : {D : Type 0} (state : D → DiskState) (machine : LoggedState D) (opening : LastingState) (history : List Entry) (room room' began : ℕ)
+    → machine.served ≡ true → LastsNow state machine → IsDisk (state machine.disk)
+    → CountsSince state (2 * machine.machine.system.logs) (seen machine opening history room began) (seen machine opening history room' began)
+still_counts state machine opening history room room' began served lasts disk high stands image left =
+    up_to_more machine.machine.system (high + machine.machine.system.logs) (high + 2 * machine.machine.system.logs) image (omega arith) ((lasts served).counts high stands image (disk.now_alone image left))
 
 -- the machine stands where it stood, and was asked
 pub shown_holds : {D : Type 0} (state : D → DiskState) (machine : LoggedState D) (opening : LastingState) (before after : List Entry) (entry : Entry) (steps : ℕ)

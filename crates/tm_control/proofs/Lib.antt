@@ -1,5 +1,6 @@
 pub mod Numbers
 pub mod Rings
 pub mod Going
+pub mod Counting
 pub mod Handing
 pub mod Closing

@@ -1,5 +1,5 @@
 -- What a call of a control region does.
-use Rattle.std.specs.Prelude.{◌≡◌, ℕ, ◌++◌, Bool, true, false, List, [], ◌∷◌, Option, Some, None, Ok}
+use Rattle.std.specs.Prelude.{◌≡◌, ℕ, ◌+◌, ◌++◌, Bool, true, false, List, [], ◌∷◌, Option, Some, None, Ok}
 use Rattle.model_disk.specs.Disk.{Image, DiskState, Stays, FailedSince}
 use Rattle.model_machine.specs.History.{AddsEntry, AddsNothing, IsCall, call_of, now_of}
 use Rattle.model_machine.specs.declared.counts.Counter.{Counter}
@@ -7,6 +7,8 @@ use Rattle.model_machine.specs.declared.entry.Entry.{Entry}
 use Rattle.model_machine.specs.declared.entry.ControlFault.{ControlFault}
 use Rattle.model_machine.specs.declared.entry.ControlFault.TheVariants.{Memory, Disk, Spent}
 use Rattle.model_image.specs.Recovered.{Recovers}
+use Rattle.checkpointing.specs.Counts.{CountsUpTo}
+use Rattle.checkpoint_law.specs.Counted.{StandsUpTo}
 use Rattle.disk_law.specs.Kept.{RecoversEither}
 use Rattle.tm_machine.specs.Parts.{PartsState}
 use Rattle.logged_machine.specs.Frugal.{IsFrugal, Raises}
@@ -111,6 +113,12 @@ WritesFrugally state fault old new entry = IsFrugal state fault (parts_now old) 
 -- While it is up, the log's next sequence has risen by so many sectors at most, and no other counter of its log by more than one.
 abbrev pub RaisesBy : {D : Type 0} → ℕ → ControlOnDisk D → ControlOnDisk D → Type 0
 RaisesBy sectors old new = new.up ≡ true → Raises sectors old.journal new.journal old.next_unit new.next_unit
+
+-- Where what it counts on itself stands up to a bound, whatever a crash might have left since the call began counts further by so
+-- much at most.
+abbrev pub CountsSince : {D : Type 0} → (D → DiskState) → ℕ → ControlOnDisk D → ControlOnDisk D → Type 0
+CountsSince state more old new =
+    (high : ℕ) → StandsUpTo high old.journal old.next_unit → (image : Image) → (state new.disk).left_since (state old.disk).clock image → CountsUpTo old.control.system (high + more) image
 
 -- The call says that a counter is spent exactly where one stands at its limit, and names the first. It is looked at before
 -- all else.

@@ -1,8 +1,11 @@
 //! The calls of the control region.
-ghost use Rattle.std.specs.Prelude.{◌≡◌, ◌+◌, ◌-◌, ◌*◌, ◌<◌, ◌≤◌, ◌↔◌, length, true, if◌then◌else◌, IfOk, IfErr, OnOk, OnErr, IsTrue};
+ghost use Rattle.std.specs.Prelude.{◌≡◌, ℕ, ◌+◌, ◌-◌, ◌*◌, ◌<◌, ◌≤◌, ◌↔◌, length, true, if◌then◌else◌, IfOk, IfErr, OnOk, OnErr, IsTrue};
 ghost use Rattle.std.specs.Borrow.{sem};
 ghost use Rattle.std.specs.Io.BufRead.{Rests};
-ghost use Rattle.model_disk.specs.Disk.{Keeps, Only, armed};
+ghost use Rattle.checkpoint_law.specs.Counted.{StandsUpTo};
+ghost use Rattle.checkpointing.specs.Counts.{CountsUpTo, RaisesCounts};
+ghost use Rattle.control_life.specs.declared.how.How.TheVariants.{Found};
+ghost use Rattle.model_disk.specs.Disk.{Keeps, Only, Within, armed};
 ghost use Rattle.model_machine.specs.declared.entry.Entry.TheVariants.{Accept, Show, Acked as AckedEntry, Turn as TurnEntry, Commanded, Checked};
 ghost use Rattle.model_machine.specs.Commands.{IsServed, command_answer};
 ghost use Rattle.model_machine.specs.Machine.{output_at, terminal_at, IsRegion};
@@ -14,7 +17,7 @@ ghost use Rattle.control_life.specs.Opened.{HandsBack};
 ghost use Rattle.logged_machine.specs.Logged.{LastsNow};
 ghost use Rattle.logged_machine.specs.Taken.{IsTaken};
 ghost use Rattle.tm_control.specs.OnDisk.{Lasts, spent_now};
-ghost use Rattle.tm_control.specs.Calls.{StaysSo, Shows, AddsBy, CrashesSo, KeepsLog, RaisesBy, SpentBy, StaysSpent, WritesFrugally};
+ghost use Rattle.tm_control.specs.Calls.{StaysSo, Shows, AddsBy, CountsSince, CrashesSo, KeepsLog, RaisesBy, SpentBy, StaysSpent, WritesFrugally};
 ghost use Rattle.tm_control.specs.Closed.{Opens, Closes};
 ghost use Rattle.tm_control.specs.contracts.control.Control.{the_row};
 
@@ -86,6 +89,10 @@ impl<D: Disk> Control<D> {
         requires only { Only (D.state disk).shown (D.state disk) }
         ensures opened { IfOk result (Opens D.state how system text disk) }
         ensures lasts { IfOk result (Lasts D.state) }
+        // No counter of what a crash leaves rises by more than one, and the first ones stand one above those of what is found.
+        ensures counts { IfOk result (λ opened. Within (RaisesCounts 1 system) (D.state disk) (D.state opened.disk)) }
+        ensures stands { IfOk result (λ opened. (high : ℕ) → (how ≡ Found → IsTrue (D.state disk).tells) → (how ≡ Found → CountsUpTo system high (D.state disk).shown) → StandsUpTo (high + 1) opened.journal opened.next_unit) }
+        ensures counts_back { IfErr result (λ refused. Within (RaisesCounts 1 system) (D.state disk) (D.state refused.disk)) }
         ensures refused { IfErr result (λ refused. HandsBack D.state how system text disk refused.error refused.disk refused.system refused.text) }
     {
         let began = disk.faults();
@@ -206,6 +213,7 @@ impl<D: Disk> Control<D> {
         ensures nothing { StaysSpent (fault_in (Accept terminal.now number segments result)) self.old self.new }
         ensures frugal { WritesFrugally D.state (fault_in (Accept terminal.now number segments result)) self.old self.new (Accept terminal.now number segments result) }
         ensures raises { RaisesBy (2 * self.old.control.system.logs) self.old self.new }
+        ensures counts { CountsSince D.state (2 * self.old.control.system.logs) self.old self.new }
         ensures stays { StaysSo D.state self.old self.new }
     {
         if let Some(counter) = self.machine.spent() {
@@ -265,6 +273,7 @@ impl<D: Disk> Control<D> {
         ensures nothing { StaysSpent (fault_in (AckedEntry terminal.now number result)) self.old self.new }
         ensures frugal { WritesFrugally D.state (fault_in (AckedEntry terminal.now number result)) self.old self.new (AckedEntry terminal.now number result) }
         ensures raises { RaisesBy (2 * self.old.control.system.logs) self.old self.new }
+        ensures counts { CountsSince D.state (2 * self.old.control.system.logs) self.old self.new }
         ensures stays { StaysSo D.state self.old self.new }
     {
         if let Some(counter) = self.machine.spent() {
@@ -290,6 +299,7 @@ impl<D: Disk> Control<D> {
         ensures nothing { StaysSpent (fault_in (TurnEntry region result)) self.old self.new }
         ensures frugal { WritesFrugally D.state (fault_in (TurnEntry region result)) self.old self.new (TurnEntry region result) }
         ensures raises { RaisesBy (2 * self.old.control.system.logs) self.old self.new }
+        ensures counts { CountsSince D.state (2 * self.old.control.system.logs) self.old self.new }
         ensures stays { StaysSo D.state self.old self.new }
     {
         if let Some(counter) = self.machine.spent() {
@@ -315,6 +325,7 @@ impl<D: Disk> Control<D> {
         ensures nothing { StaysSpent (fault_in (Commanded command.now result)) self.old self.new }
         ensures frugal { WritesFrugally D.state (fault_in (Commanded command.now result)) self.old self.new (Commanded command.now result) }
         ensures raises { RaisesBy (2 * self.old.control.system.logs) self.old self.new }
+        ensures counts { CountsSince D.state (2 * self.old.control.system.logs) self.old self.new }
         ensures stays { StaysSo D.state self.old self.new }
     {
         if let Some(counter) = self.machine.spent() {
@@ -341,6 +352,7 @@ impl<D: Disk> Control<D> {
         ensures spent { SpentBy (spent_now self.old) (fault_in (Checked freeze result)) }
         ensures nothing { StaysSpent (fault_in (Checked freeze result)) self.old self.new }
         ensures raises { RaisesBy self.old.control.system.logs self.old self.new }
+        ensures counts { CountsSince D.state (2 * self.old.control.system.logs) self.old self.new }
         ensures stays { StaysSo D.state self.old self.new }
         ensures taken { IfOk result (λ number. IsTaken self.new.control.system number self.old.journal self.new.journal (D.state self.new.disk)) }
     {

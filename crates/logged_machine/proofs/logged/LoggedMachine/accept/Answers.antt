@@ -1,7 +1,8 @@
 -- as callers see it
+use Rattle.std.proofs.Common.{◌*◌, arith}
 use Rattle.model_machine.specs.declared.entry.Entry.TheVariants.{Accept}
 use Rattle.control_life.specs.Faults.{fault_in}
-use Rattle.logged_machine.proofs.Doing.{crashes, goes}
+use Rattle.logged_machine.proofs.Doing.{counted, crashes, goes}
 use Rattle.logged_machine.proofs.Unspent.{counted_now}
 use Rattle.logged_machine.proofs.logged.LoggedMachine.accept.Goals as goal
 
@@ -13,3 +14,7 @@ returns-clause-goes g c = goes g.D.Disk.state c.args.self.now c.accept_any-answe
 
 pub returns-clause-crash : goal.returns-clause-crash
 returns-clause-crash g c = crashes g.D.Disk.state c.args.self.now c.accept_any-answer.new.self (Accept c.args.terminal.now c.args.number c.args.segments c.accept_any-answer.result) (c.is_served-before.ensures.lasts c.requires.served) (g.met.D.Disk.is_disk c.args.self.now.disk) (g.met.D.Disk.is_disk c.accept_any-answer.new.self.disk) (fault_in (Accept c.args.terminal.now c.args.number c.args.segments c.accept_any-answer.result)) c.accept_any-answer.ensures.did.did.did
+
+pub returns-clause-counts : goal.returns-clause-counts
+returns-clause-counts g c =
+    counted g.D.Disk.state c.args.self.now c.accept_any-answer.new.self (Accept c.args.terminal.now c.args.number c.args.segments c.accept_any-answer.result) (c.is_served-before.ensures.lasts c.requires.served) (g.met.D.Disk.is_disk c.args.self.now.disk) (g.met.D.Disk.is_disk c.accept_any-answer.new.self.disk) (2 * c.args.self.now.machine.system.logs) (omega arith) c.accept_any-answer.ensures.did.counts

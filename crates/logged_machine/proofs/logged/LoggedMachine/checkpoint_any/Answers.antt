@@ -1,10 +1,11 @@
 -- where a region's work forbids it
-use Rattle.std.proofs.Common.{Err, refl, arith, ◌∙◌, ap, sym}
+use Rattle.std.proofs.Common.{◌*◌, Err, refl, arith, ◌∙◌, ap, sym}
 use Rattle.model_machine.specs.declared.entry.CheckpointRefused.TheVariants.{BusyRegion}
 use Rattle.model_machine.specs.declared.entry.Entry.TheVariants.{Checked}
 use Rattle.logged_machine.specs.Logged.{LoggedState}
 use Rattle.logged_machine.proofs.Checked.{busy_answer}
 use Rattle.logged_machine.proofs.Checkpointed.{answered_still}
+use Rattle.logged_machine.proofs.Frugality.{nothing_counted}
 use Rattle.logged_machine.proofs.logged.LoggedMachine.checkpoint_any.Goals as goal
 
 pub returns-in-Some-clause-did : goal.returns-in-Some-clause-did
@@ -20,3 +21,7 @@ checkpoint_free-requires-clause-free g c = rw (sym c.self.view_is) c.in-None.ens
 
 pub returns-in-Some-clause-raises : goal.returns-in-Some-clause-raises
 returns-in-Some-clause-raises g c = λ up. record { epoch = refl; sequence = omega arith; checkpoint = omega arith; unit = omega arith }
+
+pub returns-in-Some-clause-counts : goal.returns-in-Some-clause-counts
+returns-in-Some-clause-counts g c =
+    rw (sym c.self.view_is) (nothing_counted g.D.Disk.state (record { machine = c.self.inside.parts; text = c.self.inside.text; served = c.self.inside.served; journal = c.self.inside.journal; units = c.self.inside.units.items; next_unit = c.self.inside.next_unit; disk = c.self.inside.disk }) (2 * c.self.inside.parts.system.logs))

@@ -8,7 +8,7 @@ use Rattle.control_life.specs.Faults.{fault_in}
 use Rattle.logged_machine.specs.Taken.{IsTaken}
 use Rattle.logged_machine.proofs.Checked.{is_taken, taken_did}
 use Rattle.logged_machine.proofs.Checkpointed.{unrefreshed}
-use Rattle.logged_machine.proofs.Frugality.{checked_raises, unchecked_raises}
+use Rattle.logged_machine.proofs.Frugality.{checked_counts, checked_raises, unchecked_counts, unchecked_raises}
 use Rattle.logged_machine.proofs.logged.LoggedMachine.checkpoint_free.Goals as goal
 
 pub number_taken-requires-clause-served : goal.number_taken-requires-clause-served
@@ -35,3 +35,9 @@ returns-in-Ok-clause-raises g c = λ up. checked_raises g.D.Disk.state c.args.se
 
 pub returns-in-Err-clause-raises : goal.returns-in-Err-clause-raises
 returns-in-Err-clause-raises g c = λ up. unchecked_raises g.D.Disk.state c.args.self.now c.refresh.new.self c.in-Err.fault c.in-Err.ensures.fault up
+
+pub returns-in-Ok-clause-counts : goal.returns-in-Ok-clause-counts
+returns-in-Ok-clause-counts g c = checked_counts g.D.Disk.state c.args.self.now c.refresh.new.self c.in-Ok.ensures.done
+
+pub returns-in-Err-clause-counts : goal.returns-in-Err-clause-counts
+returns-in-Err-clause-counts g c = unchecked_counts g.D.Disk.state c.args.self.now c.refresh.new.self c.in-Err.fault c.in-Err.ensures.fault

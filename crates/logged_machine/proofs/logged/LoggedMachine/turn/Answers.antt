@@ -1,7 +1,8 @@
 -- as callers see it
+use Rattle.std.proofs.Common.{◌*◌, arith}
 use Rattle.model_machine.specs.declared.entry.Entry.TheVariants.{Turn}
 use Rattle.control_life.specs.Faults.{fault_in}
-use Rattle.logged_machine.proofs.Doing.{crashes, goes}
+use Rattle.logged_machine.proofs.Doing.{counted, crashes, goes}
 use Rattle.logged_machine.proofs.Unspent.{counted_now}
 use Rattle.logged_machine.proofs.logged.LoggedMachine.turn.Goals as goal
 
@@ -13,3 +14,7 @@ returns-clause-goes g c = goes g.D.Disk.state c.args.self.now c.turn_any-turned.
 
 pub returns-clause-crash : goal.returns-clause-crash
 returns-clause-crash g c = crashes g.D.Disk.state c.args.self.now c.turn_any-turned.new.self (Turn c.args.region c.turn_any-turned.result) (c.is_served-before.ensures.lasts c.requires.served) (g.met.D.Disk.is_disk c.args.self.now.disk) (g.met.D.Disk.is_disk c.turn_any-turned.new.self.disk) (fault_in (Turn c.args.region c.turn_any-turned.result)) c.turn_any-turned.ensures.did.did.did
+
+pub returns-clause-counts : goal.returns-clause-counts
+returns-clause-counts g c =
+    counted g.D.Disk.state c.args.self.now c.turn_any-turned.new.self (Turn c.args.region c.turn_any-turned.result) (c.is_served-before.ensures.lasts c.requires.served) (g.met.D.Disk.is_disk c.args.self.now.disk) (g.met.D.Disk.is_disk c.turn_any-turned.new.self.disk) (2 * c.args.self.now.machine.system.logs) (omega arith) c.turn_any-turned.ensures.did.counts

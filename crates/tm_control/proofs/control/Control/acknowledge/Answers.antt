@@ -6,7 +6,7 @@ use Rattle.control_life.specs.Faults.{fault_in}
 use Rattle.tm_control.specs.Calls.{is_noted, noted}
 use Rattle.tm_control.specs.OnDisk.{ControlOnDisk}
 use Rattle.model_machine.specs.declared.entry.ControlCall.TheVariants.{Acknowledge}
-use Rattle.tm_control.proofs.Going.{called, frugal_too, is_served}
+use Rattle.tm_control.proofs.Going.{called, frugal_too, is_served, still_counts}
 use Rattle.tm_control.proofs.control.Control.acknowledge.Goals as goal
 
 pub invariant_of-self-2 : goal.invariant_of-self-2
@@ -65,3 +65,14 @@ returns-clause-frugal g c = rw (sym c.self.view_is)
 
 pub returns-clause-raises : goal.returns-clause-raises
 returns-clause-raises g c = rw (sym c.self.view_is) c.acknowledge-answer.ensures.raises
+
+pub returns-clause-counts : goal.returns-clause-counts
+returns-clause-counts g c = rw (sym c.self.view_is) c.acknowledge-answer.ensures.counts
+
+pub returns-in-Some-clause-counts : goal.returns-in-Some-clause-counts
+returns-in-Some-clause-counts g c = rw (sym c.self.view_is)
+    (still_counts g.D.Disk.state c.self.inside.machine c.self.inside.opening c.self.inside.history.items 0 0 c.self.inside.began (ap (λ (v : ControlOnDisk _). v.up) c.self.view_is ∙ c.requires.up) c.spent.ensures.lasts (g.met.D.Disk.is_disk c.self.inside.machine.disk))
+
+pub returns-then-is_err-clause-counts : goal.returns-then-is_err-clause-counts
+returns-then-is_err-clause-counts g c = rw (sym c.self.view_is)
+    (still_counts g.D.Disk.state c.self.inside.machine c.self.inside.opening c.self.inside.history.items 0 0 c.self.inside.began (ap (λ (v : ControlOnDisk _). v.up) c.self.view_is ∙ c.requires.up) c.spent.ensures.lasts (g.met.D.Disk.is_disk c.self.inside.machine.disk))

@@ -1,0 +1,46 @@
+-- What a control region counts on as a life begins.
+use Rattle.std.proofs.Common.{◌≡◌, ◌⊎◌, ℕ, ◌+◌, ◌≤◌, List, refl, sym, ◌∙◌, ap, subst, arith, ⊎_elim, IsTrue}
+use Rattle.std.specs.Prelude.{Ok}
+use Rattle.model_disk.specs.Disk.{DiskState}
+use Rattle.model_system.specs.System.{System}
+use Rattle.model_machine.specs.Machine.{LastingState}
+use Rattle.log_writer.specs.Writer.{Writer}
+use Rattle.restart_data.specs.declared.restart.RestartSector.{RestartSector}
+use Rattle.checkpointing.specs.Counts.{CountsUpTo}
+use Rattle.checkpoint_law.specs.Counted.{StandsUpTo}
+use Rattle.disk_law.specs.Journal.{JournalState}
+use Rattle.opening_answers.specs.Opening.{IsBegun, IsColdImage, IsReopened}
+use Rattle.control_life.specs.declared.how.How.{How}
+use Rattle.control_life.specs.declared.how.How.TheVariants.{Found, Cold}
+use Rattle.control_life.specs.Opened.{Begins}
+
+module _ (how : How) (system : System) (text : List ℕ) (disk : DiskState) (opening : LastingState) (journal : JournalState) (next : ℕ) (b : Begins how system text disk opening journal.restart journal.log next) (high : ℕ) where
+  begun : IsBegun system b.parts opening → StandsUpTo (high + 1) journal next
+  begun is = record {
+    epoch = omega (arith, ap (λ (r : RestartSector). r.epoch) b.restart_is, is.first.epoch);
+    sequence = omega (arith, ap (λ (w : Writer). w.sequence + w.place) b.log_is, is.first.sequence);
+    checkpoint = omega (arith, ap (λ (r : RestartSector). r.checkpoint) b.restart_is, is.first.checkpoint);
+    unit = omega (arith, b.unit_is, is.next_unit);
+  }
+
+  reopened : CountsUpTo system high disk.shown → IsReopened system text disk.shown b.parts opening → StandsUpTo (high + 1) journal next
+  reopened counts is =
+      let c = counts is.restart is.found.has_restart in
+      let unit : b.parts.next_unit ≤ high = subst (λ (n : ℕ). n ≤ high) (sym is.found.next) (c.unit is.found.snapshot is.found.has_snapshot) in
+      record {
+        epoch = omega (arith, ap (λ (r : RestartSector). r.epoch) b.restart_is, is.next.epoch, c.epoch);
+        sequence = omega (arith, ap (λ (w : Writer). w.sequence + w.place) b.log_is, is.next.sequence, c.sequence);
+        checkpoint = omega (arith, ap (λ (r : RestartSector). r.checkpoint) b.restart_is, is.next.checkpoint, c.checkpoint);
+        unit = omega (arith, b.unit_is, unit);
+      }
+
+  -- It stands one above what the image counts up to that is found, and one above nothing in a cold start.
+  pub begins_up_to : (how ≡ Found → IsTrue disk.tells) → (how ≡ Found → CountsUpTo system high disk.shown) → StandsUpTo (high + 1) journal next
+  begins_up_to tells counts = by how refl
+    where
+      by : (h : How) → how ≡ h → StandsUpTo (high + 1) journal next
+      by Found is =
+          ⊎_elim (λ (found : IsReopened system text disk.shown b.parts opening). reopened (counts is) found)
+          (λ (cold : IsColdImage system disk.shown b.parts opening). begun cold.begun)
+          (b.found is (tells is))
+      by Cold is = begun (b.cold is)
