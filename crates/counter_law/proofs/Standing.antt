@@ -43,7 +43,7 @@ module _ (setting : Setting) (valid : IsSystem setting.system) where
       → LastsUpTo (high + most_raised * last_measure outage.last) state
   found_lasts high some outage kept state (inl is) h = is_left_lasts high outage.last kept state is h
   found_lasts high some outage kept state (inr empty) h =
-      subst (LastsUpTo (high + most_raised * last_measure outage.last)) (sym empty.1) (empty_lasts setting.system (high + most_raised * last_measure outage.last) (omega (arith, some)))
+      subst (LastsUpTo (high + most_raised * last_measure outage.last)) (sym empty.empty) (empty_lasts setting.system (high + most_raised * last_measure outage.last) (omega (arith, some)))
 
   -- Whatever the disk holds of a session counts up to what the disk handed in had, and 32 more for each opening, entry and stop.
   pub held_lasts : (high : ℕ) → 1 ≤ high → (state : SessionState) → LivesUpTo setting high state → (held : LastingState) → MayHold setting state.standing held → LastsUpTo (high + most_raised * measure state) held

@@ -1,3 +1,7 @@
 pub mod Sessions
 pub mod Turning
 pub mod Stopping
+pub mod Unfaulted
+pub mod Kept
+pub mod Ending
+pub mod Growing

@@ -1,8 +1,13 @@
 -- Lives of a system, from one opening of its disk to the next, and what is kept of them.
-use Rattle.std.specs.Prelude.{◌≡◌, ℕ, ◌+◌, ◌-◌, Bool, true, false, List, [], ◌∷◌, ◌++◌, Option, Some, None, Ok}
+use Rattle.std.specs.Prelude.{◌≡◌, ℕ, ◌+◌, ◌-◌, Bool, true, false, List, [], ◌∷◌, ◌++◌, Option, Some, None, Ok, Err}
 use Rattle.std.specs.List.{list_all}
 use Rattle.model_machine.specs.declared.entry.Entry.{Entry}
-use Rattle.model_machine.specs.declared.entry.Entry.TheVariants.{Checked}
+use Rattle.model_machine.specs.declared.entry.Entry.TheVariants.{Accept, Acked, Turn, Commanded, Checked}
+use Rattle.model_machine.specs.declared.entry.ControlFault.TheVariants.{Disk}
+use Rattle.model_machine.specs.declared.entry.InputRefused.TheVariants.{Fault as InputFault}
+use Rattle.model_machine.specs.declared.entry.AckRefused.TheVariants.{Fault as AckFault}
+use Rattle.model_machine.specs.declared.entry.CommandRefused.TheVariants.{Fault as CommandFault}
+use Rattle.model_machine.specs.declared.entry.CheckpointRefused.TheVariants.{Fault as CheckpointFault}
 use Rattle.model_system.specs.System.{System}
 use Rattle.model_machine.specs.Machine.{LastingState, Moment, start_of}
 use Rattle.model_machine.specs.History.{moment_after, is_fault, IsLegal, AscendAbove}
@@ -33,12 +38,26 @@ abbrev pub ends_life : Entry → Bool
 ends_life (Checked true (Ok number)) = true
 ends_life _ = false
 
--- A life is legal, each entry being the machine's answer at its place, but that the disk may have failed in the last call,
--- and the numbers of checkpoints ascending; and so many of its lasting steps were answered.
+-- an entry has the disk's fault in place of its answer
+abbrev pub is_disk_fault : Entry → Bool
+is_disk_fault (Accept terminal number segments (Err (InputFault Disk))) = true
+is_disk_fault (Acked terminal number (Err (AckFault Disk))) = true
+is_disk_fault (Turn region (Err Disk)) = true
+is_disk_fault (Commanded command (Err (CommandFault Disk))) = true
+is_disk_fault (Checked freeze (Err (CheckpointFault Disk))) = true
+is_disk_fault _ = false
+
+-- A life that opened with this state is legal: each entry is the machine's answer at its place, but that the disk may have
+-- failed in the last call, and no other fault stands there; and the numbers of checkpoints ascend.
+pub record IsLife (system : System) (opening : LastingState) (history : List Entry) : Type 0 where
+  pub legal : IsLegal system (start_of system opening) history
+  pub by_disk : (entry : Entry) → legal.last ≡ Some entry → is_disk_fault entry ≡ true
+  pub numbers : AscendAbove 0 history
+
+-- A life is legal, and so many of its lasting steps were answered.
 pub record HasAnswered (system : System) (life : LastLife) (count : ℕ) : Type 0 where
-  pub legal : IsLegal system (start_of system life.opening) life.history
-  pub numbers : AscendAbove 0 life.history
-  pub counted : life.opening.steps + count ≡ (moment_of system life legal.steps).lasting.steps
+  pub life_is : IsLife system life.opening life.history
+  pub counted : life.opening.steps + count ≡ (moment_of system life life_is.legal.steps).lasting.steps
 
 -- What a life leaves: the state after a front of its entries that has every one that was answered. A step in
 -- whose call the disk failed is left or not. So many of its lasting steps are kept then.
@@ -61,4 +80,4 @@ with_life lives (Some life) kept = lives ++ kept_life life kept ∷ []
 -- each of these lives is legal
 abbrev pub AreLegal : System → List LifeState → Type 0
 AreLegal system [] = Unit {0}
-AreLegal system (life ∷ lives) = IsLegal system (start_of system life.opening) life.history × AscendAbove 0 life.history × AreLegal system lives
+AreLegal system (life ∷ lives) = IsLife system life.opening life.history × AreLegal system lives

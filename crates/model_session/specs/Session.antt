@@ -6,7 +6,7 @@ use Rattle.model_machine.specs.declared.entry.ControlCall.{ControlCall}
 use Rattle.model_machine.specs.declared.entry.ControlCall.TheVariants.{Turn}
 use Rattle.model_system.specs.System.{System}
 use Rattle.model_machine.specs.Machine.{LastingState, empty_state}
-use Rattle.model_machine.specs.History.{May, AreSteps, IsCall, is_fault, call_of}
+use Rattle.model_machine.specs.History.{May, AreSteps, IsCall, call_of}
 use Rattle.model_session.specs.declared.asked.Asked.{Asked}
 use Rattle.model_session.specs.declared.asked.Asked.TheVariants.{Bad, BadCommand, Stopped, Call, Quiet, Power, PowerIn, Restart, ColdStart}
 use Rattle.model_session.specs.declared.asked.ImageRefused.{ImageRefused}
@@ -15,7 +15,7 @@ use Rattle.model_session.specs.Blocks.{Block}
 use Rattle.model_session.specs.Lines.{asked_of}
 use Rattle.model_session.specs.Text.{entry_text, bad_line_text, bad_command_text, stopped_text, broken_text, power_text, armed_text, up_text, down_text, opened_text, image_text}
 use Rattle.model_session.specs.Turns.{IsQuieted, IsBrokenOff, quieted_text, region_after}
-use Rattle.model_session.specs.Lives.{LastLife, now_in, ends_life}
+use Rattle.model_session.specs.Lives.{LastLife, now_in, ends_life, is_disk_fault}
 use Rattle.model_session.specs.Standing.{Setting, SessionState, Outage, Standing, Stop, no_life, unbegun, gone_on, called_on, ended, broken, opened, failed, MayBeFound, LastAnswered}
 use Rattle.model_session.specs.Standing.Standing.{Up, Down}
 
@@ -25,7 +25,7 @@ use Rattle.model_session.specs.Standing.Standing.{Up, Down}
 pub record BreaksAt (system : System) (call : ControlCall) (entry : Entry) : Type 0 where
   pub asked : call_of entry ≡ call
   pub can : IsCall system call
-  pub fault : is_fault entry ≡ true
+  pub fault : is_disk_fault entry ≡ true
 
 -- A call stands for the next entry of the life, which is the machine's answer at its place. It is printed. A freeze ends
 -- the life.

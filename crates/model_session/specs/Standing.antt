@@ -100,10 +100,15 @@ abbrev pub LastAnswered : System → Option LastLife → ℕ → Type 0
 LastAnswered system None count = count ≡ 0
 LastAnswered system (Some life) count = HasAnswered system life count
 
+-- A cold start broke off, and the state is empty. All lasting steps of the last life that were answered count as kept.
+pub record IsEmptied (system : System) (last : Option LastLife) (emptied : Bool) (kept : ℕ) (state : LastingState) : Type 0 where
+  pub broke_off : emptied ≡ true
+  pub empty : state ≡ empty_state system
+  pub answered : LastAnswered system last kept
+
 -- What the disk recovers to while the system is down: what was left, or the empty state where a cold start broke off.
 abbrev pub MayBeFound : Setting → Outage → ℕ → LastingState → Type 0
-MayBeFound setting outage kept state =
-    IsLeft setting outage.last kept state ⊎ ((outage.emptied ≡ true) × (state ≡ empty_state setting.system))
+MayBeFound setting outage kept state = IsLeft setting outage.last kept state ⊎ IsEmptied setting.system outage.last outage.emptied kept state
 
 -- What it recovers to: while the system is up, the state behind all lasting steps of the life.
 abbrev pub MayHold : Setting → Standing → LastingState → Type 0

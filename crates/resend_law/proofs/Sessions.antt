@@ -132,7 +132,7 @@ module _ (P : LastingState → Type 0) (system : System) (kind : ControlCall →
 module _ (P : LastingState → Type 0) (setting : Setting) (kind : ControlCall → Bool) (turns : (region : ℕ) → kind (Turn region) ≡ true) (keeps : IsKeptBy P setting.system kind) where
   pub up_has : (life : LastLife) → Leaving P setting.system kind life → HasAlways P setting (Up life)
   up_has life has kept state (inl leaves) = has kept state leaves
-  up_has life has kept state (inr empty) = absurd (no empty.0)
+  up_has life has kept state (inr empty) = absurd (no empty.broke_off)
     where
       no : false ≡ true → ⊥
       no e = cc

@@ -27,7 +27,7 @@ use Rattle.tm_control.specs.OnDisk.{ControlOnDisk, spent_now}
 use Rattle.tm_control.specs.Calls.{StaysSo, AddsBy, AddedNothing, SpentBy, StaysSpent, Answered as IsAnswered}
 use Rattle.session_lives.specs.declared.called.Called.{Called}
 use Rattle.session_lives.specs.declared.called.Called.TheVariants.{Answered, Power, Broke, Memory, Spent}
-use Rattle.model_session.specs.Lives.{ends_life}
+use Rattle.model_session.specs.Lives.{ends_life, is_disk_fault}
 use Rattle.session_lives.specs.Asking.{called_by, ended_by, IsSpentUp, IsAsked}
 
 -- an entry with a fault
@@ -58,6 +58,44 @@ fault_is (Checked freeze (Err (CheckpointFault met))) fault e = refl
 fault_is (Checked freeze (Ok number)) fault e = cc
 fault_is (Checked freeze (Err (BusyRegion region id))) fault e = cc
 
+-- an entry with the fault of the disk
+pub disk_fault_is : (entry : Entry) → fault_in entry ≡ Some Disk → is_disk_fault entry ≡ true
+disk_fault_is (Accept terminal number segments (Err (InputFault Disk))) e = refl
+disk_fault_is (Accept terminal number segments (Err (InputFault NoMemory))) e = cc
+disk_fault_is (Accept terminal number segments (Err (InputFault (SpentCounter counter)))) e = cc
+disk_fault_is (Accept terminal number segments (Ok taken)) e = cc
+disk_fault_is (Accept terminal number segments (Err Terminal)) e = cc
+disk_fault_is (Accept terminal number segments (Err StoppedTerminal)) e = cc
+disk_fault_is (Accept terminal number segments (Err (Expected next))) e = cc
+disk_fault_is (Accept terminal number segments (Err (Conversation id))) e = cc
+disk_fault_is (Accept terminal number segments (Err Code)) e = cc
+disk_fault_is (Accept terminal number segments (Err (StoppedCode code))) e = cc
+disk_fault_is (Accept terminal number segments (Err (SegmentsOver count most))) e = cc
+disk_fault_is (Accept terminal number segments (Err (QueueFull need limit))) e = cc
+disk_fault_is (Show terminal answer) e = cc
+disk_fault_is (Acked terminal number (Err (AckFault Disk))) e = refl
+disk_fault_is (Acked terminal number (Err (AckFault NoMemory))) e = cc
+disk_fault_is (Acked terminal number (Err (AckFault (SpentCounter counter)))) e = cc
+disk_fault_is (Acked terminal number (Ok acked)) e = cc
+disk_fault_is (Acked terminal number (Err Unknown)) e = cc
+disk_fault_is (Acked terminal number (Err (Ahead first))) e = cc
+disk_fault_is (Turn region (Err Disk)) e = refl
+disk_fault_is (Turn region (Err NoMemory)) e = cc
+disk_fault_is (Turn region (Err (SpentCounter counter))) e = cc
+disk_fault_is (Turn region (Ok turned)) e = cc
+disk_fault_is (Commanded command (Err (CommandFault Disk))) e = refl
+disk_fault_is (Commanded command (Err (CommandFault NoMemory))) e = cc
+disk_fault_is (Commanded command (Err (CommandFault (SpentCounter counter)))) e = cc
+disk_fault_is (Commanded command (Ok answer)) e = cc
+disk_fault_is (Commanded command (Err (UnknownName name))) e = cc
+disk_fault_is (Commanded command (Err (Busy id))) e = cc
+disk_fault_is (Commanded command (Err NoConversation)) e = cc
+disk_fault_is (Checked freeze (Err (CheckpointFault Disk))) e = refl
+disk_fault_is (Checked freeze (Err (CheckpointFault NoMemory))) e = cc
+disk_fault_is (Checked freeze (Err (CheckpointFault (SpentCounter counter)))) e = cc
+disk_fault_is (Checked freeze (Ok number)) e = cc
+disk_fault_is (Checked freeze (Err (BusyRegion region id))) e = cc
+
 -- ---- counters
 
 module _ {D : Type 0} (old new : ControlOnDisk D) where
@@ -76,7 +114,7 @@ module _ {D : Type 0} (state : D → DiskState) where
       → SpentBy (spent_now old) fault → StaysSpent fault old new
       → AddsBy state fault old new entry → text ≡ entry_text old.control.system (now_of old.control) entry → IsAsked state (Call (call_of entry)) old new text (called_by fault)
   asked_of_fault None entry old new text on is spent same adds printed = record { entry = entry; asked = refl; answered = adds; goes_on = on; printed = printed }
-  asked_of_fault (Some Disk) entry old new text on is spent same adds printed = record { entry = entry; asked = refl; fault = fault_is entry Disk is; broke = adds }
+  asked_of_fault (Some Disk) entry old new text on is spent same adds printed = record { entry = entry; asked = refl; fault = disk_fault_is entry is; broke = adds }
   asked_of_fault (Some NoMemory) entry old new text on is spent same adds printed = adds
   asked_of_fault (Some (SpentCounter counter)) entry old new text on is spent same adds printed = (adds, spent_up old new counter spent same)
 
@@ -92,7 +130,7 @@ module _ {D : Type 0} (state : D → DiskState) where
       → called ≡ called_by (Some fault) → SpentBy (spent_now old) (Some fault) → StaysSpent (Some fault) old new → AddsBy state (Some fault) old new entry
       → IsAsked state (Call (call_of entry)) old new text called
   asked_fault Disk entry old new text called on is how spent same adds =
-      subst (λ c. IsAsked state (Call (call_of entry)) old new text c) (sym how) (record { entry = entry; asked = refl; fault = fault_is entry Disk is; broke = adds })
+      subst (λ c. IsAsked state (Call (call_of entry)) old new text c) (sym how) (record { entry = entry; asked = refl; fault = disk_fault_is entry is; broke = adds })
   asked_fault NoMemory entry old new text called on is how spent same adds = subst (λ c. IsAsked state (Call (call_of entry)) old new text c) (sym how) adds
   asked_fault (SpentCounter counter) entry old new text called on is how spent same adds =
       subst (λ c. IsAsked state (Call (call_of entry)) old new text c) (sym how) (adds, spent_up old new counter spent same)
@@ -102,7 +140,7 @@ module _ {D : Type 0} (state : D → DiskState) where
       → AddsBy state fault old new entry → (May old.control.system (now_of old.control) entry → text ≡ entry_text old.control.system (now_of old.control) entry)
       → IsAsked state (Call (call_of entry)) old new text (called_by fault)
   asked_ahead None entry old new text on is spent same adds printed = record { entry = entry; asked = refl; answered = adds; goes_on = on; printed = printed adds.adds.may }
-  asked_ahead (Some Disk) entry old new text on is spent same adds printed = record { entry = entry; asked = refl; fault = fault_is entry Disk is; broke = adds }
+  asked_ahead (Some Disk) entry old new text on is spent same adds printed = record { entry = entry; asked = refl; fault = disk_fault_is entry is; broke = adds }
   asked_ahead (Some NoMemory) entry old new text on is spent same adds printed = adds
   asked_ahead (Some (SpentCounter counter)) entry old new text on is spent same adds printed = (adds, spent_up old new counter spent same)
 

@@ -9,12 +9,12 @@ use Rattle.model_system.specs.System.{System}
 use Rattle.model_machine.specs.declared.entry.Entry.{Entry}
 use Rattle.model_machine.specs.declared.entry.ControlFault.TheVariants.{Disk}
 use Rattle.model_machine.specs.Machine.{LastingState, start_of}
-use Rattle.model_machine.specs.History.{is_fault, moment_after, now_of}
+use Rattle.model_machine.specs.History.{AscendAbove, ControlState, IsLegal, is_fault, moment_after, now_of}
 use Rattle.model_image.specs.Recovered.{Recovers}
 use Rattle.checkpointing.specs.Texts.{HasText}
 use Rattle.cold_start.specs.FirstImage.{sectors_needed}
 use Rattle.disk_law.specs.Kept.{RecoversEither}
-use Rattle.model_session.specs.Lives.{LifeState, LastLife, AreLegal, HasAnswered, Leaves, longer}
+use Rattle.model_session.specs.Lives.{LifeState, LastLife, AreLegal, HasAnswered, Leaves, is_disk_fault, longer}
 use Rattle.model_session.specs.Standing.{Setting, Standing, Outage, SessionState, Stop, AreStops, LastAnswered, IsLeft, gone_on, ended, broken}
 use Rattle.model_session.specs.Standing.Standing.{Up as StandsUp, Down as StandsDown}
 use Rattle.tm_control.specs.OnDisk.{ControlOnDisk, Lasts, IsUp, IsDown, LastsBy, lasting_after}
@@ -26,7 +26,8 @@ use Rattle.session_lives.specs.declared.place.Place.TheVariants.{Up, Down}
 use Rattle.session_lives.specs.declared.place.Kept.{Kept}
 use Rattle.session_lives.specs.Running.{life_of, last_of, last_up, kept_of, outage_of, session_at, setting_of, Recalls, Holds, IsUpReady, IsUpSound, IsDownSound}
 use Rattle.session_lives.specs.Openings.{GoesDown}
-use Rattle.session_lives.proofs.Asked.{fault_is}
+use Rattle.session_lives.proofs.Asked.{disk_fault_is, fault_is}
+use Rattle.model_session.proofs.Ending.{answered_end, faulted_end}
 
 -- ---- states of a session
 
@@ -126,6 +127,20 @@ module _ (system : System) (life : LastLife) where
       → state ≡ (moment_after system (start_of system life.opening) before).lasting → Leaves system life (state.steps - life.opening.steps) state
   leaves_before state before entry all fault is = record { front = before; rest = entry ∷ []; split = all; unanswered = rw fault refl; left = is; counted = refl }
 
+-- of faults it has the disk's alone
+disk_by : (up : Bool) (control : ControlState) (text : List ℕ) (disk : DiskState) → LastsBy up control text disk
+    → (legal : IsLegal control.system (start_of control.system control.opening) control.history) (entry : Entry) → legal.last ≡ Some entry → is_disk_fault entry ≡ true
+disk_by true control text disk lasts legal entry last = answered_end control.system (start_of control.system control.opening) control.history legal entry last lasts.legal
+disk_by false control text disk lasts legal entry last =
+    faulted_end control.system (start_of control.system control.opening) control.history legal entry last lasts.before lasts.entry lasts.all (disk_fault_is lasts.entry lasts.fault)
+
+-- it is legal, with its steps that were answered
+pub answered_by : (up : Bool) (control : ControlState) (text : List ℕ) (disk : DiskState) (count : ℕ) → LastsBy up control text disk
+    → (legal : IsLegal control.system (start_of control.system control.opening) control.history) → AscendAbove 0 control.history
+    → control.opening.steps + count ≡ (lasting_after control.system control.opening legal.steps).steps → HasAnswered control.system (life_with control.opening control.history) count
+answered_by up control text disk count lasts legal numbers counted =
+    record { life_is = record { legal = legal; by_disk = disk_by up control text disk lasts legal; numbers = numbers }; counted = counted }
+
 -- its steps that were answered
 pub answered_of : (s s' : System) (o o' : LastingState) (h h' : List Entry) (count : ℕ) → s ≡ s' → o ≡ o' → h ≡ h' → HasAnswered s (life_with o h) count → HasAnswered s' (life_with o' h') count
 answered_of s s' o o' h h' count a b c answered =
@@ -193,7 +208,7 @@ module _ {D : Type 0} (state : D → DiskState) (system : System) (source : List
         legal = subst (λ l. AreLegal system l) (sym (same_kept old new down.lives)) legal;
         answered = subst (λ l. LastAnswered system (option_map last_of l) (kept_of l)) (sym down.last)
             (answered_of c.control.system system c.control.opening down.life.opening c.control.history down.life.history down.life.kept
-            system_is (sym down.closes.opening) (sym down.closes.history) (record { legal = down.closes.legal; numbers = down.closes.numbers; counted = down.closes.kept }));
+            system_is (sym down.closes.opening) (sym down.closes.history) (answered_by c.up c.control c.text (state c.disk) down.life.kept down.lasts down.closes.legal down.closes.numbers down.closes.kept));
         images = λ image left. images_by c.up (outage_of idle) image down.lasts (subst (λ d. (state d).may_leave image) down.closes.disk_is (down.laid.no_more image left)) (ap (λ o. o.last) outage);
       }
 

@@ -2,7 +2,7 @@
 use Rattle.std.proofs.Common.{◌≡◌, ℕ, ◌≤◌, Bool, true, false, List, [], ◌∷◌, ◌++◌, map, sym, ◌∙◌, ap, subst, refl, inl}
 use Rattle.std.proofs.lemmas.List.{append-nil, map-append}
 use Rattle.std.specs.Prelude.{Option, Some, None, Ok}
-use Rattle.std.specs.Option.{option_map}
+use Rattle.std.specs.Option.{option_map, is_some}
 use Rattle.model_disk.specs.Disk.{Image, DiskState}
 use Rattle.model_system.specs.System.{System}
 use Rattle.model_machine.specs.Machine.{start_of}
@@ -20,12 +20,16 @@ use Rattle.session_lives.specs.declared.place.Kept.{Kept}
 use Rattle.session_lives.specs.declared.place.Session.{Session}
 use Rattle.session_lives.specs.Running.{life_of, last_of, last_up, kept_of, session_at, Holds, IsUpReady, IsReady, IsReadyAt, IsUpSound, IsDownSound, IsSoundAt}
 use Rattle.session_lives.specs.Closing.{listed, IsClosedUp, IsClosedDown, IsClosedAt, IsClosed, Remains, LeavesSo}
-use Rattle.session_lives.proofs.Ends.{same_life, answered_of, stops_higher}
+use Rattle.session_lives.proofs.Ends.{same_life, answered_by, answered_of, stops_higher}
 use Rattle.session_lives.proofs.Restarted.{legal_with}
 
 lives_listed : (lives : List Life) (last : Option Life) → map life_of (lives ++ listed last) ≡ with_life (map life_of lives) (option_map last_of last) (kept_of last)
 lives_listed lives None = ap (map life_of) (append-nil lives)
 lives_listed lives (Some life) = map-append life_of lives (life ∷ [])
+
+some_life : (last : Option Life) → is_some (option_map last_of last) ≡ true → is_some last ≡ true
+some_life None some = some
+some_life (Some life) some = refl
 
 module _ {D : Type 0} (state : D → DiskState) (system : System) (source : List ℕ) (handed : D) where
   down_remains : (idle : Idle D) (kept : Kept) (disk : D) (lives : List Life) (stops : List Stop) → IsDownSound state system source handed idle kept
@@ -39,6 +43,7 @@ module _ {D : Type 0} (state : D → DiskState) (system : System) (source : List
         counted = subst (λ d. AreStops (state handed).faults stops (state d).faults) (sym over.disk_is)
             (subst (λ s. AreStops (state handed).faults s (state idle.disk).faults) (sym over.stops_are) sound.stops);
         images = λ image left. sound.images image (subst (λ d. (state d).may_leave image) over.disk_is left);
+        enough = λ some. sound.size (some_life idle.last some);
       }
 
   up_holds : (control : ControlOnDisk D) (up : Bool) → up ≡ true → control.control.system ≡ system → LastsBy up control.control control.text (state control.disk) → (image : Image)
@@ -59,7 +64,7 @@ module _ {D : Type 0} (state : D → DiskState) (system : System) (source : List
       ap (map life_of) over.lives_are ∙ map-append life_of kept.lives.items (over.life ∷ []) ∙ ap (λ l. map life_of kept.lives.items ++ l ∷ []) same in
       let answered : HasAnswered system (last_up control) over.life.kept =
       answered_of control.control.system system control.control.opening control.control.opening control.control.history control.control.history over.life.kept
-      sound.system_is refl refl (record { legal = over.closes.legal; numbers = over.closes.numbers; counted = over.closes.kept }) in
+      sound.system_is refl refl (answered_by control.up control.control control.text (state control.disk) over.life.kept over.lasts over.closes.legal over.closes.numbers over.closes.kept) in
       record {
         lives_are = record { count = over.life.kept; answered = answered; are = all };
         legal = subst (λ l. AreLegal system l) (sym all) (legal_with system (map life_of kept.lives.items) (Some (last_up control)) over.life.kept over.life.kept sound.legal answered);
@@ -67,6 +72,7 @@ module _ {D : Type 0} (state : D → DiskState) (system : System) (source : List
         counted = subst (λ d. AreStops (state handed).faults stops (state d).faults) (sym over.closes.disk_is)
             (subst (λ s. AreStops (state handed).faults s (state control.disk).faults) (sym over.stops_are)
             (stops_higher (state handed).faults control.began (state control.disk).faults kept.stops.items sound.stops sound.began));
+        enough = λ some. sound.size;
         images = λ image left. up_holds control control.up ready.up sound.system_is over.lasts image (subst (λ d. (state d).may_leave image) over.closes.disk_is left);
       }
 

@@ -1,5 +1,5 @@
 -- A system that was down, and what a restart comes to.
-use Rattle.std.proofs.Common.{◌≡◌, ◌⊎◌, ℕ, suc, ◌+◌, ◌-◌, ◌≤◌, Bool, true, false, List, [], ◌∷◌, ◌++◌, map, sym, ◌∙◌, ap, subst, refl, arith, inl, inr, ⊎_elim}
+use Rattle.std.proofs.Common.{◌≡◌, ◌⊎◌, ℕ, suc, ◌+◌, ◌-◌, ◌≤◌, max, Bool, true, false, List, [], ◌∷◌, ◌++◌, map, sym, ◌∙◌, ap, subst, refl, arith, inl, inr, ⊎_elim}
 use Rattle.std.proofs.lemmas.List.{map-append}
 use Rattle.std.proofs.lemmas.Bool.{cases_Bool, eq-eqb}
 use Rattle.std.specs.Prelude.{◌==◌, if◌then◌else◌, Option, Some, None, Result, Ok, Err, IsTrue}
@@ -18,8 +18,9 @@ use Rattle.model_session.specs.declared.asked.Asked.{Asked}
 use Rattle.model_session.specs.declared.asked.Asked.TheVariants.{Bad, BadCommand, Stopped, Call, Quiet, Power, PowerIn, Restart, ColdStart}
 use Rattle.model_session.specs.Text.{broken_text, opened_text, image_text, down_text}
 use Rattle.model_session.specs.Lives.{LifeState, LastLife, AreLegal, Leaves, with_life}
-use Rattle.model_session.specs.Standing.{Setting, Standing, Outage, SessionState, Stop, AreStops, MayBeFound, MayHold, LastAnswered, IsLeft, or_cold, opened, failed}
+use Rattle.model_session.specs.Standing.{Setting, Standing, Outage, SessionState, Stop, AreStops, IsEmptied, MayBeFound, MayHold, LastAnswered, IsLeft, or_cold, opened, failed}
 use Rattle.model_session.specs.Standing.Standing.{Up as StandsUp, Down as StandsDown}
+use Rattle.model_session.proofs.Kept.{kept_has}
 use Rattle.model_session.specs.Session.{MayOpen, MayRefuse, IsRestarted, Opens as OpensLife, FailsToOpen}
 use Rattle.restart_data.specs.Restart.{restart_in}
 use Rattle.model_machine.specs.declared.counts.Counter.{Counter}
@@ -61,6 +62,12 @@ ok_is a b e = cc
 
 pub ok_or_err : (a : LastingState) (fault : Fault) → SameAnswer (Ok a) (Err fault) → ⊥
 ok_or_err a fault e = cc
+
+higher : (least kept more : ℕ) → least ≤ kept → kept ≡ more → kept ≡ max least more
+higher least kept more less same = omega (arith, less, same)
+
+nothing_more : (count before steps : ℕ) → steps ≡ 0 → count ≡ max count (steps - before)
+nothing_more count before steps none = omega (arith, none)
 
 some_last : (last : Option Life) → is_some last ≡ true → is_some (option_map last_of last) ≡ true
 some_last None is = cc
@@ -104,8 +111,8 @@ lives_with lives (Some life) cold steps =
 pub legal_with : (system : System) (lives : List LifeState) (last : Option LastLife) (answered kept : ℕ) → AreLegal system lives → LastAnswered system last answered → AreLegal system (with_life lives last kept)
 legal_with system [] None answered kept legal is = tt
 legal_with system (first ∷ lives) None answered kept legal is = legal
-legal_with system [] (Some life) answered kept legal is = (is.legal, is.numbers, tt)
-legal_with system (first ∷ lives) (Some life) answered kept legal is = (legal.0, legal.1, legal_with system lives (Some life) answered kept legal.2 is)
+legal_with system [] (Some life) answered kept legal is = (is.life_is, tt)
+legal_with system (first ∷ lives) (Some life) answered kept legal is = (legal.0, legal_with system lives (Some life) answered kept legal.1 is)
 
 module _ {D : Type 0} (state : D → DiskState) (is_disk : (disk : D) → IsDisk (state disk)) (system : System) (source : List ℕ) (handed : D) (idle : Idle D) (old : Kept) (session : Session D)
     (sound : IsDownSound state system source handed idle old) where
@@ -129,14 +136,28 @@ module _ {D : Type 0} (state : D → DiskState) (is_disk : (disk : D) → IsDisk
   found_is : (kept : ℕ) (state_then opening : LastingState) → opening ≡ state_then → MayBeFound setting outage kept state_then → MayBeFound setting outage kept opening
   found_is kept state_then opening same may = subst (λ s. MayBeFound setting outage kept s) (sym same) may
 
-  -- as it is counted
-  counted_as : (last : Option Life) (kept : ℕ) (opening : LastingState) → IsLeft setting (option_map last_of last) kept opening → IsLeft setting (option_map last_of last) (count_of last false opening.steps) opening
-  counted_as None kept opening left = left
-  counted_as (Some life) kept opening left = subst (λ n. Leaves system (last_of life) n opening) left.counted left
+  -- as it is counted: what is left of a life has all of its answered steps
+  counted_as : (last : Option Life) (kept : ℕ) (opening : LastingState) → LastAnswered system (option_map last_of last) (kept_of last)
+      → IsLeft setting (option_map last_of last) kept opening → IsLeft setting (option_map last_of last) (count_of last false opening.steps) opening
+  counted_as None kept opening answered left = left
+  counted_as (Some life) kept opening answered left =
+      subst (λ n. Leaves system (last_of life) n opening)
+      (higher life.kept kept (opening.steps - life.opening.steps) (kept_has system (last_of life) life.kept kept opening answered left) left.counted) left
+
+  -- and where nothing is left, just these
+  emptied_as : (last : Option Life) (kept : ℕ) (emptied : Bool) (opening : LastingState) → LastAnswered system (option_map last_of last) (kept_of last)
+      → IsEmptied system (option_map last_of last) emptied kept opening → IsEmptied system (option_map last_of last) emptied (count_of last false opening.steps) opening
+  emptied_as None kept emptied opening answered is = record { broke_off = is.broke_off; empty = is.empty; answered = refl }
+  emptied_as (Some life) kept emptied opening answered is = record {
+    broke_off = is.broke_off;
+    empty = is.empty;
+    answered = subst (λ n. LastAnswered system (option_map last_of (Some life)) n)
+        (nothing_more life.kept life.opening.steps opening.steps (ap (λ s. s.steps) is.empty)) answered;
+  }
 
   count_found : (kept : ℕ) (opening : LastingState) → MayBeFound setting outage kept opening → MayBeFound setting outage (count_of idle.last false opening.steps) opening
-  count_found kept opening (inl left) = inl (counted_as idle.last kept opening left)
-  count_found kept opening (inr emptied) = inr emptied
+  count_found kept opening (inl left) = inl (counted_as idle.last kept opening sound.answered left)
+  count_found kept opening (inr emptied) = inr (emptied_as idle.last kept idle.emptied opening sound.answered emptied)
 
   found_by : (image : Image) (opening : LastingState) → Holds state system source handed (StandsDown outage) image → Recovers system image (Ok opening)
       → MayBeFound setting outage (count_of idle.last false opening.steps) opening
@@ -218,7 +239,7 @@ module _ {D : Type 0} (state : D → DiskState) (is_disk : (disk : D) → IsDisk
     where
       still : (cold : Bool) → MayBeFound setting outage recalls.may.0 recalls.state → MayBeFound setting (outage_with outage.last (or_cold cold outage.emptied) true) recalls.may.0 recalls.state
       still cold (inl left) = inl left
-      still true (inr emptied) = inr (refl, emptied.1)
+      still true (inr emptied) = inr (record { broke_off = refl; empty = emptied.empty; answered = emptied.answered })
       still false (inr emptied) = inr emptied
   keeps_holding cold image (inr unopened) = inr (record { no_life = unopened.no_life; before = unopened.before; left = unopened.left; alike = unopened.alike })
 
@@ -231,7 +252,7 @@ module _ {D : Type 0} (state : D → DiskState) (is_disk : (disk : D) → IsDisk
       → Holds state system source handed (StandsDown (outage_with outage.last (or_cold cold outage.emptied) true)) image
   broken_by false first image keeps holds = keeps_holding false image (alike_holds first image keeps.alike holds)
   broken_by true first image (inl same) holds = keeps_holding true image (subst (λ i. Holds state system source handed (StandsDown outage) i) (sym same) holds)
-  broken_by true first image (inr empty) holds = inl (record { state = empty_state system; recovers = empty.recovers; may = (0, inr (refl, refl)) })
+  broken_by true first image (inr empty) holds = inl (record { state = empty_state system; recovers = empty.recovers; may = (kept_of idle.last, inr (record { broke_off = refl; empty = refl; answered = sound.answered })) })
 
   same_image : (cold : Bool) (image : Image) → KeepsBy (how_of cold) system source image image
   same_image false image = record { alike = λ answer is. is; texts = inl refl }
@@ -386,7 +407,7 @@ module _ {D : Type 0} (state : D → DiskState) (is_disk : (disk : D) → IsDisk
     where
       of : MayBeFound setting outage recalls.may.0 recalls.state → AlikeFirst
       of (inl left) = inl (alike_found recalls.state recalls.recovers outage.last none recalls.may.0 left)
-      of (inr (emptied, empty)) = inr (emptied, subst (λ s. Recovers system (state idle.disk).shown (Ok s)) empty recalls.recovers)
+      of (inr emptied) = inr (emptied.broke_off, subst (λ s. Recovers system (state idle.disk).shown (Ok s)) emptied.empty recalls.recovers)
   alike_first none (inr unopened) = inl (λ image there.
       subst (λ (i : Image). RecoversAlike system i (state idle.disk).shown) (sym (sound.handed_alone image there ∙ sym (sound.handed_alone unopened.before unopened.left))) unopened.alike)
 

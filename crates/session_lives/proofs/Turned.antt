@@ -9,13 +9,14 @@ use Rattle.model_machine.specs.declared.entry.Entry.TheVariants.{Turn as TurnEnt
 use Rattle.model_machine.specs.declared.entry.ControlCall.TheVariants.{Turn}
 use Rattle.model_machine.specs.Machine.{Moment, start_of}
 use Rattle.model_machine.specs.Steps.{is_quiet}
-use Rattle.model_machine.specs.History.{ControlState, AddsEntry, AddsNothing, May, AreSteps, IsCall, is_fault, call_of, now_of, after_entry, moment_after}
+use Rattle.model_machine.specs.History.{ControlState, AddsEntry, AddsNothing, May, AreSteps, IsCall, call_of, now_of, after_entry, moment_after}
 use Rattle.model_session.specs.Turns.{region_after, IsBrokenOff}
 use Rattle.model_session.proofs.Turning.{AreTurns-append}
 use Rattle.model_machine.specs.declared.entry.Turned.{Turned}
-use Rattle.model_machine.specs.declared.entry.ControlFault.{ControlFault}
+use Rattle.model_machine.specs.declared.entry.ControlFault.TheVariants.{Disk}
 use Rattle.tm_control.specs.OnDisk.{ControlOnDisk}
 use Rattle.tm_control.specs.Calls.{StaysSo, Answered, BrokeOff, AddedNothing}
+use Rattle.model_session.specs.Lives.{is_disk_fault}
 use Rattle.session_lives.specs.Asking.{AddsEntries, FailsTurning, TurnsStand}
 use Rattle.session_lives.specs.Turning.{TurnsSoFar, HasEnded}
 use Rattle.session_lives.proofs.Asked.{stays_so, stays_so_on}
@@ -150,7 +151,7 @@ module _ {D : Type 0} (state : D → DiskState) where
 
   -- or the disk fails in one
   pub turns_fail : (most count : ℕ) (old now new : ControlOnDisk D) (entry : Entry) → TurnsSoFar state count old now → count < most
-      → is_quiet now.control.system (now_of now.control) ≡ false → call_of entry ≡ Turn (region_after now.control.system count) → is_fault entry ≡ true
+      → is_quiet now.control.system (now_of now.control) ≡ false → call_of entry ≡ Turn (region_after now.control.system count) → is_disk_fault entry ≡ true
       → BrokeOff state now new entry → FailsTurning state most old new
   turns_fail most count old now new entry far few left asked fault broke = record {
     turns = far.entries;
@@ -165,8 +166,8 @@ module _ {D : Type 0} (state : D → DiskState) where
     failed = subst (λ n. Rose n (state new.disk).faults) far.no_fault broke.failed;
   }
 
-  pub turned_fails : (most count : ℕ) (old now new : ControlOnDisk D) (region : ℕ) (fault : ControlFault) → TurnsSoFar state count old now → count < most
+  pub turned_fails : (most count : ℕ) (old now new : ControlOnDisk D) (region : ℕ) → TurnsSoFar state count old now → count < most
       → is_quiet now.control.system (now_of now.control) ≡ false → region ≡ region_after now.control.system count
-      → BrokeOff state now new (TurnEntry region (Err fault)) → FailsTurning state most old new
-  turned_fails most count old now new region fault far few left next broke =
-      turns_fail most count old now new (TurnEntry region (Err fault)) far few left (ap Turn next) refl broke
+      → BrokeOff state now new (TurnEntry region (Err Disk)) → FailsTurning state most old new
+  turned_fails most count old now new region far few left next broke =
+      turns_fail most count old now new (TurnEntry region (Err Disk)) far few left (ap Turn next) refl broke

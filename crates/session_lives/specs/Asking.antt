@@ -6,12 +6,12 @@ use Rattle.model_machine.specs.declared.entry.ControlCall.{ControlCall}
 use Rattle.model_machine.specs.declared.entry.ControlCall.TheVariants.{Turn}
 use Rattle.model_machine.specs.declared.entry.ControlFault.{ControlFault}
 use Rattle.model_machine.specs.declared.entry.ControlFault.TheVariants.{Memory as NoMemory, Disk, Spent as SpentCounter}
-use Rattle.model_machine.specs.History.{ControlState, AreSteps, IsCall, call_of, is_fault, now_of}
+use Rattle.model_machine.specs.History.{ControlState, AreSteps, IsCall, call_of, now_of}
 use Rattle.model_session.specs.declared.asked.Asked.{Asked}
 use Rattle.model_session.specs.declared.asked.Asked.TheVariants.{Bad, BadCommand, Stopped, Call, Quiet, Power as AskedPower, PowerIn, Restart, ColdStart}
 use Rattle.model_session.specs.Text.{entry_text, bad_line_text, bad_command_text, stopped_text, power_text, armed_text, up_text}
 use Rattle.model_session.specs.Turns.{IsQuieted, IsBrokenOff, quieted_text, region_after}
-use Rattle.model_session.specs.Lives.{ends_life}
+use Rattle.model_session.specs.Lives.{ends_life, is_disk_fault}
 use Rattle.model_machine.specs.declared.counts.Counter.{Counter}
 use Rattle.tm_control.specs.OnDisk.{ControlOnDisk, spent_now}
 use Rattle.tm_control.specs.Calls.{Answered as IsAnswered, BrokeOff, AddedNothing}
@@ -57,7 +57,7 @@ pub record IsFrozen {D : Type 0} (state : D → DiskState) (call : ControlCall) 
 pub record IsFailed {D : Type 0} (state : D → DiskState) (call : ControlCall) (old new : ControlOnDisk D) : Type 0 where
   pub entry : Entry
   pub asked : call_of entry ≡ call
-  pub fault : is_fault entry ≡ true
+  pub fault : is_disk_fault entry ≡ true
   pub broke : BrokeOff state old new entry
 
 -- The regions turned, and the text for their turns is to be printed.
@@ -79,7 +79,7 @@ pub record FailsTurning {D : Type 0} (state : D → DiskState) (most : ℕ) (old
   pub begun : IsBrokenOff most old.control.system (now_of old.control) turns
   pub asked : call_of entry ≡ Turn (region_after old.control.system (length turns))
   pub can : IsCall old.control.system (call_of entry)
-  pub fault : is_fault entry ≡ true
+  pub fault : is_disk_fault entry ≡ true
   pub down : new.up ≡ false
   pub failed : FailedSince (state old.disk) (state new.disk)
 

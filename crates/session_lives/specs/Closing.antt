@@ -1,9 +1,11 @@
 -- What a session has come to.
-use Rattle.std.specs.Prelude.{◌≡◌, ℕ, ◌<◌, ◌++◌, List, [], ◌∷◌, map, Option, Some, None}
+use Rattle.std.specs.Prelude.{◌≡◌, ℕ, ◌<◌, ◌≤◌, ◌++◌, true, List, [], ◌∷◌, map, Option, Some, None}
+use Rattle.std.specs.Option.{is_some}
 use Rattle.model_disk.specs.Disk.{Image, DiskState}
 use Rattle.model_system.specs.System.{System}
 use Rattle.model_session.specs.Lives.{AreLegal}
-use Rattle.model_session.specs.Standing.{SessionState, Stop, AreAllLives, AreStops}
+use Rattle.model_session.specs.Standing.{SessionState, Stop, AreAllLives, AreStops, last_life}
+use Rattle.cold_start.specs.FirstImage.{sectors_needed}
 use Rattle.tm_control.specs.OnDisk.{ControlOnDisk, Lasts}
 use Rattle.tm_control.specs.Closed.{Closes}
 use Rattle.control_life.specs.declared.life.Life.{Life}
@@ -13,6 +15,10 @@ use Rattle.session_lives.specs.declared.place.Place.TheVariants.{Up, Down}
 use Rattle.session_lives.specs.declared.place.Kept.{Kept}
 use Rattle.session_lives.specs.declared.place.Session.{Session}
 use Rattle.session_lives.specs.Running.{life_of, session_of, Holds, IsSound}
+
+-- the disk has sectors enough for the system
+abbrev pub HasSectors : System → DiskState → Type 0
+HasSectors system disk = sectors_needed system ≤ disk.size
 
 abbrev pub listed : Option Life → List Life
 listed None = []
@@ -43,13 +49,14 @@ IsClosedAt state (Down idle) kept disk lives stops = IsClosedDown idle kept disk
 abbrev pub IsClosed : {D : Type 0} → (D → DiskState) → Session D → D → List Life → List Stop → Type 0
 IsClosed state session disk lives stops = IsClosedAt state session.place session.kept disk lives stops
 
--- What is left of a session that stood so at its end, and what was kept of it.
+-- What is left of a session that stood so at its end, and what was kept of it. Where a life has begun, the disk has sectors enough.
 pub record Remains {D : Type 0} (state : D → DiskState) (system : System) (source : List ℕ) (handed disk : D) (last : SessionState) (lives : List Life) (stops : List Stop) : Type 0 where
   pub lives_are : AreAllLives system last (map life_of lives)
   pub legal : AreLegal system (map life_of lives)
   pub stops_are : stops ≡ last.stops
   pub counted : AreStops (state handed).faults stops (state disk).faults
   pub images : (image : Image) → (state disk).may_leave image → Holds state system source handed last.standing image
+  pub enough : is_some (last_life last.standing) ≡ true → HasSectors system (state handed)
 
 -- So it is, whatever disk was handed in.
 abbrev pub LeavesSo : {D : Type 0} → (D → DiskState) → Session D → D → List Life → List Stop → Type 0

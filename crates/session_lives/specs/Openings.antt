@@ -1,5 +1,5 @@
 -- Openings, the ends of lives, and what serving a block comes to.
-use Rattle.std.specs.Prelude.{◌≡◌, ◌⊎◌, ℕ, ◌-◌, ◌++◌, Bool, true, false, if◌then◌else◌, List, [], ◌∷◌, Option, Some, None}
+use Rattle.std.specs.Prelude.{◌≡◌, ◌⊎◌, ℕ, ◌-◌, max, ◌++◌, Bool, true, false, if◌then◌else◌, List, [], ◌∷◌, Option, Some, None}
 use Rattle.std.specs.Option.{is_some}
 use Rattle.model_disk.specs.Disk.{DiskState, Stays, NoMore, Only, IsCut}
 use Rattle.model_system.specs.System.{System}
@@ -66,10 +66,11 @@ abbrev pub how_of : Bool → How
 how_of true = Cold
 how_of false = Found
 
--- the last life as it is kept once another opens, with so many steps
+-- The last life as it is kept once another opens, with so many steps: behind a cold start all that were answered count; else
+-- all that are found, and no less than were answered, also where a cold start that broke off has left nothing.
 abbrev pub kept_by : Bool → Life → ℕ → Life
 kept_by true life steps = life
-kept_by false life steps = record life { kept = steps - life.opening.steps }
+kept_by false life steps = record life { kept = max life.kept (steps - life.opening.steps) }
 
 abbrev pub with_last : List Life → Option Life → Bool → ℕ → List Life
 with_last lives None cold steps = lives

@@ -148,6 +148,11 @@ pub record IsValidDisk (system : System) (source : List ℕ) (disk : DiskState) 
   pub recovers : (image : Image) → disk.may_leave image → RecoversToState system image
   pub texts : (image : Image) → disk.may_leave image → HasText system source image
 
+-- A disk that a life was opened on as it was handed in: it has sectors enough, and where it tells its contents, it could be opened.
+pub record IsOpenedDisk (system : System) (source : List ℕ) (disk : DiskState) : Type 0 where
+  pub size : sectors_needed system ≤ disk.size
+  pub valid : IsTrue disk.tells → IsValidDisk system source disk
+
 -- ---- what is so between two blocks
 
 -- The system is up: there is room for its life, and for its stop.

@@ -131,7 +131,8 @@ fn kept_by(cold: bool, life: Life, steps: u64) -> Life
     if cold {
         return life;
     }
-    let kept = steps.saturating_sub(life.opening.steps);
+    let found = steps.saturating_sub(life.opening.steps);
+    let kept = life.kept.max(found);
     Life {
         opening: life.opening,
         history: life.history,

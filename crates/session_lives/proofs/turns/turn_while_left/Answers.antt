@@ -1,6 +1,5 @@
 -- where something is left to do there is a region, which turns next
 use Rattle.std.proofs.Common.{◌≡◌, ◌+◌, ◌%◌, false, length, ap, sym, ◌∙◌, refl, arith}
-use Rattle.model_machine.specs.declared.entry.ControlFault.TheVariants.{Disk}
 use Rattle.model_session.specs.Turns.{region_after}
 use Rattle.session_lives.proofs.Asked.{spent_up}
 use Rattle.session_lives.proofs.Turned.{turned_next, turned_fails, turns_end, turns_stand}
@@ -14,7 +13,7 @@ pub returns-in-Err-Disk-clause-turned : goal.returns-in-Err-Disk-clause-turned
 returns-in-Err-Disk-clause-turned g c =
     let next : (c.loop-turns.turns % length c.regions-regions.result.now) + 1 ≡ region_after c.loop-turns.control.control.system c.loop-turns.turns =
     ap (λ rs. c.loop-turns.turns % length rs + 1) (c.regions-regions.ensures.value ∙ ap (λ s. s.regions) c.system.ensures) in
-    turned_fails g.D.Disk.state c.args.most c.loop-turns.turns c.args.control.now c.loop-turns.control c.turn.new.self _ Disk c.loop-turns.invariant c.loop-turns-test.true
+    turned_fails g.D.Disk.state c.args.most c.loop-turns.turns c.args.control.now c.loop-turns.control c.turn.new.self _ c.loop-turns.invariant c.loop-turns-test.true
     (sym c.quiet.ensures ∙ c.if-quiet.false) next (rw c.in-Err-Disk.field-0-is at c.in-Err-Disk.ensures.adds)
 
 pub returns-in-Err-Memory-clause-turned : goal.returns-in-Err-Memory-clause-turned
