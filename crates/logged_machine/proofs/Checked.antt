@@ -6,7 +6,9 @@ use Rattle.model_machine.specs.Commands.{checkpoint_answer, unless_busy}
 use Rattle.model_machine.specs.History.{number_in}
 use Rattle.model_machine.specs.Machine.{Moment}
 use Rattle.model_machine.specs.declared.entry.CheckpointRefused.{CheckpointRefused}
-use Rattle.model_machine.specs.declared.entry.CheckpointRefused.TheVariants.{BusyRegion}
+use Rattle.model_machine.specs.declared.entry.CheckpointRefused.TheVariants.{BusyRegion, Fault}
+use Rattle.model_machine.specs.declared.entry.ControlFault.{ControlFault}
+use Rattle.model_machine.specs.declared.entry.ControlFault.TheVariants.{Memory, Disk, Spent}
 use Rattle.model_machine.specs.declared.entry.Entry.TheVariants.{Checked}
 use Rattle.log_sectors.specs.Sealed.{opened}
 use Rattle.log_sectors.specs.Chain.{chain}
@@ -20,8 +22,9 @@ use Rattle.disk_law.specs.Journal.{JournalState}
 use Rattle.tm_machine.specs.Answers.{IsAnswered}
 use Rattle.tm_machine.specs.Parts.{PartsState}
 use Rattle.parts_life.specs.Logged.{IsLogged}
-use Rattle.logged_machine.specs.Taken.{HasNumber, IsTaken, again}
-use Rattle.logged_machine.specs.Doing.{Did, Refreshed}
+use Rattle.machine_checkpoint.specs.Taking.{TakesNext}
+use Rattle.logged_machine.specs.Taken.{HasNumber, IsTaken, StaysUntaken, again}
+use Rattle.logged_machine.specs.Doing.{Did, Refreshed, Unrefreshed}
 use Rattle.logged_machine.specs.Logged.{LoggedState}
 
 -- ---- images
@@ -87,4 +90,16 @@ taken_did state old new freeze number stays free r = record {
 
 pub is_taken : {D : Type 0} (state : D → DiskState) (old new : LoggedState D) → ((image : Image) → (state new.disk).may_leave image → HasNumber new.machine.system new.journal.restart.checkpoint image) → Refreshed state old new
     → IsTaken new.machine.system new.journal.restart.checkpoint old.journal new.journal (state new.disk)
-is_taken state old new images r = record { next = r.number; now = refl; images = images; synced = r.synced }
+is_taken state old new images r = record {
+  next = r.number;
+  now = refl;
+  images = images;
+  synced = r.synced;
+  takes = subst (λ (s : System). TakesNext s old.journal new.journal) (sym r.keeps.system) r.takes;
+}
+
+-- one that was not taken
+pub stays_untaken : {D : Type 0} (state : D → DiskState) (old new : LoggedState D) (fault : ControlFault) → Unrefreshed state old new fault → StaysUntaken (Fault fault) old new
+stays_untaken state old new Memory u = u
+stays_untaken state old new Disk u = u.0.served
+stays_untaken state old new (Spent counter) u = u

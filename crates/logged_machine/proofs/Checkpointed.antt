@@ -13,6 +13,7 @@ use Rattle.checkpointing.specs.Parts.{sequence_behind}
 use Rattle.checkpointing.specs.Texts.{KeepsText}
 use Rattle.checkpointing.specs.Counts.{CountsUpTo}
 use Rattle.checkpoint_law.specs.Counted.{StandsUpTo}
+use Rattle.restart_data.specs.declared.restart.RestartSector.{RestartSector}
 use Rattle.log_writer.specs.Writer.{Writer}
 use Rattle.log_writer.specs.Log.{sectors_of}
 use Rattle.disk_law.specs.Journal.{JournalState}
@@ -20,9 +21,9 @@ use Rattle.machine_life.specs.Counts.{AreUnspent}
 use Rattle.tm_machine.specs.Parts.{PartsState}
 use Rattle.machine_life.specs.Counted.{IsCounted}
 use Rattle.parts_life.specs.Logged.{IsLogged}
-use Rattle.machine_checkpoint.specs.Taking.{SameAll, Untaken}
+use Rattle.machine_checkpoint.specs.Taking.{SameAll, TakesNext, Untaken}
 use Rattle.logged_machine.specs.Logged.{LoggedState}
-use Rattle.logged_machine.specs.Goes.{Keeps, StoodStill}
+use Rattle.logged_machine.specs.Goes.{Keeps}
 use Rattle.logged_machine.specs.Leaving.{Brings, Leaves}
 use Rattle.logged_machine.specs.Doing.{Broke, Did, LeavesCounts, LeavesSo, Refreshed, Unrefreshed, is_memory, lasting_with}
 use Rattle.logged_machine.proofs.Leaving.{leaves_same, leaves_within}
@@ -80,29 +81,34 @@ module _ {D : Type 0} (state : D → DiskState) (parts parts' : PartsState) (tex
       below : (s p n c l t : ℕ) → t ≡ s + p + n → p + n ≤ c → c ≡ l → t ≤ s + p + l
       below s p n c l t is fits count = omega (arith, is, fits, count)
 
-  pub refreshed : up ≡ true → IsCounted 0 parts.moment.lasting next journal → journal'.restart.checkpoint ≡ journal.restart.checkpoint + 1 → journal'.restart.epoch ≡ journal.restart.epoch
-      → journal'.log.sequence ≡ sequence_behind journal.log → journal'.log.place ≡ 0 → Only (state disk').shown (state disk') → (state disk').faults ≡ (state disk).faults
+  pub refreshed : up ≡ true → IsCounted 0 parts.moment.lasting next journal → TakesNext parts.system journal journal' → Only (state disk').shown (state disk') → (state disk').faults ≡ (state disk).faults
       → ((high : ℕ) → StandsUpTo high journal next → StandsUpTo (high + parts.system.logs) journal' next) → Refreshed state was (is up)
-  refreshed served counted number epoch sequence place synced no_fault raised = record {
-    stood = record { moment = moment; served = served; no_fault = no_fault };
-    leaves = leaves;
-    keeps = record { system = system; text = refl; disk = stays; later = any.later; numbers = λ now. omega (arith, number) };
-    number = number;
-    counted = record {
-      counts = subst (λ (m : Moment). AreUnspent m.lasting) (sym moment) counted.counts;
-      unit = counted.unit;
-      epoch = subst (λ (n : ℕ). n < 1000000000000000000) (sym epoch) counted.epoch;
-      sequence = omega (arith, sequence, place, sequence_low (omega (arith, counted.sequence)));
-      checkpoint = omega (arith, number, counted.checkpoint);
-    };
-    synced = synced;
-    place = place;
-    epoch = epoch;
-    sequence = sequence_on sequence;
-    unit = refl;
-    counts = counted_by;
-    raised = raised;
-  }
+  refreshed served counted takes synced no_fault raised =
+      let number : journal'.restart.checkpoint ≡ journal.restart.checkpoint + 1 = ap (λ (r : RestartSector). r.checkpoint) takes.restart in
+      let epoch : journal'.restart.epoch ≡ journal.restart.epoch = ap (λ (r : RestartSector). r.epoch) takes.restart in
+      let sequence : journal'.log.sequence ≡ sequence_behind journal.log = ap (λ (w : Writer). w.sequence) takes.log in
+      let place : journal'.log.place ≡ 0 = ap (λ (w : Writer). w.place) takes.log in
+      record {
+        stood = record { moment = moment; served = served; no_fault = no_fault };
+        takes = takes;
+        leaves = leaves;
+        keeps = record { system = system; text = refl; disk = stays; later = any.later; numbers = λ now. omega (arith, number) };
+        number = number;
+        counted = record {
+          counts = subst (λ (m : Moment). AreUnspent m.lasting) (sym moment) counted.counts;
+          unit = counted.unit;
+          epoch = subst (λ (n : ℕ). n < 1000000000000000000) (sym epoch) counted.epoch;
+          sequence = omega (arith, sequence, place, sequence_low (omega (arith, counted.sequence)));
+          checkpoint = omega (arith, number, counted.checkpoint);
+        };
+        synced = synced;
+        place = place;
+        epoch = epoch;
+        sequence = sequence_on sequence;
+        unit = refl;
+        counts = counted_by;
+        raised = raised;
+      }
 
   pub broke : FailedSince (state disk) (state disk') → Broke state was (is false) × LeavesSo state was (is false) parts.moment.lasting × Keeps state was (is false) × LeavesCounts state parts.system.logs was (is false)
   broke cause =
@@ -114,10 +120,7 @@ module _ {D : Type 0} (state : D → DiskState) (parts parts' : PartsState) (tex
 -- nothing was done
 pub nothing : {D : Type 0} (state : D → DiskState) (l : LoggedState D) (entry : Entry) → l.served ≡ true → Did state (Some Memory) l l entry
 nothing state l entry served = record {
-  did = (
-    record { moment = refl; served = served; no_fault = refl },
-    leaves_same (Brings l.machine.system l.text l.machine.moment.lasting l.machine.moment.lasting) (state l.disk),
-  );
+  did = refl;
   keeps = record {
     system = refl;
     text = refl;

@@ -12,12 +12,16 @@ use Rattle.model_image.specs.Recovered.{Recovers}
 use Rattle.checkpointing.specs.Texts.{HasText}
 use Rattle.disk_law.specs.Kept.{RecoversEither}
 use Rattle.logged_machine.specs.Logged.{LoggedState, AreLasting}
-use Rattle.logged_machine.specs.Goes.{Keeps, WentOn, Failed, StoodStill, GoesBy, CrashesBy}
+use Rattle.logged_machine.specs.Goes.{Keeps, WentOn, Failed, GoesBy, CrashesBy}
 use Rattle.logged_machine.specs.Leaving.{Brings, Leaves}
 use Rattle.checkpointing.specs.Counts.{CountsUpTo}
 use Rattle.checkpointing.proofs.Counted.{up_to_more}
 use Rattle.logged_machine.specs.Doing.{Broke, CountsSince, Did, DidBy, LeavesCounts, LeavesSo, Refreshed, lasting_with}
 use Rattle.logged_machine.proofs.Leaving.{leaves_same, leaves_then, leaves_all, leaves_now}
+
+-- there was memory
+abbrev pub IsNoMemory : Option ControlFault → Type 0
+IsNoMemory fault = fault ≡ Some Memory → ⊥
 
 -- ---- disks
 
@@ -75,20 +79,17 @@ module _ {D : Type 0} (state : D → DiskState) where
       no_fault = w.no_fault ∙ fresh.stood.no_fault;
     }
 
-    by : (fault : Option ControlFault) → DidBy state fault mid new entry → DidBy state fault old new entry
-    by None d = (went d.0, subst (LeavesSo state old new) same_after (both (lasting_with mid entry) d.1))
-    by (Some Disk) d = (
+    by : (fault : Option ControlFault) → IsNoMemory fault → DidBy state fault mid new entry → DidBy state fault old new entry
+    by None found d = (went d.0, subst (LeavesSo state old new) same_after (both (lasting_with mid entry) d.1))
+    by (Some Disk) found d = (
       record { served = d.0.served; failed = failed_later (state old.disk) (state mid.disk) (state new.disk) fresh.stood.no_fault d.0.failed },
       subst (LeavesSo state old new) same_after (both (lasting_with mid entry) d.1),
     )
-    by (Some Memory) d = (
-      record { moment = d.0.moment ∙ fresh.stood.moment; served = d.0.served; no_fault = d.0.no_fault ∙ fresh.stood.no_fault },
-      subst (LeavesSo state old new) (ap (λ (m : Moment). m.lasting) fresh.stood.moment) (both mid.machine.moment.lasting d.1),
-    )
-    by (Some (Spent counter)) d = absurd d
+    by (Some Memory) found d = absurd (found refl)
+    by (Some (Spent counter)) found d = absurd d
 
-    pub did_behind : (fault : Option ControlFault) → Did state fault mid new entry → Did state fault old new entry
-    did_behind fault d = record { did = by fault d.did; keeps = keeps_then old mid new fresh.stood.served fresh.keeps d.keeps }
+    pub did_behind : (fault : Option ControlFault) → IsNoMemory fault → Did state fault mid new entry → Did state fault old new entry
+    did_behind fault found d = record { did = by fault found d.did; keeps = keeps_then old mid new fresh.stood.served fresh.keeps d.keeps }
 
   -- ---- as callers see it
 
@@ -110,7 +111,7 @@ module _ {D : Type 0} (state : D → DiskState) where
     pub goes : (fault : Option ControlFault) → DidBy state fault old new entry → GoesBy state fault old new entry
     goes None d = d.0
     goes (Some Disk) d = record { served = d.0.served; failed = d.0.failed; have_text = texts (lasting_with old entry) d.1 }
-    goes (Some Memory) d = d.0
+    goes (Some Memory) d = d
     goes (Some (Spent counter)) d = d
 
     -- Whatever a crash might have left since the call began counts up to so much.
@@ -122,5 +123,5 @@ module _ {D : Type 0} (state : D → DiskState) where
     pub crashes : (fault : Option ControlFault) → DidBy state fault old new entry → CrashesBy state fault old new entry
     crashes None d = either (lasting_with old entry) d.1
     crashes (Some Disk) d = either (lasting_with old entry) d.1
-    crashes (Some Memory) d = alone d.1
+    crashes (Some Memory) d = λ image left. before.recover image (old_disk.now_alone image (subst (λ (l : LoggedState D). (state l.disk).left_since (state old.disk).clock image) d left))
     crashes (Some (Spent counter)) d = d

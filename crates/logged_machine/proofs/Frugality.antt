@@ -24,7 +24,7 @@ use Rattle.logged_machine.specs.Logged.{LoggedState}
 use Rattle.logged_machine.specs.Doing.{Done, DoneFrugally, GoesOnIn, LeavesCounts, Refreshed, Tried, Unrefreshed}
 use Rattle.logged_machine.specs.Frugal.{DoesNothing, Raises, WritesBy, WritesLog, has_lasting_step, own_bytes}
 use Rattle.logged_machine.proofs.Checkpointed.{nothing, unrefreshed}
-use Rattle.logged_machine.proofs.Doing.{did_behind}
+use Rattle.logged_machine.proofs.Doing.{IsNoMemory, did_behind}
 use Rattle.logged_machine.proofs.Leaving.{leaves_same, leaves_same_then, leaves_then}
 
 -- ---- what a force writes
@@ -75,12 +75,6 @@ module _ {D : Type 0} (state : D → DiskState) where
       leaves_same_then (CountsUpTo old.machine.system (high + less)) (CountsUpTo old.machine.system (high + more)) (state old.disk) (state new.disk)
       (λ image c. up_to_more old.machine.system (high + less) (high + more) image (omega (arith, le)) c) (counts high stands)
 
-  -- An attempt that left all as it was.
-  pub tried_nothing : (old new : LoggedState D) (entry : Entry) → new ≡ old → old.served ≡ true → Tried state (Some Memory) old new entry
-  tried_nothing old new entry same served =
-      subst (λ (l : LoggedState D). Tried state (Some Memory) old l entry) (sym same)
-      (record { did = nothing state old entry served; writes = nothing_written old (has_lasting_step old.machine (call_of entry)) (own_bytes old.machine old.units (call_of entry)); on = λ up. still_on old; counts = nothing_counted old old.machine.system.logs })
-
   -- A call that left all as it was.
   pub done_nothing : (old new : LoggedState D) (entry : Entry) → new ≡ old → old.served ≡ true → DoneFrugally state (Some Memory) old new entry
   done_nothing old new entry same served =
@@ -128,9 +122,9 @@ module _ {D : Type 0} (state : D → DiskState) where
       (subst (λ (s : System). CountsUpTo s (high + old.machine.system.logs + s.logs) image) same c))
       (one high stands) (two (high + old.machine.system.logs) (raised high stands))
 
-  pub done_behind : (fault : Option ControlFault) (old mid new : LoggedState D) (entry : Entry) → Refreshed state old mid → Tried state fault mid new entry → Done state fault old new entry
-  done_behind fault old mid new entry fresh t = record {
-    did = did_behind state old mid new entry fresh fault t.did;
+  pub done_behind : (fault : Option ControlFault) (old mid new : LoggedState D) (entry : Entry) → IsNoMemory fault → Refreshed state old mid → Tried state fault mid new entry → Done state fault old new entry
+  done_behind fault old mid new entry found fresh t = record {
+    did = did_behind state old mid new entry fresh fault found t.did;
     raises = λ up.
         let on : GoesOnIn mid new = t.on up in
         let logs : mid.machine.system.logs ≡ old.machine.system.logs = ap (λ (s : System). s.logs) fresh.keeps.system in

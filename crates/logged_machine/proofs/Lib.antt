@@ -10,3 +10,4 @@ pub mod Serving
 pub mod Checked
 pub mod Handed
 pub mod Frugality
+pub mod Due

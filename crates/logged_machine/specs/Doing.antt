@@ -10,7 +10,8 @@ use Rattle.model_machine.specs.declared.entry.Entry.{Entry}
 use Rattle.model_machine.specs.declared.entry.ControlFault.{ControlFault}
 use Rattle.model_machine.specs.declared.entry.ControlFault.TheVariants.{Memory, Disk, Spent}
 use Rattle.logged_machine.specs.Logged.{LoggedState}
-use Rattle.logged_machine.specs.Goes.{Keeps, WentOn, StoodStill}
+use Rattle.machine_checkpoint.specs.Taking.{TakesNext}
+use Rattle.logged_machine.specs.Goes.{Keeps, WentOn}
 use Rattle.logged_machine.specs.Leaving.{Brings, Leaves}
 use Rattle.logged_machine.specs.Frugal.{IsFrugal, Raises, WritesBy, has_lasting_step, own_bytes}
 
@@ -31,6 +32,12 @@ abbrev pub CountsSince : {D : Type 0} → (D → DiskState) → ℕ → LoggedSt
 CountsSince state more old new =
     (high : ℕ) → StandsUpTo high old.journal old.next_unit → (image : Image) → (state new.disk).left_since (state old.disk).clock image → CountsUpTo old.machine.system (high + more) image
 
+-- the machine stands where it stood
+pub record StoodStill {D : Type 0} (state : D → DiskState) (old new : LoggedState D) : Type 0 where
+  pub moment : new.machine.moment ≡ old.machine.moment
+  pub served : new.served ≡ true
+  pub no_fault : (state new.disk).faults ≡ (state old.disk).faults
+
 -- the disk failed
 pub record Broke {D : Type 0} (state : D → DiskState) (old new : LoggedState D) : Type 0 where
   pub served : new.served ≡ false
@@ -39,7 +46,7 @@ pub record Broke {D : Type 0} (state : D → DiskState) (old new : LoggedState D
 abbrev pub DidBy : {D : Type 0} → (D → DiskState) → Option ControlFault → LoggedState D → LoggedState D → Entry → Type 0
 DidBy state None old new entry = WentOn state old new entry × LeavesSo state old new (lasting_with old entry)
 DidBy state (Some Disk) old new entry = Broke state old new × LeavesSo state old new (lasting_with old entry)
-DidBy state (Some Memory) old new entry = StoodStill state old new × LeavesSo state old new old.machine.moment.lasting
+DidBy state (Some Memory) old new entry = new ≡ old
 DidBy state (Some (Spent counter)) old new entry = ⊥
 
 pub record Did {D : Type 0} (state : D → DiskState) (fault : Option ControlFault) (old new : LoggedState D) (entry : Entry) : Type 0 where
@@ -76,6 +83,7 @@ pub record DoneFrugally {D : Type 0} (state : D → DiskState) (fault : Option C
 -- area is empty, and a crash leaves what is shown.
 pub record Refreshed {D : Type 0} (state : D → DiskState) (old new : LoggedState D) : Type 0 where
   pub stood : StoodStill state old new
+  pub takes : TakesNext old.machine.system old.journal new.journal
   pub leaves : LeavesSo state old new old.machine.moment.lasting
   pub keeps : Keeps state old new
   pub number : new.journal.restart.checkpoint ≡ old.journal.restart.checkpoint + 1

@@ -33,16 +33,11 @@ pub record Failed {D : Type 0} (state : D → DiskState) (old new : LoggedState 
   pub failed : FailedSince (state old.disk) (state new.disk)
   pub have_text : (image : Image) → (state new.disk).may_leave image → HasText old.machine.system old.text image
 
--- There was no memory, and the machine stands where it stood.
-pub record StoodStill {D : Type 0} (state : D → DiskState) (old new : LoggedState D) : Type 0 where
-  pub moment : new.machine.moment ≡ old.machine.moment
-  pub served : new.served ≡ true
-  pub no_fault : (state new.disk).faults ≡ (state old.disk).faults
-
+-- Where there was no memory, nothing at all has changed, and nothing was written.
 abbrev pub GoesBy : {D : Type 0} → (D → DiskState) → Option ControlFault → LoggedState D → LoggedState D → Entry → Type 0
 GoesBy state None old new entry = WentOn state old new entry
 GoesBy state (Some Disk) old new entry = Failed state old new
-GoesBy state (Some Memory) old new entry = StoodStill state old new
+GoesBy state (Some Memory) old new entry = new ≡ old
 GoesBy state (Some (Spent counter)) old new entry = ⊥
 
 -- ---- what it leaves on the disk

@@ -13,7 +13,9 @@ ghost use Rattle.machine_telling.specs.Telling.{HasRoom};
 ghost use Rattle.machine_life.specs.Counted.{IsCounted};
 
 use crate::logged::LoggedMachine;
-use machine_telling::{Untold, all_room, room_left, tell_input};
+use crate::refreshing::is_memory;
+use machine_due::input_due;
+use machine_telling::{Untold, room_left, tell_input};
 use model_machine::{ControlFault, InputRefused, Taken};
 use tm_disk::Disk;
 use tm_types::{Name, Segments};
@@ -103,29 +105,33 @@ impl<D: Disk> LoggedMachine<D> {
         requires small { number < 2000000000000000000 }
         ensures did { Done D.state (fault_in (Accept terminal.now number segments result)) self.old self.new (Accept terminal.now number segments result) }
     {
-        match self.refresh() {
-            Ok(()) => self.accept_fresh(terminal, number, segments),
-            Err(fault) => Err(InputRefused::Fault(fault)),
-        }
-    }
-
-    /// The same with a log area that is empty.
-    fn accept_fresh(
-        &mut self,
-        terminal: &Name,
-        number: u64,
-        segments: Segments,
-    ) -> Result<Taken, InputRefused>
-        requires some { 0 < length segments }
-        requires served { self.old.served ≡ true }
-        requires counted { IsCounted 4294967296 self.old.machine.moment.lasting self.old.next_unit self.old.journal }
-        requires small { number < 2000000000000000000 }
-        ensures did { Tried D.state (fault_in (Accept terminal.now number segments result)) self.old self.new (Accept terminal.now number segments result) }
-    {
-        let room = all_room(&self.journal);
-        match self.accept_once(terminal, number, segments, room) {
+        let done = input_due(
+            self.alloc,
+            &mut self.parts,
+            &mut self.journal,
+            &mut self.disk,
+            self.units.as_slice(),
+            self.next_unit,
+            terminal,
+            number,
+            segments,
+        );
+        let answer = match done {
             Ok(answer) => answer,
-            Err(_) => Err(InputRefused::Fault(ControlFault::Memory)),
+            Err(fault) => {
+                self.served = is_memory(&fault);
+                return Err(InputRefused::Fault(fault));
+            }
+        };
+        if !is_new(&answer) {
+            return answer;
+        }
+        match self.journal.force(&mut self.disk) {
+            Ok(()) => answer,
+            Err(_) => {
+                self.served = false;
+                Err(InputRefused::Fault(ControlFault::Disk))
+            }
         }
     }
 

@@ -13,7 +13,9 @@ ghost use Rattle.machine_life.specs.Counted.{IsCounted};
 ghost use Rattle.parts_life.specs.Steps.{is_removed};
 
 use crate::logged::LoggedMachine;
-use machine_telling::{Untold, all_room, room_left, tell_acknowledgement};
+use crate::refreshing::is_memory;
+use machine_due::acknowledgement_due;
+use machine_telling::{Untold, room_left, tell_acknowledgement};
 use model_machine::{AckRefused, Acked, ControlFault};
 use tm_disk::Disk;
 use tm_types::Name;
@@ -57,22 +59,32 @@ impl<D: Disk> LoggedMachine<D> {
         requires counted { IsCounted 0 self.old.machine.moment.lasting self.old.next_unit self.old.journal }
         ensures did { Done D.state (fault_in (AckedEntry terminal.now number result)) self.old self.new (AckedEntry terminal.now number result) }
     {
-        match self.refresh() {
-            Ok(()) => self.acknowledge_fresh(terminal, number),
-            Err(fault) => Err(AckRefused::Fault(fault)),
-        }
-    }
-
-    /// The same with a log area that is empty.
-    fn acknowledge_fresh(&mut self, terminal: &Name, number: u64) -> Result<Acked, AckRefused>
-        requires served { self.old.served ≡ true }
-        requires counted { IsCounted 4294967296 self.old.machine.moment.lasting self.old.next_unit self.old.journal }
-        ensures did { Tried D.state (fault_in (AckedEntry terminal.now number result)) self.old self.new (AckedEntry terminal.now number result) }
-    {
-        let room = all_room(&self.journal);
-        match self.acknowledge_once(terminal, number, room) {
+        let done = acknowledgement_due(
+            self.alloc,
+            &mut self.parts,
+            &mut self.journal,
+            &mut self.disk,
+            self.units.as_slice(),
+            self.next_unit,
+            terminal,
+            number,
+        );
+        let answer = match done {
             Ok(answer) => answer,
-            Err(_) => Err(AckRefused::Fault(ControlFault::Memory)),
+            Err(fault) => {
+                self.served = is_memory(&fault);
+                return Err(AckRefused::Fault(fault));
+            }
+        };
+        if !is_removed(&answer) {
+            return answer;
+        }
+        match self.journal.force(&mut self.disk) {
+            Ok(()) => answer,
+            Err(_) => {
+                self.served = false;
+                Err(AckRefused::Fault(ControlFault::Disk))
+            }
         }
     }
 

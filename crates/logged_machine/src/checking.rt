@@ -1,5 +1,5 @@
 //! Checkpoints that are asked for.
-ghost use Rattle.std.specs.Prelude.{◌*◌, ◌≡◌, true, ℕ, None, Ok, IfOk};
+ghost use Rattle.std.specs.Prelude.{◌*◌, ◌≡◌, true, ℕ, None, Ok, IfErr, IfOk};
 ghost use Rattle.model_disk.specs.Disk.{Image};
 ghost use Rattle.model_machine.specs.Commands.{checkpoint_answer, unless_busy};
 ghost use Rattle.model_machine.specs.declared.entry.Entry.TheVariants.{Checked};
@@ -9,7 +9,7 @@ ghost use Rattle.logged_machine.specs.Frugal.{Raises};
 ghost use Rattle.logged_machine.specs.Goes.{Keeps, GoesBy, CrashesBy};
 ghost use Rattle.control_life.specs.Faults.{fault_in};
 ghost use Rattle.logged_machine.specs.Logged.{LastsNow, spent_now};
-ghost use Rattle.logged_machine.specs.Taken.{HasNumber, IsTaken, again};
+ghost use Rattle.logged_machine.specs.Taken.{HasNumber, IsTaken, StaysUntaken, again};
 
 use crate::logged::LoggedMachine;
 use command_answers::busy_region;
@@ -29,6 +29,7 @@ impl<D: Disk> LoggedMachine<D> {
         ensures counts { CountsSince D.state (2 * self.old.machine.system.logs) self.old self.new }
         ensures raises { self.new.served ≡ true → Raises self.old.machine.system.logs self.old.journal self.new.journal self.old.next_unit self.new.next_unit }
         ensures taken { IfOk result (λ number. IsTaken self.new.machine.system number self.old.journal self.new.journal (D.state self.new.disk)) }
+        ensures refused { IfErr result (λ refusal. StaysUntaken refusal self.old self.new) }
     {
         let _before = self.is_served();
         let answer = self.checkpoint_any(freeze);
@@ -44,6 +45,7 @@ impl<D: Disk> LoggedMachine<D> {
         ensures counts { LeavesCounts D.state (2 * self.old.machine.system.logs) self.old self.new }
         ensures raises { self.new.served ≡ true → Raises self.old.machine.system.logs self.old.journal self.new.journal self.old.next_unit self.new.next_unit }
         ensures taken { IfOk result (λ number. IsTaken self.new.machine.system number self.old.journal self.new.journal (D.state self.new.disk)) }
+        ensures refused { IfErr result (λ refusal. StaysUntaken refusal self.old self.new) }
     {
         let _regions = self.parts.region_count();
         match busy_for(&self.parts, freeze) {
@@ -62,6 +64,7 @@ impl<D: Disk> LoggedMachine<D> {
         ensures counts { LeavesCounts D.state (2 * self.old.machine.system.logs) self.old self.new }
         ensures raises { self.new.served ≡ true → Raises self.old.machine.system.logs self.old.journal self.new.journal self.old.next_unit self.new.next_unit }
         ensures taken { IfOk result (λ number. IsTaken self.new.machine.system number self.old.journal self.new.journal (D.state self.new.disk)) }
+        ensures refused { IfErr result (λ refusal. StaysUntaken refusal self.old self.new) }
     {
         match self.refresh() {
             Ok(()) => self.number_taken(),

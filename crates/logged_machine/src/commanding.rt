@@ -15,8 +15,10 @@ ghost use Rattle.machine_life.specs.Counted.{IsCounted};
 ghost use Rattle.parts_life.specs.Steps.{is_lasting};
 
 use crate::logged::LoggedMachine;
+use crate::refreshing::is_memory;
 use command_answers::answer_to;
-use machine_telling::{Untold, all_room, room_left, tell_command};
+use machine_due::command_due;
+use machine_telling::{Untold, room_left, tell_command};
 use model_command::{Answer, Command};
 use model_machine::{CommandRefused, ControlFault};
 use tm_disk::Disk;
@@ -71,23 +73,32 @@ impl<D: Disk> LoggedMachine<D> {
         requires counted { IsCounted 0 self.old.machine.moment.lasting self.old.next_unit self.old.journal }
         ensures did { Done D.state (fault_in (Commanded command.now result)) self.old self.new (Commanded command.now result) }
     {
-        match self.refresh() {
-            Ok(()) => self.command_fresh(command),
-            Err(fault) => Err(CommandRefused::Fault(fault)),
-        }
-    }
-
-    /// The same with a log area that is empty.
-    fn command_fresh(&mut self, command: &Command) -> Result<Answer, CommandRefused>
-        requires command { IsServed command.now }
-        requires served { self.old.served ≡ true }
-        requires counted { IsCounted 4294967296 self.old.machine.moment.lasting self.old.next_unit self.old.journal }
-        ensures did { Tried D.state (fault_in (Commanded command.now result)) self.old self.new (Commanded command.now result) }
-    {
-        let room = all_room(&self.journal);
-        match self.command_once(command, room) {
+        let done = command_due(
+            self.alloc,
+            &mut self.parts,
+            &mut self.journal,
+            &mut self.disk,
+            self.units.as_slice(),
+            self.next_unit,
+            command,
+        );
+        let answer = match done {
             Ok(answer) => answer,
-            Err(_) => Err(CommandRefused::Fault(ControlFault::Memory)),
+            Err(fault) => {
+                self.served = is_memory(&fault);
+                return Err(CommandRefused::Fault(fault));
+            }
+        };
+        if !is_lasting(command, &answer) {
+            return answer;
+        }
+        match self.journal.force(&mut self.disk) {
+            Ok(()) => answer,
+            Err(_) => {
+                drop(answer);
+                self.served = false;
+                Err(CommandRefused::Fault(ControlFault::Disk))
+            }
         }
     }
 

@@ -34,7 +34,7 @@ impl<D: Disk> LoggedMachine<D> {
 }
 
 /// Whether a fault is want of memory.
-fn is_memory(fault: &ControlFault) -> bool
+pub(crate) fn is_memory(fault: &ControlFault) -> bool
     ensures { result ≡ is_memory fault.now }
 {
     match fault {

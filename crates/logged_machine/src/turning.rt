@@ -14,7 +14,9 @@ ghost use Rattle.machine_telling.specs.Telling.{HasRoom};
 ghost use Rattle.machine_life.specs.Counted.{IsCounted};
 
 use crate::logged::LoggedMachine;
-use machine_telling::{Untold, all_room, note_units, room_left, tell_turn, unit_of};
+use crate::refreshing::is_memory;
+use machine_due::turn_due;
+use machine_telling::{Untold, note_units, room_left, tell_turn, unit_of};
 use model_machine::{ControlFault, Turned};
 use tm_disk::Disk;
 
@@ -60,23 +62,32 @@ impl<D: Disk> LoggedMachine<D> {
         requires counted { IsCounted 0 self.old.machine.moment.lasting self.old.next_unit self.old.journal }
         ensures did { Done D.state (fault_in (TurnEntry region result)) self.old self.new (TurnEntry region result) }
     {
-        match self.refresh() {
-            Ok(()) => self.turn_fresh(region),
-            Err(fault) => Err(fault),
-        }
-    }
-
-    /// The same with a log area that is empty.
-    fn turn_fresh(&mut self, region: u32) -> Result<Turned, ControlFault>
-        requires region { IsRegion self.old.machine.system region }
-        requires served { self.old.served ≡ true }
-        requires counted { IsCounted 4294967296 self.old.machine.moment.lasting self.old.next_unit self.old.journal }
-        ensures did { Tried D.state (fault_in (TurnEntry region result)) self.old self.new (TurnEntry region result) }
-    {
-        let all = all_room(&self.journal);
-        match self.turn_once(region, all) {
+        let done = turn_due(
+            self.alloc,
+            &mut self.parts,
+            &mut self.journal,
+            &mut self.disk,
+            self.units.as_slice(),
+            self.next_unit,
+            region,
+        );
+        let turned = match done {
             Ok(turned) => turned,
-            Err(_) => Err(ControlFault::Memory),
+            Err(fault) => {
+                self.served = is_memory(&fault);
+                return Err(fault);
+            }
+        };
+        note_units(&mut self.units, &mut self.next_unit, region, &turned);
+        if !ends_work(&turned) {
+            return Ok(turned);
+        }
+        match self.journal.force(&mut self.disk) {
+            Ok(()) => Ok(turned),
+            Err(_) => {
+                self.served = false;
+                Err(ControlFault::Disk)
+            }
         }
     }
 

@@ -1,14 +1,18 @@
 -- A snapshot, and a checkpoint that was not taken.
 use Rattle.std.specs.Prelude.{◌≡◌, ℕ, ◌≤◌, List, [], length}
 use Rattle.model_disk.specs.Disk.{DiskState, FailedSince}
+use Rattle.model_system.specs.System.{System}
 use Rattle.model_machine.specs.declared.entry.ControlFault.{ControlFault}
 use Rattle.model_machine.specs.declared.entry.ControlFault.TheVariants.{Memory, Disk, Spent}
+use Rattle.checkpointing.specs.Parts.{next_restart, next_writer}
 use Rattle.disk_law.specs.Journal.{JournalState}
+use Rattle.journal.specs.Checkpoints.{parts_for}
 use Rattle.machine_life.specs.Opens.{AreUnitsOf}
 use Rattle.snapshot_records.specs.declared.touches.OpenUnit.{OpenUnit}
 use Rattle.snapshot_records.specs.Records.{snapshot_records}
 use Rattle.snapshot_records.specs.Spelled.{Adds}
 use Rattle.snapshot_records.specs.Touches.{changes_of}
+use Rattle.program_rows.specs.State.{settled}
 use Rattle.tm_machine.specs.OnSlots.{slots_now}
 use Rattle.tm_machine.specs.Parts.{PartsState}
 
@@ -18,6 +22,17 @@ pub record IsSnapshot (parts : PartsState) (units : List ℕ) (next_unit number 
   pub are : AreUnitsOf (slots_now parts) units opens
   pub few : length opens ≤ length parts.system.regions
   pub adds : Adds (snapshot_records number next_unit parts.moment.lasting (changes_of (slots_now parts).stores opens)) [] bytes
+
+-- the parts where no slot counts as changed
+abbrev pub settled_parts : PartsState → PartsState
+settled_parts parts = record parts { databases = settled parts.databases }
+
+-- With some bytes as its snapshot a checkpoint was taken: the next restart sector holds, and the log begins anew in the other
+-- area, behind all that was written.
+pub record TakesNext (system : System) (old new : JournalState) : Type 0 where
+  pub bytes : List ℕ
+  pub restart : new.restart ≡ next_restart (parts_for system old.restart bytes) old.log
+  pub log : new.log ≡ next_writer (parts_for system old.restart bytes) old.log
 
 -- Nothing has changed.
 pub record SameAll {D : Type 0} (parts parts' : PartsState) (journal journal' : JournalState) (disk disk' : D) : Type 0 where

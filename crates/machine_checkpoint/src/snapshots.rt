@@ -20,7 +20,7 @@ use tm_types::Memory;
 
 /// The bytes of a snapshot under this number of a checkpoint. The open units are those of the regions, by these numbers.
 #[tactic(auto, using(crate::proofs::Spelled::snapshot_of, crate::proofs::Spelled::may_spell))]
-pub(crate) fn snapshot(
+pub fn snapshot(
     alloc: Global,
     parts: &Parts,
     units: &[u64],

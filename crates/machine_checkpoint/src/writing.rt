@@ -2,7 +2,7 @@
 ghost use Rattle.std.specs.Prelude.{◌≡◌, ◌+◌, List, ℕ, OnOk, OnErr, IfErr};
 ghost use Rattle.model_disk.specs.Disk.{Stays, Within, Only, FailedSince};
 ghost use Rattle.checkpointing.specs.Checkpoint.{KeepsRecovery};
-ghost use Rattle.checkpointing.specs.Parts.{sequence_behind, next_restart, next_writer};
+ghost use Rattle.checkpointing.specs.Parts.{next_restart, next_writer};
 ghost use Rattle.checkpointing.specs.Texts.{KeepsText};
 ghost use Rattle.checkpointing.specs.Counts.{CountsUpTo};
 ghost use Rattle.checkpointing.specs.Steps.{Takes};
@@ -12,7 +12,7 @@ ghost use Rattle.program_rows.specs.OnSlots.{all_stores};
 ghost use Rattle.tm_machine.specs.OnSlots.{slots_now};
 ghost use Rattle.machine_life.specs.Counted.{IsCounted};
 ghost use Rattle.parts_life.specs.Logged.{IsLogged};
-ghost use Rattle.machine_checkpoint.specs.Taking.{IsSnapshot, Untaken};
+ghost use Rattle.machine_checkpoint.specs.Taking.{IsSnapshot, TakesNext, Untaken};
 
 use crate::snapshots::snapshot;
 use journal::Journal;
@@ -42,10 +42,7 @@ pub fn checkpoint<D: Disk>(
     // Where its own counters stand up to a bound, each image counts further by the sectors of a log area at most, and so do they.
     ensures counts { (high : ℕ) → StandsUpTo high journal.old next_unit → Within (λ before after. CountsUpTo parts.old.system (high + parts.old.system.logs) after) (D.state disk.old) (D.state disk.new) }
     ensures raised { OnOk result ((high : ℕ) → StandsUpTo high journal.old next_unit → StandsUpTo (high + parts.old.system.logs) journal.new next_unit) }
-    ensures number { OnOk result (journal.new.restart.checkpoint ≡ journal.old.restart.checkpoint + 1) }
-    ensures epoch { OnOk result (journal.new.restart.epoch ≡ journal.old.restart.epoch) }
-    ensures sequence { OnOk result (journal.new.log.sequence ≡ sequence_behind journal.old.log) }
-    ensures place { OnOk result (journal.new.log.place ≡ 0) }
+    ensures takes { OnOk result (TakesNext parts.old.system journal.old journal.new) }
     ensures synced { OnOk result (Only (D.state disk.new).shown (D.state disk.new)) }
     ensures no_fault { OnOk result ((D.state disk.new).faults ≡ (D.state disk.old).faults) }
     ensures cause { IfErr result (Untaken D.state parts.old parts.new journal.old journal.new disk.old disk.new) }

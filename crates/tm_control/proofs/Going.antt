@@ -1,10 +1,13 @@
 -- A call of a control region, by what it leaves of its machine.
 use Rattle.std.proofs.Common.{◌≡◌, ◌≤◌, ◌⊎◌, ◌+◌, ◌*◌, ℕ, Bool, true, false, List, [], ◌∷◌, ◌++◌, refl, sym, ◌∙◌, ap, subst, arith}
-use Rattle.std.specs.Prelude.{Option, Some, None, Ok, if◌then◌else◌}
+use Rattle.std.specs.Prelude.{Option, Some, None, Result, Ok, Err, IfErr, if◌then◌else◌}
 use Rattle.std.specs.Option.{option_map_or}
 use Rattle.model_disk.specs.Disk.{Image, DiskState, IsDisk}
 use Rattle.model_system.specs.System.{System}
+use Rattle.model_machine.specs.declared.entry.CheckpointRefused.{CheckpointRefused}
+use Rattle.model_machine.specs.declared.entry.CheckpointRefused.TheVariants.{BusyRegion, Fault}
 use Rattle.model_machine.specs.declared.entry.Entry.{Entry}
+use Rattle.model_machine.specs.declared.entry.Entry.TheVariants.{Checked}
 use Rattle.model_machine.specs.declared.entry.ControlFault.{ControlFault}
 use Rattle.model_machine.specs.declared.entry.ControlFault.TheVariants.{Memory, Disk, Spent}
 use Rattle.model_machine.specs.Machine.{LastingState, Moment, start_of}
@@ -19,13 +22,14 @@ use Rattle.checkpointing.specs.Texts.{HasText}
 use Rattle.checkpointing.proofs.Counted.{up_to_more}
 use Rattle.disk_law.specs.Journal.{JournalState}
 use Rattle.logged_machine.specs.Logged.{LoggedState, LastsNow}
-use Rattle.logged_machine.specs.Goes.{Keeps, WentOn, Failed, StoodStill, GoesBy, CrashesBy}
+use Rattle.logged_machine.specs.Goes.{Keeps, WentOn, Failed, GoesBy, CrashesBy}
 use Rattle.control_life.specs.Faults.{fault_in}
 use Rattle.tm_control.specs.OnDisk.{ControlOnDisk, IsUp, IsDown, Lasts, LastsBy, lasting_after}
 use Rattle.model_machine.specs.declared.entry.ControlCall.{ControlCall}
 use Rattle.tm_machine.specs.Parts.{PartsState}
 use Rattle.logged_machine.specs.Frugal.{IsFrugal}
-use Rattle.tm_control.specs.Calls.{StaysSo, CountsSince, AddsBy, CrashesSo, CrashesAlone, is_noted, noted, parts_now}
+use Rattle.logged_machine.specs.Taken.{StaysUntaken}
+use Rattle.tm_control.specs.Calls.{StaysSo, CountsSince, StaysUndone, StaysUntaken as Untaken, AddsBy, CrashesSo, CrashesAlone, is_noted, noted, parts_now}
 use Rattle.tm_control.specs.Inside.{IsServed, IsBroken, Holds, HoldsBy, last_checked}
 use Rattle.tm_control.proofs.Numbers.{ascend_more, last_more, Numbers, Next, next_number, fault_ascends}
 
@@ -132,6 +136,7 @@ pub record Is {D : Type 0} (state : D → DiskState) (fault : Option ControlFaul
   pub crash : CrashesSo state fault old new entry
   pub lasts : Lasts state new
   pub stays : StaysSo state old new
+  pub undone : StaysUndone fault old new
 
 module _ {D : Type 0} (state : D → DiskState) (old new : LoggedState D) (opening : LastingState) (before after : List Entry) (entry : Entry) (room room' began steps steps' : ℕ)
     (went : Went state old new opening before steps entry)
@@ -206,6 +211,7 @@ module _ {D : Type 0} (state : D → DiskState) (old new : LoggedState D) (openi
           crash = λ image left. either image (crash image left);
           lasts = lasts_up goes.served here;
           stays = stay;
+          undone = tt;
         },
         kept_up goes.served here,
       )
@@ -216,6 +222,7 @@ module _ {D : Type 0} (state : D → DiskState) (old new : LoggedState D) (openi
           crash = λ image left. either image (crash image left);
           lasts = subst (λ (b : Bool). LastsBy b is.control new.text (state new.disk)) (sym goes.served) down;
           stays = stay;
+          undone = tt;
         },
         subst (λ (b : Bool). HoldsBy b state new opening after steps') (sym goes.served)
             (record {
@@ -239,34 +246,37 @@ module _ {D : Type 0} (state : D → DiskState) (old new : LoggedState D) (openi
             }),
       )
   by (Some Memory) f goes crash longer =
+      let moment : new.machine.moment ≡ old.machine.moment = ap (λ (l : LoggedState D). l.machine.moment) goes in
+      let served : new.served ≡ true = ap (λ (l : LoggedState D). l.served) goes ∙ went.served in
       let stands : moment_after new.machine.system (start_of new.machine.system opening) after ≡ new.machine.moment =
       ap (λ (s : System). moment_after s (start_of s opening) after) went.keeps.system
-      ∙ ap (moment_after old.machine.system (start_of old.machine.system opening)) longer ∙ went.holds.moment ∙ sym goes.moment in
+      ∙ ap (moment_after old.machine.system (start_of old.machine.system opening)) longer ∙ went.holds.moment ∙ sym moment in
       let here : IsServed new opening after steps' = record {
         moment = stands;
         legal =
             subst (λ (s : System). AreSteps s (start_of s opening) after) (sym went.keeps.system)
             (subst (AreSteps old.machine.system (start_of old.machine.system opening)) (sym longer) went.holds.legal);
-        count = counted goes.served;
+        count = counted served;
         more =
-            let now : steps' ≡ steps = counted goes.served ∙ ap (λ (m : Moment). m.lasting.steps) goes.moment ∙ sym went.holds.count in
+            let now : steps' ≡ steps = counted served ∙ ap (λ (m : Moment). m.lasting.steps) moment ∙ sym went.holds.count in
             omega (arith, now, went.holds.more);
         ascend = subst (AscendAbove 0) (sym longer) went.holds.ascend;
         reached =
             subst (λ (es : List Entry). last_checked 0 es ≤ new.journal.restart.checkpoint) (sym longer)
-            (omega (arith, went.holds.reached, went.keeps.numbers goes.served));
+            (omega (arith, went.holds.reached, went.keeps.numbers served));
       } in (
         record {
           adds = record {
             adds = record { system = went.keeps.system; opening = refl; history = longer };
-            up = goes.served;
-            no_fault = goes.no_fault;
+            up = served;
+            no_fault = ap (λ (l : LoggedState D). (state l.disk).faults) goes;
           };
           crash = λ image left. alone image (crash image left);
-          lasts = lasts_up goes.served here;
+          lasts = lasts_up served here;
           stays = stay;
+          undone = ap (λ (l : LoggedState D). seen l opening after room' began) goes ∙ ap (λ (h : List Entry). seen old opening h room' began) longer;
         },
-        kept_up goes.served here,
+        kept_up served here,
       )
   by (Some (Spent counter)) f goes crash longer = absurd goes
 
@@ -342,3 +352,14 @@ shown_holds state machine opening before after entry steps served holds longer a
     let h : IsServed machine opening before steps = is_served state machine opening before steps served holds in
     subst (λ (b : Bool). HoldsBy b state machine opening after steps) (sym served) (served_next machine machine opening before after entry steps steps h longer answered h.count
     (next_number entry (last_checked 0 before) machine.journal.restart.checkpoint machine.journal.restart.checkpoint h.reached (omega arith) numbers))
+
+-- ---- a checkpoint that was not taken
+
+pub untaken : {D : Type 0} (old new : LoggedState D) (opening : LastingState) (before after : List Entry) (room room' began : ℕ) (freeze : Bool) (answer : Result ℕ CheckpointRefused)
+    → IfErr answer (λ refusal. StaysUntaken refusal old new) → after ≡ noted (is_noted (fault_in (Checked freeze answer))) before (Checked freeze answer)
+    → StaysUndone (fault_in (Checked freeze answer)) (seen old opening before room began) (seen new opening after room' began)
+    → IfErr answer (λ refusal. Untaken refusal (seen old opening before room began) (seen new opening after room' began) (Checked freeze answer))
+untaken old new opening before after room room' began freeze (Ok number) same longer undone = tt
+untaken old new opening before after room room' began freeze (Err (BusyRegion region id)) same longer undone =
+    ap (λ (l : LoggedState _). seen l opening after room' began) same ∙ ap (λ (h : List Entry). seen old opening h room' began) longer
+untaken old new opening before after room room' began freeze (Err (Fault fault)) same longer undone = undone

@@ -4,6 +4,8 @@ use Rattle.model_disk.specs.Disk.{Image, DiskState, Stays, FailedSince}
 use Rattle.model_machine.specs.History.{AddsEntry, AddsNothing, IsCall, call_of, now_of}
 use Rattle.model_machine.specs.declared.counts.Counter.{Counter}
 use Rattle.model_machine.specs.declared.entry.Entry.{Entry}
+use Rattle.model_machine.specs.declared.entry.CheckpointRefused.{CheckpointRefused}
+use Rattle.model_machine.specs.declared.entry.CheckpointRefused.TheVariants.{BusyRegion, Fault}
 use Rattle.model_machine.specs.declared.entry.ControlFault.{ControlFault}
 use Rattle.model_machine.specs.declared.entry.ControlFault.TheVariants.{Memory, Disk, Spent}
 use Rattle.model_image.specs.Recovered.{Recovers}
@@ -125,6 +127,22 @@ CountsSince state more old new =
 abbrev pub SpentBy : Option Counter → Option ControlFault → Type 0
 SpentBy (Some counter) fault = fault ≡ Some (Spent counter)
 SpentBy None fault = (counter : Counter) → fault ≡ Some (Spent counter) → ⊥
+
+-- a control region with room for so many further entries
+abbrev pub with_room : {D : Type 0} → ℕ → ControlOnDisk D → ControlOnDisk D
+with_room room c = record c { control = record c.control { room = room } }
+
+-- Where there was no memory nothing has changed, but for the room that was made for entries, and nothing was written.
+abbrev pub StaysUndone : {D : Type 0} → Option ControlFault → ControlOnDisk D → ControlOnDisk D → Type 0
+StaysUndone (Some Memory) old new = new ≡ with_room new.control.room old
+StaysUndone (Some Disk) old new = Unit {0}
+StaysUndone (Some (Spent counter)) old new = Unit {0}
+StaysUndone None old new = Unit {0}
+
+-- Where a region's work forbids a checkpoint, its entry is added, and nothing else has changed.
+abbrev pub StaysUntaken : {D : Type 0} → CheckpointRefused → ControlOnDisk D → ControlOnDisk D → Entry → Type 0
+StaysUntaken (BusyRegion region id) old new entry = new ≡ with_room new.control.room (record old { control = record old.control { history = old.control.history ++ entry ∷ [] } })
+StaysUntaken (Fault fault) old new entry = StaysUndone (Some fault) old new
 
 -- Where a counter is spent nothing at all has changed.
 abbrev pub StaysSpent : {D : Type 0} → Option ControlFault → ControlOnDisk D → ControlOnDisk D → Type 0

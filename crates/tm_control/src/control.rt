@@ -17,7 +17,7 @@ ghost use Rattle.control_life.specs.Opened.{HandsBack};
 ghost use Rattle.logged_machine.specs.Logged.{LastsNow};
 ghost use Rattle.logged_machine.specs.Taken.{IsTaken};
 ghost use Rattle.tm_control.specs.OnDisk.{Lasts, spent_now};
-ghost use Rattle.tm_control.specs.Calls.{StaysSo, Shows, AddsBy, CountsSince, CrashesSo, KeepsLog, RaisesBy, SpentBy, StaysSpent, WritesFrugally};
+ghost use Rattle.tm_control.specs.Calls.{StaysSo, Shows, AddsBy, CountsSince, CrashesSo, KeepsLog, RaisesBy, SpentBy, StaysSpent, StaysUndone, StaysUntaken, WritesFrugally};
 ghost use Rattle.tm_control.specs.Closed.{Opens, Closes};
 ghost use Rattle.tm_control.specs.contracts.control.Control.{the_row};
 
@@ -211,6 +211,7 @@ impl<D: Disk> Control<D> {
         ensures lasts { Lasts D.state self.new }
         ensures spent { SpentBy (spent_now self.old) (fault_in (Accept terminal.now number segments result)) }
         ensures nothing { StaysSpent (fault_in (Accept terminal.now number segments result)) self.old self.new }
+        ensures undone { StaysUndone (fault_in (Accept terminal.now number segments result)) self.old self.new }
         ensures frugal { WritesFrugally D.state (fault_in (Accept terminal.now number segments result)) self.old self.new (Accept terminal.now number segments result) }
         ensures raises { RaisesBy (2 * self.old.control.system.logs) self.old self.new }
         ensures counts { CountsSince D.state (2 * self.old.control.system.logs) self.old self.new }
@@ -271,6 +272,7 @@ impl<D: Disk> Control<D> {
         ensures lasts { Lasts D.state self.new }
         ensures spent { SpentBy (spent_now self.old) (fault_in (AckedEntry terminal.now number result)) }
         ensures nothing { StaysSpent (fault_in (AckedEntry terminal.now number result)) self.old self.new }
+        ensures undone { StaysUndone (fault_in (AckedEntry terminal.now number result)) self.old self.new }
         ensures frugal { WritesFrugally D.state (fault_in (AckedEntry terminal.now number result)) self.old self.new (AckedEntry terminal.now number result) }
         ensures raises { RaisesBy (2 * self.old.control.system.logs) self.old self.new }
         ensures counts { CountsSince D.state (2 * self.old.control.system.logs) self.old self.new }
@@ -297,6 +299,7 @@ impl<D: Disk> Control<D> {
         ensures lasts { Lasts D.state self.new }
         ensures spent { SpentBy (spent_now self.old) (fault_in (TurnEntry region result)) }
         ensures nothing { StaysSpent (fault_in (TurnEntry region result)) self.old self.new }
+        ensures undone { StaysUndone (fault_in (TurnEntry region result)) self.old self.new }
         ensures frugal { WritesFrugally D.state (fault_in (TurnEntry region result)) self.old self.new (TurnEntry region result) }
         ensures raises { RaisesBy (2 * self.old.control.system.logs) self.old self.new }
         ensures counts { CountsSince D.state (2 * self.old.control.system.logs) self.old self.new }
@@ -323,6 +326,7 @@ impl<D: Disk> Control<D> {
         ensures lasts { Lasts D.state self.new }
         ensures spent { SpentBy (spent_now self.old) (fault_in (Commanded command.now result)) }
         ensures nothing { StaysSpent (fault_in (Commanded command.now result)) self.old self.new }
+        ensures undone { StaysUndone (fault_in (Commanded command.now result)) self.old self.new }
         ensures frugal { WritesFrugally D.state (fault_in (Commanded command.now result)) self.old self.new (Commanded command.now result) }
         ensures raises { RaisesBy (2 * self.old.control.system.logs) self.old self.new }
         ensures counts { CountsSince D.state (2 * self.old.control.system.logs) self.old self.new }
@@ -351,10 +355,12 @@ impl<D: Disk> Control<D> {
         ensures lasts { Lasts D.state self.new }
         ensures spent { SpentBy (spent_now self.old) (fault_in (Checked freeze result)) }
         ensures nothing { StaysSpent (fault_in (Checked freeze result)) self.old self.new }
+        ensures undone { StaysUndone (fault_in (Checked freeze result)) self.old self.new }
         ensures raises { RaisesBy self.old.control.system.logs self.old self.new }
         ensures counts { CountsSince D.state (2 * self.old.control.system.logs) self.old self.new }
         ensures stays { StaysSo D.state self.old self.new }
         ensures taken { IfOk result (λ number. IsTaken self.new.control.system number self.old.journal self.new.journal (D.state self.new.disk)) }
+        ensures refused { IfErr result (λ refusal. StaysUntaken refusal self.old self.new (Checked freeze result)) }
     {
         if let Some(counter) = self.machine.spent() {
             return Err(CheckpointRefused::Fault(ControlFault::Spent(counter)));

@@ -1,12 +1,12 @@
 -- a checkpoint that was taken, or not
-use Rattle.std.proofs.Common.{◌≡◌, ℕ, Err, Result, IfOk, sym, subst}
+use Rattle.std.proofs.Common.{◌≡◌, ℕ, Err, Result, IfErr, IfOk, sym, subst}
 use Rattle.model_machine.specs.declared.entry.CheckpointRefused.{CheckpointRefused}
 use Rattle.model_machine.specs.declared.entry.CheckpointRefused.TheVariants.{Fault}
 use Rattle.model_machine.specs.declared.entry.Entry.TheVariants.{Checked}
 use Rattle.logged_machine.specs.Doing.{Did}
 use Rattle.control_life.specs.Faults.{fault_in}
-use Rattle.logged_machine.specs.Taken.{IsTaken}
-use Rattle.logged_machine.proofs.Checked.{is_taken, taken_did}
+use Rattle.logged_machine.specs.Taken.{IsTaken, StaysUntaken}
+use Rattle.logged_machine.proofs.Checked.{is_taken, stays_untaken, taken_did}
 use Rattle.logged_machine.proofs.Checkpointed.{unrefreshed}
 use Rattle.logged_machine.proofs.Frugality.{checked_counts, checked_raises, unchecked_counts, unchecked_raises}
 use Rattle.logged_machine.proofs.logged.LoggedMachine.checkpoint_free.Goals as goal
@@ -41,3 +41,10 @@ returns-in-Ok-clause-counts g c = checked_counts g.D.Disk.state c.args.self.now 
 
 pub returns-in-Err-clause-counts : goal.returns-in-Err-clause-counts
 returns-in-Err-clause-counts g c = unchecked_counts g.D.Disk.state c.args.self.now c.refresh.new.self c.in-Err.fault c.in-Err.ensures.fault
+
+pub returns-in-Ok-clause-refused : goal.returns-in-Ok-clause-refused
+returns-in-Ok-clause-refused g c =
+    subst (λ (r : Result ℕ CheckpointRefused). IfErr r (λ refusal. StaysUntaken refusal c.args.self.now c.refresh.new.self)) (sym c.number_taken.ensures.value) tt
+
+pub returns-in-Err-clause-refused : goal.returns-in-Err-clause-refused
+returns-in-Err-clause-refused g c = stays_untaken g.D.Disk.state c.args.self.now c.refresh.new.self c.in-Err.fault c.in-Err.ensures.fault

@@ -5,7 +5,7 @@ use Rattle.model_machine.specs.declared.entry.Entry.TheVariants.{Checked}
 use Rattle.control_life.specs.Faults.{fault_in}
 use Rattle.tm_control.specs.Calls.{is_noted, noted}
 use Rattle.tm_control.specs.OnDisk.{ControlOnDisk}
-use Rattle.tm_control.proofs.Going.{called, is_served, still_counts}
+use Rattle.tm_control.proofs.Going.{called, is_served, still_counts, untaken}
 use Rattle.tm_control.proofs.Numbers.{taken_numbers}
 use Rattle.tm_control.proofs.control.Control.checkpoint.Goals as goal
 
@@ -40,6 +40,41 @@ returns-clause-crash g c = rw (sym c.self.view_is)
     c.steps_of-self-inside.ensures c.checkpoint-answer.ensures.goes c.checkpoint-answer.ensures.crash
     (subst (λ (e : Entry). c.note.new.history.items ≡ noted (is_noted (fault_in e)) c.self.inside.history.items e) c.checked_entry.ensures
     (c.note.ensures ∙ ap (λ (es : List Entry). noted (is_noted (fault_in c.checked_entry.result)) es c.checked_entry.result) c.reserve.ensures.items))).0.crash
+
+pub returns-clause-undone : goal.returns-clause-undone
+returns-clause-undone g c = rw (sym c.self.view_is)
+    (called g.D.Disk.state c.self.inside.machine c.checkpoint-answer.new.self c.self.inside.opening c.self.inside.history.items c.note.new.history.items (Checked c.args.freeze c.checkpoint-answer.result) _ _ c.self.inside.began c.self.inside.steps c.steps_of-self-inside.result
+    (record {
+      served = ap (λ (v : ControlOnDisk _). v.up) c.self.view_is ∙ c.requires.up;
+      holds = is_served g.D.Disk.state c.self.inside.machine c.self.inside.opening c.self.inside.history.items c.self.inside.steps (ap (λ (v : ControlOnDisk _). v.up) c.self.view_is ∙ c.requires.up) c.self.invariant;
+      call = tt;
+      keeps = c.checkpoint-answer.ensures.keeps;
+      lasts = c.checkpoint-answer.ensures.lasts;
+      disk = g.met.D.Disk.is_disk c.checkpoint-answer.new.self.disk;
+      numbers = λ served. taken_numbers c.args.freeze c.checkpoint-answer.result _ c.self.inside.machine.journal c.checkpoint-answer.new.self.journal _ c.checkpoint-answer.ensures.taken;
+    })
+    c.steps_of-self-inside.ensures c.checkpoint-answer.ensures.goes c.checkpoint-answer.ensures.crash
+    (subst (λ (e : Entry). c.note.new.history.items ≡ noted (is_noted (fault_in e)) c.self.inside.history.items e) c.checked_entry.ensures
+    (c.note.ensures ∙ ap (λ (es : List Entry). noted (is_noted (fault_in c.checked_entry.result)) es c.checked_entry.result) c.reserve.ensures.items))).0.undone
+
+pub returns-clause-refused : goal.returns-clause-refused
+returns-clause-refused g c = rw (sym c.self.view_is)
+    (untaken c.self.inside.machine c.checkpoint-answer.new.self c.self.inside.opening c.self.inside.history.items c.note.new.history.items _ _ c.self.inside.began c.args.freeze c.checkpoint-answer.result c.checkpoint-answer.ensures.refused
+    (subst (λ (e : Entry). c.note.new.history.items ≡ noted (is_noted (fault_in e)) c.self.inside.history.items e) c.checked_entry.ensures
+    (c.note.ensures ∙ ap (λ (es : List Entry). noted (is_noted (fault_in c.checked_entry.result)) es c.checked_entry.result) c.reserve.ensures.items))
+    (called g.D.Disk.state c.self.inside.machine c.checkpoint-answer.new.self c.self.inside.opening c.self.inside.history.items c.note.new.history.items (Checked c.args.freeze c.checkpoint-answer.result) _ _ c.self.inside.began c.self.inside.steps c.steps_of-self-inside.result
+    (record {
+      served = ap (λ (v : ControlOnDisk _). v.up) c.self.view_is ∙ c.requires.up;
+      holds = is_served g.D.Disk.state c.self.inside.machine c.self.inside.opening c.self.inside.history.items c.self.inside.steps (ap (λ (v : ControlOnDisk _). v.up) c.self.view_is ∙ c.requires.up) c.self.invariant;
+      call = tt;
+      keeps = c.checkpoint-answer.ensures.keeps;
+      lasts = c.checkpoint-answer.ensures.lasts;
+      disk = g.met.D.Disk.is_disk c.checkpoint-answer.new.self.disk;
+      numbers = λ served. taken_numbers c.args.freeze c.checkpoint-answer.result _ c.self.inside.machine.journal c.checkpoint-answer.new.self.journal _ c.checkpoint-answer.ensures.taken;
+    })
+    c.steps_of-self-inside.ensures c.checkpoint-answer.ensures.goes c.checkpoint-answer.ensures.crash
+    (subst (λ (e : Entry). c.note.new.history.items ≡ noted (is_noted (fault_in e)) c.self.inside.history.items e) c.checked_entry.ensures
+    (c.note.ensures ∙ ap (λ (es : List Entry). noted (is_noted (fault_in c.checked_entry.result)) es c.checked_entry.result) c.reserve.ensures.items))).0.undone)
 
 pub returns-clause-lasts : goal.returns-clause-lasts
 returns-clause-lasts g c =

@@ -41,6 +41,22 @@ returns-clause-crash g c = rw (sym c.self.view_is)
     (subst (λ (e : Entry). c.note.new.history.items ≡ noted (is_noted (fault_in e)) c.self.inside.history.items e) c.command_entry.ensures
     (c.note.ensures ∙ ap (λ (es : List Entry). noted (is_noted (fault_in c.command_entry.result)) es c.command_entry.result) c.reserve.ensures.items))).0.crash
 
+pub returns-clause-undone : goal.returns-clause-undone
+returns-clause-undone g c = rw (sym c.self.view_is)
+    (called g.D.Disk.state c.self.inside.machine c.command-answer.new.self c.self.inside.opening c.self.inside.history.items c.note.new.history.items (Commanded c.args.command.now c.command-answer.result) _ _ c.self.inside.began c.self.inside.steps c.steps_of-self-inside.result
+    (record {
+      served = ap (λ (v : ControlOnDisk _). v.up) c.self.view_is ∙ c.requires.up;
+      holds = is_served g.D.Disk.state c.self.inside.machine c.self.inside.opening c.self.inside.history.items c.self.inside.steps (ap (λ (v : ControlOnDisk _). v.up) c.self.view_is ∙ c.requires.up) c.self.invariant;
+      call = c.requires.command;
+      keeps = c.command-answer.ensures.keeps;
+      lasts = c.command-answer.ensures.lasts;
+      disk = g.met.D.Disk.is_disk c.command-answer.new.self.disk;
+      numbers = λ served. tt;
+    })
+    c.steps_of-self-inside.ensures c.command-answer.ensures.goes c.command-answer.ensures.crash
+    (subst (λ (e : Entry). c.note.new.history.items ≡ noted (is_noted (fault_in e)) c.self.inside.history.items e) c.command_entry.ensures
+    (c.note.ensures ∙ ap (λ (es : List Entry). noted (is_noted (fault_in c.command_entry.result)) es c.command_entry.result) c.reserve.ensures.items))).0.undone
+
 pub returns-clause-lasts : goal.returns-clause-lasts
 returns-clause-lasts g c =
     (called g.D.Disk.state c.self.inside.machine c.command-answer.new.self c.self.inside.opening c.self.inside.history.items c.note.new.history.items (Commanded c.args.command.now c.command-answer.result) 0 _ c.self.inside.began c.self.inside.steps c.steps_of-self-inside.result

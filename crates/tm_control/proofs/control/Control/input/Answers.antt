@@ -41,6 +41,22 @@ returns-clause-crash g c = rw (sym c.self.view_is)
     (subst (λ (e : Entry). c.note.new.history.items ≡ noted (is_noted (fault_in e)) c.self.inside.history.items e) (c.input_entry.ensures ∙ ap (λ (s : List (List ℕ)). Accept c.args.terminal.now c.args.number s c.accept-answer.result) c.in-Ok.ensures)
     (c.note.ensures ∙ ap (λ (es : List Entry). noted (is_noted (fault_in c.input_entry.result)) es c.input_entry.result) c.reserve.ensures.items))).0.crash
 
+pub returns-clause-undone : goal.returns-clause-undone
+returns-clause-undone g c = rw (sym c.self.view_is)
+    (called g.D.Disk.state c.self.inside.machine c.accept-answer.new.self c.self.inside.opening c.self.inside.history.items c.note.new.history.items (Accept c.args.terminal.now c.args.number c.args.segments c.accept-answer.result) _ _ c.self.inside.began c.self.inside.steps c.steps_of-self-inside.result
+    (record {
+      served = ap (λ (v : ControlOnDisk _). v.up) c.self.view_is ∙ c.requires.up;
+      holds = is_served g.D.Disk.state c.self.inside.machine c.self.inside.opening c.self.inside.history.items c.self.inside.steps (ap (λ (v : ControlOnDisk _). v.up) c.self.view_is ∙ c.requires.up) c.self.invariant;
+      call = c.requires.some;
+      keeps = c.accept-answer.ensures.keeps;
+      lasts = c.accept-answer.ensures.lasts;
+      disk = g.met.D.Disk.is_disk c.accept-answer.new.self.disk;
+      numbers = λ served. tt;
+    })
+    c.steps_of-self-inside.ensures c.accept-answer.ensures.goes c.accept-answer.ensures.crash
+    (subst (λ (e : Entry). c.note.new.history.items ≡ noted (is_noted (fault_in e)) c.self.inside.history.items e) (c.input_entry.ensures ∙ ap (λ (s : List (List ℕ)). Accept c.args.terminal.now c.args.number s c.accept-answer.result) c.in-Ok.ensures)
+    (c.note.ensures ∙ ap (λ (es : List Entry). noted (is_noted (fault_in c.input_entry.result)) es c.input_entry.result) c.reserve.ensures.items))).0.undone
+
 pub returns-clause-lasts : goal.returns-clause-lasts
 returns-clause-lasts g c =
     (called g.D.Disk.state c.self.inside.machine c.accept-answer.new.self c.self.inside.opening c.self.inside.history.items c.note.new.history.items (Accept c.args.terminal.now c.args.number c.args.segments c.accept-answer.result) 0 _ c.self.inside.began c.self.inside.steps c.steps_of-self-inside.result

@@ -42,6 +42,22 @@ returns-clause-crash g c = rw (sym c.self.view_is)
     (subst (λ (e : Entry). c.note.new.history.items ≡ noted (is_noted (fault_in e)) c.self.inside.history.items e) c.turn_entry.ensures
     (c.note.ensures ∙ ap (λ (es : List Entry). noted (is_noted (fault_in c.turn_entry.result)) es c.turn_entry.result) c.reserve.ensures.items))).0.crash
 
+pub returns-clause-undone : goal.returns-clause-undone
+returns-clause-undone g c = rw (sym c.self.view_is)
+    (called g.D.Disk.state c.self.inside.machine c.turn-turned.new.self c.self.inside.opening c.self.inside.history.items c.note.new.history.items (Turn c.args.region c.turn-turned.result) _ _ c.self.inside.began c.self.inside.steps c.steps_of-self-inside.result
+    (record {
+      served = ap (λ (v : ControlOnDisk _). v.up) c.self.view_is ∙ c.requires.up;
+      holds = is_served g.D.Disk.state c.self.inside.machine c.self.inside.opening c.self.inside.history.items c.self.inside.steps (ap (λ (v : ControlOnDisk _). v.up) c.self.view_is ∙ c.requires.up) c.self.invariant;
+      call = subst (λ (v : ControlOnDisk _). IsRegion v.control.system c.args.region) (sym c.self.view_is) c.requires.region;
+      keeps = c.turn-turned.ensures.keeps;
+      lasts = c.turn-turned.ensures.lasts;
+      disk = g.met.D.Disk.is_disk c.turn-turned.new.self.disk;
+      numbers = λ served. tt;
+    })
+    c.steps_of-self-inside.ensures c.turn-turned.ensures.goes c.turn-turned.ensures.crash
+    (subst (λ (e : Entry). c.note.new.history.items ≡ noted (is_noted (fault_in e)) c.self.inside.history.items e) c.turn_entry.ensures
+    (c.note.ensures ∙ ap (λ (es : List Entry). noted (is_noted (fault_in c.turn_entry.result)) es c.turn_entry.result) c.reserve.ensures.items))).0.undone
+
 pub returns-clause-lasts : goal.returns-clause-lasts
 returns-clause-lasts g c =
     (called g.D.Disk.state c.self.inside.machine c.turn-turned.new.self c.self.inside.opening c.self.inside.history.items c.note.new.history.items (Turn c.args.region c.turn-turned.result) 0 _ c.self.inside.began c.self.inside.steps c.steps_of-self-inside.result

@@ -1,0 +1,115 @@
+-- A call behind a checkpoint that was due before it.
+use Rattle.std.proofs.Common.{◌≡◌, ◌≤◌, ◌+◌, ℕ, Bool, true, false, List, length, refl, sym, ◌∙◌, ap, subst}
+use Rattle.std.specs.Prelude.{Option, Some, None}
+use Rattle.model_disk.specs.Disk.{DiskState, Stays, Within, WritesAtMost, FailedSince}
+use Rattle.model_machine.specs.History.{after_entry, call_of}
+use Rattle.model_machine.specs.declared.entry.Entry.{Entry}
+use Rattle.model_machine.specs.declared.entry.ControlFault.{ControlFault}
+use Rattle.model_machine.specs.declared.entry.ControlFault.TheVariants.{Memory, Disk, Spent}
+use Rattle.log_records.specs.declared.record.Record.{Record}
+use Rattle.log_writer.specs.Log.{AddsFront, sectors_of}
+use Rattle.disk_law.specs.Journal.{JournalState}
+use Rattle.tm_machine.specs.Parts.{PartsState}
+use Rattle.machine_life.specs.Counted.{IsCounted}
+use Rattle.parts_life.specs.Logged.{IsLogged}
+use Rattle.control_life.specs.Faults.{fault_in}
+use Rattle.machine_checkpoint.specs.Taking.{Untaken, settled_parts}
+use Rattle.machine_due.specs.Due.{Behind, CountsWithin, KeepsOnDisk}
+use Rattle.logged_machine.specs.Logged.{LoggedState}
+use Rattle.logged_machine.specs.Doing.{Done, Refreshed, Tried, Unrefreshed, is_memory}
+use Rattle.logged_machine.proofs.Attempts.{Attempt, tried_failed, tried_forced, tried_quiet}
+use Rattle.logged_machine.proofs.Checkpointed.{broke, refreshed, same_all, same_logged}
+use Rattle.logged_machine.proofs.Doing.{IsNoMemory}
+use Rattle.logged_machine.proofs.Frugality.{done_behind, done_untaken}
+use Rattle.logged_machine.proofs.Once.{Forces}
+
+found_none : (fault : Option ControlFault) → fault ≡ None → IsNoMemory fault
+found_none fault is memory = let clash : None ≡ Some Memory = sym is ∙ memory in absurd (cc)
+
+found_disk : (fault : Option ControlFault) → fault ≡ Some Disk → IsNoMemory fault
+found_disk fault is memory = let clash : Some Disk ≡ Some Memory = sym is ∙ memory in absurd (cc)
+
+-- by the numbers of the units that were given
+pub behind_of : {D : Type 0} (state : D → DiskState) (parts : PartsState) (units given : List ℕ) (next : ℕ) (records : List Record) (old new : JournalState) (disk disk' : D) → given ≡ units
+    → Behind state parts given next records old new disk disk' → Behind state parts units next records old new disk disk'
+behind_of state parts units given next records old new disk disk' same b = subst (λ (us : List ℕ). Behind state parts us next records old new disk disk') same b
+
+module _ {D : Type 0} (state : D → DiskState) (parts : PartsState) (text : List ℕ) (journal told : JournalState) (units : List ℕ) (next : ℕ) (disk disk' : D) (up : Bool)
+    (h : IsLogged parts units next journal text (state disk)) (served : up ≡ true) (counted : IsCounted 0 parts.moment.lasting next journal) (keeps : KeepsOnDisk parts.system (state disk) (state disk'))
+    (counts : CountsWithin parts.system journal next (state disk) (state disk')) (records : List Record) (b : Behind state parts units next records journal told disk disk') where
+  abbrev old : LoggedState D
+  old = record { machine = parts; text = text; served = up; journal = journal; units = units; next_unit = next; disk = disk }
+
+  -- where the checkpoint stands
+  abbrev mid : LoggedState D
+  mid = record { machine = settled_parts parts; text = text; served = up; journal = b.middle; units = units; next_unit = next; disk = disk' }
+
+  pub mid_logged : IsLogged (settled_parts parts) units next b.middle text (state disk')
+  mid_logged = b.checkpointed.logged text h
+
+  fresh : Refreshed state old mid
+  fresh =
+      refreshed state parts (settled_parts parts) text journal b.middle units next disk disk' up h refl refl keeps.stays keeps.any_moment keeps.texts counts served counted b.checkpointed.takes b.checkpointed.synced
+      b.checkpointed.no_fault b.checkpointed.raised
+
+  pub mid_counted : IsCounted 4294967296 parts.moment.lasting next b.middle
+  mid_counted = fresh.counted
+
+  module _ (parts' : PartsState) (units' : List ℕ) (next' : ℕ) (entry : Entry) (has_step : Bool) (a : Attempt state (settled_parts parts) parts' text b.middle told units units' next next' disk' entry has_step) where
+    pub done_quiet : has_step ≡ false → Done state (fault_in entry) old (record { machine = parts'; text = text; served = up; journal = told; units = units'; next_unit = next'; disk = disk' }) entry
+    done_quiet none =
+        done_behind state (fault_in entry) old mid (record { machine = parts'; text = text; served = up; journal = told; units = units'; next_unit = next'; disk = disk' }) entry
+        (found_none (fault_in entry) a.no_fault) fresh
+        (tried_quiet state (settled_parts parts) parts' text b.middle told units units' next next' disk' entry has_step up a served none)
+
+    pub done_forced : has_step ≡ true → (journal' : JournalState) (disk'' : D) → Forces told.log journal'.log (state disk') (state disk'') → journal'.restart ≡ told.restart
+        → WritesAtMost (sectors_of (length told.log.appended)) (state disk') (state disk'')
+        → Done state (fault_in entry) old (record { machine = parts'; text = text; served = up; journal = journal'; units = units'; next_unit = next'; disk = disk'' }) entry
+    done_forced some journal' disk'' f restart most =
+        done_behind state (fault_in entry) old mid (record { machine = parts'; text = text; served = up; journal = journal'; units = units'; next_unit = next'; disk = disk'' }) entry
+        (found_none (fault_in entry) a.no_fault) fresh
+        (tried_forced state (settled_parts parts) parts' text b.middle told units units' next next' disk' entry has_step up a some journal' disk'' served f restart most)
+
+    pub done_failed : has_step ≡ true → (journal' : JournalState) (disk'' : D) (broken : Entry) → fault_in broken ≡ Some Disk → after_entry parts.system parts.moment broken ≡ after_entry parts.system parts.moment entry
+        → call_of broken ≡ call_of entry → Within (AddsFront told.log) (state disk') (state disk'') → Stays (state disk') (state disk'') → FailedSince (state disk') (state disk'') → journal'.restart ≡ told.restart
+        → WritesAtMost (sectors_of (length told.log.appended)) (state disk') (state disk'')
+        → Done state (fault_in broken) old (record { machine = parts'; text = text; served = false; journal = journal'; units = units'; next_unit = next'; disk = disk'' }) broken
+    done_failed some journal' disk'' broken fault same call within stays cause restart most =
+        done_behind state (fault_in broken) old mid (record { machine = parts'; text = text; served = false; journal = journal'; units = units'; next_unit = next'; disk = disk'' }) broken
+        (found_disk (fault_in broken) fault) fresh
+        (tried_failed state (settled_parts parts) parts' text b.middle told units units' next next' disk' entry has_step up a some journal' disk'' broken fault same call within stays cause restart most)
+
+-- ---- where none was taken
+
+module _ {D : Type 0} (state : D → DiskState) (parts parts' : PartsState) (text : List ℕ) (journal journal' : JournalState) (units : List ℕ) (next : ℕ) (disk disk' : D) (up : Bool)
+    (h : IsLogged parts units next journal text (state disk)) (served : up ≡ true) (keeps : KeepsOnDisk parts.system (state disk) (state disk'))
+    (counts : CountsWithin parts.system journal next (state disk) (state disk')) (system : parts'.system ≡ parts.system) where
+  abbrev before : LoggedState D
+  before = record { machine = parts; text = text; served = up; journal = journal; units = units; next_unit = next; disk = disk }
+
+  abbrev behind : Bool → LoggedState D
+  behind b = record { machine = parts'; text = text; served = b; journal = journal'; units = units; next_unit = next; disk = disk' }
+
+  untaken : (fault : ControlFault) → Untaken state parts parts' journal journal' disk disk' fault → Unrefreshed state before (behind (is_memory fault)) fault
+  untaken Memory same = same_all state parts parts' text journal journal' units next disk disk' same true ∙ ap (λ (b : Bool). record before { served = b }) (sym served)
+  untaken Disk cause = (
+    record { served = refl; failed = cause },
+    (broke state parts parts text journal journal' units next disk disk' up h refl refl keeps.stays keeps.any_moment keeps.texts counts cause).1,
+    record { system = system; text = refl; disk = keeps.stays; later = keeps.any_moment.later; numbers = λ now. absurd (apart now) },
+    (broke state parts parts text journal journal' units next disk disk' up h refl refl keeps.stays keeps.any_moment keeps.texts counts cause).3,
+  )
+    where
+      apart : false ≡ true → ⊥
+      apart e = cc
+  untaken (Spent counter) none = absurd none
+
+  pub done_refused : (fault : ControlFault) (entry : Entry) → Untaken state parts parts' journal journal' disk disk' fault → Done state (Some fault) before (behind (is_memory fault)) entry
+  done_refused fault entry u = done_untaken state before (behind (is_memory fault)) entry fault served (untaken fault u)
+
+  pub logged_refused : (fault : ControlFault) → Untaken state parts parts' journal journal' disk disk' fault → is_memory fault ≡ true → IsLogged parts' units next journal' text (state disk')
+  logged_refused Memory same e = same_logged state parts parts' text journal journal' units next disk disk' same h
+  logged_refused Disk cause e = absurd (apart e)
+    where
+      apart : false ≡ true → ⊥
+      apart e = cc
+  logged_refused (Spent counter) none e = absurd none

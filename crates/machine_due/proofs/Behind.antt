@@ -1,0 +1,138 @@
+-- A checkpoint with the records of a call behind it, by what was written.
+use Rattle.std.proofs.Common.{◌≡◌, ℕ, ◌+◌, ◌≤◌, List, [], ◌++◌, length, refl, sym, ◌∙◌, ap, subst, arith}
+use Rattle.std.specs.List.{flat_map}
+use Rattle.model_disk.specs.Disk.{DiskState, Within}
+use Rattle.model_system.specs.System.{System}
+use Rattle.log_records.specs.declared.record.Record.{Record}
+use Rattle.log_records.specs.Spelling.{spelling}
+use Rattle.log_writer.specs.Writer.{Writer}
+use Rattle.log_writer.specs.Log.{sectors_of}
+use Rattle.seg_store.specs.Changed.{AllStores}
+use Rattle.checkpointing.specs.Parts.{next_restart, next_writer}
+use Rattle.checkpointing.specs.Steps.{Takes}
+use Rattle.disk_law.specs.Journal.{JournalState}
+use Rattle.journal.specs.Checkpoints.{CanCheckpoint, parts_for}
+use Rattle.journal.specs.State.{holding}
+use Rattle.program_rows.specs.OnSlots.{all_stores, slots_in}
+use Rattle.program_rows.specs.State.{DatabasesState, settled, with_marks}
+use Rattle.tm_machine.specs.Answers.{IsAnswered}
+use Rattle.tm_machine.specs.OnSlots.{HasSlots, slots_now}
+use Rattle.tm_machine.specs.Parts.{PartsState}
+use Rattle.machine_life.specs.Counted.{IsCounted}
+use Rattle.model_machine.specs.declared.entry.Entry.{Entry}
+use Rattle.parts_life.specs.Logged.{IsLogged}
+use Rattle.parts_life.proofs.Storing.{have_written}
+use Rattle.machine_checkpoint.specs.Taking.{IsSnapshot, settled_parts}
+use Rattle.machine_checkpoint.proofs.Taken.{can, goes_on, raised, within_up_to}
+use Rattle.machine_telling.specs.Telling.{Appends}
+use Rattle.machine_due.specs.Due.{Behind, Checkpointed, CountsWithin, WroteTold}
+
+-- ---- parts where no slot counts as changed
+
+pub has_settled : (parts : PartsState) → HasSlots parts → HasSlots (settled_parts parts)
+has_settled parts has = record {
+  have = have_written parts.system.databases (length parts.system.regions) (slots_now parts) has.have;
+  one_sector = has.one_sector;
+  held = has.held;
+  compatible = has.compatible;
+  table_is = has.table_is;
+  rows_are = has.rows_are;
+  defined = has.defined;
+  pads = has.pads;
+}
+
+-- the call was answered so, whichever slots counted as changed
+pub answered_settled : (parts made parts' : PartsState) (entry : Entry) → parts' ≡ settled_parts made → IsAnswered parts made entry → IsAnswered (settled_parts parts) parts' entry
+answered_settled parts made parts' entry is a =
+    subst (λ (p : PartsState). IsAnswered (settled_parts parts) p entry) (sym is) (record { may = a.may; after = a.after; system = a.system })
+
+pub databases_settled : (parts made parts' : PartsState) → parts' ≡ settled_parts made → made.databases ≡ parts.databases → parts'.databases ≡ settled parts.databases
+databases_settled parts made parts' is same = ap (λ (p : PartsState). p.databases) is ∙ ap settled same
+
+-- ---- the records that were told in a log of its own
+
+-- an empty log
+pub record IsEmptyLog (count : ℕ) (log : Writer) : Type 0 where
+  pub count_is : log.count ≡ count
+  pub place_is : log.place ≡ 0
+  pub appended_is : log.appended ≡ []
+
+module _ (begun told : JournalState) (records : List Record) (count : ℕ) (empty : IsEmptyLog count begun.log) (a : Appends records begun told) where
+  pub told_place : told.log.place ≡ 0
+  told_place = ap (λ (w : Writer). w.place) a.log ∙ empty.place_is
+
+  pub told_bytes : told.log.appended ≡ flat_map spelling records
+  told_bytes = ap (λ (w : Writer). w.appended) a.log ∙ ap (λ (l : List ℕ). l ++ flat_map spelling records) empty.appended_is
+
+  pub told_room : 0 + sectors_of (length (flat_map spelling records)) ≤ count
+  told_room =
+      subst (λ (n : ℕ). 0 + sectors_of (length (flat_map spelling records)) ≤ n) empty.count_is
+      (subst (λ (l : List ℕ). 0 + sectors_of (length (l ++ flat_map spelling records)) ≤ begun.log.count) empty.appended_is
+      (subst (λ (n : ℕ). n + sectors_of (length (begun.log.appended ++ flat_map spelling records)) ≤ begun.log.count) empty.place_is a.fits))
+
+  pub told_fits : sectors_of (length told.log.appended) ≤ count
+  told_fits = subst (λ (l : List ℕ). sectors_of (length l) ≤ count) (sym told_bytes) (omega (arith, told_room))
+
+-- ---- the checkpoint
+
+module _ {D : Type 0} (state : D → DiskState) (parts : PartsState) (units : List ℕ) (next : ℕ) (journal : JournalState) (disk : D) (logged : (text : List ℕ) × IsLogged parts units next journal text (state disk))
+    (has : HasSlots parts) (counted : IsCounted 0 parts.moment.lasting next journal) (bytes : List ℕ) (s : IsSnapshot parts units next (journal.restart.checkpoint + 1) bytes) where
+  -- it may be taken with the system and the stores that the parts had
+  pub may : (system : System) → system ≡ parts.system → (stores : AllStores) → stores ≡ all_stores (slots_now parts) → CanCheckpoint system journal stores bytes (state disk)
+  may system same stores are =
+      subst (λ (a : AllStores). CanCheckpoint system journal a bytes (state disk)) (sym are)
+      (subst (λ (y : System). CanCheckpoint y journal (all_stores (slots_now parts)) bytes (state disk)) (sym same)
+      (can parts units next journal logged.0 (state disk) logged.1 has counted bytes s))
+
+  some_logs : 1 ≤ parts.system.logs
+  some_logs = omega (arith, has.defined.least_logs)
+
+  -- whenever a crash comes in it, the image counts up to this
+  pub counts : (disk' : D) (system : System) → system ≡ parts.system → (stores : AllStores) → stores ≡ all_stores (slots_now parts)
+      → Within (Takes (parts_for system journal.restart bytes) journal.log stores) (state disk) (state disk') → CountsWithin parts.system journal next (state disk) (state disk')
+  counts disk' system same stores are within =
+      within_up_to parts units next journal logged.0 (state disk) logged.1 has counted bytes s some_logs (state disk')
+      (subst (λ (a : AllStores). Within (Takes (parts_for parts.system journal.restart bytes) journal.log a) (state disk) (state disk')) are
+      (subst (λ (y : System). Within (Takes (parts_for y journal.restart bytes) journal.log stores) (state disk) (state disk')) same within))
+
+  -- the journal behind it
+  abbrev middle : JournalState
+  middle = record {
+    log = next_writer (parts_for parts.system journal.restart bytes) journal.log;
+    restart = next_restart (parts_for parts.system journal.restart bytes) journal.log;
+  }
+
+  module _ (journal' : JournalState) (disk' : D) (size : (state disk').size ≡ (state disk).size) where
+    checkpointed : (told : List ℕ) → WroteTold parts.system (all_stores (slots_now parts)) bytes told journal journal' (state disk) (state disk') → Checkpointed state parts units next journal middle disk disk'
+    checkpointed told w = record {
+      takes = record { bytes = bytes; restart = refl; log = refl };
+      raised = raised parts units next journal logged.0 (state disk) logged.1 has counted bytes s some_logs middle refl refl;
+      logged = λ text h.
+          goes_on parts units next journal text (state disk) h has counted bytes s parts.system refl (all_stores (slots_now parts)) refl (settled_parts parts) refl middle refl refl (state disk') w.kept
+          w.ready size w.follows;
+      synced = w.synced;
+      no_fault = w.no_fault;
+    }
+
+    own : (begun told : JournalState) (records : List Record) → IsEmptyLog parts.system.logs begun.log → Appends records begun told
+        → WroteTold parts.system (all_stores (slots_now parts)) bytes told.log.appended journal journal' (state disk) (state disk') → Behind state parts units next records journal journal' disk disk'
+    own begun told records empty a w = record {
+      middle = middle;
+      checkpointed = checkpointed told.log.appended w;
+      appends = record {
+        log = w.log ∙ ap (λ (l : List ℕ). holding l middle.log) (told_bytes begun told records parts.system.logs empty a);
+        restart = w.restart;
+        valid = a.valid;
+        bytes = a.bytes;
+        fits = told_room begun told records parts.system.logs empty a;
+      };
+    }
+
+    -- by the system and the stores that were given
+    pub behind : (system : System) → system ≡ parts.system → (stores : AllStores) → stores ≡ all_stores (slots_now parts) → (begun told : JournalState) (records : List Record)
+        → IsEmptyLog parts.system.logs begun.log → Appends records begun told
+        → WroteTold system stores bytes told.log.appended journal journal' (state disk) (state disk') → Behind state parts units next records journal journal' disk disk'
+    behind system same stores are begun told records empty a w =
+        own begun told records empty a
+        (subst (λ (l : AllStores). WroteTold parts.system l bytes told.log.appended journal journal' (state disk) (state disk')) are
+        (subst (λ (y : System). WroteTold y stores bytes told.log.appended journal journal' (state disk) (state disk')) same w))
