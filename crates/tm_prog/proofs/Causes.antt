@@ -18,8 +18,8 @@ use Rattle.tm_session.specs.declared.outcome.Ended.{Ended}
 use Rattle.tm_session.specs.declared.outcome.Ended.TheVariants.{Done, Words, BadLine, BadCross, Down, Read, Write, Image, Memory, Limit, Spent}
 use Rattle.tm_session.specs.Outcome.{IsLimit, HasCause}
 use Rattle.tm_session.specs.Source.{judged, definition_text}
-use Rattle.tm_session.specs.Headline.{IsSession, Defines, BreaksRule}
-use Rattle.tm_session.proofs.Complete.{no_stops, not_down, not_refused, valid_opened}
+use Rattle.tm_session.specs.Headline.{IsSession, IsOpenedDisk, Defines, IsBroken}
+use Rattle.tm_session.proofs.Complete.{no_stops, done_opened, not_down, not_refused, valid_opened}
 use Rattle.sysdef_text.specs.Ends.{definition_lines}
 use Rattle.tm_prog.specs.declared.words.Workload.{Workload}
 use Rattle.tm_prog.specs.Words.{WordFault, word_fault, workload_of}
@@ -93,13 +93,20 @@ module _ {D : Type 0} (state : D → DiskState) (is_disk : (disk : D) → IsDisk
   by_system bytes system status defines whole =
       subst (λ (r : Result System Ended). IsServedBy r (text_of bytes) (state handed) (state disk) status stops) (sym defines) whole
 
-  by_break : (told : Option (List ℕ)) (status : Ended) → IfSome told (λ bytes. BreaksRule bytes status) → Complete told status
-  by_break (Some bytes) status h = subst (λ (r : Result System Ended). IsServedBy r (text_of bytes) (state handed) (state disk) status stops) (sym h) (inl refl)
+  by_break : (told : Option (List ℕ)) (status : Ended) → IfSome told (λ bytes. IsBroken bytes status) → Complete told status
+  by_break (Some bytes) status h = subst (λ (r : Result System Ended). IsServedBy r (text_of bytes) (state handed) (state disk) status stops) (sym h.broken) (inl refl)
   by_break None status h = tt
 
   by_done : (told left old new : Option (List ℕ)) → Session told left old new Done → Complete told Done
   by_done (Some bytes) left old new (inl h) =
-      by_system bytes h.system Done h.defines (record { status_is = inl refl; calm = λ calm. no_stop (Some bytes) left old new Done (inl h) calm; valid = λ calm valid. inl refl })
+      let none : (calm : Calm) → stops ≡ [] = no_stop (Some bytes) left old new Done (inl h) in
+      by_system bytes h.system Done h.defines (record {
+        status_is = inl refl;
+        calm = none;
+        valid = λ calm valid. inl refl;
+        opened = λ calm done.
+            subst (λ (t : List ℕ). IsOpenedDisk h.system t (state handed)) h.text_is (done_opened state handed disk (Some bytes) left old new lives stops h (none calm));
+      })
   by_done None left old new session = tt
   by_done told left old new (inr (inl begun, nothing)) = absurd begun.unbegun
   by_done told left old new (inr (inr never, nothing)) = absurd never.refusal
@@ -120,7 +127,7 @@ module _ {D : Type 0} (state : D → DiskState) (is_disk : (disk : D) → IsDisk
   no_words word rule told left old new (inr (inr never, nothing)) = never.refusal
 
   memory_of : (r : Result System Ended) (text : List ℕ) → (Calm → stops ≡ []) → IsServedBy r text (state handed) (state disk) Memory stops
-  memory_of (Ok system) text none = record { status_is = inr (inl refl); calm = none; valid = λ calm valid. inr (inl refl) }
+  memory_of (Ok system) text none = record { status_is = inr (inl refl); calm = none; valid = λ calm valid. inr (inl refl); opened = λ calm done. cc }
   memory_of (Err ended) text none = inr refl
 
   by_memory : (told left old new : Option (List ℕ)) → Session told left old new Memory → Complete told Memory
@@ -129,7 +136,7 @@ module _ {D : Type 0} (state : D → DiskState) (is_disk : (disk : D) → IsDisk
   by_memory None left old new session = tt
 
   spent_whole : (system : System) (bytes : List ℕ) → (Calm → stops ≡ []) → Whole system bytes Spent
-  spent_whole system bytes none = record { status_is = inr (inr refl); calm = none; valid = λ calm valid. inr (inr refl) }
+  spent_whole system bytes none = record { status_is = inr (inr refl); calm = none; valid = λ calm valid. inr (inr refl); opened = λ calm done. cc }
 
   by_spent : (told left old new : Option (List ℕ)) → Session told left old new Spent → Complete told Spent
   by_spent (Some bytes) left old new (inl h) = by_system bytes h.system Spent h.defines (spent_whole h.system bytes (no_stop (Some bytes) left old new Spent (inl h)))
@@ -144,6 +151,7 @@ module _ {D : Type 0} (state : D → DiskState) (is_disk : (disk : D) → IsDisk
         status_is = inr (inr refl);
         calm = none;
         valid = λ calm valid. absurd (not_down state handed disk (Some bytes) left old new lives stops h (none calm));
+        opened = λ calm done. cc;
       })
   by_down None left old new session = tt
   by_down told left old new (inr (inl begun, nothing)) = absurd begun.unbegun
@@ -156,12 +164,14 @@ module _ {D : Type 0} (state : D → DiskState) (is_disk : (disk : D) → IsDisk
         status_is = inr (inr refl);
         calm = none;
         valid = λ calm valid. absurd (not_refused state handed disk (Some bytes) left old new lives stops refusal h (none calm));
+        opened = λ calm done. cc;
       })
   by_image refusal (Some bytes) left old new (inr (inr never, nothing)) =
       by_system bytes never.system (Image refusal) never.defines (record {
         status_is = inr (inr refl);
         calm = λ calm. nothing.no_stop;
         valid = λ calm valid. absurd (valid_opened state bytes handed disk refusal (is_disk handed) never valid);
+        opened = λ calm done. cc;
       })
   by_image refusal None left old new session = tt
   by_image refusal told left old new (inr (inl begun, nothing)) = absurd begun.unbegun

@@ -4,7 +4,7 @@ use crate::database_tests::{BANK, BANK_PROGRAMS, OPENED, OPENED_PRINTED};
 use crate::run::run;
 use crate::status_number;
 use crate::tests::{DRILL, PROGRAMS, SYSTEM, joined};
-use std::alloc::Global;
+use std::alloc::{AllocError, Global};
 use std::process::Abort;
 use std::test::Fail;
 use tm_disk::{Disk, MemDisk};
@@ -123,6 +123,53 @@ fn power(rt: HostRuntime) -> Result<(), Fail> {
     ];
     for (lines, status, printed) in &table {
         expect(&rt, rt.alloc(), lines, (*status, printed))?;
+    }
+    Ok(())
+}
+
+/// Three lasting steps, a freeze of two writes, and a cold start that breaks off, behind which a restart opens.
+fn broken_cold(alloc: Global, power: &[u8]) -> Result<Vec<u8>, AllocError> {
+    joined(
+        alloc,
+        &[
+            SYSTEM,
+            PROGRAMS,
+            b"IN T1 1 ECHO A\nQUIET 100\nRECV T1\nACK T1 1\n",
+            power,
+            b"/CHECKPOINT FREEZE\n/NRESTART CHECKPOINT 0\n/ERESTART\n/DISPLAY LTERM T1\n",
+        ],
+    )
+}
+
+/// Behind a cold start that broke off all steps that were answered are kept of the life before, whether the restart finds them or the
+/// empty machine.
+#[test]
+fn broken_cold_starts(rt: HostRuntime) -> Result<(), Fail> {
+    let alloc = rt.alloc();
+    let there: &[u8] = b"LTERM T1 IN 1 OUT 1 KEPT 0 STARTED\n";
+    let empty: &[u8] = b"LTERM T1 IN 0 OUT 0 KEPT 0 STARTED\n";
+    // The cold start makes sector 0 zeros first, which is left or not, and then writes what it begins with.
+    let table: [(&[u8], &[u8]); 3] = [
+        (b"POWER IN 3 0\n", there),
+        (b"POWER IN 3 1\n", empty),
+        (b"POWER IN 4 0\n", empty),
+    ];
+    let mut words = Vec::new(alloc);
+    for word in DRILL {
+        words.push(String::from_str(alloc, word)?)?;
+    }
+    for (power, shown) in &table {
+        let mut source = MemSource::new(broken_cold(alloc, power)?, Vec::new(alloc));
+        let mut sink = MemSink::new(alloc, Vec::new(alloc));
+        sink.reserve(8192)?;
+        let disk = MemDisk::new(alloc, 1517, Vec::new(alloc))?;
+        let outcome = run(alloc, &words, &mut source, &mut sink, disk);
+        assert_eq!(rt; status_number(outcome.status), 0);
+        assert!(rt; sink.bytes().ends_with(shown));
+        let Some(life) = outcome.lives.items.first() else {
+            return Err("no life is told".into());
+        };
+        assert_eq!(rt; life.kept, 3);
     }
     Ok(())
 }

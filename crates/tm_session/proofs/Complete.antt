@@ -1,5 +1,5 @@
 -- A session without a stop is not down by one, and its disk was opened.
-use Rattle.std.proofs.Common.{◌≡◌, ℕ, ◌+◌, ◌≤◌, Bool, true, false, List, [], ◌∷◌, map, sym, ◌∙◌, ap, subst, refl, arith, inl, inr, ⊎_elim}
+use Rattle.std.proofs.Common.{◌≡◌, ◌⊎◌, ℕ, ◌+◌, ◌≤◌, Bool, true, false, List, [], ◌∷◌, map, sym, ◌∙◌, ap, subst, refl, arith, inl, inr, ⊎_elim}
 use Rattle.std.specs.Prelude.{Option, Some, None}
 use Rattle.model_disk.specs.Disk.{DiskState, IsDisk, Rose}
 use Rattle.model_system.specs.System.{System}
@@ -8,6 +8,8 @@ use Rattle.model_session.specs.Blocks.{Block}
 use Rattle.model_session.specs.Lives.{LifeState}
 use Rattle.model_session.specs.Standing.{Setting, SessionState, Standing, Stop, AreStops, last_life}
 use Rattle.model_session.specs.Standing.Standing.{Up, Down}
+use Rattle.model_session.specs.Session.{Begins}
+use Rattle.model_session.proofs.Growing.{HasStop, stop_stays, failed_told}
 use Rattle.model_session.proofs.Stopping.{HasStops, stops_told, stops_begun}
 use Rattle.control_life.specs.declared.how.How.TheVariants.{Found}
 use Rattle.control_life.specs.Opened.{Refuses}
@@ -18,10 +20,10 @@ use Rattle.session_lives.specs.Running.{life_of, setting_of, error_of}
 use Rattle.session_lives.specs.Openings.{MayRefuseAt}
 use Rattle.session_lives.proofs.Valid.{valid_opens}
 use Rattle.tm_session.specs.declared.outcome.Ended.{Ended}
-use Rattle.tm_session.specs.declared.outcome.Ended.TheVariants.{Down as DownAtEnd, Image}
+use Rattle.tm_session.specs.declared.outcome.Ended.TheVariants.{Done, Down as DownAtEnd, Image}
 use Rattle.tm_session.specs.Source.{definition_text}
 use Rattle.tm_session.specs.Outcome.{left_if, is_undone}
-use Rattle.tm_session.specs.Headline.{HasLived, HasSession, IsNeverOpened, IsValidDisk}
+use Rattle.tm_session.specs.Headline.{HasLived, HasSession, IsNeverOpened, IsOpenedBy, IsOpenedDisk, IsValidDisk}
 
 -- ---- counts
 
@@ -40,6 +42,10 @@ no_stops low high [] h calm = refl
 no_stops low high (stop ∷ stops) h calm = absurd (calm (stop_rose low high stop stops h))
 
 -- ---- a session
+
+abbrev IsUpAtFirst : Standing → Type 0
+IsUpAtFirst (Up life) = Unit {0}
+IsUpAtFirst (Down outage) = ⊥
 
 left_stops : (undone : Bool) (system : System) (others : List Block) (mid last : SessionState) → left_if undone system others mid last → HasStops mid → HasStops last
 left_stops true system others mid last left h = stops_begun system others mid last left h
@@ -61,12 +67,32 @@ module _ {D : Type 0} (state : D → DiskState) (system : System) (source : List
   never_refused refusal h none =
       (lived_stops (Image refusal) h).unbegun (no_life_at (setting_of state system source handed) h.last.standing refusal h.undone) (sym h.stops_are ∙ none)
 
+  -- a session without a stop has opened its disk
+  begun_or : (first : SessionState) → Begins (setting_of state system source handed) first → HasStop first ⊎ IsUpAtFirst first.standing
+  begun_or first (inl opens) = inr (subst (λ (s : SessionState). IsUpAtFirst s.standing) (sym opens.goes) tt)
+  begun_or first (inr fails) = inl (failed_told first fails.stop fails.ends)
+
+  opened_up : (standing : Standing) → IsUpAtFirst standing → IsOpenedBy standing system source (state handed) → IsOpenedDisk system source (state handed)
+  opened_up (Up life) up opened = opened
+  opened_up (Down outage) up opened = absurd up
+
+  lived_opened : HasLived state system source told left old new handed disk Done lives stops → stops ≡ [] → IsOpenedDisk system source (state handed)
+  lived_opened h none =
+      ⊎_elim
+      (λ stop. absurd (subst HasStop (sym h.unprinted)
+      (stop_stays (setting_of state system source handed) h.blocks h.first h.mid h.text h.session stop) (sym h.stops_are ∙ none)))
+      (λ up. opened_up h.first.standing up h.opened)
+      (begun_or h.first h.begins)
+
 module _ {D : Type 0} (state : D → DiskState) (handed disk : D) (told left old new : Option (List ℕ)) (lives : List Life) (stops : List Stop) where
   pub not_down : HasSession state told left old new handed disk DownAtEnd lives stops → stops ≡ [] → ⊥
   not_down h none = never_down state h.system h.text handed disk told left old new (map life_of lives) stops h.lived none
 
   pub not_refused : (refusal : ImageRefused) → HasSession state told left old new handed disk (Image refusal) lives stops → stops ≡ [] → ⊥
   not_refused refusal h none = never_refused state h.system h.text handed disk told left old new (map life_of lives) stops refusal h.lived none
+
+  pub done_opened : (h : HasSession state told left old new handed disk Done lives stops) → stops ≡ [] → IsOpenedDisk h.system h.text (state handed)
+  done_opened h none = lived_opened state h.system h.text handed disk told left old new (map life_of lives) stops h.lived none
 
 -- nor is a disk refused that can be opened
 pub valid_opened : {D : Type 0} (state : D → DiskState) (bytes : List ℕ) (handed disk : D) (refusal : ImageRefused) → IsDisk (state handed) → (never : IsNeverOpened state (Some bytes) handed disk (Image refusal))

@@ -1,15 +1,33 @@
 -- A definition that was judged, and a run that ends before its disk is looked at.
-use Rattle.std.proofs.Common.{◌≡◌, ℕ, List, sym, ◌∙◌, ap, refl}
-use Rattle.std.specs.Prelude.{Option, Some, None, IfSome, Result, Ok, Err}
+use Rattle.std.proofs.Common.{◌≡◌, ℕ, ◌<◌, Bool, true, false, ◌&&◌, List, [], ◌∷◌, ◌++◌, length, sym, ◌∙◌, ap, subst, refl, arith}
+use Rattle.std.proofs.lemmas.Bool.Decides.{nat_tests}
+use Rattle.std.proofs.lemmas.List.{length-map}
+use Rattle.std.specs.Prelude.{Option, Some, None, IfSome, Result, Ok, Err, nat_le}
+use Rattle.std.specs.List.{list_all}
 use Rattle.model_system.specs.System.{System}
-use Rattle.tm_edge.specs.Lines.{lines_of}
+use Rattle.tm_edge.specs.Lines.{CutLine, behind_line, cut_lines, is_short, line_size, line_text, lines_of}
+use Rattle.tm_edge.proofs.ServedSoFar.{long_first}
 use Rattle.sysdef_text.specs.Ends.{definition_lines}
 use Rattle.tm_session.specs.declared.outcome.Ended.{Ended}
 use Rattle.tm_session.specs.declared.outcome.Ended.TheVariants.{Done, Words, BadLine, BadCross, Down, Read, Write, Image, Memory, Limit, Spent}
 use Rattle.tm_session.specs.Source.{judged, definition_text}
 use Rattle.tm_session.specs.Outcome.{HasCause, IsReadToEnd}
-use Rattle.tm_session.specs.Opening.{ReadsDefinition, StopsBefore, IsJudged}
-use Rattle.tm_session.specs.Headline.{IsUnbegun, Defines, BreaksRule}
+use Rattle.tm_session.specs.Opening.{IsCutShort, ReadsDefinition, ReadsLines, StopsBefore, IsJudged}
+use Rattle.tm_session.specs.Headline.{IsUnbegun, IsBroken, Defines}
+
+first_of : (a b : Bool) → a && b ≡ true → a ≡ true
+first_of true b h = refl
+first_of false b h = h
+
+second_of : (a b : Bool) → a && b ≡ true → b ≡ true
+second_of true b h = h
+second_of false b h = cc
+
+head_is : (x y : CutLine) (xs ys : List CutLine) → x ∷ xs ≡ y ∷ ys → x ≡ y
+head_is x y xs ys e = cc
+
+tail_is : (x y : CutLine) (xs ys : List CutLine) → x ∷ xs ≡ y ∷ ys → xs ≡ ys
+tail_is x y xs ys e = cc
 
 -- a definition that was read whole and judged
 pub defines_read : (told mid : Option (List ℕ)) (texts : List (List ℕ)) (system : System) → ReadsDefinition told texts mid → judged texts ≡ Ok system
@@ -18,9 +36,30 @@ defines_read (Some bytes) (Some rest) texts system read e = ap judged read.defin
 defines_read (Some bytes) None texts system read e = absurd read
 defines_read None mid texts system read e = tt
 
+-- of a definition that was read whole no line is too long
+clash : (lines before others : List CutLine) (long : CutLine) (more : List CutLine) → lines ++ more ≡ before ++ long ∷ others → length before < length lines
+    → list_all is_short lines ≡ true → is_short long ≡ true
+clash [] before others long more same less short = absurd (omega (arith, less))
+clash (line ∷ lines) [] others long more same less short = sym (ap is_short (head_is line long (lines ++ more) others same)) ∙ first_of (is_short line) (list_all is_short lines) short
+clash (line ∷ lines) (first ∷ before) others long more same less short =
+    clash lines before others long more (tail_is line first (lines ++ more) (before ++ long ∷ others) same) (omega (arith, less))
+    (second_of (is_short line) (list_all is_short lines) short)
+
+long_is : (size : ℕ) → nat_le size 4096 ≡ true → 4096 < size → ⊥
+long_is size short long = let e : nat_le size 4096 ≡ false = grind (arith, nat_tests) in let f : false ≡ true = rw e at short in cc
+
+none_long : (bytes : List ℕ) (texts : List (List ℕ)) (rest : List ℕ) → ReadsLines bytes texts rest → IsCutShort bytes → ⊥
+none_long bytes texts rest read cut =
+    let long : CutLine = record { text = line_text cut.rest; size = line_size cut.rest } in
+    let parts : read.cut ++ cut_lines rest ≡ cut.cut ++ long ∷ cut_lines (behind_line cut.rest) =
+    sym read.served.cut ∙ cut.served.cut ∙ ap (λ more. cut.cut ++ more) (long_first cut.rest cut.long) in
+    let counted : length texts ≡ length read.cut = sym (ap length read.lines) ∙ length-map read.cut (λ (line : CutLine). line.text) in
+    let less : length cut.cut < length read.cut = subst (λ n. length cut.cut < n) (ap length read.definition ∙ counted) cut.within in
+    long_is (line_size cut.rest) (clash read.cut cut.cut (cut_lines (behind_line cut.rest)) long (cut_lines rest) parts less read.served.short) cut.long
+
 breaks_read : (told mid : Option (List ℕ)) (texts : List (List ℕ)) (ended : Ended) → ReadsDefinition told texts mid → judged texts ≡ Err ended
-    → IfSome told (λ bytes. BreaksRule bytes ended)
-breaks_read (Some bytes) (Some rest) texts ended read e = ap judged read.definition ∙ e
+    → IfSome told (λ bytes. IsBroken bytes ended)
+breaks_read (Some bytes) (Some rest) texts ended read e = record { broken = ap judged read.definition ∙ e; within = λ cut. none_long bytes texts rest read cut }
 breaks_read (Some bytes) None texts ended read e = absurd read
 breaks_read None mid texts ended read e = tt
 

@@ -31,9 +31,10 @@ use Rattle.session_lives.specs.declared.place.Place.TheVariants.{Up, Down}
 use Rattle.session_lives.specs.declared.place.Kept.{Kept}
 use Rattle.session_lives.specs.declared.place.Session.{Session}
 use Rattle.session_lives.specs.Running.{life_of, last_of, kept_of, outage_of, standing_of, session_at, session_of, setting_of, error_of, IsDownSound, IsSound, Leads, LeadsBy}
-use Rattle.session_lives.specs.Openings.{HasGone, StaysIdle}
+use Rattle.session_lives.specs.Openings.{HasGone, HasOpened, StaysIdle}
 use Rattle.session_lives.specs.Closing.{listed, IsClosedDown, IsClosedAt, IsClosed, Remains, LeavesSo}
 use Rattle.session_lives.proofs.Ends.{same_state, outage_with}
+use Rattle.session_lives.proofs.Valid.{opened_valid}
 use Rattle.session_lives.proofs.Restarted.{opens_gone, fails_gone, gone_sound}
 use Rattle.tm_session.specs.declared.outcome.Ended.{Ended}
 use Rattle.tm_session.specs.declared.outcome.Ended.TheVariants.{Done, Words, BadLine, BadCross, Down as DownAtEnd, Read, Write, Image as BadImage, Memory, Limit, Spent}
@@ -44,7 +45,7 @@ use Rattle.tm_session.specs.Outcome.Ending.{NotBegun}
 use Rattle.tm_session.specs.Driving.{HasDriven, ReadsTold}
 use Rattle.tm_session.specs.Opening.{ReadsDefinition}
 use Rattle.tm_session.specs.Opened.{IsRead, HasBegun, IsNothing, refusal, down_at_end, by_standing}
-use Rattle.tm_session.specs.Headline.{HasLived, HasSession, IsSession, Defines, IsUnbegun, IsNeverOpened, IsRefusal, ToldNothing}
+use Rattle.tm_session.specs.Headline.{HasLived, HasSession, IsOpenedBy, IsOpenedDisk, IsSession, Defines, IsUnbegun, IsNeverOpened, IsRefusal, ToldNothing}
 use Rattle.tm_session.proofs.Opened.{whole_session}
 
 -- ---- how a session begins
@@ -104,6 +105,27 @@ module _ {D : Type 0} (state : D → DiskState) (is_disk : (disk : D) → IsDisk
 
   pub begun_sound : IsSound state system text handed session
   begun_sound = gone_sound state is_disk system text handed b.idle b.kept session first_sound false b.opening b.gone
+
+  -- it was opened as it was handed in
+  opened_disk : (gone : HasOpened state b.idle b.kept false session) → IsOpenedDisk system text (state handed)
+  opened_disk gone =
+      let same : IsOpenedDisk b.idle.system b.idle.text (state b.idle.disk) = record {
+        size = gone.opens.size;
+        valid = λ tells. opened_valid b.idle.system b.idle.text (state b.idle.disk) gone.opens.begins.parts gone.control.control.opening
+            (subst (λ d. Only (state d).shown (state d)) (sym b.disk_is) alone) gone.opens.size tells (gone.opens.begins.found refl tells);
+      } in
+      subst (λ d. IsOpenedDisk system text (state d)) b.disk_is
+      (subst (λ t. IsOpenedDisk system t (state b.idle.disk)) b.text_is (subst (λ s. IsOpenedDisk s b.idle.text (state b.idle.disk)) b.system_is same))
+
+  opened_by : (opening : Opening) → HasGone state b.idle b.kept false session opening → refusal opening ≡ None → IsOpenedBy (session_of session).standing system text (state handed)
+  opened_by Opened gone none = subst (λ p. IsOpenedBy (standing_of p) system text (state handed)) (sym gone.place) (opened_disk gone)
+  opened_by Broke gone none = subst (λ p. IsOpenedBy (standing_of p) system text (state handed)) (sym gone.place) tt
+  opened_by (Refused refused) gone none = cc
+  opened_by NoMemory gone none = cc
+  opened_by SpentCounter gone none = cc
+
+  pub opened_first : ended ≡ None → IsOpenedBy (session_of session).standing system text (state handed)
+  opened_first none = opened_by b.opening b.gone (sym b.ends ∙ none)
 
   -- ---- or it was refused
 
@@ -214,10 +236,10 @@ by_is false Spent standing not is = tt
 
 module _ {D : Type 0} (state : D → DiskState) (system : System) (source : List ℕ) (handed : D) where
   lived_by : (told mid : Option (List ℕ)) (held : List ℕ) (left w w' : Option (List ℕ)) (texts : List (List ℕ)) (disk : D) (first last : SessionState) (stopped : Bool) (ended : Ended)
-      (lives : List Life) (stops : List Stop) → ReadsDefinition told texts mid → Begins (setting_of state system source handed) first
+      (lives : List Life) (stops : List Stop) → ReadsDefinition told texts mid → Begins (setting_of state system source handed) first → IsOpenedBy first.standing system source (state handed)
       → HasDriven (setting_of state system source handed) (length texts) mid (unread held left) w w' first last ended → is_stopped last.standing ≡ stopped
       → Remains state system source handed disk last lives stops → HasLived state system source told left w w' handed disk (by_standing stopped ended) (map life_of lives) stops
-  lived_by told mid held left w w' texts disk first last stopped ended lives stops definition begins driven is rest = record {
+  lived_by told mid held left w w' texts disk first last stopped ended lives stops definition begins opened driven is rest = record {
     blocks = driven.blocks;
     others = driven.others;
     first = first;
@@ -226,6 +248,8 @@ module _ {D : Type 0} (state : D → DiskState) (system : System) (source : List
     text = driven.stops.text;
     begun = by_stopped (λ s. ending_of s ≢ NotBegun) stopped ended driven.begun (λ one. one);
     begins = begins;
+    opened = opened;
+    enough = rest.enough;
     session = driven.stops.served;
     unprinted = by_stopped (λ s. left_by s system driven.others driven.stops.mid last) stopped ended driven.stops.unprinted (λ one. one);
     undone = by_stopped (λ s. UndoneAs s (setting_of state system source handed) last) stopped ended driven.stops.undone (λ one. tt);
@@ -243,11 +267,11 @@ module _ {D : Type 0} (state : D → DiskState) (system : System) (source : List
   -- a session that was driven from where it began
   pub is_session : (told mid : Option (List ℕ)) (held : List ℕ) (left w w' : Option (List ℕ)) (count : ℕ) (disk : D) (a b : Session D) (ended status : Ended)
       (lives : List Life) (stops : List Stop) → IsRead told mid count system source → IfSome told (λ bytes. source ≡ definition_text (definition_lines (lines_of bytes)))
-      → Begins (setting_of state system source handed) (session_of a) → IsSound state system source handed a
+      → Begins (setting_of state system source handed) (session_of a) → IsOpenedBy (session_of a).standing system source (state handed) → IsSound state system source handed a
       → Leads state (λ setting x y. HasDriven setting count mid (unread held left) w w' x y ended) a b → status ≡ by_standing (is_stopped (standing_of b.place)) ended
       → LeavesSo state b disk lives stops
       → IsSession state told left w w' handed disk status lives stops
-  is_session told mid held left w w' count disk a b ended status lives stops definition text_is begins sound leads at over =
+  is_session told mid held left w w' count disk a b ended status lives stops definition text_is begins opened sound leads at over =
       let led : LeadsBy state (λ setting x y. HasDriven setting count mid (unread held left) w w' x y ended) system source handed a b = leads system source handed sound in
       inl (record {
         system = system;
@@ -255,7 +279,7 @@ module _ {D : Type 0} (state : D → DiskState) (system : System) (source : List
         text = source;
         text_is = text_is;
         lived = subst (λ s. HasLived state system source told left w w' handed disk s (map life_of lives) stops) (sym at)
-            (lived_by told mid held left w w' definition.texts disk (session_of a) (session_of b) (is_stopped (standing_of b.place)) ended lives stops definition.read begins
+            (lived_by told mid held left w w' definition.texts disk (session_of a) (session_of b) (is_stopped (standing_of b.place)) ended lives stops definition.read begins opened
             (subst (λ n. HasDriven (setting_of state system source handed) n mid (unread held left) w w' (session_of a) (session_of b) ended) (sym definition.counted) led.goes) refl
             (over system source handed led.sound));
       })

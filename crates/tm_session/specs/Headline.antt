@@ -1,10 +1,12 @@
 -- What a whole session comes to.
-use Rattle.std.specs.Prelude.{◌≡◌, ◌≢◌, ◌⊎◌, ℕ, Option, IfSome, Ok, Err, List, [], map}
+use Rattle.std.specs.Prelude.{◌≡◌, ◌≢◌, ◌⊎◌, ℕ, true, Option, IfSome, Ok, Err, List, [], map}
+use Rattle.std.specs.Option.{is_some}
 use Rattle.model_disk.specs.Disk.{Image, DiskState}
 use Rattle.model_system.specs.System.{System}
 use Rattle.model_session.specs.Blocks.{Block}
 use Rattle.model_session.specs.Lives.{LifeState, AreLegal}
-use Rattle.model_session.specs.Standing.{SessionState, Stop, AreAllLives, AreStops}
+use Rattle.model_session.specs.Standing.{SessionState, Standing, Stop, AreAllLives, AreStops, last_life}
+use Rattle.model_session.specs.Standing.Standing.{Up, Down}
 use Rattle.model_session.specs.Session.{Begins, AreServed}
 use Rattle.tm_edge.specs.Lines.{lines_of}
 use Rattle.control_life.specs.declared.how.How.TheVariants.{Found}
@@ -21,9 +23,20 @@ use Rattle.tm_session.specs.Opening.{IsCutShort}
 use Rattle.tm_session.specs.Outcome.{ending_of, HasWritten, left_by, UndoneAs, IsBy}
 use Rattle.tm_session.specs.Sources.{HasReadTold}
 use Rattle.tm_session.specs.Outcome.Ending.{NotBegun}
-use Rattle.session_lives.specs.Running.{life_of, setting_of, Holds, error_of, IsValidDisk as IsValid}
+use Rattle.session_lives.specs.Running.{life_of, setting_of, Holds, error_of, IsValidDisk as IsValid, IsOpenedDisk as IsOpened}
+use Rattle.session_lives.specs.Closing.{HasSectors}
 
--- A session of the system over the disk that was handed in. It begins with an opening of the disk. Blocks of lines were
+-- the disk has sectors enough, and could be opened where it tells its contents
+abbrev pub IsOpenedDisk : System → List ℕ → DiskState → Type 0
+IsOpenedDisk system text disk = IsOpened system text disk
+
+-- where a life began with what was handed in
+abbrev pub IsOpenedBy : Standing → System → List ℕ → DiskState → Type 0
+IsOpenedBy (Up life) system text disk = IsOpenedDisk system text disk
+IsOpenedBy (Down outage) system text disk = Unit {0}
+
+-- A session of the system over the disk that was handed in. It begins with an opening of the disk, which it could be opened for where
+-- a life began so; and once a life has begun it has sectors enough. Blocks of lines were
 -- served, each the source's next one, and what is printed for them, and nothing else, was written. They led through the lives
 -- and the stops that are told, and each image that a crash of the disk may leave as it is handed back recovers to what the
 -- session's standing allows: the state after a front of the last life's lasting steps that has all that were answered, and
@@ -38,6 +51,8 @@ pub record HasLived {D : Type 0} (state : D → DiskState) (system : System) (so
   pub text : List ℕ
   pub begun : ending_of ended ≢ NotBegun
   pub begins : Begins (setting_of state system source handed) first
+  pub opened : IsOpenedBy first.standing system source (state handed)
+  pub enough : is_some (last_life last.standing) ≡ true → HasSectors system (state handed)
   pub session : AreServed (setting_of state system source handed) blocks first mid text
   pub unprinted : left_by ended system others mid last
   pub undone : UndoneAs ended (setting_of state system source handed) last
@@ -61,11 +76,16 @@ Defines bytes system = judged (definition_lines (lines_of bytes)) ≡ Ok system
 abbrev pub BreaksRule : List ℕ → Ended → Type 0
 BreaksRule bytes ended = judged (definition_lines (lines_of bytes)) ≡ Err ended
 
+-- it does so, and was read to its end: none of its lines is too long
+pub record IsBroken (bytes : List ℕ) (ended : Ended) : Type 0 where
+  pub broken : BreaksRule bytes ended
+  pub within : ¬ IsCutShort bytes
+
 -- how a run ends before its disk is looked at: the definition breaks a rule, or wasn't read to its end, or memory
 -- was wanting
 abbrev pub IsUnbegun : Option (List ℕ) → Ended → Type 0
-IsUnbegun told (BadLine line rule) = IfSome told (λ bytes. BreaksRule bytes (BadLine line rule))
-IsUnbegun told (BadCross line rule) = IfSome told (λ bytes. BreaksRule bytes (BadCross line rule))
+IsUnbegun told (BadLine line rule) = IfSome told (λ bytes. IsBroken bytes (BadLine line rule))
+IsUnbegun told (BadCross line rule) = IfSome told (λ bytes. IsBroken bytes (BadCross line rule))
 IsUnbegun told (Limit n) = (n ≡ 4097) × IfSome told IsCutShort
 IsUnbegun told Read = Unit {0}
 IsUnbegun told Memory = Unit {0}

@@ -11,7 +11,7 @@ use Rattle.tm_session.proofs.Begun.{begun_is}
 use Rattle.tm_session.proofs.Endings.{never_cause, driven_cause}
 use Rattle.tm_session.proofs.Judging.{text_told}
 use Rattle.tm_session.proofs.Taking.{back_whole, back_twice}
-use Rattle.tm_session.proofs.Whole.{begins, begun_sound, never_opened, is_session, nothing_session}
+use Rattle.tm_session.proofs.Whole.{begins, begun_sound, opened_first, never_opened, is_session, nothing_session}
 use Rattle.tm_session.proofs.session.drill_session.Goals as goal
 
 pub returns-in-Err-clause-session : goal.returns-in-Err-clause-session
@@ -39,6 +39,7 @@ returns-clause-session g c =
     c.finish-in-None.result.status c.finish-in-None.result.lives c.finish-in-None.result.stops read
     (text_told (g.S.Source.left c.args.source.now) (unread c.read_system.new.lines (g.S.Source.left c.read_system.new.source)) read.texts c.in-Ok.read.2 read.read read.joined)
     (begins g.D.Disk.state g.met.D.Disk.is_disk c.in-Ok.read.1 c.in-Ok.read.2 c.args.disk c.begin-session.result.0 c.begin-session.result.1 c.requires.only c.begin-session.ensures.begun c.in-None.is)
+    (opened_first g.D.Disk.state g.met.D.Disk.is_disk c.in-Ok.read.1 c.in-Ok.read.2 c.args.disk c.begin-session.result.0 c.begin-session.result.1 c.requires.only c.begin-session.ensures.begun c.in-None.is)
     (begun_sound g.D.Disk.state g.met.D.Disk.is_disk c.in-Ok.read.1 c.in-Ok.read.2 c.args.disk c.begin-session.result.0 c.begin-session.result.1 c.requires.only c.begin-session.ensures.begun)
     c.serve_lines-session.ensures.driven c.finish-in-None.ensures.status c.finish-in-None.ensures.leaves
 
