@@ -148,7 +148,7 @@ module _ {D : Type 0} (state : D → DiskState) (old new : LoggedState D) (openi
   is = seen new opening after room' began
 
   stay : StaysSo state was is
-  stay = record { system = went.keeps.system; opening = refl; text = went.keeps.text; began = refl; disk = went.keeps.disk }
+  stay = record { system = went.keeps.system; opening = refl; text = went.keeps.text; began = refl; disk = went.keeps.disk; later = went.keeps.later }
 
   -- while it is served what lasts is on each image
   lasts_up : new.served ≡ true → IsServed new opening after steps' → Lasts state is

@@ -1,5 +1,5 @@
 -- What a call of a control region does.
-use Rattle.std.specs.Prelude.{◌≡◌, ℕ, ◌+◌, ◌++◌, Bool, true, false, List, [], ◌∷◌, Option, Some, None, Ok}
+use Rattle.std.specs.Prelude.{◌≡◌, ℕ, ◌+◌, ◌≤◌, ◌++◌, Bool, true, false, List, [], ◌∷◌, Option, Some, None, Ok}
 use Rattle.model_disk.specs.Disk.{Image, DiskState, Stays, FailedSince}
 use Rattle.model_machine.specs.History.{AddsEntry, AddsNothing, IsCall, call_of, now_of}
 use Rattle.model_machine.specs.declared.counts.Counter.{Counter}
@@ -16,13 +16,14 @@ use Rattle.tm_machine.specs.Parts.{PartsState}
 use Rattle.logged_machine.specs.Frugal.{IsFrugal, Raises}
 use Rattle.tm_control.specs.OnDisk.{ControlOnDisk, lasting_after}
 
--- what no call changes
+-- What no call changes. Its disk's time never runs back.
 pub record StaysSo {D : Type 0} (state : D → DiskState) (old new : ControlOnDisk D) : Type 0 where
   pub system : new.control.system ≡ old.control.system
   pub opening : new.control.opening ≡ old.control.opening
   pub text : new.text ≡ old.text
   pub began : new.began ≡ old.began
   pub disk : Stays (state old.disk) (state new.disk)
+  pub later : (state old.disk).clock ≤ (state new.disk).clock
 
 -- ---- entries
 
