@@ -1,5 +1,5 @@
 -- What was asked of a control region, by the fault that its call met.
-use Rattle.std.proofs.Common.{◌≡◌, ℕ, Bool, true, false, List, [], ◌∷◌, sym, ◌∙◌, ap, subst, refl}
+use Rattle.std.proofs.Common.{◌≡◌, ◌≤◌, ℕ, Bool, true, false, List, [], ◌∷◌, sym, ◌∙◌, ap, subst, refl, arith}
 use Rattle.std.specs.Prelude.{◌↔◌, IfOk, IsTrue, Option, Some, None, Result, Ok, Err}
 use Rattle.model_disk.specs.Disk.{DiskState, Only}
 use Rattle.model_disk.proofs.Words.{stays_same, stays_on}
@@ -181,7 +181,7 @@ module _ {D : Type 0} (state : D → DiskState) where
 
   -- what stays over two calls
   pub stays_so : (a : ControlOnDisk D) → StaysSo state a a
-  stays_so a = record { system = refl; opening = refl; text = refl; began = refl; disk = stays_same (state a.disk) }
+  stays_so a = record { system = refl; opening = refl; text = refl; began = refl; disk = stays_same (state a.disk); later = omega arith }
 
   pub stays_so_on : (a b c : ControlOnDisk D) → StaysSo state a b → StaysSo state b c → StaysSo state a c
   stays_so_on a b c first second = record {
@@ -190,6 +190,7 @@ module _ {D : Type 0} (state : D → DiskState) where
     text = second.text ∙ first.text;
     began = second.began ∙ first.began;
     disk = stays_on (state a.disk) (state b.disk) (state c.disk) first.disk second.disk;
+    later = omega (arith, first.later, second.later);
   }
 
   -- nothing was asked

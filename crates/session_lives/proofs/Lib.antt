@@ -1,3 +1,4 @@
+pub mod Counting
 pub mod Asked
 pub mod Replies
 pub mod Turned

@@ -1,5 +1,5 @@
 -- A system that was down, and what a restart comes to.
-use Rattle.std.proofs.Common.{◌≡◌, ◌⊎◌, ℕ, suc, ◌+◌, ◌-◌, ◌≤◌, max, Bool, true, false, List, [], ◌∷◌, ◌++◌, map, sym, ◌∙◌, ap, subst, refl, arith, inl, inr, ⊎_elim}
+use Rattle.std.proofs.Common.{◌≡◌, ◌⊎◌, ℕ, suc, ◌+◌, ◌*◌, ◌-◌, ◌≤◌, max, Bool, true, false, List, [], ◌∷◌, ◌++◌, map, sym, ◌∙◌, ap, subst, refl, arith, inl, inr, ⊎_elim}
 use Rattle.std.proofs.lemmas.List.{map-append}
 use Rattle.std.proofs.lemmas.Bool.{cases_Bool, eq-eqb}
 use Rattle.std.specs.Prelude.{◌==◌, if◌then◌else◌, Option, Some, None, Result, Ok, Err, IsTrue}
@@ -29,6 +29,11 @@ use Rattle.model_image.specs.Counters.{next_sequence}
 use Rattle.model_image.specs.Text.{text_in, first_difference}
 use Rattle.cold_start.specs.FirstImage.{sectors_needed}
 use Rattle.checkpointing.specs.Texts.{HasText}
+use Rattle.checkpointing.specs.Counts.{AreUpTo, CountsUpTo, RaisesCounts}
+use Rattle.checkpointing.proofs.Counted.{up_to_more, same_raises}
+use Rattle.counter_law.specs.Measures.{call_raises, measure}
+use Rattle.counter_law.specs.Spent.{FindsSpent, IsSpentAt}
+use Rattle.counter_law.proofs.Sessions.{opened_measure, failed_measure}
 use Rattle.opening_answers.specs.declared.refusals.OpenError.{OpenError}
 use Rattle.opening_answers.specs.declared.refusals.OpenError.TheVariants.{Spent as SpentCounter}
 use Rattle.opening_parts.specs.Parts.{OpeningParts}
@@ -47,8 +52,10 @@ use Rattle.session_lives.specs.declared.place.Idle.{Idle}
 use Rattle.session_lives.specs.declared.place.Place.TheVariants.{Up, Down}
 use Rattle.session_lives.specs.declared.place.Kept.{Kept}
 use Rattle.session_lives.specs.declared.place.Session.{Session}
-use Rattle.session_lives.specs.Running.{life_of, last_of, last_up, kept_of, outage_of, session_at, session_of, session_down, setting_of, LeadsBy, IsFoundAs, IsBrokenAs, IsRefusedFirst, Recalls, IsUnopened, IsOfText, Holds, IsUpSound, IsDownSound, IsSound, IsSoundAt, error_of}
-use Rattle.session_lives.specs.Openings.{how_of, kept_by, with_last, HasOpened, StaysIdle, HasFailed, HasGone, RefusesSpent, FindsSpent, SpentBehind, IsToldSo, IsRefusalTold, IsRestartedSo, UndoneBy, IsServedSo, restart_of}
+use Rattle.session_lives.specs.Running.{life_of, last_of, last_up, kept_of, outage_of, session_at, session_of, session_down, setting_of, CountsDown, CountsFirst, LeadsBy, IsFoundAs, IsBrokenAs, IsRefusedFirst, Recalls, IsUnopened, IsOfText, Holds, IsUpSound, IsDownSound, IsSound, IsSoundAt, error_of}
+use Rattle.session_lives.specs.Counting.{CountsUp}
+use Rattle.session_lives.proofs.Counting.{stands_more}
+use Rattle.session_lives.specs.Openings.{how_of, kept_by, with_last, HasOpened, StaysIdle, HasFailed, HasGone, RefusesSpent, IsToldSo, IsRefusalTold, IsRestartedSo, UndoneBy, IsServedSo, restart_of}
 use Rattle.session_lives.proofs.Ends.{state_with, same_state, outage_with, life_with, same_life, stops_one, rose_from}
 
 some_is : (a b : Bool) → Some b ≡ Some a → a ≡ b
@@ -191,6 +198,26 @@ module _ {D : Type 0} (state : D → DiskState) (is_disk : (disk : D) → IsDisk
       answered_as None is = is
       answered_as (Some life) is = is
 
+  -- ---- how far the disk counts
+
+  -- up to where what was done before has brought it
+  abbrev bound : ℕ → ℕ
+  bound high = high + call_raises * measure before
+
+  -- what an opening may leave at any moment counts one further at most
+  raised : (disk : D) → Within (RaisesCounts 1 idle.system) (state idle.disk) (state disk) → (high : ℕ) → CountsFirst system high (state handed) → CountsDown system (bound high + 1) (state disk)
+  raised disk within high first image left =
+      let here : Within (RaisesCounts 1 system) (state idle.disk) (state disk) = subst (λ (s : System). Within (RaisesCounts 1 s) (state idle.disk) (state disk)) sound.system_is within in
+      let comes : ComesFrom (RaisesCounts 1 system) (state idle.disk) image =
+      within_each (RaisesCounts 1 system) (state idle.disk) (state disk) (is_disk idle.disk) (λ (i : Image). same_raises 1 system i i refl) here image
+      ((is_disk disk).now_counts (state idle.disk).clock image here.later left) in
+      comes.by (bound high) (sound.counts high first comes.before comes.left)
+
+  shown_counts : (high : ℕ) → CountsFirst system high (state handed) → CountsUpTo idle.system (bound high) (state idle.disk).shown
+  shown_counts high first =
+      subst (λ (s : System). CountsUpTo s (bound high) (state idle.disk).shown) (sym sound.system_is)
+      (sound.counts high first (state idle.disk).shown ((is_disk idle.disk).shown_left (tells_now first.tells)))
+
   -- ---- a life opened
 
   sectors_there : sectors_needed idle.system ≤ (state idle.disk).size → sectors_needed system ≤ (state handed).size
@@ -203,6 +230,24 @@ module _ {D : Type 0} (state : D → DiskState) (is_disk : (disk : D) → IsDisk
       old.stops.items session.kept.stops.items (StandsUp (life_with gone.control.control.opening [])) (StandsUp (last_up gone.control))
       (ap (map life_of) gone.lives ∙ lives_with old.lives.items idle.last cold gone.control.control.opening.steps) gone.stops
       (ap StandsUp (same_life gone.control.control.opening gone.control.control.opening [] gone.control.control.history refl gone.opens.history))
+
+  opened_measured : (cold : Bool) (gone : HasOpened state idle old cold session) → measure (session_at (Up gone.control) session.kept) ≡ measure before + 1
+  opened_measured cold gone =
+      ap measure (sym (ap (λ p. session_at p session.kept) gone.place) ∙ opened_state cold gone)
+      ∙ opened_measure before outage (count_of idle.last cold gone.control.control.opening.steps) gone.control.control.opening
+
+  opened_counts : (cold : Bool) (gone : HasOpened state idle old cold session) (high : ℕ) → CountsFirst system high (state handed)
+      → CountsUp state (high + call_raises * measure (session_at (Up gone.control) session.kept)) gone.control
+  opened_counts cold gone high first =
+      let more : bound high + 1 ≤ high + call_raises * measure (session_at (Up gone.control) session.kept) = omega (arith, opened_measured cold gone) in
+      record {
+        own = λ up.
+            stands_more (bound high + 1) (high + call_raises * measure (session_at (Up gone.control) session.kept)) gone.control.journal gone.control.next_unit more
+            (gone.stands (bound high) (λ found. tells_now first.tells) (λ found. shown_counts high first));
+        images = λ image left.
+            subst (λ (s : System). CountsUpTo s (high + call_raises * measure (session_at (Up gone.control) session.kept)) image) (sym (gone.opens.system_is ∙ sound.system_is))
+            (up_to_more system (bound high + 1) (high + call_raises * measure (session_at (Up gone.control) session.kept)) image more (raised gone.control.disk gone.counts high first image left));
+      }
 
   opened_sound : (cold : Bool) → HasOpened state idle old cold session → IsSound state system source handed session
   opened_sound cold gone =
@@ -217,6 +262,8 @@ module _ {D : Type 0} (state : D → DiskState) (is_disk : (disk : D) → IsDisk
         began = omega (arith, gone.opens.began, gone.opens.no_fault);
         legal = subst (λ l. AreLegal system l) (sym (ap (map life_of) gone.lives ∙ lives_with old.lives.items idle.last cold gone.control.control.opening.steps))
             (legal_with system (map life_of old.lives.items) outage.last (kept_of idle.last) (count_of idle.last cold gone.control.control.opening.steps) sound.legal sound.answered);
+        valid = sound.valid;
+        counts = opened_counts cold gone;
       })
 
   -- ---- the disk failed
@@ -292,6 +339,16 @@ module _ {D : Type 0} (state : D → DiskState) (is_disk : (disk : D) → IsDisk
       let comes = failed_from cold gone image left in
       broken_by cold comes.before image comes.by (sound.images comes.before comes.left)
 
+  failed_measured : (cold : Bool) (gone : HasFailed state idle old cold session) → measure (session_at (Down gone.after) session.kept) ≡ measure before + 1
+  failed_measured cold gone =
+      ap measure (sym (ap (λ p. session_at p session.kept) gone.place) ∙ failed_state cold gone) ∙ failed_measure before outage cold ((state idle.disk).faults, (state gone.disk).faults)
+
+  failed_counts : (cold : Bool) (gone : HasFailed state idle old cold session) (high : ℕ) → CountsFirst system high (state handed)
+      → CountsDown system (high + call_raises * measure (session_at (Down gone.after) session.kept)) (state gone.after.disk)
+  failed_counts cold gone high first image left =
+      up_to_more system (bound high + 1) (high + call_raises * measure (session_at (Down gone.after) session.kept)) image (omega (arith, failed_measured cold gone))
+      (raised gone.disk gone.counts high first image (gone.cut.no_more image left))
+
   failed_sound : (cold : Bool) → HasFailed state idle old cold session → IsSound state system source handed session
   failed_sound cold gone =
       let outage_is : outage_of gone.after ≡ outage_with outage.last (or_cold cold outage.emptied) true = outage_after gone.after (or_cold cold outage.emptied) true gone.last gone.emptied gone.stopped in
@@ -310,6 +367,8 @@ module _ {D : Type 0} (state : D → DiskState) (is_disk : (disk : D) → IsDisk
         legal = subst (λ l. AreLegal system (map life_of l)) (sym gone.lives) sound.legal;
         answered = subst (λ l. LastAnswered system (option_map last_of l) (kept_of l)) (sym gone.last) sound.answered;
         images = λ image left. subst (λ o. Holds state system source handed (StandsDown o) image) (sym outage_is) (failed_holds cold gone image left);
+        valid = sound.valid;
+        counts = failed_counts cold gone;
       })
 
   -- ---- all is as it was
@@ -319,6 +378,15 @@ module _ {D : Type 0} (state : D → DiskState) (is_disk : (disk : D) → IsDisk
       ap (λ p. session_at p session.kept) idles.place
       ∙ same_state (map life_of old.lives.items) (map life_of session.kept.lives.items) old.stops.items session.kept.stops.items (StandsDown outage) (StandsDown (outage_of idles.after))
       (ap (map life_of) idles.lives) idles.stops (ap StandsDown (outage_after idles.after outage.emptied outage.stopped idles.last idles.emptied idles.stopped))
+
+  idle_measured : (idles : StaysIdle state idle old session) → measure (session_at (Down idles.after) session.kept) ≡ measure before
+  idle_measured idles = ap measure (sym (ap (λ p. session_at p session.kept) idles.place) ∙ idle_state idles)
+
+  idle_counts : (idles : StaysIdle state idle old session) (high : ℕ) → CountsFirst system high (state handed)
+      → CountsDown system (high + call_raises * measure (session_at (Down idles.after) session.kept)) (state idles.after.disk)
+  idle_counts idles high first image left =
+      up_to_more system (bound high) (high + call_raises * measure (session_at (Down idles.after) session.kept)) image (omega (arith, idle_measured idles))
+      (sound.counts high first image (idles.wrote.keeps.no_more image left))
 
   idle_sound : StaysIdle state idle old session → IsSound state system source handed session
   idle_sound idles =
@@ -335,6 +403,8 @@ module _ {D : Type 0} (state : D → DiskState) (is_disk : (disk : D) → IsDisk
         legal = subst (λ l. AreLegal system (map life_of l)) (sym idles.lives) sound.legal;
         answered = subst (λ l. LastAnswered system (option_map last_of l) (kept_of l)) (sym idles.last) sound.answered;
         images = λ image left. subst (λ o. Holds state system source handed (StandsDown o) image) (sym outage_is) (sound.images image (idles.wrote.keeps.no_more image left));
+        valid = sound.valid;
+        counts = idle_counts idles;
       })
 
   -- ---- a disk that can't be opened
@@ -461,7 +531,7 @@ module _ {D : Type 0} (state : D → DiskState) (is_disk : (disk : D) → IsDisk
 
   -- ---- a counter is spent
 
-  spent_found : (counter : Counter) → Refuses (how_of false) idle.system idle.text (state idle.disk) (SpentCounter counter) → setting.tells ≡ true → FindsSpent setting outage
+  spent_found : (counter : Counter) → Refuses (how_of false) idle.system idle.text (state idle.disk) (SpentCounter counter) → setting.tells ≡ true → FindsSpent setting.counts (measure before) setting outage
   spent_found counter refuses tells =
       let is : IsSpent idle.system idle.text (state idle.disk).shown counter = refuses.found refl (tells_now tells) in
       record {
@@ -475,34 +545,19 @@ module _ {D : Type 0} (state : D → DiskState) (is_disk : (disk : D) → IsDisk
           unit = is.unit;
           counter = counter;
           spent = is.spent;
+          own = λ high first. let counts : AreUpTo idle.system (bound high) (state idle.disk).shown is.restart = shown_counts high first is.restart is.found.has_restart in
+              record {
+                epoch_low = counts.epoch;
+                sequence_low = counts.sequence;
+                checkpoint_low = counts.checkpoint;
+                unit_low = subst (λ (n : ℕ). n ≤ bound high) (sym is.found.next) (counts.unit is.found.snapshot is.found.has_snapshot);
+              };
         };
       }
 
-  spent_first : (counter : Counter) → Refuses (how_of false) idle.system idle.text (state idle.disk) (SpentCounter counter) → outage.last ≡ None → setting.spends ⊎ (outage.emptied ≡ true)
-  spent_first counter refuses none = ⊎_elim told (λ silent. inl (record { counter = counter; images = λ image there. absurd (silent_first silent image there) })) (cases_Bool setting.tells)
-    where
-      of : setting.tells ≡ true → AlikeFirst → setting.spends ⊎ (outage.emptied ≡ true)
-      of tells (inl alike) = inl (record {
-        counter = counter;
-        images = λ image there. record {
-          found = (state idle.disk).shown;
-          alike = alike image there;
-          spent = subst (λ (t : List ℕ). IsSpent system t (state idle.disk).shown counter) sound.text_is
-              (subst (λ s. IsSpent s idle.text (state idle.disk).shown counter) sound.system_is (refuses.found refl (tells_now tells)));
-        };
-      })
-      of tells (inr (emptied, empty)) = inr emptied
-
-      told : setting.tells ≡ true → setting.spends ⊎ (outage.emptied ≡ true)
-      told tells = of tells (alike_first none (shown_holds tells))
-
-  spent_down : (cold : Bool) → RefusesSpent state idle cold → SpentBehind outage.last setting outage
+  spent_down : (cold : Bool) → RefusesSpent state idle cold → IsSpentAt setting.counts setting before
   spent_down true spent = absurd (spent.refuses.cold refl)
-  spent_down false spent = of outage.last refl
-    where
-      of : (last : Option LastLife) → outage.last ≡ last → SpentBehind last setting outage
-      of None none = spent_first spent.counter spent.refuses none
-      of (Some life) is = λ tells. spent_found spent.counter spent.refuses tells
+  spent_down false spent = λ tells. spent_found spent.counter spent.refuses tells
 
   -- ---- all of it
 

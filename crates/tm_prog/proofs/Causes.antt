@@ -18,7 +18,10 @@ use Rattle.tm_session.specs.declared.outcome.Ended.{Ended}
 use Rattle.tm_session.specs.declared.outcome.Ended.TheVariants.{Done, Words, BadLine, BadCross, Down, Read, Write, Image, Memory, Limit, Spent}
 use Rattle.tm_session.specs.Outcome.{IsLimit, HasCause}
 use Rattle.tm_session.specs.Source.{judged, definition_text}
+use Rattle.counter_law.specs.Measures.{near_limit}
+use Rattle.session_lives.specs.Running.{CountsDisk}
 use Rattle.tm_session.specs.Headline.{IsSession, IsOpenedDisk, Defines, IsBroken}
+use Rattle.tm_session.proofs.Near.{near_session, near_never}
 use Rattle.tm_session.proofs.Complete.{no_stops, done_opened, not_down, not_refused, valid_opened}
 use Rattle.sysdef_text.specs.Ends.{definition_lines}
 use Rattle.tm_prog.specs.declared.words.Workload.{Workload}
@@ -106,6 +109,7 @@ module _ {D : Type 0} (state : D → DiskState) (is_disk : (disk : D) → IsDisk
         valid = λ calm valid. inl refl;
         opened = λ calm done.
             subst (λ (t : List ℕ). IsOpenedDisk h.system t (state handed)) h.text_is (done_opened state handed disk (Some bytes) left old new lives stops h (none calm));
+        near = λ spent high counts. cc;
       })
   by_done None left old new session = tt
   by_done told left old new (inr (inl begun, nothing)) = absurd begun.unbegun
@@ -127,7 +131,8 @@ module _ {D : Type 0} (state : D → DiskState) (is_disk : (disk : D) → IsDisk
   no_words word rule told left old new (inr (inr never, nothing)) = never.refusal
 
   memory_of : (r : Result System Ended) (text : List ℕ) → (Calm → stops ≡ []) → IsServedBy r text (state handed) (state disk) Memory stops
-  memory_of (Ok system) text none = record { status_is = inr (inl refl); calm = none; valid = λ calm valid. inr (inl refl); opened = λ calm done. cc }
+  memory_of (Ok system) text none =
+      record { status_is = inr (inl refl); calm = none; valid = λ calm valid. inr (inl refl); opened = λ calm done. cc; near = λ spent high counts. cc }
   memory_of (Err ended) text none = inr refl
 
   by_memory : (told left old new : Option (List ℕ)) → Session told left old new Memory → Complete told Memory
@@ -135,12 +140,15 @@ module _ {D : Type 0} (state : D → DiskState) (is_disk : (disk : D) → IsDisk
       memory_of (judged (definition_lines (lines_of bytes))) (text_of bytes) (no_stop (Some bytes) left old new Memory session)
   by_memory None left old new session = tt
 
-  spent_whole : (system : System) (bytes : List ℕ) → (Calm → stops ≡ []) → Whole system bytes Spent
-  spent_whole system bytes none = record { status_is = inr (inr refl); calm = none; valid = λ calm valid. inr (inr refl); opened = λ calm done. cc }
+  spent_whole : (system : System) (bytes : List ℕ) → (Calm → stops ≡ []) → ((high : ℕ) → CountsDisk system high (state handed) → near_limit ≤ high) → Whole system bytes Spent
+  spent_whole system bytes none near =
+      record { status_is = inr (inr refl); calm = none; valid = λ calm valid. inr (inr refl); opened = λ calm done. cc; near = λ spent high counts. near high counts }
 
   by_spent : (told left old new : Option (List ℕ)) → Session told left old new Spent → Complete told Spent
-  by_spent (Some bytes) left old new (inl h) = by_system bytes h.system Spent h.defines (spent_whole h.system bytes (no_stop (Some bytes) left old new Spent (inl h)))
-  by_spent (Some bytes) left old new (inr (inr never, nothing)) = by_system bytes never.system Spent never.defines (spent_whole never.system bytes (λ calm. nothing.no_stop))
+  by_spent (Some bytes) left old new (inl h) = by_system bytes h.system Spent h.defines (spent_whole h.system bytes (no_stop (Some bytes) left old new Spent (inl h))
+      (near_session state is_disk handed disk (Some bytes) left old new lives stops h))
+  by_spent (Some bytes) left old new (inr (inr never, nothing)) = by_system bytes never.system Spent never.defines (spent_whole never.system bytes (λ calm. nothing.no_stop)
+      (near_never state is_disk handed disk (Some bytes) left old new never))
   by_spent None left old new session = tt
   by_spent told left old new (inr (inl begun, nothing)) = absurd begun.unbegun
 
@@ -152,6 +160,7 @@ module _ {D : Type 0} (state : D → DiskState) (is_disk : (disk : D) → IsDisk
         calm = none;
         valid = λ calm valid. absurd (not_down state handed disk (Some bytes) left old new lives stops h (none calm));
         opened = λ calm done. cc;
+        near = λ spent high counts. cc;
       })
   by_down None left old new session = tt
   by_down told left old new (inr (inl begun, nothing)) = absurd begun.unbegun
@@ -165,6 +174,7 @@ module _ {D : Type 0} (state : D → DiskState) (is_disk : (disk : D) → IsDisk
         calm = none;
         valid = λ calm valid. absurd (not_refused state handed disk (Some bytes) left old new lives stops refusal h (none calm));
         opened = λ calm done. cc;
+        near = λ spent high counts. cc;
       })
   by_image refusal (Some bytes) left old new (inr (inr never, nothing)) =
       by_system bytes never.system (Image refusal) never.defines (record {
@@ -172,6 +182,7 @@ module _ {D : Type 0} (state : D → DiskState) (is_disk : (disk : D) → IsDisk
         calm = λ calm. nothing.no_stop;
         valid = λ calm valid. absurd (valid_opened state bytes handed disk refusal (is_disk handed) never valid);
         opened = λ calm done. cc;
+        near = λ spent high counts. cc;
       })
   by_image refusal None left old new session = tt
   by_image refusal told left old new (inr (inl begun, nothing)) = absurd begun.unbegun

@@ -14,6 +14,7 @@ use Rattle.model_disk.specs.Disk.{DiskState, FailedSince}
 use Rattle.sysdef_text.specs.Ends.{definition_lines}
 use Rattle.tm_session.specs.Source.{judged, definition_text}
 use Rattle.tm_session.specs.Outcome.{HasCause}
+use Rattle.session_lives.specs.Running.{CountsDisk}
 use Rattle.tm_session.specs.Headline.{IsSession, IsValidDisk, IsOpenedDisk}
 use Rattle.tm_prog.specs.declared.words.Workload.{Workload}
 use Rattle.tm_prog.specs.Words.{WordFault, word_fault, workload_of}
@@ -88,12 +89,14 @@ is_by_disk _ = false
 
 -- The status where the definition breaks no rule is 0, memory was wanting, or the disk decides it. Where the disk didn't fail there
 -- is no stop; where it was valid too, only a spent counter is left of what the disk decides; and a status of 0 comes of a disk alone
--- that has sectors enough, and that could be opened where it tells its contents.
+-- that has sectors enough, and that could be opened where it tells its contents. That a counter is spent is told of a disk alone of
+-- which one stood at 900,000,000,000,000,000 or above as it was handed in, where it tells its contents.
 pub record IsServedWhole (system : System) (text : List ℕ) (handed disk : DiskState) (status : Ended) (stops : List Stop) : Type 0 where
   pub status_is : (status ≡ Done) ⊎ ((status ≡ Memory) ⊎ (is_by_disk status ≡ true))
   pub calm : ¬ FailedSince handed disk → stops ≡ []
   pub valid : ¬ FailedSince handed disk → IsValidDisk system text handed → (status ≡ Done) ⊎ ((status ≡ Memory) ⊎ (status ≡ Spent))
   pub opened : ¬ FailedSince handed disk → status ≡ Done → IsOpenedDisk system text handed
+  pub near : status ≡ Spent → (high : ℕ) → CountsDisk system high handed → 900000000000000000 ≤ high
 
 -- Where nothing else comes between, a definition that breaks a rule has the status of that rule, or memory was wanting.
 abbrev pub IsServedBy : Result System Ended → List ℕ → DiskState → DiskState → Ended → List Stop → Type 0

@@ -8,3 +8,4 @@ pub mod Judging
 pub mod Opened
 pub mod Whole
 pub mod Complete
+pub mod Near

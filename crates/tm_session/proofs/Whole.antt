@@ -1,11 +1,14 @@
 -- A whole session, from its definition to its end.
-use Rattle.std.proofs.Common.{◌≡◌, ◌≢◌, ◌⊎◌, ℕ, ◌≤◌, Bool, true, false, List, [], ◌∷◌, ◌++◌, length, map, sym, ◌∙◌, ap, subst, refl, arith, inl, inr}
+use Rattle.std.proofs.Common.{◌≡◌, ◌≢◌, ◌⊎◌, ℕ, ◌+◌, ◌*◌, ◌≤◌, Bool, true, false, List, [], ◌∷◌, ◌++◌, length, map, sym, ◌∙◌, ap, subst, refl, arith, inl, inr}
 use Rattle.std.proofs.lemmas.List.{append-nil, map-append}
 use Rattle.std.specs.Prelude.{Option, Some, None, IfSome, Ok}
 use Rattle.std.specs.Option.{option_map, is_some}
 use Rattle.model_disk.specs.Disk.{Image, DiskState, IsDisk, Stays, Only}
 use Rattle.model_disk.proofs.Words.{stays_same}
 use Rattle.model_system.specs.System.{System}
+use Rattle.system_types.specs.Valid.{IsSystem}
+use Rattle.checkpointing.proofs.Counted.{up_to_more}
+use Rattle.counter_law.specs.Measures.{call_raises, measure}
 use Rattle.model_machine.specs.declared.entry.Entry.{Entry}
 use Rattle.model_machine.specs.Machine.{LastingState, start_of}
 use Rattle.model_machine.specs.History.{moment_after, now_of}
@@ -30,7 +33,7 @@ use Rattle.session_lives.specs.declared.place.Place.{Place}
 use Rattle.session_lives.specs.declared.place.Place.TheVariants.{Up, Down}
 use Rattle.session_lives.specs.declared.place.Kept.{Kept}
 use Rattle.session_lives.specs.declared.place.Session.{Session}
-use Rattle.session_lives.specs.Running.{life_of, last_of, kept_of, outage_of, standing_of, session_at, session_of, setting_of, error_of, IsDownSound, IsSound, Leads, LeadsBy}
+use Rattle.session_lives.specs.Running.{life_of, last_of, kept_of, outage_of, standing_of, session_at, session_of, setting_of, error_of, IsDownSound, IsSound, IsSoundAt, Leads, LeadsBy}
 use Rattle.session_lives.specs.Openings.{HasGone, HasOpened, StaysIdle}
 use Rattle.session_lives.specs.Closing.{listed, IsClosedDown, IsClosedAt, IsClosed, Remains, LeavesSo}
 use Rattle.session_lives.proofs.Ends.{same_state, outage_with}
@@ -77,6 +80,9 @@ module _ {D : Type 0} (state : D → DiskState) (is_disk : (disk : D) → IsDisk
       left = subst (λ d. (state d).may_leave image) b.disk_is left;
       alike = λ answer is. is;
     });
+    valid = b.valid;
+    counts = λ high first image left.
+        up_to_more system high (high + call_raises * measure (session_at (Down b.idle) b.kept)) image (omega arith) (first.images image (subst (λ d. (state d).may_leave image) b.disk_is left));
   }
 
   first_outage : outage_of b.idle ≡ no_life
@@ -235,13 +241,19 @@ by_is false (Limit n) standing not is = tt
 by_is false Spent standing not is = tt
 
 module _ {D : Type 0} (state : D → DiskState) (system : System) (source : List ℕ) (handed : D) where
+  valid_at : (place : Place D) (kept : Kept) → IsSoundAt state system source handed place kept → IsSystem system
+  valid_at (Up control) kept sound = sound.valid
+  valid_at (Down idle) kept sound = sound.valid
+
   lived_by : (told mid : Option (List ℕ)) (held : List ℕ) (left w w' : Option (List ℕ)) (texts : List (List ℕ)) (disk : D) (first last : SessionState) (stopped : Bool) (ended : Ended)
-      (lives : List Life) (stops : List Stop) → ReadsDefinition told texts mid → Begins (setting_of state system source handed) first → IsOpenedBy first.standing system source (state handed)
+      (lives : List Life) (stops : List Stop) → IsSystem system → ReadsDefinition told texts mid → Begins (setting_of state system source handed) first → IsOpenedBy first.standing system source (state handed)
       → HasDriven (setting_of state system source handed) (length texts) mid (unread held left) w w' first last ended → is_stopped last.standing ≡ stopped
       → Remains state system source handed disk last lives stops → HasLived state system source told left w w' handed disk (by_standing stopped ended) (map life_of lives) stops
-  lived_by told mid held left w w' texts disk first last stopped ended lives stops definition begins opened driven is rest = record {
+  lived_by told mid held left w w' texts disk first last stopped ended lives stops valid definition begins opened driven is rest = record {
     blocks = driven.blocks;
     others = driven.others;
+    valid = valid;
+    few = driven.few;
     first = first;
     mid = driven.stops.mid;
     last = last;
@@ -279,7 +291,7 @@ module _ {D : Type 0} (state : D → DiskState) (system : System) (source : List
         text = source;
         text_is = text_is;
         lived = subst (λ s. HasLived state system source told left w w' handed disk s (map life_of lives) stops) (sym at)
-            (lived_by told mid held left w w' definition.texts disk (session_of a) (session_of b) (is_stopped (standing_of b.place)) ended lives stops definition.read begins opened
+            (lived_by told mid held left w w' definition.texts disk (session_of a) (session_of b) (is_stopped (standing_of b.place)) ended lives stops (valid_at a.place a.kept sound) definition.read begins opened
             (subst (λ n. HasDriven (setting_of state system source handed) n mid (unread held left) w w' (session_of a) (session_of b) ended) (sym definition.counted) led.goes) refl
             (over system source handed led.sound));
       })

@@ -1,8 +1,9 @@
 -- What a whole session comes to.
-use Rattle.std.specs.Prelude.{◌≡◌, ◌≢◌, ◌⊎◌, ℕ, true, Option, IfSome, Ok, Err, List, [], map}
+use Rattle.std.specs.Prelude.{◌≡◌, ◌≢◌, ◌⊎◌, ℕ, ◌≤◌, true, Option, IfSome, Ok, Err, List, [], length, map}
 use Rattle.std.specs.Option.{is_some}
 use Rattle.model_disk.specs.Disk.{Image, DiskState}
 use Rattle.model_system.specs.System.{System}
+use Rattle.system_types.specs.Valid.{IsSystem}
 use Rattle.model_session.specs.Blocks.{Block}
 use Rattle.model_session.specs.Lives.{LifeState, AreLegal}
 use Rattle.model_session.specs.Standing.{SessionState, Standing, Stop, AreAllLives, AreStops, last_life}
@@ -41,10 +42,12 @@ IsOpenedBy (Down outage) system text disk = Unit {0}
 -- and the stops that are told, and each image that a crash of the disk may leave as it is handed back recovers to what the
 -- session's standing allows: the state after a front of the last life's lasting steps that has all that were answered, and
 -- while the system is up after all of them. Where a block could not be served since a counter is spent, or since the disk can't be
--- opened, that has its cause.
+-- opened, that has its cause. No more than a million blocks were served.
 pub record HasLived {D : Type 0} (state : D → DiskState) (system : System) (source : List ℕ) (told told' old new : Option (List ℕ)) (handed disk : D) (ended : Ended) (lives : List LifeState) (stops : List Stop) : Type 0 where
   pub blocks : List Block
   pub others : List Block
+  pub valid : IsSystem system
+  pub few : length blocks ≤ 1000000
   pub first : SessionState
   pub mid : SessionState
   pub last : SessionState

@@ -2,6 +2,7 @@
 use Rattle.std.specs.Prelude.{◌≡◌, ℕ, ◌++◌, ◌<◌, Bool, true, false, List, [], ◌∷◌, length, map, Option, Some, None, IfSome}
 use Rattle.model_disk.specs.Disk.{DiskState}
 use Rattle.model_system.specs.System.{System}
+use Rattle.system_types.specs.Valid.{IsSystem}
 use Rattle.control_life.specs.declared.life.Life.{Life}
 use Rattle.session_lives.specs.declared.called.Opening.{Opening}
 use Rattle.session_lives.specs.declared.called.Opening.TheVariants.{Opened, Broke, Refused, Memory as NoMemory, Spent as SpentCounter}
@@ -44,6 +45,7 @@ pub record HasBegun {D : Type 0} (state : D → DiskState) (system : System) (te
   pub kept : Kept
   pub lives : kept.lives.items ≡ []
   pub stops : kept.stops.items ≡ []
+  pub valid : IsSystem system
   pub gone : HasGone state idle kept false session opening
   pub ends : ended ≡ refusal opening
 
