@@ -55,7 +55,7 @@ use Rattle.session_lives.specs.declared.place.Session.{Session}
 use Rattle.session_lives.specs.Running.{life_of, last_of, last_up, kept_of, outage_of, session_at, session_of, session_down, setting_of, CountsDown, CountsFirst, LeadsBy, IsFoundAs, IsBrokenAs, IsRefusedFirst, Recalls, IsUnopened, IsOfText, Holds, IsUpSound, IsDownSound, IsSound, IsSoundAt, error_of}
 use Rattle.session_lives.specs.Counting.{CountsUp}
 use Rattle.session_lives.proofs.Counting.{stands_more}
-use Rattle.session_lives.specs.Openings.{how_of, kept_by, with_last, HasOpened, StaysIdle, HasFailed, HasGone, RefusesSpent, IsToldSo, IsRefusalTold, IsRestartedSo, UndoneBy, IsServedSo, restart_of}
+use Rattle.session_lives.specs.Openings.{how_of, kept_by, with_last, HasOpened, StaysIdle, HasFailed, HasGone, RefusesSpent, IsToldSo, IsRefusalTold, IsRestartedSo, IsLookedAt, UndoneBy, IsServedSo, restart_of}
 use Rattle.session_lives.proofs.Ends.{state_with, same_state, outage_with, life_with, same_life, stops_one, rose_from}
 
 some_is : (a b : Bool) → Some b ≡ Some a → a ≡ b
@@ -561,10 +561,23 @@ module _ {D : Type 0} (state : D → DiskState) (is_disk : (disk : D) → IsDisk
 
   -- ---- all of it
 
+  abbrev restart_asked : Bool → Asked
+  restart_asked true = ColdStart
+  restart_asked false = Restart
+
+  -- a cold start is refused by its size alone
+  looked_at : (cold : Bool) (refusal : ImageRefused) → Refuses (how_of cold) idle.system idle.text (state idle.disk) (error_of refusal) → IsLookedAt (restart_asked cold) refusal
+  looked_at true (Size needed has) refuses = tt
+  looked_at true (Rule rule sector) refuses = absurd (refuses.cold refl)
+  looked_at true (Text place) refuses = absurd (refuses.cold refl)
+  looked_at false (Size needed has) refuses = tt
+  looked_at false (Rule rule sector) refuses = tt
+  looked_at false (Text place) refuses = tt
+
   abbrev Restarted : Bool → List ℕ → Served → Type 0
   Restarted cold text Printed = IsRestarted cold setting before outage (session_of session) text
   Restarted cold text Broke = IsRestarted cold setting before outage (session_of session) broken_text
-  Restarted cold text (NotServed undone) = (session_of session ≡ before) × UndoneBy undone setting before
+  Restarted cold text (NotServed undone) = (session_of session ≡ before) × UndoneBy undone (restart_asked cold) setting before
 
   refused : (cold begun : Bool) (refusal : ImageRefused) (text : List ℕ) (served : Served) → is_some idle.last ≡ begun → StaysIdle state idle old session
       → Refuses (how_of cold) idle.system idle.text (state idle.disk) (error_of refusal) → IsRefusalTold begun refusal text served → Restarted cold text served
@@ -572,7 +585,7 @@ module _ {D : Type 0} (state : D → DiskState) (is_disk : (disk : D) → IsDisk
       subst (λ s. Restarted cold text s) (sym printed)
       (inr (inr (record { refusal = refusal; begun = some_last idle.last is; may = may_refuse cold refusal refuses is; stays = idle_state idles; printed = same })))
   refused cold false refusal text served is idles refuses undone =
-      subst (λ s. Restarted cold text s) (sym undone) (idle_state idles, (no_life is, refused_first cold refusal refuses (no_life is)))
+      subst (λ s. Restarted cold text s) (sym undone) (idle_state idles, ((no_life is, refused_first cold refusal refuses (no_life is)), looked_at cold refusal refuses))
 
   -- a life that opened, and a disk that failed
   pub opens_gone : (cold : Bool) → HasOpened state idle old cold session → OpensLife cold setting before outage (session_of session)
@@ -607,10 +620,12 @@ module _ {D : Type 0} (state : D → DiskState) (is_disk : (disk : D) → IsDisk
   served_restart : (asked : Asked) (text : List ℕ) (served : Served) (cold : Bool) → restart_of asked ≡ Some cold → Restarted cold text served → IsServedSo asked text served setting before (session_of session)
   served_restart Restart text Printed cold is one = subst (λ c. IsRestarted c setting before outage (session_of session) text) (some_is cold false is) one
   served_restart Restart text Broke cold is one = subst (λ c. IsRestarted c setting before outage (session_of session) broken_text) (some_is cold false is) one
-  served_restart Restart text (NotServed undone) cold is one = (one.0, subst (λ s. UndoneBy undone setting s) (sym one.0) one.1)
+  served_restart Restart text (NotServed undone) cold is one =
+      (one.0, subst (λ s. UndoneBy undone Restart setting s) (sym one.0) (subst (λ c. UndoneBy undone (restart_asked c) setting before) (some_is cold false is) one.1))
   served_restart ColdStart text Printed cold is one = subst (λ c. IsRestarted c setting before outage (session_of session) text) (some_is cold true is) one
   served_restart ColdStart text Broke cold is one = subst (λ c. IsRestarted c setting before outage (session_of session) broken_text) (some_is cold true is) one
-  served_restart ColdStart text (NotServed undone) cold is one = (one.0, subst (λ s. UndoneBy undone setting s) (sym one.0) one.1)
+  served_restart ColdStart text (NotServed undone) cold is one =
+      (one.0, subst (λ s. UndoneBy undone ColdStart setting s) (sym one.0) (subst (λ c. UndoneBy undone (restart_asked c) setting before) (some_is cold true is) one.1))
   served_restart (Bad rule) text served cold is one = cc
   served_restart (BadCommand rule) text served cold is one = cc
   served_restart (Stopped terminal number reason) text served cold is one = cc

@@ -33,7 +33,7 @@ use Rattle.counter_law.specs.Spent.{HasSpent, IsSpentAt}
 use Rattle.session_lives.specs.Counting.{CountsUp, KeepsPace}
 use Rattle.session_lives.specs.Running.{life_of, last_up, session_at, session_of, session_up, setting_of, CountsFirst, IsUpReady, IsUpSound, IsSound, IsSoundAt, IsReadyAt, LeadsBy}
 use Rattle.session_lives.specs.Asking.{IsAsked, IsFrozen, Does, Freezes, Fails, PowersOff, Undoes, IsSpentUp}
-use Rattle.session_lives.specs.Openings.{GoesOn, HasEndedLife, IsAloneBy, IsSettled, UndoneBy, IsServedSo}
+use Rattle.session_lives.specs.Openings.{GoesOn, HasEndedLife, IsAloneBy, IsSettled, IsServedSo}
 use Rattle.session_lives.proofs.Asked.{stays_so}
 use Rattle.session_lives.proofs.Counting.{counts_more}
 use Rattle.session_lives.proofs.Ends.{up_state, same_up, ended_state, broken_state, down_sound, stop_behind, no_stop}
@@ -283,8 +283,8 @@ module _ {D : Type 0} (state : D → DiskState) (system : System) (source : List
             record { epoch_low = stands.epoch; sequence_low = stands.sequence; checkpoint_low = stands.checkpoint; unit_low = stands.unit };
       })
 
-  spent_now_at : GoesOn b kept session → b.up ≡ true → IsSpentUp b → UndoneBy SpentCounter setting (session_of session)
-  spent_now_at on up spent = subst (λ s. UndoneBy SpentCounter setting s) (sym (goes_up on)) (has_spent up spent)
+  spent_now_at : GoesOn b kept session → b.up ≡ true → IsSpentUp b → IsSpentAt setting.counts setting (session_of session)
+  spent_now_at on up spent = subst (λ s. IsSpentAt setting.counts setting s) (sym (goes_up on)) (has_spent up spent)
 
   -- ---- all of it
 

@@ -213,19 +213,26 @@ abbrev pub MayRefuseAt : Setting → Standing → ImageRefused → Type 0
 MayRefuseAt setting (StandsUp life) refusal = ⊥
 MayRefuseAt setting (StandsDown outage) refusal = (outage.last ≡ None) × setting.refuses refusal
 
+-- a cold start looks at the size alone
+abbrev pub IsLookedAt : Asked → ImageRefused → Type 0
+IsLookedAt ColdStart (Size needed has) = Unit {0}
+IsLookedAt ColdStart (Rule rule sector) = ⊥
+IsLookedAt ColdStart (Text place) = ⊥
+IsLookedAt _ refusal = Unit {0}
+
 -- Why a block was not served: for want of memory; since a counter is spent; or since the disk can't be opened, which ends a session
 -- in which no life has begun.
-abbrev pub UndoneBy : Undone → Setting → SessionState → Type 0
-UndoneBy (Image refusal) setting new = MayRefuseAt setting new.standing refusal
-UndoneBy Memory setting new = Unit {0}
-UndoneBy Spent setting new = IsSpentAt setting.counts setting new
+abbrev pub UndoneBy : Undone → Asked → Setting → SessionState → Type 0
+UndoneBy (Image refusal) asked setting new = MayRefuseAt setting new.standing refusal × IsLookedAt asked refusal
+UndoneBy Memory asked setting new = Unit {0}
+UndoneBy Spent asked setting new = IsSpentAt setting.counts setting new
 
 -- What a block comes to: it was served, with the text that was printed, or that of a stop; or it was not, and only turns of a
 -- QUIET may stand of it.
 abbrev pub IsServedSo : Asked → List ℕ → Served → Setting → SessionState → SessionState → Type 0
 IsServedSo asked text Printed setting old new = IsServed asked setting old new text
 IsServedSo asked text Broke setting old new = IsServed asked setting old new broken_text
-IsServedSo asked text (NotServed undone) setting old new = IsBegunBy asked setting.system old old.standing new × UndoneBy undone setting new
+IsServedSo asked text (NotServed undone) setting old new = IsBegunBy asked setting.system old old.standing new × UndoneBy undone asked setting new
 
 -- a block that asks for a restart, and for a cold start or not
 abbrev pub restart_of : Asked → Option Bool

@@ -22,7 +22,7 @@ use Rattle.session_lives.proofs.Valid.{valid_opens}
 use Rattle.tm_session.specs.declared.outcome.Ended.{Ended}
 use Rattle.tm_session.specs.declared.outcome.Ended.TheVariants.{Done, Down as DownAtEnd, Image}
 use Rattle.tm_session.specs.Source.{definition_text}
-use Rattle.tm_session.specs.Outcome.{left_if, is_undone}
+use Rattle.tm_session.specs.Outcome.{left_if, is_undone, UndoneAs}
 use Rattle.tm_session.specs.Headline.{HasLived, HasSession, IsNeverOpened, IsOpenedBy, IsOpenedDisk, IsValidDisk}
 
 -- ---- counts
@@ -55,6 +55,10 @@ no_life_at : (setting : Setting) (standing : Standing) (refusal : ImageRefused) 
 no_life_at setting (Up life) refusal may = absurd may
 no_life_at setting (Down outage) refusal may = may.0
 
+no_life_as : (others : List Block) (setting : Setting) (last : SessionState) (refusal : ImageRefused) → UndoneAs (Image refusal) others setting last → last_life last.standing ≡ None
+no_life_as [] setting last refusal never = absurd never
+no_life_as (block ∷ others) setting last refusal (may, looked) = no_life_at setting last.standing refusal may
+
 module _ {D : Type 0} (state : D → DiskState) (system : System) (source : List ℕ) (handed disk : D) (told left old new : Option (List ℕ)) (lives : List LifeState) (stops : List Stop) where
   lived_stops : (ended : Ended) (h : HasLived state system source told left old new handed disk ended lives stops) → HasStops h.last
   lived_stops ended h =
@@ -65,7 +69,7 @@ module _ {D : Type 0} (state : D → DiskState) (system : System) (source : List
 
   never_refused : (refusal : ImageRefused) → HasLived state system source told left old new handed disk (Image refusal) lives stops → stops ≡ [] → ⊥
   never_refused refusal h none =
-      (lived_stops (Image refusal) h).unbegun (no_life_at (setting_of state system source handed) h.last.standing refusal h.undone) (sym h.stops_are ∙ none)
+      (lived_stops (Image refusal) h).unbegun (no_life_as h.others (setting_of state system source handed) h.last refusal h.undone) (sym h.stops_are ∙ none)
 
   -- a session without a stop has opened its disk
   begun_or : (first : SessionState) → Begins (setting_of state system source handed) first → HasStop first ⊎ IsUpAtFirst first.standing

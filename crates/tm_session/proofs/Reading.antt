@@ -264,7 +264,7 @@ stopped_begun ended (inl stopped) = λ e. let never : Stopped ≡ NotBegun = sym
 stopped_begun ended (inr memory) = subst (λ s. ending_of s ≢ NotBegun) (sym memory) (λ e. cc)
 
 -- what ends between two lines is no block that could not be served
-stopped_cause : (ended : Ended) (setting : Setting) (last : SessionState) → (ending_of ended ≡ Stopped) ⊎ (ended ≡ Memory) → UndoneAs ended setting last
+stopped_cause : (ended : Ended) (setting : Setting) (last : SessionState) → (ending_of ended ≡ Stopped) ⊎ (ended ≡ Memory) → UndoneAs ended [] setting last
 stopped_cause Done setting last why = tt
 stopped_cause Down setting last why = tt
 stopped_cause Read setting last why = tt

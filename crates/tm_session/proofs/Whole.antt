@@ -264,7 +264,7 @@ module _ {D : Type 0} (state : D → DiskState) (system : System) (source : List
     enough = rest.enough;
     session = driven.stops.served;
     unprinted = by_stopped (λ s. left_by s system driven.others driven.stops.mid last) stopped ended driven.stops.unprinted (λ one. one);
-    undone = by_stopped (λ s. UndoneAs s (setting_of state system source handed) last) stopped ended driven.stops.undone (λ one. tt);
+    undone = by_stopped (λ s. UndoneAs s driven.others (setting_of state system source handed) last) stopped ended driven.stops.undone (λ one. tt);
     read = by_stopped (λ s. HasReadTold told left driven.blocks driven.others s) stopped ended (whole_session ended told mid held left texts driven.blocks driven.others definition driven.read)
         (read_down told left driven.blocks driven.others);
     written = by_stopped (λ s. HasWritten w w' driven.stops.text s) stopped ended driven.stops.printed (λ one. one);

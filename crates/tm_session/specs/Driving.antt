@@ -31,7 +31,7 @@ pub record Stops (setting : Setting) (ended : Ended) (blocks others : List Block
   pub text : List ℕ
   pub served : AreServed setting blocks old mid text
   pub unprinted : left_by ended setting.system others mid new
-  pub undone : UndoneAs ended setting new
+  pub undone : UndoneAs ended others setting new
   pub printed : HasWritten written written' text ended
 
 -- serving this block failed: its text was not written whole, or it could not be served

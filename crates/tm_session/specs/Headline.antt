@@ -58,7 +58,7 @@ pub record HasLived {D : Type 0} (state : D → DiskState) (system : System) (so
   pub enough : is_some (last_life last.standing) ≡ true → HasSectors system (state handed)
   pub session : AreServed (setting_of state system source handed) blocks first mid text
   pub unprinted : left_by ended system others mid last
-  pub undone : UndoneAs ended (setting_of state system source handed) last
+  pub undone : UndoneAs ended others (setting_of state system source handed) last
   pub read : HasReadTold told told' blocks others ended
   pub written : HasWritten old new text ended
   pub lives_are : AreAllLives system last lives
