@@ -1,5 +1,5 @@
 -- A session: for each block of its lines where it leads, and what is printed for it.
-use Rattle.std.specs.Prelude.{◌≡◌, ◌⊎◌, ℕ, Bool, true, false, List, [], ◌∷◌, ◌++◌, length}
+use Rattle.std.specs.Prelude.{◌≡◌, ◌⊎◌, ℕ, Bool, true, false, None, List, [], ◌∷◌, ◌++◌, length}
 use Rattle.std.specs.Option.{is_some}
 use Rattle.model_machine.specs.declared.entry.Entry.{Entry}
 use Rattle.model_machine.specs.declared.entry.ControlCall.{ControlCall}
@@ -83,11 +83,19 @@ abbrev pub MayOpen : Bool → Setting → Outage → ℕ → LastingState → Ty
 MayOpen false setting outage kept state = MayBeFound setting outage kept state
 MayOpen true setting outage kept state = (state ≡ empty_state setting.system) × LastAnswered setting.system outage.last kept
 
--- A life opened. Of a disk that doesn't tell its contents nothing is known.
+-- The first life is to open what was handed in, and no cold start has emptied it since.
+pub record OpensFirst (cold : Bool) (outage : Outage) : Type 0 where
+  pub found : cold ≡ false
+  pub first : outage.last ≡ None
+  pub not_emptied : outage.emptied ≡ false
+
+-- A life opened. Of a disk that doesn't tell its contents nothing is known. What was handed in is opened only where it is of the
+-- definition's text.
 pub record Opens (cold : Bool) (setting : Setting) (old : SessionState) (outage : Outage) (new : SessionState) : Type 0 where
   pub kept : ℕ
   pub state : LastingState
   pub may : setting.tells ≡ true → MayOpen cold setting outage kept state
+  pub right : setting.tells ≡ true → OpensFirst cold outage → setting.right_text
   pub goes : new ≡ opened old outage kept state
 
 -- The disk failed in the opening.

@@ -7,13 +7,14 @@ use Rattle.model_session.specs.declared.asked.ImageRefused.{ImageRefused}
 use Rattle.model_session.specs.Lives.{LifeState, LastLife, now_in, longer, with_life, HasAnswered, Leaves}
 
 -- A session's system; whether its disk can be told to stop at a write to come, and whether it tells its contents; the
--- states that the disk recovers to as it is handed in, of which there is one at most; why it is refused as it is handed in; and the
--- bounds that none of the disk's own counters is above then.
+-- states that the disk recovers to as it is handed in, of which there is one at most; whether it is of the definition's text then, and
+-- why it is refused; and the bounds that none of the disk's own counters is above then.
 pub record Setting : Type 1 where
   pub system : System
   pub can_arm : Bool
   pub tells : Bool
   pub begins : LastingState → Type 0
+  pub right_text : Type 0
   pub refuses : ImageRefused → Type 0
   pub counts : ℕ → Type 0
 

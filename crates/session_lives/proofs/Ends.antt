@@ -132,6 +132,10 @@ module _ (system : System) (life : LastLife) where
       → state ≡ (moment_after system (start_of system life.opening) before).lasting → Leaves system life (state.steps - life.opening.steps) state
   leaves_before state before entry all fault is = record { front = before; rest = entry ∷ []; split = all; unanswered = rw fault refl; left = is; counted = refl }
 
+has_ended : (life : Life) (last : Option Life) → last ≡ Some life → option_map last_of last ≡ None → ⊥
+has_ended life None is none = cc
+has_ended life (Some other) is none = cc
+
 -- of faults it has the disk's alone
 disk_by : (up : Bool) (control : ControlState) (text : List ℕ) (disk : DiskState) → LastsBy up control text disk
     → (legal : IsLegal control.system (start_of control.system control.opening) control.history) (entry : Entry) → legal.last ≡ Some entry → is_disk_fault entry ≡ true
@@ -224,8 +228,11 @@ module _ {D : Type 0} (state : D → DiskState) (system : System) (source : List
         text_is = down.closes.text_is ∙ text_is;
         size = λ begun. size;
         texts = λ image left.
-            inl (subst (λ (t : List ℕ). HasText system t image) text_is (subst (λ (s : System). HasText s c.text image) system_is
-            (texts_by c.up image down.lasts (subst (λ d. (state d).may_leave image) down.closes.disk_is (down.laid.no_more image left)))));
+            inl (record {
+              has_text = subst (λ (t : List ℕ). HasText system t image) text_is (subst (λ (s : System). HasText s c.text image) system_is
+                  (texts_by c.up image down.lasts (subst (λ d. (state d).may_leave image) down.closes.disk_is (down.laid.no_more image left))));
+              first = λ yet. absurd (has_ended down.life idle.last down.last yet.first);
+            });
         stays = stays_on (state handed) (state down.disk) (state idle.disk) disk down.laid.stays;
         stops = subst (λ n. AreStops (state handed).faults new.stops.items n) (sym faults) stops;
         legal = subst (λ l. AreLegal system l) (sym (same_kept old new down.lives)) legal;

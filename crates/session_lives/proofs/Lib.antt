@@ -6,6 +6,7 @@ pub mod Blocks
 pub mod Ends
 pub mod Leading
 pub mod Refusals
+pub mod Told
 pub mod Restarted
 pub mod Serving
 pub mod Remaining

@@ -21,7 +21,7 @@ use Rattle.model_session.specs.Lives.{LifeState, LastLife, AreLegal, Leaves, wit
 use Rattle.model_session.specs.Standing.{Setting, Standing, Outage, SessionState, Stop, AreStops, IsEmptied, MayBeFound, MayHold, LastAnswered, IsLeft, or_cold, opened, failed}
 use Rattle.model_session.specs.Standing.Standing.{Up as StandsUp, Down as StandsDown}
 use Rattle.model_session.proofs.Kept.{kept_has}
-use Rattle.model_session.specs.Session.{MayOpen, MayRefuse, IsRestarted, Opens as OpensLife, FailsToOpen}
+use Rattle.model_session.specs.Session.{MayOpen, MayRefuse, OpensFirst, IsRestarted, Opens as OpensLife, FailsToOpen}
 use Rattle.restart_data.specs.Restart.{restart_in}
 use Rattle.model_machine.specs.declared.counts.Counter.{Counter}
 use Rattle.model_image.specs.Areas.{snapshot_area}
@@ -52,9 +52,10 @@ use Rattle.session_lives.specs.declared.place.Idle.{Idle}
 use Rattle.session_lives.specs.declared.place.Place.TheVariants.{Up, Down}
 use Rattle.session_lives.specs.declared.place.Kept.{Kept}
 use Rattle.session_lives.specs.declared.place.Session.{Session}
-use Rattle.session_lives.specs.Running.{life_of, last_of, last_up, kept_of, outage_of, session_at, session_of, session_down, setting_of, CountsDown, CountsFirst, LeadsBy, IsFoundAs, IsBrokenAs, IsRefusedFirst, Recalls, IsUnopened, IsOfText, Holds, IsUpSound, IsDownSound, IsSound, IsSoundAt, error_of}
+use Rattle.session_lives.specs.Running.{life_of, last_of, last_up, kept_of, outage_of, session_at, session_of, session_down, setting_of, CountsDown, CountsFirst, LeadsBy, IsFoundAs, IsBrokenAs, IsRefusedFirst, Recalls, IsUnopened, IsOfDefinition, IsRight, IsOfText, Holds, IsUpSound, IsDownSound, IsSound, IsSoundAt, error_of}
 use Rattle.session_lives.specs.Counting.{CountsUp}
 use Rattle.session_lives.proofs.Counting.{stands_more}
+use Rattle.session_lives.proofs.Told.{told_text}
 use Rattle.session_lives.specs.Openings.{how_of, kept_by, with_last, HasOpened, StaysIdle, HasFailed, HasGone, RefusesSpent, IsToldSo, IsRefusalTold, IsRestartedSo, IsLookedAt, UndoneBy, IsServedSo, restart_of}
 use Rattle.session_lives.proofs.Ends.{state_with, same_state, outage_with, life_with, same_life, stops_one, rose_from}
 
@@ -69,6 +70,9 @@ ok_is a b e = cc
 
 pub ok_or_err : (a : LastingState) (fault : Fault) → SameAnswer (Ok a) (Err fault) → ⊥
 ok_or_err a fault e = cc
+
+no_true : true ≡ false → ⊥
+no_true e = cc
 
 higher : (least kept more : ℕ) → least ≤ kept → kept ≡ more → kept ≡ max least more
 higher least kept more less same = omega (arith, less, same)
@@ -309,15 +313,30 @@ module _ {D : Type 0} (state : D → DiskState) (is_disk : (disk : D) → IsDisk
   outage_behind cold = outage_with outage.last (or_cold cold outage.emptied) true
 
   -- its text
+  -- where the disk that was handed in may be opened yet, so it was before
+  yet_before : (cold : Bool) → OpensFirst false (outage_behind cold) → OpensFirst false outage
+  yet_before false yet = record { found = refl; first = yet.first; not_emptied = yet.not_emptied }
+  yet_before true yet = absurd (no_true yet.not_emptied)
+
   text_same : (cold : Bool) (first image : Image) → image ≡ first → IsOfText state system source handed (StandsDown outage) first → IsOfText state system source handed (StandsDown (outage_behind cold)) image
-  text_same cold first image same (inl has) = inl (subst (λ (i : Image). HasText system source i) (sym same) has)
+  text_same cold first image same (inl right) =
+      inl (record { has_text = subst (λ (i : Image). HasText system source i) (sym same) right.has_text; first = λ yet. right.first (yet_before cold yet) })
   text_same cold first image same (inr there) = inr (record { no_life = there.no_life; left = subst (λ (i : Image). (state handed).may_leave i) (sym same) there.left })
+
+  -- each image that was handed in is of a text that one of them has
+  handed_text : (one : Image) → (state handed).may_leave one → HasText system source one → IsOfDefinition system source (state handed)
+  handed_text one there has image left = subst (λ (i : Image). HasText system source i) (sound.handed_alone one there ∙ sym (sound.handed_alone image left)) has
+
+  text_kept : (first image : Image) → HasText system source first → HasText system source image → IsOfText state system source handed (StandsDown outage) first
+      → IsRight state system source handed (StandsDown (outage_behind false)) image
+  text_kept first image had has (inl right) = record { has_text = has; first = λ yet. right.first (yet_before false yet) }
+  text_kept first image had has (inr there) = record { has_text = has; first = λ yet. handed_text first there.left had }
 
   text_by : (cold : Bool) (first image : Image) → KeepsBy (how_of cold) system source first image → IsOfText state system source handed (StandsDown outage) first
       → IsOfText state system source handed (StandsDown (outage_behind cold)) image
-  text_by false first image keeps text = ⊎_elim (λ same. text_same false first image same text) (λ has. inl has) keeps.texts
+  text_by false first image keeps text = ⊎_elim (λ same. text_same false first image same text) (λ both. inl (text_kept first image both.0 both.1 text)) keeps.texts
   text_by true first image (inl same) text = text_same true first image same text
-  text_by true first image (inr empty) text = inl empty.has_text
+  text_by true first image (inr empty) text = inl (record { has_text = empty.has_text; first = λ yet. absurd (no_true yet.not_emptied) })
 
   failed_from : (cold : Bool) (gone : HasFailed state idle old cold session) (image : Image) → (state gone.after.disk).may_leave image → ComesFrom (KeepsBy (how_of cold) system source) (state idle.disk) image
   failed_from cold gone image left =
@@ -440,7 +459,7 @@ module _ {D : Type 0} (state : D → DiskState) (is_disk : (disk : D) → IsDisk
   shown_text tells = sound.texts (state idle.disk).shown ((is_disk idle.disk).shown_left (tells_now tells))
 
   no_text : (place : ℕ) → Refuses (how_of false) idle.system idle.text (state idle.disk) (error_of (Text place)) → is_some idle.last ≡ true → setting.tells ≡ true → ⊥
-  no_text place refuses begun tells = ⊎_elim (λ text. no_other place refuses tells text) (λ there. never_none idle.last begun there.no_life) (shown_text tells)
+  no_text place refuses begun tells = ⊎_elim (λ right. no_other place refuses tells right.has_text) (λ there. never_none idle.last begun there.no_life) (shown_text tells)
 
   may_refuse : (cold : Bool) (refusal : ImageRefused) → Refuses (how_of cold) idle.system idle.text (state idle.disk) (error_of refusal) → is_some idle.last ≡ true → MayRefuse setting.tells refusal
   may_refuse cold (Size needed has) refuses begun = no_size cold needed has refuses begun
@@ -513,7 +532,7 @@ module _ {D : Type 0} (state : D → DiskState) (is_disk : (disk : D) → IsDisk
           (subst (λ s. IsOther s idle.text (state idle.disk).shown place) sound.system_is (refuses.found refl (tells_now tells)))
 
       of : setting.tells ≡ true → IsOfText state system source handed (StandsDown outage) (state idle.disk).shown → IsOther system source image place
-      of tells (inl text) = absurd (no_other place refuses tells text)
+      of tells (inl right) = absurd (no_other place refuses tells right.has_text)
       of tells (inr shown) =
           subst (λ (i : Image). IsOther system source i place) (sound.handed_alone (state idle.disk).shown shown.left ∙ sym (sound.handed_alone image there)) (shown_other tells)
 
@@ -587,12 +606,29 @@ module _ {D : Type 0} (state : D → DiskState) (is_disk : (disk : D) → IsDisk
   refused cold false refusal text served is idles refuses undone =
       subst (λ s. Restarted cold text s) (sym undone) (idle_state idles, ((no_life is, refused_first cold refusal refuses (no_life is)), looked_at cold refusal refuses))
 
+  -- what was handed in is opened only where it is of the definition's text
+  right_first : (cold : Bool) (gone : HasOpened state idle old cold session) → setting.tells ≡ true → OpensFirst cold outage → setting.right_text
+  right_first cold gone tells yet = of (shown_text tells)
+    where
+      told : TellsOpening idle.system idle.text (state idle.disk).shown (Ok (gone.opens.begins.parts, gone.control.control.opening))
+      told = gone.opens.begins.found (ap how_of yet.found) (tells_now tells)
+
+      has : HasText system source (state idle.disk).shown
+      has =
+          subst (λ (t : List ℕ). HasText system t (state idle.disk).shown) sound.text_is
+          (subst (λ s. HasText s idle.text (state idle.disk).shown) sound.system_is (told_text idle.system idle.text (state idle.disk).shown gone.opens.begins.parts gone.control.control.opening told))
+
+      of : IsOfText state system source handed (StandsDown outage) (state idle.disk).shown → IsOfDefinition system source (state handed)
+      of (inl right) = right.first (record { found = refl; first = yet.first; not_emptied = yet.not_emptied })
+      of (inr there) = handed_text (state idle.disk).shown there.left has
+
   -- a life that opened, and a disk that failed
   pub opens_gone : (cold : Bool) → HasOpened state idle old cold session → OpensLife cold setting before outage (session_of session)
   opens_gone cold gone = record {
     kept = count_of idle.last cold gone.control.control.opening.steps;
     state = gone.control.control.opening;
     may = λ tells. may_open cold gone.control.control.opening gone.control.journal gone.control.next_unit gone.opens.begins tells;
+    right = right_first cold gone;
     goes = opened_state cold gone;
   }
 

@@ -9,6 +9,7 @@ use Rattle.model_image.specs.Alike.{RecoversAlike}
 use Rattle.model_session.specs.Lives.{LifeState, LastLife, AreLegal}
 use Rattle.model_session.specs.Standing.{Setting, Outage, Standing, SessionState, LastAnswered, MayHold, HasNoLife, AreStops}
 use Rattle.model_session.specs.Standing.Standing.{Up as StandsUp, Down as StandsDown}
+use Rattle.model_session.specs.Session.{OpensFirst}
 use Rattle.model_session.specs.declared.asked.ImageRefused.{ImageRefused}
 use Rattle.model_session.specs.declared.asked.ImageRefused.TheVariants.{Rule, Text as OtherText, Size}
 use Rattle.cold_start.specs.FirstImage.{sectors_needed}
@@ -101,6 +102,10 @@ pub record IsRefusedFirst {D : Type 0} (state : D → DiskState) (system : Syste
   pub size : SizeFirst system (state handed).size (Err (error_of refusal))
   pub images : (image : Image) → (state handed).may_leave image → IsRefusedAs system source image refusal
 
+-- each image that a crash may leave of the disk is of the definition's text
+abbrev pub IsOfDefinition : System → List ℕ → DiskState → Type 0
+IsOfDefinition system source disk = (image : Image) → disk.may_leave image → HasText system source image
+
 -- each image that a crash may leave of the disk counts up to a bound
 abbrev pub CountsDown : System → ℕ → DiskState → Type 0
 CountsDown system high disk = (image : Image) → disk.may_leave image → CountsUpTo system high image
@@ -117,6 +122,7 @@ setting_of state system source handed = record {
   can_arm = (state handed).can_arm;
   tells = (state handed).tells;
   begins = λ opening. (image : Image) → (state handed).may_leave image → IsFoundAs system image opening;
+  right_text = IsOfDefinition system source (state handed);
   refuses = λ refusal. IsRefusedFirst state system source handed refusal;
   counts = λ high. CountsFirst system high (state handed);
 }
@@ -206,8 +212,18 @@ pub record IsHanded {D : Type 0} (state : D → DiskState) (handed : D) (standin
   pub no_life : HasNoLife standing
   pub left : (state handed).may_leave image
 
+-- an opening of the disk that was handed in may come yet
+abbrev pub IsStillFirst : Standing → Type 0
+IsStillFirst (StandsUp life) = ⊥
+IsStillFirst (StandsDown outage) = OpensFirst false outage
+
+-- It is of that text; and while the disk that was handed in may be opened yet, so was that.
+pub record IsRight {D : Type 0} (state : D → DiskState) (system : System) (source : List ℕ) (handed : D) (standing : Standing) (image : Image) : Type 0 where
+  pub has_text : HasText system source image
+  pub first : IsStillFirst standing → IsOfDefinition system source (state handed)
+
 abbrev pub IsOfText : {D : Type 0} → (D → DiskState) → System → List ℕ → D → Standing → Image → Type 0
-IsOfText state system source handed standing image = HasText system source image ⊎ IsHanded state handed standing image
+IsOfText state system source handed standing image = IsRight state system source handed standing image ⊎ IsHanded state handed standing image
 
 -- The system is down, and the disk holds what the outage allows. Once a life has begun it has sectors enough. It counts no further
 -- than up to where it counted when it was handed in, and 4,096 more for each opening, entry and stop.
