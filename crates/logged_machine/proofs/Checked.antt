@@ -101,5 +101,5 @@ is_taken state old new images r = record {
 -- one that was not taken
 pub stays_untaken : {D : Type 0} (state : D → DiskState) (old new : LoggedState D) (fault : ControlFault) → Unrefreshed state old new fault → StaysUntaken (Fault fault) old new
 stays_untaken state old new Memory u = u
-stays_untaken state old new Disk u = u.0.served
+stays_untaken state old new Disk u = u.broke.served
 stays_untaken state old new (Spent counter) u = u

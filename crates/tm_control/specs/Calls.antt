@@ -105,8 +105,9 @@ CrashesSo state (Some (Spent counter)) old new entry = CrashesAlone state old ne
 abbrev pub parts_now : {D : Type 0} → ControlOnDisk D → PartsState
 parts_now c = record { system = c.control.system; moment = now_of c.control; databases = c.databases }
 
--- A call that leaves 32 sectors of the log's area free with its own records takes no checkpoint, and writes to the log alone:
--- no more sectors than what was appended takes, and none where no step lasts of it.
+-- A call that appends no bytes of its own, or leaves 32 sectors of the log's area free with them, takes no checkpoint, and writes
+-- to the log alone: no more sectors than what was appended takes, and none where no step lasts of it. Any other takes one
+-- checkpoint, in so many sectors at most, and from there does the same.
 abbrev pub WritesFrugally : {D : Type 0} → (D → DiskState) → Option ControlFault → ControlOnDisk D → ControlOnDisk D → Entry → Type 0
 WritesFrugally state fault old new entry = IsFrugal state fault (parts_now old) old.units (call_of entry) old.journal new.journal old.disk new.disk
 
