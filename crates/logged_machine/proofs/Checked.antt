@@ -22,8 +22,8 @@ use Rattle.disk_law.specs.Journal.{JournalState}
 use Rattle.tm_machine.specs.Answers.{IsAnswered}
 use Rattle.tm_machine.specs.Parts.{PartsState}
 use Rattle.parts_life.specs.Logged.{IsLogged}
-use Rattle.machine_checkpoint.specs.Taking.{TakesNext}
-use Rattle.logged_machine.specs.Taken.{HasNumber, IsTaken, StaysUntaken, again}
+use Rattle.machine_checkpoint.specs.Taking.{TakesNext, checkpoint_sectors}
+use Rattle.logged_machine.specs.Taken.{HasNumber, IsTaken, LeavesSettled, StaysUntaken, WritesCheckpoint, again}
 use Rattle.logged_machine.specs.Doing.{Did, Refreshed, Unrefreshed}
 use Rattle.logged_machine.specs.Logged.{LoggedState}
 
@@ -97,6 +97,22 @@ is_taken state old new images r = record {
   synced = r.synced;
   takes = subst (λ (s : System). TakesNext s old.journal new.journal) (sym r.keeps.system) r.takes;
 }
+
+pub leaves_settled : {D : Type 0} (state : D → DiskState) (old new : LoggedState D) → Refreshed state old new
+    → LeavesSettled old.machine.databases new.machine.databases old.units new.units old.next_unit new.next_unit
+leaves_settled state old new r = record { databases = ap (λ (p : PartsState). p.databases) r.machine; units = r.units; next_unit = r.unit }
+
+-- how much one writes that was not taken
+pub untaken_most : {D : Type 0} (state : D → DiskState) (old new : LoggedState D) (fault : ControlFault) → Unrefreshed state old new fault
+    → WritesCheckpoint old.machine.system old.machine.databases.changed old.journal (state old.disk) (state new.disk)
+untaken_most state old new Memory same =
+    subst (λ (l : LoggedState _). WritesCheckpoint old.machine.system old.machine.databases.changed old.journal (state old.disk) (state l.disk)) (sym same)
+    (same_most (state old.disk).writes (checkpoint_sectors old.machine.system old.machine.databases.changed old.journal))
+  where
+    same_most : (n m : ℕ) → n ≤ n + m
+    same_most n m = omega arith
+untaken_most state old new Disk u = u.most
+untaken_most state old new (Spent counter) u = absurd u
 
 -- one that was not taken
 pub stays_untaken : {D : Type 0} (state : D → DiskState) (old new : LoggedState D) (fault : ControlFault) → Unrefreshed state old new fault → StaysUntaken (Fault fault) old new

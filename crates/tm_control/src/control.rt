@@ -15,7 +15,7 @@ ghost use Rattle.lasting_state.specs.Showing.{IsShownTo};
 ghost use Rattle.control_life.specs.Faults.{fault_in};
 ghost use Rattle.control_life.specs.Opened.{HandsBack};
 ghost use Rattle.logged_machine.specs.Logged.{LastsNow};
-ghost use Rattle.logged_machine.specs.Taken.{IsTaken};
+ghost use Rattle.logged_machine.specs.Taken.{IsTaken, LeavesSettled, WritesCheckpoint};
 ghost use Rattle.tm_control.specs.OnDisk.{Lasts, spent_now};
 ghost use Rattle.tm_control.specs.Calls.{StaysSo, Shows, AddsBy, CountsSince, CrashesSo, KeepsLog, RaisesBy, SpentBy, StaysSpent, StaysUndone, StaysUntaken, WritesFrugally};
 ghost use Rattle.tm_control.specs.Closed.{Opens, Closes};
@@ -347,7 +347,8 @@ impl<D: Disk> Control<D> {
         answer
     }
 
-    /// Takes a checkpoint, of which it answers the number. Before a freeze no region may work on a message.
+    /// Takes a checkpoint, of which it answers the number. Before a freeze no region may work on a message. No slot counts as
+    /// changed behind it.
     pub fn checkpoint(&mut self, freeze: bool) -> Result<u64, CheckpointRefused>
         requires up { self.old.up ≡ true }
         ensures adds { AddsBy D.state (fault_in (Checked freeze result)) self.old self.new (Checked freeze result) }
@@ -360,6 +361,8 @@ impl<D: Disk> Control<D> {
         ensures counts { CountsSince D.state (2 * self.old.control.system.logs) self.old self.new }
         ensures stays { StaysSo D.state self.old self.new }
         ensures taken { IfOk result (λ number. IsTaken self.new.control.system number self.old.journal self.new.journal (D.state self.new.disk)) }
+        ensures settled { OnOk result (LeavesSettled self.old.databases self.new.databases self.old.units self.new.units self.old.next_unit self.new.next_unit) }
+        ensures writes { WritesCheckpoint self.old.control.system self.old.databases.changed self.old.journal (D.state self.old.disk) (D.state self.new.disk) }
         ensures refused { IfErr result (λ refusal. StaysUntaken refusal self.old self.new (Checked freeze result)) }
     {
         if let Some(counter) = self.machine.spent() {

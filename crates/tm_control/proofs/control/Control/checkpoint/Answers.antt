@@ -105,3 +105,9 @@ returns-in-Some-clause-counts g c = rw (sym c.self.view_is)
 pub returns-then-is_err-clause-counts : goal.returns-then-is_err-clause-counts
 returns-then-is_err-clause-counts g c = rw (sym c.self.view_is)
     (still_counts g.D.Disk.state c.self.inside.machine c.self.inside.opening c.self.inside.history.items 0 0 c.self.inside.began (ap (λ (v : ControlOnDisk _). v.up) c.self.view_is ∙ c.requires.up) c.spent.ensures.lasts (g.met.D.Disk.is_disk c.self.inside.machine.disk))
+
+pub returns-clause-settled : goal.returns-clause-settled
+returns-clause-settled g c = rw (sym c.self.view_is) c.checkpoint-answer.ensures.settled
+
+pub returns-clause-writes : goal.returns-clause-writes
+returns-clause-writes g c = rw (sym c.self.view_is) c.checkpoint-answer.ensures.writes
