@@ -14,10 +14,11 @@ ghost use Rattle.model_machine.specs.History.{AddsNothing, now_of};
 ghost use Rattle.lasting_state.specs.Showing.{IsShownTo};
 ghost use Rattle.control_life.specs.Faults.{fault_in};
 ghost use Rattle.control_life.specs.Opened.{HandsBack};
+ghost use Rattle.tm_machine.specs.OnSlots.{HasSlots};
 ghost use Rattle.logged_machine.specs.Logged.{LastsNow};
 ghost use Rattle.logged_machine.specs.Taken.{IsTaken, LeavesSettled, WritesCheckpoint};
 ghost use Rattle.tm_control.specs.OnDisk.{Lasts, spent_now};
-ghost use Rattle.tm_control.specs.Calls.{StaysSo, Shows, AddsBy, CountsSince, CrashesSo, KeepsLog, RaisesBy, SpentBy, StaysSpent, StaysUndone, StaysUntaken, WritesFrugally};
+ghost use Rattle.tm_control.specs.Calls.{StaysSo, Shows, AddsBy, CountsSince, CrashesSo, KeepsLog, RaisesBy, SpentBy, StaysSpent, StaysUndone, StaysUntaken, WritesFrugally, parts_now};
 ghost use Rattle.tm_control.specs.Closed.{Opens, Closes};
 ghost use Rattle.tm_control.specs.contracts.control.Control.{the_row};
 
@@ -116,6 +117,7 @@ impl<D: Disk> Control<D> {
     pub fn is_up(&self) -> bool
         ensures value { result ≡ self.now.up }
         ensures lasts { Lasts D.state self.now }
+        ensures slots { self.now.up ≡ true → HasSlots (parts_now self.now) }
     {
         self.machine.is_served()
     }
