@@ -21,6 +21,6 @@ pub record AreUpTo (system : System) (high : ℕ) (image : Image) (restart : Res
 abbrev pub CountsUpTo : System → ℕ → Image → Type 0
 CountsUpTo system high image = (restart : RestartSector) → restart_in (snapshot_area system) image ≡ Ok (Some restart) → AreUpTo system high image restart
 
--- The counters rise by so much at most from one image to another.
+-- Where no counter of the first image is above a bound, none of the second is by more than so much.
 abbrev pub RaisesCounts : ℕ → System → Image → Image → Type 0
 RaisesCounts more system before after = (high : ℕ) → CountsUpTo system high before → CountsUpTo system (high + more) after

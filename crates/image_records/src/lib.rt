@@ -2,8 +2,8 @@
 //!
 //! Bytes are cut into records; their order, the terminals and codes of a snapshot, and the numbers, messages and replies of
 //! what lasts are judged as the definition of an image says (specs of `model_image`). `read_records` reads a snapshot whole: it
-//! answers the tables of what lasts, or the lowest rule that is broken. What doing the log again is to answer stands in
-//! specs/Answers; that call isn't there yet.
+//! answers the tables of what lasts, or the lowest rule that is broken. What doing the log again answers stands in
+//! specs/Answers, and `log_replay` does it.
 #![tactic(auto)]
 
 pub use cutting::{CutRecords, cut};

@@ -1,5 +1,5 @@
 //! How many bytes messages and replies count.
-ghost use Rattle.std.specs.Prelude.{◌≡◌, ◌≤◌, ◌^◌, IfSome};
+ghost use Rattle.std.specs.Prelude.{◌≡◌, ◌≤◌, ◌<◌, ◌^◌, IfNone, IfSome};
 ghost use Rattle.tm_types.specs.Segment.{counted_bytes};
 
 use tm_types::Segments;
@@ -10,7 +10,8 @@ const BYTE_LIMIT: u64 = 1 << 60;
 
 /// The bytes that a message or a reply of these segments counts, or None where they pass the limit of all counts of bytes.
 pub fn bytes_of(segments: &Segments) -> Option<u64>
-    ensures { IfSome result (λ bytes. (bytes ≡ counted_bytes segments.now) × (bytes ≤ 2 ^ 60)) }
+    ensures within { IfSome result (λ bytes. (bytes ≡ counted_bytes segments.now) × (bytes ≤ 2 ^ 60)) }
+    ensures beyond { IfNone result (2 ^ 60 < counted_bytes segments.now) }
 {
     let mut bytes: u64 = 48;
     for segment in segments.iter() {

@@ -1,5 +1,5 @@
 //! The commands of an operator that last.
-ghost use Rattle.std.specs.Prelude.{◌≡◌, ◌↔◌, ◌++◌, Some, OnOk};
+ghost use Rattle.std.specs.Prelude.{◌≡◌, ◌↔◌, ◌++◌, Some, length, take, OnOk, OnErr};
 ghost use Rattle.tm_types.specs.Commands as spec;
 
 use crate::{Memory, Name, first_word, operands};
@@ -32,9 +32,10 @@ impl LastingCommand {
         command_of(text)
     }
 
-    /// Adds the command's spelling at the end.
+    /// Adds the command's spelling at the end, or nothing where there is no memory.
     pub fn write(&self, out: &mut Vec<u8>) -> Result<(), Memory>
-        ensures { OnOk result (out.new.items ≡ out.old.items ++ spec.spelling self.now) }
+        ensures written { OnOk result (out.new.items ≡ out.old.items ++ spec.spelling self.now) }
+        ensures unwritten { OnErr result (out.new.items ≡ out.old.items) }
     {
         match self {
             LastingCommand::StartTransaction(code) => write_around(
@@ -154,9 +155,23 @@ fn read_purge(text: &[u8]) -> Option<LastingCommand>
     }
 }
 
-/// Adds a name with what stands before it and behind it.
+/// Adds a name with what stands before it and behind it, or nothing.
 fn write_around(out: &mut Vec<u8>, before: &[u8], name: &Name, behind: &[u8]) -> Result<(), Memory>
-    ensures { OnOk result (out.new.items ≡ out.old.items ++ (before.now ++ (name.now ++ behind.now))) }
+    ensures written { OnOk result (out.new.items ≡ out.old.items ++ (before.now ++ (name.now ++ behind.now))) }
+    ensures unwritten { OnErr result (out.new.items ≡ out.old.items) }
+{
+    let start = out.len();
+    let written = write_parts(out, before, name, behind);
+    if written.is_err() {
+        out.truncate(start);
+    }
+    written
+}
+
+/// Adds these behind each other. Where there is no memory some of them may stand there.
+fn write_parts(out: &mut Vec<u8>, before: &[u8], name: &Name, behind: &[u8]) -> Result<(), Memory>
+    ensures written { OnOk result (out.new.items ≡ out.old.items ++ (before.now ++ (name.now ++ behind.now))) }
+    ensures kept { OnErr result (take (length out.old.items) out.new.items ≡ out.old.items) }
 {
     out.extend_from_slice(before)?;
     out.extend_from_slice(name.as_bytes())?;
