@@ -13,7 +13,7 @@ use Rattle.opening_answers.specs.Renewal.{first_writer}
 use Rattle.control_life.specs.declared.how.How.{How}
 use Rattle.control_life.specs.declared.how.How.TheVariants.{Found, Cold}
 
--- Whenever a crash comes in an opening, what it leaves recovers as before, and is the image before or one of the definition's text;
+-- Whenever a crash comes in an opening, what it leaves recovers as before, and is the image before, or like that one of the definition's text;
 -- in a cold start it is the image before, or one of that text that recovers to the empty state.
 abbrev pub KeepsBy : How → System → List ℕ → Image → Image → Type 0
 KeepsBy Found system text before after = KeepsImage system text before after

@@ -38,7 +38,7 @@ pub fn open<D: Disk>(
     ensures cause { IfErr result (λ error. OpeningCause (Err error) (D.state disk.old) (D.state disk.new)) }
     ensures stays { Stays (D.state disk.old) (D.state disk.new) }
     ensures any_moment { Within (KeepsBy how parts.old.system text.entry.now) (D.state disk.old) (D.state disk.new) }
-    // No counter of what a crash leaves rises by more than one.
+    // Where no counter is above a bound, none of what a crash leaves is more than one above it.
     ensures counts { Within (RaisesCounts 1 parts.old.system) (D.state disk.old) (D.state disk.new) }
 {
     match look(alloc, disk, parts.system(), text, how) {

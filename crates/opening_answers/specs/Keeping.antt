@@ -7,10 +7,10 @@ use Rattle.model_image.specs.Alike.{RecoversAlike}
 use Rattle.model_image.specs.Recovered.{Recovers}
 use Rattle.checkpointing.specs.Texts.{HasText}
 
--- The image recovers as the one before. It is the same, or of the definition with this text.
+-- The image recovers as the one before. It is the same; or both are of the definition with this text.
 pub record KeepsImage (system : System) (text : List ℕ) (before after : Image) : Type 0 where
   pub alike : RecoversAlike system before after
-  pub texts : (after ≡ before) ⊎ HasText system text after
+  pub texts : (after ≡ before) ⊎ (HasText system text before × HasText system text after)
 
 -- The image recovers to the empty state, and is of the definition with this text.
 pub record IsEmptied (system : System) (text : List ℕ) (image : Image) : Type 0 where

@@ -1,5 +1,5 @@
 -- What the writes of a restart leave, for what was made of an image.
-use Rattle.std.proofs.Common.{◌≡◌, ℕ, ◌≤◌, false, List, [], length, sym, ◌∙◌, ap, subst, inl, inr, ⊎_elim, IsTrue}
+use Rattle.std.proofs.Common.{◌≡◌, ℕ, ◌≤◌, false, List, [], length, refl, sym, ◌∙◌, ap, subst, inl, inr, ⊎_elim, IsTrue}
 use Rattle.std.proofs.lemmas.Bool.{cases_Bool}
 use Rattle.model_disk.specs.Disk.{Image, DiskState, IsDisk, Follows, Within, Only}
 use Rattle.model_disk.proofs.Words.{within_where, leaves_none}
@@ -52,10 +52,14 @@ module _ (system : System) (text : List ℕ) (given : Given) (parts : OpeningPar
       let is : IsRenewed system text parts.now parts.next_unit state e = renewed a e made done in
       ap (λ (r : RestartSector). text_in e r.text) (sym (same_restart parts.now restart (sym is.restart ∙ found))) ∙ is.has_text
 
+  -- So is the image that it is made of.
+  text_before : (a : Image) → IsMadeOf system text given parts state now a → HasText system text a
+  text_before a made = unread_text system made.restart made.snapshot given now a a made.before (record { size = refl; each = λ k. inl refl }) text made.has_text
+
   kept : (a e : Image) → IsMadeOf system text given parts state now a → Rewrites system given bytes now a e → KeepsImage system text a e
   kept a e made rewrites = record {
     alike = rewrites_recover system made.restart made.snapshot given bytes now (next_life a made) parts.next_unit state prepared.whole.read prepared.whole.spelled a e made.before made.recovers rewrites;
-    texts = inr (texts a e made rewrites);
+    texts = inr (text_before a made, texts a e made rewrites);
   }
 
   -- It counts further by one at most.

@@ -1,12 +1,14 @@
 -- What a call leaves that reads an image, and then opens it or begins it cold.
 use Rattle.std.proofs.Common.{◌≡◌, ℕ, false, sym, subst, refl, inl, inr, ⊎_elim, arith, None, Ok, Err, IsTrue}
-use Rattle.std.specs.Prelude.{Result, List}
+use Rattle.std.specs.Prelude.{Option, Some, Result, List}
 use Rattle.std.proofs.lemmas.Bool.{cases_Bool}
 use Rattle.model_disk.specs.Disk.{Image, DiskState, IsDisk, ComesFrom, Within, Only, Keeps}
 use Rattle.model_disk.proofs.Words.{leaves_none}
 use Rattle.model_system.specs.System.{System}
 use Rattle.model_machine.specs.Machine.{LastingState, empty_state}
+use Rattle.restart_data.specs.declared.restart.RestartSector.{RestartSector}
 use Rattle.restart_data.specs.Restart.{restart_in}
+use Rattle.checkpointing.specs.Texts.{HasText}
 use Rattle.model_image.specs.Alike.{RecoversAlike}
 use Rattle.model_image.specs.Areas.{snapshot_area}
 use Rattle.model_image.specs.Faults.{Fault}
@@ -75,11 +77,23 @@ module _ (system : System) (text : List ℕ) (old mid : DiskState) (keeps : Keep
         (λ (silent : old.tells ≡ false). absurd (leaves_none old is_disk silent a left))
         (cases_Bool old.tells)
 
+    -- one without a restart sector is of any text
+    no_restart : {F : Type 0} (restart : RestartSector) (found : Result (Option RestartSector) F) → found ≡ Ok None → found ≡ Ok (Some restart) → ⊥
+    no_restart restart found none other = cc
+
+    none_text : (a : Image) → old.may_leave a → HasText system text a
+    none_text a left restart found =
+        ⊎_elim
+        (λ (tells : IsTrue old.tells).
+        absurd (no_restart restart (restart_in (snapshot_area system) a) (subst (λ (i : Image). restart_in (snapshot_area system) i ≡ Ok None) (sym (only a left)) (zeros tells)) found))
+        (λ (silent : old.tells ≡ false). absurd (leaves_none old is_disk silent a left))
+        (cases_Bool old.tells)
+
     alike : (a e : Image) → old.may_leave a → KeepsOrEmpties system text a e → KeepsImage system text a e
     alike a e left by =
         ⊎_elim
         (λ (same : e ≡ a). record { alike = λ (answer : Result LastingState Fault) (is : Recovers system a answer). subst (λ (i : Image). Recovers system i answer) (sym same) is; texts = inl same })
-        (λ (empty : IsEmptied system text e). record { alike = emptied a e left empty.recovers; texts = inr empty.has_text })
+        (λ (empty : IsEmptied system text e). record { alike = emptied a e left empty.recovers; texts = inr (none_text a left, empty.has_text) })
         by
 
     -- an image of zeros that was read, and begun cold, recovers alike

@@ -39,7 +39,7 @@ pub fn recover<D: Disk>(
     ensures stays { Stays (D.state disk.old) (D.state disk.new) }
     // Whenever a crash comes, what it leaves recovers as before, and is the image before or one of this text.
     ensures any_moment { Within (KeepsImage system.now text.now) (D.state disk.old) (D.state disk.new) }
-    // No counter rises by more than one.
+    // Where no counter is above a bound, none is more than one above it then.
     ensures counts { Within (RaisesCounts 1 system.now) (D.state disk.old) (D.state disk.new) }
     // Then each image recovers to the state that is answered, with that restart sector and an empty log.
     ensures done { IfOk result (λ opened. (image : Image) → (D.state disk.new).may_leave image → IsRenewed system.now text.now opened.0.now opened.0.next_unit opened.1 image) }

@@ -105,7 +105,7 @@ pub fn cold<D: Disk>(
     ensures stays { Stays (D.state disk.old) (D.state disk.new) }
     // Whenever a crash comes, it leaves the image before, or one of this text that recovers to the empty state.
     ensures any_moment { Within (KeepsOrEmpties system.now text.now) (D.state disk.old) (D.state disk.new) }
-    // No counter rises by more than one.
+    // Where no counter is above a bound, none is more than one above it then.
     ensures counts { Within (RaisesCounts 1 system.now) (D.state disk.old) (D.state disk.new) }
     // Then each image recovers to the empty state, with the restart sector that is answered and an empty log.
     ensures done { IfOk result (λ opened. (image : Image) → (D.state disk.new).may_leave image → IsRenewed system.now text.now opened.0.now opened.0.next_unit opened.1 image) }
