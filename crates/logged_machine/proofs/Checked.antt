@@ -22,8 +22,8 @@ use Rattle.disk_law.specs.Journal.{JournalState}
 use Rattle.tm_machine.specs.Answers.{IsAnswered}
 use Rattle.tm_machine.specs.Parts.{PartsState}
 use Rattle.parts_life.specs.Logged.{IsLogged}
-use Rattle.machine_checkpoint.specs.Taking.{TakesNext}
-use Rattle.logged_machine.specs.Taken.{HasNumber, IsTaken, StaysUntaken, again}
+use Rattle.machine_checkpoint.specs.Taking.{TakesNext, checkpoint_sectors}
+use Rattle.logged_machine.specs.Taken.{HasNumber, IsTaken, LeavesSettled, StaysUntaken, WritesCheckpoint, again}
 use Rattle.logged_machine.specs.Doing.{Did, Refreshed, Unrefreshed}
 use Rattle.logged_machine.specs.Logged.{LoggedState}
 
@@ -98,8 +98,28 @@ is_taken state old new images r = record {
   takes = subst (λ (s : System). TakesNext s old.journal new.journal) (sym r.keeps.system) r.takes;
 }
 
+pub leaves_settled : {D : Type 0} (state : D → DiskState) (old new : LoggedState D) → Refreshed state old new
+    → LeavesSettled old.machine.databases new.machine.databases old.units new.units old.next_unit new.next_unit
+leaves_settled state old new r = record { databases = ap (λ (p : PartsState). p.databases) r.machine; units = r.units; next_unit = r.unit }
+
+-- nothing was written
+pub most_same : (system : System) (changed : List (List ℕ)) (journal : JournalState) (disk : DiskState) → WritesCheckpoint system changed journal disk disk
+most_same system changed journal disk = under disk.writes (checkpoint_sectors system changed journal)
+  where
+    under : (n m : ℕ) → n ≤ n + m
+    under n m = omega arith
+
+-- how much one writes that was not taken
+pub untaken_most : {D : Type 0} (state : D → DiskState) (old new : LoggedState D) (fault : ControlFault) → Unrefreshed state old new fault
+    → WritesCheckpoint old.machine.system old.machine.databases.changed old.journal (state old.disk) (state new.disk)
+untaken_most state old new Memory same =
+    subst (λ (l : LoggedState _). WritesCheckpoint old.machine.system old.machine.databases.changed old.journal (state old.disk) (state l.disk)) (sym same)
+    (most_same old.machine.system old.machine.databases.changed old.journal (state old.disk))
+untaken_most state old new Disk u = u.most
+untaken_most state old new (Spent counter) u = absurd u
+
 -- one that was not taken
 pub stays_untaken : {D : Type 0} (state : D → DiskState) (old new : LoggedState D) (fault : ControlFault) → Unrefreshed state old new fault → StaysUntaken (Fault fault) old new
 stays_untaken state old new Memory u = u
-stays_untaken state old new Disk u = u.0.served
+stays_untaken state old new Disk u = u.broke.served
 stays_untaken state old new (Spent counter) u = u

@@ -2,7 +2,7 @@
 use Rattle.std.proofs.Common.{◌≡◌, ◌⊎◌, ◌≤◌, ◌<◌, ◌+◌, ◌^◌, ℕ, Bool, true, false, List, length, inl, inr, ⊎_elim, refl, sym, ◌∙◌, ap, subst, arith}
 use Rattle.std.specs.Prelude.{None, Option, Some}
 use Rattle.tm_machine.specs.Answers.{IsAnswered}
-use Rattle.model_disk.specs.Disk.{Image, DiskState, Stays, Within, ComesFrom, FailedSince, Only}
+use Rattle.model_disk.specs.Disk.{Image, DiskState, Stays, Within, WritesAtMost, ComesFrom, FailedSince, Only}
 use Rattle.model_system.specs.System.{System}
 use Rattle.model_machine.specs.Machine.{LastingState, Moment}
 use Rattle.model_machine.specs.declared.entry.Entry.{Entry}
@@ -21,18 +21,19 @@ use Rattle.machine_life.specs.Counts.{AreUnspent}
 use Rattle.tm_machine.specs.Parts.{PartsState}
 use Rattle.machine_life.specs.Counted.{IsCounted}
 use Rattle.parts_life.specs.Logged.{IsLogged}
-use Rattle.machine_checkpoint.specs.Taking.{SameAll, TakesNext, Untaken}
+use Rattle.machine_checkpoint.specs.Taking.{SameAll, TakesNext, Untaken, checkpoint_sectors, settled_parts}
 use Rattle.logged_machine.specs.Logged.{LoggedState}
 use Rattle.logged_machine.specs.Goes.{Keeps}
 use Rattle.logged_machine.specs.Leaving.{Brings, Leaves}
-use Rattle.logged_machine.specs.Doing.{Broke, Did, LeavesCounts, LeavesSo, Refreshed, Unrefreshed, is_memory, lasting_with}
+use Rattle.logged_machine.specs.Doing.{Did, FailsIn, LeavesCounts, Refreshed, Unrefreshed, is_memory, lasting_with}
 use Rattle.logged_machine.proofs.Leaving.{leaves_same, leaves_within}
 use Rattle.logged_machine.proofs.Logging.{recover, have_text}
 
 module _ {D : Type 0} (state : D → DiskState) (parts parts' : PartsState) (text : List ℕ) (journal journal' : JournalState) (units : List ℕ) (next : ℕ) (disk disk' : D) (up : Bool)
     (h : IsLogged parts units next journal text (state disk)) (system : parts'.system ≡ parts.system) (moment : parts'.moment ≡ parts.moment) (stays : Stays (state disk) (state disk'))
     (any : Within (KeepsRecovery parts.system) (state disk) (state disk')) (texts : Within (KeepsText parts.system) (state disk) (state disk'))
-    (counts : (high : ℕ) → StandsUpTo high journal next → Within (λ before after. CountsUpTo parts.system (high + parts.system.logs) after) (state disk) (state disk')) where
+    (counts : (high : ℕ) → StandsUpTo high journal next → Within (λ before after. CountsUpTo parts.system (high + parts.system.logs) after) (state disk) (state disk'))
+    (most : WritesAtMost (checkpoint_sectors parts.system parts.databases.changed journal) (state disk) (state disk')) where
   abbrev pub was : LoggedState D
   was = record { machine = parts; text = text; served = up; journal = journal; units = units; next_unit = next; disk = disk }
 
@@ -81,16 +82,19 @@ module _ {D : Type 0} (state : D → DiskState) (parts parts' : PartsState) (tex
       below : (s p n c l t : ℕ) → t ≡ s + p + n → p + n ≤ c → c ≡ l → t ≤ s + p + l
       below s p n c l t is fits count = omega (arith, is, fits, count)
 
-  pub refreshed : up ≡ true → IsCounted 0 parts.moment.lasting next journal → TakesNext parts.system journal journal' → Only (state disk').shown (state disk') → (state disk').faults ≡ (state disk).faults
+  pub refreshed : up ≡ true → parts' ≡ settled_parts parts → IsCounted 0 parts.moment.lasting next journal → TakesNext parts.system journal journal' → Only (state disk').shown (state disk') → (state disk').faults ≡ (state disk).faults
       → ((high : ℕ) → StandsUpTo high journal next → StandsUpTo (high + parts.system.logs) journal' next) → Refreshed state was (is up)
-  refreshed served counted takes synced no_fault raised =
+  refreshed served settled counted takes synced no_fault raised =
       let number : journal'.restart.checkpoint ≡ journal.restart.checkpoint + 1 = ap (λ (r : RestartSector). r.checkpoint) takes.restart in
       let epoch : journal'.restart.epoch ≡ journal.restart.epoch = ap (λ (r : RestartSector). r.epoch) takes.restart in
       let sequence : journal'.log.sequence ≡ sequence_behind journal.log = ap (λ (w : Writer). w.sequence) takes.log in
       let place : journal'.log.place ≡ 0 = ap (λ (w : Writer). w.place) takes.log in
       record {
         stood = record { moment = moment; served = served; no_fault = no_fault };
+        machine = settled;
+        units = refl;
         takes = takes;
+        most = most;
         leaves = leaves;
         keeps = record { system = system; text = refl; disk = stays; later = any.later; numbers = λ now. omega (arith, number) };
         number = number;
@@ -110,12 +114,16 @@ module _ {D : Type 0} (state : D → DiskState) (parts parts' : PartsState) (tex
         raised = raised;
       }
 
-  pub broke : FailedSince (state disk) (state disk') → Broke state was (is false) × LeavesSo state was (is false) parts.moment.lasting × Keeps state was (is false) × LeavesCounts state parts.system.logs was (is false)
-  broke cause =
-      (record { served = refl; failed = cause }, leaves, record { system = system; text = refl; disk = stays; later = any.later; numbers = λ now. absurd (apart now) }, counted_by)
-    where
-      apart : false ≡ true → ⊥
-      apart e = cc
+  pub broke : FailedSince (state disk) (state disk') → FailsIn state was (is false)
+  broke cause = record {
+    broke = record { served = refl; failed = cause };
+    leaves = leaves;
+    keeps = record { system = system; text = refl; disk = stays; later = any.later; numbers = λ now. absurd (apart now) };
+    counts = counted_by;
+    most = most;
+  } where
+    apart : false ≡ true → ⊥
+    apart e = cc
 
 -- nothing was done
 pub nothing : {D : Type 0} (state : D → DiskState) (l : LoggedState D) (entry : Entry) → l.served ≡ true → Did state (Some Memory) l l entry
@@ -163,15 +171,15 @@ pub unrefreshed : {D : Type 0} (state : D → DiskState) (old new : LoggedState 
 unrefreshed state old new entry Memory served same = nothing_done state old new entry same served
 unrefreshed state old new entry Disk served h = record {
   did = (
-    h.0,
+    h.broke,
     record {
-      later = h.1.later;
+      later = h.leaves.later;
       from = λ time image early left.
           ⊎_elim (λ was_left. inl was_left) (λ (b : Brings old.machine.system old.text old.machine.moment.lasting old.machine.moment.lasting image). inr (one_state old.machine.system old.text old.machine.moment.lasting (lasting_with old entry) image b))
-          (h.1.from time image early left);
+          (h.leaves.from time image early left);
     },
   );
-  keeps = h.2;
+  keeps = h.keeps;
 }
 unrefreshed state old new entry (Spent counter) served h = absurd h
 
@@ -208,14 +216,15 @@ module _ {D : Type 0} (state : D → DiskState) (parts parts' : PartsState) (tex
 module _ {D : Type 0} (state : D → DiskState) (parts parts' : PartsState) (text : List ℕ) (journal journal' : JournalState) (units : List ℕ) (next : ℕ) (disk disk' : D) (up : Bool)
     (h : IsLogged parts units next journal text (state disk)) (system : parts'.system ≡ parts.system) (moment : parts'.moment ≡ parts.moment) (stays : Stays (state disk) (state disk'))
     (any : Within (KeepsRecovery parts.system) (state disk) (state disk')) (texts : Within (KeepsText parts.system) (state disk) (state disk'))
-    (counts : (high : ℕ) → StandsUpTo high journal next → Within (λ before after. CountsUpTo parts.system (high + parts.system.logs) after) (state disk) (state disk')) where
+    (counts : (high : ℕ) → StandsUpTo high journal next → Within (λ before after. CountsUpTo parts.system (high + parts.system.logs) after) (state disk) (state disk'))
+    (most : WritesAtMost (checkpoint_sectors parts.system parts.databases.changed journal) (state disk) (state disk')) where
   pub unrefreshed_by : (fault : ControlFault) → Untaken state parts parts' journal journal' disk disk' fault → up ≡ true
-      → Unrefreshed state (was state parts parts' text journal journal' units next disk disk' up h system moment stays any texts counts)
-      (is state parts parts' text journal journal' units next disk disk' up h system moment stays any texts counts (is_memory fault)) fault
+      → Unrefreshed state (was state parts parts' text journal journal' units next disk disk' up h system moment stays any texts counts most)
+      (is state parts parts' text journal journal' units next disk disk' up h system moment stays any texts counts most (is_memory fault)) fault
   unrefreshed_by Memory same served =
       same_all state parts parts' text journal journal' units next disk disk' same true
       ∙ ap (λ (b : Bool). logged_of state parts parts' text journal journal' units next disk disk' same b parts journal disk) (sym served)
-  unrefreshed_by Disk cause served = broke state parts parts' text journal journal' units next disk disk' up h system moment stays any texts counts cause
+  unrefreshed_by Disk cause served = broke state parts parts' text journal journal' units next disk disk' up h system moment stays any texts counts most cause
   unrefreshed_by (Spent counter) none served = absurd none
 
   pub logged_by : (fault : ControlFault) → Untaken state parts parts' journal journal' disk disk' fault → is_memory fault ≡ true → IsLogged parts' units next journal' text (state disk')

@@ -13,7 +13,7 @@ use Rattle.tm_machine.specs.Parts.{PartsState}
 use Rattle.machine_life.specs.Counted.{IsCounted}
 use Rattle.parts_life.specs.Logged.{IsLogged}
 use Rattle.control_life.specs.Faults.{fault_in}
-use Rattle.machine_checkpoint.specs.Taking.{Untaken, settled_parts}
+use Rattle.machine_checkpoint.specs.Taking.{Untaken, checkpoint_sectors, settled_parts}
 use Rattle.machine_due.specs.Due.{Behind, CountsWithin, KeepsOnDisk}
 use Rattle.logged_machine.specs.Logged.{LoggedState}
 use Rattle.logged_machine.specs.Doing.{Done, Refreshed, Tried, Unrefreshed, is_memory}
@@ -36,7 +36,8 @@ behind_of state parts units given next records old new disk disk' same b = subst
 
 module _ {D : Type 0} (state : D → DiskState) (parts : PartsState) (text : List ℕ) (journal told : JournalState) (units : List ℕ) (next : ℕ) (disk disk' : D) (up : Bool)
     (h : IsLogged parts units next journal text (state disk)) (served : up ≡ true) (counted : IsCounted 0 parts.moment.lasting next journal) (keeps : KeepsOnDisk parts.system (state disk) (state disk'))
-    (counts : CountsWithin parts.system journal next (state disk) (state disk')) (records : List Record) (b : Behind state parts units next records journal told disk disk') where
+    (counts : CountsWithin parts.system journal next (state disk) (state disk')) (most : WritesAtMost (checkpoint_sectors parts.system parts.databases.changed journal) (state disk) (state disk'))
+    (records : List Record) (b : Behind state parts units next records journal told disk disk') where
   abbrev old : LoggedState D
   old = record { machine = parts; text = text; served = up; journal = journal; units = units; next_unit = next; disk = disk }
 
@@ -49,7 +50,7 @@ module _ {D : Type 0} (state : D → DiskState) (parts : PartsState) (text : Lis
 
   fresh : Refreshed state old mid
   fresh =
-      refreshed state parts (settled_parts parts) text journal b.middle units next disk disk' up h refl refl keeps.stays keeps.any_moment keeps.texts counts served counted b.checkpointed.takes b.checkpointed.synced
+      refreshed state parts (settled_parts parts) text journal b.middle units next disk disk' up h refl refl keeps.stays keeps.any_moment keeps.texts counts most served refl counted b.checkpointed.takes b.checkpointed.synced
       b.checkpointed.no_fault b.checkpointed.raised
 
   pub mid_counted : IsCounted 4294967296 parts.moment.lasting next b.middle
@@ -83,7 +84,8 @@ module _ {D : Type 0} (state : D → DiskState) (parts : PartsState) (text : Lis
 
 module _ {D : Type 0} (state : D → DiskState) (parts parts' : PartsState) (text : List ℕ) (journal journal' : JournalState) (units : List ℕ) (next : ℕ) (disk disk' : D) (up : Bool)
     (h : IsLogged parts units next journal text (state disk)) (served : up ≡ true) (keeps : KeepsOnDisk parts.system (state disk) (state disk'))
-    (counts : CountsWithin parts.system journal next (state disk) (state disk')) (system : parts'.system ≡ parts.system) where
+    (counts : CountsWithin parts.system journal next (state disk) (state disk')) (most : WritesAtMost (checkpoint_sectors parts.system parts.databases.changed journal) (state disk) (state disk'))
+    (system : parts'.system ≡ parts.system) where
   abbrev before : LoggedState D
   before = record { machine = parts; text = text; served = up; journal = journal; units = units; next_unit = next; disk = disk }
 
@@ -92,12 +94,9 @@ module _ {D : Type 0} (state : D → DiskState) (parts parts' : PartsState) (tex
 
   untaken : (fault : ControlFault) → Untaken state parts parts' journal journal' disk disk' fault → Unrefreshed state before (behind (is_memory fault)) fault
   untaken Memory same = same_all state parts parts' text journal journal' units next disk disk' same true ∙ ap (λ (b : Bool). record before { served = b }) (sym served)
-  untaken Disk cause = (
-    record { served = refl; failed = cause },
-    (broke state parts parts text journal journal' units next disk disk' up h refl refl keeps.stays keeps.any_moment keeps.texts counts cause).1,
-    record { system = system; text = refl; disk = keeps.stays; later = keeps.any_moment.later; numbers = λ now. absurd (apart now) },
-    (broke state parts parts text journal journal' units next disk disk' up h refl refl keeps.stays keeps.any_moment keeps.texts counts cause).3,
-  )
+  untaken Disk cause =
+      let b = broke state parts parts text journal journal' units next disk disk' up h refl refl keeps.stays keeps.any_moment keeps.texts counts most cause in
+      record { broke = record { served = refl; failed = cause }; leaves = b.leaves; keeps = record { system = system; text = refl; disk = keeps.stays; later = keeps.any_moment.later; numbers = λ now. absurd (apart now) }; counts = b.counts; most = most }
     where
       apart : false ≡ true → ⊥
       apart e = cc

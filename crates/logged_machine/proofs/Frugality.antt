@@ -1,5 +1,5 @@
 -- What a call writes, and how far it raises what is counted on.
-use Rattle.std.proofs.Common.{◌≡◌, ◌≤◌, ◌<◌, ◌+◌, ◌*◌, ℕ, Bool, true, false, List, length, refl, sym, ◌∙◌, ap, subst, arith, ⊎_elim, inl, inr}
+use Rattle.std.proofs.Common.{◌≡◌, ◌≤◌, ◌<◌, ◌+◌, ◌*◌, ℕ, Bool, true, false, List, [], ◌∷◌, length, refl, sym, ◌∙◌, ap, subst, arith, ⊎_elim, inl, inr}
 use Rattle.std.specs.Prelude.{Option, Some, None}
 use Rattle.model_disk.specs.Disk.{Image, DiskState, ComesFrom, Within, WritesAtMost}
 use Rattle.model_system.specs.System.{System}
@@ -19,12 +19,14 @@ use Rattle.checkpointing.specs.Counts.{CountsUpTo}
 use Rattle.checkpointing.proofs.Counted.{up_to_more}
 use Rattle.checkpoint_law.specs.Counted.{StandsUpTo}
 use Rattle.parts_life.specs.Logged.{IsLogged}
-use Rattle.machine_telling.specs.Telling.{IsAllBut}
+use Rattle.machine_checkpoint.specs.Taking.{checkpoint_sectors, settled_parts}
+use Rattle.machine_telling.specs.Telling.{IsAllBut, StayFree}
 use Rattle.logged_machine.specs.Logged.{LoggedState}
-use Rattle.logged_machine.specs.Doing.{Done, DoneFrugally, GoesOnIn, LeavesCounts, Refreshed, Tried, Unrefreshed}
-use Rattle.logged_machine.specs.Frugal.{DoesNothing, Raises, WritesBy, WritesLog, has_lasting_step, own_bytes}
+use Rattle.logged_machine.specs.Doing.{Done, DoneFrugally, GoesOnIn, IsDue, LeavesCounts, Refreshed, Tried, Unrefreshed}
+use Rattle.logged_machine.specs.Frugal.{DoesNothing, NoneIsDue, Raises, WritesBehind, WritesBy, WritesLog, has_lasting_step, own_bytes}
 use Rattle.logged_machine.proofs.Checkpointed.{nothing, unrefreshed}
 use Rattle.logged_machine.proofs.Doing.{IsNoMemory, did_behind}
+use Rattle.logged_machine.proofs.Settled.{same_bytes}
 use Rattle.logged_machine.proofs.Leaving.{leaves_same, leaves_same_then, leaves_then}
 
 -- ---- what a force writes
@@ -55,6 +57,21 @@ area_is parts units next journal text disk h =
 pub longer : (P : Type 0) (untold : Untold) → untold ≡ Full → WhereFull P untold → P
 longer P untold is told = subst (λ (u : Untold). WhereFull P u) is told
 
+-- ---- whether a checkpoint is due
+
+-- None is, where the bytes are no more than the room.
+none_due : (log : Writer) (own : List ℕ) (room : ℕ) → StayFree room log → length own ≤ room → NoneIsDue log own
+none_due log [] room kept fits = inl refl
+none_due log (byte ∷ own) room kept fits = inr (kept (length (byte ∷ own)) (omega arith) fits)
+
+-- One is, where they are more.
+one_due : (log : Writer) (own : List ℕ) (room : ℕ) → IsAllBut room log → room < length own → NoneIsDue log own → ⊥
+one_due log own room all longer none =
+    ⊎_elim (λ (empty : own ≡ []). over (length own) longer (let e : length own ≡ 0 = ap length empty in omega (arith, e))) (λ free. over (length own) longer (all (length own) free)) none
+  where
+    over : (n : ℕ) → room < n → n ≤ room → ⊥
+    over n less more = omega (arith, less, more)
+
 -- ---- one attempt, and a call
 
 module _ {D : Type 0} (state : D → DiskState) where
@@ -75,6 +92,9 @@ module _ {D : Type 0} (state : D → DiskState) where
       leaves_same_then (CountsUpTo old.machine.system (high + less)) (CountsUpTo old.machine.system (high + more)) (state old.disk) (state new.disk)
       (λ image c. up_to_more old.machine.system (high + less) (high + more) image (omega (arith, le)) c) (counts high stands)
 
+  nothing_due : (old new : LoggedState D) (entry : Entry) → new ≡ old → IsDue state (Some Memory) old new entry
+  nothing_due old new entry same = subst (λ (l : LoggedState D). DoesNothing old.journal l.journal old.disk l.disk) (sym same) (record { journal = refl; disk_is = refl })
+
   -- A call that left all as it was.
   pub done_nothing : (old new : LoggedState D) (entry : Entry) → new ≡ old → old.served ≡ true → DoneFrugally state (Some Memory) old new entry
   done_nothing old new entry same served =
@@ -82,7 +102,10 @@ module _ {D : Type 0} (state : D → DiskState) where
       (record {
         did = nothing state old entry served;
         raises = λ up. nothing_raised old;
-        frugal = λ free. nothing_written old (has_lasting_step old.machine (call_of entry)) (own_bytes old.machine old.units (call_of entry));
+        frugal = record {
+          spares = λ none. nothing_written old (has_lasting_step old.machine (call_of entry)) (own_bytes old.machine old.units (call_of entry));
+          due = λ due. nothing_due old old entry refl;
+        };
         counts = nothing_counted old (2 * old.machine.system.logs);
       })
 
@@ -94,19 +117,27 @@ module _ {D : Type 0} (state : D → DiskState) where
     unit = on.unit;
   }
 
-  -- An attempt that needed no checkpoint.
-  pub done_once : (fault : Option ControlFault) (old new : LoggedState D) (entry : Entry) → Tried state fault old new entry → DoneFrugally state fault old new entry
-  done_once fault old new entry t = record { did = t.did; raises = λ up. on_raises old new (t.on up); frugal = λ free. t.writes; counts = counted_further old new old.machine.system.logs (2 * old.machine.system.logs) (omega arith) t.counts }
+  -- An attempt whose records leave 32 sectors free, if there are any.
+  pub done_once : (fault : Option ControlFault) (old new : LoggedState D) (entry : Entry) (room : ℕ) → StayFree room old.journal.log → length (own_bytes old.machine old.units (call_of entry)) ≤ room
+      → Tried state fault old new entry → DoneFrugally state fault old new entry
+  done_once fault old new entry room kept fits t = record {
+    did = t.did;
+    raises = λ up. on_raises old new (t.on up);
+    frugal = record { spares = λ none. t.writes; due = λ due. absurd (due (none_due old.journal.log (own_bytes old.machine old.units (call_of entry)) room kept fits)) };
+    counts = counted_further old new old.machine.system.logs (2 * old.machine.system.logs) (omega arith) t.counts;
+  }
 
-  -- One whose records leave fewer than 32 sectors free went on behind a checkpoint.
+  -- One whose records leave fewer went on behind a checkpoint.
   pub done_due : (fault : Option ControlFault) (old mid new : LoggedState D) (entry : Entry) (room : ℕ) → mid ≡ old → IsAllBut room old.journal.log → room < length (own_bytes old.machine old.units (call_of entry))
       → Done state fault mid new entry → DoneFrugally state fault old new entry
   done_due fault old mid new entry room same all longer done =
       let d : Done state fault old new entry = subst (λ (l : LoggedState D). Done state fault l new entry) same done in
-      record { did = d.did; raises = d.raises; frugal = λ free. absurd (over room (length (own_bytes old.machine old.units (call_of entry))) longer (all (length (own_bytes old.machine old.units (call_of entry))) free)); counts = d.counts }
-    where
-      over : (a b : ℕ) → a < b → b ≤ a → ⊥
-      over a b less more = omega (arith, less, more)
+      record {
+        did = d.did;
+        raises = d.raises;
+        frugal = record { spares = λ none. absurd (one_due old.journal.log (own_bytes old.machine old.units (call_of entry)) room all longer none); due = λ due. d.due };
+        counts = d.counts;
+      }
 
   -- ---- behind a checkpoint
 
@@ -122,6 +153,26 @@ module _ {D : Type 0} (state : D → DiskState) where
       (subst (λ (s : System). CountsUpTo s (high + old.machine.system.logs + s.logs) image) same c))
       (one high stands) (two (high + old.machine.system.logs) (raised high stands))
 
+  -- What it writes behind the checkpoint goes by the machine before that.
+  own_writes : (old mid new : LoggedState D) (entry : Entry) (fault : Option ControlFault) → Refreshed state old mid
+      → WritesBy state fault (has_lasting_step mid.machine (call_of entry)) (own_bytes mid.machine mid.units (call_of entry)) mid.journal new.journal mid.disk new.disk
+      → WritesBy state fault (has_lasting_step old.machine (call_of entry)) (own_bytes old.machine old.units (call_of entry)) mid.journal new.journal mid.disk new.disk
+  own_writes old mid new entry fault fresh writes =
+      subst (λ (own : List ℕ). WritesBy state fault (has_lasting_step old.machine (call_of entry)) own mid.journal new.journal mid.disk new.disk) (same_bytes old.machine old.units (call_of entry))
+      (subst (λ (us : List ℕ). WritesBy state fault (has_lasting_step old.machine (call_of entry)) (own_bytes (settled_parts old.machine) us (call_of entry)) mid.journal new.journal mid.disk new.disk) fresh.units
+      (subst (λ (p : PartsState). WritesBy state fault (has_lasting_step p (call_of entry)) (own_bytes p mid.units (call_of entry)) mid.journal new.journal mid.disk new.disk) fresh.machine writes))
+
+  behind : (old mid new : LoggedState D) (entry : Entry) (fault : Option ControlFault) → Refreshed state old mid → Tried state fault mid new entry
+      → WritesBehind state fault (has_lasting_step old.machine (call_of entry)) (own_bytes old.machine old.units (call_of entry)) old.machine.system
+      (checkpoint_sectors old.machine.system old.machine.databases.changed old.journal) old.journal new.journal old.disk new.disk
+  behind old mid new entry fault fresh t = record { middle = mid.journal; mid = mid.disk; takes = fresh.takes; most = fresh.most; writes = own_writes old mid new entry fault fresh t.writes }
+
+  due_behind : (old mid new : LoggedState D) (entry : Entry) (fault : Option ControlFault) → IsNoMemory fault → Refreshed state old mid → Tried state fault mid new entry → IsDue state fault old new entry
+  due_behind old mid new entry None found fresh t = behind old mid new entry None fresh t
+  due_behind old mid new entry (Some Disk) found fresh t = inr (behind old mid new entry (Some Disk) fresh t)
+  due_behind old mid new entry (Some Memory) found fresh t = absurd (found refl)
+  due_behind old mid new entry (Some (Spent counter)) found fresh t = absurd t.did.did
+
   pub done_behind : (fault : Option ControlFault) (old mid new : LoggedState D) (entry : Entry) → IsNoMemory fault → Refreshed state old mid → Tried state fault mid new entry → Done state fault old new entry
   done_behind fault old mid new entry found fresh t = record {
     did = did_behind state old mid new entry fresh fault found t.did;
@@ -135,6 +186,7 @@ module _ {D : Type 0} (state : D → DiskState) where
           checkpoint = omega (arith, number, fresh.number);
           unit = omega (arith, on.unit, fresh.unit);
         };
+    due = due_behind old mid new entry fault found fresh t;
     counts = counted_behind old mid new fresh.keeps.system fresh.raised fresh.counts t.counts;
   }
 
@@ -142,14 +194,18 @@ module _ {D : Type 0} (state : D → DiskState) where
   pub done_untaken : (old new : LoggedState D) (entry : Entry) (fault : ControlFault) → old.served ≡ true → Unrefreshed state old new fault → Done state (Some fault) old new entry
   done_untaken old new entry Memory served same =
       let d : DoneFrugally state (Some Memory) old new entry = done_nothing old new entry same served in
-      record { did = d.did; raises = d.raises; counts = d.counts }
-  done_untaken old new entry Disk served h = record { did = unrefreshed state old new entry Disk served h; raises = λ up. absurd (down up); counts = counted_further old new old.machine.system.logs (2 * old.machine.system.logs) (omega arith) h.3 }
-    where
-      down : new.served ≡ true → ⊥
-      down up = apart (sym h.0.served ∙ up)
-        where
-          apart : false ≡ true → ⊥
-          apart e = cc
+      record { did = d.did; raises = d.raises; due = nothing_due old new entry same; counts = d.counts }
+  done_untaken old new entry Disk served h = record {
+    did = unrefreshed state old new entry Disk served h;
+    raises = λ up. absurd (down up);
+    due = inl h.most;
+    counts = counted_further old new old.machine.system.logs (2 * old.machine.system.logs) (omega arith) h.counts;
+  } where
+    down : new.served ≡ true → ⊥
+    down up = apart (sym h.broke.served ∙ up)
+      where
+        apart : false ≡ true → ⊥
+        apart e = cc
   done_untaken old new entry (Spent counter) served h = absurd h
 
   -- ---- checkpoints as calls
@@ -164,7 +220,7 @@ module _ {D : Type 0} (state : D → DiskState) where
 
   pub unchecked_raises : (old new : LoggedState D) (fault : ControlFault) → Unrefreshed state old new fault → new.served ≡ true → Raises old.machine.system.logs old.journal new.journal old.next_unit new.next_unit
   unchecked_raises old new Memory same up = subst (λ (l : LoggedState D). Raises old.machine.system.logs old.journal l.journal old.next_unit l.next_unit) (sym same) (record { epoch = refl; sequence = omega arith; checkpoint = omega arith; unit = omega arith })
-  unchecked_raises old new Disk h up = absurd (apart (sym h.0.served ∙ up))
+  unchecked_raises old new Disk h up = absurd (apart (sym h.broke.served ∙ up))
     where
       apart : false ≡ true → ⊥
       apart e = cc
@@ -175,5 +231,5 @@ module _ {D : Type 0} (state : D → DiskState) where
 
   pub unchecked_counts : (old new : LoggedState D) (fault : ControlFault) → Unrefreshed state old new fault → LeavesCounts state (2 * old.machine.system.logs) old new
   unchecked_counts old new Memory same = subst (λ (l : LoggedState D). LeavesCounts state (2 * old.machine.system.logs) old l) (sym same) (nothing_counted old (2 * old.machine.system.logs))
-  unchecked_counts old new Disk h = counted_further old new old.machine.system.logs (2 * old.machine.system.logs) (omega arith) h.3
+  unchecked_counts old new Disk h = counted_further old new old.machine.system.logs (2 * old.machine.system.logs) (omega arith) h.counts
   unchecked_counts old new (Spent counter) h = absurd h

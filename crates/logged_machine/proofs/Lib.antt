@@ -9,5 +9,7 @@ pub mod Checkpointed
 pub mod Serving
 pub mod Checked
 pub mod Handed
+pub mod Settled
 pub mod Frugality
 pub mod Due
+pub mod Behind

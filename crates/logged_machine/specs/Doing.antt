@@ -1,6 +1,6 @@
 -- What one attempt of a call leaves, and what a checkpoint does.
 use Rattle.std.specs.Prelude.{◌≡◌, ℕ, ◌+◌, ◌*◌, ◌≤◌, Bool, true, false, Option, Some, None}
-use Rattle.model_disk.specs.Disk.{Image, DiskState, FailedSince, Only}
+use Rattle.model_disk.specs.Disk.{Image, DiskState, FailedSince, Only, WritesAtMost}
 use Rattle.checkpointing.specs.Counts.{CountsUpTo}
 use Rattle.checkpoint_law.specs.Counted.{StandsUpTo}
 use Rattle.machine_life.specs.Counted.{IsCounted}
@@ -10,10 +10,10 @@ use Rattle.model_machine.specs.declared.entry.Entry.{Entry}
 use Rattle.model_machine.specs.declared.entry.ControlFault.{ControlFault}
 use Rattle.model_machine.specs.declared.entry.ControlFault.TheVariants.{Memory, Disk, Spent}
 use Rattle.logged_machine.specs.Logged.{LoggedState}
-use Rattle.machine_checkpoint.specs.Taking.{TakesNext}
+use Rattle.machine_checkpoint.specs.Taking.{TakesNext, checkpoint_sectors, settled_parts}
 use Rattle.logged_machine.specs.Goes.{Keeps, WentOn}
 use Rattle.logged_machine.specs.Leaving.{Brings, Leaves}
-use Rattle.logged_machine.specs.Frugal.{IsFrugal, Raises, WritesBy, has_lasting_step, own_bytes}
+use Rattle.logged_machine.specs.Frugal.{IsFrugal, Raises, WritesBy, WritesDue, has_lasting_step, own_bytes}
 
 -- what lasts with the call of an entry
 abbrev pub lasting_with : {D : Type 0} → LoggedState D → Entry → LastingState
@@ -66,24 +66,34 @@ pub record Tried {D : Type 0} (state : D → DiskState) (fault : Option ControlF
   pub on : new.served ≡ true → GoesOnIn old new
   pub counts : LeavesCounts state old.machine.system.logs old new
 
--- A call, behind one checkpoint or none.
+-- What a call writes before which a checkpoint is due.
+abbrev pub IsDue : {D : Type 0} → (D → DiskState) → Option ControlFault → LoggedState D → LoggedState D → Entry → Type 0
+IsDue state fault old new entry =
+    WritesDue state fault (has_lasting_step old.machine (call_of entry)) (own_bytes old.machine old.units (call_of entry)) old.machine.system
+    (checkpoint_sectors old.machine.system old.machine.databases.changed old.journal) old.journal new.journal old.disk new.disk
+
+-- A call, behind a checkpoint that was due.
 pub record Done {D : Type 0} (state : D → DiskState) (fault : Option ControlFault) (old new : LoggedState D) (entry : Entry) : Type 0 where
   pub did : Did state fault old new entry
   pub raises : new.served ≡ true → Raises (2 * old.machine.system.logs) old.journal new.journal old.next_unit new.next_unit
+  pub due : IsDue state fault old new entry
   pub counts : LeavesCounts state (2 * old.machine.system.logs) old new
 
--- A call that takes a checkpoint only where one is due.
+-- A call that takes a checkpoint where one is due, and else none.
 pub record DoneFrugally {D : Type 0} (state : D → DiskState) (fault : Option ControlFault) (old new : LoggedState D) (entry : Entry) : Type 0 where
   pub did : Did state fault old new entry
   pub raises : new.served ≡ true → Raises (2 * old.machine.system.logs) old.journal new.journal old.next_unit new.next_unit
   pub frugal : IsFrugal state fault old.machine old.units (call_of entry) old.journal new.journal old.disk new.disk
   pub counts : LeavesCounts state (2 * old.machine.system.logs) old new
 
--- A checkpoint was taken: the machine stands where it stood. Its number is the next one, its log
+-- A checkpoint was taken: the machine stands where it stood, and no slot counts as changed. Its number is the next one, its log
 -- area is empty, and a crash leaves what is shown.
 pub record Refreshed {D : Type 0} (state : D → DiskState) (old new : LoggedState D) : Type 0 where
   pub stood : StoodStill state old new
+  pub machine : new.machine ≡ settled_parts old.machine
+  pub units : new.units ≡ old.units
   pub takes : TakesNext old.machine.system old.journal new.journal
+  pub most : WritesAtMost (checkpoint_sectors old.machine.system old.machine.databases.changed old.journal) (state old.disk) (state new.disk)
   pub leaves : LeavesSo state old new old.machine.moment.lasting
   pub keeps : Keeps state old new
   pub number : new.journal.restart.checkpoint ≡ old.journal.restart.checkpoint + 1
@@ -96,11 +106,18 @@ pub record Refreshed {D : Type 0} (state : D → DiskState) (old new : LoggedSta
   pub counts : LeavesCounts state old.machine.system.logs old new
   pub raised : (high : ℕ) → StandsUpTo high old.journal old.next_unit → StandsUpTo (high + old.machine.system.logs) new.journal new.next_unit
 
--- None was taken: there was no memory, and nothing happened; or the disk failed, and whatever a crash leaves recovers to what
--- lasted.
+-- The disk failed in one: whatever a crash leaves recovers to what lasted.
+pub record FailsIn {D : Type 0} (state : D → DiskState) (old new : LoggedState D) : Type 0 where
+  pub broke : Broke state old new
+  pub leaves : LeavesSo state old new old.machine.moment.lasting
+  pub keeps : Keeps state old new
+  pub counts : LeavesCounts state old.machine.system.logs old new
+  pub most : WritesAtMost (checkpoint_sectors old.machine.system old.machine.databases.changed old.journal) (state old.disk) (state new.disk)
+
+-- None was taken: there was no memory, and nothing happened; or the disk failed.
 abbrev pub Unrefreshed : {D : Type 0} → (D → DiskState) → LoggedState D → LoggedState D → ControlFault → Type 0
 Unrefreshed state old new Memory = new ≡ old
-Unrefreshed state old new Disk = Broke state old new × LeavesSo state old new old.machine.moment.lasting × Keeps state old new × LeavesCounts state old.machine.system.logs old new
+Unrefreshed state old new Disk = FailsIn state old new
 Unrefreshed state old new (Spent counter) = ⊥
 
 -- the fault is want of memory

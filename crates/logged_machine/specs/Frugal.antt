@@ -1,8 +1,9 @@
 -- What a call other than a checkpoint writes, and how far a call raises what is counted on.
-use Rattle.std.specs.Prelude.{◌≡◌, ℕ, ◌+◌, ◌≤◌, Bool, true, false, List, length, Option, Some, None}
+use Rattle.std.specs.Prelude.{◌≡◌, ◌⊎◌, ℕ, ◌+◌, ◌≤◌, Bool, true, false, List, [], length, Option, Some, None}
 use Rattle.std.specs.List.{flat_map}
 use Rattle.std.specs.Option.{is_some}
 use Rattle.model_disk.specs.Disk.{DiskState, Within, WritesAtMost}
+use Rattle.model_system.specs.System.{System}
 use Rattle.model_machine.specs.Steps.{lasting_step}
 use Rattle.model_machine.specs.declared.entry.ControlCall.{ControlCall}
 use Rattle.model_machine.specs.declared.entry.ControlCall.TheVariants.{Input, Receive, Acknowledge, Turn, Command, Checkpoint}
@@ -19,6 +20,7 @@ use Rattle.tm_machine.specs.OnSlots.{turn_records}
 use Rattle.tm_machine.specs.Parts.{PartsState}
 use Rattle.tm_machine.specs.Told.{records_of}
 use Rattle.machine_life.specs.Turning.{unit_of}
+use Rattle.machine_checkpoint.specs.Taking.{TakesNext, checkpoint_sectors}
 
 -- ---- what a call appends
 
@@ -79,10 +81,34 @@ WritesBy state (Some Disk) false own old new disk disk' = ⊥
 WritesBy state (Some Memory) step own old new disk disk' = DoesNothing old new disk disk'
 WritesBy state (Some (Spent counter)) step own old new disk disk' = DoesNothing old new disk disk'
 
--- A call that leaves 32 sectors of the log's area free with its own records takes no checkpoint.
-abbrev pub IsFrugal : {D : Type 0} → (D → DiskState) → Option ControlFault → PartsState → List ℕ → ControlCall → JournalState → JournalState → D → D → Type 0
-IsFrugal state fault parts units call old new disk disk' =
-    LeavesSectors old.log (length (own_bytes parts units call)) → WritesBy state fault (has_lasting_step parts call) (own_bytes parts units call) old new disk disk'
+-- ---- whether a checkpoint is due
+
+-- None is due before a call that has no bytes of its own to append, or leaves 32 sectors of the log's area free with them.
+abbrev pub NoneIsDue : Writer → List ℕ → Type 0
+NoneIsDue log own = (own ≡ []) ⊎ LeavesSectors log (length own)
+
+-- A checkpoint was taken, in so many sectors at most, and from there the call took none.
+pub record WritesBehind {D : Type 0} (state : D → DiskState) (fault : Option ControlFault) (step : Bool) (own : List ℕ) (system : System) (sectors : ℕ) (old new : JournalState) (disk disk' : D) : Type 0 where
+  pub middle : JournalState
+  pub mid : D
+  pub takes : TakesNext system old middle
+  pub most : WritesAtMost sectors (state disk) (state mid)
+  pub writes : WritesBy state fault step own middle new mid disk'
+
+-- A call before which one is due: it takes one, in so many sectors at most, or the disk failed in it, or there was no memory.
+abbrev pub WritesDue : {D : Type 0} → (D → DiskState) → Option ControlFault → Bool → List ℕ → System → ℕ → JournalState → JournalState → D → D → Type 0
+WritesDue state None step own system sectors old new disk disk' = WritesBehind state None step own system sectors old new disk disk'
+WritesDue state (Some Disk) step own system sectors old new disk disk' =
+    WritesAtMost sectors (state disk) (state disk') ⊎ WritesBehind state (Some Disk) step own system sectors old new disk disk'
+WritesDue state (Some Memory) step own system sectors old new disk disk' = DoesNothing old new disk disk'
+WritesDue state (Some (Spent counter)) step own system sectors old new disk disk' = DoesNothing old new disk disk'
+
+-- Where no checkpoint is due before a call it takes none; where one is, it takes one and no more.
+pub record IsFrugal {D : Type 0} (state : D → DiskState) (fault : Option ControlFault) (parts : PartsState) (units : List ℕ) (call : ControlCall) (old new : JournalState) (disk disk' : D) : Type 0 where
+  pub spares : NoneIsDue old.log (own_bytes parts units call) → WritesBy state fault (has_lasting_step parts call) (own_bytes parts units call) old new disk disk'
+  pub due :
+      (NoneIsDue old.log (own_bytes parts units call) → ⊥)
+      → WritesDue state fault (has_lasting_step parts call) (own_bytes parts units call) parts.system (checkpoint_sectors parts.system parts.databases.changed old) old new disk disk'
 
 -- ---- what it counts on
 

@@ -1,6 +1,6 @@
 -- A checkpoint that was taken.
 use Rattle.std.specs.Prelude.{◌≡◌, ℕ, ◌+◌, false, List, [], Some, Ok}
-use Rattle.model_disk.specs.Disk.{Image, DiskState, Only}
+use Rattle.model_disk.specs.Disk.{Image, DiskState, Only, WritesAtMost}
 use Rattle.model_system.specs.System.{System}
 use Rattle.restart_data.specs.declared.restart.RestartSector.{RestartSector}
 use Rattle.restart_data.specs.Restart.{restart_in}
@@ -11,7 +11,8 @@ use Rattle.model_machine.specs.Machine.{Moment, moment_with}
 use Rattle.model_machine.specs.declared.entry.CheckpointRefused.{CheckpointRefused}
 use Rattle.model_machine.specs.declared.entry.CheckpointRefused.TheVariants.{BusyRegion, Fault}
 use Rattle.model_machine.specs.declared.entry.ControlFault.TheVariants.{Memory, Disk, Spent}
-use Rattle.machine_checkpoint.specs.Taking.{TakesNext}
+use Rattle.program_rows.specs.State.{DatabasesState, settled}
+use Rattle.machine_checkpoint.specs.Taking.{TakesNext, checkpoint_sectors}
 use Rattle.logged_machine.specs.Logged.{LoggedState}
 use Rattle.tm_machine.specs.Parts.{PartsState}
 
@@ -30,6 +31,17 @@ pub record IsTaken (system : System) (number : ℕ) (old new : JournalState) (di
   pub images : (image : Image) → disk.may_leave image → HasNumber system number image
   pub synced : Only disk.shown disk
   pub takes : TakesNext system old new
+
+-- What it leaves of the machine: no slot counts as changed, and the numbers of units are as they were.
+pub record LeavesSettled (before after : DatabasesState) (old new : List ℕ) (next next' : ℕ) : Type 0 where
+  pub databases : after ≡ settled before
+  pub units : new ≡ old
+  pub next_unit : next' ≡ next
+
+-- It writes no more sectors than those of what was appended, one of each slot that counts as changed, those of a snapshot's area,
+-- and the restart sector.
+abbrev pub WritesCheckpoint : System → List (List ℕ) → JournalState → DiskState → DiskState → Type 0
+WritesCheckpoint system changed journal old new = WritesAtMost (checkpoint_sectors system changed journal) old new
 
 -- Where a region's work forbids it, and where there is no memory, nothing at all has changed, and nothing was written.
 abbrev pub StaysUntaken : {D : Type 0} → CheckpointRefused → LoggedState D → LoggedState D → Type 0

@@ -1,5 +1,5 @@
 //! Inputs of terminals.
-ghost use Rattle.std.specs.Prelude.{◌≡◌, ◌<◌, ◌*◌, length, nat_le, true, None, IfErr, IfOk, OnErr};
+ghost use Rattle.std.specs.Prelude.{◌≡◌, ◌<◌, ◌≤◌, ◌*◌, length, nat_le, true, None, IfErr, IfOk, OnErr, OnOk};
 ghost use Rattle.parts_life.specs.Steps.{is_new};
 ghost use Rattle.model_machine.specs.declared.entry.ControlCall.TheVariants.{Input};
 ghost use Rattle.model_machine.specs.declared.entry.Entry.TheVariants.{Accept};
@@ -150,6 +150,7 @@ impl<D: Disk> LoggedMachine<D> {
         requires room { HasRoom room self.old.journal.log }
         ensures did { IfOk result (λ answer. Tried D.state (fault_in (Accept terminal.now number segments answer)) self.old self.new (Accept terminal.now number segments answer)) }
         ensures same { OnErr result (self.new ≡ self.old) }
+        ensures fits { OnOk result (length (own_bytes self.old.machine self.old.units (Input terminal.now number segments)) ≤ room) }
         ensures full { IfErr result (WhereFull (room < length (own_bytes self.old.machine self.old.units (Input terminal.now number segments)))) }
     {
         let told = tell_input(

@@ -1,5 +1,5 @@
 //! Acknowledgements of replies.
-ghost use Rattle.std.specs.Prelude.{◌≡◌, ◌<◌, ◌*◌, length, true, None, IfErr, IfOk, OnErr};
+ghost use Rattle.std.specs.Prelude.{◌≡◌, ◌<◌, ◌≤◌, ◌*◌, length, true, None, IfErr, IfOk, OnErr, OnOk};
 ghost use Rattle.model_machine.specs.declared.entry.ControlCall.TheVariants.{Acknowledge};
 ghost use Rattle.model_machine.specs.declared.entry.Entry.TheVariants.{Acked as AckedEntry};
 ghost use Rattle.logged_machine.specs.Logged.{LastsNow, spent_now};
@@ -100,6 +100,7 @@ impl<D: Disk> LoggedMachine<D> {
         requires room { HasRoom room self.old.journal.log }
         ensures did { IfOk result (λ answer. Tried D.state (fault_in (AckedEntry terminal.now number answer)) self.old self.new (AckedEntry terminal.now number answer)) }
         ensures same { OnErr result (self.new ≡ self.old) }
+        ensures fits { OnOk result (length (own_bytes self.old.machine self.old.units (Acknowledge terminal.now number)) ≤ room) }
         ensures full { IfErr result (WhereFull (room < length (own_bytes self.old.machine self.old.units (Acknowledge terminal.now number)))) }
     {
         let told = tell_acknowledgement(

@@ -1,5 +1,5 @@
 //! Checkpoints that are asked for.
-ghost use Rattle.std.specs.Prelude.{◌*◌, ◌≡◌, true, ℕ, None, Ok, IfErr, IfOk};
+ghost use Rattle.std.specs.Prelude.{◌*◌, ◌≡◌, true, ℕ, None, Ok, IfErr, IfOk, OnOk};
 ghost use Rattle.model_disk.specs.Disk.{Image};
 ghost use Rattle.model_machine.specs.Commands.{checkpoint_answer, unless_busy};
 ghost use Rattle.model_machine.specs.declared.entry.Entry.TheVariants.{Checked};
@@ -9,7 +9,7 @@ ghost use Rattle.logged_machine.specs.Frugal.{Raises};
 ghost use Rattle.logged_machine.specs.Goes.{Keeps, GoesBy, CrashesBy};
 ghost use Rattle.control_life.specs.Faults.{fault_in};
 ghost use Rattle.logged_machine.specs.Logged.{LastsNow, spent_now};
-ghost use Rattle.logged_machine.specs.Taken.{HasNumber, IsTaken, StaysUntaken, again};
+ghost use Rattle.logged_machine.specs.Taken.{HasNumber, IsTaken, LeavesSettled, StaysUntaken, WritesCheckpoint, again};
 
 use crate::logged::LoggedMachine;
 use command_answers::busy_region;
@@ -18,7 +18,8 @@ use tm_disk::Disk;
 use tm_machine::Parts;
 
 impl<D: Disk> LoggedMachine<D> {
-    /// Takes a checkpoint, of which it answers the number. Before a freeze no region may work on a message.
+    /// Takes a checkpoint, of which it answers the number. Before a freeze no region may work on a message. No slot counts as
+    /// changed behind it.
     pub fn checkpoint(&mut self, freeze: bool) -> Result<u64, CheckpointRefused>
         requires served { self.old.served ≡ true }
         requires unspent { spent_now self.old ≡ None }
@@ -29,6 +30,8 @@ impl<D: Disk> LoggedMachine<D> {
         ensures counts { CountsSince D.state (2 * self.old.machine.system.logs) self.old self.new }
         ensures raises { self.new.served ≡ true → Raises self.old.machine.system.logs self.old.journal self.new.journal self.old.next_unit self.new.next_unit }
         ensures taken { IfOk result (λ number. IsTaken self.new.machine.system number self.old.journal self.new.journal (D.state self.new.disk)) }
+        ensures settled { OnOk result (LeavesSettled self.old.machine.databases self.new.machine.databases self.old.units self.new.units self.old.next_unit self.new.next_unit) }
+        ensures writes { WritesCheckpoint self.old.machine.system self.old.machine.databases.changed self.old.journal (D.state self.old.disk) (D.state self.new.disk) }
         ensures refused { IfErr result (λ refusal. StaysUntaken refusal self.old self.new) }
     {
         let _before = self.is_served();
@@ -45,6 +48,8 @@ impl<D: Disk> LoggedMachine<D> {
         ensures counts { LeavesCounts D.state (2 * self.old.machine.system.logs) self.old self.new }
         ensures raises { self.new.served ≡ true → Raises self.old.machine.system.logs self.old.journal self.new.journal self.old.next_unit self.new.next_unit }
         ensures taken { IfOk result (λ number. IsTaken self.new.machine.system number self.old.journal self.new.journal (D.state self.new.disk)) }
+        ensures settled { OnOk result (LeavesSettled self.old.machine.databases self.new.machine.databases self.old.units self.new.units self.old.next_unit self.new.next_unit) }
+        ensures writes { WritesCheckpoint self.old.machine.system self.old.machine.databases.changed self.old.journal (D.state self.old.disk) (D.state self.new.disk) }
         ensures refused { IfErr result (λ refusal. StaysUntaken refusal self.old self.new) }
     {
         let _regions = self.parts.region_count();
@@ -64,6 +69,8 @@ impl<D: Disk> LoggedMachine<D> {
         ensures counts { LeavesCounts D.state (2 * self.old.machine.system.logs) self.old self.new }
         ensures raises { self.new.served ≡ true → Raises self.old.machine.system.logs self.old.journal self.new.journal self.old.next_unit self.new.next_unit }
         ensures taken { IfOk result (λ number. IsTaken self.new.machine.system number self.old.journal self.new.journal (D.state self.new.disk)) }
+        ensures settled { OnOk result (LeavesSettled self.old.machine.databases self.new.machine.databases self.old.units self.new.units self.old.next_unit self.new.next_unit) }
+        ensures writes { WritesCheckpoint self.old.machine.system self.old.machine.databases.changed self.old.journal (D.state self.old.disk) (D.state self.new.disk) }
         ensures refused { IfErr result (λ refusal. StaysUntaken refusal self.old self.new) }
     {
         match self.refresh() {

@@ -1,5 +1,5 @@
 //! Commands of an operator.
-ghost use Rattle.std.specs.Prelude.{◌≡◌, ◌<◌, ◌*◌, length, true, None, IfErr, IfOk, OnErr};
+ghost use Rattle.std.specs.Prelude.{◌≡◌, ◌<◌, ◌≤◌, ◌*◌, length, true, None, IfErr, IfOk, OnErr, OnOk};
 ghost use Rattle.std.specs.Option.{is_some};
 ghost use Rattle.model_machine.specs.declared.entry.ControlCall.TheVariants.{Command as CommandCall};
 ghost use Rattle.model_machine.specs.declared.entry.Entry.TheVariants.{Commanded};
@@ -114,6 +114,7 @@ impl<D: Disk> LoggedMachine<D> {
         requires room { HasRoom room self.old.journal.log }
         ensures did { IfOk result (λ answer. Tried D.state (fault_in (Commanded command.now answer)) self.old self.new (Commanded command.now answer)) }
         ensures same { OnErr result (self.new ≡ self.old) }
+        ensures fits { OnOk result (length (own_bytes self.old.machine self.old.units (CommandCall command.now)) ≤ room) }
         ensures full { IfErr result (WhereFull (room < length (own_bytes self.old.machine self.old.units (CommandCall command.now)))) }
     {
         let told = tell_command(

@@ -6,6 +6,7 @@ ghost use Rattle.model_machine.specs.Machine.{output_at, terminal_at};
 ghost use Rattle.model_machine.specs.Steps.{is_quiet, show_answer};
 ghost use Rattle.lasting_state.specs.Showing.{IsShownTo};
 ghost use Rattle.tm_machine.specs.Answers.{Answers};
+ghost use Rattle.tm_machine.specs.OnSlots.{HasSlots};
 ghost use Rattle.logged_machine.specs.Logged.{LastsNow};
 ghost use Rattle.logged_machine.specs.Goes.{Keeps};
 
@@ -51,8 +52,9 @@ impl<D: Disk> LoggedMachine<D> {
     pub fn is_served(&self) -> bool
         ensures value { result ≡ self.now.served }
         ensures lasts { LastsNow D.state self.now }
+        ensures slots { HasSlots self.now.machine }
     {
-        let _ = &self.parts;
+        let _stores = self.parts.stores();
         self.served
     }
 

@@ -35,7 +35,7 @@ impl<D: Disk> LoggedMachine<D> {
         requires only { Only (D.state disk).shown (D.state disk) }
         ensures opened { IfOk result (λ opened. Opens D.state how system text disk opened.0 opened.1) }
         ensures lasts { IfOk result (λ opened. LastsNow D.state opened.0) }
-        // No counter of what a crash leaves rises by more than one.
+        // Where no counter is above a bound, none of what a crash leaves is more than one above it.
         ensures counts { IfOk result (λ opened. Within (RaisesCounts 1 system) (D.state disk) (D.state opened.0.disk)) }
         ensures counts_back { IfErr result (λ refused. Within (RaisesCounts 1 system) (D.state disk) (D.state refused.disk)) }
         ensures refused { IfErr result (λ refused. HandsBack D.state how system text disk refused.error refused.disk refused.system refused.text) }

@@ -1,5 +1,5 @@
 //! Turns of regions.
-ghost use Rattle.std.specs.Prelude.{◌≡◌, ◌<◌, ◌*◌, length, true, None, IfErr, IfOk, OnErr};
+ghost use Rattle.std.specs.Prelude.{◌≡◌, ◌<◌, ◌≤◌, ◌*◌, length, true, None, IfErr, IfOk, OnErr, OnOk};
 ghost use Rattle.model_machine.specs.Machine.{IsRegion};
 ghost use Rattle.model_machine.specs.declared.entry.ControlCall.TheVariants.{Turn as TurnCall};
 ghost use Rattle.model_machine.specs.declared.entry.Entry.TheVariants.{Turn as TurnEntry};
@@ -103,6 +103,7 @@ impl<D: Disk> LoggedMachine<D> {
         requires room { HasRoom room self.old.journal.log }
         ensures did { IfOk result (λ turned. Tried D.state (fault_in (TurnEntry region turned)) self.old self.new (TurnEntry region turned)) }
         ensures same { OnErr result (self.new ≡ self.old) }
+        ensures fits { OnOk result (length (own_bytes self.old.machine self.old.units (TurnCall region)) ≤ room) }
         ensures full { IfErr result (WhereFull (room < length (own_bytes self.old.machine self.old.units (TurnCall region)))) }
     {
         let unit = unit_of(self.units.as_slice(), region);

@@ -1,15 +1,17 @@
 -- A checkpoint of a machine with its log: it may be taken, and the machine goes on with the life behind it.
 use Rattle.std.proofs.Common.{◌≡◌, ℕ, ◌+◌, ◌-◌, ◌<◌, ◌≤◌, Bool, nat_lt, not, ◌&&◌, List, [], length, refl, sym, ◌∙◌, ap, subst, arith, lt-ltb}
 use Rattle.std.proofs.lemmas.Bool.{ne_eqb}
-use Rattle.model_disk.specs.Disk.{Image, DiskState, Follows, Within}
+use Rattle.model_disk.specs.Disk.{Image, DiskState, Follows, Within, WritesAtMost}
 use Rattle.model_disk.proofs.Words.{within_where}
-use Rattle.model_image.specs.Areas.{data_first}
+use Rattle.model_image.specs.Areas.{data_first, snapshot_area}
 use Rattle.model_system.specs.System.{System}
 use Rattle.log_records.specs.declared.record.Record.{Record}
 use Rattle.log_writer.specs.Log.{IsReady, sectors_of}
 use Rattle.log_writer.specs.Writer.{Writer}
 use Rattle.restart_data.specs.declared.restart.RestartSector.{RestartSector}
+use Rattle.restart_data.specs.Snapshot as snapshot
 use Rattle.seg_store.specs.Changed.{AllStores}
+use Rattle.seg_store.specs.WriteBack.{changed_count}
 use Rattle.slot_law.specs.Committed.{Touches}
 use Rattle.checkpointing.specs.Parts.{CheckpointParts, next_restart, next_writer}
 use Rattle.checkpointing.specs.Checkpoint.{IsCheckpointed}
@@ -36,7 +38,7 @@ use Rattle.parts_life.proofs.Holding.{hold_touched}
 use Rattle.parts_life.proofs.Storing as storing
 use Rattle.machine_life.specs.Counted.{IsCounted}
 use Rattle.parts_life.specs.Logged.{IsLogged}
-use Rattle.machine_checkpoint.specs.Taking.{IsSnapshot}
+use Rattle.machine_checkpoint.specs.Taking.{IsSnapshot, checkpoint_sectors}
 
 module _ (parts : PartsState) (units : List ℕ) (next : ℕ) (journal : JournalState) (text : List ℕ) (disk : DiskState) (h : IsLogged parts units next journal text disk) (has : HasSlots parts)
     (c : IsCounted 0 parts.moment.lasting next journal) (bytes : List ℕ) (s : IsSnapshot parts units next (journal.restart.checkpoint + 1) bytes) where
@@ -197,3 +199,16 @@ goes_on parts units next journal text disk h has c bytes s system same stores ar
     ready size
     (subst (λ (a : AllStores). Follows (IsCheckpointed (parts_for parts.system journal.restart bytes) journal.log a) disk disk') are
     (subst (λ (y : System). Follows (IsCheckpointed (parts_for y journal.restart bytes) journal.log stores) disk disk') same follows))
+
+-- ---- how much is written
+
+-- A snapshot takes no more sectors than its area has.
+pub most : (system : System) (journal : JournalState) (stores : AllStores) (bytes : List ℕ) (old new : DiskState) → CanCheckpoint system journal stores bytes old
+    → WritesAtMost (sectors_of (length journal.log.appended) + changed_count stores.changed + snapshot.sectors_of (length bytes) + 1) old new
+    → WritesAtMost (checkpoint_sectors system stores.changed journal) old new
+most system journal stores bytes old new can writes =
+    within new.writes old.writes (sectors_of (length journal.log.appended)) (changed_count stores.changed) (snapshot.sectors_of (length bytes)) (snapshot_area system) writes
+    (subst (λ (y : System). snapshot.sectors_of (length bytes) ≤ snapshot_area y) can.is.of_system can.is.may.fits)
+  where
+    within : (w o a c s t : ℕ) → w ≤ o + (a + c + s + 1) → s ≤ t → w ≤ o + (a + c + t + 1)
+    within w o a c s t h k = omega (arith, h, k)

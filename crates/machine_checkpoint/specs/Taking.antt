@@ -1,9 +1,12 @@
 -- A snapshot, and a checkpoint that was not taken.
-use Rattle.std.specs.Prelude.{◌≡◌, ℕ, ◌≤◌, List, [], length}
+use Rattle.std.specs.Prelude.{◌≡◌, ℕ, ◌+◌, ◌≤◌, List, [], length}
 use Rattle.model_disk.specs.Disk.{DiskState, FailedSince}
 use Rattle.model_system.specs.System.{System}
 use Rattle.model_machine.specs.declared.entry.ControlFault.{ControlFault}
 use Rattle.model_machine.specs.declared.entry.ControlFault.TheVariants.{Memory, Disk, Spent}
+use Rattle.model_image.specs.Areas.{snapshot_area}
+use Rattle.log_writer.specs.Log.{sectors_of}
+use Rattle.seg_store.specs.WriteBack.{changed_count}
 use Rattle.checkpointing.specs.Parts.{next_restart, next_writer}
 use Rattle.disk_law.specs.Journal.{JournalState}
 use Rattle.journal.specs.Checkpoints.{parts_for}
@@ -33,6 +36,11 @@ pub record TakesNext (system : System) (old new : JournalState) : Type 0 where
   pub bytes : List ℕ
   pub restart : new.restart ≡ next_restart (parts_for system old.restart bytes) old.log
   pub log : new.log ≡ next_writer (parts_for system old.restart bytes) old.log
+
+-- How many sectors a checkpoint writes at most: those of what was appended, one of each slot that counts as changed, those of a
+-- snapshot's area, and the restart sector.
+abbrev pub checkpoint_sectors : System → List (List ℕ) → JournalState → ℕ
+checkpoint_sectors system changed journal = sectors_of (length journal.log.appended) + changed_count changed + snapshot_area system + 1
 
 -- Nothing has changed.
 pub record SameAll {D : Type 0} (parts parts' : PartsState) (journal journal' : JournalState) (disk disk' : D) : Type 0 where

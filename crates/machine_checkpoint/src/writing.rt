@@ -1,6 +1,6 @@
 //! Checkpoints.
 ghost use Rattle.std.specs.Prelude.{◌≡◌, ◌+◌, List, ℕ, OnOk, OnErr, IfErr};
-ghost use Rattle.model_disk.specs.Disk.{Stays, Within, Only, FailedSince};
+ghost use Rattle.model_disk.specs.Disk.{Stays, Within, WritesAtMost, Only, FailedSince};
 ghost use Rattle.checkpointing.specs.Checkpoint.{KeepsRecovery};
 ghost use Rattle.checkpointing.specs.Parts.{next_restart, next_writer};
 ghost use Rattle.checkpointing.specs.Texts.{KeepsText};
@@ -12,7 +12,7 @@ ghost use Rattle.program_rows.specs.OnSlots.{all_stores};
 ghost use Rattle.tm_machine.specs.OnSlots.{slots_now};
 ghost use Rattle.machine_life.specs.Counted.{IsCounted};
 ghost use Rattle.parts_life.specs.Logged.{IsLogged};
-ghost use Rattle.machine_checkpoint.specs.Taking.{IsSnapshot, TakesNext, Untaken};
+ghost use Rattle.machine_checkpoint.specs.Taking.{IsSnapshot, TakesNext, Untaken, checkpoint_sectors, settled_parts};
 
 use crate::snapshots::snapshot;
 use journal::Journal;
@@ -35,6 +35,7 @@ pub fn checkpoint<D: Disk>(
     requires counted { IsCounted 0 parts.old.moment.lasting next_unit journal.old }
     ensures system { parts.new.system ≡ parts.old.system }
     ensures moment { parts.new.moment ≡ parts.old.moment }
+    ensures settled { OnOk result (parts.new ≡ settled_parts parts.old) }
     ensures logged { OnOk result ((text : List ℕ) → IsLogged parts.old units.entry.now next_unit journal.old text (D.state disk.old) → IsLogged parts.new units.entry.now next_unit journal.new text (D.state disk.new)) }
     ensures stays { Stays (D.state disk.old) (D.state disk.new) }
     ensures any_moment { Within (KeepsRecovery parts.old.system) (D.state disk.old) (D.state disk.new) }
@@ -45,6 +46,7 @@ pub fn checkpoint<D: Disk>(
     ensures takes { OnOk result (TakesNext parts.old.system journal.old journal.new) }
     ensures synced { OnOk result (Only (D.state disk.new).shown (D.state disk.new)) }
     ensures no_fault { OnOk result ((D.state disk.new).faults ≡ (D.state disk.old).faults) }
+    ensures writes { WritesAtMost (checkpoint_sectors parts.old.system parts.old.databases.changed journal.old) (D.state disk.old) (D.state disk.new) }
     ensures cause { IfErr result (Untaken D.state parts.old parts.new journal.old journal.new disk.old disk.new) }
 {
     let _stores = parts.stores();
@@ -69,6 +71,7 @@ fn take<D: Disk>(
     requires can { CanCheckpoint parts.old.system journal.old (all_stores (slots_now parts.old)) bytes.now (D.state disk.old) }
     ensures system { parts.new.system ≡ parts.old.system }
     ensures moment { parts.new.moment ≡ parts.old.moment }
+    ensures settled { OnOk result (parts.new ≡ settled_parts parts.old) }
     ensures logged { OnOk result ((text units : List ℕ) → (next : ℕ) → IsLogged parts.old units next journal.old text (D.state disk.old) → IsCounted 0 parts.old.moment.lasting next journal.old → IsSnapshot parts.old units next (journal.old.restart.checkpoint + 1) bytes.entry.now → IsLogged parts.new units next journal.new text (D.state disk.new)) }
     ensures stays { Stays (D.state disk.old) (D.state disk.new) }
     ensures any_moment { Within (KeepsRecovery parts.old.system) (D.state disk.old) (D.state disk.new) }
@@ -78,6 +81,7 @@ fn take<D: Disk>(
     ensures log { OnOk result (journal.new.log ≡ next_writer (parts_for parts.old.system journal.old.restart bytes.entry.now) journal.old.log) }
     ensures synced { OnOk result (Only (D.state disk.new).shown (D.state disk.new)) }
     ensures no_fault { OnOk result ((D.state disk.new).faults ≡ (D.state disk.old).faults) }
+    ensures writes { WritesAtMost (checkpoint_sectors parts.old.system parts.old.databases.changed journal.old) (D.state disk.old) (D.state disk.new) }
     ensures cause { OnErr result (FailedSince (D.state disk.old) (D.state disk.new)) }
 {
     journal.checkpoint(alloc, disk, parts.system(), parts.stores(), bytes)?;

@@ -1,7 +1,7 @@
 -- A checkpoint with the records of a call behind it, by what was written.
 use Rattle.std.proofs.Common.{◌≡◌, ℕ, ◌+◌, ◌≤◌, List, [], ◌++◌, length, refl, sym, ◌∙◌, ap, subst, arith}
 use Rattle.std.specs.List.{flat_map}
-use Rattle.model_disk.specs.Disk.{DiskState, Within}
+use Rattle.model_disk.specs.Disk.{DiskState, Within, WritesAtMost}
 use Rattle.model_system.specs.System.{System}
 use Rattle.log_records.specs.declared.record.Record.{Record}
 use Rattle.log_records.specs.Spelling.{spelling}
@@ -22,7 +22,7 @@ use Rattle.machine_life.specs.Counted.{IsCounted}
 use Rattle.model_machine.specs.declared.entry.Entry.{Entry}
 use Rattle.parts_life.specs.Logged.{IsLogged}
 use Rattle.parts_life.proofs.Storing.{have_written}
-use Rattle.machine_checkpoint.specs.Taking.{IsSnapshot, settled_parts}
+use Rattle.machine_checkpoint.specs.Taking.{IsSnapshot, checkpoint_sectors, settled_parts}
 use Rattle.machine_checkpoint.proofs.Taken.{can, goes_on, raised, within_up_to}
 use Rattle.machine_telling.specs.Telling.{Appends}
 use Rattle.machine_due.specs.Due.{Behind, Checkpointed, CountsWithin, WroteTold}
@@ -74,6 +74,13 @@ module _ (begun told : JournalState) (records : List Record) (count : ℕ) (empt
   told_fits = subst (λ (l : List ℕ). sectors_of (length l) ≤ count) (sym told_bytes) (omega (arith, told_room))
 
 -- ---- the checkpoint
+
+-- so much is written with the system and the stores that the parts had
+pub written : (parts : PartsState) (journal : JournalState) (old new : DiskState) (system : System) → system ≡ parts.system → (stores : AllStores) → stores ≡ all_stores (slots_now parts)
+    → WritesAtMost (checkpoint_sectors system stores.changed journal) old new → WritesAtMost (checkpoint_sectors parts.system parts.databases.changed journal) old new
+written parts journal old new system same stores are writes =
+    subst (λ (a : AllStores). WritesAtMost (checkpoint_sectors parts.system a.changed journal) old new) are
+    (subst (λ (y : System). WritesAtMost (checkpoint_sectors y stores.changed journal) old new) same writes)
 
 module _ {D : Type 0} (state : D → DiskState) (parts : PartsState) (units : List ℕ) (next : ℕ) (journal : JournalState) (disk : D) (logged : (text : List ℕ) × IsLogged parts units next journal text (state disk))
     (has : HasSlots parts) (counted : IsCounted 0 parts.moment.lasting next journal) (bytes : List ℕ) (s : IsSnapshot parts units next (journal.restart.checkpoint + 1) bytes) where

@@ -1,5 +1,6 @@
 //! The calls.
 ghost use Rattle.std.specs.Prelude.{◌≡◌, ◌<◌, ℕ, List, false, length, IfErr, IfOk, IfSome, OnOk, Ok};
+ghost use Rattle.model_disk.specs.Disk.{WritesAtMost};
 ghost use Rattle.model_machine.specs.Machine.{IsRegion};
 ghost use Rattle.model_machine.specs.declared.entry.Entry.TheVariants.{Accept, Acked as AckedEntry, Commanded, Turn as TurnEntry};
 ghost use Rattle.model_machine.specs.declared.entry.ControlCall.TheVariants.{Input, Acknowledge, Command as CommandCall};
@@ -13,7 +14,7 @@ ghost use Rattle.tm_machine.specs.Told.{records_of};
 ghost use Rattle.machine_life.specs.Counted.{IsCounted};
 ghost use Rattle.machine_life.specs.Turning.{unit_of};
 ghost use Rattle.parts_life.specs.Logged.{IsLogged};
-ghost use Rattle.machine_checkpoint.specs.Taking.{Untaken, settled_parts};
+ghost use Rattle.machine_checkpoint.specs.Taking.{Untaken, checkpoint_sectors, settled_parts};
 ghost use Rattle.machine_telling.specs.Telling.{is_input_fault};
 ghost use Rattle.machine_due.specs.Due.{Behind, CountsWithin, KeepsOnDisk};
 
@@ -54,6 +55,7 @@ pub fn input_due<D: Disk>(
     ensures databases { OnOk result (parts.new.databases ≡ settled parts.old.databases) }
     ensures before { OnOk result (HasSlots (settled_parts parts.old)) }
     ensures slots { OnOk result (HasSlots parts.new) }
+    ensures writes { WritesAtMost (checkpoint_sectors parts.old.system parts.old.databases.changed journal.old) (D.state disk.old) (D.state disk.new) }
     ensures cause { IfErr result (Untaken D.state parts.old parts.new journal.old journal.new disk.old disk.new) }
 {
     let _before = parts.stores();
@@ -97,6 +99,7 @@ pub fn acknowledgement_due<D: Disk>(
     ensures databases { OnOk result (parts.new.databases ≡ settled parts.old.databases) }
     ensures before { OnOk result (HasSlots (settled_parts parts.old)) }
     ensures slots { OnOk result (HasSlots parts.new) }
+    ensures writes { WritesAtMost (checkpoint_sectors parts.old.system parts.old.databases.changed journal.old) (D.state disk.old) (D.state disk.new) }
     ensures cause { IfErr result (Untaken D.state parts.old parts.new journal.old journal.new disk.old disk.new) }
 {
     let _before = parts.stores();
@@ -141,6 +144,7 @@ pub fn command_due<D: Disk>(
     ensures databases { OnOk result (parts.new.databases ≡ settled parts.old.databases) }
     ensures before { OnOk result (HasSlots (settled_parts parts.old)) }
     ensures slots { OnOk result (HasSlots parts.new) }
+    ensures writes { WritesAtMost (checkpoint_sectors parts.old.system parts.old.databases.changed journal.old) (D.state disk.old) (D.state disk.new) }
     ensures cause { IfErr result (Untaken D.state parts.old parts.new journal.old journal.new disk.old disk.new) }
 {
     let _before = parts.stores();
@@ -189,6 +193,7 @@ pub fn turn_due<D: Disk>(
     ensures calls { IfOk result (TellByCall (changes_told (settled_parts parts.old) (unit_of units.entry.now region) region)) }
     ensures before { OnOk result (HasSlots (settled_parts parts.old)) }
     ensures slots { OnOk result (HasSlots parts.new) }
+    ensures writes { WritesAtMost (checkpoint_sectors parts.old.system parts.old.databases.changed journal.old) (D.state disk.old) (D.state disk.new) }
     ensures cause { IfErr result (Untaken D.state parts.old parts.new journal.old journal.new disk.old disk.new) }
 {
     let _before = parts.stores();

@@ -1,12 +1,12 @@
 //! Checkpoints with what was told behind them.
 ghost use Rattle.std.specs.Prelude.{◌≡◌, ◌≤◌, length, OnOk, OnErr};
-ghost use Rattle.model_disk.specs.Disk.{FailedSince, Within};
+ghost use Rattle.model_disk.specs.Disk.{FailedSince, Within, WritesAtMost};
 ghost use Rattle.checkpointing.specs.Steps.{Takes};
 ghost use Rattle.log_writer.specs.Log.{sectors_of};
 ghost use Rattle.journal.specs.Checkpoints.{CanCheckpoint, parts_for};
 ghost use Rattle.program_rows.specs.OnSlots.{all_stores};
 ghost use Rattle.tm_machine.specs.OnSlots.{slots_now};
-ghost use Rattle.machine_checkpoint.specs.Taking.{settled_parts};
+ghost use Rattle.machine_checkpoint.specs.Taking.{checkpoint_sectors, settled_parts};
 ghost use Rattle.machine_due.specs.Due.{KeepsOnDisk, WroteTold};
 
 use journal::Journal;
@@ -32,6 +32,7 @@ pub fn write_told<D: Disk>(
     ensures keeps { KeepsOnDisk system.entry.now (D.state disk.old) (D.state disk.new) }
     ensures steps { Within (Takes (parts_for system.entry.now journal.old.restart bytes.entry.now) journal.old.log stores.now) (D.state disk.old) (D.state disk.new) }
     ensures done { OnOk result (WroteTold system.entry.now stores.now bytes.entry.now told.old.log.appended journal.old journal.new (D.state disk.old) (D.state disk.new)) }
+    ensures writes { WritesAtMost (checkpoint_sectors system.entry.now stores.now.changed journal.old) (D.state disk.old) (D.state disk.new) }
     ensures cause { OnErr result (FailedSince (D.state disk.old) (D.state disk.new)) }
 {
     journal.checkpoint(alloc, disk, system, stores, bytes)?;
@@ -58,6 +59,7 @@ pub fn write_parts<D: Disk>(
     ensures settled { OnOk result (parts.new ≡ settled_parts parts.old) }
     ensures steps { Within (Takes (parts_for parts.old.system journal.old.restart bytes.entry.now) journal.old.log (all_stores (slots_now parts.old))) (D.state disk.old) (D.state disk.new) }
     ensures done { OnOk result (WroteTold parts.old.system (all_stores (slots_now parts.old)) bytes.entry.now told.old.log.appended journal.old journal.new (D.state disk.old) (D.state disk.new)) }
+    ensures writes { WritesAtMost (checkpoint_sectors parts.old.system parts.old.databases.changed journal.old) (D.state disk.old) (D.state disk.new) }
     ensures cause { OnErr result (FailedSince (D.state disk.old) (D.state disk.new)) }
 {
     write_told(

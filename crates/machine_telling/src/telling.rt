@@ -1,5 +1,7 @@
 //! Calls of the machine whose records are told behind what was appended to the log.
-ghost use Rattle.std.specs.Prelude.{◌≡◌, ◌<◌, false, length, IfOk, IfErr, IfSome, OnOk, OnErr, Ok};
+ghost use Rattle.std.specs.Prelude.{◌≡◌, ◌<◌, ◌≤◌, false, length, IfOk, IfErr, IfSome, OnOk, OnErr, Ok};
+ghost use Rattle.std.specs.List.{flat_map};
+ghost use Rattle.log_records.specs.Spelling.{spelling};
 ghost use Rattle.model_machine.specs.Machine.{IsRegion};
 ghost use Rattle.model_machine.specs.declared.entry.Entry.TheVariants.{Accept, Acked as AckedEntry, Commanded, Turn as TurnEntry};
 ghost use Rattle.model_machine.specs.declared.entry.ControlCall.TheVariants.{Input, Acknowledge, Command as CommandCall};
@@ -22,8 +24,8 @@ use std::alloc::Global;
 use tm_machine::Parts;
 use tm_types::{Name, Segments};
 
-/// Lets the machine take an input. The records of what lasts of it are appended; a refusal changes nothing, and is `Full` only
-/// where the records are longer than the room.
+/// Lets the machine take an input. The records of what lasts of it are appended, where they are no longer than the room; a refusal
+/// changes nothing, and is `Full` only where they are longer.
 pub fn tell_input(
     alloc: Global,
     parts: &mut Parts,
@@ -38,6 +40,7 @@ pub fn tell_input(
     ensures answer { IfOk result (λ answer. IsAnswered parts.old parts.new (Accept terminal.now number segments answer)) }
     ensures no_fault { IfOk result (λ answer. is_input_fault answer ≡ false) }
     ensures told { OnOk result (Appends (records_of parts.old.system parts.old.moment 0 (Input terminal.now number segments)) journal.old journal.new) }
+    ensures fits { OnOk result (length (flat_map spelling (records_of parts.old.system parts.old.moment 0 (Input terminal.now number segments))) ≤ room) }
     ensures full { IfErr result (WhereFull (IsLonger parts.old.system parts.old.moment 0 room (Input terminal.now number segments))) }
     ensures databases { parts.new.databases ≡ parts.old.databases }
     ensures before { HasSlots parts.old }
@@ -71,6 +74,7 @@ pub fn tell_acknowledgement(
     requires room { HasRoom room journal.old.log }
     ensures answer { IfOk result (λ answer. IsAnswered parts.old parts.new (AckedEntry terminal.now number answer)) }
     ensures told { OnOk result (Appends (records_of parts.old.system parts.old.moment 0 (Acknowledge terminal.now number)) journal.old journal.new) }
+    ensures fits { OnOk result (length (flat_map spelling (records_of parts.old.system parts.old.moment 0 (Acknowledge terminal.now number))) ≤ room) }
     ensures full { IfErr result (WhereFull (IsLonger parts.old.system parts.old.moment 0 room (Acknowledge terminal.now number))) }
     ensures databases { parts.new.databases ≡ parts.old.databases }
     ensures before { HasSlots parts.old }
@@ -101,6 +105,7 @@ pub fn tell_command(
     ensures answer { IfOk result (λ answer. IsAnswered parts.old parts.new (Commanded command.now answer)) }
     ensures named { IfSome (lasting_command command.now) (λ does. IsName (name_in does)) }
     ensures told { OnOk result (Appends (records_of parts.old.system parts.old.moment 0 (CommandCall command.now)) journal.old journal.new) }
+    ensures fits { OnOk result (length (flat_map spelling (records_of parts.old.system parts.old.moment 0 (CommandCall command.now))) ≤ room) }
     ensures full { IfErr result (WhereFull (IsLonger parts.old.system parts.old.moment 0 room (CommandCall command.now))) }
     ensures databases { parts.new.databases ≡ parts.old.databases }
     ensures before { HasSlots parts.old }
@@ -132,6 +137,7 @@ pub fn tell_turn(
     requires room { HasRoom room journal.old.log }
     ensures answer { IfOk result (λ turned. IsAnswered parts.old parts.new (TurnEntry region (Ok turned))) }
     ensures told { OnOk result (Appends (turn_records parts.old unit region) journal.old journal.new) }
+    ensures fits { OnOk result (length (flat_map spelling (turn_records parts.old unit region)) ≤ room) }
     ensures full { IfErr result (WhereFull (IsTurnLonger parts.old unit room region)) }
     ensures slots { IfOk result (TurnsSo parts.old parts.new unit region) }
     ensures calls { IfOk result (TellByCall (changes_told parts.old unit region)) }

@@ -13,7 +13,7 @@ use Rattle.machine_checkpoint.specs.Taking.{IsSnapshot}
 use Rattle.machine_due.specs.Due.{WroteTold}
 use Rattle.model_machine.specs.declared.entry.ControlCall.TheVariants.{Input}
 use Rattle.tm_machine.specs.Told.{records_of}
-use Rattle.machine_due.proofs.Behind.{behind, counts, has_settled, may}
+use Rattle.machine_due.proofs.Behind.{behind, counts, has_settled, may, written}
 use Rattle.machine_due.proofs.due.input_due.Goals as goal
 
 pub write_parts-requires-clause-can : goal.write_parts-requires-clause-can
@@ -50,3 +50,13 @@ returns-clause-counts g c =
     (subst (λ (r : RestartSector). IsSnapshot c.args.parts.now c.args.units.now c.args.next_unit (r.checkpoint + 1) c.in-Ok.bytes.items) c.restart.ensures c.in-Ok.ensures)
     c.write_parts.new.disk c.tell_input.new.parts.system c.in-Ok-tell_input.ensures.answer.system (all_stores (slots_now c.tell_input.new.parts)) (ap (λ (d : DatabasesState). all_stores (slots_in d)) c.tell_input.ensures.databases)
     (subst (λ (b : List ℕ). Within (Takes (parts_for c.tell_input.new.parts.system c.args.journal.now.restart b) c.args.journal.now.log (all_stores (slots_now c.tell_input.new.parts))) (g.D.Disk.state c.args.disk.now) (g.D.Disk.state c.write_parts.new.disk)) c.as_slice.ensures.value c.write_parts.ensures.steps)
+
+pub returns-in-Ok-write_parts-clause-writes : goal.returns-in-Ok-write_parts-clause-writes
+returns-in-Ok-write_parts-clause-writes g c =
+    written c.args.parts.now c.args.journal.now (g.D.Disk.state c.args.disk.now) (g.D.Disk.state c.write_parts.new.disk)
+    c.tell_input.new.parts.system c.in-Ok-tell_input.ensures.answer.system (all_stores (slots_now c.tell_input.new.parts)) (ap (λ (d : DatabasesState). all_stores (slots_in d)) c.tell_input.ensures.databases) c.write_parts.ensures.writes
+
+pub returns-clause-writes : goal.returns-clause-writes
+returns-clause-writes g c =
+    written c.args.parts.now c.args.journal.now (g.D.Disk.state c.args.disk.now) (g.D.Disk.state c.write_parts.new.disk)
+    c.tell_input.new.parts.system c.in-Ok-tell_input.ensures.answer.system (all_stores (slots_now c.tell_input.new.parts)) (ap (λ (d : DatabasesState). all_stores (slots_in d)) c.tell_input.ensures.databases) c.write_parts.ensures.writes

@@ -13,7 +13,7 @@ use Rattle.machine_checkpoint.specs.Taking.{IsSnapshot, settled_parts}
 use Rattle.machine_due.specs.Due.{WroteTold}
 use Rattle.machine_life.specs.Turning.{unit_of}
 use Rattle.machine_telling.specs.Telling.{Appends}
-use Rattle.machine_due.proofs.Behind.{behind, counts, may}
+use Rattle.machine_due.proofs.Behind.{behind, counts, may, written}
 use Rattle.machine_due.proofs.due.turn_due.Goals as goal
 
 pub write_told-requires-clause-can : goal.write_told-requires-clause-can
@@ -46,3 +46,13 @@ returns-clause-counts g c =
     (subst (λ (r : RestartSector). IsSnapshot c.args.parts.now c.args.units.now c.args.next_unit (r.checkpoint + 1) c.in-Ok.bytes.items) c.restart.ensures c.in-Ok.ensures)
     c.write_told.new.disk c.system-2.result.now (c.system-2.ensures ∙ c.in-Ok-tell_turn.ensures.answer.system ∙ ap (λ (p : PartsState). p.system) c.settle.ensures) c.in-Ok-copy.stores (c.in-Ok-copy.ensures ∙ c.stores.ensures.value)
     (subst (λ (b : List ℕ). Within (Takes (parts_for c.system-2.result.now c.args.journal.now.restart b) c.args.journal.now.log c.in-Ok-copy.stores) (g.D.Disk.state c.args.disk.now) (g.D.Disk.state c.write_told.new.disk)) c.as_slice.ensures.value c.write_told.ensures.steps)
+
+pub returns-in-Ok-write_told-clause-writes : goal.returns-in-Ok-write_told-clause-writes
+returns-in-Ok-write_told-clause-writes g c =
+    written c.args.parts.now c.args.journal.now (g.D.Disk.state c.args.disk.now) (g.D.Disk.state c.write_told.new.disk)
+    c.system-2.result.now (c.system-2.ensures ∙ c.in-Ok-tell_turn.ensures.answer.system ∙ ap (λ (p : PartsState). p.system) c.settle.ensures) c.in-Ok-copy.stores (c.in-Ok-copy.ensures ∙ c.stores.ensures.value) c.write_told.ensures.writes
+
+pub returns-clause-writes : goal.returns-clause-writes
+returns-clause-writes g c =
+    written c.args.parts.now c.args.journal.now (g.D.Disk.state c.args.disk.now) (g.D.Disk.state c.write_told.new.disk)
+    c.system-2.result.now (c.system-2.ensures ∙ c.in-Ok-tell_turn.ensures.answer.system ∙ ap (λ (p : PartsState). p.system) c.settle.ensures) c.in-Ok-copy.stores (c.in-Ok-copy.ensures ∙ c.stores.ensures.value) c.write_told.ensures.writes

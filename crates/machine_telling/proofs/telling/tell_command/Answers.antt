@@ -11,3 +11,6 @@ returns-clause-told c =
     (record { room_is = c.requires.room; nothing = c.new-told.ensures.items; log = c.exchange.ensures.log; before_is = c.exchange.ensures.bytes; restart = c.exchange.ensures.restart })
     c.command-answer.new.told.items c.exchange-2.new.self _ c.exchange-2.ensures.log c.exchange-2.ensures.restart (subst IsBytes c.as_slice.ensures.value c.see_bytes.ensures) told.told told.valid told.fits)
     c.command-answer.ensures.told
+
+pub returns-clause-fits : goal.returns-clause-fits
+returns-clause-fits c = on_ok c.command-answer.result (λ told. told.fits) c.command-answer.ensures.told

@@ -20,3 +20,8 @@ returns-clause-told c =
     appends c.args.room c.args.journal.now c.exchange.new.self c.new-told.result.items c.exchange.new.bytes.items
     (record { room_is = c.requires.room; nothing = c.new-told.ensures.items; log = c.exchange.ensures.log; before_is = c.exchange.ensures.bytes; restart = c.exchange.ensures.restart })
     c.accept-answer.new.told.items c.exchange-2.new.self _ c.exchange-2.ensures.log c.exchange-2.ensures.restart (subst IsBytes c.as_slice.ensures.value c.see_bytes.ensures) told.told told.valid told.fits
+
+pub returns-clause-fits : goal.returns-clause-fits
+returns-clause-fits c =
+    (input_tells c.args.parts.now.system c.args.parts.now.moment c.args.room c.args.terminal.now c.args.number c.args.segments (Input c.args.terminal.now c.args.number c.args.segments) c.exchange.new.bytes.items
+    c.accept-answer.new.told.items c.in_ok-answer.answer (sym c.is_fault.ensures ∙ c.if-is_fault.false) c.in_ok-answer.ensures.told).fits

@@ -12,3 +12,6 @@ returns-clause-told c =
     (record { room_is = c.requires.room; nothing = c.new-told.ensures.items; log = c.exchange.ensures.log; before_is = c.exchange.ensures.bytes; restart = c.exchange.ensures.restart })
     c.turn-turned.new.told.items c.exchange-2.new.self _ c.exchange-2.ensures.log c.exchange-2.ensures.restart (subst IsBytes c.as_slice.ensures.value c.see_bytes.ensures) told.told (all_both _ _ told.changes told.steps) told.fits)
     c.turn-turned.ensures.told
+
+pub returns-clause-fits : goal.returns-clause-fits
+returns-clause-fits c = on_ok c.turn-turned.result (λ told. told.fits) c.turn-turned.ensures.told

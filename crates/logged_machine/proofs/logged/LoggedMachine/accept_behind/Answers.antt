@@ -1,17 +1,13 @@
 -- behind a checkpoint
-use Rattle.std.proofs.Common.{◌≡◌, ◌∙◌, sym, ap, subst, refl, Ok, Err, List, ℕ}
+use Rattle.std.proofs.Common.{◌∙◌, sym, ap, subst, refl, Err, List, ℕ}
 use Rattle.model_machine.specs.declared.entry.ControlFault.TheVariants.{Disk}
 use Rattle.model_machine.specs.declared.entry.InputRefused.TheVariants.{Fault}
-use Rattle.model_machine.specs.declared.entry.ControlCall.TheVariants.{Input}
 use Rattle.model_machine.specs.declared.entry.Entry.TheVariants.{Accept}
-use Rattle.parts_life.specs.Steps.{is_new}
-use Rattle.tm_machine.specs.Told.{records_of}
 use Rattle.machine_life.specs.Counted.{IsCounted}
 use Rattle.parts_life.specs.Logged.{IsLogged}
-use Rattle.machine_checkpoint.specs.Taking.{settled_parts}
 use Rattle.logged_machine.specs.Logged.{LoggedState}
-use Rattle.logged_machine.proofs.Attempts.{input_attempt, force_area, force_ready, force_sequences, logged_forced, logged_quiet}
-use Rattle.logged_machine.proofs.Due.{behind_of, done_failed, done_forced, done_quiet, done_refused, logged_refused, mid_counted, mid_logged}
+use Rattle.logged_machine.proofs.Behind.{area, behind_input, failed_done, forced_done, forced_logged, quiet_done, quiet_logged, ready, sequences}
+use Rattle.logged_machine.proofs.Due.{done_refused}
 use Rattle.logged_machine.proofs.logged.LoggedMachine.accept_behind.Goals as goal
 
 pub input_due-done-requires-clause-logged : goal.input_due-done-requires-clause-logged
@@ -22,58 +18,80 @@ input_due-done-requires-clause-logged g c = (
 
 pub invariant_of-self-then-not-is_new : goal.invariant_of-self-then-not-is_new
 invariant_of-self-then-not-is_new g c =
-    λ up. logged_quiet g.D.Disk.state (settled_parts c.self.inside.parts) c.input_due-done.new.parts c.self.inside.text (behind_of g.D.Disk.state c.self.inside.parts c.self.inside.units.items c.as_slice.result.now c.self.inside.next_unit (records_of c.self.inside.parts.system c.self.inside.parts.moment 0 (Input c.args.terminal.now c.args.number c.args.segments)) c.self.inside.journal c.input_due-done.new.journal c.self.inside.disk c.input_due-done.new.disk c.as_slice.ensures.value c.in-Ok.ensures.behind).middle c.input_due-done.new.journal c.self.inside.units.items c.self.inside.units.items c.self.inside.next_unit c.self.inside.next_unit c.input_due-done.new.disk (Accept c.args.terminal.now c.args.number c.args.segments c.in-Ok.answer) (is_new c.in-Ok.answer) c.self.inside.served
-    (input_attempt g.D.Disk.state (settled_parts c.self.inside.parts) c.input_due-done.new.parts c.self.inside.text (behind_of g.D.Disk.state c.self.inside.parts c.self.inside.units.items c.as_slice.result.now c.self.inside.next_unit (records_of c.self.inside.parts.system c.self.inside.parts.moment 0 (Input c.args.terminal.now c.args.number c.args.segments)) c.self.inside.journal c.input_due-done.new.journal c.self.inside.disk c.input_due-done.new.disk c.as_slice.ensures.value c.in-Ok.ensures.behind).middle c.input_due-done.new.journal c.self.inside.units.items c.self.inside.next_unit c.input_due-done.new.disk (mid_logged g.D.Disk.state c.self.inside.parts c.self.inside.text c.self.inside.journal c.input_due-done.new.journal c.self.inside.units.items c.self.inside.next_unit c.self.inside.disk c.input_due-done.new.disk c.self.inside.served (c.self.invariant (ap (λ (v : LoggedState _). v.served) c.self.view_is ∙ c.requires.served)) (ap (λ (v : LoggedState _). v.served) c.self.view_is ∙ c.requires.served) (subst (λ (v : LoggedState _). IsCounted 0 v.machine.moment.lasting v.next_unit v.journal) (sym c.self.view_is) c.requires.counted) c.input_due-done.ensures.keeps c.input_due-done.ensures.counts (records_of c.self.inside.parts.system c.self.inside.parts.moment 0 (Input c.args.terminal.now c.args.number c.args.segments)) (behind_of g.D.Disk.state c.self.inside.parts c.self.inside.units.items c.as_slice.result.now c.self.inside.next_unit (records_of c.self.inside.parts.system c.self.inside.parts.moment 0 (Input c.args.terminal.now c.args.number c.args.segments)) c.self.inside.journal c.input_due-done.new.journal c.self.inside.disk c.input_due-done.new.disk c.as_slice.ensures.value c.in-Ok.ensures.behind)) (mid_counted g.D.Disk.state c.self.inside.parts c.self.inside.text c.self.inside.journal c.input_due-done.new.journal c.self.inside.units.items c.self.inside.next_unit c.self.inside.disk c.input_due-done.new.disk c.self.inside.served (c.self.invariant (ap (λ (v : LoggedState _). v.served) c.self.view_is ∙ c.requires.served)) (ap (λ (v : LoggedState _). v.served) c.self.view_is ∙ c.requires.served) (subst (λ (v : LoggedState _). IsCounted 0 v.machine.moment.lasting v.next_unit v.journal) (sym c.self.view_is) c.requires.counted) c.input_due-done.ensures.keeps c.input_due-done.ensures.counts (records_of c.self.inside.parts.system c.self.inside.parts.moment 0 (Input c.args.terminal.now c.args.number c.args.segments)) (behind_of g.D.Disk.state c.self.inside.parts c.self.inside.units.items c.as_slice.result.now c.self.inside.next_unit (records_of c.self.inside.parts.system c.self.inside.parts.moment 0 (Input c.args.terminal.now c.args.number c.args.segments)) c.self.inside.journal c.input_due-done.new.journal c.self.inside.disk c.input_due-done.new.disk c.as_slice.ensures.value c.in-Ok.ensures.behind)) c.in-Ok.ensures.before c.in-Ok.ensures.slots
-    c.args.terminal.now c.args.number c.args.segments c.in-Ok.answer c.in-Ok.ensures.answer c.in-Ok.ensures.no_fault (behind_of g.D.Disk.state c.self.inside.parts c.self.inside.units.items c.as_slice.result.now c.self.inside.next_unit (records_of c.self.inside.parts.system c.self.inside.parts.moment 0 (Input c.args.terminal.now c.args.number c.args.segments)) c.self.inside.journal c.input_due-done.new.journal c.self.inside.disk c.input_due-done.new.disk c.as_slice.ensures.value c.in-Ok.ensures.behind).appends c.in-Ok.ensures.databases c.requires.small) (sym c.if-not-is_new.ensures)
+    λ up. quiet_logged g.D.Disk.state
+    (behind_input g.D.Disk.state (ap (λ (v : LoggedState _). v.served) c.self.view_is ∙ c.requires.served) (c.self.invariant (ap (λ (v : LoggedState _). v.served) c.self.view_is ∙ c.requires.served))
+    (subst (λ (v : LoggedState _). IsCounted 0 v.machine.moment.lasting v.next_unit v.journal) (sym c.self.view_is) c.requires.counted)
+    c.input_due-done.ensures.keeps c.input_due-done.ensures.counts c.input_due-done.ensures.writes c.as_slice.ensures.value c.in-Ok.ensures.before c.in-Ok.ensures.slots
+    c.args.terminal.now c.args.number c.args.segments c.in-Ok.answer c.in-Ok.ensures.behind c.in-Ok.ensures.answer c.in-Ok.ensures.no_fault c.in-Ok.ensures.databases c.requires.small) (sym c.if-not-is_new.ensures)
 
 pub force-requires-clause-area : goal.force-requires-clause-area
 force-requires-clause-area g c =
-    force_area g.D.Disk.state (settled_parts c.self.inside.parts) c.input_due-done.new.parts c.self.inside.text (behind_of g.D.Disk.state c.self.inside.parts c.self.inside.units.items c.as_slice.result.now c.self.inside.next_unit (records_of c.self.inside.parts.system c.self.inside.parts.moment 0 (Input c.args.terminal.now c.args.number c.args.segments)) c.self.inside.journal c.input_due-done.new.journal c.self.inside.disk c.input_due-done.new.disk c.as_slice.ensures.value c.in-Ok.ensures.behind).middle c.input_due-done.new.journal c.self.inside.units.items c.self.inside.units.items c.self.inside.next_unit c.self.inside.next_unit c.input_due-done.new.disk (Accept c.args.terminal.now c.args.number c.args.segments c.in-Ok.answer) (is_new c.in-Ok.answer) c.self.inside.served
-    (input_attempt g.D.Disk.state (settled_parts c.self.inside.parts) c.input_due-done.new.parts c.self.inside.text (behind_of g.D.Disk.state c.self.inside.parts c.self.inside.units.items c.as_slice.result.now c.self.inside.next_unit (records_of c.self.inside.parts.system c.self.inside.parts.moment 0 (Input c.args.terminal.now c.args.number c.args.segments)) c.self.inside.journal c.input_due-done.new.journal c.self.inside.disk c.input_due-done.new.disk c.as_slice.ensures.value c.in-Ok.ensures.behind).middle c.input_due-done.new.journal c.self.inside.units.items c.self.inside.next_unit c.input_due-done.new.disk (mid_logged g.D.Disk.state c.self.inside.parts c.self.inside.text c.self.inside.journal c.input_due-done.new.journal c.self.inside.units.items c.self.inside.next_unit c.self.inside.disk c.input_due-done.new.disk c.self.inside.served (c.self.invariant (ap (λ (v : LoggedState _). v.served) c.self.view_is ∙ c.requires.served)) (ap (λ (v : LoggedState _). v.served) c.self.view_is ∙ c.requires.served) (subst (λ (v : LoggedState _). IsCounted 0 v.machine.moment.lasting v.next_unit v.journal) (sym c.self.view_is) c.requires.counted) c.input_due-done.ensures.keeps c.input_due-done.ensures.counts (records_of c.self.inside.parts.system c.self.inside.parts.moment 0 (Input c.args.terminal.now c.args.number c.args.segments)) (behind_of g.D.Disk.state c.self.inside.parts c.self.inside.units.items c.as_slice.result.now c.self.inside.next_unit (records_of c.self.inside.parts.system c.self.inside.parts.moment 0 (Input c.args.terminal.now c.args.number c.args.segments)) c.self.inside.journal c.input_due-done.new.journal c.self.inside.disk c.input_due-done.new.disk c.as_slice.ensures.value c.in-Ok.ensures.behind)) (mid_counted g.D.Disk.state c.self.inside.parts c.self.inside.text c.self.inside.journal c.input_due-done.new.journal c.self.inside.units.items c.self.inside.next_unit c.self.inside.disk c.input_due-done.new.disk c.self.inside.served (c.self.invariant (ap (λ (v : LoggedState _). v.served) c.self.view_is ∙ c.requires.served)) (ap (λ (v : LoggedState _). v.served) c.self.view_is ∙ c.requires.served) (subst (λ (v : LoggedState _). IsCounted 0 v.machine.moment.lasting v.next_unit v.journal) (sym c.self.view_is) c.requires.counted) c.input_due-done.ensures.keeps c.input_due-done.ensures.counts (records_of c.self.inside.parts.system c.self.inside.parts.moment 0 (Input c.args.terminal.now c.args.number c.args.segments)) (behind_of g.D.Disk.state c.self.inside.parts c.self.inside.units.items c.as_slice.result.now c.self.inside.next_unit (records_of c.self.inside.parts.system c.self.inside.parts.moment 0 (Input c.args.terminal.now c.args.number c.args.segments)) c.self.inside.journal c.input_due-done.new.journal c.self.inside.disk c.input_due-done.new.disk c.as_slice.ensures.value c.in-Ok.ensures.behind)) c.in-Ok.ensures.before c.in-Ok.ensures.slots
-    c.args.terminal.now c.args.number c.args.segments c.in-Ok.answer c.in-Ok.ensures.answer c.in-Ok.ensures.no_fault (behind_of g.D.Disk.state c.self.inside.parts c.self.inside.units.items c.as_slice.result.now c.self.inside.next_unit (records_of c.self.inside.parts.system c.self.inside.parts.moment 0 (Input c.args.terminal.now c.args.number c.args.segments)) c.self.inside.journal c.input_due-done.new.journal c.self.inside.disk c.input_due-done.new.disk c.as_slice.ensures.value c.in-Ok.ensures.behind).appends c.in-Ok.ensures.databases c.requires.small)
+    area g.D.Disk.state
+    (behind_input g.D.Disk.state (ap (λ (v : LoggedState _). v.served) c.self.view_is ∙ c.requires.served) (c.self.invariant (ap (λ (v : LoggedState _). v.served) c.self.view_is ∙ c.requires.served))
+    (subst (λ (v : LoggedState _). IsCounted 0 v.machine.moment.lasting v.next_unit v.journal) (sym c.self.view_is) c.requires.counted)
+    c.input_due-done.ensures.keeps c.input_due-done.ensures.counts c.input_due-done.ensures.writes c.as_slice.ensures.value c.in-Ok.ensures.before c.in-Ok.ensures.slots
+    c.args.terminal.now c.args.number c.args.segments c.in-Ok.answer c.in-Ok.ensures.behind c.in-Ok.ensures.answer c.in-Ok.ensures.no_fault c.in-Ok.ensures.databases c.requires.small)
 
 pub force-requires-clause-sequences : goal.force-requires-clause-sequences
 force-requires-clause-sequences g c =
-    force_sequences g.D.Disk.state (settled_parts c.self.inside.parts) c.input_due-done.new.parts c.self.inside.text (behind_of g.D.Disk.state c.self.inside.parts c.self.inside.units.items c.as_slice.result.now c.self.inside.next_unit (records_of c.self.inside.parts.system c.self.inside.parts.moment 0 (Input c.args.terminal.now c.args.number c.args.segments)) c.self.inside.journal c.input_due-done.new.journal c.self.inside.disk c.input_due-done.new.disk c.as_slice.ensures.value c.in-Ok.ensures.behind).middle c.input_due-done.new.journal c.self.inside.units.items c.self.inside.units.items c.self.inside.next_unit c.self.inside.next_unit c.input_due-done.new.disk (Accept c.args.terminal.now c.args.number c.args.segments c.in-Ok.answer) (is_new c.in-Ok.answer) c.self.inside.served
-    (input_attempt g.D.Disk.state (settled_parts c.self.inside.parts) c.input_due-done.new.parts c.self.inside.text (behind_of g.D.Disk.state c.self.inside.parts c.self.inside.units.items c.as_slice.result.now c.self.inside.next_unit (records_of c.self.inside.parts.system c.self.inside.parts.moment 0 (Input c.args.terminal.now c.args.number c.args.segments)) c.self.inside.journal c.input_due-done.new.journal c.self.inside.disk c.input_due-done.new.disk c.as_slice.ensures.value c.in-Ok.ensures.behind).middle c.input_due-done.new.journal c.self.inside.units.items c.self.inside.next_unit c.input_due-done.new.disk (mid_logged g.D.Disk.state c.self.inside.parts c.self.inside.text c.self.inside.journal c.input_due-done.new.journal c.self.inside.units.items c.self.inside.next_unit c.self.inside.disk c.input_due-done.new.disk c.self.inside.served (c.self.invariant (ap (λ (v : LoggedState _). v.served) c.self.view_is ∙ c.requires.served)) (ap (λ (v : LoggedState _). v.served) c.self.view_is ∙ c.requires.served) (subst (λ (v : LoggedState _). IsCounted 0 v.machine.moment.lasting v.next_unit v.journal) (sym c.self.view_is) c.requires.counted) c.input_due-done.ensures.keeps c.input_due-done.ensures.counts (records_of c.self.inside.parts.system c.self.inside.parts.moment 0 (Input c.args.terminal.now c.args.number c.args.segments)) (behind_of g.D.Disk.state c.self.inside.parts c.self.inside.units.items c.as_slice.result.now c.self.inside.next_unit (records_of c.self.inside.parts.system c.self.inside.parts.moment 0 (Input c.args.terminal.now c.args.number c.args.segments)) c.self.inside.journal c.input_due-done.new.journal c.self.inside.disk c.input_due-done.new.disk c.as_slice.ensures.value c.in-Ok.ensures.behind)) (mid_counted g.D.Disk.state c.self.inside.parts c.self.inside.text c.self.inside.journal c.input_due-done.new.journal c.self.inside.units.items c.self.inside.next_unit c.self.inside.disk c.input_due-done.new.disk c.self.inside.served (c.self.invariant (ap (λ (v : LoggedState _). v.served) c.self.view_is ∙ c.requires.served)) (ap (λ (v : LoggedState _). v.served) c.self.view_is ∙ c.requires.served) (subst (λ (v : LoggedState _). IsCounted 0 v.machine.moment.lasting v.next_unit v.journal) (sym c.self.view_is) c.requires.counted) c.input_due-done.ensures.keeps c.input_due-done.ensures.counts (records_of c.self.inside.parts.system c.self.inside.parts.moment 0 (Input c.args.terminal.now c.args.number c.args.segments)) (behind_of g.D.Disk.state c.self.inside.parts c.self.inside.units.items c.as_slice.result.now c.self.inside.next_unit (records_of c.self.inside.parts.system c.self.inside.parts.moment 0 (Input c.args.terminal.now c.args.number c.args.segments)) c.self.inside.journal c.input_due-done.new.journal c.self.inside.disk c.input_due-done.new.disk c.as_slice.ensures.value c.in-Ok.ensures.behind)) c.in-Ok.ensures.before c.in-Ok.ensures.slots
-    c.args.terminal.now c.args.number c.args.segments c.in-Ok.answer c.in-Ok.ensures.answer c.in-Ok.ensures.no_fault (behind_of g.D.Disk.state c.self.inside.parts c.self.inside.units.items c.as_slice.result.now c.self.inside.next_unit (records_of c.self.inside.parts.system c.self.inside.parts.moment 0 (Input c.args.terminal.now c.args.number c.args.segments)) c.self.inside.journal c.input_due-done.new.journal c.self.inside.disk c.input_due-done.new.disk c.as_slice.ensures.value c.in-Ok.ensures.behind).appends c.in-Ok.ensures.databases c.requires.small) (mid_counted g.D.Disk.state c.self.inside.parts c.self.inside.text c.self.inside.journal c.input_due-done.new.journal c.self.inside.units.items c.self.inside.next_unit c.self.inside.disk c.input_due-done.new.disk c.self.inside.served (c.self.invariant (ap (λ (v : LoggedState _). v.served) c.self.view_is ∙ c.requires.served)) (ap (λ (v : LoggedState _). v.served) c.self.view_is ∙ c.requires.served) (subst (λ (v : LoggedState _). IsCounted 0 v.machine.moment.lasting v.next_unit v.journal) (sym c.self.view_is) c.requires.counted) c.input_due-done.ensures.keeps c.input_due-done.ensures.counts (records_of c.self.inside.parts.system c.self.inside.parts.moment 0 (Input c.args.terminal.now c.args.number c.args.segments)) (behind_of g.D.Disk.state c.self.inside.parts c.self.inside.units.items c.as_slice.result.now c.self.inside.next_unit (records_of c.self.inside.parts.system c.self.inside.parts.moment 0 (Input c.args.terminal.now c.args.number c.args.segments)) c.self.inside.journal c.input_due-done.new.journal c.self.inside.disk c.input_due-done.new.disk c.as_slice.ensures.value c.in-Ok.ensures.behind))
+    sequences g.D.Disk.state
+    (behind_input g.D.Disk.state (ap (λ (v : LoggedState _). v.served) c.self.view_is ∙ c.requires.served) (c.self.invariant (ap (λ (v : LoggedState _). v.served) c.self.view_is ∙ c.requires.served))
+    (subst (λ (v : LoggedState _). IsCounted 0 v.machine.moment.lasting v.next_unit v.journal) (sym c.self.view_is) c.requires.counted)
+    c.input_due-done.ensures.keeps c.input_due-done.ensures.counts c.input_due-done.ensures.writes c.as_slice.ensures.value c.in-Ok.ensures.before c.in-Ok.ensures.slots
+    c.args.terminal.now c.args.number c.args.segments c.in-Ok.answer c.in-Ok.ensures.behind c.in-Ok.ensures.answer c.in-Ok.ensures.no_fault c.in-Ok.ensures.databases c.requires.small)
 
 pub force-requires-clause-ready : goal.force-requires-clause-ready
 force-requires-clause-ready g c =
-    force_ready g.D.Disk.state (settled_parts c.self.inside.parts) c.input_due-done.new.parts c.self.inside.text (behind_of g.D.Disk.state c.self.inside.parts c.self.inside.units.items c.as_slice.result.now c.self.inside.next_unit (records_of c.self.inside.parts.system c.self.inside.parts.moment 0 (Input c.args.terminal.now c.args.number c.args.segments)) c.self.inside.journal c.input_due-done.new.journal c.self.inside.disk c.input_due-done.new.disk c.as_slice.ensures.value c.in-Ok.ensures.behind).middle c.input_due-done.new.journal c.self.inside.units.items c.self.inside.units.items c.self.inside.next_unit c.self.inside.next_unit c.input_due-done.new.disk (Accept c.args.terminal.now c.args.number c.args.segments c.in-Ok.answer) (is_new c.in-Ok.answer) c.self.inside.served
-    (input_attempt g.D.Disk.state (settled_parts c.self.inside.parts) c.input_due-done.new.parts c.self.inside.text (behind_of g.D.Disk.state c.self.inside.parts c.self.inside.units.items c.as_slice.result.now c.self.inside.next_unit (records_of c.self.inside.parts.system c.self.inside.parts.moment 0 (Input c.args.terminal.now c.args.number c.args.segments)) c.self.inside.journal c.input_due-done.new.journal c.self.inside.disk c.input_due-done.new.disk c.as_slice.ensures.value c.in-Ok.ensures.behind).middle c.input_due-done.new.journal c.self.inside.units.items c.self.inside.next_unit c.input_due-done.new.disk (mid_logged g.D.Disk.state c.self.inside.parts c.self.inside.text c.self.inside.journal c.input_due-done.new.journal c.self.inside.units.items c.self.inside.next_unit c.self.inside.disk c.input_due-done.new.disk c.self.inside.served (c.self.invariant (ap (λ (v : LoggedState _). v.served) c.self.view_is ∙ c.requires.served)) (ap (λ (v : LoggedState _). v.served) c.self.view_is ∙ c.requires.served) (subst (λ (v : LoggedState _). IsCounted 0 v.machine.moment.lasting v.next_unit v.journal) (sym c.self.view_is) c.requires.counted) c.input_due-done.ensures.keeps c.input_due-done.ensures.counts (records_of c.self.inside.parts.system c.self.inside.parts.moment 0 (Input c.args.terminal.now c.args.number c.args.segments)) (behind_of g.D.Disk.state c.self.inside.parts c.self.inside.units.items c.as_slice.result.now c.self.inside.next_unit (records_of c.self.inside.parts.system c.self.inside.parts.moment 0 (Input c.args.terminal.now c.args.number c.args.segments)) c.self.inside.journal c.input_due-done.new.journal c.self.inside.disk c.input_due-done.new.disk c.as_slice.ensures.value c.in-Ok.ensures.behind)) (mid_counted g.D.Disk.state c.self.inside.parts c.self.inside.text c.self.inside.journal c.input_due-done.new.journal c.self.inside.units.items c.self.inside.next_unit c.self.inside.disk c.input_due-done.new.disk c.self.inside.served (c.self.invariant (ap (λ (v : LoggedState _). v.served) c.self.view_is ∙ c.requires.served)) (ap (λ (v : LoggedState _). v.served) c.self.view_is ∙ c.requires.served) (subst (λ (v : LoggedState _). IsCounted 0 v.machine.moment.lasting v.next_unit v.journal) (sym c.self.view_is) c.requires.counted) c.input_due-done.ensures.keeps c.input_due-done.ensures.counts (records_of c.self.inside.parts.system c.self.inside.parts.moment 0 (Input c.args.terminal.now c.args.number c.args.segments)) (behind_of g.D.Disk.state c.self.inside.parts c.self.inside.units.items c.as_slice.result.now c.self.inside.next_unit (records_of c.self.inside.parts.system c.self.inside.parts.moment 0 (Input c.args.terminal.now c.args.number c.args.segments)) c.self.inside.journal c.input_due-done.new.journal c.self.inside.disk c.input_due-done.new.disk c.as_slice.ensures.value c.in-Ok.ensures.behind)) c.in-Ok.ensures.before c.in-Ok.ensures.slots
-    c.args.terminal.now c.args.number c.args.segments c.in-Ok.answer c.in-Ok.ensures.answer c.in-Ok.ensures.no_fault (behind_of g.D.Disk.state c.self.inside.parts c.self.inside.units.items c.as_slice.result.now c.self.inside.next_unit (records_of c.self.inside.parts.system c.self.inside.parts.moment 0 (Input c.args.terminal.now c.args.number c.args.segments)) c.self.inside.journal c.input_due-done.new.journal c.self.inside.disk c.input_due-done.new.disk c.as_slice.ensures.value c.in-Ok.ensures.behind).appends c.in-Ok.ensures.databases c.requires.small)
+    ready g.D.Disk.state
+    (behind_input g.D.Disk.state (ap (λ (v : LoggedState _). v.served) c.self.view_is ∙ c.requires.served) (c.self.invariant (ap (λ (v : LoggedState _). v.served) c.self.view_is ∙ c.requires.served))
+    (subst (λ (v : LoggedState _). IsCounted 0 v.machine.moment.lasting v.next_unit v.journal) (sym c.self.view_is) c.requires.counted)
+    c.input_due-done.ensures.keeps c.input_due-done.ensures.counts c.input_due-done.ensures.writes c.as_slice.ensures.value c.in-Ok.ensures.before c.in-Ok.ensures.slots
+    c.args.terminal.now c.args.number c.args.segments c.in-Ok.answer c.in-Ok.ensures.behind c.in-Ok.ensures.answer c.in-Ok.ensures.no_fault c.in-Ok.ensures.databases c.requires.small)
 
 pub invariant_of-self-in-Ok-force : goal.invariant_of-self-in-Ok-force
 invariant_of-self-in-Ok-force g c =
-    λ up. logged_forced g.D.Disk.state (settled_parts c.self.inside.parts) c.input_due-done.new.parts c.self.inside.text (behind_of g.D.Disk.state c.self.inside.parts c.self.inside.units.items c.as_slice.result.now c.self.inside.next_unit (records_of c.self.inside.parts.system c.self.inside.parts.moment 0 (Input c.args.terminal.now c.args.number c.args.segments)) c.self.inside.journal c.input_due-done.new.journal c.self.inside.disk c.input_due-done.new.disk c.as_slice.ensures.value c.in-Ok.ensures.behind).middle c.input_due-done.new.journal c.self.inside.units.items c.self.inside.units.items c.self.inside.next_unit c.self.inside.next_unit c.input_due-done.new.disk (Accept c.args.terminal.now c.args.number c.args.segments c.in-Ok.answer) (is_new c.in-Ok.answer) c.self.inside.served
-    (input_attempt g.D.Disk.state (settled_parts c.self.inside.parts) c.input_due-done.new.parts c.self.inside.text (behind_of g.D.Disk.state c.self.inside.parts c.self.inside.units.items c.as_slice.result.now c.self.inside.next_unit (records_of c.self.inside.parts.system c.self.inside.parts.moment 0 (Input c.args.terminal.now c.args.number c.args.segments)) c.self.inside.journal c.input_due-done.new.journal c.self.inside.disk c.input_due-done.new.disk c.as_slice.ensures.value c.in-Ok.ensures.behind).middle c.input_due-done.new.journal c.self.inside.units.items c.self.inside.next_unit c.input_due-done.new.disk (mid_logged g.D.Disk.state c.self.inside.parts c.self.inside.text c.self.inside.journal c.input_due-done.new.journal c.self.inside.units.items c.self.inside.next_unit c.self.inside.disk c.input_due-done.new.disk c.self.inside.served (c.self.invariant (ap (λ (v : LoggedState _). v.served) c.self.view_is ∙ c.requires.served)) (ap (λ (v : LoggedState _). v.served) c.self.view_is ∙ c.requires.served) (subst (λ (v : LoggedState _). IsCounted 0 v.machine.moment.lasting v.next_unit v.journal) (sym c.self.view_is) c.requires.counted) c.input_due-done.ensures.keeps c.input_due-done.ensures.counts (records_of c.self.inside.parts.system c.self.inside.parts.moment 0 (Input c.args.terminal.now c.args.number c.args.segments)) (behind_of g.D.Disk.state c.self.inside.parts c.self.inside.units.items c.as_slice.result.now c.self.inside.next_unit (records_of c.self.inside.parts.system c.self.inside.parts.moment 0 (Input c.args.terminal.now c.args.number c.args.segments)) c.self.inside.journal c.input_due-done.new.journal c.self.inside.disk c.input_due-done.new.disk c.as_slice.ensures.value c.in-Ok.ensures.behind)) (mid_counted g.D.Disk.state c.self.inside.parts c.self.inside.text c.self.inside.journal c.input_due-done.new.journal c.self.inside.units.items c.self.inside.next_unit c.self.inside.disk c.input_due-done.new.disk c.self.inside.served (c.self.invariant (ap (λ (v : LoggedState _). v.served) c.self.view_is ∙ c.requires.served)) (ap (λ (v : LoggedState _). v.served) c.self.view_is ∙ c.requires.served) (subst (λ (v : LoggedState _). IsCounted 0 v.machine.moment.lasting v.next_unit v.journal) (sym c.self.view_is) c.requires.counted) c.input_due-done.ensures.keeps c.input_due-done.ensures.counts (records_of c.self.inside.parts.system c.self.inside.parts.moment 0 (Input c.args.terminal.now c.args.number c.args.segments)) (behind_of g.D.Disk.state c.self.inside.parts c.self.inside.units.items c.as_slice.result.now c.self.inside.next_unit (records_of c.self.inside.parts.system c.self.inside.parts.moment 0 (Input c.args.terminal.now c.args.number c.args.segments)) c.self.inside.journal c.input_due-done.new.journal c.self.inside.disk c.input_due-done.new.disk c.as_slice.ensures.value c.in-Ok.ensures.behind)) c.in-Ok.ensures.before c.in-Ok.ensures.slots
-    c.args.terminal.now c.args.number c.args.segments c.in-Ok.answer c.in-Ok.ensures.answer c.in-Ok.ensures.no_fault (behind_of g.D.Disk.state c.self.inside.parts c.self.inside.units.items c.as_slice.result.now c.self.inside.next_unit (records_of c.self.inside.parts.system c.self.inside.parts.moment 0 (Input c.args.terminal.now c.args.number c.args.segments)) c.self.inside.journal c.input_due-done.new.journal c.self.inside.disk c.input_due-done.new.disk c.as_slice.ensures.value c.in-Ok.ensures.behind).appends c.in-Ok.ensures.databases c.requires.small) (sym c.if-not-is_new.ensures) c.force.new.self c.force.new.disk (record { within = c.force.ensures.any_moment; stays = c.force.ensures.stays; kept = c.in-Ok-force.ensures.kept; log_is = c.in-Ok-force.ensures.log; ready = c.in-Ok-force.ensures.ready; no_fault = c.in-Ok-force.ensures.no_fault; follows = c.in-Ok-force.ensures.done }) c.force.ensures.restart
+    λ up. forced_logged g.D.Disk.state
+    (behind_input g.D.Disk.state (ap (λ (v : LoggedState _). v.served) c.self.view_is ∙ c.requires.served) (c.self.invariant (ap (λ (v : LoggedState _). v.served) c.self.view_is ∙ c.requires.served))
+    (subst (λ (v : LoggedState _). IsCounted 0 v.machine.moment.lasting v.next_unit v.journal) (sym c.self.view_is) c.requires.counted)
+    c.input_due-done.ensures.keeps c.input_due-done.ensures.counts c.input_due-done.ensures.writes c.as_slice.ensures.value c.in-Ok.ensures.before c.in-Ok.ensures.slots
+    c.args.terminal.now c.args.number c.args.segments c.in-Ok.answer c.in-Ok.ensures.behind c.in-Ok.ensures.answer c.in-Ok.ensures.no_fault c.in-Ok.ensures.databases c.requires.small)
+    (sym c.if-not-is_new.ensures) c.force.new.self c.force.new.disk (record { within = c.force.ensures.any_moment; stays = c.force.ensures.stays; kept = c.in-Ok-force.ensures.kept; log_is = c.in-Ok-force.ensures.log; ready = c.in-Ok-force.ensures.ready; no_fault = c.in-Ok-force.ensures.no_fault; follows = c.in-Ok-force.ensures.done }) c.force.ensures.restart
 
 pub returns-then-not-is_new : goal.returns-then-not-is_new
 returns-then-not-is_new g c =
     rw (sym c.self.view_is) (record {
-      did = done_quiet g.D.Disk.state c.self.inside.parts c.self.inside.text c.self.inside.journal c.input_due-done.new.journal c.self.inside.units.items c.self.inside.next_unit c.self.inside.disk c.input_due-done.new.disk c.self.inside.served (c.self.invariant (ap (λ (v : LoggedState _). v.served) c.self.view_is ∙ c.requires.served)) (ap (λ (v : LoggedState _). v.served) c.self.view_is ∙ c.requires.served) (subst (λ (v : LoggedState _). IsCounted 0 v.machine.moment.lasting v.next_unit v.journal) (sym c.self.view_is) c.requires.counted) c.input_due-done.ensures.keeps c.input_due-done.ensures.counts (records_of c.self.inside.parts.system c.self.inside.parts.moment 0 (Input c.args.terminal.now c.args.number c.args.segments)) (behind_of g.D.Disk.state c.self.inside.parts c.self.inside.units.items c.as_slice.result.now c.self.inside.next_unit (records_of c.self.inside.parts.system c.self.inside.parts.moment 0 (Input c.args.terminal.now c.args.number c.args.segments)) c.self.inside.journal c.input_due-done.new.journal c.self.inside.disk c.input_due-done.new.disk c.as_slice.ensures.value c.in-Ok.ensures.behind) c.input_due-done.new.parts c.self.inside.units.items c.self.inside.next_unit (Accept c.args.terminal.now c.args.number c.args.segments c.in-Ok.answer) (is_new c.in-Ok.answer)
-          (input_attempt g.D.Disk.state (settled_parts c.self.inside.parts) c.input_due-done.new.parts c.self.inside.text (behind_of g.D.Disk.state c.self.inside.parts c.self.inside.units.items c.as_slice.result.now c.self.inside.next_unit (records_of c.self.inside.parts.system c.self.inside.parts.moment 0 (Input c.args.terminal.now c.args.number c.args.segments)) c.self.inside.journal c.input_due-done.new.journal c.self.inside.disk c.input_due-done.new.disk c.as_slice.ensures.value c.in-Ok.ensures.behind).middle c.input_due-done.new.journal c.self.inside.units.items c.self.inside.next_unit c.input_due-done.new.disk (mid_logged g.D.Disk.state c.self.inside.parts c.self.inside.text c.self.inside.journal c.input_due-done.new.journal c.self.inside.units.items c.self.inside.next_unit c.self.inside.disk c.input_due-done.new.disk c.self.inside.served (c.self.invariant (ap (λ (v : LoggedState _). v.served) c.self.view_is ∙ c.requires.served)) (ap (λ (v : LoggedState _). v.served) c.self.view_is ∙ c.requires.served) (subst (λ (v : LoggedState _). IsCounted 0 v.machine.moment.lasting v.next_unit v.journal) (sym c.self.view_is) c.requires.counted) c.input_due-done.ensures.keeps c.input_due-done.ensures.counts (records_of c.self.inside.parts.system c.self.inside.parts.moment 0 (Input c.args.terminal.now c.args.number c.args.segments)) (behind_of g.D.Disk.state c.self.inside.parts c.self.inside.units.items c.as_slice.result.now c.self.inside.next_unit (records_of c.self.inside.parts.system c.self.inside.parts.moment 0 (Input c.args.terminal.now c.args.number c.args.segments)) c.self.inside.journal c.input_due-done.new.journal c.self.inside.disk c.input_due-done.new.disk c.as_slice.ensures.value c.in-Ok.ensures.behind)) (mid_counted g.D.Disk.state c.self.inside.parts c.self.inside.text c.self.inside.journal c.input_due-done.new.journal c.self.inside.units.items c.self.inside.next_unit c.self.inside.disk c.input_due-done.new.disk c.self.inside.served (c.self.invariant (ap (λ (v : LoggedState _). v.served) c.self.view_is ∙ c.requires.served)) (ap (λ (v : LoggedState _). v.served) c.self.view_is ∙ c.requires.served) (subst (λ (v : LoggedState _). IsCounted 0 v.machine.moment.lasting v.next_unit v.journal) (sym c.self.view_is) c.requires.counted) c.input_due-done.ensures.keeps c.input_due-done.ensures.counts (records_of c.self.inside.parts.system c.self.inside.parts.moment 0 (Input c.args.terminal.now c.args.number c.args.segments)) (behind_of g.D.Disk.state c.self.inside.parts c.self.inside.units.items c.as_slice.result.now c.self.inside.next_unit (records_of c.self.inside.parts.system c.self.inside.parts.moment 0 (Input c.args.terminal.now c.args.number c.args.segments)) c.self.inside.journal c.input_due-done.new.journal c.self.inside.disk c.input_due-done.new.disk c.as_slice.ensures.value c.in-Ok.ensures.behind)) c.in-Ok.ensures.before c.in-Ok.ensures.slots
-          c.args.terminal.now c.args.number c.args.segments c.in-Ok.answer c.in-Ok.ensures.answer c.in-Ok.ensures.no_fault (behind_of g.D.Disk.state c.self.inside.parts c.self.inside.units.items c.as_slice.result.now c.self.inside.next_unit (records_of c.self.inside.parts.system c.self.inside.parts.moment 0 (Input c.args.terminal.now c.args.number c.args.segments)) c.self.inside.journal c.input_due-done.new.journal c.self.inside.disk c.input_due-done.new.disk c.as_slice.ensures.value c.in-Ok.ensures.behind).appends c.in-Ok.ensures.databases c.requires.small) (sym c.if-not-is_new.ensures);
+      did =
+          quiet_done g.D.Disk.state
+          (behind_input g.D.Disk.state (ap (λ (v : LoggedState _). v.served) c.self.view_is ∙ c.requires.served) (c.self.invariant (ap (λ (v : LoggedState _). v.served) c.self.view_is ∙ c.requires.served))
+          (subst (λ (v : LoggedState _). IsCounted 0 v.machine.moment.lasting v.next_unit v.journal) (sym c.self.view_is) c.requires.counted)
+          c.input_due-done.ensures.keeps c.input_due-done.ensures.counts c.input_due-done.ensures.writes c.as_slice.ensures.value c.in-Ok.ensures.before c.in-Ok.ensures.slots
+          c.args.terminal.now c.args.number c.args.segments c.in-Ok.answer c.in-Ok.ensures.behind c.in-Ok.ensures.answer c.in-Ok.ensures.no_fault c.in-Ok.ensures.databases c.requires.small) (sym c.if-not-is_new.ensures);
     })
 
 pub returns-in-Ok-force : goal.returns-in-Ok-force
 returns-in-Ok-force g c =
     rw (sym c.self.view_is) (record {
-      did = done_forced g.D.Disk.state c.self.inside.parts c.self.inside.text c.self.inside.journal c.input_due-done.new.journal c.self.inside.units.items c.self.inside.next_unit c.self.inside.disk c.input_due-done.new.disk c.self.inside.served (c.self.invariant (ap (λ (v : LoggedState _). v.served) c.self.view_is ∙ c.requires.served)) (ap (λ (v : LoggedState _). v.served) c.self.view_is ∙ c.requires.served) (subst (λ (v : LoggedState _). IsCounted 0 v.machine.moment.lasting v.next_unit v.journal) (sym c.self.view_is) c.requires.counted) c.input_due-done.ensures.keeps c.input_due-done.ensures.counts (records_of c.self.inside.parts.system c.self.inside.parts.moment 0 (Input c.args.terminal.now c.args.number c.args.segments)) (behind_of g.D.Disk.state c.self.inside.parts c.self.inside.units.items c.as_slice.result.now c.self.inside.next_unit (records_of c.self.inside.parts.system c.self.inside.parts.moment 0 (Input c.args.terminal.now c.args.number c.args.segments)) c.self.inside.journal c.input_due-done.new.journal c.self.inside.disk c.input_due-done.new.disk c.as_slice.ensures.value c.in-Ok.ensures.behind) c.input_due-done.new.parts c.self.inside.units.items c.self.inside.next_unit (Accept c.args.terminal.now c.args.number c.args.segments c.in-Ok.answer) (is_new c.in-Ok.answer)
-          (input_attempt g.D.Disk.state (settled_parts c.self.inside.parts) c.input_due-done.new.parts c.self.inside.text (behind_of g.D.Disk.state c.self.inside.parts c.self.inside.units.items c.as_slice.result.now c.self.inside.next_unit (records_of c.self.inside.parts.system c.self.inside.parts.moment 0 (Input c.args.terminal.now c.args.number c.args.segments)) c.self.inside.journal c.input_due-done.new.journal c.self.inside.disk c.input_due-done.new.disk c.as_slice.ensures.value c.in-Ok.ensures.behind).middle c.input_due-done.new.journal c.self.inside.units.items c.self.inside.next_unit c.input_due-done.new.disk (mid_logged g.D.Disk.state c.self.inside.parts c.self.inside.text c.self.inside.journal c.input_due-done.new.journal c.self.inside.units.items c.self.inside.next_unit c.self.inside.disk c.input_due-done.new.disk c.self.inside.served (c.self.invariant (ap (λ (v : LoggedState _). v.served) c.self.view_is ∙ c.requires.served)) (ap (λ (v : LoggedState _). v.served) c.self.view_is ∙ c.requires.served) (subst (λ (v : LoggedState _). IsCounted 0 v.machine.moment.lasting v.next_unit v.journal) (sym c.self.view_is) c.requires.counted) c.input_due-done.ensures.keeps c.input_due-done.ensures.counts (records_of c.self.inside.parts.system c.self.inside.parts.moment 0 (Input c.args.terminal.now c.args.number c.args.segments)) (behind_of g.D.Disk.state c.self.inside.parts c.self.inside.units.items c.as_slice.result.now c.self.inside.next_unit (records_of c.self.inside.parts.system c.self.inside.parts.moment 0 (Input c.args.terminal.now c.args.number c.args.segments)) c.self.inside.journal c.input_due-done.new.journal c.self.inside.disk c.input_due-done.new.disk c.as_slice.ensures.value c.in-Ok.ensures.behind)) (mid_counted g.D.Disk.state c.self.inside.parts c.self.inside.text c.self.inside.journal c.input_due-done.new.journal c.self.inside.units.items c.self.inside.next_unit c.self.inside.disk c.input_due-done.new.disk c.self.inside.served (c.self.invariant (ap (λ (v : LoggedState _). v.served) c.self.view_is ∙ c.requires.served)) (ap (λ (v : LoggedState _). v.served) c.self.view_is ∙ c.requires.served) (subst (λ (v : LoggedState _). IsCounted 0 v.machine.moment.lasting v.next_unit v.journal) (sym c.self.view_is) c.requires.counted) c.input_due-done.ensures.keeps c.input_due-done.ensures.counts (records_of c.self.inside.parts.system c.self.inside.parts.moment 0 (Input c.args.terminal.now c.args.number c.args.segments)) (behind_of g.D.Disk.state c.self.inside.parts c.self.inside.units.items c.as_slice.result.now c.self.inside.next_unit (records_of c.self.inside.parts.system c.self.inside.parts.moment 0 (Input c.args.terminal.now c.args.number c.args.segments)) c.self.inside.journal c.input_due-done.new.journal c.self.inside.disk c.input_due-done.new.disk c.as_slice.ensures.value c.in-Ok.ensures.behind)) c.in-Ok.ensures.before c.in-Ok.ensures.slots
-          c.args.terminal.now c.args.number c.args.segments c.in-Ok.answer c.in-Ok.ensures.answer c.in-Ok.ensures.no_fault (behind_of g.D.Disk.state c.self.inside.parts c.self.inside.units.items c.as_slice.result.now c.self.inside.next_unit (records_of c.self.inside.parts.system c.self.inside.parts.moment 0 (Input c.args.terminal.now c.args.number c.args.segments)) c.self.inside.journal c.input_due-done.new.journal c.self.inside.disk c.input_due-done.new.disk c.as_slice.ensures.value c.in-Ok.ensures.behind).appends c.in-Ok.ensures.databases c.requires.small) (sym c.if-not-is_new.ensures) c.force.new.self c.force.new.disk (record { within = c.force.ensures.any_moment; stays = c.force.ensures.stays; kept = c.in-Ok-force.ensures.kept; log_is = c.in-Ok-force.ensures.log; ready = c.in-Ok-force.ensures.ready; no_fault = c.in-Ok-force.ensures.no_fault; follows = c.in-Ok-force.ensures.done }) c.force.ensures.restart c.force.ensures.writes;
+      did =
+          forced_done g.D.Disk.state
+          (behind_input g.D.Disk.state (ap (λ (v : LoggedState _). v.served) c.self.view_is ∙ c.requires.served) (c.self.invariant (ap (λ (v : LoggedState _). v.served) c.self.view_is ∙ c.requires.served))
+          (subst (λ (v : LoggedState _). IsCounted 0 v.machine.moment.lasting v.next_unit v.journal) (sym c.self.view_is) c.requires.counted)
+          c.input_due-done.ensures.keeps c.input_due-done.ensures.counts c.input_due-done.ensures.writes c.as_slice.ensures.value c.in-Ok.ensures.before c.in-Ok.ensures.slots
+          c.args.terminal.now c.args.number c.args.segments c.in-Ok.answer c.in-Ok.ensures.behind c.in-Ok.ensures.answer c.in-Ok.ensures.no_fault c.in-Ok.ensures.databases c.requires.small)
+          (sym c.if-not-is_new.ensures) c.force.new.self c.force.new.disk (record { within = c.force.ensures.any_moment; stays = c.force.ensures.stays; kept = c.in-Ok-force.ensures.kept; log_is = c.in-Ok-force.ensures.log; ready = c.in-Ok-force.ensures.ready; no_fault = c.in-Ok-force.ensures.no_fault; follows = c.in-Ok-force.ensures.done }) c.force.ensures.restart c.force.ensures.writes;
     })
 
 pub returns-in-Err-force : goal.returns-in-Err-force
 returns-in-Err-force g c =
     rw (sym c.self.view_is) (record {
-      did = done_failed g.D.Disk.state c.self.inside.parts c.self.inside.text c.self.inside.journal c.input_due-done.new.journal c.self.inside.units.items c.self.inside.next_unit c.self.inside.disk c.input_due-done.new.disk c.self.inside.served (c.self.invariant (ap (λ (v : LoggedState _). v.served) c.self.view_is ∙ c.requires.served)) (ap (λ (v : LoggedState _). v.served) c.self.view_is ∙ c.requires.served) (subst (λ (v : LoggedState _). IsCounted 0 v.machine.moment.lasting v.next_unit v.journal) (sym c.self.view_is) c.requires.counted) c.input_due-done.ensures.keeps c.input_due-done.ensures.counts (records_of c.self.inside.parts.system c.self.inside.parts.moment 0 (Input c.args.terminal.now c.args.number c.args.segments)) (behind_of g.D.Disk.state c.self.inside.parts c.self.inside.units.items c.as_slice.result.now c.self.inside.next_unit (records_of c.self.inside.parts.system c.self.inside.parts.moment 0 (Input c.args.terminal.now c.args.number c.args.segments)) c.self.inside.journal c.input_due-done.new.journal c.self.inside.disk c.input_due-done.new.disk c.as_slice.ensures.value c.in-Ok.ensures.behind) c.input_due-done.new.parts c.self.inside.units.items c.self.inside.next_unit (Accept c.args.terminal.now c.args.number c.args.segments c.in-Ok.answer) (is_new c.in-Ok.answer)
-          (input_attempt g.D.Disk.state (settled_parts c.self.inside.parts) c.input_due-done.new.parts c.self.inside.text (behind_of g.D.Disk.state c.self.inside.parts c.self.inside.units.items c.as_slice.result.now c.self.inside.next_unit (records_of c.self.inside.parts.system c.self.inside.parts.moment 0 (Input c.args.terminal.now c.args.number c.args.segments)) c.self.inside.journal c.input_due-done.new.journal c.self.inside.disk c.input_due-done.new.disk c.as_slice.ensures.value c.in-Ok.ensures.behind).middle c.input_due-done.new.journal c.self.inside.units.items c.self.inside.next_unit c.input_due-done.new.disk (mid_logged g.D.Disk.state c.self.inside.parts c.self.inside.text c.self.inside.journal c.input_due-done.new.journal c.self.inside.units.items c.self.inside.next_unit c.self.inside.disk c.input_due-done.new.disk c.self.inside.served (c.self.invariant (ap (λ (v : LoggedState _). v.served) c.self.view_is ∙ c.requires.served)) (ap (λ (v : LoggedState _). v.served) c.self.view_is ∙ c.requires.served) (subst (λ (v : LoggedState _). IsCounted 0 v.machine.moment.lasting v.next_unit v.journal) (sym c.self.view_is) c.requires.counted) c.input_due-done.ensures.keeps c.input_due-done.ensures.counts (records_of c.self.inside.parts.system c.self.inside.parts.moment 0 (Input c.args.terminal.now c.args.number c.args.segments)) (behind_of g.D.Disk.state c.self.inside.parts c.self.inside.units.items c.as_slice.result.now c.self.inside.next_unit (records_of c.self.inside.parts.system c.self.inside.parts.moment 0 (Input c.args.terminal.now c.args.number c.args.segments)) c.self.inside.journal c.input_due-done.new.journal c.self.inside.disk c.input_due-done.new.disk c.as_slice.ensures.value c.in-Ok.ensures.behind)) (mid_counted g.D.Disk.state c.self.inside.parts c.self.inside.text c.self.inside.journal c.input_due-done.new.journal c.self.inside.units.items c.self.inside.next_unit c.self.inside.disk c.input_due-done.new.disk c.self.inside.served (c.self.invariant (ap (λ (v : LoggedState _). v.served) c.self.view_is ∙ c.requires.served)) (ap (λ (v : LoggedState _). v.served) c.self.view_is ∙ c.requires.served) (subst (λ (v : LoggedState _). IsCounted 0 v.machine.moment.lasting v.next_unit v.journal) (sym c.self.view_is) c.requires.counted) c.input_due-done.ensures.keeps c.input_due-done.ensures.counts (records_of c.self.inside.parts.system c.self.inside.parts.moment 0 (Input c.args.terminal.now c.args.number c.args.segments)) (behind_of g.D.Disk.state c.self.inside.parts c.self.inside.units.items c.as_slice.result.now c.self.inside.next_unit (records_of c.self.inside.parts.system c.self.inside.parts.moment 0 (Input c.args.terminal.now c.args.number c.args.segments)) c.self.inside.journal c.input_due-done.new.journal c.self.inside.disk c.input_due-done.new.disk c.as_slice.ensures.value c.in-Ok.ensures.behind)) c.in-Ok.ensures.before c.in-Ok.ensures.slots
-          c.args.terminal.now c.args.number c.args.segments c.in-Ok.answer c.in-Ok.ensures.answer c.in-Ok.ensures.no_fault (behind_of g.D.Disk.state c.self.inside.parts c.self.inside.units.items c.as_slice.result.now c.self.inside.next_unit (records_of c.self.inside.parts.system c.self.inside.parts.moment 0 (Input c.args.terminal.now c.args.number c.args.segments)) c.self.inside.journal c.input_due-done.new.journal c.self.inside.disk c.input_due-done.new.disk c.as_slice.ensures.value c.in-Ok.ensures.behind).appends c.in-Ok.ensures.databases c.requires.small) (sym c.if-not-is_new.ensures) c.force.new.self c.force.new.disk (Accept c.args.terminal.now c.args.number c.args.segments (Err (Fault Disk))) refl refl refl c.force.ensures.any_moment c.force.ensures.stays c.in-Err-force.ensures.cause c.force.ensures.restart c.force.ensures.writes;
+      did =
+          failed_done g.D.Disk.state
+          (behind_input g.D.Disk.state (ap (λ (v : LoggedState _). v.served) c.self.view_is ∙ c.requires.served) (c.self.invariant (ap (λ (v : LoggedState _). v.served) c.self.view_is ∙ c.requires.served))
+          (subst (λ (v : LoggedState _). IsCounted 0 v.machine.moment.lasting v.next_unit v.journal) (sym c.self.view_is) c.requires.counted)
+          c.input_due-done.ensures.keeps c.input_due-done.ensures.counts c.input_due-done.ensures.writes c.as_slice.ensures.value c.in-Ok.ensures.before c.in-Ok.ensures.slots
+          c.args.terminal.now c.args.number c.args.segments c.in-Ok.answer c.in-Ok.ensures.behind c.in-Ok.ensures.answer c.in-Ok.ensures.no_fault c.in-Ok.ensures.databases c.requires.small)
+          (sym c.if-not-is_new.ensures) c.force.new.self c.force.new.disk (Accept c.args.terminal.now c.args.number c.args.segments (Err (Fault Disk))) refl refl refl c.force.ensures.any_moment c.force.ensures.stays c.in-Err-force.ensures.cause c.force.ensures.restart c.force.ensures.writes;
     })
 
 pub returns-in-Err : goal.returns-in-Err
 returns-in-Err g c =
-    rw (sym c.self.view_is, c.is_memory-self-inside.ensures) (record { did = done_refused g.D.Disk.state c.self.inside.parts c.input_due-done.new.parts c.self.inside.text c.self.inside.journal c.input_due-done.new.journal c.self.inside.units.items c.self.inside.next_unit c.self.inside.disk c.input_due-done.new.disk c.self.inside.served (c.self.invariant (ap (λ (v : LoggedState _). v.served) c.self.view_is ∙ c.requires.served)) (ap (λ (v : LoggedState _). v.served) c.self.view_is ∙ c.requires.served) c.input_due-done.ensures.keeps c.input_due-done.ensures.counts c.input_due-done.ensures.system c.in-Err.fault (Accept c.args.terminal.now c.args.number c.args.segments (Err (Fault c.in-Err.fault))) c.in-Err.ensures.cause })
+    rw (sym c.self.view_is, c.is_memory-self-inside.ensures) (record { did = done_refused g.D.Disk.state c.self.inside.parts c.input_due-done.new.parts c.self.inside.text c.self.inside.journal c.input_due-done.new.journal c.self.inside.units.items c.self.inside.next_unit c.self.inside.disk c.input_due-done.new.disk c.self.inside.served (c.self.invariant (ap (λ (v : LoggedState _). v.served) c.self.view_is ∙ c.requires.served)) (ap (λ (v : LoggedState _). v.served) c.self.view_is ∙ c.requires.served) c.input_due-done.ensures.keeps c.input_due-done.ensures.counts c.input_due-done.ensures.writes c.input_due-done.ensures.system c.in-Err.fault (Accept c.args.terminal.now c.args.number c.args.segments (Err (Fault c.in-Err.fault))) c.in-Err.ensures.cause })

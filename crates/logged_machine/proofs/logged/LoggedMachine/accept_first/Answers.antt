@@ -6,7 +6,7 @@ use Rattle.model_machine.specs.declared.entry.ControlFault.TheVariants.{Memory}
 use Rattle.model_machine.specs.declared.entry.ControlCall.TheVariants.{Input}
 use Rattle.model_machine.specs.declared.entry.Entry.TheVariants.{Accept}
 use Rattle.control_life.specs.Faults.{fault_in}
-use Rattle.machine_telling.specs.Telling.{IsAllBut}
+use Rattle.machine_telling.specs.Telling.{IsAllBut, StayFree}
 use Rattle.logged_machine.specs.Logged.{LoggedState}
 use Rattle.logged_machine.specs.Frugal.{own_bytes}
 use Rattle.logged_machine.proofs.Checkpointed.{counted_more, counted_same, served_same}
@@ -25,7 +25,8 @@ accept_behind-requires-clause-counted g c = counted_same 0 c.args.self.now c.acc
 pub returns-in-Ok : goal.returns-in-Ok
 returns-in-Ok g c = record {
   did =
-      done_once g.D.Disk.state (fault_in (Accept c.args.terminal.now c.args.number c.args.segments c.in-Ok.answer)) c.args.self.now c.accept_once.new.self (Accept c.args.terminal.now c.args.number c.args.segments c.in-Ok.answer) c.in-Ok.ensures.did;
+      done_once g.D.Disk.state (fault_in (Accept c.args.terminal.now c.args.number c.args.segments c.in-Ok.answer)) c.args.self.now c.accept_once.new.self (Accept c.args.terminal.now c.args.number c.args.segments c.in-Ok.answer) c.room_left-room.result
+      (subst (λ (v : LoggedState _). StayFree c.room_left-room.result v.journal.log) c.self.view_is c.room_left-room.ensures.kept) c.in-Ok.ensures.fits c.in-Ok.ensures.did;
 }
 
 pub returns-in-Err-Memory : goal.returns-in-Err-Memory

@@ -3,7 +3,7 @@ use Rattle.std.proofs.Common.{◌*◌, Err, refl, arith, ◌∙◌, ap, sym}
 use Rattle.model_machine.specs.declared.entry.CheckpointRefused.TheVariants.{BusyRegion}
 use Rattle.model_machine.specs.declared.entry.Entry.TheVariants.{Checked}
 use Rattle.logged_machine.specs.Logged.{LoggedState}
-use Rattle.logged_machine.proofs.Checked.{busy_answer}
+use Rattle.logged_machine.proofs.Checked.{busy_answer, most_same}
 use Rattle.logged_machine.proofs.Checkpointed.{answered_still}
 use Rattle.logged_machine.proofs.Frugality.{nothing_counted}
 use Rattle.logged_machine.proofs.logged.LoggedMachine.checkpoint_any.Goals as goal
@@ -25,3 +25,6 @@ returns-in-Some-clause-raises g c = λ up. record { epoch = refl; sequence = ome
 pub returns-in-Some-clause-counts : goal.returns-in-Some-clause-counts
 returns-in-Some-clause-counts g c =
     rw (sym c.self.view_is) (nothing_counted g.D.Disk.state (record { machine = c.self.inside.parts; text = c.self.inside.text; served = c.self.inside.served; journal = c.self.inside.journal; units = c.self.inside.units.items; next_unit = c.self.inside.next_unit; disk = c.self.inside.disk }) (2 * c.self.inside.parts.system.logs))
+
+pub returns-in-Some-clause-writes : goal.returns-in-Some-clause-writes
+returns-in-Some-clause-writes g c = most_same c.args.self.now.machine.system c.args.self.now.machine.databases.changed c.args.self.now.journal (g.D.Disk.state c.args.self.now.disk)

@@ -1,12 +1,12 @@
 -- a checkpoint that was taken, or not
-use Rattle.std.proofs.Common.{◌≡◌, ℕ, Err, Result, IfErr, IfOk, sym, subst}
+use Rattle.std.proofs.Common.{◌≡◌, ℕ, Err, Result, IfErr, IfOk, OnOk, sym, subst}
 use Rattle.model_machine.specs.declared.entry.CheckpointRefused.{CheckpointRefused}
 use Rattle.model_machine.specs.declared.entry.CheckpointRefused.TheVariants.{Fault}
 use Rattle.model_machine.specs.declared.entry.Entry.TheVariants.{Checked}
 use Rattle.logged_machine.specs.Doing.{Did}
 use Rattle.control_life.specs.Faults.{fault_in}
-use Rattle.logged_machine.specs.Taken.{IsTaken, StaysUntaken}
-use Rattle.logged_machine.proofs.Checked.{is_taken, stays_untaken, taken_did}
+use Rattle.logged_machine.specs.Taken.{IsTaken, LeavesSettled, StaysUntaken}
+use Rattle.logged_machine.proofs.Checked.{is_taken, leaves_settled, stays_untaken, taken_did, untaken_most}
 use Rattle.logged_machine.proofs.Checkpointed.{unrefreshed}
 use Rattle.logged_machine.proofs.Frugality.{checked_counts, checked_raises, unchecked_counts, unchecked_raises}
 use Rattle.logged_machine.proofs.logged.LoggedMachine.checkpoint_free.Goals as goal
@@ -48,3 +48,16 @@ returns-in-Ok-clause-refused g c =
 
 pub returns-in-Err-clause-refused : goal.returns-in-Err-clause-refused
 returns-in-Err-clause-refused g c = stays_untaken g.D.Disk.state c.args.self.now c.refresh.new.self c.in-Err.fault c.in-Err.ensures.fault
+
+pub returns-in-Ok-clause-settled : goal.returns-in-Ok-clause-settled
+returns-in-Ok-clause-settled g c =
+    subst
+    (λ (r : Result ℕ CheckpointRefused).
+    OnOk r (LeavesSettled c.args.self.now.machine.databases c.refresh.new.self.machine.databases c.args.self.now.units c.refresh.new.self.units c.args.self.now.next_unit c.refresh.new.self.next_unit))
+    (sym c.number_taken.ensures.value) (leaves_settled g.D.Disk.state c.args.self.now c.refresh.new.self c.in-Ok.ensures.done)
+
+pub returns-in-Ok-clause-writes : goal.returns-in-Ok-clause-writes
+returns-in-Ok-clause-writes g c = c.in-Ok.ensures.done.most
+
+pub returns-in-Err-clause-writes : goal.returns-in-Err-clause-writes
+returns-in-Err-clause-writes g c = untaken_most g.D.Disk.state c.args.self.now c.refresh.new.self c.in-Err.fault c.in-Err.ensures.fault

@@ -21,14 +21,14 @@ invariant_of-self g c =
 pub returns-in-Ok-clause-done : goal.returns-in-Ok-clause-done
 returns-in-Ok-clause-done g c =
     rw (sym c.self.view_is) (refreshed g.D.Disk.state c.self.inside.parts c.checkpoint.new.parts c.self.inside.text c.self.inside.journal c.checkpoint.new.journal c.self.inside.units.items c.self.inside.next_unit c.self.inside.disk c.checkpoint.new.disk c.self.inside.served
-    (c.self.invariant (ap (λ (v : LoggedState _). v.served) c.self.view_is ∙ c.requires.served)) c.checkpoint.ensures.system c.checkpoint.ensures.moment c.checkpoint.ensures.stays c.checkpoint.ensures.any_moment c.checkpoint.ensures.texts c.checkpoint.ensures.counts (ap (λ (v : LoggedState _). v.served) c.self.view_is ∙ c.requires.served) (subst (λ (v : LoggedState _). IsCounted 0 v.machine.moment.lasting v.next_unit v.journal) (sym c.self.view_is) c.requires.counted) c.in-Ok.ensures.takes c.in-Ok.ensures.synced c.in-Ok.ensures.no_fault c.in-Ok.ensures.raised)
+    (c.self.invariant (ap (λ (v : LoggedState _). v.served) c.self.view_is ∙ c.requires.served)) c.checkpoint.ensures.system c.checkpoint.ensures.moment c.checkpoint.ensures.stays c.checkpoint.ensures.any_moment c.checkpoint.ensures.texts c.checkpoint.ensures.counts c.checkpoint.ensures.writes (ap (λ (v : LoggedState _). v.served) c.self.view_is ∙ c.requires.served) c.in-Ok.ensures.settled (subst (λ (v : LoggedState _). IsCounted 0 v.machine.moment.lasting v.next_unit v.journal) (sym c.self.view_is) c.requires.counted) c.in-Ok.ensures.takes c.in-Ok.ensures.synced c.in-Ok.ensures.no_fault c.in-Ok.ensures.raised)
 
 pub invariant_of-self-in-Err : goal.invariant_of-self-in-Err
 invariant_of-self-in-Err g c =
     λ up. logged_by g.D.Disk.state c.self.inside.parts c.checkpoint.new.parts c.self.inside.text c.self.inside.journal c.checkpoint.new.journal c.self.inside.units.items c.self.inside.next_unit c.self.inside.disk c.checkpoint.new.disk c.self.inside.served
-    (c.self.invariant (ap (λ (v : LoggedState _). v.served) c.self.view_is ∙ c.requires.served)) c.checkpoint.ensures.system c.checkpoint.ensures.moment c.checkpoint.ensures.stays c.checkpoint.ensures.any_moment c.checkpoint.ensures.texts c.checkpoint.ensures.counts c.in-Err.fault c.in-Err.ensures.cause (sym c.is_memory-self-inside.ensures ∙ up)
+    (c.self.invariant (ap (λ (v : LoggedState _). v.served) c.self.view_is ∙ c.requires.served)) c.checkpoint.ensures.system c.checkpoint.ensures.moment c.checkpoint.ensures.stays c.checkpoint.ensures.any_moment c.checkpoint.ensures.texts c.checkpoint.ensures.counts c.checkpoint.ensures.writes c.in-Err.fault c.in-Err.ensures.cause (sym c.is_memory-self-inside.ensures ∙ up)
 
 pub returns-in-Err-clause-fault : goal.returns-in-Err-clause-fault
 returns-in-Err-clause-fault g c =
     rw (sym c.self.view_is, c.is_memory-self-inside.ensures) (unrefreshed_by g.D.Disk.state c.self.inside.parts c.checkpoint.new.parts c.self.inside.text c.self.inside.journal c.checkpoint.new.journal c.self.inside.units.items c.self.inside.next_unit c.self.inside.disk c.checkpoint.new.disk c.self.inside.served
-    (c.self.invariant (ap (λ (v : LoggedState _). v.served) c.self.view_is ∙ c.requires.served)) c.checkpoint.ensures.system c.checkpoint.ensures.moment c.checkpoint.ensures.stays c.checkpoint.ensures.any_moment c.checkpoint.ensures.texts c.checkpoint.ensures.counts c.in-Err.fault c.in-Err.ensures.cause (ap (λ (v : LoggedState _). v.served) c.self.view_is ∙ c.requires.served))
+    (c.self.invariant (ap (λ (v : LoggedState _). v.served) c.self.view_is ∙ c.requires.served)) c.checkpoint.ensures.system c.checkpoint.ensures.moment c.checkpoint.ensures.stays c.checkpoint.ensures.any_moment c.checkpoint.ensures.texts c.checkpoint.ensures.counts c.checkpoint.ensures.writes c.in-Err.fault c.in-Err.ensures.cause (ap (λ (v : LoggedState _). v.served) c.self.view_is ∙ c.requires.served))

@@ -5,7 +5,7 @@ use Rattle.logged_machine.specs.Logged.{LoggedState}
 use Rattle.model_machine.specs.declared.entry.ControlFault.TheVariants.{Memory}
 use Rattle.model_machine.specs.declared.entry.Entry.TheVariants.{Turn}
 use Rattle.control_life.specs.Faults.{fault_in}
-use Rattle.machine_telling.specs.Telling.{IsAllBut}
+use Rattle.machine_telling.specs.Telling.{IsAllBut, StayFree}
 use Rattle.logged_machine.proofs.Checkpointed.{counted_more, counted_same, served_same}
 use Rattle.logged_machine.proofs.Frugality.{done_due, done_nothing, done_once, longer}
 use Rattle.logged_machine.proofs.logged.LoggedMachine.turn_any.Goals as goal
@@ -25,7 +25,8 @@ turn_behind-requires-clause-counted g c = counted_same 0 c.args.self.now c.turn_
 pub returns-in-Ok : goal.returns-in-Ok
 returns-in-Ok g c = record {
   did =
-      done_once g.D.Disk.state (fault_in (Turn c.args.region c.in-Ok.turned)) c.args.self.now c.turn_once.new.self (Turn c.args.region c.in-Ok.turned) c.in-Ok.ensures.did;
+      done_once g.D.Disk.state (fault_in (Turn c.args.region c.in-Ok.turned)) c.args.self.now c.turn_once.new.self (Turn c.args.region c.in-Ok.turned) c.room_left-room.result
+      (subst (λ (v : LoggedState _). StayFree c.room_left-room.result v.journal.log) c.self.view_is c.room_left-room.ensures.kept) c.in-Ok.ensures.fits c.in-Ok.ensures.did;
 }
 
 pub returns-in-Err-Memory : goal.returns-in-Err-Memory
