@@ -16,6 +16,7 @@ use Rattle.model_machine.specs.Steps.{lasting_step}
 use Rattle.model_machine.specs.History.{after_entry, call_of, moment_after, AscendAbove, IsCall, May, AreSteps}
 use Rattle.model_machine.proofs.Histories.{moment_after-append, AreSteps-append}
 use Rattle.tm_machine.specs.Answers.{IsAnswered}
+use Rattle.tm_machine.specs.OnSlots.{HasSlots}
 use Rattle.model_image.specs.Recovered.{Recovers}
 use Rattle.disk_law.specs.Kept.{RecoversEither}
 use Rattle.checkpointing.specs.Texts.{HasText}
@@ -61,6 +62,11 @@ pub frugal_too : {D : Type 0} (state : D → DiskState) (machine : LoggedState D
     → IsFrugal state fault (parts_now (seen machine opening history room began)) machine.units call machine.journal journal machine.disk disk
 frugal_too state machine opening history room began steps h fault call journal disk =
     subst (λ (p : PartsState). IsFrugal state fault p machine.units call machine.journal journal machine.disk disk) (sym (parts_are machine opening history room began steps h))
+
+-- and what holds of its slots does here
+pub slots_too : {D : Type 0} (machine : LoggedState D) (opening : LastingState) (history : List Entry) (room began steps : ℕ) → IsServed machine opening history steps → HasSlots machine.machine
+    → HasSlots (parts_now (seen machine opening history room began))
+slots_too machine opening history room began steps h = subst HasSlots (sym (parts_are machine opening history room began steps h))
 
 -- ---- an opening
 
@@ -148,7 +154,7 @@ module _ {D : Type 0} (state : D → DiskState) (old new : LoggedState D) (openi
   is = seen new opening after room' began
 
   stay : StaysSo state was is
-  stay = record { system = went.keeps.system; opening = refl; text = went.keeps.text; began = refl; disk = went.keeps.disk }
+  stay = record { system = went.keeps.system; opening = refl; text = went.keeps.text; began = refl; disk = went.keeps.disk; later = went.keeps.later }
 
   -- while it is served what lasts is on each image
   lasts_up : new.served ≡ true → IsServed new opening after steps' → Lasts state is

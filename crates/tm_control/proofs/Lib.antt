@@ -4,3 +4,4 @@ pub mod Going
 pub mod Counting
 pub mod Handing
 pub mod Closing
+pub mod Room

@@ -1,5 +1,5 @@
 -- What a call of a control region does.
-use Rattle.std.specs.Prelude.{◌≡◌, ℕ, ◌+◌, ◌++◌, Bool, true, false, List, [], ◌∷◌, Option, Some, None, Ok}
+use Rattle.std.specs.Prelude.{◌≡◌, ℕ, ◌+◌, ◌≤◌, ◌++◌, Bool, true, false, List, [], ◌∷◌, Option, Some, None, Ok}
 use Rattle.model_disk.specs.Disk.{Image, DiskState, Stays, FailedSince}
 use Rattle.model_machine.specs.History.{AddsEntry, AddsNothing, IsCall, call_of, now_of}
 use Rattle.model_machine.specs.declared.counts.Counter.{Counter}
@@ -16,13 +16,14 @@ use Rattle.tm_machine.specs.Parts.{PartsState}
 use Rattle.logged_machine.specs.Frugal.{IsFrugal, Raises}
 use Rattle.tm_control.specs.OnDisk.{ControlOnDisk, lasting_after}
 
--- what no call changes
+-- What no call changes. Its disk's time never runs back.
 pub record StaysSo {D : Type 0} (state : D → DiskState) (old new : ControlOnDisk D) : Type 0 where
   pub system : new.control.system ≡ old.control.system
   pub opening : new.control.opening ≡ old.control.opening
   pub text : new.text ≡ old.text
   pub began : new.began ≡ old.began
   pub disk : Stays (state old.disk) (state new.disk)
+  pub later : (state old.disk).clock ≤ (state new.disk).clock
 
 -- ---- entries
 
@@ -53,9 +54,10 @@ pub record KeepsLog {D : Type 0} (old new : ControlOnDisk D) : Type 0 where
   pub units : new.units ≡ old.units
   pub next_unit : new.next_unit ≡ old.next_unit
 
--- A reply was shown: its entry stands at the end, and the disk is as it was.
+-- A reply was shown: its entry stands at the end and takes the room of one, and the disk is as it was.
 pub record Shows {D : Type 0} (state : D → DiskState) (old new : ControlOnDisk D) (entry : Entry) : Type 0 where
   pub adds : AddsEntry old.control new.control entry
+  pub room : old.control.room ≡ new.control.room + 1
   pub up : new.up ≡ true
   pub disk : new.disk ≡ old.disk
   pub log : KeepsLog old new
@@ -105,8 +107,10 @@ CrashesSo state (Some (Spent counter)) old new entry = CrashesAlone state old ne
 abbrev pub parts_now : {D : Type 0} → ControlOnDisk D → PartsState
 parts_now c = record { system = c.control.system; moment = now_of c.control; databases = c.databases }
 
--- A call that leaves 32 sectors of the log's area free with its own records takes no checkpoint, and writes to the log alone:
--- no more sectors than what was appended takes, and none where no step lasts of it.
+-- A call that appends no bytes of its own, or leaves 32 sectors of the log's area free with them, takes no checkpoint, and writes
+-- to the log alone: no more sectors than what was appended takes, and none where no step lasts of it. Before any other a
+-- checkpoint is due. It takes one, in so many sectors at most, and from there does the same; or the disk fails in the checkpoint,
+-- after so many sectors at most. For want of memory, or where a counter is spent, neither kind does anything.
 abbrev pub WritesFrugally : {D : Type 0} → (D → DiskState) → Option ControlFault → ControlOnDisk D → ControlOnDisk D → Entry → Type 0
 WritesFrugally state fault old new entry = IsFrugal state fault (parts_now old) old.units (call_of entry) old.journal new.journal old.disk new.disk
 
@@ -143,6 +147,14 @@ StaysUndone None old new = Unit {0}
 abbrev pub StaysUntaken : {D : Type 0} → CheckpointRefused → ControlOnDisk D → ControlOnDisk D → Entry → Type 0
 StaysUntaken (BusyRegion region id) old new entry = new ≡ with_room new.control.room (record old { control = record old.control { history = old.control.history ++ entry ∷ [] } })
 StaysUntaken (Fault fault) old new entry = StaysUndone (Some fault) old new
+
+-- Room that was made for entries is never taken back. A call that adds its entry uses up the room of one at most; any other leaves
+-- at least as much room as there was.
+abbrev pub SavesRoom : {D : Type 0} → Option ControlFault → ControlOnDisk D → ControlOnDisk D → Type 0
+SavesRoom None old new = old.control.room ≤ new.control.room + 1
+SavesRoom (Some Disk) old new = old.control.room ≤ new.control.room + 1
+SavesRoom (Some Memory) old new = old.control.room ≤ new.control.room
+SavesRoom (Some (Spent counter)) old new = old.control.room ≤ new.control.room
 
 -- Where a counter is spent nothing at all has changed.
 abbrev pub StaysSpent : {D : Type 0} → Option ControlFault → ControlOnDisk D → ControlOnDisk D → Type 0

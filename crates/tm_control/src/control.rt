@@ -14,10 +14,11 @@ ghost use Rattle.model_machine.specs.History.{AddsNothing, now_of};
 ghost use Rattle.lasting_state.specs.Showing.{IsShownTo};
 ghost use Rattle.control_life.specs.Faults.{fault_in};
 ghost use Rattle.control_life.specs.Opened.{HandsBack};
+ghost use Rattle.tm_machine.specs.OnSlots.{HasSlots};
 ghost use Rattle.logged_machine.specs.Logged.{LastsNow};
-ghost use Rattle.logged_machine.specs.Taken.{IsTaken};
+ghost use Rattle.logged_machine.specs.Taken.{IsTaken, LeavesSettled, WritesCheckpoint};
 ghost use Rattle.tm_control.specs.OnDisk.{Lasts, spent_now};
-ghost use Rattle.tm_control.specs.Calls.{StaysSo, Shows, AddsBy, CountsSince, CrashesSo, KeepsLog, RaisesBy, SpentBy, StaysSpent, StaysUndone, StaysUntaken, WritesFrugally};
+ghost use Rattle.tm_control.specs.Calls.{StaysSo, Shows, AddsBy, CountsSince, CrashesSo, KeepsLog, RaisesBy, SavesRoom, SpentBy, StaysSpent, StaysUndone, StaysUntaken, WritesFrugally, parts_now};
 ghost use Rattle.tm_control.specs.Closed.{Opens, Closes};
 ghost use Rattle.tm_control.specs.contracts.control.Control.{the_row};
 
@@ -89,7 +90,7 @@ impl<D: Disk> Control<D> {
         requires only { Only (D.state disk).shown (D.state disk) }
         ensures opened { IfOk result (Opens D.state how system text disk) }
         ensures lasts { IfOk result (Lasts D.state) }
-        // No counter of what a crash leaves rises by more than one, and the first ones stand one above those of what is found.
+        // Where no counter is above a bound, none of what a crash leaves is more than one above it, and no first one of the life.
         ensures counts { IfOk result (λ opened. Within (RaisesCounts 1 system) (D.state disk) (D.state opened.disk)) }
         ensures stands { IfOk result (λ opened. (high : ℕ) → (how ≡ Found → IsTrue (D.state disk).tells) → (how ≡ Found → CountsUpTo system high (D.state disk).shown) → StandsUpTo (high + 1) opened.journal opened.next_unit) }
         ensures counts_back { IfErr result (λ refused. Within (RaisesCounts 1 system) (D.state disk) (D.state refused.disk)) }
@@ -116,6 +117,7 @@ impl<D: Disk> Control<D> {
     pub fn is_up(&self) -> bool
         ensures value { result ≡ self.now.up }
         ensures lasts { Lasts D.state self.now }
+        ensures slots { self.now.up ≡ true → HasSlots (parts_now self.now) }
     {
         self.machine.is_served()
     }
@@ -181,11 +183,12 @@ impl<D: Disk> Control<D> {
         self.machine.arm(n)
     }
 
-    /// Makes room for this many history entries.
+    /// Makes room for this many history entries. What room there was is kept.
     pub fn reserve(&mut self, n: u32) -> Result<(), Memory>
         requires up { self.old.up ≡ true }
         ensures same { AddsNothing self.old.control self.new.control }
         ensures ok { OnOk result (n ≤ self.new.control.room) }
+        ensures room { self.old.control.room ≤ self.new.control.room }
         ensures err { OnErr result (self.new ≡ self.old) }
         ensures log { KeepsLog self.old self.new }
         ensures stays { StaysSo D.state self.old self.new }
@@ -212,6 +215,7 @@ impl<D: Disk> Control<D> {
         ensures spent { SpentBy (spent_now self.old) (fault_in (Accept terminal.now number segments result)) }
         ensures nothing { StaysSpent (fault_in (Accept terminal.now number segments result)) self.old self.new }
         ensures undone { StaysUndone (fault_in (Accept terminal.now number segments result)) self.old self.new }
+        ensures room { SavesRoom (fault_in (Accept terminal.now number segments result)) self.old self.new }
         ensures frugal { WritesFrugally D.state (fault_in (Accept terminal.now number segments result)) self.old self.new (Accept terminal.now number segments result) }
         ensures raises { RaisesBy (2 * self.old.control.system.logs) self.old self.new }
         ensures counts { CountsSince D.state (2 * self.old.control.system.logs) self.old self.new }
@@ -273,6 +277,7 @@ impl<D: Disk> Control<D> {
         ensures spent { SpentBy (spent_now self.old) (fault_in (AckedEntry terminal.now number result)) }
         ensures nothing { StaysSpent (fault_in (AckedEntry terminal.now number result)) self.old self.new }
         ensures undone { StaysUndone (fault_in (AckedEntry terminal.now number result)) self.old self.new }
+        ensures room { SavesRoom (fault_in (AckedEntry terminal.now number result)) self.old self.new }
         ensures frugal { WritesFrugally D.state (fault_in (AckedEntry terminal.now number result)) self.old self.new (AckedEntry terminal.now number result) }
         ensures raises { RaisesBy (2 * self.old.control.system.logs) self.old self.new }
         ensures counts { CountsSince D.state (2 * self.old.control.system.logs) self.old self.new }
@@ -300,6 +305,7 @@ impl<D: Disk> Control<D> {
         ensures spent { SpentBy (spent_now self.old) (fault_in (TurnEntry region result)) }
         ensures nothing { StaysSpent (fault_in (TurnEntry region result)) self.old self.new }
         ensures undone { StaysUndone (fault_in (TurnEntry region result)) self.old self.new }
+        ensures room { SavesRoom (fault_in (TurnEntry region result)) self.old self.new }
         ensures frugal { WritesFrugally D.state (fault_in (TurnEntry region result)) self.old self.new (TurnEntry region result) }
         ensures raises { RaisesBy (2 * self.old.control.system.logs) self.old self.new }
         ensures counts { CountsSince D.state (2 * self.old.control.system.logs) self.old self.new }
@@ -327,6 +333,7 @@ impl<D: Disk> Control<D> {
         ensures spent { SpentBy (spent_now self.old) (fault_in (Commanded command.now result)) }
         ensures nothing { StaysSpent (fault_in (Commanded command.now result)) self.old self.new }
         ensures undone { StaysUndone (fault_in (Commanded command.now result)) self.old self.new }
+        ensures room { SavesRoom (fault_in (Commanded command.now result)) self.old self.new }
         ensures frugal { WritesFrugally D.state (fault_in (Commanded command.now result)) self.old self.new (Commanded command.now result) }
         ensures raises { RaisesBy (2 * self.old.control.system.logs) self.old self.new }
         ensures counts { CountsSince D.state (2 * self.old.control.system.logs) self.old self.new }
@@ -347,7 +354,8 @@ impl<D: Disk> Control<D> {
         answer
     }
 
-    /// Takes a checkpoint, of which it answers the number. Before a freeze no region may work on a message.
+    /// Takes a checkpoint, of which it answers the number. Before a freeze no region may work on a message. No slot counts as
+    /// changed behind it.
     pub fn checkpoint(&mut self, freeze: bool) -> Result<u64, CheckpointRefused>
         requires up { self.old.up ≡ true }
         ensures adds { AddsBy D.state (fault_in (Checked freeze result)) self.old self.new (Checked freeze result) }
@@ -356,10 +364,13 @@ impl<D: Disk> Control<D> {
         ensures spent { SpentBy (spent_now self.old) (fault_in (Checked freeze result)) }
         ensures nothing { StaysSpent (fault_in (Checked freeze result)) self.old self.new }
         ensures undone { StaysUndone (fault_in (Checked freeze result)) self.old self.new }
+        ensures room { SavesRoom (fault_in (Checked freeze result)) self.old self.new }
         ensures raises { RaisesBy self.old.control.system.logs self.old self.new }
         ensures counts { CountsSince D.state (2 * self.old.control.system.logs) self.old self.new }
         ensures stays { StaysSo D.state self.old self.new }
         ensures taken { IfOk result (λ number. IsTaken self.new.control.system number self.old.journal self.new.journal (D.state self.new.disk)) }
+        ensures settled { OnOk result (LeavesSettled self.old.databases self.new.databases self.old.units self.new.units self.old.next_unit self.new.next_unit) }
+        ensures writes { WritesCheckpoint self.old.control.system self.old.databases.changed self.old.journal (D.state self.old.disk) (D.state self.new.disk) }
         ensures refused { IfErr result (λ refusal. StaysUntaken refusal self.old self.new (Checked freeze result)) }
     {
         if let Some(counter) = self.machine.spent() {

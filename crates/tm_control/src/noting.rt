@@ -12,10 +12,12 @@ use model_machine::{
 };
 use tm_types::{Name, Segments};
 
-/// Adds an entry to a history that has room for it: that of a call which was answered, or in which the disk failed.
+/// Adds an entry to a history that has room for it: that of a call which was answered, or in which the disk failed. It takes no
+/// memory and gives none back.
 pub(crate) fn note(history: &mut Vec<Entry>, entry: Entry)
     requires { vec_len history.old < vec_capacity history.old }
-    ensures { history.new.items ≡ noted (is_noted (fault_in entry)) history.old.items entry }
+    ensures items { history.new.items ≡ noted (is_noted (fault_in entry)) history.old.items entry }
+    ensures capacity { vec_capacity history.new ≡ vec_capacity history.old }
 {
     if is_noted(&entry) {
         history.push_reserved(entry);

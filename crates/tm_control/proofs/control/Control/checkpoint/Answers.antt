@@ -1,11 +1,12 @@
 -- the control region goes on as its machine does
-use Rattle.std.proofs.Common.{◌≡◌, ◌∙◌, sym, ap, subst, List, ℕ}
+use Rattle.std.proofs.Common.{◌≡◌, ◌-◌, ◌∙◌, refl, sym, ap, subst, List, ℕ, arith}
 use Rattle.model_machine.specs.declared.entry.Entry.{Entry}
 use Rattle.model_machine.specs.declared.entry.Entry.TheVariants.{Checked}
 use Rattle.control_life.specs.Faults.{fault_in}
 use Rattle.tm_control.specs.Calls.{is_noted, noted}
 use Rattle.tm_control.specs.OnDisk.{ControlOnDisk}
-use Rattle.tm_control.proofs.Going.{called, is_served, still_counts, untaken}
+use Rattle.tm_control.proofs.Going.{called, is_served, seen, still_counts, untaken}
+use Rattle.tm_control.proofs.Room.{room_saved}
 use Rattle.tm_control.proofs.Numbers.{taken_numbers}
 use Rattle.tm_control.proofs.control.Control.checkpoint.Goals as goal
 
@@ -23,7 +24,7 @@ invariant_of-self-2 g c =
     })
     c.steps_of-self-inside.ensures c.checkpoint-answer.ensures.goes c.checkpoint-answer.ensures.crash
     (subst (λ (e : Entry). c.note.new.history.items ≡ noted (is_noted (fault_in e)) c.self.inside.history.items e) c.checked_entry.ensures
-    (c.note.ensures ∙ ap (λ (es : List Entry). noted (is_noted (fault_in c.checked_entry.result)) es c.checked_entry.result) c.reserve.ensures.items))).1
+    (c.note.ensures.items ∙ ap (λ (es : List Entry). noted (is_noted (fault_in c.checked_entry.result)) es c.checked_entry.result) c.reserve.ensures.items))).1
 
 pub returns-clause-crash : goal.returns-clause-crash
 returns-clause-crash g c = rw (sym c.self.view_is)
@@ -39,7 +40,7 @@ returns-clause-crash g c = rw (sym c.self.view_is)
     })
     c.steps_of-self-inside.ensures c.checkpoint-answer.ensures.goes c.checkpoint-answer.ensures.crash
     (subst (λ (e : Entry). c.note.new.history.items ≡ noted (is_noted (fault_in e)) c.self.inside.history.items e) c.checked_entry.ensures
-    (c.note.ensures ∙ ap (λ (es : List Entry). noted (is_noted (fault_in c.checked_entry.result)) es c.checked_entry.result) c.reserve.ensures.items))).0.crash
+    (c.note.ensures.items ∙ ap (λ (es : List Entry). noted (is_noted (fault_in c.checked_entry.result)) es c.checked_entry.result) c.reserve.ensures.items))).0.crash
 
 pub returns-clause-undone : goal.returns-clause-undone
 returns-clause-undone g c = rw (sym c.self.view_is)
@@ -55,13 +56,13 @@ returns-clause-undone g c = rw (sym c.self.view_is)
     })
     c.steps_of-self-inside.ensures c.checkpoint-answer.ensures.goes c.checkpoint-answer.ensures.crash
     (subst (λ (e : Entry). c.note.new.history.items ≡ noted (is_noted (fault_in e)) c.self.inside.history.items e) c.checked_entry.ensures
-    (c.note.ensures ∙ ap (λ (es : List Entry). noted (is_noted (fault_in c.checked_entry.result)) es c.checked_entry.result) c.reserve.ensures.items))).0.undone
+    (c.note.ensures.items ∙ ap (λ (es : List Entry). noted (is_noted (fault_in c.checked_entry.result)) es c.checked_entry.result) c.reserve.ensures.items))).0.undone
 
 pub returns-clause-refused : goal.returns-clause-refused
 returns-clause-refused g c = rw (sym c.self.view_is)
     (untaken c.self.inside.machine c.checkpoint-answer.new.self c.self.inside.opening c.self.inside.history.items c.note.new.history.items _ _ c.self.inside.began c.args.freeze c.checkpoint-answer.result c.checkpoint-answer.ensures.refused
     (subst (λ (e : Entry). c.note.new.history.items ≡ noted (is_noted (fault_in e)) c.self.inside.history.items e) c.checked_entry.ensures
-    (c.note.ensures ∙ ap (λ (es : List Entry). noted (is_noted (fault_in c.checked_entry.result)) es c.checked_entry.result) c.reserve.ensures.items))
+    (c.note.ensures.items ∙ ap (λ (es : List Entry). noted (is_noted (fault_in c.checked_entry.result)) es c.checked_entry.result) c.reserve.ensures.items))
     (called g.D.Disk.state c.self.inside.machine c.checkpoint-answer.new.self c.self.inside.opening c.self.inside.history.items c.note.new.history.items (Checked c.args.freeze c.checkpoint-answer.result) _ _ c.self.inside.began c.self.inside.steps c.steps_of-self-inside.result
     (record {
       served = ap (λ (v : ControlOnDisk _). v.up) c.self.view_is ∙ c.requires.up;
@@ -74,7 +75,17 @@ returns-clause-refused g c = rw (sym c.self.view_is)
     })
     c.steps_of-self-inside.ensures c.checkpoint-answer.ensures.goes c.checkpoint-answer.ensures.crash
     (subst (λ (e : Entry). c.note.new.history.items ≡ noted (is_noted (fault_in e)) c.self.inside.history.items e) c.checked_entry.ensures
-    (c.note.ensures ∙ ap (λ (es : List Entry). noted (is_noted (fault_in c.checked_entry.result)) es c.checked_entry.result) c.reserve.ensures.items))).0.undone)
+    (c.note.ensures.items ∙ ap (λ (es : List Entry). noted (is_noted (fault_in c.checked_entry.result)) es c.checked_entry.result) c.reserve.ensures.items))).0.undone)
+
+pub returns-clause-room : goal.returns-clause-room
+returns-clause-room g c = rw (sym c.self.view_is)
+    (room_saved (seen c.self.inside.machine c.self.inside.opening c.self.inside.history.items (c.self.inside.history.cap - c.self.inside.history.len) c.self.inside.began)
+    (seen c.checkpoint-answer.new.self c.self.inside.opening c.note.new.history.items (c.note.new.history.cap - c.note.new.history.len) c.self.inside.began)
+    c.self.inside.history.items c.note.new.history.items c.self.inside.history.len c.note.new.history.len c.self.inside.history.cap c.note.new.history.cap
+    refl refl c.self.inside.history.ok.0 c.note.new.history.ok.0 (omega (arith, c.reserve.ensures.capacity, c.note.ensures.capacity))
+    (fault_in (Checked c.args.freeze c.checkpoint-answer.result)) (Checked c.args.freeze c.checkpoint-answer.result)
+    (subst (λ (e : Entry). c.note.new.history.items ≡ noted (is_noted (fault_in e)) c.self.inside.history.items e) c.checked_entry.ensures
+    (c.note.ensures.items ∙ ap (λ (es : List Entry). noted (is_noted (fault_in c.checked_entry.result)) es c.checked_entry.result) c.reserve.ensures.items)))
 
 pub returns-clause-lasts : goal.returns-clause-lasts
 returns-clause-lasts g c =
@@ -90,7 +101,7 @@ returns-clause-lasts g c =
     })
     c.steps_of-self-inside.ensures c.checkpoint-answer.ensures.goes c.checkpoint-answer.ensures.crash
     (subst (λ (e : Entry). c.note.new.history.items ≡ noted (is_noted (fault_in e)) c.self.inside.history.items e) c.checked_entry.ensures
-    (c.note.ensures ∙ ap (λ (es : List Entry). noted (is_noted (fault_in c.checked_entry.result)) es c.checked_entry.result) c.reserve.ensures.items))).0.lasts
+    (c.note.ensures.items ∙ ap (λ (es : List Entry). noted (is_noted (fault_in c.checked_entry.result)) es c.checked_entry.result) c.reserve.ensures.items))).0.lasts
 
 pub returns-clause-raises : goal.returns-clause-raises
 returns-clause-raises g c = rw (sym c.self.view_is) c.checkpoint-answer.ensures.raises
@@ -105,3 +116,9 @@ returns-in-Some-clause-counts g c = rw (sym c.self.view_is)
 pub returns-then-is_err-clause-counts : goal.returns-then-is_err-clause-counts
 returns-then-is_err-clause-counts g c = rw (sym c.self.view_is)
     (still_counts g.D.Disk.state c.self.inside.machine c.self.inside.opening c.self.inside.history.items 0 0 c.self.inside.began (ap (λ (v : ControlOnDisk _). v.up) c.self.view_is ∙ c.requires.up) c.spent.ensures.lasts (g.met.D.Disk.is_disk c.self.inside.machine.disk))
+
+pub returns-clause-settled : goal.returns-clause-settled
+returns-clause-settled g c = rw (sym c.self.view_is) c.checkpoint-answer.ensures.settled
+
+pub returns-clause-writes : goal.returns-clause-writes
+returns-clause-writes g c = rw (sym c.self.view_is) c.checkpoint-answer.ensures.writes

@@ -1,5 +1,5 @@
 -- the control region goes on as its machine does
-use Rattle.std.proofs.Common.{◌≡◌, ◌∙◌, sym, ap, subst, List, ℕ}
+use Rattle.std.proofs.Common.{◌≡◌, ◌-◌, ◌∙◌, refl, sym, ap, subst, List, ℕ, arith}
 use Rattle.model_machine.specs.declared.entry.Entry.{Entry}
 use Rattle.model_machine.specs.declared.entry.Entry.TheVariants.{Turn}
 use Rattle.model_machine.specs.Machine.{IsRegion}
@@ -7,7 +7,8 @@ use Rattle.control_life.specs.Faults.{fault_in}
 use Rattle.tm_control.specs.Calls.{is_noted, noted}
 use Rattle.tm_control.specs.OnDisk.{ControlOnDisk}
 use Rattle.model_machine.specs.declared.entry.ControlCall.TheVariants.{Turn as TurnCall}
-use Rattle.tm_control.proofs.Going.{called, frugal_too, is_served, still_counts}
+use Rattle.tm_control.proofs.Going.{called, frugal_too, is_served, seen, still_counts}
+use Rattle.tm_control.proofs.Room.{room_saved}
 use Rattle.tm_control.proofs.control.Control.turn.Goals as goal
 
 pub invariant_of-self-2 : goal.invariant_of-self-2
@@ -24,7 +25,7 @@ invariant_of-self-2 g c =
     })
     c.steps_of-self-inside.ensures c.turn-turned.ensures.goes c.turn-turned.ensures.crash
     (subst (λ (e : Entry). c.note.new.history.items ≡ noted (is_noted (fault_in e)) c.self.inside.history.items e) c.turn_entry.ensures
-    (c.note.ensures ∙ ap (λ (es : List Entry). noted (is_noted (fault_in c.turn_entry.result)) es c.turn_entry.result) c.reserve.ensures.items))).1
+    (c.note.ensures.items ∙ ap (λ (es : List Entry). noted (is_noted (fault_in c.turn_entry.result)) es c.turn_entry.result) c.reserve.ensures.items))).1
 
 pub returns-clause-crash : goal.returns-clause-crash
 returns-clause-crash g c = rw (sym c.self.view_is)
@@ -40,7 +41,7 @@ returns-clause-crash g c = rw (sym c.self.view_is)
     })
     c.steps_of-self-inside.ensures c.turn-turned.ensures.goes c.turn-turned.ensures.crash
     (subst (λ (e : Entry). c.note.new.history.items ≡ noted (is_noted (fault_in e)) c.self.inside.history.items e) c.turn_entry.ensures
-    (c.note.ensures ∙ ap (λ (es : List Entry). noted (is_noted (fault_in c.turn_entry.result)) es c.turn_entry.result) c.reserve.ensures.items))).0.crash
+    (c.note.ensures.items ∙ ap (λ (es : List Entry). noted (is_noted (fault_in c.turn_entry.result)) es c.turn_entry.result) c.reserve.ensures.items))).0.crash
 
 pub returns-clause-undone : goal.returns-clause-undone
 returns-clause-undone g c = rw (sym c.self.view_is)
@@ -56,7 +57,17 @@ returns-clause-undone g c = rw (sym c.self.view_is)
     })
     c.steps_of-self-inside.ensures c.turn-turned.ensures.goes c.turn-turned.ensures.crash
     (subst (λ (e : Entry). c.note.new.history.items ≡ noted (is_noted (fault_in e)) c.self.inside.history.items e) c.turn_entry.ensures
-    (c.note.ensures ∙ ap (λ (es : List Entry). noted (is_noted (fault_in c.turn_entry.result)) es c.turn_entry.result) c.reserve.ensures.items))).0.undone
+    (c.note.ensures.items ∙ ap (λ (es : List Entry). noted (is_noted (fault_in c.turn_entry.result)) es c.turn_entry.result) c.reserve.ensures.items))).0.undone
+
+pub returns-clause-room : goal.returns-clause-room
+returns-clause-room g c = rw (sym c.self.view_is)
+    (room_saved (seen c.self.inside.machine c.self.inside.opening c.self.inside.history.items (c.self.inside.history.cap - c.self.inside.history.len) c.self.inside.began)
+    (seen c.turn-turned.new.self c.self.inside.opening c.note.new.history.items (c.note.new.history.cap - c.note.new.history.len) c.self.inside.began)
+    c.self.inside.history.items c.note.new.history.items c.self.inside.history.len c.note.new.history.len c.self.inside.history.cap c.note.new.history.cap
+    refl refl c.self.inside.history.ok.0 c.note.new.history.ok.0 (omega (arith, c.reserve.ensures.capacity, c.note.ensures.capacity))
+    (fault_in (Turn c.args.region c.turn-turned.result)) (Turn c.args.region c.turn-turned.result)
+    (subst (λ (e : Entry). c.note.new.history.items ≡ noted (is_noted (fault_in e)) c.self.inside.history.items e) c.turn_entry.ensures
+    (c.note.ensures.items ∙ ap (λ (es : List Entry). noted (is_noted (fault_in c.turn_entry.result)) es c.turn_entry.result) c.reserve.ensures.items)))
 
 pub returns-clause-lasts : goal.returns-clause-lasts
 returns-clause-lasts g c =
@@ -72,7 +83,7 @@ returns-clause-lasts g c =
     })
     c.steps_of-self-inside.ensures c.turn-turned.ensures.goes c.turn-turned.ensures.crash
     (subst (λ (e : Entry). c.note.new.history.items ≡ noted (is_noted (fault_in e)) c.self.inside.history.items e) c.turn_entry.ensures
-    (c.note.ensures ∙ ap (λ (es : List Entry). noted (is_noted (fault_in c.turn_entry.result)) es c.turn_entry.result) c.reserve.ensures.items))).0.lasts
+    (c.note.ensures.items ∙ ap (λ (es : List Entry). noted (is_noted (fault_in c.turn_entry.result)) es c.turn_entry.result) c.reserve.ensures.items))).0.lasts
 
 pub returns-clause-frugal : goal.returns-clause-frugal
 returns-clause-frugal g c = rw (sym c.self.view_is)
