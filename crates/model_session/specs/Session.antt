@@ -1,5 +1,5 @@
 -- A session: for each block of its lines where it leads, and what is printed for it.
-use Rattle.std.specs.Prelude.{◌≡◌, ◌⊎◌, ℕ, Bool, true, false, List, [], ◌∷◌, ◌++◌, length}
+use Rattle.std.specs.Prelude.{◌≡◌, ◌⊎◌, ℕ, Bool, true, false, None, List, [], ◌∷◌, ◌++◌, length}
 use Rattle.std.specs.Option.{is_some}
 use Rattle.model_machine.specs.declared.entry.Entry.{Entry}
 use Rattle.model_machine.specs.declared.entry.ControlCall.{ControlCall}
@@ -16,7 +16,7 @@ use Rattle.model_session.specs.Lines.{asked_of}
 use Rattle.model_session.specs.Text.{entry_text, bad_line_text, bad_command_text, stopped_text, broken_text, power_text, armed_text, up_text, down_text, opened_text, image_text}
 use Rattle.model_session.specs.Turns.{IsQuieted, IsBrokenOff, quieted_text, region_after}
 use Rattle.model_session.specs.Lives.{LastLife, now_in, ends_life, is_disk_fault}
-use Rattle.model_session.specs.Standing.{Setting, SessionState, Outage, Standing, Stop, no_life, unbegun, gone_on, called_on, ended, broken, opened, failed, MayBeFound, LastAnswered}
+use Rattle.model_session.specs.Standing.{Setting, SessionState, Outage, Standing, Stop, no_life, unbegun, gone_on, called_on, ended, broken, opened, failed, IsEmptied, MayBeFound, LastAnswered}
 use Rattle.model_session.specs.Standing.Standing.{Up, Down}
 
 -- ---- while the system is up
@@ -83,11 +83,18 @@ abbrev pub MayOpen : Bool → Setting → Outage → ℕ → LastingState → Ty
 MayOpen false setting outage kept state = MayBeFound setting outage kept state
 MayOpen true setting outage kept state = (state ≡ empty_state setting.system) × LastAnswered setting.system outage.last kept
 
--- A life opened. Of a disk that doesn't tell its contents nothing is known.
+-- Before the first life what was handed in is to be opened.
+pub record OpensFirst (cold : Bool) (outage : Outage) : Type 0 where
+  pub found : cold ≡ false
+  pub first : outage.last ≡ None
+
+-- A life opened. Of a disk that doesn't tell its contents nothing is known. Before the first life what was handed in is opened only
+-- where it is of the definition's text; or a cold start broke off since, and the life opens empty.
 pub record Opens (cold : Bool) (setting : Setting) (old : SessionState) (outage : Outage) (new : SessionState) : Type 0 where
   pub kept : ℕ
   pub state : LastingState
   pub may : setting.tells ≡ true → MayOpen cold setting outage kept state
+  pub right : setting.tells ≡ true → OpensFirst cold outage → setting.right_text ⊎ IsEmptied setting.system outage.last outage.emptied kept state
   pub goes : new ≡ opened old outage kept state
 
 -- The disk failed in the opening.
@@ -102,8 +109,9 @@ MayRefuse tells (Rule rule sector) = tells ≡ false
 MayRefuse tells (OtherText place) = tells ≡ false
 MayRefuse tells (Size needed has) = ⊥
 
--- The disk can't be opened, and a life had begun before.
-pub record IsNotOpened (setting : Setting) (outage : Outage) (old new : SessionState) (text : List ℕ) : Type 0 where
+-- The disk can't be opened, and a life had begun before. So it isn't with a cold start, which looks at the size alone.
+pub record IsNotOpened (cold : Bool) (setting : Setting) (outage : Outage) (old new : SessionState) (text : List ℕ) : Type 0 where
+  pub found : cold ≡ false
   pub refusal : ImageRefused
   pub begun : is_some outage.last ≡ true
   pub may : MayRefuse setting.tells refusal
@@ -114,7 +122,7 @@ abbrev pub IsRestarted : Bool → Setting → SessionState → Outage → Sessio
 IsRestarted cold setting old outage new text =
     (Opens cold setting old outage new × (text ≡ opened_text cold))
     ⊎ (FailsToOpen cold old outage new × (text ≡ broken_text))
-    ⊎ IsNotOpened setting outage old new text
+    ⊎ IsNotOpened cold setting outage old new text
 
 -- Only a restart is served.
 abbrev pub IsServedDown : Asked → Setting → SessionState → Outage → SessionState → List ℕ → Type 0

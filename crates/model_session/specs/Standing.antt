@@ -7,15 +7,16 @@ use Rattle.model_session.specs.declared.asked.ImageRefused.{ImageRefused}
 use Rattle.model_session.specs.Lives.{LifeState, LastLife, now_in, longer, with_life, HasAnswered, Leaves}
 
 -- A session's system; whether its disk can be told to stop at a write to come, and whether it tells its contents; the
--- states that the disk recovers to as it is handed in, of which there is one at most; and why it can't be opened as it is
--- handed in: by a refusal, or since a counter is spent.
+-- states that the disk recovers to as it is handed in, of which there is one at most; whether it is of the definition's text then, and
+-- why it is refused; and the bounds that none of the disk's own counters is above then.
 pub record Setting : Type 1 where
   pub system : System
   pub can_arm : Bool
   pub tells : Bool
   pub begins : LastingState → Type 0
+  pub right_text : Type 0
   pub refuses : ImageRefused → Type 0
-  pub spends : Type 0
+  pub counts : ℕ → Type 0
 
 -- The system is down: the last life, if one has begun; whether a cold start broke off since; and whether the disk has
 -- failed since that life was opened.

@@ -1,5 +1,5 @@
 -- What was asked of a control region, by the fault that its call met.
-use Rattle.std.proofs.Common.{◌≡◌, ℕ, Bool, true, false, List, [], ◌∷◌, sym, ◌∙◌, ap, subst, refl}
+use Rattle.std.proofs.Common.{◌≡◌, ◌≤◌, ℕ, Bool, true, false, List, [], ◌∷◌, sym, ◌∙◌, ap, subst, refl, arith}
 use Rattle.std.specs.Prelude.{◌↔◌, IfOk, IsTrue, Option, Some, None, Result, Ok, Err}
 use Rattle.model_disk.specs.Disk.{DiskState, Only}
 use Rattle.model_disk.proofs.Words.{stays_same, stays_on}
@@ -28,7 +28,7 @@ use Rattle.tm_control.specs.Calls.{StaysSo, AddsBy, AddedNothing, SpentBy, Stays
 use Rattle.session_lives.specs.declared.called.Called.{Called}
 use Rattle.session_lives.specs.declared.called.Called.TheVariants.{Answered, Power, Broke, Memory, Spent}
 use Rattle.model_session.specs.Lives.{ends_life, is_disk_fault}
-use Rattle.session_lives.specs.Asking.{called_by, ended_by, IsSpentUp, IsAsked}
+use Rattle.session_lives.specs.Asking.{called_by, ended_by, CallLooks, IsSpentUp, IsAsked}
 
 -- an entry with a fault
 pub fault_is : (entry : Entry) (fault : ControlFault) → fault_in entry ≡ Some fault → is_fault entry ≡ true
@@ -98,6 +98,15 @@ disk_fault_is (Checked freeze (Err (BusyRegion region id))) e = cc
 
 -- ---- counters
 
+-- a call with a fault looked at counters
+pub fault_looks : (entry : Entry) (fault : ControlFault) → fault_in entry ≡ Some fault → CallLooks (call_of entry)
+fault_looks (Accept terminal number segments answer) fault e = tt
+fault_looks (Show terminal answer) fault e = cc
+fault_looks (Acked terminal number answer) fault e = tt
+fault_looks (Turn region answer) fault e = tt
+fault_looks (Commanded command answer) fault e = tt
+fault_looks (Checked freeze answer) fault e = tt
+
 module _ {D : Type 0} (old new : ControlOnDisk D) where
   spent_of : (counter : Counter) (was : Option Counter) → spent_now old ≡ was → SpentBy was (Some (SpentCounter counter)) → IsSpentUp old
   spent_of counter (Some other) is by = record { counter = other; spent = is }
@@ -116,7 +125,7 @@ module _ {D : Type 0} (state : D → DiskState) where
   asked_of_fault None entry old new text on is spent same adds printed = record { entry = entry; asked = refl; answered = adds; goes_on = on; printed = printed }
   asked_of_fault (Some Disk) entry old new text on is spent same adds printed = record { entry = entry; asked = refl; fault = disk_fault_is entry is; broke = adds }
   asked_of_fault (Some NoMemory) entry old new text on is spent same adds printed = adds
-  asked_of_fault (Some (SpentCounter counter)) entry old new text on is spent same adds printed = (adds, spent_up old new counter spent same)
+  asked_of_fault (Some (SpentCounter counter)) entry old new text on is spent same adds printed = (adds, spent_up old new counter spent same, fault_looks entry (SpentCounter counter) is)
 
   -- a call that was made and ends no life, with what is printed where it was answered
   pub asked_call : (entry : Entry) (old new : ControlOnDisk D) (text : List ℕ) (called : Called) → ends_life entry ≡ false → called ≡ called_by (fault_in entry)
@@ -133,7 +142,7 @@ module _ {D : Type 0} (state : D → DiskState) where
       subst (λ c. IsAsked state (Call (call_of entry)) old new text c) (sym how) (record { entry = entry; asked = refl; fault = disk_fault_is entry is; broke = adds })
   asked_fault NoMemory entry old new text called on is how spent same adds = subst (λ c. IsAsked state (Call (call_of entry)) old new text c) (sym how) adds
   asked_fault (SpentCounter counter) entry old new text called on is how spent same adds =
-      subst (λ c. IsAsked state (Call (call_of entry)) old new text c) (sym how) (adds, spent_up old new counter spent same)
+      subst (λ c. IsAsked state (Call (call_of entry)) old new text c) (sym how) (adds, spent_up old new counter spent same, fault_looks entry (SpentCounter counter) is)
 
   asked_ahead : (fault : Option ControlFault) (entry : Entry) (old new : ControlOnDisk D) (text : List ℕ) → ends_life entry ≡ false → fault_in entry ≡ fault
       → SpentBy (spent_now old) fault → StaysSpent fault old new
@@ -142,7 +151,7 @@ module _ {D : Type 0} (state : D → DiskState) where
   asked_ahead None entry old new text on is spent same adds printed = record { entry = entry; asked = refl; answered = adds; goes_on = on; printed = printed adds.adds.may }
   asked_ahead (Some Disk) entry old new text on is spent same adds printed = record { entry = entry; asked = refl; fault = disk_fault_is entry is; broke = adds }
   asked_ahead (Some NoMemory) entry old new text on is spent same adds printed = adds
-  asked_ahead (Some (SpentCounter counter)) entry old new text on is spent same adds printed = (adds, spent_up old new counter spent same)
+  asked_ahead (Some (SpentCounter counter)) entry old new text on is spent same adds printed = (adds, spent_up old new counter spent same, fault_looks entry (SpentCounter counter) is)
 
   -- a command whose text was made before, by the answer at its place
   pub asked_command : (command : Command) (answer : Result Answer CommandRefused) (old new : ControlOnDisk D) (text : List ℕ) (called : Called)
@@ -181,7 +190,7 @@ module _ {D : Type 0} (state : D → DiskState) where
 
   -- what stays over two calls
   pub stays_so : (a : ControlOnDisk D) → StaysSo state a a
-  stays_so a = record { system = refl; opening = refl; text = refl; began = refl; disk = stays_same (state a.disk) }
+  stays_so a = record { system = refl; opening = refl; text = refl; began = refl; disk = stays_same (state a.disk); later = omega arith }
 
   pub stays_so_on : (a b c : ControlOnDisk D) → StaysSo state a b → StaysSo state b c → StaysSo state a c
   stays_so_on a b c first second = record {
@@ -190,6 +199,7 @@ module _ {D : Type 0} (state : D → DiskState) where
     text = second.text ∙ first.text;
     began = second.began ∙ first.began;
     disk = stays_on (state a.disk) (state b.disk) (state c.disk) first.disk second.disk;
+    later = omega (arith, first.later, second.later);
   }
 
   -- nothing was asked

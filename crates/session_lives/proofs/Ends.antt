@@ -1,6 +1,6 @@
 -- How a life goes on, and how it ends.
-use Rattle.std.proofs.Common.{◌≡◌, ◌⊎◌, ℕ, ◌+◌, ◌-◌, ◌≤◌, ◌<◌, Bool, true, false, List, [], ◌∷◌, ◌++◌, length, map, sym, ◌∙◌, ap, subst, refl, arith, append_assoc, inl, inr}
-use Rattle.std.proofs.lemmas.List.{append-nil}
+use Rattle.std.proofs.Common.{◌≡◌, ◌⊎◌, ℕ, ◌+◌, ◌*◌, ◌-◌, ◌≤◌, ◌<◌, Bool, true, false, List, [], ◌∷◌, ◌++◌, length, map, sym, ◌∙◌, ap, subst, refl, arith, append_assoc, inl, inr}
+use Rattle.std.proofs.lemmas.List.{append-nil, length-append}
 use Rattle.std.specs.Prelude.{if◌then◌else◌, Option, Some, None, Ok, vec_len, vec_capacity}
 use Rattle.std.specs.Option.{option_map}
 use Rattle.model_disk.specs.Disk.{Image, DiskState, Stays, IsCut, Only, Rose, FailedSince}
@@ -12,6 +12,10 @@ use Rattle.model_machine.specs.Machine.{LastingState, start_of}
 use Rattle.model_machine.specs.History.{AscendAbove, ControlState, IsLegal, is_fault, moment_after, now_of}
 use Rattle.model_image.specs.Recovered.{Recovers}
 use Rattle.checkpointing.specs.Texts.{HasText}
+use Rattle.checkpointing.specs.Counts.{CountsUpTo}
+use Rattle.checkpointing.proofs.Counted.{up_to_more}
+use Rattle.system_types.specs.Valid.{IsSystem}
+use Rattle.counter_law.specs.Measures.{call_raises, last_measure, lives_measure, measure}
 use Rattle.cold_start.specs.FirstImage.{sectors_needed}
 use Rattle.disk_law.specs.Kept.{RecoversEither}
 use Rattle.model_session.specs.Lives.{LifeState, LastLife, AreLegal, HasAnswered, Leaves, is_disk_fault, longer}
@@ -24,7 +28,8 @@ use Rattle.control_life.specs.declared.life.Life.{Life}
 use Rattle.session_lives.specs.declared.place.Idle.{Idle}
 use Rattle.session_lives.specs.declared.place.Place.TheVariants.{Up, Down}
 use Rattle.session_lives.specs.declared.place.Kept.{Kept}
-use Rattle.session_lives.specs.Running.{life_of, last_of, last_up, kept_of, outage_of, session_at, setting_of, Recalls, Holds, IsUpReady, IsUpSound, IsDownSound}
+use Rattle.session_lives.specs.Running.{life_of, last_of, last_up, kept_of, outage_of, session_at, setting_of, CountsDown, CountsFirst, Recalls, Holds, IsUpReady, IsUpSound, IsDownSound}
+use Rattle.session_lives.specs.Counting.{CountsUp}
 use Rattle.session_lives.specs.Openings.{GoesDown}
 use Rattle.session_lives.proofs.Asked.{disk_fault_is, fault_is}
 use Rattle.model_session.proofs.Ending.{answered_end, faulted_end}
@@ -127,6 +132,10 @@ module _ (system : System) (life : LastLife) where
       → state ≡ (moment_after system (start_of system life.opening) before).lasting → Leaves system life (state.steps - life.opening.steps) state
   leaves_before state before entry all fault is = record { front = before; rest = entry ∷ []; split = all; unanswered = rw fault refl; left = is; counted = refl }
 
+has_ended : (life : Life) (last : Option Life) → last ≡ Some life → option_map last_of last ≡ None → ⊥
+has_ended life None is none = cc
+has_ended life (Some other) is none = cc
+
 -- of faults it has the disk's alone
 disk_by : (up : Bool) (control : ControlState) (text : List ℕ) (disk : DiskState) → LastsBy up control text disk
     → (legal : IsLegal control.system (start_of control.system control.opening) control.history) (entry : Entry) → legal.last ≡ Some entry → is_disk_fault entry ≡ true
@@ -187,11 +196,29 @@ module _ {D : Type 0} (state : D → DiskState) (system : System) (source : List
   texts_by true image lasts left = lasts.texts image left
   texts_by false image lasts left = lasts.texts image left
 
+  -- the end of a life undoes nothing of what it has done
+  down_measure : (old new : Kept) (stopped : Bool) (idle : Idle D) → GoesDown state c old new stopped idle → measure (session_at (Up c) old) ≤ measure (session_at (Down idle) new)
+  down_measure old new stopped idle down =
+      let lives : lives_measure (map life_of new.lives.items) ≡ lives_measure (map life_of old.lives.items) = ap lives_measure (same_kept old new down.lives) in
+      let last : last_measure (option_map last_of idle.last) ≡ length down.life.history + 1 = ap (λ (l : Option Life). last_measure (option_map last_of l)) down.last in
+      let long : length down.life.history ≡ length c.control.history = ap (λ (es : List Entry). length es) down.closes.history in
+      let stops : length new.stops.items ≡ length old.stops.items + length (if stopped then (c.began, (state down.disk).faults) ∷ [] else []) =
+      ap (λ (s : List Stop). length s) down.stops ∙ length-append old.stops.items (if stopped then (c.began, (state down.disk).faults) ∷ [] else []) in
+      omega (arith, lives, last, long, stops)
+
+  down_counts : (old new : Kept) (stopped : Bool) (idle : Idle D) → GoesDown state c old new stopped idle → (high : ℕ) → CountsUp state (high + call_raises * measure (session_at (Up c) old)) c
+      → CountsDown system (high + call_raises * measure (session_at (Down idle) new)) (state idle.disk)
+  down_counts old new stopped idle down high h image left =
+      up_to_more system (high + call_raises * measure (session_at (Up c) old)) (high + call_raises * measure (session_at (Down idle) new)) image (omega (arith, down_measure old new stopped idle down))
+      (subst (λ (s : System). CountsUpTo s (high + call_raises * measure (session_at (Up c) old)) image) system_is
+      (h.images image (subst (λ d. (state d).may_leave image) down.closes.disk_is (down.laid.no_more image left))))
+
   -- a life that has ended leaves all sound
   pub down_sound : Only (state handed).shown (state handed) → c.text ≡ source → sectors_needed system ≤ (state handed).size → (old new : Kept) (stopped : Bool) (idle : Idle D)
       → GoesDown state c old new stopped idle → Stays (state handed) (state c.disk)
-      → AreLegal system (map life_of old.lives.items) → AreStops (state handed).faults new.stops.items (state c.disk).faults → IsDownSound state system source handed idle new
-  down_sound alone text_is size old new stopped idle down stays legal stops =
+      → AreLegal system (map life_of old.lives.items) → AreStops (state handed).faults new.stops.items (state c.disk).faults
+      → IsSystem system → ((high : ℕ) → CountsFirst system high (state handed) → CountsUp state (high + call_raises * measure (session_at (Up c) old)) c) → IsDownSound state system source handed idle new
+  down_sound alone text_is size old new stopped idle down stays legal stops valid counts =
       let disk : Stays (state handed) (state down.disk) = subst (λ d. Stays (state handed) (state d)) (sym down.closes.disk_is) stays in
       let faults : (state idle.disk).faults ≡ (state c.disk).faults = down.laid.faults ∙ ap (λ d. (state d).faults) down.closes.disk_is in
       let outage : outage_of idle ≡ outage_with (Some (last_up c)) false stopped = outage_is state c old new stopped idle (last_up c) down refl refl in
@@ -201,8 +228,11 @@ module _ {D : Type 0} (state : D → DiskState) (system : System) (source : List
         text_is = down.closes.text_is ∙ text_is;
         size = λ begun. size;
         texts = λ image left.
-            inl (subst (λ (t : List ℕ). HasText system t image) text_is (subst (λ (s : System). HasText s c.text image) system_is
-            (texts_by c.up image down.lasts (subst (λ d. (state d).may_leave image) down.closes.disk_is (down.laid.no_more image left)))));
+            inl (record {
+              has_text = subst (λ (t : List ℕ). HasText system t image) text_is (subst (λ (s : System). HasText s c.text image) system_is
+                  (texts_by c.up image down.lasts (subst (λ d. (state d).may_leave image) down.closes.disk_is (down.laid.no_more image left))));
+              first = λ yet. absurd (has_ended down.life idle.last down.last yet.first);
+            });
         stays = stays_on (state handed) (state down.disk) (state idle.disk) disk down.laid.stays;
         stops = subst (λ n. AreStops (state handed).faults new.stops.items n) (sym faults) stops;
         legal = subst (λ l. AreLegal system l) (sym (same_kept old new down.lives)) legal;
@@ -210,6 +240,8 @@ module _ {D : Type 0} (state : D → DiskState) (system : System) (source : List
             (answered_of c.control.system system c.control.opening down.life.opening c.control.history down.life.history down.life.kept
             system_is (sym down.closes.opening) (sym down.closes.history) (answered_by c.up c.control c.text (state c.disk) down.life.kept down.lasts down.closes.legal down.closes.numbers down.closes.kept));
         images = λ image left. images_by c.up (outage_of idle) image down.lasts (subst (λ d. (state d).may_leave image) down.closes.disk_is (down.laid.no_more image left)) (ap (λ o. o.last) outage);
+        valid = valid;
+        counts = λ high first. down_counts old new stopped idle down high (counts high first);
       }
 
   -- the counts of a stop lie behind those before

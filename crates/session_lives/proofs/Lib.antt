@@ -1,3 +1,4 @@
+pub mod Counting
 pub mod Asked
 pub mod Replies
 pub mod Turned
@@ -5,6 +6,7 @@ pub mod Blocks
 pub mod Ends
 pub mod Leading
 pub mod Refusals
+pub mod Told
 pub mod Restarted
 pub mod Serving
 pub mod Remaining

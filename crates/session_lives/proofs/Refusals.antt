@@ -1,12 +1,13 @@
 -- An opening that was refused.
 use Rattle.std.proofs.Common.{◌≡◌, ℕ, Bool, true, false, List, [], ◌∷◌, ◌++◌, sym, ◌∙◌, ap, subst}
 use Rattle.std.specs.Prelude.{Option}
-use Rattle.model_disk.specs.Disk.{DiskState}
+use Rattle.model_disk.specs.Disk.{DiskState, Within}
 use Rattle.model_system.specs.System.{System}
 use Rattle.model_session.specs.declared.asked.ImageRefused.{ImageRefused}
 use Rattle.opening_answers.specs.declared.refusals.OpenError.{OpenError}
 use Rattle.opening_answers.specs.declared.refusals.OpenError.TheVariants.{BadImage, WrongDefinition, TooSmall, Spent, Disk, Memory}
 use Rattle.opening_answers.specs.Opening.{WroteNothing}
+use Rattle.checkpointing.specs.Counts.{RaisesCounts}
 use Rattle.control_life.specs.Opened.{HandsBack}
 use Rattle.control_life.specs.declared.life.Life.{Life}
 use Rattle.session_lives.specs.declared.called.Opening.{Opening}
@@ -27,7 +28,7 @@ refused_back state disk system text last emptied stopped cold began old (Spent c
 refused_back state disk system text last emptied stopped cold began old Memory session is back = back
 
 module _ {D : Type 0} (state : D → DiskState) (idle : Idle D) (old kept : Kept) (cold : Bool) (disk : D) (system : System) (text : List ℕ) (began : ℕ) (session : Session D)
-    (began_is : began ≡ (state idle.disk).faults) (lives : kept.lives.items ≡ old.lives.items) (stops : kept.stops.items ≡ old.stops.items) where
+    (began_is : began ≡ (state idle.disk).faults) (counts : Within (RaisesCounts 1 idle.system) (state idle.disk) (state disk)) (lives : kept.lives.items ≡ old.lives.items) (stops : kept.stops.items ≡ old.stops.items) where
   failed_gone : HandsBack state (how_of cold) idle.system idle.text idle.disk Disk disk system text
       → IsCutDown state disk system text idle.last idle.emptied cold began kept session → HasFailed state idle old cold session
   failed_gone handed cut = record {
@@ -36,6 +37,7 @@ module _ {D : Type 0} (state : D → DiskState) (idle : Idle D) (old kept : Kept
     disk = disk;
     back = subst (λ t. HandsBack state (how_of cold) idle.system idle.text idle.disk Disk disk cut.after.system t) (sym cut.text_is)
         (subst (λ s. HandsBack state (how_of cold) idle.system idle.text idle.disk Disk disk s text) (sym cut.system_is) handed);
+    counts = counts;
     cut = cut.cut;
     last = cut.last_is;
     emptied = cut.emptied_is;

@@ -1,5 +1,5 @@
 -- A system that was down, and what a restart comes to.
-use Rattle.std.proofs.Common.{◌≡◌, ◌⊎◌, ℕ, suc, ◌+◌, ◌-◌, ◌≤◌, max, Bool, true, false, List, [], ◌∷◌, ◌++◌, map, sym, ◌∙◌, ap, subst, refl, arith, inl, inr, ⊎_elim}
+use Rattle.std.proofs.Common.{◌≡◌, ◌⊎◌, ℕ, suc, ◌+◌, ◌*◌, ◌-◌, ◌≤◌, max, Bool, true, false, List, [], ◌∷◌, ◌++◌, map, sym, ◌∙◌, ap, subst, refl, arith, inl, inr, ⊎_elim}
 use Rattle.std.proofs.lemmas.List.{map-append}
 use Rattle.std.proofs.lemmas.Bool.{cases_Bool, eq-eqb}
 use Rattle.std.specs.Prelude.{◌==◌, if◌then◌else◌, Option, Some, None, Result, Ok, Err, IsTrue}
@@ -21,7 +21,7 @@ use Rattle.model_session.specs.Lives.{LifeState, LastLife, AreLegal, Leaves, wit
 use Rattle.model_session.specs.Standing.{Setting, Standing, Outage, SessionState, Stop, AreStops, IsEmptied, MayBeFound, MayHold, LastAnswered, IsLeft, or_cold, opened, failed}
 use Rattle.model_session.specs.Standing.Standing.{Up as StandsUp, Down as StandsDown}
 use Rattle.model_session.proofs.Kept.{kept_has}
-use Rattle.model_session.specs.Session.{MayOpen, MayRefuse, IsRestarted, Opens as OpensLife, FailsToOpen}
+use Rattle.model_session.specs.Session.{MayOpen, MayRefuse, OpensFirst, IsRestarted, Opens as OpensLife, FailsToOpen}
 use Rattle.restart_data.specs.Restart.{restart_in}
 use Rattle.model_machine.specs.declared.counts.Counter.{Counter}
 use Rattle.model_image.specs.Areas.{snapshot_area}
@@ -29,6 +29,11 @@ use Rattle.model_image.specs.Counters.{next_sequence}
 use Rattle.model_image.specs.Text.{text_in, first_difference}
 use Rattle.cold_start.specs.FirstImage.{sectors_needed}
 use Rattle.checkpointing.specs.Texts.{HasText}
+use Rattle.checkpointing.specs.Counts.{AreUpTo, CountsUpTo, RaisesCounts}
+use Rattle.checkpointing.proofs.Counted.{up_to_more, same_raises}
+use Rattle.counter_law.specs.Measures.{call_raises, measure}
+use Rattle.counter_law.specs.Spent.{FindsSpent, IsSpentAt}
+use Rattle.counter_law.proofs.Sessions.{opened_measure, failed_measure}
 use Rattle.opening_answers.specs.declared.refusals.OpenError.{OpenError}
 use Rattle.opening_answers.specs.declared.refusals.OpenError.TheVariants.{Spent as SpentCounter}
 use Rattle.opening_parts.specs.Parts.{OpeningParts}
@@ -47,8 +52,11 @@ use Rattle.session_lives.specs.declared.place.Idle.{Idle}
 use Rattle.session_lives.specs.declared.place.Place.TheVariants.{Up, Down}
 use Rattle.session_lives.specs.declared.place.Kept.{Kept}
 use Rattle.session_lives.specs.declared.place.Session.{Session}
-use Rattle.session_lives.specs.Running.{life_of, last_of, last_up, kept_of, outage_of, session_at, session_of, session_down, setting_of, LeadsBy, IsFoundAs, IsBrokenAs, IsRefusedFirst, Recalls, IsUnopened, IsOfText, Holds, IsUpSound, IsDownSound, IsSound, IsSoundAt, error_of}
-use Rattle.session_lives.specs.Openings.{how_of, kept_by, with_last, HasOpened, StaysIdle, HasFailed, HasGone, RefusesSpent, FindsSpent, SpentBehind, IsToldSo, IsRefusalTold, IsRestartedSo, UndoneBy, IsServedSo, restart_of}
+use Rattle.session_lives.specs.Running.{life_of, last_of, last_up, kept_of, outage_of, session_at, session_of, session_down, setting_of, CountsDown, CountsFirst, LeadsBy, IsFoundAs, IsBrokenAs, IsRefusedFirst, Recalls, IsUnopened, IsOfDefinition, IsEmptyImage, IsRight, IsOfText, Holds, IsUpSound, IsDownSound, IsSound, IsSoundAt, error_of}
+use Rattle.session_lives.specs.Counting.{CountsUp}
+use Rattle.session_lives.proofs.Counting.{stands_more}
+use Rattle.session_lives.proofs.Told.{told_text}
+use Rattle.session_lives.specs.Openings.{how_of, kept_by, with_last, HasOpened, StaysIdle, HasFailed, HasGone, RefusesSpent, IsToldSo, IsRefusalTold, IsRestartedSo, IsLookedAt, CountsOn, UndoneBy, IsServedSo, restart_of}
 use Rattle.session_lives.proofs.Ends.{state_with, same_state, outage_with, life_with, same_life, stops_one, rose_from}
 
 some_is : (a b : Bool) → Some b ≡ Some a → a ≡ b
@@ -62,6 +70,9 @@ ok_is a b e = cc
 
 pub ok_or_err : (a : LastingState) (fault : Fault) → SameAnswer (Ok a) (Err fault) → ⊥
 ok_or_err a fault e = cc
+
+no_true : true ≡ false → ⊥
+no_true e = cc
 
 higher : (least kept more : ℕ) → least ≤ kept → kept ≡ more → kept ≡ max least more
 higher least kept more less same = omega (arith, less, same)
@@ -191,6 +202,26 @@ module _ {D : Type 0} (state : D → DiskState) (is_disk : (disk : D) → IsDisk
       answered_as None is = is
       answered_as (Some life) is = is
 
+  -- ---- how far the disk counts
+
+  -- up to where what was done before has brought it
+  abbrev bound : ℕ → ℕ
+  bound high = high + call_raises * measure before
+
+  -- what an opening may leave at any moment counts one further at most
+  raised : (disk : D) → Within (RaisesCounts 1 idle.system) (state idle.disk) (state disk) → (high : ℕ) → CountsFirst system high (state handed) → CountsDown system (bound high + 1) (state disk)
+  raised disk within high first image left =
+      let here : Within (RaisesCounts 1 system) (state idle.disk) (state disk) = subst (λ (s : System). Within (RaisesCounts 1 s) (state idle.disk) (state disk)) sound.system_is within in
+      let comes : ComesFrom (RaisesCounts 1 system) (state idle.disk) image =
+      within_each (RaisesCounts 1 system) (state idle.disk) (state disk) (is_disk idle.disk) (λ (i : Image). same_raises 1 system i i refl) here image
+      ((is_disk disk).now_counts (state idle.disk).clock image here.later left) in
+      comes.by (bound high) (sound.counts high first comes.before comes.left)
+
+  shown_counts : (high : ℕ) → CountsFirst system high (state handed) → CountsUpTo idle.system (bound high) (state idle.disk).shown
+  shown_counts high first =
+      subst (λ (s : System). CountsUpTo s (bound high) (state idle.disk).shown) (sym sound.system_is)
+      (sound.counts high first (state idle.disk).shown ((is_disk idle.disk).shown_left (tells_now first.tells)))
+
   -- ---- a life opened
 
   sectors_there : sectors_needed idle.system ≤ (state idle.disk).size → sectors_needed system ≤ (state handed).size
@@ -203,6 +234,24 @@ module _ {D : Type 0} (state : D → DiskState) (is_disk : (disk : D) → IsDisk
       old.stops.items session.kept.stops.items (StandsUp (life_with gone.control.control.opening [])) (StandsUp (last_up gone.control))
       (ap (map life_of) gone.lives ∙ lives_with old.lives.items idle.last cold gone.control.control.opening.steps) gone.stops
       (ap StandsUp (same_life gone.control.control.opening gone.control.control.opening [] gone.control.control.history refl gone.opens.history))
+
+  opened_measured : (cold : Bool) (gone : HasOpened state idle old cold session) → measure (session_at (Up gone.control) session.kept) ≡ measure before + 1
+  opened_measured cold gone =
+      ap measure (sym (ap (λ p. session_at p session.kept) gone.place) ∙ opened_state cold gone)
+      ∙ opened_measure before outage (count_of idle.last cold gone.control.control.opening.steps) gone.control.control.opening
+
+  opened_counts : (cold : Bool) (gone : HasOpened state idle old cold session) (high : ℕ) → CountsFirst system high (state handed)
+      → CountsUp state (high + call_raises * measure (session_at (Up gone.control) session.kept)) gone.control
+  opened_counts cold gone high first =
+      let more : bound high + 1 ≤ high + call_raises * measure (session_at (Up gone.control) session.kept) = omega (arith, opened_measured cold gone) in
+      record {
+        own = λ up.
+            stands_more (bound high + 1) (high + call_raises * measure (session_at (Up gone.control) session.kept)) gone.control.journal gone.control.next_unit more
+            (gone.stands (bound high) (λ found. tells_now first.tells) (λ found. shown_counts high first));
+        images = λ image left.
+            subst (λ (s : System). CountsUpTo s (high + call_raises * measure (session_at (Up gone.control) session.kept)) image) (sym (gone.opens.system_is ∙ sound.system_is))
+            (up_to_more system (bound high + 1) (high + call_raises * measure (session_at (Up gone.control) session.kept)) image more (raised gone.control.disk gone.counts high first image left));
+      }
 
   opened_sound : (cold : Bool) → HasOpened state idle old cold session → IsSound state system source handed session
   opened_sound cold gone =
@@ -217,6 +266,8 @@ module _ {D : Type 0} (state : D → DiskState) (is_disk : (disk : D) → IsDisk
         began = omega (arith, gone.opens.began, gone.opens.no_fault);
         legal = subst (λ l. AreLegal system l) (sym (ap (map life_of) gone.lives ∙ lives_with old.lives.items idle.last cold gone.control.control.opening.steps))
             (legal_with system (map life_of old.lives.items) outage.last (kept_of idle.last) (count_of idle.last cold gone.control.control.opening.steps) sound.legal sound.answered);
+        valid = sound.valid;
+        counts = opened_counts cold gone;
       })
 
   -- ---- the disk failed
@@ -261,16 +312,47 @@ module _ {D : Type 0} (state : D → DiskState) (is_disk : (disk : D) → IsDisk
   abbrev outage_behind : Bool → Outage
   outage_behind cold = outage_with outage.last (or_cold cold outage.emptied) true
 
+  -- where the disk that was handed in may be opened yet, so it was before
+  yet_before : (cold : Bool) → OpensFirst false (outage_behind cold) → OpensFirst false outage
+  yet_before cold yet = record { found = refl; first = yet.first }
+
+  -- an image that was emptied is so still
+  still_emptied : (cold : Bool) → outage.emptied ≡ true → or_cold cold outage.emptied ≡ true
+  still_emptied true emptied = refl
+  still_emptied false emptied = emptied
+
+  -- of an image that recovers alike
+  right_behind : (cold : Bool) (first image : Image) → RecoversAlike system first image → IsOfDefinition system source (state handed) ⊎ IsEmptyImage system (StandsDown outage) first
+      → IsOfDefinition system source (state handed) ⊎ IsEmptyImage system (StandsDown (outage_behind cold)) image
+  right_behind cold first image alike (inl was) = inl was
+  right_behind cold first image alike (inr emptied) = inr (record { broke_off = still_emptied cold emptied.broke_off; empty = alike (Ok (empty_state system)) emptied.empty })
+
+  alike_same : (first image : Image) → image ≡ first → RecoversAlike system first image
+  alike_same first image same = λ answer is. subst (λ (i : Image). Recovers system i answer) (sym same) is
+
   -- its text
   text_same : (cold : Bool) (first image : Image) → image ≡ first → IsOfText state system source handed (StandsDown outage) first → IsOfText state system source handed (StandsDown (outage_behind cold)) image
-  text_same cold first image same (inl has) = inl (subst (λ (i : Image). HasText system source i) (sym same) has)
+  text_same cold first image same (inl right) =
+      inl (record {
+        has_text = subst (λ (i : Image). HasText system source i) (sym same) right.has_text;
+        first = λ yet. right_behind cold first image (alike_same first image same) (right.first (yet_before cold yet));
+      })
   text_same cold first image same (inr there) = inr (record { no_life = there.no_life; left = subst (λ (i : Image). (state handed).may_leave i) (sym same) there.left })
+
+  -- each image that was handed in is of a text that one of them has
+  handed_text : (one : Image) → (state handed).may_leave one → HasText system source one → IsOfDefinition system source (state handed)
+  handed_text one there has image left = subst (λ (i : Image). HasText system source i) (sound.handed_alone one there ∙ sym (sound.handed_alone image left)) has
+
+  text_kept : (first image : Image) → RecoversAlike system first image → HasText system source first → HasText system source image → IsOfText state system source handed (StandsDown outage) first
+      → IsRight state system source handed (StandsDown (outage_behind false)) image
+  text_kept first image alike had has (inl right) = record { has_text = has; first = λ yet. right_behind false first image alike (right.first (yet_before false yet)) }
+  text_kept first image alike had has (inr there) = record { has_text = has; first = λ yet. inl (handed_text first there.left had) }
 
   text_by : (cold : Bool) (first image : Image) → KeepsBy (how_of cold) system source first image → IsOfText state system source handed (StandsDown outage) first
       → IsOfText state system source handed (StandsDown (outage_behind cold)) image
-  text_by false first image keeps text = ⊎_elim (λ same. text_same false first image same text) (λ has. inl has) keeps.texts
+  text_by false first image keeps text = ⊎_elim (λ same. text_same false first image same text) (λ both. inl (text_kept first image keeps.alike both.0 both.1 text)) keeps.texts
   text_by true first image (inl same) text = text_same true first image same text
-  text_by true first image (inr empty) text = inl empty.has_text
+  text_by true first image (inr empty) text = inl (record { has_text = empty.has_text; first = λ yet. inr (record { broke_off = refl; empty = empty.recovers }) })
 
   failed_from : (cold : Bool) (gone : HasFailed state idle old cold session) (image : Image) → (state gone.after.disk).may_leave image → ComesFrom (KeepsBy (how_of cold) system source) (state idle.disk) image
   failed_from cold gone image left =
@@ -292,6 +374,16 @@ module _ {D : Type 0} (state : D → DiskState) (is_disk : (disk : D) → IsDisk
       let comes = failed_from cold gone image left in
       broken_by cold comes.before image comes.by (sound.images comes.before comes.left)
 
+  failed_measured : (cold : Bool) (gone : HasFailed state idle old cold session) → measure (session_at (Down gone.after) session.kept) ≡ measure before + 1
+  failed_measured cold gone =
+      ap measure (sym (ap (λ p. session_at p session.kept) gone.place) ∙ failed_state cold gone) ∙ failed_measure before outage cold ((state idle.disk).faults, (state gone.disk).faults)
+
+  failed_counts : (cold : Bool) (gone : HasFailed state idle old cold session) (high : ℕ) → CountsFirst system high (state handed)
+      → CountsDown system (high + call_raises * measure (session_at (Down gone.after) session.kept)) (state gone.after.disk)
+  failed_counts cold gone high first image left =
+      up_to_more system (bound high + 1) (high + call_raises * measure (session_at (Down gone.after) session.kept)) image (omega (arith, failed_measured cold gone))
+      (raised gone.disk gone.counts high first image (gone.cut.no_more image left))
+
   failed_sound : (cold : Bool) → HasFailed state idle old cold session → IsSound state system source handed session
   failed_sound cold gone =
       let outage_is : outage_of gone.after ≡ outage_with outage.last (or_cold cold outage.emptied) true = outage_after gone.after (or_cold cold outage.emptied) true gone.last gone.emptied gone.stopped in
@@ -310,6 +402,8 @@ module _ {D : Type 0} (state : D → DiskState) (is_disk : (disk : D) → IsDisk
         legal = subst (λ l. AreLegal system (map life_of l)) (sym gone.lives) sound.legal;
         answered = subst (λ l. LastAnswered system (option_map last_of l) (kept_of l)) (sym gone.last) sound.answered;
         images = λ image left. subst (λ o. Holds state system source handed (StandsDown o) image) (sym outage_is) (failed_holds cold gone image left);
+        valid = sound.valid;
+        counts = failed_counts cold gone;
       })
 
   -- ---- all is as it was
@@ -319,6 +413,15 @@ module _ {D : Type 0} (state : D → DiskState) (is_disk : (disk : D) → IsDisk
       ap (λ p. session_at p session.kept) idles.place
       ∙ same_state (map life_of old.lives.items) (map life_of session.kept.lives.items) old.stops.items session.kept.stops.items (StandsDown outage) (StandsDown (outage_of idles.after))
       (ap (map life_of) idles.lives) idles.stops (ap StandsDown (outage_after idles.after outage.emptied outage.stopped idles.last idles.emptied idles.stopped))
+
+  idle_measured : (idles : StaysIdle state idle old session) → measure (session_at (Down idles.after) session.kept) ≡ measure before
+  idle_measured idles = ap measure (sym (ap (λ p. session_at p session.kept) idles.place) ∙ idle_state idles)
+
+  idle_counts : (idles : StaysIdle state idle old session) (high : ℕ) → CountsFirst system high (state handed)
+      → CountsDown system (high + call_raises * measure (session_at (Down idles.after) session.kept)) (state idles.after.disk)
+  idle_counts idles high first image left =
+      up_to_more system (bound high) (high + call_raises * measure (session_at (Down idles.after) session.kept)) image (omega (arith, idle_measured idles))
+      (sound.counts high first image (idles.wrote.keeps.no_more image left))
 
   idle_sound : StaysIdle state idle old session → IsSound state system source handed session
   idle_sound idles =
@@ -335,6 +438,8 @@ module _ {D : Type 0} (state : D → DiskState) (is_disk : (disk : D) → IsDisk
         legal = subst (λ l. AreLegal system (map life_of l)) (sym idles.lives) sound.legal;
         answered = subst (λ l. LastAnswered system (option_map last_of l) (kept_of l)) (sym idles.last) sound.answered;
         images = λ image left. subst (λ o. Holds state system source handed (StandsDown o) image) (sym outage_is) (sound.images image (idles.wrote.keeps.no_more image left));
+        valid = sound.valid;
+        counts = idle_counts idles;
       })
 
   -- ---- a disk that can't be opened
@@ -370,7 +475,7 @@ module _ {D : Type 0} (state : D → DiskState) (is_disk : (disk : D) → IsDisk
   shown_text tells = sound.texts (state idle.disk).shown ((is_disk idle.disk).shown_left (tells_now tells))
 
   no_text : (place : ℕ) → Refuses (how_of false) idle.system idle.text (state idle.disk) (error_of (Text place)) → is_some idle.last ≡ true → setting.tells ≡ true → ⊥
-  no_text place refuses begun tells = ⊎_elim (λ text. no_other place refuses tells text) (λ there. never_none idle.last begun there.no_life) (shown_text tells)
+  no_text place refuses begun tells = ⊎_elim (λ right. no_other place refuses tells right.has_text) (λ there. never_none idle.last begun there.no_life) (shown_text tells)
 
   may_refuse : (cold : Bool) (refusal : ImageRefused) → Refuses (how_of cold) idle.system idle.text (state idle.disk) (error_of refusal) → is_some idle.last ≡ true → MayRefuse setting.tells refusal
   may_refuse cold (Size needed has) refuses begun = no_size cold needed has refuses begun
@@ -380,6 +485,12 @@ module _ {D : Type 0} (state : D → DiskState) (is_disk : (disk : D) → IsDisk
   may_refuse true (Rule rule sector) refuses begun = absurd (refuses.cold refl)
   may_refuse false (Rule rule sector) refuses begun =
       ⊎_elim (λ tells. absurd (no_rule rule sector refuses begun tells)) (λ silent. silent) (cases_Bool setting.tells)
+
+  not_cold : (cold : Bool) (refusal : ImageRefused) → Refuses (how_of cold) idle.system idle.text (state idle.disk) (error_of refusal) → is_some idle.last ≡ true → cold ≡ false
+  not_cold false refusal refuses begun = refl
+  not_cold true (Size needed has) refuses begun = absurd (no_size true needed has refuses begun)
+  not_cold true (Text place) refuses begun = absurd (refuses.cold refl)
+  not_cold true (Rule rule sector) refuses begun = absurd (refuses.cold refl)
 
   no_life : is_some idle.last ≡ false → outage.last ≡ None
   no_life none = of idle.last none
@@ -443,7 +554,7 @@ module _ {D : Type 0} (state : D → DiskState) (is_disk : (disk : D) → IsDisk
           (subst (λ s. IsOther s idle.text (state idle.disk).shown place) sound.system_is (refuses.found refl (tells_now tells)))
 
       of : setting.tells ≡ true → IsOfText state system source handed (StandsDown outage) (state idle.disk).shown → IsOther system source image place
-      of tells (inl text) = absurd (no_other place refuses tells text)
+      of tells (inl right) = absurd (no_other place refuses tells right.has_text)
       of tells (inr shown) =
           subst (λ (i : Image). IsOther system source i place) (sound.handed_alone (state idle.disk).shown shown.left ∙ sym (sound.handed_alone image there)) (shown_other tells)
 
@@ -461,7 +572,7 @@ module _ {D : Type 0} (state : D → DiskState) (is_disk : (disk : D) → IsDisk
 
   -- ---- a counter is spent
 
-  spent_found : (counter : Counter) → Refuses (how_of false) idle.system idle.text (state idle.disk) (SpentCounter counter) → setting.tells ≡ true → FindsSpent setting outage
+  spent_found : (counter : Counter) → Refuses (how_of false) idle.system idle.text (state idle.disk) (SpentCounter counter) → setting.tells ≡ true → FindsSpent setting.counts (measure before) setting outage
   spent_found counter refuses tells =
       let is : IsSpent idle.system idle.text (state idle.disk).shown counter = refuses.found refl (tells_now tells) in
       record {
@@ -475,49 +586,80 @@ module _ {D : Type 0} (state : D → DiskState) (is_disk : (disk : D) → IsDisk
           unit = is.unit;
           counter = counter;
           spent = is.spent;
+          own = λ high first. let counts : AreUpTo idle.system (bound high) (state idle.disk).shown is.restart = shown_counts high first is.restart is.found.has_restart in
+              record {
+                epoch_low = counts.epoch;
+                sequence_low = counts.sequence;
+                checkpoint_low = counts.checkpoint;
+                unit_low = subst (λ (n : ℕ). n ≤ bound high) (sym is.found.next) (counts.unit is.found.snapshot is.found.has_snapshot);
+              };
         };
       }
 
-  spent_first : (counter : Counter) → Refuses (how_of false) idle.system idle.text (state idle.disk) (SpentCounter counter) → outage.last ≡ None → setting.spends ⊎ (outage.emptied ≡ true)
-  spent_first counter refuses none = ⊎_elim told (λ silent. inl (record { counter = counter; images = λ image there. absurd (silent_first silent image there) })) (cases_Bool setting.tells)
-    where
-      of : setting.tells ≡ true → AlikeFirst → setting.spends ⊎ (outage.emptied ≡ true)
-      of tells (inl alike) = inl (record {
-        counter = counter;
-        images = λ image there. record {
-          found = (state idle.disk).shown;
-          alike = alike image there;
-          spent = subst (λ (t : List ℕ). IsSpent system t (state idle.disk).shown counter) sound.text_is
-              (subst (λ s. IsSpent s idle.text (state idle.disk).shown counter) sound.system_is (refuses.found refl (tells_now tells)));
-        };
-      })
-      of tells (inr (emptied, empty)) = inr emptied
+  abbrev restart_asked : Bool → Asked
+  restart_asked true = ColdStart
+  restart_asked false = Restart
 
-      told : setting.tells ≡ true → setting.spends ⊎ (outage.emptied ≡ true)
-      told tells = of tells (alike_first none (shown_holds tells))
-
-  spent_down : (cold : Bool) → RefusesSpent state idle cold → SpentBehind outage.last setting outage
+  spent_down : (cold : Bool) → RefusesSpent state idle cold → IsSpentAt setting.counts setting before × CountsOn before.standing (restart_asked cold)
   spent_down true spent = absurd (spent.refuses.cold refl)
-  spent_down false spent = of outage.last refl
-    where
-      of : (last : Option LastLife) → outage.last ≡ last → SpentBehind last setting outage
-      of None none = spent_first spent.counter spent.refuses none
-      of (Some life) is = λ tells. spent_found spent.counter spent.refuses tells
+  spent_down false spent = ((λ tells. spent_found spent.counter spent.refuses tells), tt)
 
   -- ---- all of it
+
+  -- a cold start is refused by its size alone
+  looked_at : (cold : Bool) (refusal : ImageRefused) → Refuses (how_of cold) idle.system idle.text (state idle.disk) (error_of refusal) → IsLookedAt (restart_asked cold) refusal
+  looked_at true (Size needed has) refuses = tt
+  looked_at true (Rule rule sector) refuses = absurd (refuses.cold refl)
+  looked_at true (Text place) refuses = absurd (refuses.cold refl)
+  looked_at false (Size needed has) refuses = tt
+  looked_at false (Rule rule sector) refuses = tt
+  looked_at false (Text place) refuses = tt
 
   abbrev Restarted : Bool → List ℕ → Served → Type 0
   Restarted cold text Printed = IsRestarted cold setting before outage (session_of session) text
   Restarted cold text Broke = IsRestarted cold setting before outage (session_of session) broken_text
-  Restarted cold text (NotServed undone) = (session_of session ≡ before) × UndoneBy undone setting before
+  Restarted cold text (NotServed undone) = (session_of session ≡ before) × UndoneBy undone (restart_asked cold) setting before
 
   refused : (cold begun : Bool) (refusal : ImageRefused) (text : List ℕ) (served : Served) → is_some idle.last ≡ begun → StaysIdle state idle old session
       → Refuses (how_of cold) idle.system idle.text (state idle.disk) (error_of refusal) → IsRefusalTold begun refusal text served → Restarted cold text served
   refused cold true refusal text served is idles refuses (printed, same) =
       subst (λ s. Restarted cold text s) (sym printed)
-      (inr (inr (record { refusal = refusal; begun = some_last idle.last is; may = may_refuse cold refusal refuses is; stays = idle_state idles; printed = same })))
+      (inr (inr (record { found = not_cold cold refusal refuses is; refusal = refusal; begun = some_last idle.last is; may = may_refuse cold refusal refuses is; stays = idle_state idles; printed = same })))
   refused cold false refusal text served is idles refuses undone =
-      subst (λ s. Restarted cold text s) (sym undone) (idle_state idles, (no_life is, refused_first cold refusal refuses (no_life is)))
+      subst (λ s. Restarted cold text s) (sym undone) (idle_state idles, ((no_life is, refused_first cold refusal refuses (no_life is)), looked_at cold refusal refuses))
+
+  -- What was handed in is opened only where it is of the definition's text; or a cold start has emptied it.
+  right_first : (cold : Bool) (gone : HasOpened state idle old cold session) → setting.tells ≡ true → OpensFirst cold outage
+      → setting.right_text ⊎ IsEmptied system outage.last outage.emptied (count_of idle.last cold gone.control.control.opening.steps) gone.control.control.opening
+  right_first true gone tells yet = absurd (no_true yet.found)
+  right_first false gone tells yet = of (shown_text tells)
+    where
+      told : TellsOpening idle.system idle.text (state idle.disk).shown (Ok (gone.opens.begins.parts, gone.control.control.opening))
+      told = gone.opens.begins.found refl (tells_now tells)
+
+      has : HasText system source (state idle.disk).shown
+      has =
+          subst (λ (t : List ℕ). HasText system t (state idle.disk).shown) sound.text_is
+          (subst (λ s. HasText s idle.text (state idle.disk).shown) sound.system_is (told_text idle.system idle.text (state idle.disk).shown gone.opens.begins.parts gone.control.control.opening told))
+
+      recovers : Recovers system (state idle.disk).shown (Ok gone.control.control.opening)
+      recovers = subst (λ s. Recovers s (state idle.disk).shown (Ok gone.control.control.opening)) sound.system_is (told_state gone.opens.begins.parts gone.control.control.opening idle.text told)
+
+      opens_empty : IsEmptyImage system (StandsDown outage) (state idle.disk).shown
+          → IsEmptied system outage.last outage.emptied (count_of idle.last false gone.control.control.opening.steps) gone.control.control.opening
+      opens_empty emptied =
+          emptied_as idle.last (kept_of idle.last) idle.emptied gone.control.control.opening sound.answered
+          (record {
+            broke_off = emptied.broke_off;
+            empty = ok_is gone.control.control.opening (empty_state system)
+                (one_answer_of system (state idle.disk).shown (Ok gone.control.control.opening) (Ok (empty_state system)) recovers emptied.empty);
+            answered = sound.answered;
+          })
+
+      of : IsOfText state system source handed (StandsDown outage) (state idle.disk).shown
+          → setting.right_text ⊎ IsEmptied system outage.last outage.emptied (count_of idle.last false gone.control.control.opening.steps) gone.control.control.opening
+      of (inl right) = ⊎_elim (λ was. inl was) (λ emptied. inr (opens_empty emptied)) (right.first (record { found = refl; first = yet.first }))
+      of (inr there) = inl (handed_text (state idle.disk).shown there.left has)
 
   -- a life that opened, and a disk that failed
   pub opens_gone : (cold : Bool) → HasOpened state idle old cold session → OpensLife cold setting before outage (session_of session)
@@ -525,6 +667,7 @@ module _ {D : Type 0} (state : D → DiskState) (is_disk : (disk : D) → IsDisk
     kept = count_of idle.last cold gone.control.control.opening.steps;
     state = gone.control.control.opening;
     may = λ tells. may_open cold gone.control.control.opening gone.control.journal gone.control.next_unit gone.opens.begins tells;
+    right = right_first cold gone;
     goes = opened_state cold gone;
   }
 
@@ -552,10 +695,12 @@ module _ {D : Type 0} (state : D → DiskState) (is_disk : (disk : D) → IsDisk
   served_restart : (asked : Asked) (text : List ℕ) (served : Served) (cold : Bool) → restart_of asked ≡ Some cold → Restarted cold text served → IsServedSo asked text served setting before (session_of session)
   served_restart Restart text Printed cold is one = subst (λ c. IsRestarted c setting before outage (session_of session) text) (some_is cold false is) one
   served_restart Restart text Broke cold is one = subst (λ c. IsRestarted c setting before outage (session_of session) broken_text) (some_is cold false is) one
-  served_restart Restart text (NotServed undone) cold is one = (one.0, subst (λ s. UndoneBy undone setting s) (sym one.0) one.1)
+  served_restart Restart text (NotServed undone) cold is one =
+      (one.0, subst (λ s. UndoneBy undone Restart setting s) (sym one.0) (subst (λ c. UndoneBy undone (restart_asked c) setting before) (some_is cold false is) one.1))
   served_restart ColdStart text Printed cold is one = subst (λ c. IsRestarted c setting before outage (session_of session) text) (some_is cold true is) one
   served_restart ColdStart text Broke cold is one = subst (λ c. IsRestarted c setting before outage (session_of session) broken_text) (some_is cold true is) one
-  served_restart ColdStart text (NotServed undone) cold is one = (one.0, subst (λ s. UndoneBy undone setting s) (sym one.0) one.1)
+  served_restart ColdStart text (NotServed undone) cold is one =
+      (one.0, subst (λ s. UndoneBy undone ColdStart setting s) (sym one.0) (subst (λ c. UndoneBy undone (restart_asked c) setting before) (some_is cold true is) one.1))
   served_restart (Bad rule) text served cold is one = cc
   served_restart (BadCommand rule) text served cold is one = cc
   served_restart (Stopped terminal number reason) text served cold is one = cc

@@ -1,5 +1,5 @@
 -- What was asked of a control region that is up, as a block that was served.
-use Rattle.std.proofs.Common.{◌≡◌, ◌⊎◌, ℕ, ◌+◌, ◌≤◌, ◌<◌, Bool, true, false, List, [], ◌∷◌, ◌++◌, length, map, sym, ◌∙◌, ap, subst, refl, arith, inl, inr}
+use Rattle.std.proofs.Common.{◌≡◌, ◌⊎◌, ℕ, ◌+◌, ◌*◌, ◌≤◌, ◌<◌, Bool, true, false, List, [], ◌∷◌, ◌++◌, length, map, sym, ◌∙◌, ap, subst, refl, arith, inl, inr}
 use Rattle.std.proofs.lemmas.List.{append-nil}
 use Rattle.std.specs.Prelude.{Option, Some, None, vec_len, vec_capacity}
 use Rattle.model_disk.specs.Disk.{DiskState, Stays, Only, Rose}
@@ -28,14 +28,32 @@ use Rattle.session_lives.specs.declared.place.Idle.{Idle}
 use Rattle.session_lives.specs.declared.place.Place.TheVariants.{Up, Down}
 use Rattle.session_lives.specs.declared.place.Kept.{Kept}
 use Rattle.session_lives.specs.declared.place.Session.{Session}
-use Rattle.session_lives.specs.Running.{life_of, last_up, session_at, session_of, session_up, setting_of, IsUpReady, IsUpSound, IsSound, IsSoundAt, IsReadyAt, LeadsBy}
-use Rattle.session_lives.specs.Asking.{IsAsked, IsFrozen, Does, Freezes, Fails, PowersOff, Undoes, IsSpentUp}
-use Rattle.session_lives.specs.Openings.{GoesOn, HasEndedLife, HasSpent, IsAloneBy, IsSettled, UndoneBy, IsServedSo}
+use Rattle.counter_law.specs.Measures.{call_raises, lives_measure, measure}
+use Rattle.counter_law.specs.Spent.{HasSpent, IsSpentAt}
+use Rattle.session_lives.specs.Counting.{CountsUp, KeepsPace}
+use Rattle.session_lives.specs.Running.{life_of, last_up, session_at, session_of, session_up, setting_of, CountsFirst, IsUpReady, IsUpSound, IsSound, IsSoundAt, IsReadyAt, LeadsBy}
+use Rattle.session_lives.specs.Asking.{IsAsked, IsFrozen, Does, Freezes, Fails, PowersOff, Undoes, IsSpentUp, LooksAtCounters}
+use Rattle.session_lives.specs.Openings.{GoesOn, HasEndedLife, IsAloneBy, IsSettled, CountsOn, IsServedSo}
 use Rattle.session_lives.proofs.Asked.{stays_so}
+use Rattle.session_lives.proofs.Counting.{counts_more}
 use Rattle.session_lives.proofs.Ends.{up_state, same_up, ended_state, broken_state, down_sound, stop_behind, no_stop}
 
+-- it is up still
+module _ {D : Type 0} (state : D → DiskState) (a b : ControlOnDisk D) where
+  up_undone : (asked : Asked) → Undoes state asked a b → b.up ≡ true
+  up_undone (Quiet most) (inl added) = added.up
+  up_undone (Quiet most) (inr stand) = stand.up
+  up_undone (Bad rule) added = added.up
+  up_undone (BadCommand rule) added = added.up
+  up_undone (Stopped terminal number reason) added = added.up
+  up_undone (Call call) added = added.up
+  up_undone (AskedPower pick) added = added.up
+  up_undone (PowerIn writes pick) added = added.up
+  up_undone Restart added = added.up
+  up_undone ColdStart added = added.up
+
 module _ {D : Type 0} (state : D → DiskState) (system : System) (source : List ℕ) (handed : D) (a b : ControlOnDisk D) (old kept : Kept) (session : Session D) (text : List ℕ)
-    (sound : IsUpSound state system source handed a old) (stays : StaysSo state a b) (lives : kept.lives ≡ old.lives) (stops : kept.stops ≡ old.stops) where
+    (sound : IsUpSound state system source handed a old) (stays : StaysSo state a b) (lives : kept.lives ≡ old.lives) (stops : kept.stops ≡ old.stops) (pace : KeepsPace state a b) where
   abbrev before : SessionState
   before = session_at (Up a) old
 
@@ -71,6 +89,20 @@ module _ {D : Type 0} (state : D → DiskState) (system : System) (source : List
   begun_in : (most : ℕ) (turns : List Entry) → IsBrokenOff most a.control.system (now_of a.control) turns → IsBrokenOff most system (now_in system (last_up a)) turns
   begun_in most turns begun = subst (λ s. IsBrokenOff most s (moment_after s (start_of s a.control.opening) a.control.history) turns) sound.system_is begun
 
+  -- ---- how far it counts
+
+  -- up to where the lives before and the stops have brought it
+  abbrev base : ℕ → ℕ
+  base high = high + call_raises * (lives_measure (map life_of old.lives.items) + length old.stops.items + 1)
+
+  counts_now : (high : ℕ) → CountsFirst system high (state handed) → CountsUp state (high + call_raises * measure (session_at (Up b) kept)) b
+  counts_now high first =
+      let logs : a.control.system.logs ≤ 2048 = subst (λ (s : System). s.logs ≤ 2048) (sym sound.system_is) sound.valid.most_logs in
+      let same_lives : lives_measure (map life_of kept.lives.items) ≡ lives_measure (map life_of old.lives.items) = ap (λ v. lives_measure (map life_of v.items)) lives in
+      let same_stops : length kept.stops.items ≡ length old.stops.items = ap (λ v. length v.items) stops in
+      counts_more state (base high + call_raises * length b.control.history) (high + call_raises * measure (session_at (Up b) kept)) b (omega (arith, same_lives, same_stops))
+      (pace logs (base high) (counts_more state (high + call_raises * measure before) (base high + call_raises * length a.control.history) a (omega arith) (sound.counts high first)))
+
   -- ---- what is sound behind it
 
   pub up_sound : GoesOn b kept session → IsSound state system source handed session
@@ -86,6 +118,8 @@ module _ {D : Type 0} (state : D → DiskState) (system : System) (source : List
         stops = subst (λ v. AreStops (state handed).faults v.items b.began) (sym stops) (subst (λ n. AreStops (state handed).faults old.stops.items n) (sym stays.began) sound.stops);
         began = subst (λ n. n ≤ (state b.disk).faults) (sym stays.began) (omega (arith, sound.began, stays.disk.faults));
         legal = subst (λ v. AreLegal system (map life_of v.items)) (sym lives) sound.legal;
+        valid = sound.valid;
+        counts = counts_now;
       }))
 
   stays_now : Stays (state handed) (state b.disk)
@@ -104,13 +138,13 @@ module _ {D : Type 0} (state : D → DiskState) (system : System) (source : List
   power_sound over =
       subst (λ p. IsSoundAt state system source handed p session.kept) (sym over.place)
       (down_sound state system source handed b (stays.system ∙ sound.system_is) sound.handed_alone (stays.text ∙ sound.text_is) sound.size kept session.kept false over.idle over.down stays_now legal_now
-      (no_stop state system source handed b (stays.system ∙ sound.system_is) kept session.kept over.idle over.down stops_now (omega (arith, began_before, stays.disk.faults))))
+      (no_stop state system source handed b (stays.system ∙ sound.system_is) kept session.kept over.idle over.down stops_now (omega (arith, began_before, stays.disk.faults))) sound.valid counts_now)
 
   pub broke_sound : HasEndedLife state b kept true session → Rose (state a.disk).faults (state b.disk).faults → IsSound state system source handed session
   broke_sound over rose =
       subst (λ p. IsSoundAt state system source handed p session.kept) (sym over.place)
       (down_sound state system source handed b (stays.system ∙ sound.system_is) sound.handed_alone (stays.text ∙ sound.text_is) sound.size kept session.kept true over.idle over.down stays_now legal_now
-      (stop_behind state system source handed b (stays.system ∙ sound.system_is) kept session.kept over.idle (state a.disk).faults over.down stops_now began_before stays.disk.faults rose))
+      (stop_behind state system source handed b (stays.system ∙ sound.system_is) kept session.kept over.idle (state a.disk).faults over.down stops_now began_before stays.disk.faults rose) sound.valid counts_now)
 
   -- ---- what was served
 
@@ -235,9 +269,9 @@ module _ {D : Type 0} (state : D → DiskState) (system : System) (source : List
   undoes ColdStart added on = nothing on added
 
   -- a counter is spent
-  has_spent : IsSpentUp b → HasSpent (now_in system (last_up b)).lasting
-  has_spent spent =
-      subst (λ s. HasSpent (moment_after s (start_of s b.control.opening) b.control.history).lasting) (stays.system ∙ sound.system_is)
+  has_spent : b.up ≡ true → IsSpentUp b → IsSpentAt setting.counts setting (session_at (Up b) kept)
+  has_spent up spent =
+      subst (λ s. HasSpent setting.counts (measure (session_at (Up b) kept)) (moment_after s (start_of s b.control.opening) b.control.history).lasting) (stays.system ∙ sound.system_is)
       (record {
         epoch = b.journal.restart.epoch;
         sequence = b.journal.log.sequence + b.journal.log.place;
@@ -245,10 +279,15 @@ module _ {D : Type 0} (state : D → DiskState) (system : System) (source : List
         unit = b.next_unit;
         counter = spent.counter;
         spent = spent.spent;
+        own = λ high first. let stands = (counts_now high first).own up in
+            record { epoch_low = stands.epoch; sequence_low = stands.sequence; checkpoint_low = stands.checkpoint; unit_low = stands.unit };
       })
 
-  spent_now_at : GoesOn b kept session → IsSpentUp b → UndoneBy SpentCounter setting (session_of session)
-  spent_now_at on spent = subst (λ s. UndoneBy SpentCounter setting s) (sym (goes_up on)) (has_spent spent)
+  spent_now_at : GoesOn b kept session → b.up ≡ true → IsSpentUp b → IsSpentAt setting.counts setting (session_of session)
+  spent_now_at on up spent = subst (λ s. IsSpentAt setting.counts setting s) (sym (goes_up on)) (has_spent up spent)
+
+  counts_on : (asked : Asked) → LooksAtCounters asked → GoesOn b kept session → CountsOn (session_of session).standing asked
+  counts_on asked looks on = subst (λ (s : SessionState). CountsOn s.standing asked) (sym (goes_up on)) looks
 
   -- ---- all of it
 
@@ -269,9 +308,9 @@ module _ {D : Type 0} (state : D → DiskState) (system : System) (source : List
   served_up asked Memory served undone (on, why) =
       subst (λ s. LeadsBy state (λ setting old new. IsServedSo asked text s setting old new) system source handed (session_up a old) session) (sym why)
       (record { goes = (undoes asked undone on, tt); sound = up_sound on })
-  served_up asked Spent served (undone, spent) (on, why) =
+  served_up asked Spent served (undone, spent, looks) (on, why) =
       subst (λ s. LeadsBy state (λ setting old new. IsServedSo asked text s setting old new) system source handed (session_up a old) session) (sym why)
-      (record { goes = (undoes asked undone on, spent_now_at on spent); sound = up_sound on })
+      (record { goes = (undoes asked undone on, (spent_now_at on (up_undone state a b asked undone) spent, counts_on asked looks on)); sound = up_sound on })
 
 -- ---- what is ready behind it
 
@@ -287,18 +326,6 @@ module _ {D : Type 0} (state : D → DiskState) (a b : ControlOnDisk D) (old kep
   up_done (PowerIn writes pick) does_it = does_it.0.up
   up_done Restart does_it = does_it.0.up
   up_done ColdStart does_it = does_it.0.up
-
-  up_undone : (asked : Asked) → Undoes state asked a b → b.up ≡ true
-  up_undone (Quiet most) (inl added) = added.up
-  up_undone (Quiet most) (inr stand) = stand.up
-  up_undone (Bad rule) added = added.up
-  up_undone (BadCommand rule) added = added.up
-  up_undone (Stopped terminal number reason) added = added.up
-  up_undone (Call call) added = added.up
-  up_undone (AskedPower pick) added = added.up
-  up_undone (PowerIn writes pick) added = added.up
-  up_undone Restart added = added.up
-  up_undone ColdStart added = added.up
 
   pub text_room : length b.text ≤ 262144
   text_room = subst (λ t. length t ≤ 262144) (sym stays.text) ready.text
@@ -342,5 +369,5 @@ module _ {D : Type 0} (state : D → DiskState) (a b : ControlOnDisk D) (old kep
   ready_up asked Frozen served frozen settled = ready_over false settled.0
   ready_up asked (Power pick) served power settled = ready_over false settled.0
   ready_up asked Broke served failed settled = ready_over true settled.0
-  ready_up asked Memory served undone settled = ready_on (up_undone asked undone) settled.0
-  ready_up asked Spent served undone settled = ready_on (up_undone asked undone.0) settled.0
+  ready_up asked Memory served undone settled = ready_on (up_undone state a b asked undone) settled.0
+  ready_up asked Spent served undone settled = ready_on (up_undone state a b asked undone.0) settled.0

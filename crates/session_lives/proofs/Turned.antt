@@ -19,7 +19,9 @@ use Rattle.tm_control.specs.Calls.{StaysSo, Answered, BrokeOff, AddedNothing}
 use Rattle.model_session.specs.Lives.{is_disk_fault}
 use Rattle.session_lives.specs.Asking.{AddsEntries, FailsTurning, TurnsStand}
 use Rattle.session_lives.specs.Turning.{TurnsSoFar, HasEnded}
+use Rattle.session_lives.specs.Counting.{KeepsPace}
 use Rattle.session_lives.proofs.Asked.{stays_so, stays_so_on}
+use Rattle.session_lives.proofs.Counting.{pace_none, pace_on}
 
 -- where entries behind others lead
 pub moment_behind : (system : System) (moment : Moment) (entries more : List Entry)
@@ -67,6 +69,7 @@ module _ {D : Type 0} (state : D → DiskState) where
     up = up;
     no_fault = refl;
     stays = stays_so state old;
+    pace = pace_none state old;
   }
 
   -- something is left to do behind the turns so far
@@ -90,9 +93,9 @@ module _ {D : Type 0} (state : D → DiskState) where
 
   pub turns_next : (count : ℕ) (old now new : ControlOnDisk D) (turned : Turned)
       → TurnsSoFar state count old now → is_quiet now.control.system (now_of now.control) ≡ false
-      → Answered state now new (TurnEntry (region_after now.control.system count) (Ok turned)) → StaysSo state now new
+      → Answered state now new (TurnEntry (region_after now.control.system count) (Ok turned)) → StaysSo state now new → KeepsPace state now new
       → TurnsSoFar state (count + 1) old new
-  turns_next count old now new turned far left answered stays =
+  turns_next count old now new turned far left answered stays pace =
       let entry : Entry = TurnEntry (region_after now.control.system count) (Ok turned) in
       record {
         entries = far.entries ++ entry ∷ [];
@@ -104,13 +107,15 @@ module _ {D : Type 0} (state : D → DiskState) where
         up = answered.up;
         no_fault = answered.no_fault ∙ far.no_fault;
         stays = stays_so_on state old now new far.stays stays;
+        pace = pace_on state old now new far.stays far.pace pace;
       }
 
   -- the turn of a region that is the next one
   pub turned_next : (count : ℕ) (old now new : ControlOnDisk D) (turned : Turned) (region : ℕ) → TurnsSoFar state count old now → is_quiet now.control.system (now_of now.control) ≡ false
-      → region ≡ region_after now.control.system count → Answered state now new (TurnEntry region (Ok turned)) → StaysSo state now new → TurnsSoFar state (count + 1) old new
-  turned_next count old now new turned region far left next answered stays =
-      turns_next count old now new turned far left (subst (λ r. Answered state now new (TurnEntry r (Ok turned))) next answered) stays
+      → region ≡ region_after now.control.system count → Answered state now new (TurnEntry region (Ok turned)) → StaysSo state now new → KeepsPace state now new
+      → TurnsSoFar state (count + 1) old new
+  turned_next count old now new turned region far left next answered stays pace =
+      turns_next count old now new turned far left (subst (λ r. Answered state now new (TurnEntry r (Ok turned))) next answered) stays pace
 
   -- the turns end where nothing is left to do, or with the last
   pub turns_end : (most count : ℕ) (quiet : Bool) (old new : ControlOnDisk D) → TurnsSoFar state count old new → count ≤ most

@@ -3,7 +3,7 @@ use Rattle.std.specs.Prelude.{◌≡◌, ◌⊎◌, ℕ, ◌++◌, Bool, true, f
 use Rattle.model_disk.specs.Disk.{DiskState, FailedSince, Only}
 use Rattle.model_machine.specs.declared.entry.Entry.{Entry}
 use Rattle.model_machine.specs.declared.entry.ControlCall.{ControlCall}
-use Rattle.model_machine.specs.declared.entry.ControlCall.TheVariants.{Turn}
+use Rattle.model_machine.specs.declared.entry.ControlCall.TheVariants.{Turn, Receive}
 use Rattle.model_machine.specs.declared.entry.ControlFault.{ControlFault}
 use Rattle.model_machine.specs.declared.entry.ControlFault.TheVariants.{Memory as NoMemory, Disk, Spent as SpentCounter}
 use Rattle.model_machine.specs.History.{ControlState, AreSteps, IsCall, call_of, now_of}
@@ -130,10 +130,20 @@ pub record IsSpentUp {D : Type 0} (control : ControlOnDisk D) : Type 0 where
   pub counter : Counter
   pub spent : spent_now control ≡ Some counter
 
+-- A call looks at counters, but the showing of a reply doesn't; and so does each turn of a QUIET.
+abbrev pub CallLooks : ControlCall → Type 0
+CallLooks (Receive terminal) = ⊥
+CallLooks _ = Unit {0}
+
+abbrev pub LooksAtCounters : Asked → Type 0
+LooksAtCounters (Call call) = CallLooks call
+LooksAtCounters (Quiet most) = Unit {0}
+LooksAtCounters _ = ⊥
+
 abbrev pub IsAsked : {D : Type 0} → (D → DiskState) → Asked → ControlOnDisk D → ControlOnDisk D → List ℕ → Called → Type 0
 IsAsked state asked old new text Answered = Does state asked old new text
 IsAsked state asked old new text Frozen = Freezes state asked old new text
 IsAsked state asked old new text (Power pick) = PowersOff state asked pick old new text
 IsAsked state asked old new text Broke = Fails state asked old new
 IsAsked state asked old new text Memory = Undoes state asked old new
-IsAsked state asked old new text Spent = Undoes state asked old new × IsSpentUp new
+IsAsked state asked old new text Spent = Undoes state asked old new × IsSpentUp new × LooksAtCounters asked

@@ -1,25 +1,26 @@
 -- Openings, the ends of lives, and what serving a block comes to.
-use Rattle.std.specs.Prelude.{◌≡◌, ◌⊎◌, ℕ, ◌-◌, max, ◌++◌, Bool, true, false, if◌then◌else◌, List, [], ◌∷◌, Option, Some, None}
+use Rattle.std.specs.Prelude.{◌≡◌, ℕ, ◌+◌, ◌-◌, max, ◌++◌, Bool, true, false, if◌then◌else◌, List, [], ◌∷◌, Option, Some, None, IsTrue}
 use Rattle.std.specs.Option.{is_some}
-use Rattle.model_disk.specs.Disk.{DiskState, Stays, NoMore, Only, IsCut}
+use Rattle.model_disk.specs.Disk.{DiskState, Stays, Within, NoMore, Only, IsCut}
 use Rattle.model_system.specs.System.{System}
 use Rattle.model_session.specs.declared.asked.Asked.{Asked}
 use Rattle.model_session.specs.declared.asked.Asked.TheVariants.{Restart, ColdStart}
 use Rattle.model_session.specs.declared.asked.ImageRefused.{ImageRefused}
 use Rattle.model_session.specs.declared.asked.ImageRefused.TheVariants.{Rule, Text, Size}
 use Rattle.model_session.specs.Text.{broken_text, opened_text, image_text}
-use Rattle.model_machine.specs.Machine.{LastingState}
 use Rattle.model_machine.specs.declared.counts.Counter.{Counter}
-use Rattle.model_session.specs.Lives.{LastLife, now_in}
-use Rattle.model_session.specs.Standing.{Setting, Outage, Standing, SessionState, MayBeFound, or_cold}
+use Rattle.model_session.specs.Standing.{Setting, Standing, SessionState, or_cold}
 use Rattle.model_session.specs.Standing.Standing.{Up as StandsUp, Down as StandsDown}
 use Rattle.model_session.specs.Session.{IsServed, IsBegunBy}
+use Rattle.checkpointing.specs.Counts.{CountsUpTo, RaisesCounts}
+use Rattle.checkpoint_law.specs.Counted.{StandsUpTo}
+use Rattle.disk_law.specs.Journal.{JournalState}
 use Rattle.control_life.specs.declared.how.How.{How}
 use Rattle.control_life.specs.declared.how.How.TheVariants.{Found, Cold}
 use Rattle.opening_answers.specs.declared.refusals.OpenError.{OpenError}
 use Rattle.opening_answers.specs.declared.refusals.OpenError.TheVariants.{BadImage, WrongDefinition, TooSmall, Spent as SpentCounter, Disk, Memory as NoMemory}
 use Rattle.tm_control.specs.OnDisk.{ControlOnDisk, Lasts}
-use Rattle.opening_answers.specs.Opening.{WroteNothing, counters, first_spent}
+use Rattle.opening_answers.specs.Opening.{WroteNothing}
 use Rattle.tm_control.specs.Closed.{Opens, Closes}
 use Rattle.control_life.specs.Opened.{Refuses}
 use Rattle.control_life.specs.Opened.{HandsBack}
@@ -37,7 +38,9 @@ use Rattle.session_lives.specs.declared.place.Place.{Place}
 use Rattle.session_lives.specs.declared.place.Place.TheVariants.{Up, Down}
 use Rattle.session_lives.specs.declared.place.Kept.{Kept}
 use Rattle.session_lives.specs.declared.place.Session.{Session}
+use Rattle.counter_law.specs.Spent.{IsSpentAt}
 use Rattle.session_lives.specs.Running.{IsDownReady, error_of}
+use Rattle.session_lives.specs.Asking.{LooksAtCounters}
 
 -- ---- the end of a life
 
@@ -76,12 +79,18 @@ abbrev pub with_last : List Life → Option Life → Bool → ℕ → List Life
 with_last lives None cold steps = lives
 with_last lives (Some life) cold steps = lives ++ kept_by cold life steps ∷ []
 
--- A life opened, and the last one is kept.
+-- What a life counts on begins one above what the image counts up to that is found, and one above nothing in a cold start.
+abbrev pub StandsAbove : How → System → DiskState → JournalState → ℕ → Type 0
+StandsAbove how system disk journal next = (high : ℕ) → (how ≡ Found → IsTrue disk.tells) → (how ≡ Found → CountsUpTo system high disk.shown) → StandsUpTo (high + 1) journal next
+
+-- A life opened, and the last one is kept. No counter of what a crash leaves has come more than one further.
 pub record HasOpened {D : Type 0} (state : D → DiskState) (idle : Idle D) (old : Kept) (cold : Bool) (session : Session D) : Type 0 where
   pub control : ControlOnDisk D
   pub place : session.place ≡ Up control
   pub opens : Opens state (how_of cold) idle.system idle.text idle.disk control
   pub lasts : Lasts state control
+  pub counts : Within (RaisesCounts 1 idle.system) (state idle.disk) (state control.disk)
+  pub stands : StandsAbove (how_of cold) idle.system (state idle.disk) control.journal control.next_unit
   pub lives : session.kept.lives.items ≡ with_last old.lives.items idle.last cold control.control.opening.steps
   pub stops : session.kept.stops.items ≡ old.stops.items
 
@@ -98,12 +107,13 @@ pub record StaysIdle {D : Type 0} (state : D → DiskState) (idle : Idle D) (old
   pub lives : session.kept.lives.items ≡ old.lives.items
   pub stops : session.kept.stops.items ≡ old.stops.items
 
--- The disk failed in the opening, which is a stop; it was cut.
+-- The disk failed in the opening, which is a stop; it was cut. No counter of what a crash leaves has come more than one further.
 pub record HasFailed {D : Type 0} (state : D → DiskState) (idle : Idle D) (old : Kept) (cold : Bool) (session : Session D) : Type 0 where
   pub after : Idle D
   pub place : session.place ≡ Down after
   pub disk : D
   pub back : HandsBack state (how_of cold) idle.system idle.text idle.disk Disk disk after.system after.text
+  pub counts : Within (RaisesCounts 1 idle.system) (state idle.disk) (state disk)
   pub cut : IsCut (state disk) (state after.disk)
   pub last : after.last ≡ idle.last
   pub emptied : after.emptied ≡ or_cold cold idle.emptied
@@ -200,49 +210,37 @@ IsSettled state control old CallSpent session served = GoesOn control old sessio
 
 -- ---- a block
 
--- A counter is spent where what lasts is this. How far the log, the checkpoints and the units have come doesn't show in it.
-pub record HasSpent (state : LastingState) : Type 0 where
-  pub epoch : ℕ
-  pub sequence : ℕ
-  pub checkpoint : ℕ
-  pub unit : ℕ
-  pub counter : Counter
-  pub spent : first_spent (counters epoch sequence checkpoint unit state) ≡ Some counter
-
--- a counter is spent of what is found
-pub record FindsSpent (setting : Setting) (outage : Outage) : Type 0 where
-  pub kept : ℕ
-  pub state : LastingState
-  pub found : MayBeFound setting outage kept state
-  pub spent : HasSpent state
-
--- A counter is spent: of the life while the system is up; of what a restart finds, behind a life; of the disk as it was handed in,
--- while no life has begun, or of what a cold start left that broke off since.
-abbrev pub SpentBehind : Option LastLife → Setting → Outage → Type 0
-SpentBehind None setting outage = setting.spends ⊎ (outage.emptied ≡ true)
-SpentBehind (Some life) setting outage = setting.tells ≡ true → FindsSpent setting outage
-
-abbrev pub SpentAt : Setting → Standing → Type 0
-SpentAt setting (StandsUp life) = HasSpent (now_in setting.system life).lasting
-SpentAt setting (StandsDown outage) = SpentBehind outage.last setting outage
-
 abbrev pub MayRefuseAt : Setting → Standing → ImageRefused → Type 0
 MayRefuseAt setting (StandsUp life) refusal = ⊥
 MayRefuseAt setting (StandsDown outage) refusal = (outage.last ≡ None) × setting.refuses refusal
 
+-- A restart looks at the image, and a cold start at the size alone. No other block opens the disk.
+abbrev pub IsLookedAt : Asked → ImageRefused → Type 0
+IsLookedAt Restart refusal = Unit {0}
+IsLookedAt ColdStart (Size needed has) = Unit {0}
+IsLookedAt ColdStart (Rule rule sector) = ⊥
+IsLookedAt ColdStart (Text place) = ⊥
+IsLookedAt _ refusal = ⊥
+
+-- Counters are looked at by what a block asks of a control region that is up; and while the system is down by a restart alone.
+abbrev pub CountsOn : Standing → Asked → Type 0
+CountsOn (StandsUp life) asked = LooksAtCounters asked
+CountsOn (StandsDown outage) Restart = Unit {0}
+CountsOn (StandsDown outage) _ = ⊥
+
 -- Why a block was not served: for want of memory; since a counter is spent; or since the disk can't be opened, which ends a session
--- in which no life has begun.
-abbrev pub UndoneBy : Undone → Setting → SessionState → Type 0
-UndoneBy (Image refusal) setting new = MayRefuseAt setting new.standing refusal
-UndoneBy Memory setting new = Unit {0}
-UndoneBy Spent setting new = SpentAt setting new.standing
+-- in which no life has begun. A block that looks at neither counters nor the disk is served, but for want of memory.
+abbrev pub UndoneBy : Undone → Asked → Setting → SessionState → Type 0
+UndoneBy (Image refusal) asked setting new = MayRefuseAt setting new.standing refusal × IsLookedAt asked refusal
+UndoneBy Memory asked setting new = Unit {0}
+UndoneBy Spent asked setting new = IsSpentAt setting.counts setting new × CountsOn new.standing asked
 
 -- What a block comes to: it was served, with the text that was printed, or that of a stop; or it was not, and only turns of a
 -- QUIET may stand of it.
 abbrev pub IsServedSo : Asked → List ℕ → Served → Setting → SessionState → SessionState → Type 0
 IsServedSo asked text Printed setting old new = IsServed asked setting old new text
 IsServedSo asked text Broke setting old new = IsServed asked setting old new broken_text
-IsServedSo asked text (NotServed undone) setting old new = IsBegunBy asked setting.system old old.standing new × UndoneBy undone setting new
+IsServedSo asked text (NotServed undone) setting old new = IsBegunBy asked setting.system old old.standing new × UndoneBy undone asked setting new
 
 -- a block that asks for a restart, and for a cold start or not
 abbrev pub restart_of : Asked → Option Bool

@@ -1,29 +1,34 @@
 -- A session as it runs: where it stands, what it keeps beside, and what holds of these.
-use Rattle.std.specs.Prelude.{◌≡◌, ◌⊎◌, ℕ, ◌+◌, ◌<◌, ◌≤◌, true, List, length, map, Option, Some, None, Ok, Err, IsTrue, vec_len, vec_capacity}
+use Rattle.std.specs.Prelude.{◌≡◌, ◌⊎◌, ℕ, ◌+◌, ◌*◌, ◌<◌, ◌≤◌, Bool, true, false, List, length, map, Option, Some, None, Ok, Err, IsTrue, vec_len, vec_capacity}
 use Rattle.std.specs.Option.{option_map, is_some}
 use Rattle.model_disk.specs.Disk.{Image, DiskState, Stays, Only}
 use Rattle.model_system.specs.System.{System}
-use Rattle.model_machine.specs.Machine.{LastingState}
-use Rattle.model_machine.specs.declared.counts.Counter.{Counter}
+use Rattle.model_machine.specs.Machine.{LastingState, empty_state}
 use Rattle.model_image.specs.Recovered.{Recovers}
 use Rattle.model_image.specs.Alike.{RecoversAlike}
 use Rattle.model_session.specs.Lives.{LifeState, LastLife, AreLegal}
 use Rattle.model_session.specs.Standing.{Setting, Outage, Standing, SessionState, LastAnswered, MayHold, HasNoLife, AreStops}
 use Rattle.model_session.specs.Standing.Standing.{Up as StandsUp, Down as StandsDown}
+use Rattle.model_session.specs.Session.{OpensFirst}
 use Rattle.model_session.specs.declared.asked.ImageRefused.{ImageRefused}
 use Rattle.model_session.specs.declared.asked.ImageRefused.TheVariants.{Rule, Text as OtherText, Size}
 use Rattle.cold_start.specs.FirstImage.{sectors_needed}
 use Rattle.checkpointing.specs.Texts.{HasText}
+use Rattle.checkpointing.specs.Counts.{CountsUpTo}
+use Rattle.system_types.specs.Valid.{IsSystem}
 use Rattle.opening_answers.specs.declared.refusals.OpenError.{OpenError}
 use Rattle.opening_answers.specs.declared.refusals.OpenError.TheVariants.{BadImage, WrongDefinition, TooSmall}
-use Rattle.opening_answers.specs.Opening.{SizeFirst, IsOther, IsSpent}
+use Rattle.opening_answers.specs.Opening.{SizeFirst, IsOther}
 use Rattle.tm_control.specs.OnDisk.{ControlOnDisk}
 use Rattle.control_life.specs.declared.life.Life.{Life}
+use Rattle.counter_law.specs.Counts.{LastsUpTo}
+use Rattle.counter_law.specs.Measures.{call_raises, measure}
 use Rattle.session_lives.specs.declared.place.Idle.{Idle}
 use Rattle.session_lives.specs.declared.place.Place.{Place}
 use Rattle.session_lives.specs.declared.place.Place.TheVariants.{Up, Down}
 use Rattle.session_lives.specs.declared.place.Kept.{Kept}
 use Rattle.session_lives.specs.declared.place.Session.{Session}
+use Rattle.session_lives.specs.Counting.{CountsUp}
 
 -- ---- as a state
 
@@ -97,16 +102,18 @@ pub record IsRefusedFirst {D : Type 0} (state : D → DiskState) (system : Syste
   pub size : SizeFirst system (state handed).size (Err (error_of refusal))
   pub images : (image : Image) → (state handed).may_leave image → IsRefusedAs system source image refusal
 
--- a counter is spent of an image that recovers as this one does
-pub record IsSpentAs (system : System) (source : List ℕ) (image : Image) (counter : Counter) : Type 0 where
-  pub found : Image
-  pub alike : RecoversAlike system image found
-  pub spent : IsSpent system source found counter
+-- each image that a crash may leave of the disk is of the definition's text
+abbrev pub IsOfDefinition : System → List ℕ → DiskState → Type 0
+IsOfDefinition system source disk = (image : Image) → disk.may_leave image → HasText system source image
 
--- a counter of it is spent
-pub record IsSpentFirst {D : Type 0} (state : D → DiskState) (system : System) (source : List ℕ) (handed : D) : Type 0 where
-  pub counter : Counter
-  pub images : (image : Image) → (state handed).may_leave image → IsSpentAs system source image counter
+-- each image that a crash may leave of the disk counts up to a bound
+abbrev pub CountsDown : System → ℕ → DiskState → Type 0
+CountsDown system high disk = (image : Image) → disk.may_leave image → CountsUpTo system high image
+
+-- The disk tells its contents, and none of its own counters is above a bound.
+pub record CountsFirst (system : System) (high : ℕ) (disk : DiskState) : Type 0 where
+  pub tells : IsTrue disk.tells
+  pub images : CountsDown system high disk
 
 -- the setting of a session over the disk that was handed in, whose definition has this text
 abbrev pub setting_of : {D : Type 0} → (D → DiskState) → System → List ℕ → D → Setting
@@ -115,8 +122,9 @@ setting_of state system source handed = record {
   can_arm = (state handed).can_arm;
   tells = (state handed).tells;
   begins = λ opening. (image : Image) → (state handed).may_leave image → IsFoundAs system image opening;
+  right_text = IsOfDefinition system source (state handed);
   refuses = λ refusal. IsRefusedFirst state system source handed refusal;
-  spends = IsSpentFirst state system source handed;
+  counts = λ high. CountsFirst system high (state handed);
 }
 
 -- The image recovers to a state that the session's standing allows.
@@ -153,6 +161,12 @@ pub record IsOpenedDisk (system : System) (source : List ℕ) (disk : DiskState)
   pub size : sectors_needed system ≤ disk.size
   pub valid : IsTrue disk.tells → IsValidDisk system source disk
 
+-- The disk tells its contents, and as it is handed in no counter of it is above a bound: none of its own, and none of the state that
+-- it recovers to.
+pub record CountsDisk (system : System) (high : ℕ) (disk : DiskState) : Type 0 where
+  pub own : CountsFirst system high disk
+  pub states : (state : LastingState) → IsFoundAs system disk.shown state → LastsUpTo high state
+
 -- ---- what is so between two blocks
 
 -- The system is up: there is room for its life, and for its stop.
@@ -179,7 +193,8 @@ IsReadyAt state (Down idle) kept = IsDownReady state idle kept
 abbrev pub IsReady : {D : Type 0} → (D → DiskState) → Session D → Type 0
 IsReady state session = IsReadyAt state session.place session.kept
 
--- The system is up. The stops lie behind one another, and before its life.
+-- The system is up. The stops lie behind one another, and before its life. It counts no further than up to where the disk counts
+-- that was handed in, and 4,096 more for each opening, entry and stop.
 pub record IsUpSound {D : Type 0} (state : D → DiskState) (system : System) (source : List ℕ) (handed : D) (control : ControlOnDisk D) (kept : Kept) : Type 0 where
   pub handed_alone : Only (state handed).shown (state handed)
   pub system_is : control.control.system ≡ system
@@ -189,16 +204,41 @@ pub record IsUpSound {D : Type 0} (state : D → DiskState) (system : System) (s
   pub stops : AreStops (state handed).faults kept.stops.items control.began
   pub began : control.began ≤ (state control.disk).faults
   pub legal : AreLegal system (map life_of kept.lives.items)
+  pub valid : IsSystem system
+  pub counts : (high : ℕ) → CountsFirst system high (state handed) → CountsUp state (high + call_raises * measure (session_at (Up control) kept)) control
 
--- The image is of the definition's text; or no life has begun, and it is one that was handed in.
+-- No life has begun, and the image is one that was handed in.
 pub record IsHanded {D : Type 0} (state : D → DiskState) (handed : D) (standing : Standing) (image : Image) : Type 0 where
   pub no_life : HasNoLife standing
   pub left : (state handed).may_leave image
 
-abbrev pub IsOfText : {D : Type 0} → (D → DiskState) → System → List ℕ → D → Standing → Image → Type 0
-IsOfText state system source handed standing image = HasText system source image ⊎ IsHanded state handed standing image
+-- an opening of the disk that was handed in may come yet
+abbrev pub IsStillFirst : Standing → Type 0
+IsStillFirst (StandsUp life) = ⊥
+IsStillFirst (StandsDown outage) = OpensFirst false outage
 
--- The system is down, and the disk holds what the outage allows. Once a life has begun it has sectors enough.
+-- a cold start broke off since the last life
+abbrev pub is_emptied : Standing → Bool
+is_emptied (StandsUp life) = false
+is_emptied (StandsDown outage) = outage.emptied
+
+-- A cold start broke off, and the image recovers to the empty state.
+pub record IsEmptyImage (system : System) (standing : Standing) (image : Image) : Type 0 where
+  pub broke_off : is_emptied standing ≡ true
+  pub empty : Recovers system image (Ok (empty_state system))
+
+-- The image is of the definition's text; and while no life has begun, so was the disk that was handed in, or a cold start has
+-- emptied it since.
+pub record IsRight {D : Type 0} (state : D → DiskState) (system : System) (source : List ℕ) (handed : D) (standing : Standing) (image : Image) : Type 0 where
+  pub has_text : HasText system source image
+  pub first : IsStillFirst standing → IsOfDefinition system source (state handed) ⊎ IsEmptyImage system standing image
+
+-- The image is of the definition's text; or no life has begun, and it is one that was handed in.
+abbrev pub IsOfText : {D : Type 0} → (D → DiskState) → System → List ℕ → D → Standing → Image → Type 0
+IsOfText state system source handed standing image = IsRight state system source handed standing image ⊎ IsHanded state handed standing image
+
+-- The system is down, and the disk holds what the outage allows. Once a life has begun it has sectors enough. It counts no further
+-- than up to where it counted when it was handed in, and 4,096 more for each opening, entry and stop.
 pub record IsDownSound {D : Type 0} (state : D → DiskState) (system : System) (source : List ℕ) (handed : D) (idle : Idle D) (kept : Kept) : Type 0 where
   pub handed_alone : Only (state handed).shown (state handed)
   pub system_is : idle.system ≡ system
@@ -210,6 +250,8 @@ pub record IsDownSound {D : Type 0} (state : D → DiskState) (system : System) 
   pub legal : AreLegal system (map life_of kept.lives.items)
   pub answered : LastAnswered system (option_map last_of idle.last) (kept_of idle.last)
   pub images : (image : Image) → (state idle.disk).may_leave image → Holds state system source handed (StandsDown (outage_of idle)) image
+  pub valid : IsSystem system
+  pub counts : (high : ℕ) → CountsFirst system high (state handed) → CountsDown system (high + call_raises * measure (session_at (Down idle) kept)) (state idle.disk)
 
 abbrev pub IsSoundAt : {D : Type 0} → (D → DiskState) → System → List ℕ → D → Place D → Kept → Type 0
 IsSoundAt state system source handed (Up control) kept = IsUpSound state system source handed control kept

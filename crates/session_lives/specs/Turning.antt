@@ -9,6 +9,7 @@ use Rattle.tm_control.specs.OnDisk.{ControlOnDisk}
 use Rattle.tm_control.specs.Calls.{StaysSo}
 use Rattle.session_lives.specs.declared.turns.Turning.{Turning}
 use Rattle.session_lives.specs.declared.turns.Turning.TheVariants.{Ended, Broke, Memory, Spent}
+use Rattle.session_lives.specs.Counting.{KeepsPace}
 use Rattle.session_lives.specs.Asking.{AddsEntries, FailsTurning, TurnsStand, IsSpentUp}
 
 -- so many turns were done so far
@@ -21,6 +22,7 @@ pub record TurnsSoFar {D : Type 0} (state : D → DiskState) (count : ℕ) (old 
   pub up : new.up ≡ true
   pub no_fault : (state new.disk).faults ≡ (state old.disk).faults
   pub stays : StaysSo state old new
+  pub pace : KeepsPace state old new
 
 -- So many turns were done and no more, and nothing is left to do; or something is left.
 pub record HasEnded {D : Type 0} (state : D → DiskState) (most count : ℕ) (quiet : Bool) (old new : ControlOnDisk D) : Type 0 where

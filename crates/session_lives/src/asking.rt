@@ -13,6 +13,7 @@ ghost use Rattle.model_session.specs.Lines.{CanAsk};
 ghost use Rattle.model_session.specs.Lives.{ends_life};
 ghost use Rattle.tm_control.specs.Calls.{StaysSo};
 ghost use Rattle.session_lives.specs.declared.called.Called.TheVariants.{Answered, Power};
+ghost use Rattle.session_lives.specs.Counting.{KeepsPace};
 ghost use Rattle.session_lives.specs.Asking.{IsAsked, called_by, ended_by};
 
 use crate::called::Called;
@@ -44,6 +45,7 @@ pub fn ask<D: Disk>(
     requires can { CanAsk (length control.old.control.system.regions) asked }
     requires empty { printed.old.text ≡ [] }
     ensures asked { IsAsked D.state asked control.old control.new printed.new.text result }
+    ensures pace { KeepsPace D.state control.old control.new }
     ensures stays { StaysSo D.state control.old control.new }
 {
     if printed.make_room(ANSWER_ROOM).is_err() {
@@ -132,6 +134,7 @@ fn arm<D: Disk>(
     requires empty { printed.old.text ≡ [] }
     requires room { ANSWER_ROOM ≤ printed.old.room }
     ensures asked { IsAsked D.state (Asked.PowerIn writes pick) control.old control.new printed.new.text result }
+    ensures pace { KeepsPace D.state control.old control.new }
     ensures stays { StaysSo D.state control.old control.new }
 {
     let is_armed = control.arm(writes);
@@ -153,6 +156,7 @@ fn answer<D: Disk>(
     requires can { CanAsk (length control.old.control.system.regions) (Asked.Call call) }
     requires empty { printed.old.text ≡ [] }
     ensures asked { IsAsked D.state (Asked.Call call) control.old control.new printed.new.text result }
+    ensures pace { KeepsPace D.state control.old control.new }
     ensures stays { StaysSo D.state control.old control.new }
 {
     match call {
@@ -181,6 +185,7 @@ fn answer_input<D: Disk>(
     requires segment { 0 < length segments }
     requires empty { printed.old.text ≡ [] }
     ensures asked { IsAsked D.state (Asked.Call (ControlCall.Input terminal.now number segments)) control.old control.new printed.new.text result }
+    ensures pace { KeepsPace D.state control.old control.new }
     ensures stays { StaysSo D.state control.old control.new }
 {
     let mut word = Printed::new(alloc);
@@ -233,6 +238,7 @@ fn answer_receive<D: Disk>(
     requires up { control.old.up ≡ true }
     requires empty { printed.old.text ≡ [] }
     ensures asked { IsAsked D.state (Asked.Call (ControlCall.Receive terminal.now)) control.old control.new printed.new.text result }
+    ensures pace { KeepsPace D.state control.old control.new }
     ensures stays { StaysSo D.state control.old control.new }
 {
     if printed.make_room(ANSWER_ROOM).is_err() {
@@ -306,6 +312,7 @@ fn answer_acknowledge<D: Disk>(
     requires up { control.old.up ≡ true }
     requires empty { printed.old.text ≡ [] }
     ensures asked { IsAsked D.state (Asked.Call (ControlCall.Acknowledge terminal.now number)) control.old control.new printed.new.text result }
+    ensures pace { KeepsPace D.state control.old control.new }
     ensures stays { StaysSo D.state control.old control.new }
 {
     if printed.make_room(ANSWER_ROOM).is_err() {
@@ -332,6 +339,7 @@ fn answer_turn<D: Disk>(control: &mut Control<D>, printed: &mut Printed, region:
     requires region { IsRegion control.old.control.system region }
     requires empty { printed.old.text ≡ [] }
     ensures asked { IsAsked D.state (Asked.Call (ControlCall.Turn region)) control.old control.new printed.new.text result }
+    ensures pace { KeepsPace D.state control.old control.new }
     ensures stays { StaysSo D.state control.old control.new }
 {
     if printed.make_room(TURN_ROOM).is_err() {
@@ -358,6 +366,7 @@ fn answer_command<D: Disk>(
     requires served { IsServed command.now }
     requires empty { printed.old.text ≡ [] }
     ensures asked { IsAsked D.state (Asked.Call (ControlCall.Command command.now)) control.old control.new printed.new.text result }
+    ensures pace { KeepsPace D.state control.old control.new }
     ensures stays { StaysSo D.state control.old control.new }
 {
     let Ok(text) = text_ahead(alloc, control, command) else {
@@ -405,6 +414,7 @@ fn answer_checkpoint<D: Disk>(
     requires up { control.old.up ≡ true }
     requires empty { printed.old.text ≡ [] }
     ensures asked { IsAsked D.state (Asked.Call (ControlCall.Checkpoint freeze)) control.old control.new printed.new.text result }
+    ensures pace { KeepsPace D.state control.old control.new }
     ensures stays { StaysSo D.state control.old control.new }
 {
     if printed.make_room(ANSWER_ROOM).is_err() {

@@ -2,6 +2,7 @@
 ghost use Rattle.std.specs.Prelude.{◌≡◌, ◌≤◌, true, []};
 ghost use Rattle.model_session.specs.declared.asked.Asked.TheVariants.{Quiet};
 ghost use Rattle.tm_control.specs.Calls.{StaysSo};
+ghost use Rattle.session_lives.specs.Counting.{KeepsPace};
 ghost use Rattle.session_lives.specs.Asking.{IsAsked};
 ghost use Rattle.session_lives.specs.Turning.{HasTurned};
 
@@ -34,6 +35,7 @@ pub(crate) fn answer_quiet<D: Disk>(
     requires empty { printed.old.text ≡ [] }
     requires room { ANSWER_ROOM ≤ printed.old.room }
     ensures asked { IsAsked D.state (Quiet most) control.old control.new printed.new.text result }
+    ensures pace { KeepsPace D.state control.old control.new }
     ensures stays { StaysSo D.state control.old control.new }
 {
     match turn_while_left(control, most) {
@@ -52,6 +54,7 @@ pub(crate) fn answer_quiet<D: Disk>(
 fn turn_while_left<D: Disk>(control: &mut Control<D>, most: u32) -> Turning
     requires up { control.old.up ≡ true }
     ensures turned { HasTurned D.state most result control.old control.new }
+    ensures pace { KeepsPace D.state control.old control.new }
     ensures stays { StaysSo D.state control.old control.new }
 {
     for turns in 0..most {

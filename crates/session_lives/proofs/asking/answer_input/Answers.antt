@@ -1,9 +1,12 @@
 -- by the fault that the call met
-use Rattle.std.proofs.Common.{◌≡◌, rules, refl}
+use Rattle.std.proofs.Common.{◌≡◌, rules, refl, ◌*◌, arith}
 use Rattle.model_machine.specs.declared.entry.Entry.TheVariants.{Accept}
 use Rattle.model_machine.specs.Lasting.{code_word}
 use Rattle.model_session.specs.Text.{input_text, shown_word}
 use Rattle.session_lives.proofs.Asked.{asked_call}
+use Rattle.model_machine.specs.declared.entry.Entry.{Entry}
+use Rattle.control_life.specs.Faults.{fault_in}
+use Rattle.session_lives.proofs.Counting.{pace_call}
 use Rattle.session_lives.proofs.asking.answer_input.Goals as goal
 
 pub returns-clause-asked : goal.returns-clause-asked
@@ -11,3 +14,9 @@ returns-clause-asked g c =
     let printed : c.input_line.new.out.text ≡ input_text c.args.terminal.now c.args.number (shown_word (code_word c.args.segments)) c.input-answer.result = search rules in
     asked_call g.D.Disk.state (Accept c.args.terminal.now c.args.number c.args.segments c.input-answer.result) c.args.control.now c.input-answer.new.self c.input_line.new.out.text
     c.input_called.result refl (c.input_called.ensures c.args.terminal.now c.args.number c.args.segments) c.input-answer.ensures.spent c.input-answer.ensures.nothing c.input-answer.ensures.adds printed
+
+pub returns-clause-pace : goal.returns-clause-pace
+returns-clause-pace g c =
+    let entry : Entry = Accept c.args.terminal.now c.args.number c.args.segments c.input-answer.result in
+    pace_call g.D.Disk.state (2 * c.args.control.now.control.system.logs) (fault_in entry) entry c.args.control.now c.input-answer.new.self (omega arith) c.requires.up (g.met.D.Disk.is_disk c.input-answer.new.self.disk) c.input-answer.ensures.stays
+    c.input-answer.ensures.raises c.input-answer.ensures.counts c.input-answer.ensures.adds c.input-answer.ensures.nothing c.input-answer.ensures.undone

@@ -1,9 +1,12 @@
 -- the line of a turn
-use Rattle.std.proofs.Common.{◌≡◌, [], ◌++◌, ◌∙◌, ap, refl}
+use Rattle.std.proofs.Common.{◌≡◌, [], ◌++◌, ◌∙◌, ap, refl, ◌*◌, arith}
 use Rattle.std.specs.Prelude.{Ok, Err}
 use Rattle.model_machine.specs.declared.entry.Entry.TheVariants.{Turn}
 use Rattle.model_session.specs.Text.{turned_text}
 use Rattle.session_lives.proofs.Asked.{asked_fault}
+use Rattle.model_machine.specs.declared.entry.Entry.{Entry}
+use Rattle.control_life.specs.Faults.{fault_in}
+use Rattle.session_lives.proofs.Counting.{pace_call}
 use Rattle.session_lives.proofs.asking.answer_turn.Goals as goal
 
 pub returns-in-Ok-clause-asked : goal.returns-in-Ok-clause-asked
@@ -23,3 +26,15 @@ pub returns-in-Err-clause-asked : goal.returns-in-Err-clause-asked
 returns-in-Err-clause-asked g c =
     asked_fault g.D.Disk.state c.in-Err.fault (Turn c.args.region (Err c.in-Err.fault)) c.args.control.now c.turn-answer.new.self c.make_room.new.self.text c.called.result refl refl c.called.ensures
     (rw c.in-Err.is at c.turn-answer.ensures.spent) (rw c.in-Err.is at c.turn-answer.ensures.nothing) (rw c.in-Err.is at c.turn-answer.ensures.adds)
+
+pub returns-in-Ok-clause-pace : goal.returns-in-Ok-clause-pace
+returns-in-Ok-clause-pace g c =
+    let entry : Entry = Turn c.args.region c.turn-answer.result in
+    pace_call g.D.Disk.state (2 * c.args.control.now.control.system.logs) (fault_in entry) entry c.args.control.now c.turn-answer.new.self (omega arith) c.requires.up (g.met.D.Disk.is_disk c.turn-answer.new.self.disk) c.turn-answer.ensures.stays
+    c.turn-answer.ensures.raises c.turn-answer.ensures.counts c.turn-answer.ensures.adds c.turn-answer.ensures.nothing c.turn-answer.ensures.undone
+
+pub returns-in-Err-clause-pace : goal.returns-in-Err-clause-pace
+returns-in-Err-clause-pace g c =
+    let entry : Entry = Turn c.args.region c.turn-answer.result in
+    pace_call g.D.Disk.state (2 * c.args.control.now.control.system.logs) (fault_in entry) entry c.args.control.now c.turn-answer.new.self (omega arith) c.requires.up (g.met.D.Disk.is_disk c.turn-answer.new.self.disk) c.turn-answer.ensures.stays
+    c.turn-answer.ensures.raises c.turn-answer.ensures.counts c.turn-answer.ensures.adds c.turn-answer.ensures.nothing c.turn-answer.ensures.undone

@@ -5,7 +5,7 @@ use Rattle.control_life.specs.Opened.{HandsBack}
 use Rattle.model_machine.specs.Machine.{start_of}
 use Rattle.model_machine.specs.History.{moment_after}
 use Rattle.tm_control.specs.Closed.{Opens}
-use Rattle.session_lives.specs.Openings.{with_last, how_of}
+use Rattle.session_lives.specs.Openings.{with_last, how_of, StandsAbove}
 use Rattle.session_lives.proofs.Refusals.{refused_gone}
 use Rattle.session_lives.proofs.opening.open.Goals as goal
 
@@ -26,7 +26,7 @@ returns-then-is_err-clause-gone g c = record {
 pub returns-in-Err-clause-gone : goal.returns-in-Err-clause-gone
 returns-in-Err-clause-gone g c =
     refused_gone g.D.Disk.state c.args.idle c.args.kept c.make_room.new.self c.args.cold c.in-Err.refused.disk c.in-Err.refused.system c.in-Err.refused.text c.faults-began.result c.refuse.result.0
-    c.faults-began.ensures c.make_room.ensures.lives c.make_room.ensures.stops c.in-Err.refused.error c.refuse.result.1
+    c.faults-began.ensures c.in-Err.ensures.counts_back c.make_room.ensures.lives c.make_room.ensures.stops c.in-Err.refused.error c.refuse.result.1
     (subst (λ h. HandsBack g.D.Disk.state h c.args.idle.system c.args.idle.text c.args.idle.disk c.in-Err.refused.error c.in-Err.refused.disk c.in-Err.refused.system c.in-Err.refused.text) c.how.ensures c.in-Err.ensures.refused)
     c.refuse.ensures.refused c.refuse.ensures.opening
 
@@ -41,6 +41,8 @@ returns-in-Ok-clause-gone g c =
       place = refl;
       opens = opens;
       lasts = c.in-Ok.ensures.lasts;
+      counts = c.in-Ok.ensures.counts;
+      stands = subst (λ h. StandsAbove h c.args.idle.system (g.D.Disk.state c.args.idle.disk) c.in-Ok.control.journal c.in-Ok.control.next_unit) c.how.ensures c.in-Ok.ensures.stands;
       lives = c.keep.ensures.items ∙ ap (λ l. with_last l c.args.idle.last c.args.cold c.steps.result) c.make_room.ensures.lives
           ∙ ap (with_last c.args.kept.lives.items c.args.idle.last c.args.cold) steps;
       stops = c.make_room.ensures.stops;

@@ -6,7 +6,7 @@ use Rattle.session_lives.proofs.serve.serve_up.Goals as goal
 
 pub returns-clause-served : goal.returns-clause-served
 returns-clause-served g c = λ system source handed sound.
-    served_up g.D.Disk.state system source handed c.args.control c.ask-called.new.control c.args.kept _ c.settle.result.0 c.ask-called.new.printed.text sound c.ask-called.ensures.stays refl refl
+    served_up g.D.Disk.state system source handed c.args.control c.ask-called.new.control c.args.kept _ c.settle.result.0 c.ask-called.new.printed.text sound c.ask-called.ensures.stays refl refl c.ask-called.ensures.pace
     c.args.asked c.ask-called.result c.settle.result.1 c.ask-called.ensures.asked c.settle.ensures
 
 pub returns-clause-ready : goal.returns-clause-ready

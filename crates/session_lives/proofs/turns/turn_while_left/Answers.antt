@@ -1,7 +1,9 @@
 -- where something is left to do there is a region, which turns next
+use Rattle.std.specs.Prelude.{Ok, Err}
 use Rattle.std.proofs.Common.{◌≡◌, ◌+◌, ◌%◌, false, length, ap, sym, ◌∙◌, refl, arith}
 use Rattle.model_session.specs.Turns.{region_after}
 use Rattle.session_lives.proofs.Asked.{spent_up}
+use Rattle.session_lives.proofs.Counting.{pace_on, pace_turn}
 use Rattle.session_lives.proofs.Turned.{turned_next, turned_fails, turns_end, turns_stand}
 use Rattle.session_lives.proofs.turns.turn_while_left.Goals as goal
 
@@ -34,9 +36,29 @@ loop-turns-preserved g c =
     ap (λ rs. c.loop-turns.turns % length rs + 1) (c.regions-regions.ensures.value ∙ ap (λ s. s.regions) c.system.ensures) in
     turned_next g.D.Disk.state c.loop-turns.turns c.args.control.now c.loop-turns.control c.turn.new.self c.in-Ok.field-0 _ c.loop-turns.invariant
     (sym c.quiet.ensures ∙ c.if-quiet.false) next c.in-Ok.ensures.adds c.turn.ensures.stays
+    (pace_turn g.D.Disk.state ((c.loop-turns.turns % length c.regions-regions.result.now) + 1) (Ok c.in-Ok.field-0) c.loop-turns.control c.turn.new.self c.loop-turns.invariant.up (g.met.D.Disk.is_disk c.turn.new.self.disk) c.turn.ensures.stays c.turn.ensures.raises
+    c.turn.ensures.counts c.in-Ok.ensures.adds c.in-Ok.ensures.nothing c.in-Ok.ensures.undone)
 
 pub returns-clause-turned : goal.returns-clause-turned
 returns-clause-turned g c =
     let all : c.loop-turns.turns ≡ c.args.most = omega arith in
     turns_end g.D.Disk.state c.args.most c.args.most c.quiet-2.result c.args.control.now c.loop-turns.control
     (rw all at c.loop-turns.invariant) (omega arith) (sym c.quiet-2.ensures) (λ e. refl)
+
+pub returns-in-Err-Disk-clause-pace : goal.returns-in-Err-Disk-clause-pace
+returns-in-Err-Disk-clause-pace g c =
+    pace_on g.D.Disk.state c.args.control.now c.loop-turns.control c.turn.new.self c.loop-turns.invariant.stays c.loop-turns.invariant.pace
+    (pace_turn g.D.Disk.state ((c.loop-turns.turns % length c.regions-regions.result.now) + 1) (Err c.in-Err-Disk.field-0) c.loop-turns.control c.turn.new.self c.loop-turns.invariant.up (g.met.D.Disk.is_disk c.turn.new.self.disk) c.turn.ensures.stays c.turn.ensures.raises
+    c.turn.ensures.counts c.in-Err-Disk.ensures.adds c.in-Err-Disk.ensures.nothing c.in-Err-Disk.ensures.undone)
+
+pub returns-in-Err-Memory-clause-pace : goal.returns-in-Err-Memory-clause-pace
+returns-in-Err-Memory-clause-pace g c =
+    pace_on g.D.Disk.state c.args.control.now c.loop-turns.control c.turn.new.self c.loop-turns.invariant.stays c.loop-turns.invariant.pace
+    (pace_turn g.D.Disk.state ((c.loop-turns.turns % length c.regions-regions.result.now) + 1) (Err c.in-Err-Memory.field-0) c.loop-turns.control c.turn.new.self c.loop-turns.invariant.up (g.met.D.Disk.is_disk c.turn.new.self.disk) c.turn.ensures.stays c.turn.ensures.raises
+    c.turn.ensures.counts c.in-Err-Memory.ensures.adds c.in-Err-Memory.ensures.nothing c.in-Err-Memory.ensures.undone)
+
+pub returns-in-Err-Spent-clause-pace : goal.returns-in-Err-Spent-clause-pace
+returns-in-Err-Spent-clause-pace g c =
+    pace_on g.D.Disk.state c.args.control.now c.loop-turns.control c.turn.new.self c.loop-turns.invariant.stays c.loop-turns.invariant.pace
+    (pace_turn g.D.Disk.state ((c.loop-turns.turns % length c.regions-regions.result.now) + 1) (Err c.in-Err-Spent.field-0) c.loop-turns.control c.turn.new.self c.loop-turns.invariant.up (g.met.D.Disk.is_disk c.turn.new.self.disk) c.turn.ensures.stays c.turn.ensures.raises
+    c.turn.ensures.counts c.in-Err-Spent.ensures.adds c.in-Err-Spent.ensures.nothing c.in-Err-Spent.ensures.undone)
