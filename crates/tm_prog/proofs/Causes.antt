@@ -7,6 +7,7 @@ use Rattle.std.specs.List.{list_all}
 use Rattle.model_disk.specs.Disk.{DiskState, IsDisk, FailedSince}
 use Rattle.model_system.specs.System.{System}
 use Rattle.model_session.specs.declared.asked.ImageRefused.{ImageRefused}
+use Rattle.model_session.specs.Blocks.{Block, blocks_of}
 use Rattle.model_session.specs.Standing.{Stop}
 use Rattle.control_life.specs.declared.life.Life.{Life}
 use Rattle.std.specs.Io.KnownBytes.{append_known}
@@ -18,13 +19,29 @@ use Rattle.tm_session.specs.declared.outcome.Ended.{Ended}
 use Rattle.tm_session.specs.declared.outcome.Ended.TheVariants.{Done, Words, BadLine, BadCross, Down, Read, Write, Image, Memory, Limit, Spent}
 use Rattle.tm_session.specs.Outcome.{IsLimit, HasCause}
 use Rattle.tm_session.specs.Source.{judged, definition_text}
-use Rattle.tm_session.specs.Headline.{IsSession, IsOpenedDisk, Defines, IsBroken}
-use Rattle.tm_session.proofs.Complete.{no_stops, done_opened, not_down, not_refused, valid_opened}
-use Rattle.sysdef_text.specs.Ends.{definition_lines}
+use Rattle.tm_session.specs.Headline.{HasSession, IsNeverOpened, IsSession, IsValidDisk, IsOpenedDisk, IsFoundDisk, AskNoColdStart, Defines, IsBroken}
+use Rattle.tm_session.proofs.Near.{near_session, near_never}
+use Rattle.tm_session.proofs.Opened.{all_served}
+use Rattle.tm_session.proofs.Complete.{no_stops, done_opened, done_found, not_down, not_refused, valid_opened}
+use Rattle.sysdef_text.specs.Ends.{definition_lines, lines_behind}
 use Rattle.tm_prog.specs.declared.words.Workload.{Workload}
 use Rattle.tm_prog.specs.Words.{WordFault, word_fault, workload_of}
 use Rattle.tm_prog.specs.Workload.{told_by, text_of as workload_bytes, summary_of, status_by, IsWritten, IsToldBy, IsTold, IsWorkload}
-use Rattle.tm_prog.specs.Status.{IsServed, IsByWords, IsRefused, IsRun, IsLastLine, IsWithinLimits, IsServedBy, IsServedWhole, IsComplete, status_text}
+use Rattle.tm_prog.specs.Status.{IsServed, IsByWords, IsRun, IsLastLine, IsWithinLimits, IsServedBy, IsServedWhole, is_by_disk, IsComplete, IsNearLimit, IsNear, status_text}
+
+-- ---- statuses that aren't 0
+
+memory_isnt : Memory ≡ Done → ⊥
+memory_isnt e = cc
+
+spent_isnt : Spent ≡ Done → ⊥
+spent_isnt e = cc
+
+down_isnt : Down ≡ Done → ⊥
+down_isnt e = cc
+
+image_isnt : (refusal : ImageRefused) → Image refusal ≡ Done → ⊥
+image_isnt refusal e = cc
 
 -- ---- limits
 
@@ -83,30 +100,37 @@ module _ {D : Type 0} (state : D → DiskState) (is_disk : (disk : D) → IsDisk
   abbrev text_of : List ℕ → List ℕ
   text_of bytes = definition_text (definition_lines (lines_of bytes))
 
+  abbrev blocks_in : List ℕ → List Block
+  blocks_in bytes = blocks_of (lines_behind (lines_of bytes))
+
   abbrev Complete : Option (List ℕ) → Ended → Type 0
   Complete told status = IsComplete told (state handed) (state disk) status stops
 
   abbrev Whole : System → List ℕ → Ended → Type 0
-  Whole system bytes status = IsServedWhole system (text_of bytes) (state handed) (state disk) status stops
+  Whole system bytes status = IsServedWhole system (text_of bytes) (blocks_in bytes) (state handed) (state disk) status stops
 
   by_system : (bytes : List ℕ) (system : System) (status : Ended) → Defines bytes system → Whole system bytes status → Complete (Some bytes) status
   by_system bytes system status defines whole =
-      subst (λ (r : Result System Ended). IsServedBy r (text_of bytes) (state handed) (state disk) status stops) (sym defines) whole
+      subst (λ (r : Result System Ended). IsServedBy r (text_of bytes) (blocks_in bytes) (state handed) (state disk) status stops) (sym defines) whole
 
   by_break : (told : Option (List ℕ)) (status : Ended) → IfSome told (λ bytes. IsBroken bytes status) → Complete told status
-  by_break (Some bytes) status h = subst (λ (r : Result System Ended). IsServedBy r (text_of bytes) (state handed) (state disk) status stops) (sym h.broken) (inl refl)
+  by_break (Some bytes) status h = subst (λ (r : Result System Ended). IsServedBy r (text_of bytes) (blocks_in bytes) (state handed) (state disk) status stops) (sym h.broken) (inl refl)
   by_break None status h = tt
 
   by_done : (told left old new : Option (List ℕ)) → Session told left old new Done → Complete told Done
-  by_done (Some bytes) left old new (inl h) =
-      let none : (calm : Calm) → stops ≡ [] = no_stop (Some bytes) left old new Done (inl h) in
+  by_done (Some bytes) (Some left) old new (inl h) =
       by_system bytes h.system Done h.defines (record {
         status_is = inl refl;
-        calm = none;
+        calm = no_stop (Some bytes) (Some left) old new Done (inl h);
         valid = λ calm valid. inl refl;
-        opened = λ calm done.
-            subst (λ (t : List ℕ). IsOpenedDisk h.system t (state handed)) h.text_is (done_opened state handed disk (Some bytes) left old new lives stops h (none calm));
+        opened = λ none done.
+            subst (λ (t : List ℕ). IsOpenedDisk h.system t (state handed)) h.text_is (done_opened state handed disk (Some bytes) (Some left) old new lives stops h none);
+        found = λ warm done.
+            subst (λ (t : List ℕ). IsFoundDisk h.system t (state handed)) h.text_is
+            (done_found state handed disk (Some bytes) (Some left) old new lives stops h
+            (subst (AskNoColdStart h.system) (all_served bytes left h.lived.blocks h.lived.others h.lived.read) warm));
       })
+  by_done (Some bytes) None old new (inl h) = absurd h.lived.read
   by_done None left old new session = tt
   by_done told left old new (inr (inl begun, nothing)) = absurd begun.unbegun
   by_done told left old new (inr (inr never, nothing)) = absurd never.refusal
@@ -126,17 +150,23 @@ module _ {D : Type 0} (state : D → DiskState) (is_disk : (disk : D) → IsDisk
   no_words word rule told left old new (inr (inl begun, nothing)) = begun.unbegun
   no_words word rule told left old new (inr (inr never, nothing)) = never.refusal
 
-  memory_of : (r : Result System Ended) (text : List ℕ) → (Calm → stops ≡ []) → IsServedBy r text (state handed) (state disk) Memory stops
-  memory_of (Ok system) text none = record { status_is = inr (inl refl); calm = none; valid = λ calm valid. inr (inl refl); opened = λ calm done. cc }
-  memory_of (Err ended) text none = inr refl
+  -- a status that isn't 0
+  other_whole : (system : System) (text : List ℕ) (blocks : List Block) (status : Ended) → (status ≡ Done → ⊥) → (status ≡ Done) ⊎ ((status ≡ Memory) ⊎ (is_by_disk status ≡ true)) → (Calm → stops ≡ [])
+      → (Calm → IsValidDisk system text (state handed) → (status ≡ Done) ⊎ ((status ≡ Memory) ⊎ (status ≡ Spent))) → IsServedWhole system text blocks (state handed) (state disk) status stops
+  other_whole system text blocks status other is calm valid =
+      record { status_is = is; calm = calm; valid = valid; opened = λ none done. absurd (other done); found = λ warm done. absurd (other done) }
+
+  memory_of : (r : Result System Ended) (text : List ℕ) (blocks : List Block) → (Calm → stops ≡ []) → IsServedBy r text blocks (state handed) (state disk) Memory stops
+  memory_of (Ok system) text blocks none = other_whole system text blocks Memory memory_isnt (inr (inl refl)) none (λ calm valid. inr (inl refl))
+  memory_of (Err ended) text blocks none = inr refl
 
   by_memory : (told left old new : Option (List ℕ)) → Session told left old new Memory → Complete told Memory
   by_memory (Some bytes) left old new session =
-      memory_of (judged (definition_lines (lines_of bytes))) (text_of bytes) (no_stop (Some bytes) left old new Memory session)
+      memory_of (judged (definition_lines (lines_of bytes))) (text_of bytes) (blocks_in bytes) (no_stop (Some bytes) left old new Memory session)
   by_memory None left old new session = tt
 
   spent_whole : (system : System) (bytes : List ℕ) → (Calm → stops ≡ []) → Whole system bytes Spent
-  spent_whole system bytes none = record { status_is = inr (inr refl); calm = none; valid = λ calm valid. inr (inr refl); opened = λ calm done. cc }
+  spent_whole system bytes none = other_whole system (text_of bytes) (blocks_in bytes) Spent spent_isnt (inr (inr refl)) none (λ calm valid. inr (inr refl))
 
   by_spent : (told left old new : Option (List ℕ)) → Session told left old new Spent → Complete told Spent
   by_spent (Some bytes) left old new (inl h) = by_system bytes h.system Spent h.defines (spent_whole h.system bytes (no_stop (Some bytes) left old new Spent (inl h)))
@@ -144,35 +174,32 @@ module _ {D : Type 0} (state : D → DiskState) (is_disk : (disk : D) → IsDisk
   by_spent None left old new session = tt
   by_spent told left old new (inr (inl begun, nothing)) = absurd begun.unbegun
 
+  down_whole : (bytes : List ℕ) (left old new : Option (List ℕ)) (h : HasSession state (Some bytes) left old new handed disk Down lives stops) → (Calm → stops ≡ []) → Whole h.system bytes Down
+  down_whole bytes left old new h none =
+      other_whole h.system (text_of bytes) (blocks_in bytes) Down down_isnt (inr (inr refl)) none (λ calm valid. absurd (not_down state handed disk (Some bytes) left old new lives stops h (none calm)))
+
   by_down : (told left old new : Option (List ℕ)) → Session told left old new Down → Complete told Down
-  by_down (Some bytes) left old new (inl h) =
-      let none : (calm : Calm) → stops ≡ [] = no_stop (Some bytes) left old new Down (inl h) in
-      by_system bytes h.system Down h.defines (record {
-        status_is = inr (inr refl);
-        calm = none;
-        valid = λ calm valid. absurd (not_down state handed disk (Some bytes) left old new lives stops h (none calm));
-        opened = λ calm done. cc;
-      })
+  by_down (Some bytes) left old new (inl h) = by_system bytes h.system Down h.defines (down_whole bytes left old new h (no_stop (Some bytes) left old new Down (inl h)))
   by_down None left old new session = tt
   by_down told left old new (inr (inl begun, nothing)) = absurd begun.unbegun
   by_down told left old new (inr (inr never, nothing)) = absurd never.refusal
 
+  image_whole : (refusal : ImageRefused) (bytes : List ℕ) (left old new : Option (List ℕ)) (h : HasSession state (Some bytes) left old new handed disk (Image refusal) lives stops) → (Calm → stops ≡ [])
+      → Whole h.system bytes (Image refusal)
+  image_whole refusal bytes left old new h none =
+      other_whole h.system (text_of bytes) (blocks_in bytes) (Image refusal) (image_isnt refusal) (inr (inr refl)) none
+      (λ calm valid. absurd (not_refused state handed disk (Some bytes) left old new lives stops refusal h (none calm)))
+
+  image_never : (refusal : ImageRefused) (bytes : List ℕ) (never : IsNeverOpened state (Some bytes) handed disk (Image refusal)) → stops ≡ [] → Whole never.system bytes (Image refusal)
+  image_never refusal bytes never none =
+      other_whole never.system (text_of bytes) (blocks_in bytes) (Image refusal) (image_isnt refusal) (inr (inr refl)) (λ calm. none)
+      (λ calm valid. absurd (valid_opened state bytes handed disk refusal (is_disk handed) never valid))
+
   by_image : (refusal : ImageRefused) (told left old new : Option (List ℕ)) → Session told left old new (Image refusal) → Complete told (Image refusal)
   by_image refusal (Some bytes) left old new (inl h) =
-      let none : (calm : Calm) → stops ≡ [] = no_stop (Some bytes) left old new (Image refusal) (inl h) in
-      by_system bytes h.system (Image refusal) h.defines (record {
-        status_is = inr (inr refl);
-        calm = none;
-        valid = λ calm valid. absurd (not_refused state handed disk (Some bytes) left old new lives stops refusal h (none calm));
-        opened = λ calm done. cc;
-      })
+      by_system bytes h.system (Image refusal) h.defines (image_whole refusal bytes left old new h (no_stop (Some bytes) left old new (Image refusal) (inl h)))
   by_image refusal (Some bytes) left old new (inr (inr never, nothing)) =
-      by_system bytes never.system (Image refusal) never.defines (record {
-        status_is = inr (inr refl);
-        calm = λ calm. nothing.no_stop;
-        valid = λ calm valid. absurd (valid_opened state bytes handed disk refusal (is_disk handed) never valid);
-        opened = λ calm done. cc;
-      })
+      by_system bytes never.system (Image refusal) never.defines (image_never refusal bytes never nothing.no_stop)
   by_image refusal None left old new session = tt
   by_image refusal told left old new (inr (inl begun, nothing)) = absurd begun.unbegun
 
@@ -200,7 +227,7 @@ module _ {D : Type 0} (state : D → DiskState) (is_disk : (disk : D) → IsDisk
   -- where the session of these bytes was served, and memory was wanting behind it
   memory_behind : (ended : Ended) (told left old new : Option (List ℕ)) → Session told left old new ended → Complete told Memory
   memory_behind ended (Some bytes) left old new session =
-      memory_of (judged (definition_lines (lines_of bytes))) (text_of bytes) (no_stop (Some bytes) left old new ended session)
+      memory_of (judged (definition_lines (lines_of bytes))) (text_of bytes) (blocks_in bytes) (no_stop (Some bytes) left old new ended session)
   memory_behind ended None left old new session = tt
 
   complete_by : (ended : Ended) (told left old new : Option (List ℕ)) (writes : ℕ) → Session told left old new ended → HasCause ended 0 0 0 writes → IsWithinLimits told → Complete told (status_by ended)
@@ -284,3 +311,75 @@ module _ {D : Type 0} (state : D → DiskState) (is_disk : (disk : D) → IsDisk
   complete_run words told left old new status r r' w w' run none reads writes within =
       complete_served (workload_of words) told left old run.before new run.summary status r r' w run.writes w'
       (served_of (word_fault words) (workload_of words) told left old run.before run.summary status none run.session) run.cause run.last reads writes within
+
+  -- ---- a counter
+
+  spent_near : (told left old new : Option (List ℕ)) → Session told left old new Spent → IsNearLimit told (state handed)
+  spent_near told left old new (inl h) = record { system = h.system; defines = h.defines; near = near_session state is_disk handed disk told left old new lives stops h }
+  spent_near told left old new (inr (inr never, nothing)) = record { system = never.system; defines = never.defines; near = near_never state is_disk handed disk told left old new never }
+  spent_near told left old new (inr (inl begun, nothing)) = absurd begun.unbegun
+
+  session_near : (ended : Ended) (told left old new : Option (List ℕ)) → Session told left old new ended → IsNear told (state handed) ended
+  session_near Spent told left old new session = spent_near told left old new session
+  session_near Done told left old new session = tt
+  session_near (Words word rule) told left old new session = tt
+  session_near (BadLine line rule) told left old new session = tt
+  session_near (BadCross line rule) told left old new session = tt
+  session_near Down told left old new session = tt
+  session_near Read told left old new session = tt
+  session_near Write told left old new session = tt
+  session_near (Image refusal) told left old new session = tt
+  session_near Memory told left old new session = tt
+  session_near (Limit n) told left old new session = tt
+
+  module _ (text : List ℕ) (summed : List ℕ) (printed left : List ℕ) (old mid : Option (List ℕ)) (summary : List ℕ) (status : Ended) where
+    abbrev Near : Ended → Type 0
+    Near ended = IsNear (Some text) (state handed) ended
+
+    near_as : (other : Ended) → status ≡ other → Near other → Near status
+    near_as other is near = subst (λ (s : Ended). Near s) (sym is) near
+
+    near_written : IsWritten summed status old mid summary → Near status
+    near_written told = done_or told.written
+      where
+        done_or : ((status ≡ Done) × (mid ≡ append_known old summed)) ⊎ ((status ≡ Write) × AppendsFront old mid summed) → Near status
+        done_or (inl whole) = near_as Done whole.0 tt
+        done_or (inr front) = near_as Write front.0 tt
+
+    near_told : (ended : Ended) → Session (Some text) (Some left) (Some []) (Some printed) ended → IsToldBy ended summed status old mid summary → Near status
+    near_told Done session told = near_written told
+    near_told (Words word rule) session told = near_as (Words word rule) told.status_is tt
+    near_told (BadLine line rule) session told = near_as (BadLine line rule) told.status_is tt
+    near_told (BadCross line rule) session told = near_as (BadCross line rule) told.status_is tt
+    near_told Down session told = near_as Down told.status_is tt
+    near_told Read session told = near_as Read told.status_is tt
+    near_told Write session told = near_as Memory told.status_is tt
+    near_told (Image refusal) session told = near_as (Image refusal) told.status_is tt
+    near_told Memory session told = near_as Memory told.status_is tt
+    near_told (Limit n) session told = near_as (Limit n) told.status_is tt
+    near_told Spent session told = near_as Spent told.status_is (spent_near (Some text) (Some left) (Some []) (Some printed) session)
+
+    near_any : (ended : Ended) → Session (Some text) (Some left) (Some []) (Some printed) ended → IsTold ended summed status old mid summary → Near status
+    near_any ended session (inl told) = near_told ended session told
+    near_any ended session (inr untold) = near_as Memory untold.status_is tt
+
+  near_served : (workload : Option Workload) (told left old mid : Option (List ℕ)) (summary : List ℕ) (status : Ended)
+      → IsServed state workload told left old mid summary handed disk status lives stops → IsNear (told_by workload told) (state handed) status
+  near_served (Some workload) told left old mid summary status served =
+      let run : IsWorkload state workload old mid summary handed disk status lives stops = served.1 in
+      near_any (workload_bytes workload) (summary_of workload lives run.printed) run.printed run.drilled.left old mid summary status run.ended run.drilled.session run.told
+  near_served None told left old mid summary status served = session_near status told left old mid served.1
+
+  near_words : (fault : Option WordFault) (workload : Option Workload) (told left old mid : Option (List ℕ)) (summary : List ℕ) (status : Ended)
+      → IsByWords state fault workload told left old mid summary handed disk status lives stops → IsNear (told_by workload told) (state handed) status
+  near_words None workload told left old mid summary status served = near_served workload told left old mid summary status served
+  near_words (Some fault) workload told left old mid summary status refused = of refused.1.status_is
+    where
+      of : (status ≡ Words fault.word fault.rule) ⊎ (status ≡ Memory) → IsNear (told_by workload told) (state handed) status
+      of (inl is) = subst (λ (s : Ended). IsNear (told_by workload told) (state handed) s) (sym is) tt
+      of (inr is) = subst (λ (s : Ended). IsNear (told_by workload told) (state handed) s) (sym is) tt
+
+  -- That a counter is spent is told of a disk alone that was near it.
+  pub near_run : (words : List (List ℕ)) (told left old new : Option (List ℕ)) (status : Ended) (r r' w w' : ℕ)
+      → IsRun state words told left old new handed disk status lives stops r r' w w' → IsNear (told_by (workload_of words) told) (state handed) status
+  near_run words told left old new status r r' w w' run = near_words (word_fault words) (workload_of words) told left old run.before run.summary status run.session

@@ -1,5 +1,5 @@
 -- The last line of a session by its status, and what a whole run comes to.
-use Rattle.std.specs.Prelude.{◌≡◌, ℕ, ◌≤◌, ◌++◌, ◌⊎◌, Bool, true, false, Option, Some, None, Result, Ok, Err, List, [], ◌∷◌, length, codes, decimal}
+use Rattle.std.specs.Prelude.{◌≡◌, ℕ, ◌≤◌, ◌++◌, ◌⊎◌, Bool, true, false, Option, Some, None, IfSome, Result, Ok, Err, List, [], ◌∷◌, length, codes, decimal}
 use Rattle.std.specs.List.{list_all}
 use Rattle.std.specs.Io.KnownBytes.{append_known}
 use Rattle.model_system.specs.System.{System}
@@ -9,12 +9,14 @@ use Rattle.tm_edge.specs.Lines.{cut_lines, lines_of, is_short}
 use Rattle.tm_session.specs.declared.outcome.Ended.{Ended}
 use Rattle.tm_session.specs.declared.outcome.Ended.TheVariants.{Done, Words, BadLine, BadCross, Down, Read, Write, Image, Memory, Limit, Spent}
 use Rattle.model_session.specs.declared.asked.ImageRefused.TheVariants.{Rule, Text, Size}
+use Rattle.model_session.specs.Blocks.{Block, blocks_of}
 use Rattle.model_session.specs.Standing.{Stop}
 use Rattle.model_disk.specs.Disk.{DiskState, FailedSince}
-use Rattle.sysdef_text.specs.Ends.{definition_lines}
+use Rattle.sysdef_text.specs.Ends.{definition_lines, lines_behind}
 use Rattle.tm_session.specs.Source.{judged, definition_text}
 use Rattle.tm_session.specs.Outcome.{HasCause}
-use Rattle.tm_session.specs.Headline.{IsSession, IsValidDisk, IsOpenedDisk}
+use Rattle.session_lives.specs.Running.{CountsDisk}
+use Rattle.tm_session.specs.Headline.{IsSession, IsValidDisk, IsOpenedDisk, IsFoundDisk, AskNoColdStart, Defines}
 use Rattle.tm_prog.specs.declared.words.Workload.{Workload}
 use Rattle.tm_prog.specs.Words.{WordFault, word_fault, workload_of}
 use Rattle.tm_prog.specs.Workload.{IsWorkload}
@@ -87,23 +89,37 @@ is_by_disk Spent = true
 is_by_disk _ = false
 
 -- The status where the definition breaks no rule is 0, memory was wanting, or the disk decides it. Where the disk didn't fail there
--- is no stop; where it was valid too, only a spent counter is left of what the disk decides; and a status of 0 comes of a disk alone
--- that has sectors enough, and that could be opened where it tells its contents.
-pub record IsServedWhole (system : System) (text : List ℕ) (handed disk : DiskState) (status : Ended) (stops : List Stop) : Type 0 where
+-- is no stop; where it was valid too, only a spent counter is left of what the disk decides. Where there is no stop, a status of 0 comes
+-- of a disk alone that has sectors enough, and that could be opened where it tells its contents; and where none of the session's
+-- blocks asks for a cold start, of one alone that a life could begin with, whatever openings had failed before.
+pub record IsServedWhole (system : System) (text : List ℕ) (blocks : List Block) (handed disk : DiskState) (status : Ended) (stops : List Stop) : Type 0 where
   pub status_is : (status ≡ Done) ⊎ ((status ≡ Memory) ⊎ (is_by_disk status ≡ true))
   pub calm : ¬ FailedSince handed disk → stops ≡ []
   pub valid : ¬ FailedSince handed disk → IsValidDisk system text handed → (status ≡ Done) ⊎ ((status ≡ Memory) ⊎ (status ≡ Spent))
-  pub opened : ¬ FailedSince handed disk → status ≡ Done → IsOpenedDisk system text handed
+  pub opened : stops ≡ [] → status ≡ Done → IsOpenedDisk system text handed
+  pub found : AskNoColdStart system blocks → status ≡ Done → IsFoundDisk system text handed
 
 -- Where nothing else comes between, a definition that breaks a rule has the status of that rule, or memory was wanting.
-abbrev pub IsServedBy : Result System Ended → List ℕ → DiskState → DiskState → Ended → List Stop → Type 0
-IsServedBy (Ok system) text handed disk status stops = IsServedWhole system text handed disk status stops
-IsServedBy (Err ended) text handed disk status stops = (status ≡ ended) ⊎ (status ≡ Memory)
+abbrev pub IsServedBy : Result System Ended → List ℕ → List Block → DiskState → DiskState → Ended → List Stop → Type 0
+IsServedBy (Ok system) text blocks handed disk status stops = IsServedWhole system text blocks handed disk status stops
+IsServedBy (Err ended) text blocks handed disk status stops = (status ≡ ended) ⊎ (status ≡ Memory)
 
 abbrev pub IsComplete : Option (List ℕ) → DiskState → DiskState → Ended → List Stop → Type 0
 IsComplete (Some bytes) handed disk status stops =
-    IsServedBy (judged (definition_lines (lines_of bytes))) (definition_text (definition_lines (lines_of bytes))) handed disk status stops
+    IsServedBy (judged (definition_lines (lines_of bytes))) (definition_text (definition_lines (lines_of bytes))) (blocks_of (lines_behind (lines_of bytes))) handed disk status stops
 IsComplete None handed disk status stops = Unit {0}
+
+-- A counter stood at 900,000,000,000,000,000 or above in the disk that was handed in, for the system that the source defines; of a disk
+-- that doesn't tell its contents nothing is said.
+pub record IsNearLimit (told : Option (List ℕ)) (handed : DiskState) : Type 0 where
+  pub system : System
+  pub defines : IfSome told (λ bytes. Defines bytes system)
+  pub near : (high : ℕ) → CountsDisk system high handed → 900000000000000000 ≤ high
+
+-- that a counter is spent is told of such a disk alone
+abbrev pub IsNear : Option (List ℕ) → DiskState → Ended → Type 0
+IsNear told handed Spent = IsNearLimit told handed
+IsNear told handed _ = Unit {0}
 
 -- the number of a status
 abbrev pub status_number : Ended → ℕ

@@ -5,7 +5,7 @@ ghost use Rattle.tm_edge.specs.Fault.{HasRisen};
 ghost use Rattle.tm_session.specs.Outcome.{HasCause, IsBack, IsReadToEnd};
 ghost use Rattle.tm_prog.specs.Words.{word_fault, workload_of};
 ghost use Rattle.tm_prog.specs.Workload.{told_by};
-ghost use Rattle.tm_prog.specs.Status.{status_text, IsLastLine, IsByWords, IsRun, IsWithinLimits, IsComplete};
+ghost use Rattle.tm_prog.specs.Status.{status_text, IsLastLine, IsByWords, IsRun, IsWithinLimits, IsComplete, IsNear};
 
 use crate::summed::run_workload;
 use crate::words::{find_word_fault, workload_of};
@@ -54,6 +54,8 @@ pub fn run<S: Source, K: Sink, D: Disk>(
         ¬ HasRisen (S.faults source.old) (S.faults source.new) → ¬ HasRisen (K.faults sink.old) (K.faults sink.new) →
         IsWithinLimits (told_by (workload_of (map (λ word. string_bytes word) words.now)) (S.left source.old)) →
         IsComplete (told_by (workload_of (map (λ word. string_bytes word) words.now)) (S.left source.old)) (D.state disk) (D.state result.disk) result.status result.stops }
+    // That a counter is spent is told of a disk alone that was near it as it was handed in, where that tells its contents.
+    ensures near { IsNear (told_by (workload_of (map (λ word. string_bytes word) words.now)) (S.left source.old)) (D.state disk) result.status }
 {
     let mut line = Printed::new(alloc);
     if line.make_room(LAST_ROOM).is_err() {

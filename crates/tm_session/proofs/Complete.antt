@@ -1,12 +1,13 @@
 -- A session without a stop is not down by one, and its disk was opened.
-use Rattle.std.proofs.Common.{◌≡◌, ◌⊎◌, ℕ, ◌+◌, ◌≤◌, Bool, true, false, List, [], ◌∷◌, map, sym, ◌∙◌, ap, subst, refl, arith, inl, inr, ⊎_elim}
+use Rattle.std.proofs.Common.{◌≡◌, ◌⊎◌, ℕ, ◌+◌, ◌≤◌, Bool, true, false, List, [], ◌∷◌, map, sym, ◌∙◌, subst, refl, arith, inl, inr, ⊎_elim}
 use Rattle.std.specs.Prelude.{Option, Some, None}
+use Rattle.std.specs.Option.{is_some}
 use Rattle.model_disk.specs.Disk.{DiskState, IsDisk, Rose}
 use Rattle.model_system.specs.System.{System}
 use Rattle.model_session.specs.declared.asked.ImageRefused.{ImageRefused}
 use Rattle.model_session.specs.Blocks.{Block}
 use Rattle.model_session.specs.Lives.{LifeState}
-use Rattle.model_session.specs.Standing.{Setting, SessionState, Standing, Stop, AreStops, last_life}
+use Rattle.model_session.specs.Standing.{Setting, SessionState, Standing, Stop, AreStops, is_stopped, last_life}
 use Rattle.model_session.specs.Standing.Standing.{Up, Down}
 use Rattle.model_session.specs.Session.{Begins}
 use Rattle.model_session.proofs.Growing.{HasStop, stop_stays, failed_told}
@@ -22,8 +23,9 @@ use Rattle.session_lives.proofs.Valid.{valid_opens}
 use Rattle.tm_session.specs.declared.outcome.Ended.{Ended}
 use Rattle.tm_session.specs.declared.outcome.Ended.TheVariants.{Done, Down as DownAtEnd, Image}
 use Rattle.tm_session.specs.Source.{definition_text}
-use Rattle.tm_session.specs.Outcome.{left_if, is_undone}
-use Rattle.tm_session.specs.Headline.{HasLived, HasSession, IsNeverOpened, IsOpenedBy, IsOpenedDisk, IsValidDisk}
+use Rattle.tm_session.specs.Outcome.{left_if, is_undone, UndoneAs}
+use Rattle.tm_session.specs.Headline.{HasLived, HasSession, IsNeverOpened, IsOpenedBy, IsOpenedDisk, IsFoundDisk, AskNoColdStart, IsValidDisk}
+use Rattle.tm_session.proofs.First.{life_begun}
 
 -- ---- counts
 
@@ -55,6 +57,10 @@ no_life_at : (setting : Setting) (standing : Standing) (refusal : ImageRefused) 
 no_life_at setting (Up life) refusal may = absurd may
 no_life_at setting (Down outage) refusal may = may.0
 
+no_life_as : (others : List Block) (setting : Setting) (last : SessionState) (refusal : ImageRefused) → UndoneAs (Image refusal) others setting last → last_life last.standing ≡ None
+no_life_as [] setting last refusal never = absurd never
+no_life_as (block ∷ others) setting last refusal (may, looked) = no_life_at setting last.standing refusal may
+
 module _ {D : Type 0} (state : D → DiskState) (system : System) (source : List ℕ) (handed disk : D) (told left old new : Option (List ℕ)) (lives : List LifeState) (stops : List Stop) where
   lived_stops : (ended : Ended) (h : HasLived state system source told left old new handed disk ended lives stops) → HasStops h.last
   lived_stops ended h =
@@ -65,7 +71,7 @@ module _ {D : Type 0} (state : D → DiskState) (system : System) (source : List
 
   never_refused : (refusal : ImageRefused) → HasLived state system source told left old new handed disk (Image refusal) lives stops → stops ≡ [] → ⊥
   never_refused refusal h none =
-      (lived_stops (Image refusal) h).unbegun (no_life_at (setting_of state system source handed) h.last.standing refusal h.undone) (sym h.stops_are ∙ none)
+      (lived_stops (Image refusal) h).unbegun (no_life_as h.others (setting_of state system source handed) h.last refusal h.undone) (sym h.stops_are ∙ none)
 
   -- a session without a stop has opened its disk
   begun_or : (first : SessionState) → Begins (setting_of state system source handed) first → HasStop first ⊎ IsUpAtFirst first.standing
@@ -84,6 +90,12 @@ module _ {D : Type 0} (state : D → DiskState) (system : System) (source : List
       (λ up. opened_up h.first.standing up h.opened)
       (begun_or h.first h.begins)
 
+  -- with a status of 0 a life has begun
+  lived_life : (h : HasLived state system source told left old new handed disk Done lives stops) → is_some (last_life h.last.standing) ≡ true
+  lived_life h =
+      subst (λ (s : SessionState). is_some (last_life s.standing) ≡ true) (sym h.unprinted)
+      (life_begun (setting_of state system source handed) h.blocks h.first h.mid h.text h.begins h.session (subst (λ (s : SessionState). is_stopped s.standing ≡ false) h.unprinted h.by))
+
 module _ {D : Type 0} (state : D → DiskState) (handed disk : D) (told left old new : Option (List ℕ)) (lives : List Life) (stops : List Stop) where
   pub not_down : HasSession state told left old new handed disk DownAtEnd lives stops → stops ≡ [] → ⊥
   not_down h none = never_down state h.system h.text handed disk told left old new (map life_of lives) stops h.lived none
@@ -93,6 +105,9 @@ module _ {D : Type 0} (state : D → DiskState) (handed disk : D) (told left old
 
   pub done_opened : (h : HasSession state told left old new handed disk Done lives stops) → stops ≡ [] → IsOpenedDisk h.system h.text (state handed)
   done_opened h none = lived_opened state h.system h.text handed disk told left old new (map life_of lives) stops h.lived none
+
+  pub done_found : (h : HasSession state told left old new handed disk Done lives stops) → AskNoColdStart h.system h.lived.blocks → IsFoundDisk h.system h.text (state handed)
+  done_found h warm = h.lived.found (lived_life state h.system h.text handed disk told left old new (map life_of lives) stops h.lived) warm
 
 -- nor is a disk refused that can be opened
 pub valid_opened : {D : Type 0} (state : D → DiskState) (bytes : List ℕ) (handed disk : D) (refusal : ImageRefused) → IsDisk (state handed) → (never : IsNeverOpened state (Some bytes) handed disk (Image refusal))

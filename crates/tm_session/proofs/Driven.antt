@@ -22,7 +22,7 @@ use Rattle.session_lives.specs.declared.called.Served.TheVariants.{Printed, Brok
 use Rattle.session_lives.specs.declared.called.Undone.{Undone}
 use Rattle.session_lives.specs.declared.called.Undone.TheVariants.{Memory as NoMemory, Spent as SpentCounter, Image as BadImage}
 use Rattle.session_lives.specs.Openings.{UndoneBy, IsServedSo}
-use Rattle.tm_session.specs.Outcome.{HasWritten, is_undone, left_if, left_by, UndoneAs}
+use Rattle.tm_session.specs.Outcome.{HasWritten, is_undone, left_if, UndoneAs}
 use Rattle.tm_session.specs.Driving.{ended_by, IsWritten, IsFinished, IsBroken, Serves, Stops, FailsAt}
 
 -- ---- what was written
@@ -82,10 +82,11 @@ undone_ended NoMemory = refl
 undone_ended SpentCounter = refl
 undone_ended (BadImage refusal) = refl
 
-undone_as : (undone : Undone) (setting : Setting) (last : SessionState) → UndoneBy undone setting last → UndoneAs (ended_by undone) setting last
-undone_as NoMemory setting last cause = tt
-undone_as SpentCounter setting last cause = cause
-undone_as (BadImage refusal) setting last cause = cause
+undone_as : (undone : Undone) (block : Block) (others : List Block) (setting : Setting) (last : SessionState) → UndoneBy undone (asked_of setting.system block) setting last
+    → UndoneAs (ended_by undone) (block ∷ others) setting last
+undone_as NoMemory block others setting last cause = tt
+undone_as SpentCounter block others setting last cause = cause
+undone_as (BadImage refusal) block others setting last cause = cause
 
 pub undone_broken : (undone : Undone) → IsBroken (ended_by undone)
 undone_broken undone = inr (undone_ended undone)
@@ -100,7 +101,7 @@ module _ (setting : Setting) (block : Block) (w w' : Option (List ℕ)) (a b : S
     stops = λ others. record { mid = b; text = text; served = served_one setting block a b text here; unprinted = refl; undone = tt; printed = front };
   })
 
-  undone : (why : Undone) (ended : Option Ended) → IsBegunBy (asked_of setting.system block) setting.system a a.standing b → UndoneBy why setting b → w' ≡ w → ended ≡ Some (ended_by why)
+  undone : (why : Undone) (ended : Option Ended) → IsBegunBy (asked_of setting.system block) setting.system a a.standing b → UndoneBy why (asked_of setting.system block) setting b → w' ≡ w → ended ≡ Some (ended_by why)
       → MatchOption ended (Serves setting (block ∷ []) w w' a b) (λ ended. FailsAt setting ended block w w' a b)
   undone why ended begun cause same is =
       subst (λ e. MatchOption e (Serves setting (block ∷ []) w w' a b) (λ ended. FailsAt setting ended block w w' a b)) (sym is)
@@ -111,7 +112,7 @@ module _ (setting : Setting) (block : Block) (w w' : Option (List ℕ)) (a b : S
           text = [];
           served = (refl, refl);
           unprinted = subst (λ u. left_if u setting.system (block ∷ others) a b) (sym (undone_ended why)) begun;
-          undone = undone_as why setting b cause;
+          undone = undone_as why block others setting b cause;
           printed = all_written (ended_by why) w w' same;
         };
       }))
@@ -167,7 +168,7 @@ none_if : (undone : Bool) (system : System) (others : List Block) (a : SessionSt
 none_if true system others a = none_begun system others a
 none_if false system others a = refl
 
-pub stops_none : (setting : Setting) (ended : Ended) (others : List Block) (written : Option (List ℕ)) (a : SessionState) → UndoneAs ended setting a → Stops setting ended [] others written written a a
+pub stops_none : (setting : Setting) (ended : Ended) (others : List Block) (written : Option (List ℕ)) (a : SessionState) → UndoneAs ended others setting a → Stops setting ended [] others written written a a
 stops_none setting ended others written a cause = record {
   mid = a;
   text = [];

@@ -1,6 +1,6 @@
 -- What the end of a session has for its cause.
 use Rattle.std.proofs.Common.{◌≡◌, ℕ, Bool, true, false, sym, subst, refl}
-use Rattle.std.specs.Prelude.{Option, Some, None}
+use Rattle.std.specs.Prelude.{Some}
 use Rattle.tm_session.specs.declared.outcome.Ended.{Ended}
 use Rattle.tm_session.specs.declared.outcome.Ended.TheVariants.{Done, Words, BadLine, BadCross, Down, Read, Write, Image, Memory, Limit, Spent}
 use Rattle.tm_session.specs.Outcome.{HasCause}

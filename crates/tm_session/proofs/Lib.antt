@@ -6,5 +6,7 @@ pub mod Begun
 pub mod Endings
 pub mod Judging
 pub mod Opened
+pub mod First
 pub mod Whole
 pub mod Complete
+pub mod Near

@@ -3,7 +3,7 @@ use Rattle.std.proofs.Common.{◌≡◌, ℕ, suc, ◌+◌, ◌-◌, ◌≤◌, 
 use Rattle.std.specs.Prelude.{Option, Some, None, IfSome, if◌then◌else◌}
 use Rattle.std.specs.List.{list_all}
 use Rattle.std.proofs.lemmas.List.Folds.{list_all-append}
-use Rattle.model_session.specs.Blocks.{Block}
+use Rattle.model_session.specs.Blocks.{Block, blocks_of}
 use Rattle.tm_edge.specs.Lines.{CutLine, HasServed, IsTooLong, ServesTold, unread, cut_lines, lines_of, line_size, line_text, behind_line, is_short}
 use Rattle.tm_edge.proofs.ServedSoFar.{none_served, one_served, long_first}
 use Rattle.tm_session.specs.declared.outcome.Ended.{Ended}
@@ -200,3 +200,11 @@ whole_session ended (Some bytes) None held left texts blocks others first second
 whole_session ended None (Some behind) held left texts blocks others first second = cc
 whole_session ended None None held (Some left) texts blocks others first second = cc
 whole_session ended None None held None texts blocks others first second = refl
+
+-- at the end of the source all of its blocks were served
+pub all_served : (bytes left : List ℕ) (blocks others : List Block) → HasRead bytes left blocks others Done → blocks_of (lines_behind (lines_of bytes)) ≡ blocks
+all_served bytes left blocks others read =
+    let lines : lines_of bytes ≡ texts_of read.cut =
+    ap (map (λ (l : CutLine). l.text)) read.served.cut ∙ texts_twice read.cut (cut_lines (read.held ++ left))
+    ∙ ap (λ (ts : List (List ℕ)). texts_of read.cut ++ ts) (no_lines (read.held ++ left) read.settled.0) ∙ append-nil (texts_of read.cut) in
+    ap (λ (ls : List (List ℕ)). blocks_of (lines_behind ls)) lines ∙ read.settled.1

@@ -15,7 +15,7 @@ use Rattle.tm_session.specs.Outcome.Ending.{Whole, Stopped, NotBegun}
 use Rattle.tm_session.specs.Unread.{IsUnread}
 use Rattle.tm_session.specs.Driving.{Stops, Goes, Ends, EndsWhole, IsBroken, AreClosed, ahead_with, kept_blocks, may_pass, IsBehind, behind_last, StopsBetween, StopsAt, StopsWhole, StopsLast, StopsHere, Steps, ReadSoFar, SoFar, ReadsTold, HasDriven}
 use Rattle.tm_session.proofs.Driven.{serves_none, serves_twice, serves_stops, stops_none}
-use Rattle.tm_session.proofs.Steps.{open_last}
+use Rattle.tm_session.proofs.Steps.{open_last, few_ahead, few_closed}
 use Rattle.tm_session.proofs.Taking.{back_same, back_served}
 
 -- ---- one line
@@ -202,7 +202,7 @@ read_start before (Some bytes) = record { cut = []; counted = omega arith; serve
 read_start before None = refl
 
 pub so_far_start : (setting : Setting) (before : ℕ) (told w : Option (List ℕ)) (a : SessionState) → SoFar setting before before told told None w w a a
-so_far_start setting before told w a = record { blocks = []; serves = serves_none setting w a; read = read_start before told; shut = refl }
+so_far_start setting before told w a = record { blocks = []; serves = serves_none setting w a; read = read_start before told; shut = refl; few = omega arith }
 
 split_line : (cut : List CutLine) (line : List ℕ) (size : ℕ) (pending : Option Block) (blocks : List Block) (lines : List (List ℕ))
     → ((more : List (List ℕ)) → blocks_of (texts_of cut ++ more) ≡ blocks ++ blocks_behind pending (blocks_of more))
@@ -225,6 +225,12 @@ read_next before count (Some bytes) None after line p q xs ys far serves split =
 read_next before count None None after line p q xs ys far serves split = serves
 read_next before count None (Some rest) after line p q xs ys far serves split = cc
 
+-- what a line leaves is no more than what was kept, and one block
+few_next : (before count : ℕ) (line : List ℕ) (p q : Option Block) (xs ys : List Block) → before + length xs + length (kept_blocks p) ≤ count
+    → ahead_with p line [] ≡ ys ++ kept_blocks q → before + length (xs ++ ys) + length (kept_blocks q) ≤ count + 1
+few_next before count line p q xs ys few split =
+    omega (arith, few, length-append xs ys, few_ahead p line, ap (λ (bs : List Block). length bs) split, length-append ys (kept_blocks q))
+
 pub so_far_next : (setting : Setting) (before count : ℕ) (told now after : Option (List ℕ)) (p q : Option Block) (w w1 w2 : Option (List ℕ)) (a b c : SessionState)
     → SoFar setting before count told now p w w1 a b → Steps setting now after p q w1 w2 b c → SoFar setting before (count + 1) told after q w w2 a c
 so_far_next setting before count told now after p q w w1 w2 a b c far one = record {
@@ -232,6 +238,7 @@ so_far_next setting before count told now after p q w w1 w2 a b c far one = reco
   serves = serves_twice setting far.blocks one.goes.blocks w w1 w2 a b c far.serves one.goes.serves;
   read = read_next before count told now after one.line p q far.blocks one.goes.blocks far.read one.read one.goes.split;
   shut = one.goes.shut far.blocks (λ passed. far.shut);
+  few = few_next before count one.line p q far.blocks one.goes.blocks far.few (one.goes.split []);
 }
 
 -- ---- how it ends
@@ -257,7 +264,7 @@ stopped_begun ended (inl stopped) = λ e. let never : Stopped ≡ NotBegun = sym
 stopped_begun ended (inr memory) = subst (λ s. ending_of s ≢ NotBegun) (sym memory) (λ e. cc)
 
 -- what ends between two lines is no block that could not be served
-stopped_cause : (ended : Ended) (setting : Setting) (last : SessionState) → (ending_of ended ≡ Stopped) ⊎ (ended ≡ Memory) → UndoneAs ended setting last
+stopped_cause : (ended : Ended) (setting : Setting) (last : SessionState) → (ending_of ended ≡ Stopped) ⊎ (ended ≡ Memory) → UndoneAs ended [] setting last
 stopped_cause Done setting last why = tt
 stopped_cause Down setting last why = tt
 stopped_cause Read setting last why = tt
@@ -368,12 +375,22 @@ broken_read setting before count None None told' pending line w w' a b served en
 broken_read setting before count None (Some rest) told' pending line w w' a b served ended far below serves ends = cc
 
 module _ (setting : Setting) (before count : ℕ) (told now told' : Option (List ℕ)) (pending : Option Block) (w w1 w2 : Option (List ℕ)) (a b c : SessionState) (ended : Ended) (far : SoFar setting before count told now pending w w1 a b) where
+  whole_few : (blocks others : List Block) → ((ended ≡ Done) × (kept_blocks pending ≡ blocks) × (others ≡ [])) ⊎ (IsBroken ended × (kept_blocks pending ≡ blocks ++ others))
+      → length blocks ≤ length (kept_blocks pending)
+  whole_few blocks others (inl (done, kept, none)) = omega (arith, ap (λ (bs : List Block). length bs) kept)
+  whole_few blocks others (inr (broken, kept)) = omega (arith, ap (λ (bs : List Block). length bs) kept, length-append blocks others)
+
+  broken_few : (line : List ℕ) (blocks others : List Block) → closed (ahead_with pending line []) ≡ blocks ++ others → length blocks ≤ length (kept_blocks pending) + 1
+  broken_few line blocks others front =
+      omega (arith, ap (λ (bs : List Block). length bs) front, length-append blocks others, few_closed (ahead_with pending line []), few_ahead pending line)
+
   driven_between : count ≤ 1000000 → StopsBetween count ended now told' w1 w2 b c → HasDriven setting before told told' w w2 a c ended
   driven_between few stops = record {
     blocks = far.blocks ++ [];
     others = [];
     begun = stopped_begun ended stops.stopped;
     not_down = stopped_up ended stops.stopped;
+    few = omega (arith, few, far.few, length-append far.blocks []);
     stops = serves_stops setting ended far.blocks [] [] w w1 w2 a b c far.serves
         (subst (λ v. Stops setting ended [] [] w1 v b c) (sym stops.printed) (subst (λ d. Stops setting ended [] [] w1 w1 b d) (sym stops.same) (stops_none setting ended [] w1 b (stopped_cause ended setting b stops.stopped))));
     read = subst (λ bs. ReadsTold before told told' bs [] ended) (sym (append-nil far.blocks))
@@ -386,6 +403,7 @@ module _ (setting : Setting) (before count : ℕ) (told now told' : Option (List
     others = stops.ends.others;
     begun = whole_of setting (λ s. ending_of s ≢ NotBegun) ended pending w1 w2 b c stops.ends (λ e. cc) (λ e. cc) (λ e. cc) (λ e. cc) (λ refusal e. cc);
     not_down = whole_of setting (λ s. s ≢ Down) ended pending w1 w2 b c stops.ends (λ e. cc) (λ e. cc) (λ e. cc) (λ e. cc) (λ refusal e. cc);
+    few = omega (arith, few, far.few, length-append far.blocks stops.ends.blocks, whole_few stops.ends.blocks stops.ends.others stops.ends.settled);
     stops = serves_stops setting ended far.blocks stops.ends.blocks stops.ends.others w w1 w2 a b c far.serves stops.ends.stops;
     read = whole_read setting before count told now told' pending w1 w2 b c far.blocks ended far.read few stops.read stops.ends;
   }
@@ -396,6 +414,7 @@ module _ (setting : Setting) (before count : ℕ) (told now told' : Option (List
     others = stops.ends.others;
     begun = broken_begun ended stops.ends.broken;
     not_down = broken_up ended stops.ends.broken;
+    few = omega (arith, below, far.few, length-append far.blocks stops.ends.blocks, broken_few stops.line stops.ends.blocks stops.ends.others (stops.ends.front []));
     stops = serves_stops setting ended far.blocks stops.ends.blocks stops.ends.others w w1 w2 a b c far.serves stops.ends.stops;
     read = broken_read setting before count told now told' pending stops.line w1 w2 b c far.blocks ended far.read below stops.read stops.ends;
   }

@@ -1,6 +1,7 @@
 -- What one line does to the blocks ahead.
-use Rattle.std.proofs.Common.{◌≡◌, ℕ, Bool, true, false, List, [], ◌∷◌, ◌++◌, codes, sym, ◌∙◌, ap, subst, refl, append_assoc, inl, inr}
+use Rattle.std.proofs.Common.{◌≡◌, ℕ, ◌+◌, ◌≤◌, Bool, true, false, List, [], ◌∷◌, ◌++◌, length, codes, sym, ◌∙◌, ap, subst, refl, arith, append_assoc, inl, inr, ⊎_elim}
 use Rattle.std.proofs.lemmas.List.{append-nil}
+use Rattle.std.proofs.lemmas.Bool.{cases_Bool}
 use Rattle.std.specs.Prelude.{◌||◌, Option, Some, None, MatchOption, if◌then◌else◌}
 use Rattle.std.specs.Str.{bytes_eq}
 use Rattle.std.proofs.lemmas.Slice.Eq.{bytes_eq-Decides}
@@ -10,7 +11,7 @@ use Rattle.model_session.specs.Standing.{Setting, SessionState}
 use Rattle.model_session.specs.Blocks.{Block, alone, and_line, is_further, takes_further, open_before, line_before, blocks_behind, closed}
 use Rattle.tm_session.specs.declared.outcome.Ended.{Ended}
 use Rattle.tm_session.specs.declared.outcome.Ended.TheVariants.{Done, Memory}
-use Rattle.tm_session.specs.Driving.{Serves, FailsAt, Goes, Ends, EndsWhole, AreClosed, IsOpen, line_blocks, ahead_with}
+use Rattle.tm_session.specs.Driving.{Serves, FailsAt, Goes, Ends, EndsWhole, AreClosed, IsOpen, line_blocks, ahead_with, kept_blocks}
 use Rattle.tm_session.proofs.Driven.{serves_none, serves_twice, serves_stops, stops_none, stops_served}
 
 choose : {A : Type 0} (b : Bool) (x y : A) → b ≡ true → (if b then x else y) ≡ x
@@ -217,6 +218,35 @@ goes_passed setting pending line w a passed = record {
   shut = λ served h. subst (λ bs. AreClosed pending bs) (sym (append-nil served)) (h passed);
   serves = serves_none setting w a;
 }
+
+-- ---- how many blocks there are
+
+few_before : (block : Block) (blocks : List Block) → length (open_before block blocks) ≤ length blocks + 1
+few_before block [] = omega arith
+few_before block (next ∷ blocks) = by (is_further next.line) (few_before (and_line block next.line) blocks)
+  where
+    by : (b : Bool) → length (open_before (and_line block next.line) blocks) ≤ length blocks + 1
+        → length (if b then open_before (and_line block next.line) blocks else block ∷ next ∷ blocks) ≤ length (next ∷ blocks) + 1
+    by true less = omega (arith, less)
+    by false less = omega arith
+
+few_line : (line : List ℕ) → length (line_blocks line []) ≤ 1
+few_line line =
+    ⊎_elim (λ passed. omega (arith, ap (λ (bs : List Block). length bs) (choose (is_passed_over line) [] (line_before line []) passed)))
+    (λ seen. omega (arith, ap (λ (bs : List Block). length bs) (alone_of line seen)))
+    (cases_Bool (is_passed_over line))
+
+-- a line makes one more at most
+pub few_ahead : (pending : Option Block) (line : List ℕ) → length (ahead_with pending line []) ≤ length (kept_blocks pending) + 1
+few_ahead None line = omega (arith, few_line line)
+few_ahead (Some block) line = omega (arith, few_before block (line_blocks line []), few_line line)
+
+pub few_closed : (blocks : List Block) → length (closed blocks) ≤ length blocks
+few_closed [] = omega arith
+few_closed (block ∷ []) =
+    ⊎_elim (λ takes. omega (arith, ap (λ (bs : List Block). length bs) (still_open block takes))) (λ plain. omega (arith, ap (λ (bs : List Block). length bs) (shut block plain)))
+    (cases_Bool (takes_further block.line))
+few_closed (block ∷ next ∷ blocks) = omega (arith, few_closed (next ∷ blocks))
 
 -- ---- the end of the source
 

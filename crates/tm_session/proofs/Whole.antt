@@ -1,20 +1,19 @@
 -- A whole session, from its definition to its end.
-use Rattle.std.proofs.Common.{◌≡◌, ◌≢◌, ◌⊎◌, ℕ, ◌≤◌, Bool, true, false, List, [], ◌∷◌, ◌++◌, length, map, sym, ◌∙◌, ap, subst, refl, arith, inl, inr}
-use Rattle.std.proofs.lemmas.List.{append-nil, map-append}
-use Rattle.std.specs.Prelude.{Option, Some, None, IfSome, Ok}
+use Rattle.std.proofs.Common.{◌≡◌, ◌≢◌, ◌⊎◌, ℕ, ◌+◌, ◌*◌, Bool, true, false, List, [], ◌++◌, length, map, sym, ◌∙◌, ap, subst, refl, arith, inl, inr}
+use Rattle.std.proofs.lemmas.List.{append-nil}
+use Rattle.std.specs.Prelude.{Option, Some, None, IfSome}
 use Rattle.std.specs.Option.{option_map, is_some}
-use Rattle.model_disk.specs.Disk.{Image, DiskState, IsDisk, Stays, Only}
+use Rattle.model_disk.specs.Disk.{DiskState, IsDisk, Stays, Only}
 use Rattle.model_disk.proofs.Words.{stays_same}
 use Rattle.model_system.specs.System.{System}
-use Rattle.model_machine.specs.declared.entry.Entry.{Entry}
-use Rattle.model_machine.specs.Machine.{LastingState, start_of}
-use Rattle.model_machine.specs.History.{moment_after, now_of}
-use Rattle.model_image.specs.Recovered.{Recovers}
+use Rattle.system_types.specs.Valid.{IsSystem}
+use Rattle.checkpointing.proofs.Counted.{up_to_more}
+use Rattle.counter_law.specs.Measures.{call_raises, measure}
 use Rattle.model_session.specs.Blocks.{Block}
-use Rattle.model_session.specs.Lives.{LifeState, LastLife, AreLegal, HasAnswered, kept_life, with_life}
-use Rattle.model_session.specs.Standing.{Setting, SessionState, Standing, Outage, Stop, AreStops, AreAllLives, LastAnswered, no_life, unbegun, is_stopped}
-use Rattle.model_session.specs.Standing.Standing.{Up as StandsUp, Down as StandsDown}
-use Rattle.model_session.specs.Session.{Begins, Opens as OpensLife, FailsToOpen}
+use Rattle.model_session.specs.Lives.{AreLegal}
+use Rattle.model_session.specs.Standing.{SessionState, Standing, Stop, AreStops, LastAnswered, no_life, unbegun, is_stopped, last_life}
+use Rattle.model_session.specs.Standing.Standing.{Down as StandsDown}
+use Rattle.model_session.specs.Session.{Begins, AreServed, IsBegun, Opens as OpensLife, FailsToOpen}
 use Rattle.opening_answers.specs.Opening.{WroteNothing}
 use Rattle.control_life.specs.declared.how.How.TheVariants.{Found}
 use Rattle.control_life.specs.Opened.{Refuses}
@@ -25,27 +24,27 @@ use Rattle.tm_edge.specs.Lines.{unread, lines_of}
 use Rattle.sysdef_text.specs.Ends.{definition_lines}
 use Rattle.session_lives.specs.declared.called.Opening.{Opening}
 use Rattle.session_lives.specs.declared.called.Opening.TheVariants.{Opened, Broke, Refused, Memory as NoMemory, Spent as SpentCounter}
-use Rattle.session_lives.specs.declared.place.Idle.{Idle}
 use Rattle.session_lives.specs.declared.place.Place.{Place}
 use Rattle.session_lives.specs.declared.place.Place.TheVariants.{Up, Down}
 use Rattle.session_lives.specs.declared.place.Kept.{Kept}
 use Rattle.session_lives.specs.declared.place.Session.{Session}
-use Rattle.session_lives.specs.Running.{life_of, last_of, kept_of, outage_of, standing_of, session_at, session_of, setting_of, error_of, IsDownSound, IsSound, Leads, LeadsBy}
+use Rattle.session_lives.specs.Running.{life_of, last_of, kept_of, outage_of, standing_of, session_at, session_of, setting_of, error_of, IsDownSound, IsSound, IsSoundAt, Leads, LeadsBy}
 use Rattle.session_lives.specs.Openings.{HasGone, HasOpened, StaysIdle}
-use Rattle.session_lives.specs.Closing.{listed, IsClosedDown, IsClosedAt, IsClosed, Remains, LeavesSo}
+use Rattle.session_lives.specs.Closing.{HasSectors, listed, IsClosedDown, IsClosedAt, IsClosed, Remains, LeavesSo}
 use Rattle.session_lives.proofs.Ends.{same_state, outage_with}
 use Rattle.session_lives.proofs.Valid.{opened_valid}
 use Rattle.session_lives.proofs.Restarted.{opens_gone, fails_gone, gone_sound}
 use Rattle.tm_session.specs.declared.outcome.Ended.{Ended}
 use Rattle.tm_session.specs.declared.outcome.Ended.TheVariants.{Done, Words, BadLine, BadCross, Down as DownAtEnd, Read, Write, Image as BadImage, Memory, Limit, Spent}
-use Rattle.tm_session.specs.Source.{judged, definition_text}
-use Rattle.tm_session.specs.Outcome.{ending_of, HasWritten, left_by, UndoneAs, IsBy}
-use Rattle.tm_session.specs.Sources.{HasRead, HasReadTold}
+use Rattle.tm_session.specs.Source.{definition_text}
+use Rattle.tm_session.specs.Outcome.{ending_of, HasWritten, is_undone, left_if, left_by, UndoneAs, IsBy}
+use Rattle.tm_session.specs.Sources.{HasReadTold}
 use Rattle.tm_session.specs.Outcome.Ending.{NotBegun}
-use Rattle.tm_session.specs.Driving.{HasDriven, ReadsTold}
+use Rattle.tm_session.specs.Driving.{HasDriven}
 use Rattle.tm_session.specs.Opening.{ReadsDefinition}
 use Rattle.tm_session.specs.Opened.{IsRead, HasBegun, IsNothing, refusal, down_at_end, by_standing}
-use Rattle.tm_session.specs.Headline.{HasLived, HasSession, IsOpenedBy, IsOpenedDisk, IsSession, Defines, IsUnbegun, IsNeverOpened, IsRefusal, ToldNothing}
+use Rattle.tm_session.specs.Headline.{HasLived, IsOpenedBy, IsOpenedDisk, IsFoundDisk, AskNoColdStart, IsSession, Defines, IsUnbegun, IsRefusal}
+use Rattle.tm_session.proofs.First.{IsFound, opened_found}
 use Rattle.tm_session.proofs.Opened.{whole_session}
 
 -- ---- how a session begins
@@ -77,6 +76,9 @@ module _ {D : Type 0} (state : D → DiskState) (is_disk : (disk : D) → IsDisk
       left = subst (λ d. (state d).may_leave image) b.disk_is left;
       alike = λ answer is. is;
     });
+    valid = b.valid;
+    counts = λ high first image left.
+        up_to_more system high (high + call_raises * measure (session_at (Down b.idle) b.kept)) image (omega arith) (first.images image (subst (λ d. (state d).may_leave image) b.disk_is left));
   }
 
   first_outage : outage_of b.idle ≡ no_life
@@ -235,13 +237,35 @@ by_is false (Limit n) standing not is = tt
 by_is false Spent standing not is = tt
 
 module _ {D : Type 0} (state : D → DiskState) (system : System) (source : List ℕ) (handed : D) where
+  valid_at : (place : Place D) (kept : Kept) → IsSoundAt state system source handed place kept → IsSystem system
+  valid_at (Up control) kept sound = sound.valid
+  valid_at (Down idle) kept sound = sound.valid
+
+  left_either : (undone : Bool) (others : List Block) (mid last : SessionState) → left_if undone system others mid last → (last ≡ mid) ⊎ IsBegun system others mid last
+  left_either true others mid last left = inr left
+  left_either false others mid last left = inl left
+
+  -- the disk that the first life began with
+  found_disk : (blocks others : List Block) (first mid last : SessionState) (text : List ℕ) → Begins (setting_of state system source handed) first
+      → AreServed (setting_of state system source handed) blocks first mid text → (last ≡ mid) ⊎ IsBegun system others mid last → AskNoColdStart system blocks → is_some (last_life last.standing) ≡ true
+      → HasSectors system (state handed) → IsFoundDisk system source (state handed)
+  found_disk blocks others first mid last text begins served left warm some enough = record {
+    size = enough;
+    right_text = λ tells. (opened_found (setting_of state system source handed) tells blocks others first mid last text begins served left warm some).right;
+    states = λ tells image there.
+        let f : IsFound (setting_of state system source handed) = opened_found (setting_of state system source handed) tells blocks others first mid last text begins served left warm some in
+        record { state = f.opening; found = f.begins image there };
+  }
+
   lived_by : (told mid : Option (List ℕ)) (held : List ℕ) (left w w' : Option (List ℕ)) (texts : List (List ℕ)) (disk : D) (first last : SessionState) (stopped : Bool) (ended : Ended)
-      (lives : List Life) (stops : List Stop) → ReadsDefinition told texts mid → Begins (setting_of state system source handed) first → IsOpenedBy first.standing system source (state handed)
+      (lives : List Life) (stops : List Stop) → IsSystem system → ReadsDefinition told texts mid → Begins (setting_of state system source handed) first → IsOpenedBy first.standing system source (state handed)
       → HasDriven (setting_of state system source handed) (length texts) mid (unread held left) w w' first last ended → is_stopped last.standing ≡ stopped
       → Remains state system source handed disk last lives stops → HasLived state system source told left w w' handed disk (by_standing stopped ended) (map life_of lives) stops
-  lived_by told mid held left w w' texts disk first last stopped ended lives stops definition begins opened driven is rest = record {
+  lived_by told mid held left w w' texts disk first last stopped ended lives stops valid definition begins opened driven is rest = record {
     blocks = driven.blocks;
     others = driven.others;
+    valid = valid;
+    few = driven.few;
     first = first;
     mid = driven.stops.mid;
     last = last;
@@ -250,9 +274,12 @@ module _ {D : Type 0} (state : D → DiskState) (system : System) (source : List
     begins = begins;
     opened = opened;
     enough = rest.enough;
+    found = λ some warm.
+        found_disk driven.blocks driven.others first driven.stops.mid last driven.stops.text begins driven.stops.served
+        (left_either (is_undone ended) driven.others driven.stops.mid last driven.stops.unprinted) warm some (rest.enough some);
     session = driven.stops.served;
     unprinted = by_stopped (λ s. left_by s system driven.others driven.stops.mid last) stopped ended driven.stops.unprinted (λ one. one);
-    undone = by_stopped (λ s. UndoneAs s (setting_of state system source handed) last) stopped ended driven.stops.undone (λ one. tt);
+    undone = by_stopped (λ s. UndoneAs s driven.others (setting_of state system source handed) last) stopped ended driven.stops.undone (λ one. tt);
     read = by_stopped (λ s. HasReadTold told left driven.blocks driven.others s) stopped ended (whole_session ended told mid held left texts driven.blocks driven.others definition driven.read)
         (read_down told left driven.blocks driven.others);
     written = by_stopped (λ s. HasWritten w w' driven.stops.text s) stopped ended driven.stops.printed (λ one. one);
@@ -279,7 +306,7 @@ module _ {D : Type 0} (state : D → DiskState) (system : System) (source : List
         text = source;
         text_is = text_is;
         lived = subst (λ s. HasLived state system source told left w w' handed disk s (map life_of lives) stops) (sym at)
-            (lived_by told mid held left w w' definition.texts disk (session_of a) (session_of b) (is_stopped (standing_of b.place)) ended lives stops definition.read begins opened
+            (lived_by told mid held left w w' definition.texts disk (session_of a) (session_of b) (is_stopped (standing_of b.place)) ended lives stops (valid_at a.place a.kept sound) definition.read begins opened
             (subst (λ n. HasDriven (setting_of state system source handed) n mid (unread held left) w w' (session_of a) (session_of b) ended) (sym definition.counted) led.goes) refl
             (over system source handed led.sound));
       })

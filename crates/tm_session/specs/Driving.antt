@@ -31,7 +31,7 @@ pub record Stops (setting : Setting) (ended : Ended) (blocks others : List Block
   pub text : List ℕ
   pub served : AreServed setting blocks old mid text
   pub unprinted : left_by ended setting.system others mid new
-  pub undone : UndoneAs ended setting new
+  pub undone : UndoneAs ended others setting new
   pub printed : HasWritten written written' text ended
 
 -- serving this block failed: its text was not written whole, or it could not be served
@@ -180,11 +180,13 @@ ReadSoFar before count (Some bytes) (Some rest) pending blocks = ReadsBlocks bef
 ReadSoFar before count (Some bytes) None pending blocks = ⊥
 ReadSoFar before count None told pending blocks = told ≡ None
 
+-- Each line that was read makes one block at most: those that were served, and the one that is kept.
 pub record SoFar (setting : Setting) (before count : ℕ) (told told' : Option (List ℕ)) (pending : Option Block) (written written' : Option (List ℕ)) (old new : SessionState) : Type 0 where
   pub blocks : List Block
   pub serves : Serves setting blocks written written' old new
   pub read : ReadSoFar before count told told' pending blocks
   pub shut : AreClosed pending blocks
+  pub few : before + length blocks + length (kept_blocks pending) ≤ count
 
 -- What was read of the bytes of a session, before which so many lines stood; these bytes lie before the
 -- reader then.
@@ -202,11 +204,12 @@ ReadsTold before (Some bytes) (Some left) blocks others ended = ReadsSession bef
 ReadsTold before (Some bytes) None blocks others ended = ⊥
 ReadsTold before None left blocks others ended = left ≡ None
 
--- Some blocks were served one after another, and then the session ended. That the system is down is told later.
+-- Some blocks were served one after another, a million at most, and then the session ended. That the system is down is told later.
 pub record HasDriven (setting : Setting) (before : ℕ) (told told' written written' : Option (List ℕ)) (old new : SessionState) (ended : Ended) : Type 0 where
   pub blocks : List Block
   pub others : List Block
   pub begun : ending_of ended ≢ NotBegun
   pub not_down : ended ≢ Down
+  pub few : length blocks ≤ 1000000
   pub stops : Stops setting ended blocks others written written' old new
   pub read : ReadsTold before told told' blocks others ended

@@ -1,9 +1,14 @@
 -- What a whole session comes to.
-use Rattle.std.specs.Prelude.{◌≡◌, ◌≢◌, ◌⊎◌, ℕ, true, Option, IfSome, Ok, Err, List, [], map}
+use Rattle.std.specs.Prelude.{◌≡◌, ◌≢◌, ◌⊎◌, ℕ, ◌≤◌, true, Option, IfSome, Ok, Err, List, [], length, map, IsTrue}
 use Rattle.std.specs.Option.{is_some}
+use Rattle.std.specs.List.{AllByRecursion}
 use Rattle.model_disk.specs.Disk.{Image, DiskState}
 use Rattle.model_system.specs.System.{System}
+use Rattle.system_types.specs.Valid.{IsSystem}
+use Rattle.model_machine.specs.Machine.{LastingState}
+use Rattle.model_session.specs.declared.asked.Asked.TheVariants.{ColdStart}
 use Rattle.model_session.specs.Blocks.{Block}
+use Rattle.model_session.specs.Lines.{asked_of}
 use Rattle.model_session.specs.Lives.{LifeState, AreLegal}
 use Rattle.model_session.specs.Standing.{SessionState, Standing, Stop, AreAllLives, AreStops, last_life}
 use Rattle.model_session.specs.Standing.Standing.{Up, Down}
@@ -23,7 +28,7 @@ use Rattle.tm_session.specs.Opening.{IsCutShort}
 use Rattle.tm_session.specs.Outcome.{ending_of, HasWritten, left_by, UndoneAs, IsBy}
 use Rattle.tm_session.specs.Sources.{HasReadTold}
 use Rattle.tm_session.specs.Outcome.Ending.{NotBegun}
-use Rattle.session_lives.specs.Running.{life_of, setting_of, Holds, error_of, IsValidDisk as IsValid, IsOpenedDisk as IsOpened}
+use Rattle.session_lives.specs.Running.{life_of, setting_of, Holds, error_of, IsFoundAs, IsOfDefinition, IsValidDisk as IsValid, IsOpenedDisk as IsOpened}
 use Rattle.session_lives.specs.Closing.{HasSectors}
 
 -- the disk has sectors enough, and could be opened where it tells its contents
@@ -35,16 +40,35 @@ abbrev pub IsOpenedBy : Standing → System → List ℕ → DiskState → Type 
 IsOpenedBy (Up life) system text disk = IsOpenedDisk system text disk
 IsOpenedBy (Down outage) system text disk = Unit {0}
 
--- A session of the system over the disk that was handed in. It begins with an opening of the disk, which it could be opened for where
--- a life began so; and once a life has begun it has sectors enough. Blocks of lines were
+-- An image that recovers as this one does recovers to a state.
+pub record HasState (system : System) (image : Image) : Type 0 where
+  pub state : LastingState
+  pub found : IsFoundAs system image state
+
+-- A disk that the first life began with, in whichever opening: it has sectors enough; and where it tells its contents, each image that
+-- a crash might have left of it is of the definition's text, and has a state.
+pub record IsFoundDisk (system : System) (text : List ℕ) (disk : DiskState) : Type 0 where
+  pub size : HasSectors system disk
+  pub right_text : IsTrue disk.tells → IsOfDefinition system text disk
+  pub states : IsTrue disk.tells → (image : Image) → disk.may_leave image → HasState system image
+
+-- none of these blocks asks for a cold start
+abbrev pub AskNoColdStart : System → List Block → Type 0
+AskNoColdStart system blocks = AllByRecursion (λ (block : Block). asked_of system block ≢ ColdStart) blocks
+
+-- A session of the system over the disk that was handed in. It begins with an opening of the disk, which could be opened where
+-- a life began so. Once a life has begun the disk has sectors enough, and where no cold start was asked for, the first life began with
+-- what the disk held, whatever openings had failed before. Blocks of lines were
 -- served, each the source's next one, and what is printed for them, and nothing else, was written. They led through the lives
 -- and the stops that are told, and each image that a crash of the disk may leave as it is handed back recovers to what the
 -- session's standing allows: the state after a front of the last life's lasting steps that has all that were answered, and
 -- while the system is up after all of them. Where a block could not be served since a counter is spent, or since the disk can't be
--- opened, that has its cause.
+-- opened, that has its cause. No more than a million blocks were served.
 pub record HasLived {D : Type 0} (state : D → DiskState) (system : System) (source : List ℕ) (told told' old new : Option (List ℕ)) (handed disk : D) (ended : Ended) (lives : List LifeState) (stops : List Stop) : Type 0 where
   pub blocks : List Block
   pub others : List Block
+  pub valid : IsSystem system
+  pub few : length blocks ≤ 1000000
   pub first : SessionState
   pub mid : SessionState
   pub last : SessionState
@@ -53,9 +77,10 @@ pub record HasLived {D : Type 0} (state : D → DiskState) (system : System) (so
   pub begins : Begins (setting_of state system source handed) first
   pub opened : IsOpenedBy first.standing system source (state handed)
   pub enough : is_some (last_life last.standing) ≡ true → HasSectors system (state handed)
+  pub found : is_some (last_life last.standing) ≡ true → AskNoColdStart system blocks → IsFoundDisk system source (state handed)
   pub session : AreServed (setting_of state system source handed) blocks first mid text
   pub unprinted : left_by ended system others mid last
-  pub undone : UndoneAs ended (setting_of state system source handed) last
+  pub undone : UndoneAs ended others (setting_of state system source handed) last
   pub read : HasReadTold told told' blocks others ended
   pub written : HasWritten old new text ended
   pub lives_are : AreAllLives system last lives

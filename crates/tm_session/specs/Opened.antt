@@ -1,12 +1,13 @@
 -- A definition that was read, a session that has begun, and one that has ended.
-use Rattle.std.specs.Prelude.{◌≡◌, ℕ, ◌++◌, ◌<◌, Bool, true, false, List, [], ◌∷◌, length, map, Option, Some, None, IfSome}
+use Rattle.std.specs.Prelude.{◌≡◌, ℕ, Bool, true, false, List, [], length, Option, Some, None, IfSome}
 use Rattle.model_disk.specs.Disk.{DiskState}
 use Rattle.model_system.specs.System.{System}
+use Rattle.system_types.specs.Valid.{IsSystem}
 use Rattle.control_life.specs.declared.life.Life.{Life}
 use Rattle.session_lives.specs.declared.called.Opening.{Opening}
 use Rattle.session_lives.specs.declared.called.Opening.TheVariants.{Opened, Broke, Refused, Memory as NoMemory, Spent as SpentCounter}
 use Rattle.tm_session.specs.declared.outcome.Ended.{Ended}
-use Rattle.tm_session.specs.declared.outcome.Ended.TheVariants.{Done, Words, BadLine, BadCross, Down as DownAtEnd, Read, Write, Image, Memory, Limit, Spent}
+use Rattle.tm_session.specs.declared.outcome.Ended.TheVariants.{Done, Down as DownAtEnd, Image, Memory, Spent}
 use Rattle.session_lives.specs.declared.place.Idle.{Idle}
 use Rattle.session_lives.specs.declared.place.Kept.{Kept}
 use Rattle.session_lives.specs.declared.place.Session.{Session}
@@ -44,6 +45,7 @@ pub record HasBegun {D : Type 0} (state : D → DiskState) (system : System) (te
   pub kept : Kept
   pub lives : kept.lives.items ≡ []
   pub stops : kept.stops.items ≡ []
+  pub valid : IsSystem system
   pub gone : HasGone state idle kept false session opening
   pub ends : ended ≡ refusal opening
 

@@ -1,5 +1,5 @@
 -- The definition, as it is read before a session.
-use Rattle.std.specs.Prelude.{◌≡◌, ℕ, ◌<◌, ◌≤◌, ◌⊎◌, Bool, Option, Some, None, IfSome, Result, Ok, Err, List, [], ◌++◌, length}
+use Rattle.std.specs.Prelude.{◌≡◌, ℕ, ◌<◌, ◌⊎◌, Bool, Option, Some, None, IfSome, Result, Ok, Err, List, [], ◌++◌, length}
 use Rattle.model_system.specs.System.{System}
 use Rattle.tm_edge.specs.Lines.{CutLine, HasServed, IsTooLong, lines_of}
 use Rattle.tm_session.specs.declared.outcome.Ended.{Ended}

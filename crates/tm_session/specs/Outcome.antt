@@ -1,8 +1,9 @@
 -- How a session ends, and what it has done.
-use Rattle.std.specs.Prelude.{◌≡◌, ◌≢◌, ℕ, ◌<◌, ◌≤◌, ◌⊎◌, Bool, true, false, Option, Some, None, List, [], ◌++◌, map, length}
+use Rattle.std.specs.Prelude.{◌≡◌, ◌≢◌, ℕ, ◌<◌, ◌⊎◌, Bool, true, false, Option, Some, None, List, [], ◌∷◌, ◌++◌, map}
 use Rattle.std.specs.Io.KnownBytes.{append_known, IsAtEnd}
 use Rattle.model_system.specs.System.{System}
 use Rattle.model_session.specs.Blocks.{Block, blocks_of, closed}
+use Rattle.model_session.specs.Lines.{asked_of}
 use Rattle.model_session.specs.Standing.{Setting, SessionState, Standing, is_stopped}
 use Rattle.model_session.specs.Session.{IsBegun}
 use Rattle.session_lives.specs.declared.called.Undone.TheVariants.{Spent as SpentCounter, Image as BadImage}
@@ -98,11 +99,13 @@ left_if false system others old new = new ≡ old
 abbrev pub left_by : Ended → System → List Block → SessionState → SessionState → Type 0
 left_by ended system others old new = left_if (is_undone ended) system others old new
 
--- Why a block could not be served: a counter is spent, or no life has begun and the disk can't be opened.
-abbrev pub UndoneAs : Ended → Setting → SessionState → Type 0
-UndoneAs Spent setting last = UndoneBy SpentCounter setting last
-UndoneAs (Image refusal) setting last = UndoneBy (BadImage refusal) setting last
-UndoneAs _ setting last = Unit {0}
+-- Why the first of these blocks could not be served: a counter is spent, or no life has begun and the disk can't be opened.
+abbrev pub UndoneAs : Ended → List Block → Setting → SessionState → Type 0
+UndoneAs Spent (block ∷ others) setting last = UndoneBy SpentCounter (asked_of setting.system block) setting last
+UndoneAs Spent [] setting last = ⊥
+UndoneAs (Image refusal) (block ∷ others) setting last = UndoneBy (BadImage refusal) (asked_of setting.system block) setting last
+UndoneAs (Image refusal) [] setting last = ⊥
+UndoneAs _ others setting last = Unit {0}
 
 -- whether the system is down by a stop, at the end of the source
 abbrev pub IsBy : Ended → Standing → Type 0

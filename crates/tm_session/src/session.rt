@@ -115,6 +115,7 @@ fn begin<D: Disk>(
     ensures begun { HasBegun D.state system text disk result.0 result.1 }
     ensures ready { IsReady D.state result.0 }
 {
+    let _ = system.logs();
     let idle = Idle {
         disk,
         system,

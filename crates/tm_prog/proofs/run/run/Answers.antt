@@ -1,7 +1,11 @@
 -- there was no memory for the last line; or the words were looked at, and a session was served by them
-use Rattle.std.proofs.Common.{rules, map}
+use Rattle.std.proofs.Common.{rules, map, sym, subst}
 use Rattle.std.specs.Prelude.{string_bytes}
-use Rattle.tm_prog.proofs.Causes.{complete_run}
+use Rattle.tm_session.specs.declared.outcome.Ended.{Ended}
+use Rattle.tm_prog.specs.Words.{workload_of}
+use Rattle.tm_prog.specs.Workload.{told_by}
+use Rattle.tm_prog.specs.Status.{IsNear}
+use Rattle.tm_prog.proofs.Causes.{complete_run, near_run}
 use Rattle.tm_prog.proofs.Runs.{no_room}
 use Rattle.tm_prog.proofs.run.run.Goals as goal
 
@@ -17,3 +21,14 @@ returns-clause-complete g c = λ valid reads writes within.
     (g.S.Source.left c.args.source.now) (g.S.Source.left c.serve-outcome.new.source) (g.K.Sink.written c.args.sink.now) (g.K.Sink.written c.print_last-2.new.sink) c.serve-outcome.result.status
     (g.S.Source.faults c.args.source.now) (g.S.Source.faults c.serve-outcome.new.source) (g.K.Sink.faults c.args.sink.now) (g.K.Sink.faults c.print_last-2.new.sink)
     (search rules) valid reads writes within
+
+pub returns-then-is_err-clause-near : goal.returns-then-is_err-clause-near
+returns-then-is_err-clause-near g c =
+    subst (λ (s : Ended). IsNear (told_by (workload_of (map (λ word. string_bytes word) c.args.words.now)) (g.S.Source.left c.args.source.now)) (g.D.Disk.state c.args.disk) s) (sym c.unbegun.ensures.status) tt
+
+pub returns-clause-near : goal.returns-clause-near
+returns-clause-near g c =
+    near_run g.D.Disk.state g.met.D.Disk.is_disk c.args.disk c.serve-outcome.result.disk c.serve-outcome.result.lives c.serve-outcome.result.stops (map (λ word. string_bytes word) c.args.words.now)
+    (g.S.Source.left c.args.source.now) (g.S.Source.left c.serve-outcome.new.source) (g.K.Sink.written c.args.sink.now) (g.K.Sink.written c.print_last-2.new.sink) c.serve-outcome.result.status
+    (g.S.Source.faults c.args.source.now) (g.S.Source.faults c.serve-outcome.new.source) (g.K.Sink.faults c.args.sink.now) (g.K.Sink.faults c.print_last-2.new.sink)
+    (search rules)
