@@ -2,6 +2,7 @@ pub mod Takes
 pub mod FieldLaws
 pub mod LayoutLaws
 pub mod Loop
+pub mod Kept
 pub mod Laws
 pub mod PutTexts
 pub mod Lengths

@@ -1,5 +1,6 @@
 -- A record that is appended, with its length put in front.
-use Rattle.std.proofs.Common.{◌≡◌, ℕ, ◌-◌, ◌<◌, ◌≤◌, ◌^◌, Bool, List, [], ◌∷◌, ◌++◌, length, ap, arith, Some, None}
+use Rattle.std.proofs.Common.{◌≡◌, ℕ, ◌-◌, ◌<◌, ◌≤◌, ◌^◌, Bool, List, [], ◌∷◌, ◌++◌, length, ap, sym, subst, arith, Some, None, Result, Ok, Err}
+use Rattle.std.specs.Result.{OnOk}
 use Rattle.std.specs.Prelude.{Option}
 use Rattle.model_conversation.specs.declared.conversation.Conversation.{Conversation}
 use Rattle.std.proofs.lemmas.List.{length-append}
@@ -13,6 +14,13 @@ use Rattle.log_records.proofs.Lengths.{eight, one, text_length}
 pub is_short_from : (base before out : List ℕ) (r : Record) (start : ℕ) → before ≡ base ++ 0 ∷ 0 ∷ [] → out ≡ before ++ content r → start ≡ length base → IsRecord r → length out - start < 2 ^ 16
 is_short_from base before out r start room is from is_record =
     omega (arith, is_record.short, from, ap (length {A = ℕ}) is, ap (length {A = ℕ}) room, length-append before (content r), length-append base (0 ∷ 0 ∷ []))
+
+pub short_from : {T E : Type 0} (written : Result T E) (base before out : List ℕ) (r : Record) (start : ℕ) → before ≡ base ++ 0 ∷ 0 ∷ [] → start ≡ length base → OnOk written (out ≡ before ++ content r) → OnOk written (IsRecord r) → OnOk written (length out - start < 2 ^ 16)
+short_from (Ok x) base before out r start room from is is_record = is_short_from base before out r start room is from is_record
+short_from (Err e) base before out r start room from is is_record = tt
+
+pub on_same : {T E : Type 0} (P : Type 0) (result written : Result T E) → result ≡ written → OnOk written P → OnOk result P
+on_same {T} {E} P result written same p = subst (λ (r : Result T E). OnOk r P) (sym same) p
 
 -- a sync point is short where its pad is
 pub stays_short : (unit : ℕ) → IsShort (SyncPoint unit Stays)

@@ -1,5 +1,5 @@
 //! Records, spelled from borrowed parts.
-ghost use Rattle.std.specs.Prelude.{◌≡◌, ◌<◌, ◌≤◌, ◌^◌, ◌+◌, ◌-◌, ◌++◌, length, take, drop, OnOk};
+ghost use Rattle.std.specs.Prelude.{◌≡◌, ◌<◌, ◌≤◌, ◌^◌, ◌+◌, ◌-◌, ◌++◌, length, take, drop, OnOk, OnErr};
 ghost use Rattle.log_records.specs.declared.record.Record.TheVariants.{Input, Reply, Discarded, Completed, Acknowledged, SyncPoint, Checkpoint, Terminal, Code, Change};
 ghost use Rattle.log_records.specs.Spelling.{number2, spelling, IsCount, IsAbend, IsPadChange, HasRoom, IsShort, IsRecord};
 
@@ -10,19 +10,27 @@ use crate::encoding::{
 use model_conversation::{Conversation, PadChange};
 use tm_types::{AbendCode, Memory, Name, Segments};
 
-// The record that begins at `start` gets its length, for which it has two bytes.
+// The record that begins at `start` gets its length, for which it has two bytes; where there was no memory to write it
+// whole, what was written of it goes.
 #[tactic(auto, unfolding(crate::specs::Spelling::number2))]
-fn set_length(out: &mut Vec<u8>, start: usize)
-    requires room { start + 2 ≤ length out.old.items }
-    requires short { length out.old.items - start < 2 ^ 16 }
-    ensures { out.new.items ≡ take start out.old.items ++ number2 (length out.old.items - start) ++ drop (start + 2) out.old.items }
+fn end_record(out: &mut Vec<u8>, start: usize, written: Result<(), Memory>) -> Result<(), Memory>
+    requires room { OnOk written (start + 2 ≤ length out.old.items) }
+    requires short { OnOk written (length out.old.items - start < 2 ^ 16) }
+    ensures same { result ≡ written }
+    ensures whole { OnOk written (out.new.items ≡ take start out.old.items ++ number2 (length out.old.items - start) ++ drop (start + 2) out.old.items) }
+    ensures gone { OnErr written (out.new.items ≡ take start out.old.items) }
 {
-    let length = (out.len() - start) as u16;
-    out[start..start + 2].copy_from_slice(&length.to_be_bytes());
+    if written.is_ok() {
+        let length = (out.len() - start) as u16;
+        out[start..start + 2].copy_from_slice(&length.to_be_bytes());
+    } else {
+        out.truncate(start);
+    }
+    written
 }
 
 /// Appends the spelling of an input as it is kept, with its number, where the unit is 0; else of a message that the unit
-/// switched, with the number 0. A message has 1 to 32 segments. After `Memory` a part of it may be appended.
+/// switched, with the number 0. A message has 1 to 32 segments. After `Memory` nothing of it is.
 pub fn append_input(
     out: &mut Vec<u8>,
     unit: u64,
@@ -36,15 +44,15 @@ pub fn append_input(
     requires { IsCount segments.now }
     ensures ok { OnOk result (out.new.items ≡ out.old.items ++ spelling (Input unit id origin.now code.now number conversation segments.now)) }
     ensures valid { OnOk result (IsRecord (Input unit id origin.now code.now number conversation segments.now)) }
+    ensures unwritten { OnErr result (out.new.items ≡ out.old.items) }
 {
     let start = out.len();
     out.extend_from_slice(&[0, 0])?;
-    put_input(out, unit, id, origin, code, number, conversation, segments)?;
-    set_length(out, start);
-    Ok(())
+    let written = put_input(out, unit, id, origin, code, number, conversation, segments);
+    end_record(out, start, written)
 }
 
-/// Appends the spelling of a reply, which has 1 to 32 segments. After `Memory` a part of it may be appended.
+/// Appends the spelling of a reply, which has 1 to 32 segments. After `Memory` nothing of it is.
 pub fn append_reply(
     out: &mut Vec<u8>,
     unit: u64,
@@ -55,16 +63,16 @@ pub fn append_reply(
     requires { IsCount segments.now }
     ensures ok { OnOk result (out.new.items ≡ out.old.items ++ spelling (Reply unit terminal.now number segments.now)) }
     ensures valid { OnOk result (IsRecord (Reply unit terminal.now number segments.now)) }
+    ensures unwritten { OnErr result (out.new.items ≡ out.old.items) }
 {
     let start = out.len();
     out.extend_from_slice(&[0, 0])?;
-    put_reply(out, unit, terminal, number, segments)?;
-    set_length(out, start);
-    Ok(())
+    let written = put_reply(out, unit, terminal, number, segments);
+    end_record(out, start, written)
 }
 
 /// Appends the spelling of a message's discarding after an abend from 1 to 4095, with the number of the reply that tells its
-/// origin so. After `Memory` a part of it may be appended.
+/// origin so. After `Memory` nothing of it is.
 pub fn append_discarded(
     out: &mut Vec<u8>,
     unit: u64,
@@ -75,54 +83,54 @@ pub fn append_discarded(
     requires { IsAbend abend.number }
     ensures ok { OnOk result (out.new.items ≡ out.old.items ++ spelling (Discarded unit id abend number)) }
     ensures valid { OnOk result (IsRecord (Discarded unit id abend number)) }
+    ensures unwritten { OnErr result (out.new.items ≡ out.old.items) }
 {
     let start = out.len();
     out.extend_from_slice(&[0, 0])?;
-    put_discarded(out, unit, id, abend, number)?;
-    set_length(out, start);
-    Ok(())
+    let written = put_discarded(out, unit, id, abend, number);
+    end_record(out, start, written)
 }
 
-/// Appends the spelling of a message's completion. After `Memory` a part of it may be appended.
+/// Appends the spelling of a message's completion. After `Memory` nothing of it is.
 pub fn append_completed(out: &mut Vec<u8>, unit: u64, id: u64) -> Result<(), Memory>
     ensures ok { OnOk result (out.new.items ≡ out.old.items ++ spelling (Completed unit id)) }
     ensures valid { OnOk result (IsRecord (Completed unit id)) }
+    ensures unwritten { OnErr result (out.new.items ≡ out.old.items) }
 {
     let start = out.len();
     out.extend_from_slice(&[0, 0])?;
-    put_completed(out, unit, id)?;
-    set_length(out, start);
-    Ok(())
+    let written = put_completed(out, unit, id);
+    end_record(out, start, written)
 }
 
-/// Appends the spelling of a reply's acknowledgement. After `Memory` a part of it may be appended.
+/// Appends the spelling of a reply's acknowledgement. After `Memory` nothing of it is.
 pub fn append_acknowledged(out: &mut Vec<u8>, terminal: &Name, number: u64) -> Result<(), Memory>
     ensures ok { OnOk result (out.new.items ≡ out.old.items ++ spelling (Acknowledged terminal.now number)) }
     ensures valid { OnOk result (IsRecord (Acknowledged terminal.now number)) }
+    ensures unwritten { OnErr result (out.new.items ≡ out.old.items) }
 {
     let start = out.len();
     out.extend_from_slice(&[0, 0])?;
-    put_acknowledged(out, terminal, number)?;
-    set_length(out, start);
-    Ok(())
+    let written = put_acknowledged(out, terminal, number);
+    end_record(out, start, written)
 }
 
-/// Appends the spelling of a sync point. A pad is so short that the record has at most 65,535 bytes. After `Memory` a part
-/// of it may be appended.
+/// Appends the spelling of a sync point. A pad is so short that the record has at most 65,535 bytes. After `Memory`
+/// nothing of it is.
 pub fn append_sync_point(out: &mut Vec<u8>, unit: u64, pad: &PadChange) -> Result<(), Memory>
     requires pad { IsPadChange pad.now }
     requires short { IsShort (SyncPoint unit pad.now) }
     ensures ok { OnOk result (out.new.items ≡ out.old.items ++ spelling (SyncPoint unit pad.now)) }
     ensures valid { OnOk result (IsRecord (SyncPoint unit pad.now)) }
+    ensures unwritten { OnErr result (out.new.items ≡ out.old.items) }
 {
     let start = out.len();
     out.extend_from_slice(&[0, 0])?;
-    put_sync_point(out, unit, pad)?;
-    set_length(out, start);
-    Ok(())
+    let written = put_sync_point(out, unit, pad);
+    end_record(out, start, written)
 }
 
-/// Appends the spelling of what a snapshot counts. After `Memory` a part of it may be appended.
+/// Appends the spelling of what a snapshot counts. After `Memory` nothing of it is.
 pub fn append_checkpoint(
     out: &mut Vec<u8>,
     checkpoint: u64,
@@ -132,16 +140,16 @@ pub fn append_checkpoint(
 ) -> Result<(), Memory>
     ensures ok { OnOk result (out.new.items ≡ out.old.items ++ spelling (Checkpoint checkpoint next_id next_unit lasting_steps)) }
     ensures valid { OnOk result (IsRecord (Checkpoint checkpoint next_id next_unit lasting_steps)) }
+    ensures unwritten { OnErr result (out.new.items ≡ out.old.items) }
 {
     let start = out.len();
     out.extend_from_slice(&[0, 0])?;
-    put_checkpoint(out, checkpoint, next_id, next_unit, lasting_steps)?;
-    set_length(out, start);
-    Ok(())
+    let written = put_checkpoint(out, checkpoint, next_id, next_unit, lasting_steps);
+    end_record(out, start, written)
 }
 
-/// Appends the spelling of a terminal of a snapshot. A pad has at most 65,000 bytes. After `Memory` a part of it may be
-/// appended.
+/// Appends the spelling of a terminal of a snapshot. A pad has at most 65,000 bytes. After `Memory` nothing of it
+/// is.
 pub fn append_terminal(
     out: &mut Vec<u8>,
     terminal: &Name,
@@ -153,22 +161,22 @@ pub fn append_terminal(
     requires pad { HasRoom conversation.now }
     ensures ok { OnOk result (out.new.items ≡ out.old.items ++ spelling (Terminal terminal.now last_input next_output stopped conversation.now)) }
     ensures valid { OnOk result (IsRecord (Terminal terminal.now last_input next_output stopped conversation.now)) }
+    ensures unwritten { OnErr result (out.new.items ≡ out.old.items) }
 {
     let start = out.len();
     out.extend_from_slice(&[0, 0])?;
-    put_terminal(
+    let written = put_terminal(
         out,
         terminal,
         last_input,
         next_output,
         stopped,
         conversation,
-    )?;
-    set_length(out, start);
-    Ok(())
+    );
+    end_record(out, start, written)
 }
 
-/// Appends the spelling of a transaction code of a snapshot. After `Memory` a part of it may be appended.
+/// Appends the spelling of a transaction code of a snapshot. After `Memory` nothing of it is.
 pub fn append_code(
     out: &mut Vec<u8>,
     code: &Name,
@@ -178,16 +186,16 @@ pub fn append_code(
 ) -> Result<(), Memory>
     ensures ok { OnOk result (out.new.items ≡ out.old.items ++ spelling (Code code.now stopped class priority)) }
     ensures valid { OnOk result (IsRecord (Code code.now stopped class priority)) }
+    ensures unwritten { OnErr result (out.new.items ≡ out.old.items) }
 {
     let start = out.len();
     out.extend_from_slice(&[0, 0])?;
-    put_code(out, code, stopped, class, priority)?;
-    set_length(out, start);
-    Ok(())
+    let written = put_code(out, code, stopped, class, priority);
+    end_record(out, start, written)
 }
 
-/// Appends the spelling of a slot's change. Each image has at most 4,000 bytes; an empty one is no record. After `Memory` a
-/// part of it may be appended.
+/// Appends the spelling of a slot's change. Each image has at most 4,000 bytes; an empty one is no record. After `Memory`
+/// nothing of it is.
 pub fn append_change(
     out: &mut Vec<u8>,
     unit: u64,
@@ -200,10 +208,10 @@ pub fn append_change(
     requires after { length after.now ≤ 4000 }
     ensures ok { OnOk result (out.new.items ≡ out.old.items ++ spelling (Change unit database slot before.now after.now)) }
     ensures valid { OnOk result (IsRecord (Change unit database slot before.now after.now)) }
+    ensures unwritten { OnErr result (out.new.items ≡ out.old.items) }
 {
     let start = out.len();
     out.extend_from_slice(&[0, 0])?;
-    put_change(out, unit, database, slot, before, after)?;
-    set_length(out, start);
-    Ok(())
+    let written = put_change(out, unit, database, slot, before, after);
+    end_record(out, start, written)
 }

@@ -1,5 +1,5 @@
 //! Records, spelled.
-ghost use Rattle.std.specs.Prelude.{◌≡◌, ◌<◌, ◌≤◌, ◌^◌, ◌++◌, ◌∷◌, [], length, OnOk, OnErr};
+ghost use Rattle.std.specs.Prelude.{◌≡◌, ◌<◌, ◌≤◌, ◌^◌, ◌++◌, ◌∷◌, [], length, take, OnOk, OnErr};
 ghost use Rattle.log_records.specs.declared.record.Record.TheVariants.{Input, Reply, Discarded, Completed, Acknowledged, SyncPoint, Checkpoint, Terminal, Code, Change};
 ghost use Rattle.std.specs.List.{AllByRecursion, flat_map};
 ghost use Rattle.tm_types.specs.Name.{IsName};
@@ -13,20 +13,23 @@ use tm_types::{AbendCode, Memory, Name, Segments};
 
 #[tactic(auto, unfolding(crate::specs::Spelling::number2))]
 fn put_number2(out: &mut Vec<u8>, number: u16) -> Result<(), Memory>
-    ensures { OnOk result (out.new.items ≡ out.old.items ++ number2 number) }
+    ensures ok { OnOk result (out.new.items ≡ out.old.items ++ number2 number) }
+    ensures kept { OnErr result (take (length out.old.items) out.new.items ≡ out.old.items) }
 {
     out.extend_from_slice(&number.to_be_bytes())
 }
 
 #[tactic(auto, unfolding(crate::specs::Spelling::number8))]
 fn put_number8(out: &mut Vec<u8>, number: u64) -> Result<(), Memory>
-    ensures { OnOk result (out.new.items ≡ out.old.items ++ number8 number) }
+    ensures ok { OnOk result (out.new.items ≡ out.old.items ++ number8 number) }
+    ensures kept { OnErr result (take (length out.old.items) out.new.items ≡ out.old.items) }
 {
     out.extend_from_slice(&number.to_be_bytes())
 }
 
 fn put_flag(out: &mut Vec<u8>, is_set: bool) -> Result<(), Memory>
-    ensures { OnOk result (out.new.items ≡ out.old.items ++ flag is_set) }
+    ensures ok { OnOk result (out.new.items ≡ out.old.items ++ flag is_set) }
+    ensures kept { OnErr result (take (length out.old.items) out.new.items ≡ out.old.items) }
 {
     out.push(if is_set { 1 } else { 0 })?;
     Ok(())
@@ -35,6 +38,7 @@ fn put_flag(out: &mut Vec<u8>, is_set: bool) -> Result<(), Memory>
 fn put_name(out: &mut Vec<u8>, value: &Name) -> Result<(), Memory>
     ensures ok { OnOk result (out.new.items ≡ out.old.items ++ name value.now) }
     ensures valid { OnOk result (IsName value.now) }
+    ensures kept { OnErr result (take (length out.old.items) out.new.items ≡ out.old.items) }
 {
     let bytes = value.as_bytes();
     out.push(bytes.len() as u8)?;
@@ -42,7 +46,8 @@ fn put_name(out: &mut Vec<u8>, value: &Name) -> Result<(), Memory>
 }
 
 fn put_ids(out: &mut Vec<u8>, unit: u64, id: u64) -> Result<(), Memory>
-    ensures { OnOk result (out.new.items ≡ out.old.items ++ (number8 unit ++ number8 id)) }
+    ensures ok { OnOk result (out.new.items ≡ out.old.items ++ (number8 unit ++ number8 id)) }
+    ensures kept { OnErr result (take (length out.old.items) out.new.items ≡ out.old.items) }
 {
     put_number8(out, unit)?;
     put_number8(out, id)
@@ -52,6 +57,7 @@ fn put_names(out: &mut Vec<u8>, origin: &Name, code: &Name) -> Result<(), Memory
     ensures ok { OnOk result (out.new.items ≡ out.old.items ++ (name origin.now ++ name code.now)) }
     ensures origin_valid { OnOk result (IsName origin.now) }
     ensures code_valid { OnOk result (IsName code.now) }
+    ensures kept { OnErr result (take (length out.old.items) out.new.items ≡ out.old.items) }
 {
     put_name(out, origin)?;
     put_name(out, code)
@@ -59,7 +65,8 @@ fn put_names(out: &mut Vec<u8>, origin: &Name, code: &Name) -> Result<(), Memory
 
 fn put_text(out: &mut Vec<u8>, bytes: &[u8]) -> Result<(), Memory>
     requires { length bytes.now < 2 ^ 16 }
-    ensures { OnOk result (out.new.items ≡ out.old.items ++ text bytes.now) }
+    ensures ok { OnOk result (out.new.items ≡ out.old.items ++ text bytes.now) }
+    ensures kept { OnErr result (take (length out.old.items) out.new.items ≡ out.old.items) }
 {
     put_number2(out, bytes.len() as u16)?;
     out.extend_from_slice(bytes)
@@ -68,6 +75,7 @@ fn put_text(out: &mut Vec<u8>, bytes: &[u8]) -> Result<(), Memory>
 fn put_texts(out: &mut Vec<u8>, segments: &Segments) -> Result<(), Memory>
     ensures ok { OnOk result (out.new.items ≡ out.old.items ++ flat_map text segments.now) }
     ensures valid { OnOk result (AllByRecursion IsSegmentText segments.now) }
+    ensures kept { OnErr result (take (length out.old.items) out.new.items ≡ out.old.items) }
 {
     for index in 0..segments.len() {
         let Some(segment) = segments.get(index) else {
@@ -82,6 +90,7 @@ fn put_segments(out: &mut Vec<u8>, segments: &Segments) -> Result<(), Memory>
     requires { IsCount segments.now }
     ensures ok { OnOk result (out.new.items ≡ out.old.items ++ segs segments.now) }
     ensures valid { OnOk result (AreSegments segments.now) }
+    ensures kept { OnErr result (take (length out.old.items) out.new.items ≡ out.old.items) }
 {
     out.push(segments.len() as u8)?;
     put_texts(out, segments)
@@ -89,7 +98,8 @@ fn put_segments(out: &mut Vec<u8>, segments: &Segments) -> Result<(), Memory>
 
 fn put_pad_change(out: &mut Vec<u8>, change: &PadChange) -> Result<(), Memory>
     requires { IsPadChange change.now }
-    ensures { OnOk result (out.new.items ≡ out.old.items ++ pad_change change.now) }
+    ensures ok { OnOk result (out.new.items ≡ out.old.items ++ pad_change change.now) }
+    ensures kept { OnErr result (take (length out.old.items) out.new.items ≡ out.old.items) }
 {
     match change {
         PadChange::Stays => {
@@ -111,6 +121,7 @@ fn put_conversation(out: &mut Vec<u8>, conversation: &Option<Conversation>) -> R
     requires { IsShortPad conversation.now }
     ensures ok { OnOk result (out.new.items ≡ out.old.items ++ conversation_field conversation.now) }
     ensures valid { OnOk result (IsConversation conversation.now) }
+    ensures kept { OnErr result (take (length out.old.items) out.new.items ≡ out.old.items) }
 {
     match conversation {
         None => {
@@ -138,6 +149,7 @@ pub(crate) fn put_input(
     requires { IsCount segments.now }
     ensures ok { OnOk result (out.new.items ≡ out.old.items ++ content (Input unit id origin.now code.now number conversation segments.now)) }
     ensures valid { OnOk result (AreInRange (Input unit id origin.now code.now number conversation segments.now)) }
+    ensures kept { OnErr result (take (length out.old.items) out.new.items ≡ out.old.items) }
 {
     out.push(0x01)?;
     put_ids(out, unit, id)?;
@@ -157,6 +169,7 @@ pub(crate) fn put_reply(
     requires { IsCount segments.now }
     ensures ok { OnOk result (out.new.items ≡ out.old.items ++ content (Reply unit terminal.now number segments.now)) }
     ensures valid { OnOk result (AreInRange (Reply unit terminal.now number segments.now)) }
+    ensures kept { OnErr result (take (length out.old.items) out.new.items ≡ out.old.items) }
 {
     out.push(0x03)?;
     put_number8(out, unit)?;
@@ -175,6 +188,7 @@ pub(crate) fn put_discarded(
     requires { IsAbend abend.number }
     ensures ok { OnOk result (out.new.items ≡ out.old.items ++ content (Discarded unit id abend number)) }
     ensures valid { OnOk result (AreInRange (Discarded unit id abend number)) }
+    ensures kept { OnErr result (take (length out.old.items) out.new.items ≡ out.old.items) }
 {
     out.push(0x07)?;
     put_ids(out, unit, id)?;
@@ -185,6 +199,7 @@ pub(crate) fn put_discarded(
 pub(crate) fn put_completed(out: &mut Vec<u8>, unit: u64, id: u64) -> Result<(), Memory>
     ensures ok { OnOk result (out.new.items ≡ out.old.items ++ content (Completed unit id)) }
     ensures valid { OnOk result (AreInRange (Completed unit id)) }
+    ensures kept { OnErr result (take (length out.old.items) out.new.items ≡ out.old.items) }
 {
     out.extend_from_slice(&[0x36, 0])?;
     put_ids(out, unit, id)
@@ -197,6 +212,7 @@ pub(crate) fn put_acknowledged(
 ) -> Result<(), Memory>
     ensures ok { OnOk result (out.new.items ≡ out.old.items ++ content (Acknowledged terminal.now number)) }
     ensures valid { OnOk result (AreInRange (Acknowledged terminal.now number)) }
+    ensures kept { OnErr result (take (length out.old.items) out.new.items ≡ out.old.items) }
 {
     out.extend_from_slice(&[0x36, 1])?;
     put_name(out, terminal)?;
@@ -207,6 +223,7 @@ pub(crate) fn put_sync_point(out: &mut Vec<u8>, unit: u64, pad: &PadChange) -> R
     requires { IsPadChange pad.now }
     ensures ok { OnOk result (out.new.items ≡ out.old.items ++ content (SyncPoint unit pad.now)) }
     ensures valid { OnOk result (AreInRange (SyncPoint unit pad.now)) }
+    ensures kept { OnErr result (take (length out.old.items) out.new.items ≡ out.old.items) }
 {
     out.push(0x37)?;
     put_number8(out, unit)?;
@@ -222,6 +239,7 @@ pub(crate) fn put_checkpoint(
 ) -> Result<(), Memory>
     ensures ok { OnOk result (out.new.items ≡ out.old.items ++ content (Checkpoint checkpoint next_id next_unit lasting_steps)) }
     ensures valid { OnOk result (AreInRange (Checkpoint checkpoint next_id next_unit lasting_steps)) }
+    ensures kept { OnErr result (take (length out.old.items) out.new.items ≡ out.old.items) }
 {
     out.extend_from_slice(&[0x40, 0])?;
     put_number8(out, checkpoint)?;
@@ -241,6 +259,7 @@ pub(crate) fn put_terminal(
     requires { IsShortPad conversation.now }
     ensures ok { OnOk result (out.new.items ≡ out.old.items ++ content (Terminal terminal.now last_input next_output stopped conversation.now)) }
     ensures valid { OnOk result (AreInRange (Terminal terminal.now last_input next_output stopped conversation.now)) }
+    ensures kept { OnErr result (take (length out.old.items) out.new.items ≡ out.old.items) }
 {
     out.extend_from_slice(&[0x40, 1])?;
     put_name(out, terminal)?;
@@ -259,6 +278,7 @@ pub(crate) fn put_code(
 ) -> Result<(), Memory>
     ensures ok { OnOk result (out.new.items ≡ out.old.items ++ content (Code code.now stopped class priority)) }
     ensures valid { OnOk result (AreInRange (Code code.now stopped class priority)) }
+    ensures kept { OnErr result (take (length out.old.items) out.new.items ≡ out.old.items) }
 {
     out.extend_from_slice(&[0x40, 2])?;
     put_name(out, code)?;
@@ -280,6 +300,7 @@ pub(crate) fn put_change(
     requires after { length after.now ≤ 4000 }
     ensures ok { OnOk result (out.new.items ≡ out.old.items ++ content (Change unit database slot before.now after.now)) }
     ensures valid { OnOk result (AreInRange (Change unit database slot before.now after.now)) }
+    ensures kept { OnErr result (take (length out.old.items) out.new.items ≡ out.old.items) }
 {
     out.push(0x50)?;
     put_number8(out, unit)?;
@@ -293,6 +314,7 @@ fn put_content(out: &mut Vec<u8>, value: &Record) -> Result<(), Memory>
     requires { KeepsLimits value.now }
     ensures ok { OnOk result (out.new.items ≡ out.old.items ++ content value.now) }
     ensures valid { OnOk result (AreInRange value.now) }
+    ensures kept { OnErr result (take (length out.old.items) out.new.items ≡ out.old.items) }
 {
     match value {
         Record::Input {

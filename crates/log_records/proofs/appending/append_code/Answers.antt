@@ -1,14 +1,17 @@
 use Rattle.log_records.specs.declared.record.Record.{Record}
 use Rattle.log_records.specs.declared.record.Record.TheVariants.{Code}
 use Rattle.std.proofs.Common.{arith}
+use Rattle.std.proofs.lemmas.Result.{on_ok_weaker}
 use Rattle.log_records.proofs.Lengths.{is_record}
-use Rattle.log_records.proofs.WithLength.{is_short_from}
+use Rattle.log_records.proofs.WithLength.{short_from, on_same}
 use Rattle.log_records.proofs.appending.append_code.Goals as goal
 
-pub set_length-requires-clause-short : goal.set_length-requires-clause-short
-set_length-requires-clause-short c =
+pub end_record-requires-clause-short : goal.end_record-requires-clause-short
+end_record-requires-clause-short c =
     let r : Record = Code c.args.code.now c.args.stopped c.args.class c.args.priority in
-    is_short_from c.args.out.now.items c.extend_from_slice.new.self.items c.put_code.new.out.items r c.len-start.result c.in_ok-extend_from_slice.ensures.items c.in_ok-put_code.ensures.ok (omega arith) (is_record r c.in_ok-put_code.ensures.valid tt)
+    short_from c.put_code-written.result c.args.out.now.items c.extend_from_slice.new.self.items c.put_code-written.new.out.items r c.len-start.result c.in_ok-extend_from_slice.ensures.items (omega arith) c.put_code-written.ensures.ok (on_ok_weaker c.put_code-written.result (λ h. is_record r h tt) c.put_code-written.ensures.valid)
 
 pub returns-clause-valid : goal.returns-clause-valid
-returns-clause-valid c = is_record (Code c.args.code.now c.args.stopped c.args.class c.args.priority) c.in_ok-put_code.ensures.valid tt
+returns-clause-valid c =
+    let r : Record = Code c.args.code.now c.args.stopped c.args.class c.args.priority in
+    on_same _ c.end_record.result c.put_code-written.result c.end_record.ensures.same (on_ok_weaker c.put_code-written.result (λ h. is_record r h tt) c.put_code-written.ensures.valid)

@@ -1,14 +1,17 @@
 use Rattle.log_records.specs.declared.record.Record.{Record}
 use Rattle.log_records.specs.declared.record.Record.TheVariants.{Completed}
 use Rattle.std.proofs.Common.{arith}
+use Rattle.std.proofs.lemmas.Result.{on_ok_weaker}
 use Rattle.log_records.proofs.Lengths.{is_record}
-use Rattle.log_records.proofs.WithLength.{is_short_from}
+use Rattle.log_records.proofs.WithLength.{short_from, on_same}
 use Rattle.log_records.proofs.appending.append_completed.Goals as goal
 
-pub set_length-requires-clause-short : goal.set_length-requires-clause-short
-set_length-requires-clause-short c =
+pub end_record-requires-clause-short : goal.end_record-requires-clause-short
+end_record-requires-clause-short c =
     let r : Record = Completed c.args.unit c.args.id in
-    is_short_from c.args.out.now.items c.extend_from_slice.new.self.items c.put_completed.new.out.items r c.len-start.result c.in_ok-extend_from_slice.ensures.items c.in_ok-put_completed.ensures.ok (omega arith) (is_record r c.in_ok-put_completed.ensures.valid tt)
+    short_from c.put_completed-written.result c.args.out.now.items c.extend_from_slice.new.self.items c.put_completed-written.new.out.items r c.len-start.result c.in_ok-extend_from_slice.ensures.items (omega arith) c.put_completed-written.ensures.ok (on_ok_weaker c.put_completed-written.result (λ h. is_record r h tt) c.put_completed-written.ensures.valid)
 
 pub returns-clause-valid : goal.returns-clause-valid
-returns-clause-valid c = is_record (Completed c.args.unit c.args.id) c.in_ok-put_completed.ensures.valid tt
+returns-clause-valid c =
+    let r : Record = Completed c.args.unit c.args.id in
+    on_same _ c.end_record.result c.put_completed-written.result c.end_record.ensures.same (on_ok_weaker c.put_completed-written.result (λ h. is_record r h tt) c.put_completed-written.ensures.valid)

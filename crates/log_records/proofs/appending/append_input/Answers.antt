@@ -1,14 +1,17 @@
 use Rattle.log_records.specs.declared.record.Record.{Record}
 use Rattle.log_records.specs.declared.record.Record.TheVariants.{Input}
 use Rattle.std.proofs.Common.{arith}
+use Rattle.std.proofs.lemmas.Result.{on_ok_weaker}
 use Rattle.log_records.proofs.Lengths.{is_record}
-use Rattle.log_records.proofs.WithLength.{is_short_from}
+use Rattle.log_records.proofs.WithLength.{short_from, on_same}
 use Rattle.log_records.proofs.appending.append_input.Goals as goal
 
-pub set_length-requires-clause-short : goal.set_length-requires-clause-short
-set_length-requires-clause-short c =
+pub end_record-requires-clause-short : goal.end_record-requires-clause-short
+end_record-requires-clause-short c =
     let r : Record = Input c.args.unit c.args.id c.args.origin.now c.args.code.now c.args.number c.args.conversation c.args.segments.now in
-    is_short_from c.args.out.now.items c.extend_from_slice.new.self.items c.put_input.new.out.items r c.len-start.result c.in_ok-extend_from_slice.ensures.items c.in_ok-put_input.ensures.ok (omega arith) (is_record r c.in_ok-put_input.ensures.valid tt)
+    short_from c.put_input-written.result c.args.out.now.items c.extend_from_slice.new.self.items c.put_input-written.new.out.items r c.len-start.result c.in_ok-extend_from_slice.ensures.items (omega arith) c.put_input-written.ensures.ok (on_ok_weaker c.put_input-written.result (λ h. is_record r h tt) c.put_input-written.ensures.valid)
 
 pub returns-clause-valid : goal.returns-clause-valid
-returns-clause-valid c = is_record (Input c.args.unit c.args.id c.args.origin.now c.args.code.now c.args.number c.args.conversation c.args.segments.now) c.in_ok-put_input.ensures.valid tt
+returns-clause-valid c =
+    let r : Record = Input c.args.unit c.args.id c.args.origin.now c.args.code.now c.args.number c.args.conversation c.args.segments.now in
+    on_same _ c.end_record.result c.put_input-written.result c.end_record.ensures.same (on_ok_weaker c.put_input-written.result (λ h. is_record r h tt) c.put_input-written.ensures.valid)
