@@ -1,7 +1,7 @@
 -- The first snapshot's records, and how long it is.
 use Rattle.std.proofs.Common.{◌≡◌, ℕ, zero, suc, ◌+◌, ◌*◌, ◌<◌, ◌≤◌, false, List, [], ◌∷◌, ◌++◌, length, map, refl, sym, ◌∙◌, ap, subst, arith, None}
 use Rattle.std.specs.List.{flat_map, AllByRecursion}
-use Rattle.std.proofs.lemmas.List.{length-append}
+use Rattle.std.proofs.lemmas.List.{length-append, append-nil}
 use Rattle.std.proofs.lemmas.List.Concat.{flat_map-cons}
 use Rattle.std.proofs.lemmas.Option.{none-some, same_Some}
 use Rattle.model_conversation.specs.declared.conversation.TerminalConversation.{TerminalConversation}
@@ -22,7 +22,6 @@ use Rattle.log_records.proofs.FieldLaws.{number2_length, number8_length}
 use Rattle.log_records.proofs.Lengths.{eight, text_length}
 use Rattle.snapshot_records.specs.Records.{terminal_records, code_record, reply_records}
 use Rattle.snapshot_records.specs.Spelled.{Adds, HaveRoom}
-use Rattle.snapshot_records.proofs.Adding.{adds_none, adds_one, adds_both}
 use Rattle.cold_start.specs.FirstImage.{first_records}
 
 -- ---- the records
@@ -40,25 +39,19 @@ none_replied : (names : List (List ℕ)) → reply_records (map fresh_terminal n
 none_replied [] = refl
 none_replied (n ∷ names) = none_replied names
 
--- the terminals' records, where the three lists are those of the empty machine
-pub terminals_first : (names : List (List ℕ)) (ts : List TerminalState) (os : List TerminalReplies) (cs : List TerminalConversation) (before after : List ℕ) → ts ≡ map fresh_terminal_state names → os ≡ map fresh_terminal names → cs ≡ map without_conversation names
-    → Adds (terminal_records ts os cs) before after → Adds (terminal_records (map fresh_terminal_state names) (map fresh_terminal names) (map without_conversation names)) before after
-terminals_first names ts os cs before after t o c adds =
-    subst (λ (l : List TerminalState). Adds (terminal_records l (map fresh_terminal names) (map without_conversation names)) before after) t
-    (subst (λ (l : List TerminalReplies). Adds (terminal_records ts l (map without_conversation names)) before after) o
-    (subst (λ (l : List TerminalConversation). Adds (terminal_records ts os l) before after) c adds))
-
-pub spelled_first : (system : System) (states : List CodeState) (b0 b1 b2 b3 : List ℕ) → states ≡ map first_state system.codes → b1 ≡ b0 ++ spelling (Checkpoint 1 1 1 0) → IsRecord (Checkpoint 1 1 1 0)
-    → Adds (terminal_records (map fresh_terminal_state system.terminals) (map fresh_terminal system.terminals) (map without_conversation system.terminals)) b1 b2
-    → Adds (map code_record (map setting_of states)) b2 b3 → Adds (first_records system) b0 b3
-spelled_first system states b0 b1 b2 b3 are is valid terminals codes =
+-- the records that are written of the lists of the empty machine
+pub spelled_first : (system : System) (ts : List TerminalState) (os : List TerminalReplies) (cs : List TerminalConversation) (states : List CodeState) (bytes : List ℕ)
+    → ts ≡ map fresh_terminal_state system.terminals → os ≡ map fresh_terminal system.terminals → cs ≡ map without_conversation system.terminals → states ≡ map first_state system.codes
+    → Adds (Checkpoint 1 1 1 0 ∷ (terminal_records ts os cs ++ map code_record (map setting_of states))) [] bytes → Adds (first_records system) [] bytes
+spelled_first system ts os cs states bytes t o c are adds =
     let settings : map setting_of states ≡ map first_setting system.codes = ap (map setting_of) are ∙ settings_first system.codes in
-    let tail : Adds (reply_records (map fresh_terminal system.terminals) ++ []) b3 b3 = subst (λ (rs : List Record). Adds rs b3 b3) (sym (none_replied system.terminals)) (adds_none b3) in
-    let last : Adds (map code_record (map first_setting system.codes) ++ (reply_records (map fresh_terminal system.terminals) ++ [])) b2 b3 =
-    adds_both (map code_record (map first_setting system.codes)) (reply_records (map fresh_terminal system.terminals) ++ []) b2 b3 b3 (subst (λ (cs : List _). Adds (map code_record cs) b2 b3) settings codes) tail in
-    adds_both (Checkpoint 1 1 1 0 ∷ []) (terminal_records (map fresh_terminal_state system.terminals) (map fresh_terminal system.terminals) (map without_conversation system.terminals) ++ (map code_record (map first_setting system.codes) ++ (reply_records (map fresh_terminal system.terminals) ++ []))) b0 b1 b3
-    (adds_one (Checkpoint 1 1 1 0) b0 b1 is valid)
-    (adds_both (terminal_records (map fresh_terminal_state system.terminals) (map fresh_terminal system.terminals) (map without_conversation system.terminals)) (map code_record (map first_setting system.codes) ++ (reply_records (map fresh_terminal system.terminals) ++ [])) b1 b2 b3 terminals last)
+    let codes : map code_record (map setting_of states) ≡ map code_record (map first_setting system.codes) ++ (reply_records (map fresh_terminal system.terminals) ++ []) =
+    ap (map code_record) settings ∙ sym (append-nil (map code_record (map first_setting system.codes))) ∙ ap (λ (l : List Record). map code_record (map first_setting system.codes) ++ l) (sym (none_replied system.terminals)) in
+    let terminals : terminal_records ts os cs ≡ terminal_records (map fresh_terminal_state system.terminals) (map fresh_terminal system.terminals) (map without_conversation system.terminals) =
+    ap (λ (l : List TerminalState). terminal_records l os cs) t ∙ ap (λ (l : List TerminalReplies). terminal_records (map fresh_terminal_state system.terminals) l cs) o ∙ ap (λ (l : List TerminalConversation). terminal_records (map fresh_terminal_state system.terminals) (map fresh_terminal system.terminals) l) c in
+    subst (λ (rs : List Record). Adds rs [] bytes)
+    (ap (λ (l : List Record). Checkpoint 1 1 1 0 ∷ (l ++ map code_record (map setting_of states))) terminals
+    ∙ ap (λ (l : List Record). Checkpoint 1 1 1 0 ∷ (terminal_records (map fresh_terminal_state system.terminals) (map fresh_terminal system.terminals) (map without_conversation system.terminals) ++ l)) codes) adds
 
 -- ---- how long it is
 

@@ -7,12 +7,11 @@ ghost use Rattle.snapshot_records.specs.Spelled.{Adds};
 ghost use Rattle.system_types.specs.Codes.{first_state};
 ghost use Rattle.cold_start.specs.FirstImage.{first_records};
 
-use log_records::append_checkpoint;
 use model_conversation::TerminalConversation;
 use model_machine::{Lasting, TerminalState};
 use model_queues::TerminalReplies;
 use model_system::CodeState;
-use snapshot_records::{append_codes, append_terminals};
+use snapshot_records::write_first;
 use std::alloc::Global;
 use system_types::System;
 use tm_types::Memory;
@@ -32,11 +31,7 @@ fn spelled(
     requires codes { codes.now ≡ map first_state system.now.codes }
     ensures { IfOk result (λ bytes. Adds (first_records system.now) [] bytes.items) }
 {
-    let mut bytes = Vec::new(alloc);
-    append_checkpoint(&mut bytes, 1, 1, 1, 0)?;
-    append_terminals(&mut bytes, terminals, outputs, conversations)?;
-    append_codes(&mut bytes, codes)?;
-    Ok(bytes)
+    write_first(alloc, terminals, outputs, conversations, codes)
 }
 
 /// The bytes of the first snapshot: the records of the empty machine of this system, with these codes.

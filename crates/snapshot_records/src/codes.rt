@@ -8,8 +8,8 @@ use log_records::append_code;
 use model_system::CodeState;
 use tm_types::Memory;
 
-/// Appends the records of the codes. After `Memory` a part of them may be appended.
-pub fn append_codes(out: &mut Vec<u8>, codes: &[CodeState]) -> Result<(), Memory>
+// Appends the records of the codes. After `Memory` a part of them may be appended.
+pub(crate) fn append_codes(out: &mut Vec<u8>, codes: &[CodeState]) -> Result<(), Memory>
     ensures { OnOk result (Adds (map code_record (map setting_of codes.now)) out.old.items out.new.items) }
 {
     for code in codes {

@@ -4,12 +4,8 @@
 //! snapshot area (proofs/Fits).
 #![tactic(auto)]
 
-pub use codes::append_codes;
-pub use messages::append_messages;
-pub use replies::append_replies;
-pub use terminals::append_terminals;
-pub use touches::{OpenUnit, append_touches};
-pub use writing::{SnapshotView, append_snapshot, write};
+pub use touches::OpenUnit;
+pub use writing::{SnapshotView, write, write_first};
 
 mod codes;
 mod messages;

@@ -35,9 +35,9 @@ fn append_message(out: &mut Vec<u8>, queued: &Queued) -> Result<(), Memory>
     )
 }
 
-/// Appends the records of the messages in the order of their ids, whether a region has them or none. Each has 1 to 32
-/// segments. After `Memory` a part of them may be appended.
-pub fn append_messages(out: &mut Vec<u8>, queues: &Queues) -> Result<(), Memory>
+// Appends the records of the messages in the order of their ids, whether a region has them or none. Each has 1 to 32
+// segments. After `Memory` a part of them may be appended.
+pub(crate) fn append_messages(out: &mut Vec<u8>, queues: &Queues) -> Result<(), Memory>
     requires { AreCounted (messages_of queues.now.queued) }
     ensures { OnOk result (Adds (map message_record (messages_of queues.now.queued)) out.old.items out.new.items) }
 {

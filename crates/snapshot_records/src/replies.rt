@@ -39,9 +39,9 @@ fn append_some(out: &mut Vec<u8>, terminal: &Name, replies: &Replies) -> Result<
     Ok(())
 }
 
-/// Appends the records of the replies, by terminal and number. Each has 1 to 32 segments. After `Memory` a part of them may
-/// be appended.
-pub fn append_replies(out: &mut Vec<u8>, terminals: &[TerminalReplies]) -> Result<(), Memory>
+// Appends the records of the replies, by terminal and number. Each has 1 to 32 segments. After `Memory` a part of them may
+// be appended.
+pub(crate) fn append_replies(out: &mut Vec<u8>, terminals: &[TerminalReplies]) -> Result<(), Memory>
     requires { AreAllCounted terminals.now }
     ensures { OnOk result (Adds (reply_records terminals.now) out.old.items out.new.items) }
 {

@@ -9,9 +9,9 @@ use model_machine::TerminalState;
 use model_queues::TerminalReplies;
 use tm_types::Memory;
 
-/// Appends the records of the terminals, which stand in the same order in the three lists. Their pads have at most 65,000
-/// bytes. After `Memory` a part of them may be appended.
-pub fn append_terminals(
+// Appends the records of the terminals, which stand in the same order in the three lists. Their pads have at most 65,000
+// bytes. After `Memory` a part of them may be appended.
+pub(crate) fn append_terminals(
     out: &mut Vec<u8>,
     terminals: &[TerminalState],
     outputs: &[TerminalReplies],

@@ -84,10 +84,10 @@ fn append_unit(
     Ok(())
 }
 
-/// Appends the records of the slots that open units changed, in the order of the units, and of each by database and slot:
-/// the slot's first image before the unit, and the image that stands there now. A record has one sector. After `Memory` a
-/// part of them may be appended.
-pub fn append_touches(
+// Appends the records of the slots that open units changed, in the order of the units, and of each by database and slot:
+// the slot's first image before the unit, and the image that stands there now. A record has one sector. After `Memory` a
+// part of them may be appended.
+pub(crate) fn append_touches(
     alloc: Global,
     out: &mut Vec<u8>,
     units: &[OpenUnit],

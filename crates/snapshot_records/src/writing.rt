@@ -1,8 +1,10 @@
 //! A snapshot, whole.
-ghost use Rattle.std.specs.Prelude.{◌≡◌, [], IfOk, OnOk};
+ghost use Rattle.std.specs.Prelude.{◌≡◌, [], ◌∷◌, ◌++◌, length, map, IfOk, OnOk};
 ghost use Rattle.std.specs.List.{AllByRecursion};
-ghost use Rattle.snapshot_records.specs.Records.{snapshot_records};
-ghost use Rattle.snapshot_records.specs.Spelled.{Adds, IsWritable};
+ghost use Rattle.log_records.specs.declared.record.Record.TheVariants.{Checkpoint};
+ghost use Rattle.model_machine.specs.Machine.{setting_of};
+ghost use Rattle.snapshot_records.specs.Records.{terminal_records, code_record, snapshot_records};
+ghost use Rattle.snapshot_records.specs.Spelled.{Adds, HaveRoom, IsWritable};
 ghost use Rattle.snapshot_records.specs.Touches.{changes_of, HasOneSector, AreAllSpelled};
 ghost use Rattle.snapshot_records.specs.View.{state_of};
 
@@ -13,7 +15,9 @@ use crate::terminals::append_terminals;
 use crate::touches::{OpenUnit, append_touches};
 use conversation::Conversations;
 use log_records::append_checkpoint;
+use model_conversation::TerminalConversation;
 use model_machine::TerminalState;
+use model_queues::TerminalReplies;
 use model_system::CodeState;
 use msg_queues::Queues;
 use out_queues::Outputs;
@@ -44,9 +48,8 @@ pub struct SnapshotView<'a> {
     pub stores: &'a Stores,
 }
 
-/// Appends the records of a snapshot: the counts, the terminals, the codes, the messages by their ids, the replies by terminal
-/// and number, and the slots that open units changed. After `Memory` a part of them may be appended.
-pub fn append_snapshot(alloc: Global, out: &mut Vec<u8>, view: &SnapshotView) -> Result<(), Memory>
+// Appends the records of a snapshot. After `Memory` a part of them may be appended.
+fn append_snapshot(alloc: Global, out: &mut Vec<u8>, view: &SnapshotView) -> Result<(), Memory>
     requires state { IsWritable (state_of view.now) }
     requires units { AreAllSpelled view.now.stores.now.stores view.now.units.now }
     requires one_sector { AllByRecursion HasOneSector view.now.stores.now.stores }
@@ -71,7 +74,8 @@ pub fn append_snapshot(alloc: Global, out: &mut Vec<u8>, view: &SnapshotView) ->
     append_touches(alloc, out, view.units, view.stores)
 }
 
-/// The bytes of a snapshot.
+/// The bytes of a snapshot: the counts, the terminals, the codes, the messages by their ids, the replies by terminal and
+/// number, and the slots that open units changed.
 pub fn write(alloc: Global, view: &SnapshotView) -> Result<Vec<u8>, Memory>
     requires state { IsWritable (state_of view.now) }
     requires units { AreAllSpelled view.now.stores.now.stores view.now.units.now }
@@ -80,5 +84,27 @@ pub fn write(alloc: Global, view: &SnapshotView) -> Result<Vec<u8>, Memory>
 {
     let mut bytes = Vec::new(alloc);
     append_snapshot(alloc, &mut bytes, view)?;
+    Ok(bytes)
+}
+
+/// The bytes of a machine's first snapshot, of checkpoint 1: the next message and the next unit have the number 1, no step
+/// was done, and there is no message, no reply and no open unit. The three lists have the terminals in the same order; a pad
+/// has at most 65,000 bytes.
+pub fn write_first(
+    alloc: Global,
+    terminals: &[TerminalState],
+    outputs: &[TerminalReplies],
+    conversations: &[TerminalConversation],
+    codes: &[CodeState],
+) -> Result<Vec<u8>, Memory>
+    requires outputs { length outputs.now ≡ length terminals.now }
+    requires conversations { length conversations.now ≡ length terminals.now }
+    requires pads { HaveRoom conversations.now }
+    ensures { IfOk result (λ bytes. Adds (Checkpoint 1 1 1 0 ∷ (terminal_records terminals.now outputs.now conversations.now ++ map code_record (map setting_of codes.now))) [] bytes.items) }
+{
+    let mut bytes = Vec::new(alloc);
+    append_checkpoint(&mut bytes, 1, 1, 1, 0)?;
+    append_terminals(&mut bytes, terminals, outputs, conversations)?;
+    append_codes(&mut bytes, codes)?;
     Ok(bytes)
 }
