@@ -19,10 +19,10 @@ use Rattle.sound_law.proofs.Counts.{outputs_have}
 use Rattle.sound_law.proofs.Jobs.{job_found}
 use Rattle.sound_law.proofs.Trials.{IsJob}
 use Rattle.step_telling.specs.Ranges.{HaveCounts}
-use Rattle.tm_machine.specs.declared.region.Busy.{Busy}
+use Rattle.region_work.specs.declared.region.Busy.{Busy}
 use Rattle.tm_machine.specs.Ends.{EndsSo, SlotEnds}
 use Rattle.tm_machine.specs.Parts.{PartsState, AreParts}
-use Rattle.tm_machine.specs.Region.{IsUnit, given_in, outputs_by}
+use Rattle.region_work.specs.Region.{IsUnit, given_in, outputs_by}
 
 pub ends_right : (state : PartsState) (region : ℕ) (slot : Slot) (abend : AbendCode) → slot_at state.moment region ≡ Some slot → IfSome (job_of state.system slot.code) (λ job. AreAllowed job.lines)
     → EndsSo state region (Abends abend) → IsAbend abend.number

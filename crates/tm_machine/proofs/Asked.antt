@@ -37,7 +37,7 @@ use Rattle.lasting_state.specs.Telling.{TellsAcknowledged, WouldAcknowledge}
 use Rattle.tm_machine.specs.Told.{IsLonger, Tells}
 use Rattle.tm_machine.proofs.Telling.{unlasting_tells, tells_step, longer_step}
 use Rattle.lasting_state.specs.Tables.{TablesState, lasting_of, IsAcknowledged}
-use Rattle.tm_machine.specs.declared.region.Busy.{Busy}
+use Rattle.region_work.specs.declared.region.Busy.{Busy}
 use Rattle.tm_machine.specs.Answers.{IsAnswered, Answers}
 use Rattle.tm_machine.specs.Inputs.{IsNewInput, IsRefusal, code_for, kept_so, way_by}
 use Rattle.tm_machine.specs.declared.input.NewInput.{NewInput}

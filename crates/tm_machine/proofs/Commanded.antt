@@ -27,12 +27,13 @@ use Rattle.model_machine.specs.Trial.{Given}
 use Rattle.program_rows.specs.State.{DatabasesState}
 use Rattle.lasting_state.specs.Tables.{TablesState, lasting_of}
 use Rattle.lasting_state.specs.Commands.{AppliesCommand, command_done, command_set}
-use Rattle.tm_machine.specs.declared.region.Busy.{Busy}
+use Rattle.region_work.specs.declared.region.Busy.{Busy}
 use Rattle.tm_machine.specs.Commands.{EndsNoneBusy, IsCommanded, states_set, stopped_state}
 use Rattle.tm_machine.specs.Parts.{PartsState, AreAtWork, AreConversations, AreParts, IsConversation, IsOfConversation, flags_of, settings_of, slots_of}
-use Rattle.tm_machine.specs.Region.{IsWork, given_in}
+use Rattle.region_work.specs.Region.{IsWork, given_in}
 use Rattle.tm_machine.proofs.Asked.{length_map}
-use Rattle.tm_machine.proofs.Conversing.{all_both, all_found, all_map, all_with, belongs_still, names_stay, no_both, other_terminal}
+use Rattle.tm_machine.proofs.Conversing.{all_both, all_map, all_with, belongs_still, names_stay, no_both, other_terminal}
+use Rattle.region_work.proofs.Kept.{all_found}
 use Rattle.tm_machine.proofs.Joining.{none_conversing}
 use Rattle.tm_machine.proofs.Leaving.{moment_is}
 use Rattle.model_queues.proofs.Laws.{message_found}

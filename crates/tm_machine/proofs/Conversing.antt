@@ -23,7 +23,8 @@ use Rattle.model_machine.specs.Lasting.{discarded_pad, new_pad, padded, with_tex
 use Rattle.model_machine.specs.Trial.{Given}
 use Rattle.io_pcb.specs.Pads.{IsNewPad, IsPadText, Suits}
 use Rattle.message_run.specs.Ahead.{given_with}
-use Rattle.tm_machine.specs.Region.{HasPad, HavePads, given_in}
+use Rattle.region_work.specs.Region.{HasPad, HavePads, given_in}
+use Rattle.region_work.proofs.Kept.{all_found}
 use Rattle.tm_machine.specs.Parts.{AreAlone, AreApart, AreConversations, IsConversation, IsOfConversation}
 
 pub no_both : true ≡ false → ⊥
@@ -167,14 +168,6 @@ pads_padded system conversations m (New text) fits h =
     one t e was = by t.conversation (subst (λ o. Suits (option_and_then (λ (u : TerminalConversation). u.conversation) o) (New text)) e (here m.conversation fits)) was
 
 -- ---- lists of messages
-pub all_found : (P : Message → Type 0) (ms : List Message) (id : ℕ) (n : Message) → AllByRecursion P ms → message_in ms id ≡ Some n → P n
-all_found P [] id n h e = cc
-all_found P (m ∷ ms) id n h e = by (m.id == id) e (λ g. all_found P ms id n h.1 g)
-  where
-    by : (b : Bool) → (if b then Some m else message_in ms id) ≡ Some n → (message_in ms id ≡ Some n → P n) → P n
-    by true g rec = let same : m ≡ n = cc in subst P same h.0
-    by false g rec = rec g
-
 all_without : (P : Message → Type 0) (ms : List Message) (id : ℕ) → AllByRecursion P ms → AllByRecursion P (without_message ms id)
 all_without P [] id h = tt
 all_without P (m ∷ ms) id h = by (m.id == id) (all_without P ms id h.1)

@@ -43,12 +43,14 @@ use Rattle.program_rows.specs.State.{DatabasesState, AreRowsOf, IsRegionOf, comm
 use Rattle.program_rows.specs.Answering.{IsCommitted, IsGivenUp}
 use Rattle.lasting_state.specs.Sending.{switches, switched_messages, with_messages}
 use Rattle.lasting_state.specs.Tables.{TablesState, lasting_of, closed, held, Applies, IsClosed}
-use Rattle.tm_machine.specs.declared.region.Busy.{Busy}
-use Rattle.tm_machine.specs.Ends.{EndsSo, SlotEnds, destinations, goes_on_with}
-use Rattle.tm_machine.specs.Region.{given_in, IsUnit, SuitsUnit, calls_made, outputs_by, pad_by}
+use Rattle.region_work.specs.declared.region.Busy.{Busy}
+use Rattle.region_work.specs.Ends.{destinations, goes_on_with}
+use Rattle.tm_machine.specs.Ends.{EndsSo, SlotEnds}
+use Rattle.region_work.specs.Region.{given_in, IsUnit, SuitsUnit, calls_made, outputs_by, pad_by}
 use Rattle.tm_machine.specs.Turns.{IsTurned}
 use Rattle.tm_machine.specs.Parts.{PartsState, slot_of, slots_of, settings_of, flags_of, IsTold, AreAtWork, AreConversations, AreParts, IsIdle, IsOfConversation}
-use Rattle.tm_machine.proofs.Conversing.{IsPlain, all_found, conversations_closed, discarded_fits, given_left}
+use Rattle.tm_machine.proofs.Conversing.{IsPlain, conversations_closed, discarded_fits, given_left}
+use Rattle.region_work.proofs.Kept.{all_found}
 use Rattle.tm_machine.proofs.Tabled.{AreOwn, released_asks}
 use Rattle.tm_machine.proofs.Others.{IsKeptBeside, are_beside, beside_committed, beside_given_up, idle_committed, idle_ended, idle_given_up, own_requests, rows_stay, stay_at_work}
 use Rattle.tm_machine.proofs.Free.{count_held, count_sent, count_without, or_none}

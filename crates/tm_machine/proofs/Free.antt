@@ -16,7 +16,7 @@ use Rattle.model_queues.specs.Queue.{has_id, is_free_of, with_message, with_hold
 use Rattle.model_message.specs.declared.ended_message.EndedMessage.{EndedMessage}
 use Rattle.model_machine.specs.Machine.{Slot, is_held}
 use Rattle.lasting_state.specs.Sending.{is_switched, switches, switched_message, switched_messages, with_messages}
-use Rattle.tm_machine.specs.Ends.{destinations}
+use Rattle.region_work.specs.Ends.{destinations}
 use Rattle.tm_machine.specs.Parts.{IsTold}
 
 abbrev waiting : Message → Queued

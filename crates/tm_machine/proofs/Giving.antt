@@ -31,8 +31,8 @@ use Rattle.program_rows.specs.State.{RegionRows, IsRegionOf, dbds_of, no_rows, r
 use Rattle.program_rows.specs.Answering.{IsGivenUp}
 use Rattle.lasting_state.specs.Tables.{TablesState, lasting_of, given_back, with_databases}
 use Rattle.deadlock_pick.specs.Weighed.{IsWeighed}
-use Rattle.tm_machine.specs.declared.region.Busy.{Busy}
-use Rattle.tm_machine.specs.Region.{given_in, calls_made}
+use Rattle.region_work.specs.declared.region.Busy.{Busy}
+use Rattle.region_work.specs.Region.{given_in, calls_made}
 use Rattle.tm_machine.specs.Parts.{slot_of, slots_of, settings_of, flags_of, IsTold, AreConversations, AreParts}
 use Rattle.tm_machine.specs.Victims.{gave_way}
 use Rattle.tm_machine.proofs.Others.{IsKeptBeside, are_beside, beside_given_up, idle_ended, idle_given_up, rows_stay, stay_at_work}

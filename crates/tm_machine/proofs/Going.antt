@@ -20,8 +20,8 @@ use Rattle.message_run.specs.declared.run.Advanced.TheVariants.{Called, Ended, W
 use Rattle.program_rows.specs.State.{DatabasesState, rows_of}
 use Rattle.lasting_state.specs.Tables.{TablesState, lasting_of}
 use Rattle.message_run.specs.Ahead.{Advances, StayOthers, StaysUnlessCalled}
-use Rattle.tm_machine.specs.declared.region.Busy.{Busy}
-use Rattle.tm_machine.specs.Region.{given_in, SameMessage, StepsOn, Steps, SameWork, calls_made}
+use Rattle.region_work.specs.declared.region.Busy.{Busy}
+use Rattle.region_work.specs.Region.{given_in, SameMessage, StepsOn, Steps, SameWork, calls_made}
 use Rattle.tm_machine.specs.Parts.{PartsState, slots_of, settings_of, flags_of, AreParts}
 use Rattle.tm_machine.specs.Victims.{IsSettled}
 use Rattle.tm_machine.specs.Turns.{Goes}
@@ -35,10 +35,6 @@ some_and P o x e h = rw e h
 
 some-is : {X : Type 0} (a b : X) → Some a ≡ Some b → a ≡ b
 some-is a b e = cc
-
-pub ok_map : {X E : Type 0} (P Q : X → Type 0) (r : Result X E) → ((x : X) → P x → Q x) → IfOk r P → IfOk r Q
-ok_map P Q (Ok x) f h = f x h
-ok_map P Q (Err e) f h = tt
 
 -- what lasts stays while the work goes on
 pub lasting_stays : (settings : List CodeSetting) (tables tables' : TablesState) → tables' ≡ record tables { databases = tables'.databases } → tables'.databases.committed ≡ tables.databases.committed
@@ -196,14 +192,6 @@ module _ (system : System) (tables : TablesState) (states : List CodeState) (reg
 pub on_both : {X E : Type 0} {P Q : X → Type 0} {R : Type 0} (r : Result X E) → ((x : X) → P x → Q x → R) → IfOk r P → IfOk r Q → OnOk r R
 on_both (Ok x) f h k = f x h k
 on_both (Err e) f h k = tt
-
-pub on_map : {X E : Type 0} {P Q : Type 0} (r : Result X E) → (P → Q) → OnOk r P → OnOk r Q
-on_map (Ok x) f h = f h
-on_map (Err e) f h = tt
-
-pub if_err_map : {X E : Type 0} {P Q : E → Type 0} (r : Result X E) → ((e : E) → P e → Q e) → IfErr r P → IfErr r Q
-if_err_map (Ok x) f h = tt
-if_err_map (Err e) f h = f e h
 
 pub err_map : {X E : Type 0} {P Q : Type 0} (r : Result X E) → (P → Q) → OnErr r P → OnErr r Q
 err_map (Ok x) f h = tt

@@ -27,7 +27,7 @@ use Rattle.model_machine.specs.Lasting.{KeptInput, code_word, conversing, input_
 use Rattle.model_machine.specs.Steps.{busy_by}
 use Rattle.model_machine.specs.Trial.{Given}
 use Rattle.step_changes.proofs.Abended.{both, name_prints}
-use Rattle.tm_machine.specs.Region.{given_in}
+use Rattle.region_work.specs.Region.{given_in}
 use Rattle.tm_machine.specs.Parts.{AreApart, AreConversations, IsConversation, IsOfConversation}
 use Rattle.tm_machine.proofs.Conversing.{all_both, all_map, all_append, all_with, alone_append, belongs_still, found_holds, names_stay, no_both, other_terminal, own_terminal}
 

@@ -19,7 +19,7 @@ use Rattle.model_machine.specs.Lasting.{LastingStep, applied}
 use Rattle.model_machine.specs.Steps.{AtWork, After, blocked_answer, turn_answer, turn_by, turn_step, slot_after, slot_answer, slot_work, step_in_turn, unless_blocked, work_answer, ended_step}
 use Rattle.model_machine.proofs.Flags.{now_same}
 use Rattle.lasting_state.specs.Tables.{TablesState, lasting_of}
-use Rattle.tm_machine.specs.declared.region.Busy.{Busy}
+use Rattle.region_work.specs.declared.region.Busy.{Busy}
 use Rattle.tm_machine.specs.Parts.{slots_of, settings_of, flags_of, IsTold, AreParts}
 use Rattle.tm_machine.proofs.Linked.{free_count_is}
 use Rattle.tm_machine.proofs.Raising.{IsFollowed, followed_none}

@@ -5,11 +5,8 @@ mod Tabled
 mod Others
 mod Named
 mod Raising
-pub mod Counting
 mod Free
-mod Firsts
 mod Leaving
-mod Taken
 mod Stepped
 mod Going
 mod Tried

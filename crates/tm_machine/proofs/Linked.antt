@@ -16,10 +16,10 @@ use Rattle.model_system.specs.System.{System}
 use Rattle.program_rows.specs.State.{DatabasesState}
 use Rattle.model_machine.specs.Trial.{Given}
 use Rattle.model_machine.specs.Machine.{Slot, has_message, is_held}
-use Rattle.tm_machine.specs.declared.region.Busy.{Busy}
-use Rattle.tm_machine.specs.Region.{IsWork, given_in}
+use Rattle.region_work.specs.declared.region.Busy.{Busy}
+use Rattle.region_work.specs.Region.{IsWork, given_in}
 use Rattle.tm_machine.specs.Parts.{slot_of, slots_of, IsAtWork, IsTold, AreAtWork}
-use Rattle.tm_machine.proofs.Conversing.{all_found}
+use Rattle.region_work.proofs.Kept.{all_found}
 
 -- A message waits where no region has it, by the slots or by the queues.
 free_is : (code : List ℕ) (slots : List (Option Slot)) (q : Queued) → is_held slots q.message.id ≡ is_some q.holder

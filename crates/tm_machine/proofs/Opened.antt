@@ -33,7 +33,7 @@ use Rattle.opening_parts.specs.Parts.{OpeningParts, AreOpeningParts, waiting}
 use Rattle.program_rows.specs.State.{DatabasesState, AreRowsOf, clean_region, committed_rows, dbds_of, rows_of}
 use Rattle.lasting_state.specs.Tables.{TablesState, lasting_of}
 use Rattle.step_changes.proofs.Abended.{both, name_prints}
-use Rattle.tm_machine.specs.declared.region.Busy.{Busy}
+use Rattle.region_work.specs.declared.region.Busy.{Busy}
 use Rattle.tm_machine.specs.Parts.{slot_of, slots_of, settings_of, flags_of, IsTold, AreAlone, AreApart, AreConversations, AreParts, IsConversation, IsOfConversation}
 use Rattle.tm_machine.proofs.Joining.{field_is, blanks_print}
 use Rattle.tm_machine.proofs.Linked.{free_count_is}

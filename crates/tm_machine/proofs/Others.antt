@@ -29,8 +29,8 @@ use Rattle.model_system.specs.declared.system_program.SystemProgram.{SystemProgr
 use Rattle.model_system.specs.Codes.{code_at}
 use Rattle.system_types.specs.Valid.{IsServable, IsSystem}
 use Rattle.model_system.specs.System.{System}
-use Rattle.tm_machine.specs.declared.region.Busy.{Busy}
-use Rattle.tm_machine.specs.Region.{IsUnit}
+use Rattle.region_work.specs.declared.region.Busy.{Busy}
+use Rattle.region_work.specs.Region.{IsUnit}
 use Rattle.tm_machine.specs.Parts.{IsIdle, AreDatabases, AreIdle}
 use Rattle.tm_machine.proofs.Linked.{StayAtWork}
 use Rattle.tm_machine.proofs.Tabled.{AreOwn, regions_asks, held_released, wait_asks, wait_ended, wait_released}

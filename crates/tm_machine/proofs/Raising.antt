@@ -12,7 +12,7 @@ use Rattle.model_machine.specs.Machine.{raised_now}
 use Rattle.model_machine.specs.Flags.{followed, all_followed}
 use Rattle.model_machine.proofs.Flags.{flags_follow, settings_stay, all_followed_length, now_twice, now_same}
 use Rattle.system_types.specs.Valid.{IsSystem}
-use Rattle.tm_machine.specs.Ends.{destinations}
+use Rattle.region_work.specs.Ends.{destinations}
 use Rattle.tm_machine.specs.Parts.{settings_of, flags_of}
 
 -- the flags followed on those of `states`; all else of the codes stayed
@@ -43,15 +43,6 @@ pub followed_settled : (system : System) (count : List ℕ → ℕ) (states stat
     → raised_now count system.codes (flags_of states') ≡ flags_of states'
 followed_settled system count states states' h =
     ap (raised_now count system.codes) h.flags ∙ now_twice count system.codes (flags_of states) ∙ sym h.flags
-
--- ---- the loop over the names
-pub follow_step : (codes : List Code) (count : List ℕ → ℕ) (names : List (List ℕ)) (first states states' : List CodeState) (index : ℕ) (name : List ℕ) → index < length names
-    → name ≡ get_or names index name → all_followed codes count names first ≡ all_followed codes count (drop index names) states → states' ≡ followed codes name (count name) states
-    → all_followed codes count names first ≡ all_followed codes count (drop (index + 1) names) states'
-follow_step codes count names first states states' index name below here so is =
-    so ∙ ap (λ ns. all_followed codes count ns states) (drop_more names index name below)
-    ∙ ap (λ n. all_followed codes count (drop (index + 1) names) (followed codes n (count n) states)) (sym here)
-    ∙ ap (all_followed codes count (drop (index + 1) names)) (sym is)
 
 -- the flags that followed are those of the code and of the outputs' destinations
 pub follow_is : (codes : List Code) (code : List ℕ) (states states' : List CodeState) (lent queues : QueuesState) (slice names : List (List ℕ)) (made outputs : List EndedMessage)

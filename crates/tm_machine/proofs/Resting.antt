@@ -11,7 +11,7 @@ use Rattle.model_machine.specs.Pick.{Candidate, pick_of}
 use Rattle.model_machine.specs.Steps.{rests, all_rest, pick_now, need_now}
 use Rattle.tran_pick.specs.declared.picked.Pick.{Pick}
 use Rattle.lasting_state.specs.Tables.{TablesState}
-use Rattle.tm_machine.specs.declared.region.Busy.{Busy}
+use Rattle.region_work.specs.declared.region.Busy.{Busy}
 use Rattle.tm_machine.specs.Parts.{slot_of, slots_of, AreParts}
 use Rattle.tm_machine.proofs.Scheduled.{pick_with, pick_is, moment_now}
 use Rattle.tm_machine.proofs.Stepped.{slot_is}

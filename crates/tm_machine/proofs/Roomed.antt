@@ -18,7 +18,7 @@ use Rattle.model_machine.specs.Lasting.{KeptInput, input_message, kept_input, wi
 use Rattle.model_machine.specs.Lasting.LastingStep.{Accepts}
 use Rattle.model_machine.specs.Steps.{no_room, input_answer}
 use Rattle.lasting_state.specs.Tables.{TablesState, lasting_of, content_of, needs, enqueued, Applies}
-use Rattle.tm_machine.specs.declared.region.Busy.{Busy}
+use Rattle.region_work.specs.declared.region.Busy.{Busy}
 use Rattle.tm_machine.specs.declared.input.NewInput.{NewInput}
 use Rattle.tm_machine.specs.Answers.{IsAnswered}
 use Rattle.tm_types.specs.Name.{IsName}

@@ -30,8 +30,8 @@ use Rattle.tran_pick.specs.Picked.{IsFirstFree}
 use Rattle.tran_pick.proofs.Found.{first_codes}
 use Rattle.tran_pick.specs.declared.picked.Pick.{Pick}
 use Rattle.lasting_state.specs.Tables.{TablesState, lasting_of, held}
-use Rattle.tm_machine.specs.declared.region.Busy.{Busy}
-use Rattle.tm_machine.specs.Region.{given_in, IsWork, calls_made}
+use Rattle.region_work.specs.declared.region.Busy.{Busy}
+use Rattle.region_work.specs.Region.{given_in, IsWork, calls_made}
 use Rattle.tm_machine.specs.Parts.{slot_of, slots_of, settings_of, flags_of, IsTold, AreAtWork, AreConversations, AreParts}
 use Rattle.tm_machine.proofs.Linked.{first_free_is, take_told, take_at_work, set_length, set_slots, get_slots}
 use Rattle.tm_machine.proofs.Free.{count_held, or_none}

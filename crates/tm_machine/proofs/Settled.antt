@@ -11,8 +11,8 @@ use Rattle.message_run.specs.RunState.{RunState}
 use Rattle.message_run.specs.Ahead.{IsAhead}
 use Rattle.program_rows.specs.State.{DatabasesState, IsClean, settled, with_marks}
 use Rattle.lasting_state.specs.Tables.{TablesState}
-use Rattle.tm_machine.specs.declared.region.Busy.{Busy}
-use Rattle.tm_machine.specs.Region.{IsUnit, IsWork, given_in}
+use Rattle.region_work.specs.declared.region.Busy.{Busy}
+use Rattle.region_work.specs.Region.{IsUnit, IsWork, given_in}
 use Rattle.tm_machine.specs.Parts.{AreParts, AreAtWork, AreIdle, IsAtWork}
 
 clean_marked : (changed : List (List ℕ)) (region : ℕ) (d : DatabasesState) → IsClean region d → IsClean region (with_marks changed d)

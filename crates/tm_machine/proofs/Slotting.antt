@@ -27,8 +27,8 @@ use Rattle.program_rows.specs.OnSlots.{SlotsState, slots_in, GivesUpSo, HaveSlot
 use Rattle.message_run.proofs.Calls.{all_at}
 use Rattle.message_run.specs.Telling.{next_told, TellsNext}
 use Rattle.lasting_state.specs.Tables.{TablesState, lasting_of}
-use Rattle.tm_machine.specs.declared.region.Busy.{Busy}
-use Rattle.tm_machine.specs.Region.{given_in, HasNext, NextTells, calls_made}
+use Rattle.region_work.specs.declared.region.Busy.{Busy}
+use Rattle.region_work.specs.Region.{given_in, HasNext, NextTells, calls_made}
 use Rattle.tm_machine.specs.Parts.{PartsState, slots_of, settings_of, flags_of, AreDatabases, AreParts}
 use Rattle.tm_machine.specs.OnSlots.{slots_now, GiveUpSo, VictimsGiveUp, slot_told, changes_told, turn_records, TellByCall, TurnTells, IsTurnLonger, TurnsSo, HasSlots}
 use Rattle.tm_machine.specs.Told.{bytes_of, records_of, ends_work, IsLonger, Tells}

@@ -27,7 +27,7 @@ use Rattle.model_machine.specs.Flags.{all_followed}
 use Rattle.model_enqueue.specs.Table.{empty_table, wait_of}
 use Rattle.program_rows.specs.State.{DatabasesState, RegionRows, AreRowsOf, IsClean, clean_region, committed_rows, dbds_of, no_rows, region_at}
 use Rattle.lasting_state.specs.Tables.{TablesState, lasting_of, enqueued}
-use Rattle.tm_machine.specs.declared.region.Busy.{Busy}
+use Rattle.region_work.specs.declared.region.Busy.{Busy}
 use Rattle.tm_machine.specs.Parts.{slots_of, settings_of, flags_of, IsTold, AreConversations, AreParts, IsConversation}
 use Rattle.tm_machine.proofs.Joining.{Joined}
 use Rattle.lasting_state.proofs.Finished.{messages_both}

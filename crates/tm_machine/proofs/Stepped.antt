@@ -18,8 +18,8 @@ use Rattle.message_run.specs.declared.run.Advanced.TheVariants.{Called, Ended, W
 use Rattle.message_run.specs.Ahead.{IsAhead, Advances, StayOthers, StaysUnlessCalled}
 use Rattle.program_rows.specs.State.{DatabasesState, dbds_of, rows_of}
 use Rattle.lasting_state.specs.Tables.{TablesState, lasting_of}
-use Rattle.tm_machine.specs.declared.region.Busy.{Busy}
-use Rattle.tm_machine.specs.Region.{given_in, IsWork, IsQueuedWork, SameMessage, StepsOn, Steps, SameWork}
+use Rattle.region_work.specs.declared.region.Busy.{Busy}
+use Rattle.region_work.specs.Region.{given_in, IsWork, IsQueuedWork, SameMessage, StepsOn, Steps, SameWork}
 use Rattle.tm_machine.specs.Parts.{slot_of, slots_of, settings_of, flags_of, AreParts}
 use Rattle.tm_machine.proofs.Linked.{step_told, step_at_work, set_length, get_slots}
 use Rattle.tm_machine.proofs.Others.{IsKeptBeside, are_beside, beside_same, beside_step, idle_at_work, own_requests, rows_stay, stay_at_work}

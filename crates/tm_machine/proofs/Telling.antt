@@ -34,7 +34,7 @@ use Rattle.model_conversation.specs.declared.conversation.PadChange.TheVariants.
 use Rattle.io_pcb.specs.Pads.{Suits}
 use Rattle.message_run.specs.RunState.{RunState}
 use Rattle.step_telling.specs.Ranges.{HasShortPad}
-use Rattle.tm_machine.specs.Region.{SuitsUnit, pad_by}
+use Rattle.region_work.specs.Region.{SuitsUnit, pad_by}
 use Rattle.log_records.specs.declared.record.Record.{Record}
 use Rattle.log_records.specs.Spelling.{spelling, IsRecord}
 use Rattle.step_records.specs.Records.{step_records, step_bytes}

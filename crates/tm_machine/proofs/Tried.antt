@@ -14,7 +14,7 @@ use Rattle.model_machine.specs.Trial.{Given, Trial, trial_of, trial_start, outpu
 use Rattle.program_rows.specs.State.{DatabasesState, region_at, rows_of}
 use Rattle.message_run.specs.RunState.{RunState}
 use Rattle.message_run.proofs.Conversing.{same_conversation}
-use Rattle.tm_machine.specs.Region.{IsUnit, SuitsUnit, calls_made, outputs_by, pad_by}
+use Rattle.region_work.specs.Region.{IsUnit, SuitsUnit, calls_made, outputs_by, pad_by}
 
 -- the trial of as many calls, with the work's outputs, and with what its region sees and has changed
 pub record IsTried (job : Job) (given : Given) (region : ℕ) (databases : DatabasesState) (unit : Option RunState) : Type 0 where

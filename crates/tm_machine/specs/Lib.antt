@@ -1,4 +1,3 @@
-pub mod Region
 pub mod Parts
 pub mod PartsView
 pub mod Answers

@@ -18,8 +18,8 @@ use Rattle.system_types.specs.Valid.{IsSystem}
 use Rattle.model_enqueue.specs.Table.{wait_of}
 use Rattle.program_rows.specs.State.{DatabasesState, AreRowsOf, IsClean, committed_rows, dbds_of}
 use Rattle.lasting_state.specs.Tables.{TablesState}
-use Rattle.tm_machine.specs.declared.region.Busy.{Busy}
-use Rattle.tm_machine.specs.Region.{IsWork, calls_made, given_in}
+use Rattle.region_work.specs.declared.region.Busy.{Busy}
+use Rattle.region_work.specs.Region.{IsWork, calls_made, given_in}
 
 -- the system, the moment that its machine has come to, and the databases, with what each region has changed
 pub record PartsState : Type 0 where

@@ -14,14 +14,14 @@ ghost use Rattle.tm_machine.specs.OnSlots.{TurnsSo};
 ghost use Rattle.tm_machine.specs.Told.{IsLonger, Tells};
 ghost use Rattle.tm_machine.specs.Turns.{IsTurned};
 
-use crate::close::{busy_at, complete, discard, names_moved};
-use crate::flags::{follow, follow_all};
-use crate::next::next_message;
 use crate::parts::Parts;
-use crate::region::{Busy, count_busy, outputs_by, pad_by, take};
 use lasting_state::{COUNT_LIMIT, Tables, Untold};
 use message_run::Ending;
 use model_machine::Turned;
+use region_work::{
+    Busy, busy_at, complete, count_busy, discard, follow, follow_all, names_moved, next_message,
+    outputs_by, pad_by, take,
+};
 use system_types::System;
 use tm_types::{AbendCode, Name};
 

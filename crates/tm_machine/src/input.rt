@@ -12,14 +12,13 @@ ghost use Rattle.tm_machine.specs.Answers.{Answers};
 ghost use Rattle.tm_machine.specs.Inputs.{IsNewInput, IsRefusal, code_for, way_by, kept_so};
 ghost use Rattle.tm_machine.specs.Told.{IsLonger, TellsUnless};
 
-use crate::flags::follow;
 use crate::lookup::{code_word, find_code};
 use crate::parts::Parts;
-use crate::region::count_busy;
 use conversation::Busy;
 use lasting_state::{Enqueued, KeptInput, Untold, kept_first};
 use model_machine::{ControlFault, InputRefused, Taken};
 use model_system::{Code, SegmentKind};
+use region_work::{count_busy, follow};
 use std::alloc::Global;
 use system_types::{Codes, System};
 use tm_types::{Memory, Name, Segments};

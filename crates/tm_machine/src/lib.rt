@@ -8,19 +8,15 @@
 pub use model_machine::Turned;
 pub use parts::Parts;
 
-mod close;
 mod command;
 mod finish;
-mod flags;
 mod input;
 mod lending;
 mod lookup;
 mod lookups;
-mod next;
 mod opening;
 mod output;
 mod parts;
 mod quiet;
-mod region;
 mod turn;
 mod victims;

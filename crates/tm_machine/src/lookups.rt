@@ -11,11 +11,11 @@ ghost use Rattle.tm_machine.specs.Lookups.{message_of};
 ghost use Rattle.tm_machine.specs.Parts.{slot_of};
 
 use crate::parts::Parts;
-use crate::region::Busy as BusyRegion;
 use conversation::Busy;
 use model_machine::TerminalState;
 use model_queues::TerminalReplies;
 use model_system::CodeState;
+use region_work::Busy as BusyRegion;
 use tm_types::{Name, Resource};
 
 impl Parts {

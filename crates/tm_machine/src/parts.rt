@@ -6,8 +6,8 @@ ghost use Rattle.program_rows.specs.Making.{AreThere};
 ghost use Rattle.program_rows.specs.State.{settled, with_marks};
 ghost use Rattle.tm_machine.specs.OnSlots.{slots_now, HasSlots};
 
-use crate::region::Busy;
 use lasting_state::Tables;
+use region_work::Busy;
 use seg_store::Stores;
 use std::alloc::Global;
 use std::marker::Model;

@@ -11,14 +11,12 @@ ghost use Rattle.tm_machine.specs.OnSlots.{changes_told, IsTurnLonger, TellByCal
 ghost use Rattle.tm_machine.specs.Told.{ends_work};
 ghost use Rattle.tm_machine.specs.Turns.{Goes, IsTurned, waited};
 
-use crate::flags::follow;
-use crate::next::SLOT_ROOM;
 use crate::parts::Parts;
-use crate::region::{Busy, advance, count_busy, take};
 use lasting_state::Untold;
 use message_run::Advanced;
 use model_enqueue::Victims;
 use model_machine::Turned;
+use region_work::{Busy, SLOT_ROOM, advance, count_busy, follow, take};
 use tm_types::Resource;
 use tran_pick::pick;
 

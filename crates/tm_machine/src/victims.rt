@@ -7,12 +7,11 @@ ghost use Rattle.program_rows.specs.OnSlots.{GivesUpSo, HaveSlots};
 ghost use Rattle.tm_machine.specs.OnSlots.{slots_now, VictimsGiveUp};
 ghost use Rattle.tm_machine.specs.Victims.{gave_way, BreaksRings, GivesWay};
 
-use crate::close::{busy_at, code_of, give_up};
-use crate::flags::follow;
 use crate::parts::Parts;
 use deadlock_pick::{Weights, least_cycle, victim};
 use model_enqueue::{Victim, Victims};
 use program_rows::Databases;
+use region_work::{busy_at, code_of, follow, give_up};
 
 impl Parts {
     /// Breaks all rings that go through a region: one region of each gives way, until none is left. They are

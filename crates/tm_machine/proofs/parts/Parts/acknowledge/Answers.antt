@@ -1,6 +1,7 @@
 use Rattle.std.proofs.Common.{sym}
 use Rattle.tm_machine.proofs.Asked.{acknowledged_is, acknowledged_tells, acknowledged_longer, parts_acked, databases_acked}
-use Rattle.tm_machine.proofs.Going.{ok_both, on_both, if_err_map}
+use Rattle.tm_machine.proofs.Going.{ok_both, on_both}
+use Rattle.region_work.proofs.Results.{if_err_map}
 use Rattle.lasting_state.proofs.Told.{where_full}
 use Rattle.tm_machine.proofs.parts.Parts.acknowledge.Goals as goal
 

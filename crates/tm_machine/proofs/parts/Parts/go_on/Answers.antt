@@ -5,7 +5,7 @@ use Rattle.std.specs.Option.{is_some}
 use Rattle.model_queues.specs.Queue.{free_count}
 use Rattle.model_machine.specs.Flags.{all_followed}
 use Rattle.program_rows.specs.OnSlots.{slots_in, CommitsSo}
-use Rattle.tm_machine.specs.Ends.{destinations}
+use Rattle.region_work.specs.Ends.{destinations}
 use Rattle.tm_machine.proofs.Raising.{follow_is, followed_settled}
 use Rattle.model_machine.specs.Trial.WorkEnd.{Syncs}
 use Rattle.lasting_state.proofs.Told.{err_where}

@@ -3,7 +3,8 @@ use Rattle.model_machine.specs.declared.entry.Turned.TheVariants.{Called as Turn
 use Rattle.tm_machine.specs.OnSlots.{changes_told, TurnsSo}
 use Rattle.tm_machine.specs.Turns.{IsTurned}
 use Rattle.tm_machine.proofs.Breaking.{turned_waits}
-use Rattle.tm_machine.proofs.Going.{ok_map, on_map, err_map, if_err_map}
+use Rattle.tm_machine.proofs.Going.{err_map}
+use Rattle.region_work.proofs.Results.{ok_map, on_map, if_err_map}
 use Rattle.tm_machine.proofs.Slotting.{none_added, none_told, tells_call, tells_later, longer_call, longer_later, turns_later, empty_tells, by_call, all_by_call, waits_so, table_alone}
 use Rattle.lasting_state.proofs.Told.{where_full}
 use Rattle.tm_machine.proofs.Telling.{quiet_tells}

@@ -1,7 +1,0 @@
-use Rattle.std.proofs.Common.{◌≡◌, ◌∷◌, ◌++◌, drop}
-use Rattle.tm_machine.specs.Ends.{destinations}
-use Rattle.tm_machine.proofs.close.names_moved.Given as goal
-
--- the names so far, and those of the outputs to come
-abbrev pub invariant-loop-place : goal.invariant-loop-place
-invariant-loop-place l = l.names.items ++ destinations (drop l.place l.outputs.items) ≡ l.code ∷ destinations l.outputs.items

@@ -1,9 +1,0 @@
-use Rattle.std.proofs.Common.{refl, sym, subst}
-use Rattle.message_run.specs.Telling.{TellsNext}
-use Rattle.message_run.proofs.NextTold.{tells_nothing}
-use Rattle.tm_machine.specs.Region.{NextTells}
-use Rattle.tm_machine.proofs.region.advance.Goals as goal
-
-pub returns-in_default-clause-tells : goal.returns-in_default-clause-tells
-returns-in_default-clause-tells c =
-    rw c.in_default.is (tells_nothing c.args.unit c.args.room c.args.region c.args.tables.now.databases c.args.tables.now.databases c.args.told.now.items refl)
