@@ -22,5 +22,3 @@ mod inserting;
 mod need_list;
 mod needed;
 mod planned;
-#[cfg(test)]
-mod tests;

@@ -20,8 +20,6 @@ mod operator_commands;
 #[cfg(test)]
 mod queue_room;
 #[cfg(test)]
-mod record_bytes;
-#[cfg(test)]
 mod record_layouts;
 #[cfg(test)]
 mod reply_queues;

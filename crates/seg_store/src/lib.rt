@@ -16,6 +16,4 @@ mod free;
 mod index;
 mod store;
 mod stores;
-#[cfg(test)]
-mod tests;
 mod write_back;

@@ -17,5 +17,3 @@ mod programs;
 mod reader;
 mod rules;
 mod source;
-#[cfg(test)]
-mod tests;

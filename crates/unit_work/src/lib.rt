@@ -8,6 +8,4 @@ pub use change::{Change, UnitSlot};
 pub use unit::{Prepared, TouchRefused, Unit};
 
 mod change;
-#[cfg(test)]
-mod tests;
 mod unit;

@@ -1,24 +1,14 @@
 //! `seg_rows`: worked records, and rows at their limits.
 ghost use Rattle.std.specs.Prelude.{◌≡◌};
 
+use crate::databases::segment;
 use seg_rows::{
     DecodeFault, EncodeRefused, PlainRows, RecordImage, Rows, StoreRefused, decode_record,
     encode_record,
 };
 use std::alloc::Global;
 use std::test::Fail;
-use tm_types::{Bytes, Dbd, Key, Name, SegType, SegTypes};
-
-fn segment(name: Name, parent: u8, key: u8, bytes: u16) -> SegType
-    ensures { result ≡ record { name = name; parent = parent; key = key; bytes = bytes } }
-{
-    SegType {
-        name,
-        parent,
-        key,
-        bytes,
-    }
-}
+use tm_types::{Bytes, Dbd, Key, Name, SegTypes};
 
 // An account with moves of 12 bytes, parts of 4 bytes below them, and notes of 3 bytes.
 fn accounts(alloc: Global, roots: u16) -> Result<Dbd, Fail> {

@@ -1,6 +1,6 @@
 use Rattle.std.proofs.Common.{◌≡◌}
 use Rattle.model_dli.specs.Conditions.{IsPosition}
-use Rattle.dli_calls.proofs.tests.run_steps.Given as goal
+use Rattle.row_tests.proofs.database_calls.run_steps.Given as goal
 
 abbrev pub invariant-loop-place : goal.invariant-loop-place
 invariant-loop-place g l =

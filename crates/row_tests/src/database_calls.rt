@@ -1,4 +1,4 @@
-//! Worked calls, and calls at the limits of a database.
+//! `dli_calls`: worked calls, and calls at the limits of a database.
 ghost use Rattle.std.specs.Prelude.{◌≡◌, ◌≤◌, length, IsTrue, IsSomeAnd};
 ghost use Rattle.std.specs.List.{list_all};
 ghost use Rattle.tm_types.specs.Segment.{is_printable};
@@ -6,29 +6,18 @@ ghost use Rattle.tm_types.specs.SegTypes.{type_at};
 ghost use Rattle.model_dli.specs.Search.{number_named};
 ghost use Rattle.model_dli.specs.Conditions.{AreInsertSsas, NamesChild, IsDbCall, IsPosition};
 
-use crate::{DbCall, Position, needs, perform, would_change};
+use crate::databases::segment;
+use dli_calls::{DbCall, Position, needs, perform, would_change};
 use row_search::number_named;
 use seg_rows::{PlainRows, Rows, StoreRefused};
 use std::alloc::Global;
 use std::test::Fail;
 use tm_types::processing::{DELETE, GET, INSERT, REPLACE};
 use tm_types::{
-    Bytes, Dbd, Function, Key, KeyTest, Mode, Name, SegType, SegTypes, Ssa, Ssas, Status,
-    is_printable,
+    Bytes, Dbd, Function, Key, KeyTest, Mode, Name, SegTypes, Ssa, Ssas, Status, is_printable,
 };
 
 const ALL: u8 = GET + INSERT + REPLACE + DELETE;
-
-fn segment(name: Name, parent: u8, key: u8, bytes: u16) -> SegType
-    ensures { result ≡ record { name = name; parent = parent; key = key; bytes = bytes } }
-{
-    SegType {
-        name,
-        parent,
-        key,
-        bytes,
-    }
-}
 
 fn name(text: &[u8]) -> Result<Name, Fail> {
     Ok(Name::read(text).ok_or("no name")?)

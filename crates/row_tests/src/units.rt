@@ -1,39 +1,12 @@
-//! What a unit keeps and takes back.
-ghost use Rattle.std.specs.Prelude.{◌≡◌, IfOk};
+//! `unit_work`: what a unit keeps and takes back.
 
-use crate::{TouchRefused, Unit};
+use crate::databases::accounts;
 use seg_rows::{RecordImage, Rows, decode_record};
 use seg_store::Stores;
 use std::alloc::Global;
 use std::test::Fail;
-use tm_types::{Dbd, Key, Name, SegType, SegTypes};
-
-fn segment(name: Name, parent: u8, key: u8, bytes: u16) -> SegType
-    ensures { result ≡ record { name = name; parent = parent; key = key; bytes = bytes } }
-{
-    SegType {
-        name,
-        parent,
-        key,
-        bytes,
-    }
-}
-
-// An account with moves of 12 bytes.
-fn accounts(alloc: Global) -> Result<Dbd, Fail>
-    ensures { IfOk result (λ dbd. dbd.roots ≡ 3) }
-{
-    let name = Name::read(b"ACC").ok_or("no name")?;
-    let mut types = SegTypes::new(alloc);
-    types.push(segment(name, 0, 4, 12))?;
-    types.push(segment(name, 1, 4, 12))?;
-    Ok(Dbd {
-        name,
-        roots: 3,
-        sectors: 1,
-        types,
-    })
-}
+use tm_types::Key;
+use unit_work::{TouchRefused, Unit};
 
 fn key(bytes: &[u8]) -> Result<Key, Fail> {
     Ok(Key::read(bytes).ok_or("no key")?)
@@ -51,7 +24,7 @@ fn summary(unit: &Unit, place: u32) -> Option<(u8, u16, Key, usize)> {
 #[test]
 fn touched_slots(rt: HostRuntime) -> Result<(), Fail> {
     let alloc = rt.alloc();
-    let dbd = accounts(alloc)?;
+    let dbd = accounts(alloc, 3)?;
     let none = RecordImage::new(alloc);
     let one = decode_record(alloc, &dbd, b"\x01000100001000")?;
     let two = decode_record(alloc, &dbd, b"\x01000100001000\x020001 OPENING")?;
@@ -112,7 +85,7 @@ fn at_most_32_records(rt: HostRuntime) -> Result<(), Fail> {
 #[test]
 fn nothing_to_back_out(rt: HostRuntime) -> Result<(), Fail> {
     let alloc = rt.alloc();
-    let dbds = [accounts(alloc)?];
+    let dbds = [accounts(alloc, 3)?];
     let mut stores = Stores::empty(alloc, &dbds)?;
     let mut unit = Unit::new(alloc);
     unit.back_out(&mut stores);
@@ -125,7 +98,7 @@ fn nothing_to_back_out(rt: HostRuntime) -> Result<(), Fail> {
 #[test]
 fn record_goes_back(rt: HostRuntime) -> Result<(), Fail> {
     let alloc = rt.alloc();
-    let dbds = [accounts(alloc)?];
+    let dbds = [accounts(alloc, 3)?];
     let mut stores = Stores::empty(alloc, &dbds)?;
     let first = key(b"0001")?;
     let image = decode_record(alloc, &dbds[0], b"\x01000100001000")?;

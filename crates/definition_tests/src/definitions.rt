@@ -1,8 +1,8 @@
 //! What no clause says: worked definitions.
-use crate::{DefinitionReader, read_definition};
 use std::alloc::{AllocError, Global};
 use std::test::Fail;
 use sysdef_check::{CrossRefused, check};
+use sysdef_text::{DefinitionReader, read_definition};
 use text_rows::LineRefused;
 use tm_edge::Line;
 use tm_types::Name;
