@@ -115,19 +115,12 @@ fn compared(
     Ok((place, value, found, wanted))
 }
 
-// The first difference where bytes of a sector are changed, from one place up to another: those whose place is a multiple of
-// a number.
-fn difference(
-    alloc: Global,
-    at: u32,
-    from: usize,
-    to: usize,
-    every: usize,
-) -> Result<Option<Difference>, Fail> {
+// The first difference where each byte of a sector is changed, from one place up to another.
+fn difference(alloc: Global, at: u32, from: usize, to: usize) -> Result<Option<Difference>, Fail> {
     let mut disk = hostile(alloc)?;
     let sector = got(&mut disk, at)?;
     for (place, byte) in sector.bytes().iter().enumerate() {
-        if place < from || place >= to || place.checked_rem(every) != Some(0) {
+        if place < from || place >= to {
             continue;
         }
         let values = others(place, *byte);
@@ -153,35 +146,126 @@ fn the_image_itself(rt: HostRuntime) -> Result<(), Fail> {
     Ok(())
 }
 
-#[test]
-fn each_byte_of_the_restart_sector(rt: HostRuntime) -> Result<(), Fail> {
-    assert_eq!(rt; difference(rt.alloc(), 0, 0, SECTOR_BYTES, 1)?, None);
-    Ok(())
-}
+// Each byte of both sectors, in parts by their places.
 
-// In parts, as each of these images is opened whole.
 #[test]
-fn the_front_of_the_snapshot(rt: HostRuntime) -> Result<(), Fail> {
-    assert_eq!(rt; difference(rt.alloc(), SNAPSHOT_B, 0, 170, 1)?, None);
+fn the_restart_sector_from_byte_0(rt: HostRuntime) -> Result<(), Fail> {
+    assert_eq!(rt; difference(rt.alloc(), 0, 0, 256)?, None);
     Ok(())
 }
 
 #[test]
-fn the_middle_of_the_snapshot(rt: HostRuntime) -> Result<(), Fail> {
-    assert_eq!(rt; difference(rt.alloc(), SNAPSHOT_B, 170, 320, 1)?, None);
+fn the_restart_sector_from_byte_256(rt: HostRuntime) -> Result<(), Fail> {
+    assert_eq!(rt; difference(rt.alloc(), 0, 256, FIELDS)?, None);
     Ok(())
 }
 
 #[test]
-fn the_end_of_the_snapshot(rt: HostRuntime) -> Result<(), Fail> {
-    assert_eq!(rt; difference(rt.alloc(), SNAPSHOT_B, 320, FIELDS, 1)?, None);
+fn the_restart_sector_from_byte_512(rt: HostRuntime) -> Result<(), Fail> {
+    assert_eq!(rt; difference(rt.alloc(), 0, FIELDS, 1408)?, None);
     Ok(())
 }
 
 #[test]
-fn the_zeros_behind_the_snapshot(rt: HostRuntime) -> Result<(), Fail> {
+fn the_restart_sector_from_byte_1408(rt: HostRuntime) -> Result<(), Fail> {
+    assert_eq!(rt; difference(rt.alloc(), 0, 1408, 2304)?, None);
+    Ok(())
+}
+
+#[test]
+fn the_restart_sector_from_byte_2304(rt: HostRuntime) -> Result<(), Fail> {
+    assert_eq!(rt; difference(rt.alloc(), 0, 2304, 3200)?, None);
+    Ok(())
+}
+
+#[test]
+fn the_restart_sector_from_byte_3200(rt: HostRuntime) -> Result<(), Fail> {
+    assert_eq!(rt; difference(rt.alloc(), 0, 3200, SECTOR_BYTES)?, None);
+    Ok(())
+}
+
+#[test]
+fn the_snapshot_from_byte_0(rt: HostRuntime) -> Result<(), Fail> {
+    assert_eq!(rt; difference(rt.alloc(), SNAPSHOT_B, 0, 90)?, None);
+    Ok(())
+}
+
+#[test]
+fn the_snapshot_from_byte_90(rt: HostRuntime) -> Result<(), Fail> {
+    assert_eq!(rt; difference(rt.alloc(), SNAPSHOT_B, 90, 180)?, None);
+    Ok(())
+}
+
+#[test]
+fn the_snapshot_from_byte_180(rt: HostRuntime) -> Result<(), Fail> {
+    assert_eq!(rt; difference(rt.alloc(), SNAPSHOT_B, 180, 260)?, None);
+    Ok(())
+}
+
+#[test]
+fn the_snapshot_from_byte_260(rt: HostRuntime) -> Result<(), Fail> {
+    assert_eq!(rt; difference(rt.alloc(), SNAPSHOT_B, 260, 340)?, None);
+    Ok(())
+}
+
+#[test]
+fn the_snapshot_from_byte_340(rt: HostRuntime) -> Result<(), Fail> {
+    assert_eq!(rt; difference(rt.alloc(), SNAPSHOT_B, 340, 420)?, None);
+    Ok(())
+}
+
+#[test]
+fn the_snapshot_from_byte_420(rt: HostRuntime) -> Result<(), Fail> {
+    assert_eq!(rt; difference(rt.alloc(), SNAPSHOT_B, 420, FIELDS)?, None);
+    Ok(())
+}
+
+#[test]
+fn the_snapshot_from_byte_512(rt: HostRuntime) -> Result<(), Fail> {
+    assert_eq!(rt; difference(rt.alloc(), SNAPSHOT_B, FIELDS, 960)?, None);
+    Ok(())
+}
+
+#[test]
+fn the_snapshot_from_byte_960(rt: HostRuntime) -> Result<(), Fail> {
+    assert_eq!(rt; difference(rt.alloc(), SNAPSHOT_B, 960, 1408)?, None);
+    Ok(())
+}
+
+#[test]
+fn the_snapshot_from_byte_1408(rt: HostRuntime) -> Result<(), Fail> {
+    assert_eq!(rt; difference(rt.alloc(), SNAPSHOT_B, 1408, 1856)?, None);
+    Ok(())
+}
+
+#[test]
+fn the_snapshot_from_byte_1856(rt: HostRuntime) -> Result<(), Fail> {
+    assert_eq!(rt; difference(rt.alloc(), SNAPSHOT_B, 1856, 2304)?, None);
+    Ok(())
+}
+
+#[test]
+fn the_snapshot_from_byte_2304(rt: HostRuntime) -> Result<(), Fail> {
+    assert_eq!(rt; difference(rt.alloc(), SNAPSHOT_B, 2304, 2752)?, None);
+    Ok(())
+}
+
+#[test]
+fn the_snapshot_from_byte_2752(rt: HostRuntime) -> Result<(), Fail> {
+    assert_eq!(rt; difference(rt.alloc(), SNAPSHOT_B, 2752, 3200)?, None);
+    Ok(())
+}
+
+#[test]
+fn the_snapshot_from_byte_3200(rt: HostRuntime) -> Result<(), Fail> {
+    assert_eq!(rt; difference(rt.alloc(), SNAPSHOT_B, 3200, 3648)?, None);
+    Ok(())
+}
+
+#[test]
+fn the_snapshot_from_byte_3648(rt: HostRuntime) -> Result<(), Fail> {
     assert_eq!(rt;
-        difference(rt.alloc(), SNAPSHOT_B, FIELDS, SECTOR_BYTES, 13)?,
+        difference(rt.alloc(), SNAPSHOT_B, 3648, SECTOR_BYTES)?,
         None
     );
     Ok(())

@@ -170,6 +170,20 @@ fn rules_of_a_larger_system(rt: HostRuntime) -> Result<(), Fail> {
     Ok(())
 }
 
+// Of a data sector at most 4,000 bytes are used; zeros are no rows.
+#[test]
+fn the_used_bytes_of_a_data_sector(rt: HostRuntime) -> Result<(), Fail> {
+    let alloc = rt.alloc();
+    for (used, rule) in [(1u16, 21), (4000, 21), (4001, 20), (65_535, 20)] {
+        let mut disk = MemDisk::new(alloc, 1517, Vec::new(alloc))?;
+        assert_eq!(rt; refusal(alloc, &mut disk, LARGER, LARGER)?, None);
+        put_bytes(&mut disk, 1417, 0, &used.to_be_bytes())?;
+        let found = refusal(alloc, &mut disk, LARGER, LARGER)?;
+        assert_eq!(rt; found, Some(Refused::Bad(rule, 1417)), "{used}");
+    }
+    Ok(())
+}
+
 const LIMIT: u64 = 1_000_000_000_000_000_000;
 
 // Where a counter stands in the plain image: a sector and the place of its 8 bytes there. The checkpoint stands in the
