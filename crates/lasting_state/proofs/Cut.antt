@@ -1,8 +1,9 @@
 -- A segment without its first word.
-use Rattle.std.proofs.Common.{◌≡◌, ℕ, zero, suc, ◌+◌, ◌≤◌, ◌&&◌, Bool, true, false, List, [], ◌∷◌, ◌++◌, length, drop, refl, sym, ap, ◌∙◌, arith, append_assoc}
-use Rattle.std.specs.Prelude.{◌==◌, if◌then◌else◌}
-use Rattle.std.specs.List.{position_or_len, list_all}
-use Rattle.std.proofs.lemmas.List.{append-nil}
+use Rattle.std.proofs.Common.{◌≡◌, ℕ, zero, suc, ◌+◌, ◌≤◌, ◌&&◌, Bool, true, false, List, [], ◌∷◌, ◌++◌, length, drop, get_or, refl, sym, ap, subst, ◌∙◌, arith, append_assoc}
+use Rattle.std.specs.Prelude.{◌==◌, if◌then◌else◌, Some}
+use Rattle.std.specs.List.{position_or_len, list_all, slice_get}
+use Rattle.std.proofs.lemmas.List.{append-nil, drop_all, drop_more}
+use Rattle.std.proofs.lemmas.Option.{slice_get_within, get_or_from_slice_get}
 use Rattle.std.proofs.lemmas.Bool.{and_parts, ne_eqb}
 use Rattle.tm_types.specs.Segment.{IsSegmentText, is_printable}
 use Rattle.tm_types.specs.Words.{operands}
@@ -29,12 +30,25 @@ abbrev pub joined : List (List ℕ) → List (List ℕ) → List (List ℕ)
 joined [] rest = without_word rest
 joined (k ∷ kept) rest = k ∷ (kept ++ rest)
 
-pub joined_more : (kept : List (List ℕ)) (s : List ℕ) (rest whole : List (List ℕ)) → joined kept (s ∷ rest) ≡ whole → joined (kept ++ kept_at (length kept) s ∷ []) rest ≡ whole
+joined_more : (kept : List (List ℕ)) (s : List ℕ) (rest whole : List (List ℕ)) → joined kept (s ∷ rest) ≡ whole → joined (kept ++ kept_at (length kept) s ∷ []) rest ≡ whole
 joined_more [] s rest whole h = h
 joined_more (k ∷ kept) s rest whole h =
     ap (λ b. k ∷ (kept ++ (if b then operands s else s) ∷ [] ++ rest)) (ne_eqb (length (k ∷ kept)) 0 (λ e. absurd (omega (arith, e))))
     ∙ ap (λ xs. k ∷ xs) (append_assoc kept (s ∷ []) rest) ∙ h
 
-pub joined_all : (kept whole : List (List ℕ)) → joined kept [] ≡ whole → kept ≡ whole
+joined_all : (kept whole : List (List ℕ)) → joined kept [] ≡ whole → kept ≡ whole
 joined_all [] whole h = h
 joined_all (k ∷ kept) whole h = ap (λ xs. k ∷ xs) (sym (append-nil kept)) ∙ h
+
+-- one segment more, at its place
+pub joined_next : (kept segments whole : List (List ℕ)) (place : ℕ) (s : List ℕ) → slice_get segments place ≡ Some s → joined kept (drop place segments) ≡ whole
+    → joined (kept ++ kept_at (length kept) s ∷ []) (drop (place + 1) segments) ≡ whole
+joined_next kept segments whole place s at h =
+    let inside = slice_get_within segments place s at in
+    let first : drop place segments ≡ s ∷ drop (place + 1) segments =
+    drop_more segments place s inside ∙ ap (λ (t : List ℕ). t ∷ drop (place + 1) segments) (get_or_from_slice_get segments place s s at) in
+    joined_more kept s (drop (place + 1) segments) whole (subst (λ (rest : List (List ℕ)). joined kept rest ≡ whole) first h)
+
+pub joined_end : (kept segments whole : List (List ℕ)) (place : ℕ) → length segments ≤ place → joined kept (drop place segments) ≡ whole → kept ≡ whole
+joined_end kept segments whole place past h =
+    joined_all kept whole (subst (λ (rest : List (List ℕ)). joined kept rest ≡ whole) (drop_all place segments past) h)

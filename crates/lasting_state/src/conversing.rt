@@ -55,12 +55,15 @@ pub fn kept_first(
 }
 
 /// The segments without the first one's first word, and without the blank that ends it.
-#[tactic(auto, using(crate::proofs::Cut::joined_more, crate::proofs::Cut::joined_all))]
+#[tactic(auto, using(crate::proofs::Cut::joined_next, crate::proofs::Cut::joined_end))]
 fn without_word(alloc: Global, segments: &Segments) -> Result<Segments, Memory>
     ensures { IfOk result (λ kept. kept ≡ without_word segments.now) }
 {
     let mut kept = Segments::new(alloc);
-    for segment in segments.iter() {
+    for place in 0..segments.len() {
+        let Some(segment) = segments.get(place) else {
+            unreachable!()
+        };
         kept.push(kept_at(alloc, kept.len(), segment)?)?;
     }
     Ok(kept)

@@ -30,6 +30,8 @@ mod script_runs;
 #[cfg(test)]
 mod sector_chains;
 #[cfg(test)]
+mod segment_lists;
+#[cfg(test)]
 mod text_pieces;
 #[cfg(test)]
 mod workload_texts;

@@ -5,3 +5,4 @@ pub mod Unfaulted
 pub mod Kept
 pub mod Ending
 pub mod Growing
+pub mod Bounded

@@ -1,5 +1,6 @@
 pub mod Numbers
 pub mod Blocks
+pub mod Bounded
 pub mod Lines
 pub mod Text
 pub mod Turns

@@ -1,8 +1,9 @@
 -- What a block of session lines asks for, or the lowest rule that it breaks: 1 a first word that is not
 -- known, 2 operands missing or too many, 3 no number in its range, 4 no name, 5 a `+` line that belongs to
 -- no line, 6 a byte that is not printable, 8 a field line without =.
-use Rattle.std.specs.Prelude.{ℕ, ◌<◌, ◌≤◌, ⊤, ◌==◌, nat_lt, nat_le, Bool, true, false, ◌&&◌, if◌then◌else◌, Option, Some, None, Result, Ok, Err, List, [], ◌∷◌, length, map, take, codes}
-use Rattle.std.specs.List.{list_all, list_any, count_by}
+use Rattle.std.specs.Prelude.{ℕ, ◌<◌, ◌≤◌, ⊤, ◌==◌, nat_lt, nat_le, Bool, true, false, ◌&&◌, if◌then◌else◌, Option, Some, None, Result, Ok, Err, List, [], ◌∷◌, ◌++◌, length, map, replicate, take, codes}
+use Rattle.std.specs.List.{list_all, list_any}
+use Rattle.std.specs.Option.{option_or}
 use Rattle.std.specs.Str.{bytes_eq}
 use Rattle.text_rows.specs.Lines.{split_at}
 use Rattle.text_rows.specs.Lowest.{both, also}
@@ -25,13 +26,10 @@ use Rattle.model_session.specs.Numbers.{number_operand, name_operand}
 use Rattle.model_command.specs.declared.command.Command.{Command as OperatorCommand}
 use Rattle.model_command.specs.declared.command.Command.TheVariants.{Checkpoint as TakeCheckpoint, Freeze, EmergencyRestart, NormalRestart, ColdStart as ColdRestart}
 use Rattle.model_command.specs.Commands.{command_of}
+pub use Rattle.model_session.specs.Blocks.{operand_count, has_operand}
 use Rattle.model_session.specs.Blocks.{Block, is_further, is_screen}
 
 -- ---- the form of one line
-
--- words are parted by one blank, so a line has as many operands as blanks
-abbrev pub operand_count : List ℕ → ℕ
-operand_count line = count_by (λ b. b == 32) line
 
 -- the number of an input or a reply
 abbrev pub message_number : List ℕ → Result ℕ ℕ
@@ -122,12 +120,9 @@ form_of regions line =
 
 -- ---- a whole block
 
--- + text: the text is all that follows the blank, and may be empty
-abbrev pub has_operand : List ℕ → Bool
-has_operand line = nat_le 1 (operand_count line)
-
-abbrev pub text_forms : List (List ℕ) → Result (Unit {0}) ℕ
-text_forms lines = if list_all has_operand lines then Ok tt else Err 2
+-- each `+` line of an input has an operand
+abbrev pub text_forms : Block → Result (Unit {0}) ℕ
+text_forms block = if list_all has_operand block.further && block.others.complete then Ok tt else Err 2
 
 -- + NAME=text: the name stands before the first =, and the text is all that follows this, and may be empty
 abbrev pub with_text : List ℕ → Result (List ℕ) ℕ → Result (List ℕ × List ℕ) ℕ
@@ -151,26 +146,35 @@ field_forms (line ∷ lines) = also (judged (field_of line)) (field_forms lines)
 
 -- behind SCREEN stand field lines, and behind another line texts
 unfoldable pub further_forms : Block → Result (Unit {0}) ℕ
-further_forms block = if is_screen block.line then field_forms block.further else text_forms block.further
+further_forms block = if is_screen block.line then field_forms block.further else text_forms block
 
 unfoldable pub printable_block : Block → Result (Unit {0}) ℕ
-printable_block block = if are_printable block.line && list_all are_printable block.further then Ok tt else Err 6
+printable_block block = if are_printable block.line && list_all are_printable block.further && block.others.printable then Ok tt else Err 6
 
 -- the form of the first line, where no line of the block breaks a rule; else the lowest rule that one of them breaks
 unfoldable pub block_form : ℕ → Block → Result Form ℕ
 block_form regions block = also (form_of regions block.line) (also (further_forms block) (printable_block block))
 
--- the texts of an input's segments: the first is the third operand of its line
+-- the texts of an input's segments that are kept: the first is the third operand of its line
 abbrev pub input_text : List ℕ → List ℕ
 input_text line = operands (operands (operands line))
 
+abbrev pub kept_texts : Block → List (List ℕ)
+kept_texts block = input_text block.line ∷ map operands block.further
+
+-- The texts of an input's segments. Those behind the kept ones are empty: an input with so many segments is refused
+-- by their number, and its texts are told nowhere.
 abbrev pub input_texts : Block → List (List ℕ)
-input_texts block = input_text block.line ∷ map operands block.further
+input_texts block = kept_texts block ++ replicate block.others.count []
 
 -- the length of the first text that is too long
 abbrev pub first_long : List (List ℕ) → Option ℕ
 first_long [] = None
 first_long (text ∷ texts) = if nat_lt 1996 (length text) then Some (length text) else first_long texts
+
+-- the same of an input's texts, kept or not
+abbrev pub input_long : Block → Option ℕ
+input_long block = option_or (first_long (kept_texts block)) block.others.long
 
 -- the values that the field lines of a screen give
 abbrev pub value_before : Result (List ℕ × List ℕ) ℕ → List FieldValue → List FieldValue
@@ -194,11 +198,8 @@ abbrev pub unless_long : System → List ℕ → ℕ → List (List ℕ) → Opt
 unless_long system terminal number texts (Some long) = stopped system terminal number (TooLong long)
 unless_long system terminal number texts None = Call (Input terminal number texts)
 
-abbrev pub input_asked : System → List ℕ → ℕ → List (List ℕ) → Asked
-input_asked system terminal number texts = unless_long system terminal number texts (first_long texts)
-
 abbrev pub entered_asked : System → List ℕ → ℕ → Result (List (List ℕ)) (List ℕ) → Asked
-entered_asked system terminal number (Ok texts) = input_asked system terminal number texts
+entered_asked system terminal number (Ok texts) = unless_long system terminal number texts (first_long texts)
 entered_asked system terminal number (Err name) = stopped system terminal number (Field name)
 
 abbrev pub screen_asked : System → List ℕ → ℕ → List FieldValue → Option FormatLines → Asked
@@ -206,7 +207,7 @@ screen_asked system terminal number values (Some format) = entered_asked system 
 screen_asked system terminal number values None = stopped system terminal number Format
 
 abbrev pub asked_by : System → Block → Result Form ℕ → Asked
-asked_by system block (Ok (InputForm terminal number)) = input_asked system terminal number (input_texts block)
+asked_by system block (Ok (InputForm terminal number)) = unless_long system terminal number (input_texts block) (input_long block)
 asked_by system block (Ok (ScreenForm terminal number)) = screen_asked system terminal number (values_in block.further) (format_of system terminal)
 asked_by system block (Ok (ReceiveForm terminal)) = Call (Receive terminal)
 asked_by system block (Ok (AcknowledgeForm terminal number)) = Call (Acknowledge terminal number)

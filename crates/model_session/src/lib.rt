@@ -6,5 +6,7 @@
 #![tactic(auto)]
 
 pub use asked::{Asked, Form, ImageRefused, InputStopped};
+pub use others::Others;
 
 mod asked;
+mod others;

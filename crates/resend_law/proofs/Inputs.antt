@@ -1,13 +1,11 @@
 -- An input that was accepted is never accepted again under its number.
-use Rattle.std.proofs.Common.{◌≡◌, ◌≢◌, ◌≤◌, ◌<◌, ◌⊎◌, inl, inr, ⊎_elim, ℕ, suc, ◌+◌, ◌-◌, Bool, true, false, ◌&&◌, List, [], ◌∷◌, ◌++◌, length, Option, Some, None, refl, sym, ap, ◌∙◌, subst, arith, cond, nat_lt}
-use Rattle.std.specs.Prelude.{Result, Ok, Err, nat_le, if◌then◌else◌, find, position, slice_get, slice_set}
-use Rattle.std.specs.List.{list_all, position_or_len}
+use Rattle.std.proofs.Common.{◌≡◌, ◌≢◌, ◌≤◌, ◌<◌, ℕ, suc, ◌+◌, Bool, true, false, List, [], ◌∷◌, length, Option, Some, None, refl, sym, ap, ◌∙◌, subst, arith, cond, nat_lt}
+use Rattle.std.specs.Prelude.{Result, Ok, Err, nat_le, if◌then◌else◌, position, slice_get, slice_set}
+use Rattle.std.specs.List.{position_or_len}
 use Rattle.std.specs.Option.{is_some, option_map, option_map_or, option_and_then, option_or, unwrap_or}
 use Rattle.std.specs.Str.{bytes_eq}
 use Rattle.std.proofs.lemmas.Bool.{leb-false, ltb-false, le-leb}
 use Rattle.std.proofs.lemmas.Bool.Decides.{nat_tests}
-use Rattle.std.proofs.lemmas.List.Folds.{list_all-append}
-use Rattle.tm_types.specs.declared.abend.AbendCode.{AbendCode}
 use Rattle.tm_types.specs.declared.message.Message.{Message}
 use Rattle.tm_types.specs.declared.command.LastingCommand.{LastingCommand}
 use Rattle.tm_types.specs.declared.command.LastingCommand.TheVariants.{StartTransaction, StopTransaction, StartTerminal, StopTerminal, DequeueFirst, DequeueAll, Exit}
@@ -34,11 +32,10 @@ use Rattle.resend_law.proofs.Steps.{FineBy, applied_by, turn_fine, command_fine}
 use Rattle.model_machine.specs.Lasting.{LastingStep, KeptInput, with_last, stopped_terminal, applied, sent, replied, switched, all_sent, finished_by, without_message, with_pad_by, discarded_pad, abend_outputs, commanded, kept_input}
 use Rattle.model_machine.specs.Lasting.LastingStep.{Accepts, Acknowledges, Completes, Discards, Commands}
 use Rattle.model_machine.specs.Steps.{Refusal, by_number, first_of, busy_conversation, unknown_code, stopped_code, many_segments, no_room, accepts, acknowledges, input_answer, ack_answer, lasting_step}
-use Rattle.model_machine.specs.History.{call_of, after_entry, is_fault}
+use Rattle.model_machine.specs.History.{call_of, after_entry}
 use Rattle.model_session.specs.Blocks.{Block}
-use Rattle.model_session.specs.Lives.{LastLife, Leaves, moment_of, now_in, longer}
+use Rattle.model_session.specs.Lives.{LastLife, moment_of, now_in, longer}
 use Rattle.model_session.specs.Standing.{Setting, SessionState, gone_on}
-use Rattle.model_session.specs.Standing.Standing.{Up}
 use Rattle.model_session.specs.Session.{AreServed}
 use Rattle.resend_law.specs.Resending.{last_of, HasAlways, IsKeptBy, any_call, all_ask_only}
 use Rattle.resend_law.proofs.Sessions.{kept_over, leaves_with, up_has}

@@ -3,3 +3,4 @@ pub mod Steps
 pub mod Inputs
 pub mod Again
 pub mod Replies
+pub mod Long

@@ -1,5 +1,5 @@
 -- What always holds of what lasts, over the lines of a session.
-use Rattle.std.proofs.Common.{◌≡◌, ◌⊎◌, inl, inr, ⊎_elim, ℕ, suc, ◌-◌, Bool, true, false, ◌&&◌, List, [], ◌∷◌, ◌++◌, length, Option, Some, None, refl, sym, ap, ◌∙◌, subst, append_assoc, append-nil}
+use Rattle.std.proofs.Common.{◌≡◌, ◌⊎◌, inl, inr, ⊎_elim, ℕ, suc, ◌-◌, Bool, true, false, ◌&&◌, List, [], ◌∷◌, ◌++◌, length, Some, refl, sym, ap, ◌∙◌, subst, append_assoc, append-nil}
 use Rattle.std.specs.List.{list_all}
 use Rattle.std.proofs.lemmas.List.Folds.{list_all-append}
 use Rattle.model_machine.specs.declared.entry.Entry.{Entry}
@@ -7,7 +7,7 @@ use Rattle.model_machine.specs.declared.entry.ControlCall.{ControlCall}
 use Rattle.model_machine.specs.declared.entry.ControlCall.TheVariants.{Turn}
 use Rattle.model_system.specs.System.{System}
 use Rattle.model_machine.specs.Machine.{LastingState, Moment}
-use Rattle.model_machine.specs.History.{call_of, after_entry, moment_after, is_fault}
+use Rattle.model_machine.specs.History.{call_of, after_entry, is_fault}
 use Rattle.model_machine.proofs.Histories.{moment_after-append}
 use Rattle.model_session.specs.declared.asked.Asked.{Asked}
 use Rattle.model_session.specs.declared.asked.Asked.TheVariants.{Bad, BadCommand, Stopped, Call, Quiet, Power, PowerIn, Restart, ColdStart}
@@ -15,9 +15,9 @@ use Rattle.model_session.specs.Blocks.{Block}
 use Rattle.model_session.specs.Lines.{asked_of}
 use Rattle.model_session.specs.Turns.{AreTurns, region_after}
 use Rattle.model_session.specs.Lives.{LastLife, Leaves, moment_of, now_in, longer, ends_life}
-use Rattle.model_session.specs.Standing.{Setting, SessionState, Outage, Standing, MayBeFound, called_on}
+use Rattle.model_session.specs.Standing.{Setting, SessionState, Outage, Standing, called_on}
 use Rattle.model_session.specs.Standing.Standing.{Up, Down}
-use Rattle.model_session.specs.Session.{IsServed, AreServed, IsServedUp, IsServedDown, ServedBy, IsRestarted, IsCalled, IsCutOff, IsTurned, IsTurnedOff, Opens, FailsToOpen, IsNotOpened}
+use Rattle.model_session.specs.Session.{AreServed, IsServedUp, IsServedDown, ServedBy, IsRestarted, IsCalled, IsCutOff, IsTurned, IsTurnedOff}
 use Rattle.resend_law.specs.Resending.{HasAlways, IsKeptBy, asks_only, all_ask_only}
 
 -- ---- Booleans and lists

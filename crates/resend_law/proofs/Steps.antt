@@ -1,6 +1,6 @@
 -- Which steps last of a call.
-use Rattle.std.proofs.Common.{ℕ, Bool, true, false, List, Option, Some, None}
-use Rattle.std.specs.Prelude.{Result, Ok, Err, if◌then◌else◌}
+use Rattle.std.proofs.Common.{ℕ, List, Option, Some, None}
+use Rattle.std.specs.Prelude.{Ok, Err}
 use Rattle.std.specs.Option.{option_map, option_map_or, option_and_then}
 use Rattle.tm_types.specs.declared.abend.AbendCode.{AbendCode}
 use Rattle.tm_types.specs.declared.command.LastingCommand.{LastingCommand}
@@ -12,7 +12,7 @@ use Rattle.model_system.specs.System.{System}
 use Rattle.model_command.specs.declared.command.Command.{Command}
 use Rattle.model_machine.specs.declared.entry.ControlCall.TheVariants.{Turn}
 use Rattle.model_machine.specs.Commands.{CommandAnswer, steps_by, lasting_command, command_answer, command_step}
-use Rattle.model_machine.specs.Trial.{Trial, WorkEnd, Advance}
+use Rattle.model_machine.specs.Trial.{Trial, Advance}
 use Rattle.model_machine.specs.Trial.WorkEnd.{Ends, Syncs, Abends}
 use Rattle.model_machine.specs.Trial.Advance.{Goes, Stops}
 use Rattle.model_machine.specs.Machine.{LastingState, Moment, Slot, slot_at}

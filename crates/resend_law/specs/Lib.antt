@@ -1,1 +1,2 @@
 pub mod Resending
+pub mod Long

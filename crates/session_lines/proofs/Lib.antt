@@ -4,3 +4,4 @@ mod Places
 mod Judged
 mod Values
 mod Screens
+mod Stops

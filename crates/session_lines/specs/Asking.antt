@@ -1,10 +1,11 @@
 -- Steps of reading a block.
-use Rattle.std.specs.Prelude.{ℕ, ◌≡◌, ◌≤◌, ⊤, true, Option, Some}
+use Rattle.std.specs.Prelude.{ℕ, ◌≡◌, ◌≤◌, ◌^◌, ⊤, true, false, Option, Some, Result, Ok}
 use Rattle.std.specs.List.{list_all}
 use Rattle.model_session.specs.declared.asked.Form.{Form}
 use Rattle.model_session.specs.declared.asked.Form.TheVariants.{Input, Screen, Receive, Acknowledge, Turn, Quiet, Power, PowerIn}
 use Rattle.tm_types.specs.Segment.{are_printable}
 use Rattle.model_session.specs.Blocks.{Block}
+use Rattle.model_session.specs.Lines.{block_form, is_command}
 use Rattle.session_lines.specs.declared.asking.Stop.{Stop}
 use Rattle.session_lines.specs.declared.asking.Stop.TheVariants.{TooLong, Memory}
 
@@ -17,6 +18,22 @@ pub record IsPrintable (block : Block) : Type 0 where
 abbrev pub IsStop : Option ℕ → Stop → Type 0
 IsStop first (TooLong long) = first ≡ Some long
 IsStop first Memory = Unit {0}
+
+-- the same for lines that are counted: with memory only where so many can't be
+abbrev pub IsFullStop : Option ℕ → ℕ → Stop → Type 0
+IsFullStop first count (TooLong long) = first ≡ Some long
+IsFullStop first count Memory = 2 ^ 64 ≤ count
+
+-- an input or a screen, well formed
+abbrev pub WantsInput : Result Form ℕ → Type 0
+WantsInput (Ok (Input terminal number)) = ⊤
+WantsInput (Ok (Screen terminal number)) = ⊤
+WantsInput _ = ⊥
+
+-- Want of memory comes only for an input or a screen that breaks no rule of lines.
+pub record MayWant (regions : ℕ) (block : Block) : Type 0 where
+  pub no_command : is_command block.line ≡ false
+  pub form : WantsInput (block_form regions block)
 
 -- a region's number is one of so many, and a count of writes is at least 1
 abbrev pub IsWithin : ℕ → Form → Type 0

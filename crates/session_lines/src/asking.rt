@@ -1,22 +1,24 @@
 //! What a block asks for.
-ghost use Rattle.std.specs.Prelude.{◌≡◌, ℕ, ◌<◌, ◌≤◌, ◌++◌, ◌∷◌, [], true, Some, None, Err, List, Result, IsTrue, IfOk, IfErr, OnOk, length, map};
+ghost use Rattle.std.specs.Prelude.{◌≡◌, ℕ, ◌+◌, ◌<◌, ◌≤◌, ◌++◌, ◌∷◌, [], true, Some, None, Err, List, Result, IsTrue, IfOk, IfErr, OnOk, OnErr, length, map, replicate};
 ghost use Rattle.std.specs.List.{list_all, list_any};
 ghost use Rattle.std.specs.Str.{bytes_eq};
 ghost use Rattle.model_system.specs.Formats.{format_of};
 ghost use Rattle.tm_types.specs.Segment.{are_printable};
 ghost use Rattle.model_session.specs.Lines as spec;
+ghost use Rattle.model_session.specs.Blocks.{alone, takes_further};
+ghost use Rattle.model_session.specs.Bounded.{AsksAlike, whole, with_lines};
 ghost use Rattle.mfs_edit.specs.Answers.{AnswersInput};
-ghost use Rattle.session_lines.specs.Asking.{IsPrintable, IsStop, IsWithin};
+ghost use Rattle.session_lines.specs.Asking.{IsFullStop, IsPrintable, IsStop, IsWithin, MayWant, WantsInput};
 
 use crate::block::{Block, is_screen};
 use crate::commands::{command_asked, is_command};
 use crate::fields::{field_forms, values_in};
 use crate::forms::form_of;
 use crate::rules::{NOT_PRINTABLE, WRONG_OPERANDS};
-use crate::words::operand_count;
+use crate::words::has_operand;
 use mfs_edit::{EditRefused, edit_in};
 use model_machine::ControlCall;
-use model_session::{Asked, Form, InputStopped};
+use model_session::{Asked, Form, InputStopped, Others};
 use std::alloc::Global;
 use system_types::System;
 use text_rows::also;
@@ -26,11 +28,22 @@ use tm_types::{Memory, Name, Segment, SegmentRefused, Segments, are_printable, o
 /// What a block asks for of a system.
 ///
 /// The one error is want of memory. It comes only for an input that is well formed, since an
-/// input's texts are copied.
-#[tactic(auto, unfolding(model_session::specs::Lines::asked_of))]
+/// input's texts are copied. What a block keeps of many `+` lines is enough: it asks for what all of
+/// them ask for, but that the texts of an input behind the 17th are empty.
 pub fn read_block(alloc: Global, system: &System, block: &Block) -> Result<Asked, Memory>
     ensures asked { IfOk result (λ asked. asked ≡ spec.asked_of system.now block.now) }
     ensures can { IfOk result (spec.CanAsk (length system.now.regions)) }
+    ensures memory { OnErr result (MayWant (length system.now.regions) block.now) }
+    ensures enough { (line : List ℕ) (lines : List (List ℕ)) → IsTrue (takes_further line) → block.now ≡ with_lines (alone line) lines → IfOk result (λ asked. AsksAlike asked (spec.asked_of system.now (whole line lines))) }
+{
+    asked_block(alloc, system, block)
+}
+
+#[tactic(auto, unfolding(model_session::specs::Lines::asked_of))]
+fn asked_block(alloc: Global, system: &System, block: &Block) -> Result<Asked, Memory>
+    ensures asked { IfOk result (λ asked. asked ≡ spec.asked_of system.now block.now) }
+    ensures can { IfOk result (spec.CanAsk (length system.now.regions)) }
+    ensures memory { OnErr result (MayWant (length system.now.regions) block.now) }
 {
     if is_command(block.line()) {
         return Ok(command_asked(block.line()));
@@ -42,6 +55,7 @@ pub fn read_block(alloc: Global, system: &System, block: &Block) -> Result<Asked
 fn lines_asked(alloc: Global, system: &System, block: &Block) -> Result<Asked, Memory>
     ensures asked { IfOk result (λ asked. asked ≡ spec.asked_by system.now block.now (spec.block_form (length system.now.regions) block.now)) }
     ensures can { IfOk result (spec.CanAsk (length system.now.regions)) }
+    ensures memory { OnErr result (WantsInput (spec.block_form (length system.now.regions) block.now)) }
 {
     let regions = system.regions().len() as u32;
     let form = match block_form(regions, block) {
@@ -81,15 +95,15 @@ fn further_forms(block: &Block) -> Result<(), u8>
     if is_screen(block.line()) {
         field_forms(block.further())
     } else {
-        text_forms(block.further())
+        text_forms(block)
     }
 }
 
 /// Rule 2 where a `+` line has no blank.
-fn text_forms(lines: &[Line]) -> Result<(), u8>
-    ensures { result ≡ spec.text_forms lines.now }
+fn text_forms(block: &Block) -> Result<(), u8>
+    ensures { result ≡ spec.text_forms block.now }
 {
-    if have_operands(lines) {
+    if have_operands(block.further()) && block.others().complete {
         Ok(())
     } else {
         Err(WRONG_OPERANDS)
@@ -99,13 +113,13 @@ fn text_forms(lines: &[Line]) -> Result<(), u8>
 fn have_operands(lines: &[Line]) -> bool
     ensures { result ≡ list_all spec.has_operand lines.now }
 {
-    lines.iter().all(|line| has_operand(line))
+    lines.iter().all(|line| is_complete(line))
 }
 
-fn has_operand(line: &Line) -> bool
+fn is_complete(line: &Line) -> bool
     ensures { result ≡ spec.has_operand line.now }
 {
-    1 <= operand_count(line.bytes())
+    has_operand(line.bytes())
 }
 
 /// Rule 6 where a byte of the block isn't printable.
@@ -114,7 +128,7 @@ fn printable_block(block: &Block) -> Result<(), u8>
     ensures value { result ≡ spec.printable_block block.now }
     ensures printable { OnOk result (IsPrintable block.now) }
 {
-    if are_printable(block.line()) && are_texts(block.further()) {
+    if are_printable(block.line()) && are_texts(block.further()) && block.others().printable {
         Ok(())
     } else {
         Err(NOT_PRINTABLE)
@@ -173,7 +187,7 @@ fn input_asked(
     block: &Block,
 ) -> Result<Asked, Memory>
     requires { IsPrintable block.now }
-    ensures asked { IfOk result (λ asked. asked ≡ spec.input_asked system.now terminal number (spec.input_texts block.now)) }
+    ensures asked { IfOk result (λ asked. asked ≡ spec.unless_long system.now terminal number (spec.input_texts block.now) (spec.input_long block.now)) }
     ensures can { IfOk result (λ asked. (regions : ℕ) → spec.CanAsk regions asked) }
 {
     match segments_of(alloc, block) {
@@ -227,12 +241,39 @@ fn refused_asked(
     }
 }
 
-/// The segments of an input.
+/// The segments of an input. Those that aren't kept are empty, and take no memory.
 fn segments_of(alloc: Global, block: &Block) -> Result<Segments, Stop>
     requires { IsPrintable block.now }
     ensures made { IfOk result (λ segments. segments ≡ spec.input_texts block.now) }
-    ensures short { OnOk result (spec.first_long (spec.input_texts block.now) ≡ None) }
-    ensures stopped { IfErr result (IsStop (spec.first_long (spec.input_texts block.now))) }
+    ensures short { OnOk result (spec.input_long block.now ≡ None) }
+    ensures stopped { IfErr result (IsStop (spec.input_long block.now)) }
+{
+    let segments = kept_segments(alloc, block)?;
+    with_others(segments, block.others())
+}
+
+/// The segments with as many empty ones behind them as there are other lines.
+fn with_others(segments: Segments, others: &Others) -> Result<Segments, Stop>
+    ensures made { IfOk result (λ all. all ≡ segments ++ replicate others.now.count []) }
+    ensures short { OnOk result (others.now.long ≡ None) }
+    ensures stopped { IfErr result (IsFullStop others.now.long (length segments + others.now.count)) }
+{
+    if let Some(long) = others.long {
+        return Err(Stop::TooLong(long));
+    }
+    let mut all = segments;
+    match all.push_empty(others.count) {
+        Ok(()) => Ok(all),
+        Err(_) => Err(Stop::Memory),
+    }
+}
+
+/// The segments that are kept.
+fn kept_segments(alloc: Global, block: &Block) -> Result<Segments, Stop>
+    requires { IsPrintable block.now }
+    ensures made { IfOk result (λ segments. segments ≡ spec.kept_texts block.now) }
+    ensures short { OnOk result (spec.first_long (spec.kept_texts block.now) ≡ None) }
+    ensures stopped { IfErr result (IsStop (spec.first_long (spec.kept_texts block.now))) }
 {
     let mut segments = Segments::new(alloc);
     add_segment(alloc, &mut segments, input_text(block.line()))?;

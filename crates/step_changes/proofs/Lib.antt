@@ -1,1 +1,2 @@
 pub mod Abended
+mod Counting

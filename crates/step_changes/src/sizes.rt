@@ -9,12 +9,16 @@ use tm_types::Segments;
 const BYTE_LIMIT: u64 = 1 << 60;
 
 /// The bytes that a message or a reply of these segments counts, or None where they pass the limit of all counts of bytes.
+#[tactic(auto, using(crate::proofs::Counting::segment_first))]
 pub fn bytes_of(segments: &Segments) -> Option<u64>
     ensures within { IfSome result (λ bytes. (bytes ≡ counted_bytes segments.now) × (bytes ≤ 2 ^ 60)) }
     ensures beyond { IfNone result (2 ^ 60 < counted_bytes segments.now) }
 {
     let mut bytes: u64 = 48;
-    for segment in segments.iter() {
+    for place in 0..segments.len() {
+        let Some(segment) = segments.get(place) else {
+            unreachable!()
+        };
         bytes = bytes.checked_add(segment.counted_length())?;
     }
     if bytes > BYTE_LIMIT {

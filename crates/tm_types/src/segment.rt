@@ -1,13 +1,11 @@
 //! Segments, and lists of them.
-ghost use Rattle.std.specs.Prelude.{◌≡◌, ◌≤◌, ◌<◌, ◌^◌, ◌↔◌, [], ◌∷◌, ◌++◌, length, slice_get, IsTrue, IfOk, IfErr, IfSome, not, position, OnOk, OnErr};
+ghost use Rattle.std.specs.Prelude.{◌≡◌, ◌≤◌, ◌<◌, ◌+◌, ◌^◌, ◌↔◌, [], ◌∷◌, ◌++◌, length, replicate, slice_get, sum_by, IsTrue, IfOk, IfErr, IfSome, not, position, OnOk, OnErr};
 ghost use Rattle.std.specs.Option.{option_copied};
-ghost use Rattle.std.specs.Slice.Iter.{iter_rest};
 ghost use Rattle.tm_types.specs.Segment.{IsSegmentText, are_printable, is_printable, counted_bytes, segment_length};
 ghost use Rattle.tm_types.specs.SegmentRefused.{RefusesText};
 
 use std::alloc::{AllocError, Global};
 use std::marker::Model;
-use std::slice;
 use thiserror::Error;
 
 /// The most bytes that the text of a segment has.
@@ -67,6 +65,15 @@ impl Segment {
         }
     }
 
+    /// The segment without a text. It takes no memory.
+    pub fn empty(alloc: Global) -> Segment
+        ensures { result ≡ [] }
+    {
+        Segment {
+            text: Vec::new(alloc),
+        }
+    }
+
     /// The text of the segment.
     pub fn text(&self) -> &[u8]
         ensures value { result.now ≡ self.now }
@@ -120,17 +127,25 @@ pub fn are_printable(bytes: &[u8]) -> bool
 }
 
 /// The segments of a message or reply, in order.
+///
+/// Empty texts at their end are only counted, so however many they are they take no memory.
 #[derive(Debug, Drop)]
 pub struct Segments {
     items: Vec<Segment>,
+    /// How many empty texts stand behind the items.
+    more: usize,
+    /// The text of each of those. It takes no memory.
+    empty: Segment,
 }
 
 impl Model for Segments {
-    ghost use Rattle.std.specs.Prelude.{ℕ, List};
+    ghost use Rattle.std.specs.Prelude.{◌≡◌, ℕ, ◌+◌, ◌^◌, ◌<◌, List, [], ◌++◌, length, replicate};
 
     ghost Value = { List (List ℕ) };
 
-    ghost view = { λ s. s.items.items };
+    ghost view = { λ s. s.items.items ++ replicate s.more [] };
+
+    ghost invariant = { λ s. (length s.items.items + s.more < 2 ^ 64) × (s.empty ≡ []) };
 }
 
 impl Segments {
@@ -140,37 +155,65 @@ impl Segments {
     {
         Segments {
             items: Vec::new(alloc),
+            more: 0,
+            empty: Segment::empty(alloc),
         }
     }
 
-    /// Adds a segment at the end. Where there is no memory, none is added.
+    /// Adds a segment at the end. Where there is no memory, none is added; an empty one takes none.
     pub fn push(&mut self, segment: Segment) -> Result<(), AllocError>
         ensures ok { OnOk result (self.new ≡ self.old ++ segment ∷ []) }
         ensures err { OnErr result (self.new ≡ self.old) }
     {
+        if segment.text().is_empty() {
+            return self.push_empty(1);
+        }
+        make_real(&mut self.items, &mut self.more)?;
         self.items.push(segment)?;
         Ok(())
+    }
+
+    /// Adds so many empty segments at the end. This takes no memory: it is refused only where there
+    /// would be 2^64 segments or more.
+    pub fn push_empty(&mut self, count: usize) -> Result<(), AllocError>
+        ensures ok { OnOk result (self.new ≡ self.old ++ replicate count []) }
+        ensures err { OnErr result (self.new ≡ self.old) }
+        ensures full { OnErr result (2 ^ 64 ≤ length self.old + count) }
+    {
+        match self.len().checked_add(count) {
+            Some(_) => {
+                self.more += count;
+                Ok(())
+            }
+            None => Err(AllocError),
+        }
     }
 
     /// How many segments these are.
     pub fn len(&self) -> usize
         ensures { result ≡ length self.now }
     {
-        self.items.len()
+        self.items.len() + self.more
     }
 
     /// Whether there are none.
     pub fn is_empty(&self) -> bool
         ensures { IsTrue result ↔ (self.now ≡ []) }
     {
-        self.items.is_empty()
+        self.len() == 0
     }
 
     /// The segment at this index, counted from 0.
     pub fn get(&self, index: usize) -> Option<&Segment>
         ensures { option_copied result ≡ slice_get self.now index }
     {
-        self.items.get(index)
+        if index < self.items.len() {
+            self.items.get(index)
+        } else if index < self.len() {
+            Some(&self.empty)
+        } else {
+            None
+        }
     }
 
     /// The bytes that a message or a reply with these segments counts: 48 plus the LLs.
@@ -178,18 +221,7 @@ impl Segments {
         requires { counted_bytes self.now < 2 ^ 64 }
         ensures { result ≡ counted_bytes self.now }
     {
-        48 + self
-            .items
-            .iter()
-            .map(|segment| segment.counted_length())
-            .sum::<u64>()
-    }
-
-    /// The segments, in order.
-    pub fn iter(&self) -> slice::Iter<'_, Segment>
-        ensures { iter_rest result ≡ self.now }
-    {
-        self.items.iter()
+        48 + counted_lengths(&self.items) + 4 * self.more as u64
     }
 }
 
@@ -201,6 +233,33 @@ impl Clone for Segments {
     {
         Ok(Segments {
             items: self.items.clone()?,
+            more: self.more,
+            empty: Segment::empty(*self.items.allocator()),
         })
     }
+}
+
+/// The sum of the LLs.
+fn counted_lengths(items: &[Segment]) -> u64
+    requires { sum_by segment_length items.now < 2 ^ 64 }
+    ensures { result ≡ sum_by segment_length items.now }
+{
+    items
+        .iter()
+        .map(|segment| segment.counted_length())
+        .sum::<u64>()
+}
+
+/// Makes the empty texts behind the items items of their own. The list of all stays the same, also
+/// where there is no memory for each.
+fn make_real(items: &mut Vec<Segment>, more: &mut usize) -> Result<(), AllocError>
+    ensures same { items.new.items ++ replicate more.new [] ≡ items.old.items ++ replicate more.old [] }
+    ensures count { length items.new.items + more.new ≡ length items.old.items + more.old }
+    ensures none { OnOk result (more.new ≡ 0) }
+{
+    while *more > 0 {
+        items.push(Segment::empty(*items.allocator()))?;
+        *more -= 1;
+    }
+    Ok(())
 }
