@@ -1,5 +1,5 @@
 //! `script_run`: what programs insert.
-ghost use Rattle.std.specs.Prelude.{IfOk, IsSome};
+ghost use Rattle.std.specs.Prelude.{◌≡◌, IfOk, IsSome, None};
 
 use script_run::{CallText, Machine, Need, Program};
 use script_text::read_program;
@@ -24,6 +24,7 @@ fn program_of(alloc: Global, texts: &[&[u8]]) -> Result<Program, Fail> {
 
 // The call that the program makes next.
 fn next_call(machine: &mut Machine, program: &Program) -> Result<CallText, Fail>
+    requires { machine.old.waiting ≡ None }
     ensures { IfOk result (λ call. IsSome machine.new.waiting) }
 {
     match machine.next(program)? {

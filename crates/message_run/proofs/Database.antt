@@ -36,7 +36,8 @@ use Rattle.message_run.proofs.Calls.{all_at}
 use Rattle.message_run.proofs.Regions.{set_region}
 use Rattle.message_run.proofs.Standing.{one_stands}
 use Rattle.message_run.specs.RunState.{RunState, AreStanding, IsCallBy}
-use Rattle.message_run.specs.Answering.{Answers, AreGranted, AreBlocked, answered_machine, outcome_of, requests_by_run, told_run}
+use Rattle.script_run.specs.Running.{answered_machine}
+use Rattle.message_run.specs.Answering.{Answers, AreGranted, AreBlocked, outcome_of, requests_by_run, told_run}
 
 -- the arguments of a call on a database that is there are in order
 pub is_db_call : (databases : List Dbd) (call : CallText) (number options : ℕ) (dbd : Dbd) → IsCallBy databases call (Some (Database number options))

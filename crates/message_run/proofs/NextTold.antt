@@ -8,7 +8,7 @@ use Rattle.tm_types.specs.declared.function.Function.TheVariants.{GU, GN, GNP, G
 use Rattle.model_script.specs.declared.need.CallText.{CallText}
 use Rattle.model_script.specs.declared.need.Need.{Need}
 use Rattle.model_script.specs.declared.need.Need.TheVariants.{Call, Ended, Abend}
-use Rattle.model_script.specs.Script.{need_at, settled}
+use Rattle.model_script.specs.Script.{need_at}
 use Rattle.model_system.specs.declared.pcb.Pcb.{Pcb}
 use Rattle.model_system.specs.Jobs.{Job}
 use Rattle.model_system.specs.Pcbs.{pcb_at}
@@ -16,7 +16,6 @@ use Rattle.model_message.specs.Work.{MessageWork}
 use Rattle.model_dli.specs.Data.{Data}
 use Rattle.model_machine.specs.Trial.{Given, Reached, Trial, reached, reached_by, is_sync, is_get_unique, trial_need}
 use Rattle.model_machine.specs.Trial.Reached.{Messages, Rows, Nothing}
-use Rattle.script_run.specs.Running.{Running}
 use Rattle.seg_store.specs.Slots.{Stored}
 use Rattle.system_types.specs.Valid.{IsDatabase, IsSystem}
 use Rattle.model_system.specs.System.{System}
@@ -122,10 +121,10 @@ sectors_by (d ∷ dbds) (s ∷ stores) h e =
 pub one_sector : (system : System) (stores : List Stored) → IsSystem system → map (λ (s : Stored). s.dbd) stores ≡ system.databases → AllByRecursion (λ s. s.dbd.sectors ≤ 1) stores
 one_sector system stores valid e = sectors_by system.databases stores (λ i d q. all_at IsDatabase system.databases i d valid.databases q) e
 
-module _ (unit room : ℕ) (job : Job) (region : ℕ) (databases : DatabasesState) (run : RunState) (machine : Running) (limited : machine.limit ≡ run.machine.limit) (need : Need)
-    (script : machine.script ≡ settled job.lines run.machine.limit run.machine.script) (needs : need ≡ need_at job.lines run.machine.limit run.machine.script) where
+module _ (unit room : ℕ) (job : Job) (region : ℕ) (databases : DatabasesState) (run : RunState) (need : Need)
+    (needs : need ≡ need_at job.lines run.machine.limit run.machine.script) where
   need_is : (given : Given) (ahead : IsAhead job given region databases run) → next_told unit region databases job ahead.trial ≡ need_told unit region databases job ahead.trial need
-  need_is given ahead = ap (need_told unit region databases job ahead.trial) (trial_needs job given region databases run machine ahead limited need script needs)
+  need_is given ahead = ap (need_told unit region databases job ahead.trial) (trial_needs job given region databases run ahead need needs)
 
   -- a script that needs no call tells nothing
   pub silent_on : (xs : List ℕ) → ((trial : Trial) → need_told unit region databases job trial need ≡ []) → TellsOn unit room job region databases databases run xs xs

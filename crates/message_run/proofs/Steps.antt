@@ -1,6 +1,6 @@
 -- A region's work goes on as the trial does.
-use Rattle.std.proofs.Common.{◌≡◌, ℕ, ◌+◌, ◌-◌, Bool, true, false, List, [], ◌∷◌, ◌++◌, length, sym, ◌∙◌, ap, refl, subst, add-one}
-use Rattle.std.specs.Prelude.{Option, Some, None, if◌then◌else◌, ◌&&◌, ◌==◌, All, replicate, slice_index_or}
+use Rattle.std.proofs.Common.{◌≡◌, ℕ, ◌+◌, ◌-◌, ◌<◌, ◌≤◌, Bool, true, false, List, [], ◌∷◌, ◌++◌, length, sym, ◌∙◌, ap, refl, subst, add-one, arith}
+use Rattle.std.specs.Prelude.{Option, Some, None, IsSome, if◌then◌else◌, ◌&&◌, ◌==◌, All, replicate, slice_index_or}
 use Rattle.std.specs.Option.{option_and_then}
 use Rattle.std.proofs.lemmas.List.Elements.{All-nil, All-append, All-push, All-weaker}
 use Rattle.tm_types.specs.declared.abend.AbendCode.{AbendCode}
@@ -10,12 +10,14 @@ use Rattle.tm_types.specs.declared.status.Status.{Status}
 use Rattle.model_script.specs.declared.need.CallText.{CallText}
 use Rattle.model_script.specs.declared.need.Need.{Need}
 use Rattle.model_script.specs.declared.need.Need.TheVariants.{Call}
-use Rattle.model_script.specs.Script.{Answer, script_start, script_after, settled, step, need_of, need_at, answered, moved_on, waiting_at}
-use Rattle.model_script.proofs.Settled.{settled_twice, answered_alike, script_after_append}
+use Rattle.model_script.specs.declared.program.ScriptLine.{ScriptLine}
+use Rattle.model_script.specs.Script.{Answer, ScriptState, script_start, script_after, need_at, answered}
+use Rattle.model_script.proofs.Settled.{script_after_append}
 use Rattle.model_system.specs.declared.pcb.Pcb.{Pcb}
 use Rattle.model_system.specs.Jobs.{Job}
 use Rattle.model_system.specs.Pcbs.{pcb_at}
-use Rattle.script_run.specs.Running.{Running, HasTexts}
+use Rattle.script_run.specs.Running.{Running, HasTexts, answered_machine, waiting_told}
+use Rattle.script_run.proofs.GoingOn.{answered_more, behind_is}
 use Rattle.model_dli.specs.declared.call.Position.{Position}
 use Rattle.model_dli.specs.Data.{Data, data_start, nowhere}
 use Rattle.model_enqueue.specs.declared.request.Request.{Request}
@@ -30,7 +32,7 @@ use Rattle.model_machine.specs.Trial.Advance.{Goes, Stops}
 use Rattle.model_machine.specs.Trial.Reached.{Messages}
 use Rattle.model_machine.specs.Trial.WorkEnd.{Syncs, Abends}
 use Rattle.model_machine.specs.Requests.{asked_before, asked_behind, requests_at, requests_by, requests_of}
-use Rattle.message_run.specs.RunState.{RunState, AreStanding}
+use Rattle.message_run.specs.RunState.{RunState, AreStanding, IsBetweenTurns}
 use Rattle.message_run.specs.Answering.{Answers, AreGranted, AreBlocked, outcome_of, requests_by_run}
 use Rattle.message_run.specs.Ahead.{IsAhead, IsFree, IsHeld, IsStart, GoesBy, StopsSo, WaitsFor, needs_before, needs_behind}
 use Rattle.message_run.proofs.Holding.{asks_keep, asks_hold}
@@ -74,7 +76,7 @@ module _ (job : Job) (given : Given) (region : ℕ) (databases : DatabasesState)
   asks_are : (call : CallText) → need_at job.lines job.transaction.statement_limit run.machine.script ≡ Call call
       → requests_of region job ahead.trial ≡ requests_by_run (target_of job call) region databases run call
   asks_are call needs =
-      ap (requests_by region job ahead.trial) (ap (λ s. need_of (step job.lines job.transaction.statement_limit s)) ahead.script ∙ needs)
+      ap (requests_by region job ahead.trial) (ap (need_at job.lines job.transaction.statement_limit) ahead.script ∙ needs)
       ∙ ap (λ d. requests_at region (target_of job call) d call) ahead.seen
 
   -- the texts of one call more
@@ -87,7 +89,7 @@ module _ (job : Job) (given : Given) (region : ℕ) (databases : DatabasesState)
 
   -- the trial needs what the script needs
   need_is : (need : Need) → need_at job.lines job.transaction.statement_limit run.machine.script ≡ need → trial_need job ahead.trial ≡ need
-  need_is need needs = ap (λ s. need_of (step job.lines job.transaction.statement_limit s)) ahead.script ∙ needs
+  need_is need needs = ap (need_at job.lines job.transaction.statement_limit) ahead.script ∙ needs
 
   free_of : (call : CallText) → need_at job.lines job.transaction.statement_limit run.machine.script ≡ Call call
       → first_blocked (requests_by_run (target_of job call) region databases run call) databases.table ≡ None
@@ -126,7 +128,7 @@ module _ (job : Job) (given : Given) (region : ℕ) (databases : DatabasesState)
   -- the trial needs what the script needs
   advance_is : (need : Need) → need_at job.lines job.transaction.statement_limit run.machine.script ≡ need → advance job rows ahead.trial ≡ advance_by job rows ahead.trial need
   advance_is need needs =
-      ap (advance_by job rows ahead.trial) (ap (λ s. need_of (step job.lines job.transaction.statement_limit s)) ahead.script ∙ needs)
+      ap (advance_by job rows ahead.trial) (ap (need_at job.lines job.transaction.statement_limit) ahead.script ∙ needs)
 
   -- and its call comes to what the script's call comes to
   outcome_is : (call : CallText) → call_outcome job rows ahead.trial call ≡ outcome_of job.system (target_of job call) region databases run call
@@ -134,16 +136,15 @@ module _ (job : Job) (given : Given) (region : ℕ) (databases : DatabasesState)
       ap (λ w. outcome_at job.system rows (target_of job call) w ahead.trial.databases call) ahead.work
       ∙ ap (λ d. outcome_at job.system rows (target_of job call) run.work d call) ahead.seen
 
-  same_ahead : (after : DatabasesState) (requests : List Request) (machine : Running) → after.committed ≡ databases.committed → after.regions ≡ databases.regions
+  -- the work on, once its region has asked for something
+  same_ahead : (after : DatabasesState) (requests : List Request) → after.committed ≡ databases.committed → after.regions ≡ databases.regions
       → dbds_of after ≡ dbds_of databases → after.table ≡ after_asks region requests databases.table
-      → machine.limit ≡ run.machine.limit
-      → settled job.lines job.transaction.statement_limit machine.script ≡ settled job.lines job.transaction.statement_limit run.machine.script
-      → IsAhead job given region after (record run { machine = machine })
-  same_ahead after requests machine committed regions dbds asked limited script = record {
+      → IsAhead job given region after run
+  same_ahead after requests committed regions dbds asked = record {
     trial = ahead.trial;
     made = ap (λ (ss : List Stored). trial_of job (rows_of ss) given run.calls) committed ∙ ahead.made;
-    limit = limited ∙ ahead.limit;
-    script = ahead.script ∙ sym script;
+    limit = ahead.limit;
+    script = ahead.script;
     work = ahead.work;
     seen =
         ahead.seen
@@ -173,13 +174,12 @@ module _ (job : Job) (given : Given) (region : ℕ) (databases : DatabasesState)
       databases = (call_outcome job rows ahead.trial call).databases;
     }
 
-    settles_next : (a : List Answer) (x y : Answer) → settled job.lines job.transaction.statement_limit (script_after job.lines job.transaction.statement_limit script_start a) ≡ settled job.lines job.transaction.statement_limit run.machine.script
-        → x ≡ y
-        → settled job.lines job.transaction.statement_limit (script_after job.lines job.transaction.statement_limit script_start (a ++ x ∷ [])) ≡ settled job.lines job.transaction.statement_limit (answered job.lines job.transaction.statement_limit run.machine.script y)
-    settles_next a x y here same =
-        ap (settled job.lines job.transaction.statement_limit) (script_after_append job.lines job.transaction.statement_limit script_start a x
-        ∙ answered_alike job.lines job.transaction.statement_limit (script_after job.lines job.transaction.statement_limit script_start a) run.machine.script x here
-        ∙ ap (answered job.lines job.transaction.statement_limit run.machine.script) same)
+    script_next : (a : List Answer) (x y : Answer) → script_after job.lines job.transaction.statement_limit script_start a ≡ run.machine.script → x ≡ y
+        → script_after job.lines job.transaction.statement_limit script_start (a ++ x ∷ []) ≡ answered job.lines job.transaction.statement_limit run.machine.script y
+    script_next a x y here same =
+        script_after_append job.lines job.transaction.statement_limit script_start a x
+        ∙ ap (λ s. answered job.lines job.transaction.statement_limit s x) here
+        ∙ ap (answered job.lines job.transaction.statement_limit run.machine.script) same
 
     made_next : (calls : ℕ) (goes : Goes next (record { function = call.function; pcb = call.pcb; status = (call_outcome job rows ahead.trial call).answer.status }) ≡ advance job rows ahead.trial)
         → calls ≡ run.calls + 1 → trial_of job rows given calls ≡ Some next
@@ -190,8 +190,7 @@ module _ (job : Job) (given : Given) (region : ℕ) (databases : DatabasesState)
     pub called_next : (after : DatabasesState) (new : RunState) (status : Status) → HasTexts (Call call)
         → new.calls ≡ run.calls + 1
         → new.machine.limit ≡ run.machine.limit
-        → settled job.lines job.transaction.statement_limit new.machine.script
-        ≡ settled job.lines job.transaction.statement_limit (answered job.lines job.transaction.statement_limit run.machine.script (outcome_of job.system (target_of job call) region databases run call).answer)
+        → new.machine.script ≡ answered job.lines job.transaction.statement_limit run.machine.script (outcome_of job.system (target_of job call) region databases run call).answer
         → new.work ≡ (outcome_of job.system (target_of job call) region databases run call).work
         → data_of region after new.positions ≡ (outcome_of job.system (target_of job call) region databases run call).databases
         → status ≡ (outcome_of job.system (target_of job call) region databases run call).answer.status
@@ -212,7 +211,7 @@ module _ (job : Job) (given : Given) (region : ℕ) (databases : DatabasesState)
             made = ap (λ stores. trial_of job (rows_of stores) given new.calls) committed ∙ made_next new.calls (sym goes) calls;
             limit = limited ∙ ahead.limit;
             script =
-                settles_next ahead.trial.answers (call_outcome job rows ahead.trial call).answer (outcome_of job.system (target_of job call) region databases run call).answer ahead.script
+                script_next ahead.trial.answers (call_outcome job rows ahead.trial call).answer (outcome_of job.system (target_of job call) region databases run call).answer ahead.script
                 (ap (λ (o : Outcome). o.answer) same)
                 ∙ sym script;
             work = ap (λ (o : Outcome). o.work) same ∙ sym work;
@@ -242,7 +241,7 @@ start_is job given run calls limit script work standing = record {
     trial = trial_start job (committed_rows databases) given;
     made = ap (trial_of job (committed_rows databases) given) calls;
     limit = limit;
-    script = ap (settled job.lines job.transaction.statement_limit) (sym script);
+    script = sym script;
     work = sym work;
     seen = data_started (length job.pcbs) region databases run.positions clean standing;
     held =
@@ -268,118 +267,110 @@ sync_asks region databases pcbs work d call e = by_pcb region databases pcbs d c
     middle true false c h = h
     middle false b c h = absurd (cc)
 
-module _ (job : Job) (given : Given) (region : ℕ) (databases : DatabasesState) (run : RunState) (machine : Running) (ahead : IsAhead job given region databases run)
-    (limited : machine.limit ≡ run.machine.limit) where
-  -- a script that settles where it settled before, once its region has asked for something
-  pub still_ahead : (after : DatabasesState) (requests : List Request) → after.committed ≡ databases.committed → after.regions ≡ databases.regions
-      → dbds_of after ≡ dbds_of databases → after.table ≡ after_asks region requests databases.table
-      → settled job.lines run.machine.limit machine.script ≡ settled job.lines run.machine.limit run.machine.script
-      → IsAhead job given region after (record run { machine = machine })
-  still_ahead after requests committed regions dbds asked settles =
-      same_ahead job given region databases run ahead after requests machine committed regions dbds asked limited (rw (sym ahead.limit) settles)
+module _ (job : Job) (given : Given) (region : ℕ) (databases : DatabasesState) (run : RunState) (ahead : IsAhead job given region databases run) (need : Need)
+    (needs : need ≡ need_at job.lines run.machine.limit run.machine.script) where
+  needed : need_at job.lines job.transaction.statement_limit run.machine.script ≡ need
+  needed = ap (λ n. need_at job.lines n run.machine.script) (sym ahead.limit) ∙ sym needs
 
-  same_run : settled job.lines run.machine.limit machine.script ≡ settled job.lines run.machine.limit run.machine.script
-      → IsAhead job given region databases (record run { machine = machine })
-  same_run settles = record {
-    trial = ahead.trial;
-    made = ahead.made;
-    limit = limited ∙ ahead.limit;
-    script = ahead.script ∙ sym (rw (sym ahead.limit) settles);
-    work = ahead.work;
-    seen = ahead.seen;
-    held = ahead.held;
-    texts = ahead.texts;
-    dbds = ahead.dbds;
-    standing = ahead.standing;
+  pub trial_needs : trial_need job ahead.trial ≡ need
+  trial_needs = ap (need_at job.lines job.transaction.statement_limit) ahead.script ∙ needed
+
+  still_ahead : (new : RunState) → new ≡ run → IsAhead job given region databases new
+  still_ahead new same = subst (IsAhead job given region databases) (sym same) ahead
+
+  -- the trial stops where the script needs no call
+  pub stops_so : (new : RunState) (end : WorkEnd) → new ≡ run → requests_by region job ahead.trial need ≡ [] → advance_by job (committed_rows databases) ahead.trial need ≡ Stops end
+      → StopsSo job given region databases databases ahead.trial run new end
+  stops_so new end same nothing ends = record {
+    calls = ap (λ (r : RunState). r.calls) same;
+    free = ap (λ rs. first_blocked rs databases.table) (ap (requests_by region job ahead.trial) trial_needs ∙ nothing);
+    ahead = still_ahead new same;
+    stops = advance_is job given region databases run ahead need needed ∙ ends;
   }
 
-  pub settled_again : machine.script ≡ settled job.lines run.machine.limit run.machine.script
-      → settled job.lines run.machine.limit machine.script ≡ settled job.lines run.machine.limit run.machine.script
-  settled_again script = ap (settled job.lines run.machine.limit) script ∙ settled_twice job.lines run.machine.limit run.machine.script
+  -- and at a further GU
+  pub syncs : (new : RunState) (call : CallText) → new ≡ run → need ≡ Call call → is_sync run.work call ≡ true → StopsSo job given region databases databases ahead.trial run new Syncs
+  syncs new call same e further =
+      stops_so new Syncs same
+      (ap (requests_by region job ahead.trial) e ∙ sync_asks region job.system.databases job.pcbs run.work ahead.trial.databases call further)
+      (ap (advance_by job (committed_rows databases) ahead.trial) e
+      ∙ stops_at (is_sync ahead.trial.work call) (called ahead.trial call (call_outcome job (committed_rows databases) ahead.trial call)) (ap (λ w. is_sync w call) ahead.work ∙ further))
 
-  module _ (need : Need) (script : machine.script ≡ settled job.lines run.machine.limit run.machine.script)
-      (needs : need ≡ need_at job.lines run.machine.limit run.machine.script) where
-    needed : need_at job.lines job.transaction.statement_limit run.machine.script ≡ need
-    needed = ap (λ n. need_at job.lines n run.machine.script) (sym ahead.limit) ∙ sym needs
+  -- and at a call that leads to an abend
+  pub abends : (new : RunState) (call : CallText) (abend : AbendCode) → new ≡ run → need ≡ Call call → is_sync run.work call ≡ false
+      → first_blocked (requests_by_run (target_of job call) region databases run call) databases.table ≡ None
+      → (outcome_of job.system (target_of job call) region databases run call).abend ≡ Some abend
+      → StopsSo job given region databases databases ahead.trial run new (Abends abend)
+  abends new call abend same e further free found = record {
+    calls = ap (λ (r : RunState). r.calls) same;
+    free = free_of job given region databases run ahead call (needed ∙ e) free;
+    ahead = still_ahead new same;
+    stops = abended job given region databases run ahead call (needed ∙ e) further abend found;
+  }
 
-    pub trial_needs : trial_need job ahead.trial ≡ need
-    trial_needs = ap (λ s. need_of (step job.lines job.transaction.statement_limit s)) ahead.script ∙ needed
+  module _ (after : DatabasesState) (call : CallText) (e : need ≡ Call call) where
+    -- and it waits where what the call asks for is blocked
+    pub waits_for : (new : RunState) (resource : Resource) (by : ℕ) → new ≡ run
+        → AreBlocked region (requests_by_run (target_of job call) region databases run call) databases after resource by
+        → after.committed ≡ databases.committed → after.regions ≡ databases.regions → dbds_of after ≡ dbds_of databases
+        → WaitsFor job given region databases after ahead.trial run new resource by
+    waits_for new resource by same blocked committed regions dbds =
+        let asks = asks_are job given region databases run ahead call (needed ∙ e) in
+        let asked : after.table ≡ after_asks region (requests_of region job ahead.trial) databases.table = blocked.asked ∙ ap (λ rs. after_asks region rs databases.table) (sym asks) in
+        record {
+          calls = ap (λ (r : RunState). r.calls) same;
+          blocked = ap (λ rs. told_blocked (first_blocked rs databases.table)) asks ∙ blocked.blocked;
+          asked = asked;
+          ahead =
+              subst (IsAhead job given region after) (sym same)
+              (same_ahead job given region databases run ahead after (requests_of region job ahead.trial) committed regions dbds asked);
+        }
 
-    -- the trial stops where the script needs no call
-    pub stops_so : (end : WorkEnd) → requests_by region job ahead.trial need ≡ []
-        → advance_by job (committed_rows databases) ahead.trial need ≡ Stops end
-        → StopsSo job given region databases databases ahead.trial run (record run { machine = machine }) end
-    stops_so end nothing ends = record {
-      calls = refl;
-      free = ap (λ rs. first_blocked rs databases.table) (ap (requests_by region job ahead.trial) trial_needs ∙ nothing);
-      ahead = same_run (settled_again script);
-      stops = advance_is job given region databases run ahead need needed ∙ ends;
-    }
+    -- and it goes on by any other call
+    pub goes_by : (machine : Running) (new : RunState) (calls : ℕ) (status : Status) → HasTexts (Call call)
+        → machine.limit ≡ run.machine.limit → machine.waiting ≡ waiting_told job.lines run.machine.limit run.machine.script → IsSome machine.waiting
+        → is_sync run.work call ≡ false
+        → calls ≡ run.calls + 1
+        → AreGranted region (requests_by_run (target_of job call) region databases run call) databases after
+        → Answers region (outcome_of job.system (target_of job call) region databases run call) after (record run { machine = machine }) new status
+        → after.committed ≡ databases.committed → dbds_of after ≡ dbds_of databases
+        → AreStanding job.system.databases job.pcbs new.positions
+        → GoesBy job given region databases after ahead.trial run (record new { calls = calls }) (record { function = call.function; pcb = call.pcb; status = status })
+    goes_by machine new calls status texts limited told waits further count granted answers committed dbds standing =
+        let answer : Answer = (outcome_of job.system (target_of job call) region databases run call).answer in
+        called_next job given region databases run ahead call (needed ∙ e) further after (record new { calls = calls }) status texts
+        count
+        (ap (λ m. m.limit) answers.machine ∙ limited)
+        (ap (λ m. m.script) answers.machine
+        ∙ behind_is job.lines run.machine.limit run.machine.script machine.script machine.waiting answer told waits
+        ∙ ap (λ n. answered job.lines n run.machine.script answer) ahead.limit)
+        answers.work answers.seen answers.told answers.goes_on granted committed dbds standing
 
-    -- and at a further GU
-    pub syncs : (call : CallText) → need ≡ Call call → is_sync run.work call ≡ true
-        → StopsSo job given region databases databases ahead.trial run (record run { machine = machine }) Syncs
-    syncs call e further =
-        stops_so Syncs
-        (ap (requests_by region job ahead.trial) e ∙ sync_asks region job.system.databases job.pcbs run.work ahead.trial.databases call further)
-        (ap (advance_by job (committed_rows databases) ahead.trial) e
-        ∙ stops_at (is_sync ahead.trial.work call) (called ahead.trial call (call_outcome job (committed_rows databases) ahead.trial call)) (ap (λ w. is_sync w call) ahead.work ∙ further))
+-- a script that is where it was and doesn't wait
+pub same_script : (old new : Running) → new.script ≡ old.script → new.limit ≡ old.limit → new.waiting ≡ None → old.waiting ≡ None → new ≡ old
+same_script old new script limit rests rested = λ i. record { script = script i; limit = limit i; waiting = (rests ∙ sym rested) i }
 
-    -- and at a call that leads to an abend
-    pub abends : (call : CallText) (abend : AbendCode) → need ≡ Call call → is_sync run.work call ≡ false
-        → first_blocked (requests_by_run (target_of job call) region databases run call) databases.table ≡ None
-        → (outcome_of job.system (target_of job call) region databases run call).abend ≡ Some abend
-        → StopsSo job given region databases databases ahead.trial run (record run { machine = machine }) (Abends abend)
-    abends call abend e further free found = record {
-      calls = refl;
-      free = free_of job given region databases run ahead call (needed ∙ e) free;
-      ahead = same_run (settled_again script);
-      stops = abended job given region databases run ahead call (needed ∙ e) further abend found;
-    }
+-- the work whose script is where it was
+pub still : (run old : RunState) (new : Running) → run ≡ old → new.script ≡ run.machine.script → new.limit ≡ run.machine.limit → new.waiting ≡ None → IsBetweenTurns old
+    → record run { machine = new } ≡ run
+still run old new is script limit rests rested =
+    ap (λ (m : Running). record run { machine = m }) (same_script run.machine new script limit rests (ap (λ (r : RunState). r.machine.waiting) is ∙ rested.0))
 
-    module _ (after : DatabasesState) (call : CallText) (e : need ≡ Call call) where
-      -- and it waits where what the call asks for is blocked
-      pub waits_for : (resource : Resource) (by : ℕ)
-          → AreBlocked region (requests_by_run (target_of job call) region databases run call) databases after resource by
-          → after.committed ≡ databases.committed → after.regions ≡ databases.regions → dbds_of after ≡ dbds_of databases
-          → WaitsFor job given region databases after ahead.trial run (record run { machine = machine }) resource by
-      waits_for resource by blocked committed regions dbds =
-          let asks = asks_are job given region databases run ahead call (needed ∙ e) in
-          let asked : after.table ≡ after_asks region (requests_of region job ahead.trial) databases.table = blocked.asked ∙ ap (λ rs. after_asks region rs databases.table) (sym asks) in
-          record {
-            calls = refl;
-            blocked = ap (λ rs. told_blocked (first_blocked rs databases.table)) asks ∙ blocked.blocked;
-            asked = asked;
-            ahead = still_ahead after (requests_of region job ahead.trial) committed regions dbds asked (settled_again script);
-          }
+-- and of one whose call is taken back
+pub taken_back : (run old after : RunState) (asked back : Running) → run ≡ old → after ≡ record run { machine = asked } → asked.script ≡ run.machine.script
+    → asked.limit ≡ run.machine.limit → back ≡ record after.machine { waiting = None } → IsBetweenTurns old → record after { machine = back } ≡ run
+taken_back run old after asked back is same script limit backs rested =
+    ap (λ (r : RunState). record r { machine = back }) same
+    ∙ still run old back is (ap (λ (m : Running). m.script) backs ∙ ap (λ (r : RunState). r.machine.script) same ∙ script)
+    (ap (λ (m : Running). m.limit) backs ∙ ap (λ (r : RunState). r.machine.limit) same ∙ limit) (ap (λ (m : Running). m.waiting) backs) rested
 
-      -- and it goes on by any other call
-      pub goes_by : (new : RunState) (calls : ℕ) (status : Status) → HasTexts (Call call)
-          → machine.waiting ≡ waiting_at job.lines run.machine.limit run.machine.script
-          → is_sync run.work call ≡ false
-          → calls ≡ run.calls + 1
-          → AreGranted region (requests_by_run (target_of job call) region databases run call) databases after
-          → Answers region (outcome_of job.system (target_of job call) region databases run call) after (record run { machine = machine }) new status
-          → after.committed ≡ databases.committed → dbds_of after ≡ dbds_of databases
-          → AreStanding job.system.databases job.pcbs new.positions
-          → GoesBy job given region databases after ahead.trial run (record new { calls = calls }) (record { function = call.function; pcb = call.pcb; status = status })
-      goes_by new calls status texts waiting further count granted answers committed dbds standing =
-          called_next job given region databases run ahead call (needed ∙ e) further after (record new { calls = calls }) status texts
-          count
-          (ap (λ m. m.limit) answers.machine ∙ limited)
-          (ap (settled job.lines job.transaction.statement_limit)
-          (ap (λ m. m.script) answers.machine
-          ∙ ap (λ s. moved_on s machine.waiting (outcome_of job.system (target_of job call) region databases run call).answer) script
-          ∙ ap (λ w. moved_on (settled job.lines run.machine.limit run.machine.script) w (outcome_of job.system (target_of job call) region databases run call).answer) waiting
-          ∙ ap (λ n. answered job.lines n run.machine.script (outcome_of job.system (target_of job call) region databases run call).answer) ahead.limit))
-          answers.work answers.seen answers.told answers.goes_on granted committed dbds standing
-
--- the work with the same script, and all else as it was
-pub same_run_ahead : (job : Job) (given : Given) (region : ℕ) (databases : DatabasesState) (run new : RunState) (machine : Running) → IsAhead job given region databases run
-    → machine.limit ≡ run.machine.limit
-    → machine.script ≡ settled job.lines run.machine.limit run.machine.script
-    → new ≡ record run { machine = machine }
-    → IsAhead job given region databases new
-same_run_ahead job given region databases run new machine ahead limited script same =
-    subst (IsAhead job given region databases) (sym same)
-    (same_run job given region databases run machine ahead limited (settled_again job given region databases run machine ahead limited script))
+-- behind a call that was answered the script waits for nothing, and has executed a statement more
+pub rests_on : (lines : List ScriptLine) (old : RunState) (machine new : Running) (answer : Answer) (calls : ℕ) → IsBetweenTurns old
+    → machine.waiting ≡ waiting_told lines old.machine.limit old.machine.script → IsSome machine.waiting → new ≡ answered_machine machine answer → calls ≡ old.calls + 1
+    → (new.waiting ≡ None) × (calls ≤ new.script.executed)
+rests_on lines old machine new answer calls rests told waits is count =
+    let more : old.machine.script.executed < (answered lines old.machine.limit old.machine.script answer).executed =
+    answered_more lines old.machine.limit old.machine.script machine.waiting answer told waits in
+    let there : new.script.executed ≡ (answered lines old.machine.limit old.machine.script answer).executed =
+    ap (λ m. m.script.executed) is ∙ ap (λ (s : ScriptState). s.executed) (behind_is lines old.machine.limit old.machine.script machine.script machine.waiting answer told waits) in
+    (ap (λ m. m.waiting) is, omega (arith, rests.1, more, there, count))

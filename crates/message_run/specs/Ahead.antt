@@ -7,7 +7,7 @@ use Rattle.io_pcb.specs.Pads.{conversation_by}
 use Rattle.model_rows.specs.declared.row.Row.{Row}
 use Rattle.model_script.specs.declared.need.Need.{Need}
 use Rattle.script_run.specs.Running.{HasTexts}
-use Rattle.model_script.specs.Script.{script_start, script_after, settled}
+use Rattle.model_script.specs.Script.{script_start, script_after}
 use Rattle.model_system.specs.Jobs.{Job}
 use Rattle.model_machine.specs.Trial.{Given, Trial, WorkEnd, CalledWith, trial_of, trial_need, advance}
 use Rattle.model_machine.specs.Trial.Advance.{Goes, Stops}
@@ -42,15 +42,13 @@ abbrev pub needs_before : Job → List (List Row) → Given → ℕ → List Nee
 needs_before job rows given zero = []
 needs_before job rows given (suc calls) = needs_before job rows given calls ++ needs_behind job (trial_of job rows given calls)
 
--- The script stands where the answers to these calls lead it, but for lines that it executes alone. The
--- message's work is as these calls leave it, and the region sees the databases as they have changed the rows
--- that are committed. What they asked for the region holds, and their areas and keys are texts of segments.
+-- The script stands where the answers to these calls lead it. The message's work is as these calls leave it, and
+-- the region sees the databases as they have changed the rows that are committed. What they asked for the region holds, and their areas and keys are texts of segments.
 pub record IsAhead (job : Job) (given : Given) (region : ℕ) (databases : DatabasesState) (run : RunState) : Type 0 where
   pub trial : Trial
   pub made : trial_of job (committed_rows databases) given run.calls ≡ Some trial
   pub limit : run.machine.limit ≡ job.transaction.statement_limit
-  pub script : settled job.lines job.transaction.statement_limit (script_after job.lines job.transaction.statement_limit script_start trial.answers)
-      ≡ settled job.lines job.transaction.statement_limit run.machine.script
+  pub script : script_after job.lines job.transaction.statement_limit script_start trial.answers ≡ run.machine.script
   pub work : trial.work ≡ run.work
   pub seen : trial.databases ≡ data_of region databases run.positions
   pub held : All (IsHeld databases.table) (asked_before region job (committed_rows databases) given run.calls)
@@ -109,10 +107,6 @@ Advances job given region before after trial old new (Waits resource by) = Waits
 abbrev pub GoesOn : Job → ℕ → DatabasesState → DatabasesState → RunState → RunState → Advanced → Type 0
 GoesOn job region before after old new advanced =
     (given : Given) (ahead : IsAhead job given region before old) → Advances job given region before after ahead.trial old new advanced
-
--- the work is as far as before
-abbrev pub StaysAhead : Job → ℕ → DatabasesState → RunState → RunState → Type 0
-StaysAhead job region databases old new = (given : Given) → IsAhead job given region databases old → IsAhead job given region databases new
 
 -- The end of the work leaves the databases as they are, and a call that waits leaves all but what regions ask for.
 abbrev pub StaysUnlessCalled : DatabasesState → DatabasesState → Advanced → Type 0

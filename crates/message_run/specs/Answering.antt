@@ -1,6 +1,6 @@
 -- How a call of a script is answered, and what that leaves of the work.
 use Rattle.std.specs.Prelude.{◌≡◌, ℕ, ◌-◌, ⊤, List, Some, None, length, replicate, slice_set}
-use Rattle.model_script.specs.Script.{Answer, moved_on}
+use Rattle.model_script.specs.Script.{Answer}
 use Rattle.model_script.specs.declared.need.CallText.{CallText}
 use Rattle.model_system.specs.System.{System}
 use Rattle.model_message.specs.Work.{MessageWork}
@@ -10,7 +10,7 @@ use Rattle.model_enqueue.specs.declared.request.Request.{Request}
 use Rattle.model_enqueue.specs.Ask.{after_asks, first_blocked, waits_for_nothing}
 use Rattle.model_machine.specs.Trial.{Reached, Outcome, outcome_at}
 use Rattle.model_machine.specs.Requests.{requests_at}
-use Rattle.script_run.specs.Running.{Running}
+use Rattle.script_run.specs.Running.{answered_machine}
 use Rattle.tm_types.specs.declared.resource.Resource.{Resource}
 use Rattle.tm_types.specs.declared.status.Status.{Status}
 use Rattle.program_rows.specs.Answering.{told_blocked, regions_backed}
@@ -19,10 +19,6 @@ use Rattle.program_rows.specs.declared.answer.Answered.{Answered as DataAnswered
 use Rattle.message_run.specs.RunState.{RunState}
 use Rattle.message_run.specs.declared.answer.CallEnd.{CallEnd}
 use Rattle.message_run.specs.declared.answer.CallEnd.TheVariants.{Answered, Abended, Waits}
-
--- a script that waits, once its call was answered
-abbrev pub answered_machine : Running → Answer → Running
-answered_machine machine answer = record machine { script = moved_on machine.script machine.waiting answer; waiting = None }
 
 -- what a call comes to by what it reaches, where the work in a region has come so far
 abbrev pub outcome_of : System → Reached → ℕ → DatabasesState → RunState → CallText → Outcome

@@ -17,6 +17,10 @@ pub record RunState : Type 0 where
   pub work : MessageWork
   pub positions : List Position
 
+-- Between two turns the script waits for no answer, and each of its calls was one of its statements.
+abbrev pub IsBetweenTurns : RunState → Type 0
+IsBetweenTurns run = (run.machine.waiting ≡ None) × (run.calls ≤ run.machine.script.executed)
+
 -- Each PCB has a position, and that of a PCB of a database is one of this database.
 pub record AreStanding (databases : List Dbd) (pcbs : List Pcb) (positions : List Position) : Type 0 where
   pub count : length positions ≡ length pcbs

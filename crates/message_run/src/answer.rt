@@ -17,11 +17,12 @@ ghost use Rattle.message_run.specs.Ahead.{StayOthers};
 ghost use Rattle.message_run.specs.Telling.{reach_told, TellsNext};
 ghost use Rattle.program_rows.specs.Telling.{back_told, IsUntold};
 ghost use Rattle.std.specs.List.{AllByRecursion};
-ghost use Rattle.message_run.specs.Answering.{ComesTo, IsRolled, Serves, RollsBack, StaysUnlessAnswered, IsQuietUnlessAnswered, answered_machine, told_run, outcome_of, requests_by_run};
+ghost use Rattle.message_run.specs.Answering.{ComesTo, IsRolled, Serves, RollsBack, StaysUnlessAnswered, IsQuietUnlessAnswered, told_run, outcome_of, requests_by_run};
 ghost use Rattle.message_run.specs.declared.answer.CallEnd.TheVariants.{Answered as AnsweredWith};
+ghost use Rattle.script_run.specs.Running.{answered_machine};
 ghost use Rattle.message_run.specs.RunState.{AreStanding, IsCallBy, IsCallOf};
 
-use crate::run::Run;
+use crate::progress::Progress;
 use log_records::Untold;
 use model_dli::DbCall;
 use model_message::abends::{ROLLED_BACK, WRONG_PAD};
@@ -43,7 +44,7 @@ pub enum CallEnd {
     Waits(Resource, u32),
 }
 
-impl Run {
+impl Progress {
     /// Does a call of the script in this region, and answers it, unless what it needs is blocked. What it changes
     /// in the databases is told of. An Err changes nothing.
     pub(crate) fn answer(

@@ -2,10 +2,11 @@
 //!
 //! Where the work stands is what as many calls of the script, made from its start, lead to
 //! (`specs/Ahead.antt`), and each turn goes on as `advance` of `model_machine` says. Want of memory
-//! leaves the work as far as it was.
+//! changes nothing.
 #![tactic(auto)]
 
 pub use run::{Advanced, Ending, Run};
 
 mod answer;
+mod progress;
 mod run;

@@ -9,7 +9,7 @@ ghost use Rattle.system_types.specs.Valid.{IsServable};
 ghost use Rattle.lasting_state.specs.Tables.{held};
 ghost use Rattle.program_rows.specs.State.{dbds_of, IsRegionOf};
 ghost use Rattle.message_run.specs.RunState.{AreStanding};
-ghost use Rattle.message_run.specs.Ahead.{IsStart, StaysAhead, StaysUnlessCalled, StayOthers};
+ghost use Rattle.message_run.specs.Ahead.{IsStart, StaysUnlessCalled, StayOthers};
 ghost use Rattle.message_run.specs.Telling.{TellsNext, IsQuietUnlessCalled};
 ghost use Rattle.program_rows.specs.Telling.{spelled};
 ghost use Rattle.step_telling.specs.Untold.{WhereFull};
@@ -105,9 +105,8 @@ fn take_unit(
     }
 }
 
-/// Lets the script of a code go on to its next call, and answers that. After an Err the work is as far as before. What the
-/// call changes in the databases is told of by the unit's number in the log; where that is longer than `room`, the answer
-/// is `Full`.
+/// Lets the script of a code go on to its next call, and answers that. An Err changes nothing. What the call changes in the
+/// databases is told of by the unit's number in the log; where that is longer than `room`, the answer is `Full`.
 fn advance_unit(
     system: &System,
     region: u32,
@@ -123,8 +122,7 @@ fn advance_unit(
     requires code { IsSomeAnd (job_of system.now code.now) (λ job. AreStanding system.now.databases job.pcbs run.old.positions) }
     ensures advances { IfOk result (GoesSo system.now region code.now databases.old databases.new run.old run.new) }
     ensures stays { IfOk result (StaysUnlessCalled databases.old databases.new) }
-    ensures calls { OnErr result (run.new.calls ≡ run.old.calls) }
-    ensures ahead { OnErr result (IsSomeAnd (job_of system.now code.now) (λ job. StaysAhead job region databases.old run.old run.new)) }
+    ensures unchanged { OnErr result (run.new ≡ run.old) }
     ensures kept { OnErr result (databases.new ≡ databases.old) }
     ensures others { StayOthers region databases.old databases.new }
     ensures tells { OnOk result (TellsSo system.now region code.now databases.old databases.new run.old unit room told.old.items told.new.items) }

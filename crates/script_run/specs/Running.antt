@@ -7,14 +7,52 @@ use Rattle.tm_types.specs.declared.ssa.KeyTest.TheVariants.{Any, Equal, AtLeast}
 use Rattle.model_script.specs.declared.need.Need.{Need}
 use Rattle.model_script.specs.declared.need.Need.TheVariants.{Call, Ended, Abend}
 use Rattle.model_script.specs.declared.program.ScriptLine.{ScriptLine}
-use Rattle.model_script.specs.Script.{ScriptState, Executed, GoesOn, Needs, arrived, step}
+use Rattle.model_script.specs.Script.{Answer, ScriptState, Executed, GoesOn, Needs, arrived, moved_on, settled, step, waiting_at}
 
--- Where the script stands, how many statements it may execute, and, where it waits for the answer to
--- a call, the variable that the call may set.
+-- a script that waits for the answer to a call: where it stands, and the variable that the call may set
+pub record Waiting : Type 0 where
+  pub at : ScriptState
+  pub sets : Option ℕ
+
+-- Where the script stood when its last call was answered, how many statements it may execute, and, where
+-- its next call was told, how it waits for the answer.
 pub record Running : Type 0 where
   pub script : ScriptState
   pub limit : ℕ
-  pub waiting : Option (Option ℕ)
+  pub waiting : Option Waiting
+
+abbrev pub waiting_in : Option (Option ℕ) → ScriptState → Option Waiting
+waiting_in (Some sets) at = Some (record { at = at; sets = sets })
+waiting_in None at = None
+
+-- how a script waits once it was asked for what it needs; None where that is no call
+abbrev pub waiting_told : List ScriptLine → ℕ → ScriptState → Option Waiting
+waiting_told lines limit state = waiting_in (waiting_at lines limit state) (settled lines limit state)
+
+-- the script behind the call for which it waits
+abbrev pub behind : Option Waiting → ScriptState → Answer → ScriptState
+behind (Some waiting) state answer = moved_on waiting.at (Some waiting.sets) answer
+behind None state answer = state
+
+-- a machine whose call was answered
+abbrev pub answered_machine : Running → Answer → Running
+answered_machine machine answer = record machine { script = behind machine.waiting machine.script answer; waiting = None }
+
+-- A script that goes on: where it stood when its last call was answered, and where it is.
+pub record Going : Type 0 where
+  pub stood : ScriptState
+  pub here : ScriptState
+
+-- a script that stands
+abbrev pub at_rest : ScriptState → Going
+at_rest state = record { stood = state; here = state }
+
+-- The variables as they were at the last call: of those that were set since, what they were is kept.
+abbrev pub texts_before : List (Option (List ℕ)) → List (List ℕ) → List (List ℕ)
+texts_before [] variables = variables
+texts_before (kept ∷ others) [] = []
+texts_before (Some text ∷ others) (variable ∷ variables) = text ∷ texts_before others variables
+texts_before (None ∷ others) (variable ∷ variables) = variable ∷ texts_before others variables
 
 -- each variable is the text of a segment: at most 1,996 printable bytes
 pub record AreTexts (variables : List (List ℕ)) : Type 0 where
@@ -41,9 +79,10 @@ outcome (Some need) state = Needs need
 outcome None state = GoesOn state
 
 -- What a statement came to: it told a need and nothing changed, or the script went on.
-pub record Does (executed : Executed) (old new : ScriptState) (need : Option Need) : Type 0 where
-  pub does : executed ≡ outcome need new
+pub record Does (executed : Executed) (old new : Going) (need : Option Need) : Type 0 where
+  pub does : executed ≡ outcome need new.here
   pub stays : OnSome need (new ≡ old)
+  pub stood : new.stood ≡ old.stood
   pub texts : IfSome need HasTexts
 
 -- a place and a count that can go on by one
@@ -51,11 +90,11 @@ pub record HasRoom (state : ScriptState) : Type 0 where
   pub place : state.place + 1 < 2 ^ 64
   pub executed : state.executed + 1 < 2 ^ 32
 
--- a script that waits has room to go on
-abbrev pub WaitsWithRoom : Option (Option ℕ) → ScriptState → Type 0
-WaitsWithRoom (Some (Some x)) state = HasRoom state × (x < 26)
-WaitsWithRoom (Some None) state = HasRoom state
-WaitsWithRoom None state = ⊤
+-- a script that waits has room to go on, and one that doesn't has gone nowhere
+abbrev pub IsStanding : Option (Option ℕ) → Going → Type 0
+IsStanding (Some (Some x)) script = HasRoom script.here × (x < 26)
+IsStanding (Some None) script = HasRoom script.here
+IsStanding None script = script.here ≡ script.stood
 
 -- a script that makes a call has room to go on
 abbrev pub GivesRoom : Need → ScriptState → Type 0
@@ -65,12 +104,12 @@ GivesRoom (Abend code) state = ⊤
 
 -- What a step came to, labels being passed first: it told a need where the script arrived, or the
 -- script went on.
-pub record Steps (lines : List ScriptLine) (limit : ℕ) (old new : ScriptState) (need : Option Need) : Type 0 where
-  pub does : Does (step lines limit (arrived lines old)) (arrived lines old) new need
-  pub room : IfSome need (λ n. GivesRoom n new)
+pub record Steps (lines : List ScriptLine) (limit : ℕ) (old new : Going) (need : Option Need) : Type 0 where
+  pub does : Does (step lines limit (arrived lines old.here)) (record old { here = arrived lines old.here }) new need
+  pub room : IfSome need (λ n. GivesRoom n new.here)
 
 -- A script waits for an answer exactly where it needs a call.
-abbrev pub Waits : Need → Option (Option ℕ) → Type 0
+abbrev pub Waits : Need → Option Waiting → Type 0
 Waits (Call call) waiting = IsSome waiting
 Waits Ended waiting = waiting ≡ None
 Waits (Abend code) waiting = waiting ≡ None

@@ -1,7 +1,7 @@
 //! The machine that runs a script: from call to call, in place.
 //!
 //! What it needs next, and where it stands once that was answered, is what the definition of scripts
-//! says (specs/Script of `model_script`). Want of memory loses nothing, and what stands in a variable
+//! says (specs/Script of `model_script`). Want of memory changes nothing, and what stands in a variable
 //! is always the text of a segment.
 #![tactic(auto)]
 

@@ -1,78 +1,94 @@
 //! Where a script stands.
-ghost use Rattle.std.specs.Prelude.{◌≡◌, false, ◌+◌, ◌<◌, ◌≤◌, ◌^◌, IsTrue, IfOk, OnOk, OnErr, IfSome, Some, None, IsOk, map, take, length};
+ghost use Rattle.std.specs.Prelude.{◌≡◌, false, ◌+◌, ◌<◌, ◌≤◌, ◌^◌, IsTrue, IfOk, OnOk, OnErr, IfSome, Some, None, IsOk, length, replicate, slice_set};
 ghost use Rattle.std.specs.List.{list_all, flat_map};
 ghost use Rattle.std.specs.Borrow.{Bor};
 ghost use Rattle.std.specs.Option.{option_map};
 ghost use Rattle.tm_types.specs.Segment.{is_printable, IsSegmentText};
 ghost use Rattle.model_script.specs.Programs.{is_plain, is_statement};
 ghost use Rattle.model_script.specs.Script as spec;
-ghost use Rattle.script_run.specs.Running.{AreKeyTexts, HasTexts, outcome};
+ghost use Rattle.script_run.specs.Running.{at_rest, texts_before};
 
 use crate::texts::append_cut;
 use model_script::{Text, Variable};
 use std::alloc::Global;
 use std::marker::Model;
+use std::mem;
 use tm_types::{Bytes, Memory, Status};
 
-/// Where a script stands: its line, its variables, the last status and how many statements it has
-/// executed.
+/// Where a script is: its line, its variables, the last status and how many statements it has
+/// executed; and where it stood when its last call was answered, to which it can be taken back.
 #[derive(Debug, Drop)]
 pub struct Script {
     place: usize,
     variables: Vec<Bytes>,
     status: Status,
     executed: u32,
+    stood: usize,
+    had_executed: u32,
+    /// Of each variable that was set since, what it was then.
+    kept: Vec<Option<Bytes>>,
 }
 
 impl Model for Script {
     ghost use Rattle.std.specs.Prelude.{◌≡◌, length};
     ghost use Rattle.model_script.specs.Script.{ScriptState};
-    ghost use Rattle.script_run.specs.Running.{AreTexts};
+    ghost use Rattle.script_run.specs.Running.{AreTexts, Going, texts_before};
 
-    ghost Value = { ScriptState };
+    ghost Value = { Going };
 
-    ghost view = { λ s. record { place = s.place; variables = s.variables.items; status = s.status; executed = s.executed } };
+    ghost view = { λ s. record { stood = record { place = s.stood; variables = texts_before s.kept.items s.variables.items; status = s.status; executed = s.had_executed }; here = record { place = s.place; variables = s.variables.items; status = s.status; executed = s.executed } } };
 
-    ghost invariant = { λ s. (length s.variables.items ≡ 26) × AreTexts s.variables.items };
+    ghost invariant = { λ s. (length s.variables.items ≡ 26) × (length s.kept.items ≡ 26) × AreTexts s.variables.items × AreTexts (texts_before s.kept.items s.variables.items) };
 }
 
 impl Script {
     ghost use Rattle.script_run.specs.Running.{HasRoom};
 
-    #[tactic(auto, using(crate::proofs::VariableTexts::empty_texts))]
     /// A script at its first line, with empty variables.
     pub fn start(alloc: Global) -> Result<Script, Memory>
-        ensures { IfOk result (λ script. script ≡ spec.script_start) }
+        ensures { IfOk result (λ script. script ≡ at_rest spec.script_start) }
     {
         let mut variables = Vec::with_capacity(alloc, 26)?;
+        let mut kept = Vec::with_capacity(alloc, 26)?;
         for _place in 0..26u8 {
             variables.push(Bytes::new(alloc))?;
+            kept.push(None)?;
         }
         Ok(Script {
             place: 0,
             variables,
             status: Status::Blank,
             executed: 0,
+            stood: 0,
+            had_executed: 0,
+            kept,
         })
     }
 
     /// The place of the line where the script stands, counted from 0.
     pub fn place(&self) -> usize
-        ensures { result ≡ self.now.place }
+        ensures { result ≡ self.now.here.place }
     {
         self.place
     }
 
     /// How many statements it has executed.
     pub fn executed(&self) -> u32
-        ensures { result ≡ self.now.executed }
+        ensures { result ≡ self.now.here.executed }
     {
         self.executed
     }
 
+    /// How many statements it had executed when its last call was answered.
+    pub fn had_executed(&self) -> u32
+        ensures { result ≡ self.now.stood.executed }
+    {
+        self.had_executed
+    }
+
     /// The text of a variable.
     pub fn variable(&self, x: &Variable) -> &[u8]
-        ensures value { result.now ≡ spec.variable_text self.now x.now }
+        ensures value { result.now ≡ spec.variable_text self.now.here x.now }
         ensures text { IsSegmentText result.now }
     {
         self.variables[x.place() as usize].as_slice()
@@ -82,7 +98,7 @@ impl Script {
     /// The text that a line names.
     pub fn text<'a>(&'a self, text: &'a Text) -> &'a [u8]
         requires { IsTrue (is_plain text.now) }
-        ensures value { result.now ≡ spec.text_of self.now text.now }
+        ensures value { result.now ≡ spec.text_of self.now.here text.now }
         ensures printable { IsTrue (list_all is_printable result.now) }
     {
         match text {
@@ -96,7 +112,7 @@ impl Script {
     /// The texts joined, cut at the limit of a text.
     pub fn joined(&self, alloc: Global, texts: &[Text]) -> Result<Bytes, Memory>
         requires { IsTrue (list_all is_plain texts.now) }
-        ensures value { IfOk result (λ joined. joined ≡ spec.joined self.now texts.now) }
+        ensures value { IfOk result (λ joined. joined ≡ spec.joined self.now.here texts.now) }
         ensures text { IfOk result (λ joined. IsSegmentText joined) }
     {
         let mut joined = Bytes::new(alloc);
@@ -110,18 +126,23 @@ impl Script {
     /// Executes a statement that gives a variable this text.
     pub fn assign(&mut self, x: &Variable, text: Bytes)
         requires text { IsSegmentText text }
-        requires room { HasRoom self.old }
-        ensures { self.new ≡ spec.assigns self.old x.now text }
+        requires room { HasRoom self.old.here }
+        ensures { self.new ≡ record self.old { here = spec.assigns self.old.here x.now text } }
     {
-        self.variables[x.place() as usize] = text;
+        set_variable(
+            &mut self.variables,
+            &mut self.kept,
+            x.place() as usize,
+            text,
+        );
         self.place += 1;
         self.executed += 1;
     }
 
     /// Executes a statement that goes on at this place.
     pub fn go_to(&mut self, place: usize)
-        requires { HasRoom self.old }
-        ensures { self.new ≡ spec.goes_on self.old place self.old.variables }
+        requires { HasRoom self.old.here }
+        ensures { self.new ≡ record self.old { here = spec.goes_on self.old.here place self.old.here.variables } }
     {
         self.place = place;
         self.executed += 1;
@@ -136,10 +157,10 @@ impl Script {
         status: Status,
         area: Option<&[u8]>,
     ) -> Result<(), Memory>
-        requires room { HasRoom self.old }
+        requires room { HasRoom self.old.here }
         requires variable { IfSome set (λ x. x < 26) }
         requires text { IfSome (option_map (λ (text : Bor _). text.now) area) IsSegmentText }
-        ensures ok { OnOk result (self.new ≡ spec.moved_on self.old (Some set) (record { status = status; area = option_map (λ (text : Bor _). text.now) area.entry })) }
+        ensures ok { OnOk result (self.new ≡ at_rest (spec.moved_on self.old.here (Some set) (record { status = status; area = option_map (λ (text : Bor _). text.now) area.entry }))) }
         ensures err { OnErr result (self.new ≡ self.old) }
         ensures no_area { area.entry ≡ None → IsOk result }
         ensures not_set { spec.sets_variable status ≡ false → IsOk result }
@@ -147,7 +168,8 @@ impl Script {
         if let (Some(variable), Some(text)) = (set, area)
             && sets_variable(status)
         {
-            self.variables[variable as usize] = Bytes::copied(alloc, text)?;
+            let text = Bytes::copied(alloc, text)?;
+            set_variable(&mut self.variables, &mut self.kept, variable as usize, text);
         }
         self.pass_call(status);
         Ok(())
@@ -155,34 +177,104 @@ impl Script {
 
     /// The same with a text that is taken over. This takes no memory.
     pub fn answer_taking(&mut self, set: Option<u8>, status: Status, area: Option<Bytes>)
-        requires room { HasRoom self.old }
+        requires room { HasRoom self.old.here }
         requires variable { IfSome set (λ x. x < 26) }
         requires text { IfSome area IsSegmentText }
-        ensures { self.new ≡ spec.moved_on self.old (Some set) (record { status = status; area = area }) }
+        ensures { self.new ≡ at_rest (spec.moved_on self.old.here (Some set) (record { status = status; area = area })) }
     {
         if let (Some(variable), Some(text)) = (set, area)
             && sets_variable(status)
         {
-            self.variables[variable as usize] = text;
+            set_variable(&mut self.variables, &mut self.kept, variable as usize, text);
         }
         self.pass_call(status);
     }
 
-    /// Goes on behind a call that was answered with this status, whatever its variable became.
+    #[tactic(auto, using(crate::proofs::VariableTexts::none_kept))]
+    /// Goes on behind a call that was answered with this status, whatever its variable became. There the
+    /// script stands.
     fn pass_call(&mut self, status: Status)
-        requires { HasRoom self.old }
-        ensures { self.new ≡ record self.old { place = self.old.place + 1; status = status; executed = self.old.executed + 1 } }
+        requires { HasRoom self.old.here }
+        ensures { self.new ≡ at_rest (record self.old.here { place = self.old.here.place + 1; status = status; executed = self.old.here.executed + 1 }) }
     {
+        keep_none(&mut self.kept);
         self.place += 1;
         self.status = status;
         self.executed += 1;
+        self.stood = self.place;
+        self.had_executed = self.executed;
     }
 
     /// Moves on to this place, without a statement.
     pub fn arrive(&mut self, place: usize)
-        ensures { self.new ≡ record self.old { place = place } }
+        ensures { self.new ≡ record self.old { here = record self.old.here { place = place } } }
     {
         self.place = place;
+    }
+
+    #[tactic(auto, using(crate::proofs::VariableTexts::none_kept))]
+    /// Goes back to where the script stood when its last call was answered. This takes no memory.
+    pub fn take_back(&mut self)
+        ensures { self.new ≡ at_rest self.old.stood }
+    {
+        put_back(&mut self.variables, &mut self.kept);
+        self.place = self.stood;
+        self.executed = self.had_executed;
+    }
+}
+
+/// Gives a variable a text, and keeps what it was at the last call, unless that is kept already.
+fn set_variable(
+    variables: &mut Vec<Bytes>,
+    kept: &mut Vec<Option<Bytes>>,
+    place: usize,
+    text: Bytes,
+)
+    requires variable { place < length variables.old.items }
+    requires kept { place < length kept.old.items }
+    ensures set { variables.new.items ≡ slice_set variables.old.items place text }
+    ensures before { texts_before kept.new.items variables.new.items ≡ texts_before kept.old.items variables.old.items }
+    ensures size { length kept.new.items ≡ length kept.old.items }
+{
+    let before = mem::replace(&mut variables[place], text);
+    match kept[place] {
+        Some(_) => {}
+        None => kept[place] = Some(before),
+    }
+}
+
+/// Makes each variable what it was at the last call.
+fn put_back(variables: &mut Vec<Bytes>, kept: &mut Vec<Option<Bytes>>)
+    requires { length variables.old.items ≡ length kept.old.items }
+    ensures variables { variables.new.items ≡ texts_before kept.old.items variables.old.items }
+    ensures size { length variables.new.items ≡ length variables.old.items }
+    ensures kept { kept.new.items ≡ replicate (length kept.old.items) None }
+{
+    for place in 0..kept.len() {
+        put_one_back(variables, kept, place);
+    }
+}
+
+#[tactic(auto, using(crate::proofs::VariableTexts::none_back))]
+fn put_one_back(variables: &mut Vec<Bytes>, kept: &mut Vec<Option<Bytes>>, place: usize)
+    requires variable { place < length variables.old.items }
+    requires kept { place < length kept.old.items }
+    ensures before { texts_before kept.new.items variables.new.items ≡ texts_before kept.old.items variables.old.items }
+    ensures size { length variables.new.items ≡ length variables.old.items }
+    ensures kept { kept.new.items ≡ slice_set kept.old.items place None }
+{
+    match kept[place].take() {
+        Some(text) => variables[place] = text,
+        None => {}
+    }
+}
+
+/// Keeps nothing: the variables are what they are at the last call.
+fn keep_none(kept: &mut Vec<Option<Bytes>>)
+    ensures { kept.new.items ≡ replicate (length kept.old.items) None }
+{
+    for text in kept.iter_mut() {
+        *text = None;
     }
 }
 

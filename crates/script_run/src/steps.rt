@@ -14,18 +14,18 @@ use tm_types::{AbendCode, Memory};
 #[tactic(auto, using(crate::proofs::GoingOn::going_on_steps))]
 /// Lets the script go on to its next call or end.
 ///
-/// After want of memory it has gone on to some place before that, and may be asked again.
+/// After want of memory it is at some place before that.
 pub fn go_on(
     alloc: Global,
     limit: u32,
     program: &Program,
     script: &mut Script,
 ) -> Result<Need, Memory>
-    ensures need { IfOk result (λ need. need ≡ spec.need_at program.now limit script.old) }
-    ensures script { OnOk result (script.new ≡ spec.settled program.now limit script.old) }
+    ensures need { IfOk result (λ need. need ≡ spec.need_at program.now limit script.old.here) }
+    ensures here { OnOk result (script.new.here ≡ spec.settled program.now limit script.old.here) }
     ensures texts { IfOk result HasTexts }
-    ensures room { IfOk result (λ need. GivesRoom need script.new) }
-    ensures err { OnErr result (spec.settled program.now limit script.new ≡ spec.settled program.now limit script.old) }
+    ensures room { IfOk result (λ need. GivesRoom need script.new.here) }
+    ensures stood { script.new.stood ≡ script.old.stood }
 {
     loop {
         match step(alloc, limit, program, script) {
@@ -44,7 +44,7 @@ fn step(
     script: &mut Script,
 ) -> Result<Option<Need>, Memory>
     ensures ok { IfOk result (Steps program.now limit script.old script.new) }
-    ensures err { OnErr result (script.new ≡ spec.arrived program.now script.old) }
+    ensures stood { script.new.stood ≡ script.old.stood }
 {
     script.arrive(first_statement(program, script.place()));
     let Some(line) = program.line(script.place()) else {

@@ -11,7 +11,7 @@ one_more (first ∷ made) ssa texts here = (texts.0, one_more made ssa texts.1 h
 
 pub loop-ssa-preserved : goal.loop-ssa-preserved
 loop-ssa-preserved c =
-    let state = c.args.script.now in
+    let state = c.args.script.now.here in
     let ssas = c.args.ssas.now in
     let item = c.ssa-item.result in
     let i = c.loop-ssa.ssa-index in

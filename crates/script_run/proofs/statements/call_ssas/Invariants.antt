@@ -6,6 +6,6 @@ use Rattle.script_run.proofs.statements.call_ssas.Given as goal
 
 abbrev pub invariant-loop-ssa : goal.invariant-loop-ssa
 invariant-loop-ssa l = record {
-  so_far : l.made ≡ map (call_ssa l.script) (take l.ssa-index l.ssas);
+  so_far : l.made ≡ map (call_ssa l.script.here) (take l.ssa-index l.ssas);
   texts : AreKeyTexts l.made;
 }

@@ -4,7 +4,10 @@ use Rattle.model_script.specs.Script.{settled}
 use Rattle.script_run.proofs.steps.go_on.Given as goal
 
 abbrev pub invariant-loop-need : goal.invariant-loop-need
-invariant-loop-need l = settled l.program l.limit l.script ≡ settled l.program l.limit l.initial.script
+invariant-loop-need l = record {
+  settles : settled l.program l.limit l.script.here ≡ settled l.program l.limit l.initial.script.here;
+  stood : l.script.stood ≡ l.initial.script.stood;
+}
 
 abbrev pub decreases-loop-need : goal.decreases-loop-need
-decreases-loop-need l = l.limit - l.script.executed
+decreases-loop-need l = l.limit - l.script.here.executed

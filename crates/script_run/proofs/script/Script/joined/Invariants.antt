@@ -8,5 +8,5 @@ use Rattle.script_run.proofs.script.Script.joined.Given as goal
 abbrev pub invariant-loop-text : goal.invariant-loop-text
 invariant-loop-text l = record {
   is_text : IsSegmentText l.joined;
-  so_far : l.joined ≡ take 1996 (flat_map (text_of l.self) (take l.text-index l.texts));
+  so_far : l.joined ≡ take 1996 (flat_map (text_of l.self.here) (take l.text-index l.texts));
 }

@@ -1,6 +1,6 @@
 use Rattle.std.proofs.Common.{◌≡◌, replicate}
 use Rattle.model_dli.specs.Data.{nowhere}
-use Rattle.message_run.proofs.run.standing_nowhere.Given as goal
+use Rattle.message_run.proofs.progress.standing_nowhere.Given as goal
 
 abbrev pub invariant-loop-pcb : goal.invariant-loop-pcb
 invariant-loop-pcb l = l.positions.items ≡ replicate l._pcb nowhere
