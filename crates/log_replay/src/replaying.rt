@@ -61,9 +61,9 @@ fn replay_all(
 {
     let mut working = Working::new(alloc, kept)?;
     for r in records {
-        let fine = replay_record(alloc, system, &mut working, r)?;
-        if !fine {
-            return Ok(None);
+        match replay_record(alloc, system, working, r)? {
+            Some(next) => working = next,
+            None => return Ok(None),
         }
     }
     Ok(Some(working.kept))

@@ -1,5 +1,5 @@
 //! One open unit among others.
-ghost use Rattle.std.specs.Prelude.{◌≡◌, ◌≤◌, length, map, OnOk};
+ghost use Rattle.std.specs.Prelude.{◌≡◌, ◌≤◌, length, map, OnOk, OnErr};
 ghost use Rattle.open_units.specs.Units.{numbered, insert_unit, place_in};
 
 use snapshot_records::OpenUnit;
@@ -18,10 +18,11 @@ fn place_in(number: u64, units: &[OpenUnit<'_>]) -> usize
     units.len()
 }
 
-/// Adds a unit to others that stand by their numbers.
+/// Adds a unit to others that stand by their numbers. Want of memory changes nothing.
 #[tactic(auto, using(crate::proofs::Standing::inserted))]
 pub fn insert<'a>(units: &mut Vec<OpenUnit<'a>>, unit: OpenUnit<'a>) -> Result<(), Memory>
-    ensures { OnOk result (map numbered units.new.items ≡ insert_unit (numbered unit.entry) (map numbered units.old.items)) }
+    ensures ok { OnOk result (map numbered units.new.items ≡ insert_unit (numbered unit.entry) (map numbered units.old.items)) }
+    ensures err { OnErr result (units.new.items ≡ units.old.items) }
 {
     let place = place_in(unit.number, units);
     units.insert(place, unit)?;

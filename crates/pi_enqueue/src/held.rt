@@ -1,5 +1,5 @@
 //! The lists of what each region holds.
-ghost use Rattle.std.specs.Prelude.{◌≡◌, ◌≤◌, ◌<◌, ◌+◌, take, drop, ◌∷◌, [], ◌++◌, true, length, OnOk, OnErr, IfOk, IfSome, IfNone, replicate};
+ghost use Rattle.std.specs.Prelude.{◌≡◌, ◌↔◌, ◌≤◌, ◌<◌, ◌+◌, take, drop, ◌∷◌, [], ◌++◌, true, IsTrue, length, OnOk, OnErr, IfOk, IfSome, IfNone, replicate};
 ghost use Rattle.pi_enqueue.specs.Lists.{AreEmpty, is_listed, StayListed};
 
 use model_enqueue::Holder;
@@ -54,7 +54,7 @@ impl Held {
 
     /// Whether there is none.
     pub fn is_empty(&self) -> bool
-        ensures { result ≡ true → self.now ≡ [] }
+        ensures { IsTrue result ↔ (self.now ≡ []) }
     {
         self.resources.is_empty()
     }
@@ -100,7 +100,7 @@ pub fn list(lists: &mut Vec<Held>, holder: &Holder) -> Result<(), Memory>
 /// Whether all lists but the one at this place are empty.
 pub fn are_others_empty(lists: &[Held], own: usize) -> bool
     requires { own < length lists.now }
-    ensures { result ≡ true → AreEmpty (take own lists.now) × AreEmpty (drop (own + 1) lists.now) }
+    ensures { IsTrue result ↔ (AreEmpty (take own lists.now) × AreEmpty (drop (own + 1) lists.now)) }
 {
     if !are_empty(&lists[..own]) {
         return false;
@@ -109,7 +109,7 @@ pub fn are_others_empty(lists: &[Held], own: usize) -> bool
 }
 
 fn are_empty(lists: &[Held]) -> bool
-    ensures { result ≡ true → AreEmpty lists.now }
+    ensures { IsTrue result ↔ AreEmpty lists.now }
 {
     for list in lists {
         if !list.is_empty() {

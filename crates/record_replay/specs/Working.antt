@@ -31,6 +31,11 @@ abbrev pub Comes : System → Option Replay → WorkState → Bool → Type 0
 Comes system answer work true = (replay : Replay) × (answer ≡ Some replay) × IsAt system replay work
 Comes system answer work false = answer ≡ None
 
+-- the same with the tables that are given back, or with none
+abbrev pub ComesTo : System → Option Replay → Option WorkState → Type 0
+ComesTo system answer (Some work) = Comes system answer work true
+ComesTo system answer None = answer ≡ None
+
 -- the unit at whose sync point a record is done
 abbrev pub waits_for : Record → Option ℕ
 waits_for (Input zero id origin code number conversation segments) = None

@@ -7,7 +7,7 @@ ghost use Rattle.model_machine.specs.Lasting.{applied};
 ghost use Rattle.model_machine.specs.Lasting.LastingStep.{Commands};
 ghost use Rattle.record_replay.specs.Judged.{lasting_in, AreSound, Leaves};
 ghost use Rattle.record_replay.specs.Tallied.{Follows};
-ghost use Rattle.record_replay.specs.Working.{IsAt, Comes, IsDone, Waits, waits_for};
+ghost use Rattle.record_replay.specs.Working.{IsAt, Comes, ComesTo, IsDone, Waits, waits_for};
 
 use crate::commanding::{command, ended_by};
 use crate::doing::is_small;
@@ -24,8 +24,26 @@ use system_types::System;
 use tm_types::{AbendCode, LastingCommand, Memory, Message, Name};
 use told_lasting::is_image_of;
 
-/// Does a record of the log again. False: it breaks the rule on such records, and the tables aren't to be used any more.
+/// Does a record of the log again, and gives the tables back with what it did. None: it breaks the rule on such records.
 pub fn replay_record(
+    alloc: Global,
+    system: &System,
+    mut working: Working,
+    r: Record,
+) -> Result<Option<Working>, Memory>
+    requires sound { AreSound system.now working.kept }
+    requires follows { Follows system.now working.kept working.tally }
+    ensures { IfOk result (λ done. (replay : Replay) → IsAt system.now replay working → ComesTo system.now (replay_one system.now r replay) done) }
+{
+    let fine = do_again(alloc, system, &mut working, r)?;
+    if !fine {
+        return Ok(None);
+    }
+    Ok(Some(working))
+}
+
+// The same in place: false, or without memory, the tables aren't to be used any more.
+fn do_again(
     alloc: Global,
     system: &System,
     working: &mut Working,

@@ -57,6 +57,7 @@ impl Kept {
     pub fn make_room(&mut self) -> Result<(), Memory>
         ensures lives { self.new.lives.items ≡ self.old.lives.items }
         ensures stops { self.new.stops.items ≡ self.old.stops.items }
+        ensures pick { self.new.pick ≡ self.old.pick }
         ensures still { vec_len self.old.lives < vec_capacity self.old.lives → vec_len self.new.lives < vec_capacity self.new.lives }
         ensures life_room { OnOk result (vec_len self.new.lives + 2 ≤ vec_capacity self.new.lives) }
         ensures stop_room { OnOk result (vec_len self.new.stops + 1 ≤ vec_capacity self.new.stops) }

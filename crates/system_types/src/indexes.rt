@@ -1,5 +1,5 @@
 //! Indexes of lists by name.
-ghost use Rattle.std.specs.Prelude.{◌≡◌, ◌<◌, ℕ, List, Some, None, IfOk, OnOk, cond, length, map, slice_get};
+ghost use Rattle.std.specs.Prelude.{◌≡◌, ◌<◌, ℕ, List, Some, None, IfOk, OnOk, OnErr, cond, length, map, slice_get};
 ghost use Rattle.std.specs.Option.{option_and_then, option_copied, option_map_or, option_or};
 ghost use Rattle.std.specs.Str.{bytes_eq};
 ghost use Rattle.system_types.specs.Indexes.{IsIndex, has_code_name, has_program_name, has_terminal_name, place_in, program_place};
@@ -52,13 +52,14 @@ fn programs_by_name(
 }
 
 /// Adds a name with its place to an index by name, unless it is there: an index has of each name the
-/// place of the first that has it. Where there is no memory the index may be used no more.
+/// place of the first that has it. Want of memory changes nothing.
 pub fn add_name(
     index: &mut BTreeMap<Name, usize>,
     name: &Name,
     place: usize,
 ) -> Result<(), AllocError>
-    ensures { OnOk result ((other : List ℕ) → place_in index.new other ≡ option_or (place_in index.old other) (cond (bytes_eq name.now other) (Some place) None)) }
+    ensures ok { OnOk result ((other : List ℕ) → place_in index.new other ≡ option_or (place_in index.old other) (cond (bytes_eq name.now other) (Some place) None)) }
+    ensures err { OnErr result (index.new.entries ≡ index.old.entries) }
 {
     if !index.contains_key(name) {
         index.insert(*name, place)?;

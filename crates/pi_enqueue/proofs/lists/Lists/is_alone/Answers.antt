@@ -9,7 +9,7 @@ pub returns : goal.returns
 returns c = λ yes request own.
     let us : vec_len c.args.self.now.upgrades ≡ 0 = eqb-true (vec_len c.args.self.now.upgrades) 0 (sym c.if-not-is_empty.ensures) in
     let ws : vec_len c.args.self.now.waits ≡ 0 = eqb-true (vec_len c.args.self.now.waits) 0 (sym c.if-not-is_empty-2.ensures) in
-    let empty = c.are_others_empty.ensures yes in
+    let empty = c.are_others_empty.ensures.0 yes in
     let up : c.args.region - 1 + 1 ≡ suc (c.args.region - 1) = omega arith in
     alone_free c.args.region c.args.self.now.regions c.requires.first c.args.self.now.held.items
     (subst (λ index. AreEmpty (take (c.args.region - 1) index)) c.deref.ensures.value empty.0)

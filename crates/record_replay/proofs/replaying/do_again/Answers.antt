@@ -1,7 +1,7 @@
 use Rattle.std.proofs.Common.{sym, ◌∙◌}
 use Rattle.std.proofs.lemmas.Result.{IfOk-weaker}
 use Rattle.record_replay.proofs.Coming.{unknown, waits, done_now}
-use Rattle.record_replay.proofs.replaying.replay_record.Goals as goal
+use Rattle.record_replay.proofs.replaying.do_again.Goals as goal
 
 pub returns-then-not-known : goal.returns-then-not-known
 returns-then-not-known c replay at = unknown c.args.system.now c.args.r replay c.args.working.now c.args.working.now at (sym c.in_ok-known.ensures ∙ c.if-not-known.true)
