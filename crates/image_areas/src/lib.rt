@@ -1,4 +1,8 @@
-//! Where the areas of a system's disk stand, as `specs/Areas` of model_image says it.
+//! Where the areas of a system's disk stand, as `specs/Areas` of `model_image` says it.
+//!
+//! The restart sector, 64 sectors of the definition's text, two areas for snapshots, two for logs and a
+//! sector for each slot of each database follow each other. Their lengths come from the definition
+//! alone, and a checked system's limits keep each place small, as the clauses say.
 #![tactic(auto)]
 
 ghost use Rattle.std.specs.Prelude.{◌≡◌, ◌≤◌, length, sum_by};

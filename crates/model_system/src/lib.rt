@@ -1,4 +1,8 @@
 //! The types of a system as its definition gives it, and the record as which contracts see it.
+//!
+//! Codes, programs, databases, terminals, classes and screens stand in the definition's order. What a
+//! code's job is, what state each code is in and which segments an edit may give are in `specs/`. Which
+//! of these records are systems, with all limits, `system_types` says, and carries the record out.
 #![tactic(auto)]
 
 pub use classes::Classes;

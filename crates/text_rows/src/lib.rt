@@ -1,5 +1,8 @@
 //! What the readers of the definition's texts share: pieces of a line, names and numbers, and the
 //! lowest rule that a line breaks.
+//!
+//! A line that breaks several rules is answered with the lowest, whichever part of it was read first:
+//! `both` and `also` join what two parts say. `specs/` has what a piece, a name and a number are.
 #![tactic(auto)]
 
 pub use lines::{is_passed_over, printable_line, split_at};

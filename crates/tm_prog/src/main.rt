@@ -1,5 +1,9 @@
-//! A transaction manager: its sessions are served as `drill`, from standard input to standard output; a `workload` makes its session
-//! by itself.
+//! A transaction manager: its sessions are served as `drill`, from standard input to standard output; a
+//! `workload` makes its session by itself.
+//!
+//! `main` reads the words, opens the disk that they name and prints the answer of `tm_session`'s `run`
+//! with the status that ends the process, as `specs/Status` has it. All that isn't proved is here: the
+//! words themselves and the standard streams.
 #![tactic(auto)]
 
 ghost use Rattle.std.specs.Prelude.{◌≡◌};
