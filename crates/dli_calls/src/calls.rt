@@ -56,10 +56,7 @@ pub fn plan<R: Rows>(
         Function::ISRT => change::insert(alloc, dbd, call, copied(at)?, rows),
         Function::REPL => change::replace(alloc, dbd, call, copied(at)?, rows),
         Function::DLET => change::delete(alloc, dbd, copied(at)?, rows),
-        Function::PURG => unreachable!(),
-        Function::CHNG => unreachable!(),
-        Function::ROLB => unreachable!(),
-        Function::ROLL => unreachable!(),
+        Function::PURG | Function::CHNG | Function::ROLB | Function::ROLL => unreachable!(),
     }
 }
 
@@ -140,19 +137,12 @@ pub fn would_change<R: Rows>(dbd: &Dbd, call: &DbCall, position: &Position, rows
         return None;
     }
     match call.function {
-        Function::GU => None,
-        Function::GN => None,
-        Function::GNP => None,
-        Function::GHU => None,
-        Function::GHN => None,
-        Function::GHNP => None,
+        Function::GU | Function::GN | Function::GNP => None,
+        Function::GHU | Function::GHN | Function::GHNP => None,
         Function::ISRT => would_insert(dbd, call, rows),
         Function::REPL => would_replace(dbd, call, position, rows),
         Function::DLET => would_delete(dbd, position, rows),
-        Function::PURG => unreachable!(),
-        Function::CHNG => unreachable!(),
-        Function::ROLB => unreachable!(),
-        Function::ROLL => unreachable!(),
+        Function::PURG | Function::CHNG | Function::ROLB | Function::ROLL => unreachable!(),
     }
 }
 
@@ -210,19 +200,12 @@ pub fn is_allowed(function: Function, options: u8) -> bool
     ensures { result ≡ is_allowed function options }
 {
     match function {
-        Function::GU => has(options, GET),
-        Function::GN => has(options, GET),
-        Function::GNP => has(options, GET),
-        Function::GHU => may_hold(options),
-        Function::GHN => may_hold(options),
-        Function::GHNP => may_hold(options),
+        Function::GU | Function::GN | Function::GNP => has(options, GET),
+        Function::GHU | Function::GHN | Function::GHNP => may_hold(options),
         Function::ISRT => has(options, INSERT),
         Function::REPL => has(options, REPLACE),
         Function::DLET => has(options, DELETE),
-        Function::PURG => false,
-        Function::CHNG => false,
-        Function::ROLB => false,
-        Function::ROLL => false,
+        Function::PURG | Function::CHNG | Function::ROLB | Function::ROLL => false,
     }
 }
 

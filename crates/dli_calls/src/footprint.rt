@@ -53,10 +53,7 @@ pub fn needs<R: Rows>(
         Function::ISRT => insert_needs(alloc, dbd, call),
         Function::REPL => replace_needs(alloc, dbd, call, position),
         Function::DLET => delete_needs(alloc, dbd, position),
-        Function::PURG => unreachable!(),
-        Function::CHNG => unreachable!(),
-        Function::ROLB => unreachable!(),
-        Function::ROLL => unreachable!(),
+        Function::PURG | Function::CHNG | Function::ROLB | Function::ROLL => unreachable!(),
     }
 }
 
