@@ -1,5 +1,5 @@
 //! Room in the log.
-ghost use Rattle.journal.specs.State.{LeavesSectors};
+ghost use Rattle.journal.specs.State.{TellsAllRoom};
 ghost use Rattle.machine_telling.specs.Telling.{HasRoom, IsAllBut, StayFree};
 
 use journal::Journal;
@@ -19,7 +19,8 @@ pub fn room_left(journal: &Journal) -> usize
 
 /// How many bytes may be appended at all.
 pub fn all_room(journal: &Journal) -> usize
-    ensures { HasRoom result journal.now.log }
+    ensures room { HasRoom result journal.now.log }
+    ensures all { TellsAllRoom journal.now.log result }
 {
     journal.all_room() as usize
 }
