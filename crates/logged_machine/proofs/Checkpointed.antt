@@ -3,6 +3,7 @@ use Rattle.std.proofs.Common.{◌≡◌, ◌⊎◌, ◌≤◌, ◌<◌, ◌+◌,
 use Rattle.std.specs.Prelude.{None, Option, Some}
 use Rattle.tm_machine.specs.Answers.{IsAnswered}
 use Rattle.model_disk.specs.Disk.{Image, DiskState, Stays, Within, WritesAtMost, ComesFrom, FailedSince, Only}
+use Rattle.model_disk.proofs.Words.{stays_same}
 use Rattle.model_system.specs.System.{System}
 use Rattle.model_machine.specs.Machine.{LastingState, Moment}
 use Rattle.model_machine.specs.declared.entry.Entry.{Entry}
@@ -132,7 +133,7 @@ nothing state l entry served = record {
   keeps = record {
     system = refl;
     text = refl;
-    disk = record { size = refl; tells = refl; can_arm = refl; faults = omega arith; writes = omega arith };
+    disk = stays_same (state l.disk);
     later = omega arith;
     numbers = λ now. omega arith;
   };

@@ -1,7 +1,8 @@
 -- A call behind a checkpoint, and a call as its callers see it.
 use Rattle.std.proofs.Common.{true, ◌≡◌, ◌⊎◌, ◌≤◌, ◌+◌, ℕ, List, inl, inr, ⊎_elim, refl, sym, ◌∙◌, ap, subst, arith}
 use Rattle.std.specs.Prelude.{Option, Some, None, Ok}
-use Rattle.model_disk.specs.Disk.{Image, DiskState, IsDisk, Stays, FailedSince, Rose}
+use Rattle.model_disk.specs.Disk.{Image, DiskState, IsDisk, FailedSince, Rose}
+use Rattle.model_disk.proofs.Words.{stays_on}
 use Rattle.model_system.specs.System.{System}
 use Rattle.model_machine.specs.Machine.{LastingState, Moment}
 use Rattle.model_machine.specs.History.{May, after_entry}
@@ -25,15 +26,6 @@ IsNoMemory fault = fault ≡ Some Memory → ⊥
 
 -- ---- disks
 
-stays_then : (a b c : DiskState) → Stays a b → Stays b c → Stays a c
-stays_then a b c one two = record {
-  size = two.size ∙ one.size;
-  tells = two.tells ∙ one.tells;
-  can_arm = two.can_arm ∙ one.can_arm;
-  faults = omega (arith, one.faults, two.faults);
-  writes = omega (arith, one.writes, two.writes);
-}
-
 failed_later : (a b c : DiskState) → b.faults ≡ a.faults → FailedSince b c → FailedSince a c
 failed_later a b c same failed = subst (λ (n : ℕ). Rose n c.faults) same failed
 
@@ -42,7 +34,7 @@ module _ {D : Type 0} (state : D → DiskState) where
   keeps_then a b c up one two = record {
     system = two.system ∙ one.system;
     text = two.text ∙ one.text;
-    disk = stays_then (state a.disk) (state b.disk) (state c.disk) one.disk two.disk;
+    disk = stays_on (state a.disk) (state b.disk) (state c.disk) one.disk two.disk;
     later = omega (arith, one.later, two.later);
     numbers = λ now. omega (arith, one.numbers up, two.numbers now);
   }

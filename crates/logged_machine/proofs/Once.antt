@@ -4,6 +4,7 @@ use Rattle.std.specs.Prelude.{Option, Some, None, ◌++◌}
 use Rattle.std.specs.List.{flat_map}
 use Rattle.std.specs.Option.{is_some}
 use Rattle.model_disk.specs.Disk.{Image, DiskState, Stays, Within, Follows, FailedSince}
+use Rattle.model_disk.proofs.Words.{stays_same}
 use Rattle.model_machine.specs.Machine.{LastingState, Moment}
 use Rattle.model_machine.specs.Lasting.{LastingStep}
 use Rattle.model_machine.specs.History.{after_entry}
@@ -64,7 +65,7 @@ module _ {D : Type 0} (state : D → DiskState) (parts parts' : PartsState) (tex
     keeps = record {
       system = answered.system;
       text = refl;
-      disk = record { size = refl; tells = refl; can_arm = refl; faults = omega arith; writes = omega arith };
+      disk = stays_same (state disk);
       later = omega arith;
       numbers = λ now. subst (λ (n : ℕ). journal.restart.checkpoint ≤ n) (ap (λ r. r.checkpoint) (sym told.restart)) (omega arith);
     };

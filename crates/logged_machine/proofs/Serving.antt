@@ -2,7 +2,7 @@
 use Rattle.std.proofs.Common.{◌≡◌, ◌≤◌, ◌<◌, ◌+◌, ◌^◌, ℕ, true, List, sym, subst, arith}
 use Rattle.log_writer.specs.Writer.{Writer}
 use Rattle.restart_data.specs.Restart.{IsCounter}
-use Rattle.model_disk.specs.Disk.{DiskState, Keeps as KeepsDisk}
+use Rattle.model_disk.specs.Disk.{DiskState, IsToldToStop}
 use Rattle.disk_law.specs.Journal.{JournalState}
 use Rattle.model_image.specs.Areas.{data_first}
 use Rattle.std.specs.Prelude.{length}
@@ -20,20 +20,20 @@ are_lasting state l units h = record {
   counts = standing_up_to l.machine units l.next_unit l.journal l.text (state l.disk) h;
 }
 
--- a disk on which nothing was written is as before
-pub kept_logged : (parts : PartsState) (units : List ℕ) (next : ℕ) (journal : JournalState) (text : List ℕ) (old new : DiskState) → KeepsDisk old new → IsLogged parts units next journal text old
+-- a disk that was told when to stop is as before
+pub kept_logged : (parts : PartsState) (units : List ℕ) (next : ℕ) (journal : JournalState) (text : List ℕ) (old new : DiskState) → IsToldToStop old new → IsLogged parts units next journal text old
     → IsLogged parts units next journal text new
-kept_logged parts units next journal text old new keeps h = record {
+kept_logged parts units next journal text old new told h = record {
   life = h.life;
   carried = h.carried;
-  kept = λ image left. h.kept image (keeps.no_more image left);
+  kept = λ image left. h.kept image (told.no_more image left);
   writer = h.writer;
   now = h.now;
   text_is = h.text_is;
-  areas = subst (λ (n : ℕ). data_first parts.system (length parts.system.databases) ≤ n) (sym keeps.stays.size) h.areas;
-  ready = λ image left. h.ready image (keeps.no_more image left);
+  areas = subst (λ (n : ℕ). data_first parts.system (length parts.system.databases) ≤ n) (sym told.same.size) h.areas;
+  ready = λ image left. h.ready image (told.no_more image left);
   counted = h.counted;
-  told = λ image left. h.told image (keeps.no_more image left);
+  told = λ image left. h.told image (told.no_more image left);
 }
 
 -- no sequence of the log passes its range

@@ -1,6 +1,6 @@
 //! A machine with its log.
-ghost use Rattle.std.specs.Prelude.{◌≡◌, ◌<◌, ◌↔◌, IsTrue};
-ghost use Rattle.model_disk.specs.Disk.{Keeps as KeepsDisk, armed};
+ghost use Rattle.std.specs.Prelude.{◌≡◌, ◌<◌, ◌↔◌, IsTrue, IsFalse};
+ghost use Rattle.model_disk.specs.Disk.{IsToldToStop, armed};
 ghost use Rattle.model_machine.specs.declared.entry.Entry.TheVariants.{Show as ShowEntry};
 ghost use Rattle.model_machine.specs.Machine.{output_at, terminal_at};
 ghost use Rattle.model_machine.specs.Steps.{is_quiet, show_answer};
@@ -8,7 +8,6 @@ ghost use Rattle.lasting_state.specs.Showing.{IsShownTo};
 ghost use Rattle.tm_machine.specs.Answers.{Answers};
 ghost use Rattle.tm_machine.specs.OnSlots.{HasSlots};
 ghost use Rattle.logged_machine.specs.Logged.{LastsNow};
-ghost use Rattle.logged_machine.specs.Goes.{Keeps};
 
 use journal::Journal;
 use lasting_state::Shown;
@@ -105,10 +104,11 @@ impl<D: Disk> LoggedMachine<D> {
         ensures journal { self.new.journal ≡ self.old.journal }
         ensures units { self.new.units ≡ self.old.units }
         ensures next_unit { self.new.next_unit ≡ self.old.next_unit }
-        ensures keeps { Keeps D.state self.old self.new }
-        ensures disk { KeepsDisk (D.state self.old.disk) (D.state self.new.disk) }
+        ensures text { self.new.text ≡ self.old.text }
+        ensures told { IsToldToStop (D.state self.old.disk) (D.state self.new.disk) }
         ensures no_fault { (D.state self.new.disk).faults ≡ (D.state self.old.disk).faults }
         ensures armed { IsTrue result → (D.state self.new.disk).until_stop ≡ armed n (D.state self.old.disk).until_stop }
+        ensures nothing { IsFalse result → (D.state self.new.disk).until_stop ≡ (D.state self.old.disk).until_stop }
         ensures lasts { LastsNow D.state self.new }
     {
         self.disk.arm(n)

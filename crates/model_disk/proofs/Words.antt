@@ -1,10 +1,43 @@
 -- How what is said of a disk goes on over the next call.
-use Rattle.std.proofs.Common.{◌≡◌, inl, inr, ⊎_elim, refl, sym, arith, ◌∙◌, subst, false, IsFalse, IsTrue}
+use Rattle.std.proofs.Common.{◌≡◌, ℕ, zero, suc, inl, inr, ⊎_elim, refl, sym, arith, ◌∙◌, subst, false, IsFalse, IsTrue}
+use Rattle.std.specs.Prelude.{Option, Some, None}
 use Rattle.std.proofs.lemmas.Bool.{cases_Bool}
-use Rattle.model_disk.specs.Disk.{Image, DiskState, ComesFrom, IsDisk, Stays, Elapses, Follows, Within, Only, NoMore, Keeps}
+use Rattle.model_disk.specs.Disk.{Image, DiskState, ComesFrom, IsDisk, IsSameDisk, Lessens, Stays, Elapses, Follows, Within, Only, NoMore, Keeps, one_less}
+
+-- the writes left until a stop
+pub lessens_same : (stop : Option ℕ) → Lessens stop stop
+lessens_same None = refl
+lessens_same (Some left) = omega arith
+
+pub lessens_one : (stop : Option ℕ) → Lessens stop (one_less stop)
+lessens_one None = refl
+lessens_one (Some zero) = omega arith
+lessens_one (Some (suc left)) = omega arith
+
+pub lessens_on : (a b c : Option ℕ) → Lessens a b → Lessens b c → Lessens a c
+lessens_on None b c one two = subst (λ (stop : Option ℕ). Lessens stop c) one two
+lessens_on (Some left) None c one two = absurd one
+lessens_on (Some left) (Some mid) None one two = absurd two
+lessens_on (Some left) (Some mid) (Some after) one two = omega (arith, one, two)
+
+-- the same disk
+pub same_itself : (disk : DiskState) → IsSameDisk disk disk
+same_itself disk = record { size = refl; tells = refl; can_arm = refl; faults = omega arith; writes = omega arith }
+
+pub same_on : (old mid new : DiskState) → IsSameDisk old mid → IsSameDisk mid new → IsSameDisk old new
+same_on old mid new a b = record {
+  size = b.size ∙ a.size;
+  tells = b.tells ∙ a.tells;
+  can_arm = b.can_arm ∙ a.can_arm;
+  faults = omega (arith, a.faults, b.faults);
+  writes = omega (arith, a.writes, b.writes);
+}
+
+pub stays_is_same : (old new : DiskState) → Stays old new → IsSameDisk old new
+stays_is_same old new stays = record { size = stays.size; tells = stays.tells; can_arm = stays.can_arm; faults = stays.faults; writes = stays.writes }
 
 pub stays_same : (old : DiskState) → Stays old old
-stays_same old = record { size = refl; tells = refl; can_arm = refl; faults = omega arith; writes = omega arith }
+stays_same old = record { size = refl; tells = refl; can_arm = refl; faults = omega arith; writes = omega arith; stop = lessens_same old.until_stop }
 
 pub stays_on : (old mid new : DiskState) → Stays old mid → Stays mid new → Stays old new
 stays_on old mid new a b = record {
@@ -13,6 +46,7 @@ stays_on old mid new a b = record {
   can_arm = b.can_arm ∙ a.can_arm;
   faults = omega arith;
   writes = omega arith;
+  stop = lessens_on old.until_stop mid.until_stop new.until_stop a.stop b.stop;
 }
 
 -- before the first call

@@ -65,12 +65,27 @@ abbrev pub WritesAtMost : ℕ → DiskState → DiskState → Type 0
 WritesAtMost n old new = new.writes ≤ old.writes + n
 
 -- What no call changes, and counts that don't fall.
+pub record IsSameDisk (old new : DiskState) : Type 0 where
+  pub size : new.size ≡ old.size
+  pub tells : new.tells ≡ old.tells
+  pub can_arm : new.can_arm ≡ old.can_arm
+  pub faults : old.faults ≤ new.faults
+  pub writes : old.writes ≤ new.writes
+
+-- A disk that wasn't told to stop isn't told so; one that was stops at no later write, and has stopped where it had.
+abbrev pub Lessens : Option ℕ → Option ℕ → Type 0
+Lessens None after = after ≡ None
+Lessens (Some left) None = ⊥
+Lessens (Some left) (Some after) = after ≤ left
+
+-- It is the same disk, and nothing but the writes brings its stop nearer.
 pub record Stays (old new : DiskState) : Type 0 where
   pub size : new.size ≡ old.size
   pub tells : new.tells ≡ old.tells
   pub can_arm : new.can_arm ≡ old.can_arm
   pub faults : old.faults ≤ new.faults
   pub writes : old.writes ≤ new.writes
+  pub stop : Lessens old.until_stop new.until_stop
 
 -- Time goes on: a crash since a time might have left what it might have left before, or what it may leave now.
 pub record Elapses (old new : DiskState) : Type 0 where
@@ -139,6 +154,14 @@ pub record Keeps (old new : DiskState) : Type 0 where
   pub shown : new.shown ≡ old.shown
   pub writes : new.writes ≡ old.writes
 
+-- The disk was told when to stop, or couldn't be: nothing else has changed.
+pub record IsToldToStop (old new : DiskState) : Type 0 where
+  pub same : IsSameDisk old new
+  pub elapses : Elapses old new
+  pub no_more : NoMore old new
+  pub shown : new.shown ≡ old.shown
+  pub writes : new.writes ≡ old.writes
+
 -- The disk was told to write a sector: it did, or failed and may have done so or not.
 pub record MayHaveWritten (at : ℕ) (sector : List ℕ) (old new : DiskState) : Type 0 where
   pub stays : Stays old new
@@ -156,7 +179,7 @@ pub record HasWritten (at : ℕ) (sector : List ℕ) (old new : DiskState) : Typ
 
 -- The disk was cut off: one of the images that a crash might have left is shown and synced. It did not fail.
 pub record IsCut (old new : DiskState) : Type 0 where
-  pub stays : Stays old new
+  pub same : IsSameDisk old new
   pub elapses : Elapses old new
   pub no_more : NoMore old new
   pub left : IsTrue old.tells → old.may_leave new.shown

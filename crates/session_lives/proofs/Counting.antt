@@ -50,9 +50,9 @@ module _ {D : Type 0} (state : D → DiskState) where
       subst (λ (c : ControlOnDisk D). CountsUp state (high + call_raises * length c.control.history) c) (sym same) (record { own = h.own; images = h.images })
 
   -- what it keeps of its log is as it was, and nothing was written
-  pub pace_log : (old new : ControlOnDisk D) → old.up ≡ true → length old.control.history ≤ length new.control.history → StaysSo state old new → KeepsLog old new → NoMore (state old.disk) (state new.disk)
+  pub pace_log : (old new : ControlOnDisk D) → old.up ≡ true → length old.control.history ≤ length new.control.history → new.control.system ≡ old.control.system → KeepsLog old new → NoMore (state old.disk) (state new.disk)
       → KeepsPace state old new
-  pace_log old new up more stays log no_more few high h =
+  pace_log old new up more same log no_more few high h =
       let own : StandsUpTo (high + call_raises * length old.control.history) old.journal old.next_unit = h.own up in
       record {
         own = λ now. record {
@@ -62,12 +62,12 @@ module _ {D : Type 0} (state : D → DiskState) where
           unit = omega (arith, more, log.next_unit, own.unit);
         };
         images = λ image left.
-            subst (λ (s : System). CountsUpTo s (high + call_raises * length new.control.history) image) (sym stays.system)
+            subst (λ (s : System). CountsUpTo s (high + call_raises * length new.control.history) image) (sym same)
             (up_to_more old.control.system (high + call_raises * length old.control.history) (high + call_raises * length new.control.history) image (omega (arith, more)) (h.images image (no_more image left)));
       }
 
   pub pace_kept : (old new : ControlOnDisk D) → old.up ≡ true → length old.control.history ≤ length new.control.history → StaysSo state old new → KeepsLog old new → new.disk ≡ old.disk → KeepsPace state old new
-  pace_kept old new up more stays log same = pace_log old new up more stays log (λ image left. subst (λ (d : D). (state d).may_leave image) same left)
+  pace_kept old new up more stays log same = pace_log old new up more stays.system log (λ image left. subst (λ (d : D). (state d).may_leave image) same left)
 
   -- ---- an entry more
 

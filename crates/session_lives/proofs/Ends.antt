@@ -3,8 +3,8 @@ use Rattle.std.proofs.Common.{◌≡◌, ◌⊎◌, ℕ, ◌+◌, ◌*◌, ◌-�
 use Rattle.std.proofs.lemmas.List.{append-nil, length-append}
 use Rattle.std.specs.Prelude.{if◌then◌else◌, Option, Some, None, Ok, vec_len, vec_capacity}
 use Rattle.std.specs.Option.{option_map}
-use Rattle.model_disk.specs.Disk.{Image, DiskState, Stays, IsCut, Only, Rose, FailedSince}
-use Rattle.model_disk.proofs.Words.{stays_on}
+use Rattle.model_disk.specs.Disk.{Image, DiskState, IsSameDisk, Only, Rose}
+use Rattle.model_disk.proofs.Words.{same_on}
 use Rattle.model_system.specs.System.{System}
 use Rattle.model_machine.specs.declared.entry.Entry.{Entry}
 use Rattle.model_machine.specs.declared.entry.ControlFault.TheVariants.{Disk}
@@ -22,7 +22,6 @@ use Rattle.model_session.specs.Lives.{LifeState, LastLife, AreLegal, HasAnswered
 use Rattle.model_session.specs.Standing.{Setting, Standing, Outage, SessionState, Stop, AreStops, LastAnswered, IsLeft, gone_on, ended, broken}
 use Rattle.model_session.specs.Standing.Standing.{Up as StandsUp, Down as StandsDown}
 use Rattle.tm_control.specs.OnDisk.{ControlOnDisk, Lasts, IsUp, IsDown, LastsBy, lasting_after}
-use Rattle.tm_control.specs.Calls.{StaysSo}
 use Rattle.tm_control.specs.Closed.{Closes}
 use Rattle.control_life.specs.declared.life.Life.{Life}
 use Rattle.session_lives.specs.declared.place.Idle.{Idle}
@@ -215,11 +214,11 @@ module _ {D : Type 0} (state : D → DiskState) (system : System) (source : List
 
   -- a life that has ended leaves all sound
   pub down_sound : Only (state handed).shown (state handed) → c.text ≡ source → sectors_needed system ≤ (state handed).size → (old new : Kept) (stopped : Bool) (idle : Idle D)
-      → GoesDown state c old new stopped idle → Stays (state handed) (state c.disk)
+      → GoesDown state c old new stopped idle → IsSameDisk (state handed) (state c.disk)
       → AreLegal system (map life_of old.lives.items) → AreStops (state handed).faults new.stops.items (state c.disk).faults
       → IsSystem system → ((high : ℕ) → CountsFirst system high (state handed) → CountsUp state (high + call_raises * measure (session_at (Up c) old)) c) → IsDownSound state system source handed idle new
-  down_sound alone text_is size old new stopped idle down stays legal stops valid counts =
-      let disk : Stays (state handed) (state down.disk) = subst (λ d. Stays (state handed) (state d)) (sym down.closes.disk_is) stays in
+  down_sound alone text_is size old new stopped idle down same legal stops valid counts =
+      let disk : IsSameDisk (state handed) (state down.disk) = subst (λ d. IsSameDisk (state handed) (state d)) (sym down.closes.disk_is) same in
       let faults : (state idle.disk).faults ≡ (state c.disk).faults = down.laid.faults ∙ ap (λ d. (state d).faults) down.closes.disk_is in
       let outage : outage_of idle ≡ outage_with (Some (last_up c)) false stopped = outage_is state c old new stopped idle (last_up c) down refl refl in
       record {
@@ -233,7 +232,7 @@ module _ {D : Type 0} (state : D → DiskState) (system : System) (source : List
                   (texts_by c.up image down.lasts (subst (λ d. (state d).may_leave image) down.closes.disk_is (down.laid.no_more image left))));
               first = λ yet. absurd (has_ended down.life idle.last down.last yet.first);
             });
-        stays = stays_on (state handed) (state down.disk) (state idle.disk) disk down.laid.stays;
+        same = same_on (state handed) (state down.disk) (state idle.disk) disk down.laid.same;
         stops = subst (λ n. AreStops (state handed).faults new.stops.items n) (sym faults) stops;
         legal = subst (λ l. AreLegal system l) (sym (same_kept old new down.lives)) legal;
         answered = subst (λ l. LastAnswered system (option_map last_of l) (kept_of l)) (sym down.last)

@@ -8,6 +8,7 @@ pub mod Leading
 pub mod Refusals
 pub mod Told
 pub mod Restarted
+pub mod Staying
 pub mod Serving
 pub mod Remaining
 pub mod Valid

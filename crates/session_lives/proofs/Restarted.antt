@@ -4,8 +4,8 @@ use Rattle.std.proofs.lemmas.List.{map-append}
 use Rattle.std.proofs.lemmas.Bool.{cases_Bool, eq-eqb}
 use Rattle.std.specs.Prelude.{◌==◌, if◌then◌else◌, Option, Some, None, Result, Ok, Err, IsTrue}
 use Rattle.std.specs.Option.{option_map, is_some}
-use Rattle.model_disk.specs.Disk.{Image, DiskState, IsDisk, Stays, ComesFrom, Within, Only, Rose}
-use Rattle.model_disk.proofs.Words.{stays_on, within_each, leaves_none}
+use Rattle.model_disk.specs.Disk.{Image, DiskState, IsDisk, IsSameDisk, ComesFrom, Within, Only, Rose}
+use Rattle.model_disk.proofs.Words.{same_on, stays_is_same, within_each, leaves_none}
 use Rattle.model_system.specs.System.{System}
 use Rattle.model_machine.specs.Machine.{LastingState, empty_state}
 use Rattle.model_image.specs.Alike.{RecoversAlike}
@@ -179,7 +179,7 @@ module _ {D : Type 0} (state : D → DiskState) (is_disk : (disk : D) → IsDisk
       inl (subst (λ l. IsLeft setting l (count_of idle.last false opening.steps) opening) (sym unopened.no_life) (begins_by image unopened.before opening unopened.left unopened.alike recovers))
 
   tells_now : setting.tells ≡ true → (state idle.disk).tells ≡ true
-  tells_now tells = sound.stays.tells ∙ tells
+  tells_now tells = sound.same.tells ∙ tells
 
   shown_holds : setting.tells ≡ true → Holds state system source handed (StandsDown outage) (state idle.disk).shown
   shown_holds tells = sound.images (state idle.disk).shown ((is_disk idle.disk).shown_left (tells_now tells))
@@ -225,7 +225,7 @@ module _ {D : Type 0} (state : D → DiskState) (is_disk : (disk : D) → IsDisk
   -- ---- a life opened
 
   sectors_there : sectors_needed idle.system ≤ (state idle.disk).size → sectors_needed system ≤ (state handed).size
-  sectors_there enough = subst (λ n. sectors_needed system ≤ n) sound.stays.size (subst (λ s. sectors_needed s ≤ (state idle.disk).size) sound.system_is enough)
+  sectors_there enough = subst (λ n. sectors_needed system ≤ n) sound.same.size (subst (λ s. sectors_needed s ≤ (state idle.disk).size) sound.system_is enough)
 
   opened_state : (cold : Bool) (gone : HasOpened state idle old cold session) → session_of session ≡ opened before outage (count_of idle.last cold gone.control.control.opening.steps) gone.control.control.opening
   opened_state cold gone =
@@ -260,7 +260,7 @@ module _ {D : Type 0} (state : D → DiskState) (is_disk : (disk : D) → IsDisk
         system_is = gone.opens.system_is ∙ sound.system_is;
         text_is = gone.opens.text_is ∙ sound.text_is;
         size = sectors_there gone.opens.size;
-        stays = stays_on (state handed) (state idle.disk) (state gone.control.disk) sound.stays gone.opens.stays;
+        same = same_on (state handed) (state idle.disk) (state gone.control.disk) sound.same (stays_is_same (state idle.disk) (state gone.control.disk) gone.opens.stays);
         stops = subst (λ n. AreStops (state handed).faults session.kept.stops.items n) (sym gone.opens.began)
             (subst (λ s. AreStops (state handed).faults s (state idle.disk).faults) (sym gone.stops) sound.stops);
         began = omega (arith, gone.opens.began, gone.opens.no_fault);
@@ -387,14 +387,14 @@ module _ {D : Type 0} (state : D → DiskState) (is_disk : (disk : D) → IsDisk
   failed_sound : (cold : Bool) → HasFailed state idle old cold session → IsSound state system source handed session
   failed_sound cold gone =
       let outage_is : outage_of gone.after ≡ outage_with outage.last (or_cold cold outage.emptied) true = outage_after gone.after (or_cold cold outage.emptied) true gone.last gone.emptied gone.stopped in
-      let stays : Stays (state handed) (state gone.disk) = stays_on (state handed) (state idle.disk) (state gone.disk) sound.stays gone.back.stays in
+      let same : IsSameDisk (state handed) (state gone.disk) = same_on (state handed) (state idle.disk) (state gone.disk) sound.same (stays_is_same (state idle.disk) (state gone.disk) gone.back.stays) in
       subst (λ p. IsSoundAt state system source handed p session.kept) (sym gone.place) (record {
         handed_alone = sound.handed_alone;
         system_is = gone.back.system_is ∙ sound.system_is;
         text_is = gone.back.text_is ∙ sound.text_is;
         size = λ begun. sound.size (ap is_some (sym gone.last) ∙ begun);
         texts = λ image left. subst (λ o. IsOfText state system source handed (StandsDown o) image) (sym outage_is) (failed_texts cold gone image left);
-        stays = stays_on (state handed) (state gone.disk) (state gone.after.disk) stays gone.cut.stays;
+        same = same_on (state handed) (state gone.disk) (state gone.after.disk) same gone.cut.same;
         stops = subst (λ n. AreStops (state handed).faults session.kept.stops.items n) (sym gone.cut.faults)
             (subst (λ s. AreStops (state handed).faults s (state gone.disk).faults) (sym gone.stops)
             (stops_one (state handed).faults (state idle.disk).faults (state idle.disk).faults (state gone.disk).faults old.stops.items sound.stops (omega arith) gone.back.stays.faults
@@ -432,7 +432,7 @@ module _ {D : Type 0} (state : D → DiskState) (is_disk : (disk : D) → IsDisk
         text_is = idles.text_is ∙ sound.text_is;
         size = λ begun. sound.size (ap is_some (sym idles.last) ∙ begun);
         texts = λ image left. subst (λ o. IsOfText state system source handed (StandsDown o) image) (sym outage_is) (sound.texts image (idles.wrote.keeps.no_more image left));
-        stays = stays_on (state handed) (state idle.disk) (state idles.after.disk) sound.stays idles.wrote.keeps.stays;
+        same = same_on (state handed) (state idle.disk) (state idles.after.disk) sound.same (stays_is_same (state idle.disk) (state idles.after.disk) idles.wrote.keeps.stays);
         stops = subst (λ n. AreStops (state handed).faults session.kept.stops.items n) (sym idles.wrote.no_fault)
             (subst (λ s. AreStops (state handed).faults s (state idle.disk).faults) (sym idles.stops) sound.stops);
         legal = subst (λ l. AreLegal system (map life_of l)) (sym idles.lives) sound.legal;
@@ -461,7 +461,7 @@ module _ {D : Type 0} (state : D → DiskState) (is_disk : (disk : D) → IsDisk
   no_size cold needed has refuses begun =
       let enough : sectors_needed system ≤ (state handed).size = sound.size begun in
       let need : needed ≡ sectors_needed system = refuses.size.right_need ∙ ap sectors_needed sound.system_is in
-      omega (arith, enough, need, refuses.size.right_size, sound.stays.size, refuses.size.less)
+      omega (arith, enough, need, refuses.size.right_size, sound.same.size, refuses.size.less)
 
   -- the text of what is shown is the definition's
   no_other : (place : ℕ) → Refuses (how_of false) idle.system idle.text (state idle.disk) (error_of (Text place)) → setting.tells ≡ true → HasText system source (state idle.disk).shown → ⊥
@@ -523,7 +523,7 @@ module _ {D : Type 0} (state : D → DiskState) (is_disk : (disk : D) → IsDisk
       subst (λ (i : Image). RecoversAlike system i (state idle.disk).shown) (sym (sound.handed_alone image there ∙ sym (sound.handed_alone unopened.before unopened.left))) unopened.alike)
 
   size_first : (error : OpenError) → SizeFirst idle.system (state idle.disk).size (Err error) → SizeFirst system (state handed).size (Err error)
-  size_first error size = subst (λ n. SizeFirst system n (Err error)) sound.stays.size (subst (λ s. SizeFirst s (state idle.disk).size (Err error)) sound.system_is size)
+  size_first error size = subst (λ n. SizeFirst system n (Err error)) sound.same.size (subst (λ s. SizeFirst s (state idle.disk).size (Err error)) sound.system_is size)
 
   -- of a disk that tells nothing no image is named
   silent_first : setting.tells ≡ false → (image : Image) → (state handed).may_leave image → ⊥

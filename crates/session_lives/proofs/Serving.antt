@@ -2,8 +2,8 @@
 use Rattle.std.proofs.Common.{◌≡◌, ◌⊎◌, ℕ, ◌+◌, ◌*◌, ◌≤◌, ◌<◌, Bool, true, false, List, [], ◌∷◌, ◌++◌, length, map, sym, ◌∙◌, ap, subst, refl, arith, inl, inr}
 use Rattle.std.proofs.lemmas.List.{append-nil}
 use Rattle.std.specs.Prelude.{Option, Some, None, vec_len, vec_capacity}
-use Rattle.model_disk.specs.Disk.{DiskState, Stays, Only, Rose}
-use Rattle.model_disk.proofs.Words.{stays_on}
+use Rattle.model_disk.specs.Disk.{DiskState, IsSameDisk, Only, Rose}
+use Rattle.model_disk.proofs.Words.{same_on}
 use Rattle.model_system.specs.System.{System}
 use Rattle.model_machine.specs.declared.entry.Entry.{Entry}
 use Rattle.model_machine.specs.declared.entry.ControlCall.{ControlCall}
@@ -18,7 +18,7 @@ use Rattle.model_session.specs.Lives.{AreLegal, now_in}
 use Rattle.model_session.specs.Standing.{Setting, SessionState, AreStops, gone_on, called_on, ended, broken}
 use Rattle.model_session.specs.Session.{IsServedUp, IsBegunBy}
 use Rattle.tm_control.specs.OnDisk.{ControlOnDisk}
-use Rattle.tm_control.specs.Calls.{StaysSo, Answered as IsAnswered, AddedNothing}
+use Rattle.tm_control.specs.Calls.{IsSameControl, Answered as IsAnswered, AddedNothing}
 use Rattle.session_lives.specs.declared.called.Called.{Called}
 use Rattle.session_lives.specs.declared.called.Called.TheVariants.{Answered, Frozen, Power, Broke, Memory, Spent}
 use Rattle.session_lives.specs.declared.called.Served.{Served}
@@ -53,7 +53,7 @@ module _ {D : Type 0} (state : D → DiskState) (a b : ControlOnDisk D) where
   up_undone ColdStart added = added.up
 
 module _ {D : Type 0} (state : D → DiskState) (system : System) (source : List ℕ) (handed : D) (a b : ControlOnDisk D) (old kept : Kept) (session : Session D) (text : List ℕ)
-    (sound : IsUpSound state system source handed a old) (stays : StaysSo state a b) (lives : kept.lives ≡ old.lives) (stops : kept.stops ≡ old.stops) (pace : KeepsPace state a b) where
+    (sound : IsUpSound state system source handed a old) (stays : IsSameControl state a b) (lives : kept.lives ≡ old.lives) (stops : kept.stops ≡ old.stops) (pace : KeepsPace state a b) where
   abbrev before : SessionState
   before = session_at (Up a) old
 
@@ -114,7 +114,7 @@ module _ {D : Type 0} (state : D → DiskState) (system : System) (source : List
         system_is = stays.system ∙ sound.system_is;
         text_is = stays.text ∙ sound.text_is;
         size = sound.size;
-        stays = stays_on (state handed) (state a.disk) (state b.disk) sound.stays stays.disk;
+        same = same_on (state handed) (state a.disk) (state b.disk) sound.same stays.disk;
         stops = subst (λ v. AreStops (state handed).faults v.items b.began) (sym stops) (subst (λ n. AreStops (state handed).faults old.stops.items n) (sym stays.began) sound.stops);
         began = subst (λ n. n ≤ (state b.disk).faults) (sym stays.began) (omega (arith, sound.began, stays.disk.faults));
         legal = subst (λ v. AreLegal system (map life_of v.items)) (sym lives) sound.legal;
@@ -122,8 +122,8 @@ module _ {D : Type 0} (state : D → DiskState) (system : System) (source : List
         counts = counts_now;
       }))
 
-  stays_now : Stays (state handed) (state b.disk)
-  stays_now = stays_on (state handed) (state a.disk) (state b.disk) sound.stays stays.disk
+  same_now : IsSameDisk (state handed) (state b.disk)
+  same_now = same_on (state handed) (state a.disk) (state b.disk) sound.same stays.disk
 
   legal_now : AreLegal system (map life_of kept.lives.items)
   legal_now = subst (λ v. AreLegal system (map life_of v.items)) (sym lives) sound.legal
@@ -137,13 +137,13 @@ module _ {D : Type 0} (state : D → DiskState) (system : System) (source : List
   pub power_sound : HasEndedLife state b kept false session → IsSound state system source handed session
   power_sound over =
       subst (λ p. IsSoundAt state system source handed p session.kept) (sym over.place)
-      (down_sound state system source handed b (stays.system ∙ sound.system_is) sound.handed_alone (stays.text ∙ sound.text_is) sound.size kept session.kept false over.idle over.down stays_now legal_now
+      (down_sound state system source handed b (stays.system ∙ sound.system_is) sound.handed_alone (stays.text ∙ sound.text_is) sound.size kept session.kept false over.idle over.down same_now legal_now
       (no_stop state system source handed b (stays.system ∙ sound.system_is) kept session.kept over.idle over.down stops_now (omega (arith, began_before, stays.disk.faults))) sound.valid counts_now)
 
   pub broke_sound : HasEndedLife state b kept true session → Rose (state a.disk).faults (state b.disk).faults → IsSound state system source handed session
   broke_sound over rose =
       subst (λ p. IsSoundAt state system source handed p session.kept) (sym over.place)
-      (down_sound state system source handed b (stays.system ∙ sound.system_is) sound.handed_alone (stays.text ∙ sound.text_is) sound.size kept session.kept true over.idle over.down stays_now legal_now
+      (down_sound state system source handed b (stays.system ∙ sound.system_is) sound.handed_alone (stays.text ∙ sound.text_is) sound.size kept session.kept true over.idle over.down same_now legal_now
       (stop_behind state system source handed b (stays.system ∙ sound.system_is) kept session.kept over.idle (state a.disk).faults over.down stops_now began_before stays.disk.faults rose) sound.valid counts_now)
 
   -- ---- what was served
@@ -171,7 +171,7 @@ module _ {D : Type 0} (state : D → DiskState) (system : System) (source : List
     printed = quiet_text_in turned.turns turned.printed;
   })
   does (AskedPower pick) never on = absurd never
-  does (PowerIn writes pick) (added, printed) on = (nothing on added, subst (λ can. text ≡ armed_text can writes) sound.stays.can_arm printed)
+  does (PowerIn writes pick) (added, printed) on = (nothing on added, subst (λ can. text ≡ armed_text can writes) sound.same.can_arm printed)
   does Restart (added, printed) on = (nothing on added, printed)
   does ColdStart (added, printed) on = (nothing on added, printed)
 
@@ -315,7 +315,7 @@ module _ {D : Type 0} (state : D → DiskState) (system : System) (source : List
 -- ---- what is ready behind it
 
 module _ {D : Type 0} (state : D → DiskState) (a b : ControlOnDisk D) (old kept : Kept) (session : Session D) (text : List ℕ)
-    (ready : IsUpReady a old) (stays : StaysSo state a b) (lives : kept.lives ≡ old.lives) (stops : kept.stops ≡ old.stops) where
+    (ready : IsUpReady a old) (stays : IsSameControl state a b) (lives : kept.lives ≡ old.lives) (stops : kept.stops ≡ old.stops) where
   up_done : (asked : Asked) → Does state asked a b text → b.up ≡ true
   up_done (Bad rule) does_it = does_it.0.up
   up_done (BadCommand rule) does_it = does_it.0.up

@@ -14,7 +14,7 @@ use Rattle.model_session.specs.Turns.{IsQuieted, IsBrokenOff, quieted_text, regi
 use Rattle.model_session.specs.Lives.{ends_life, is_disk_fault}
 use Rattle.model_machine.specs.declared.counts.Counter.{Counter}
 use Rattle.tm_control.specs.OnDisk.{ControlOnDisk, spent_now}
-use Rattle.tm_control.specs.Calls.{Answered as IsAnswered, BrokeOff, AddedNothing}
+use Rattle.tm_control.specs.Calls.{Answered as IsAnswered, BrokeOff, AddedNothing, HasArmed, StaysSo}
 use Rattle.session_lives.specs.declared.called.Called.{Called}
 use Rattle.session_lives.specs.declared.called.Called.TheVariants.{Answered, Frozen, Power, Broke, Memory, Spent}
 
@@ -103,6 +103,11 @@ Does state (AskedPower pick) old new text = ⊥
 Does state (PowerIn writes pick) old new text = AddedNothing state old new × (text ≡ armed_text (state old.disk).can_arm writes)
 Does state Restart old new text = AddedNothing state old new × (text ≡ up_text)
 Does state ColdStart old new text = AddedNothing state old new × (text ≡ up_text)
+
+-- What it leaves as it was: the disk is told to stop by POWER IN alone, and then as the line says.
+abbrev pub StaysBy : {D : Type 0} → (D → DiskState) → Asked → Called → ControlOnDisk D → ControlOnDisk D → Type 0
+StaysBy state (PowerIn writes pick) Answered old new = HasArmed state writes old new
+StaysBy state _ _ old new = StaysSo state old new
 
 -- the disk failed in it
 abbrev pub Fails : {D : Type 0} → (D → DiskState) → Asked → ControlOnDisk D → ControlOnDisk D → Type 0

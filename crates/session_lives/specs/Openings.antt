@@ -1,7 +1,7 @@
 -- Openings, the ends of lives, and what serving a block comes to.
 use Rattle.std.specs.Prelude.{◌≡◌, ℕ, ◌+◌, ◌-◌, max, ◌++◌, Bool, true, false, if◌then◌else◌, List, [], ◌∷◌, Option, Some, None, IsTrue}
 use Rattle.std.specs.Option.{is_some}
-use Rattle.model_disk.specs.Disk.{DiskState, Stays, Within, NoMore, Only, IsCut}
+use Rattle.model_disk.specs.Disk.{DiskState, IsSameDisk, Within, NoMore, Only, IsCut}
 use Rattle.model_system.specs.System.{System}
 use Rattle.model_session.specs.declared.asked.Asked.{Asked}
 use Rattle.model_session.specs.declared.asked.Asked.TheVariants.{Restart, ColdStart}
@@ -46,7 +46,7 @@ use Rattle.session_lives.specs.Asking.{LooksAtCounters}
 
 -- What a disk that is laid down keeps: a crash leaves nothing more.
 pub record IsLaidDown (old new : DiskState) : Type 0 where
-  pub stays : Stays old new
+  pub same : IsSameDisk old new
   pub no_more : NoMore old new
   pub faults : new.faults ≡ old.faults
 

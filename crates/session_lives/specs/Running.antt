@@ -1,7 +1,7 @@
 -- A session as it runs: where it stands, what it keeps beside, and what holds of these.
 use Rattle.std.specs.Prelude.{◌≡◌, ◌⊎◌, ℕ, ◌+◌, ◌*◌, ◌<◌, ◌≤◌, Bool, true, false, List, length, map, Option, Some, None, Ok, Err, IsTrue, vec_len, vec_capacity}
 use Rattle.std.specs.Option.{option_map, is_some}
-use Rattle.model_disk.specs.Disk.{Image, DiskState, Stays, Only}
+use Rattle.model_disk.specs.Disk.{Image, DiskState, IsSameDisk, Only}
 use Rattle.model_system.specs.System.{System}
 use Rattle.model_machine.specs.Machine.{LastingState, empty_state}
 use Rattle.model_image.specs.Recovered.{Recovers}
@@ -200,7 +200,7 @@ pub record IsUpSound {D : Type 0} (state : D → DiskState) (system : System) (s
   pub system_is : control.control.system ≡ system
   pub text_is : control.text ≡ source
   pub size : sectors_needed system ≤ (state handed).size
-  pub stays : Stays (state handed) (state control.disk)
+  pub same : IsSameDisk (state handed) (state control.disk)
   pub stops : AreStops (state handed).faults kept.stops.items control.began
   pub began : control.began ≤ (state control.disk).faults
   pub legal : AreLegal system (map life_of kept.lives.items)
@@ -245,7 +245,7 @@ pub record IsDownSound {D : Type 0} (state : D → DiskState) (system : System) 
   pub text_is : idle.text ≡ source
   pub size : is_some idle.last ≡ true → sectors_needed system ≤ (state handed).size
   pub texts : (image : Image) → (state idle.disk).may_leave image → IsOfText state system source handed (StandsDown (outage_of idle)) image
-  pub stays : Stays (state handed) (state idle.disk)
+  pub same : IsSameDisk (state handed) (state idle.disk)
   pub stops : AreStops (state handed).faults kept.stops.items (state idle.disk).faults
   pub legal : AreLegal system (map life_of kept.lives.items)
   pub answered : LastAnswered system (option_map last_of idle.last) (kept_of idle.last)

@@ -14,7 +14,7 @@ ghost use Rattle.model_session.specs.Lives.{ends_life};
 ghost use Rattle.tm_control.specs.Calls.{StaysSo};
 ghost use Rattle.session_lives.specs.declared.called.Called.TheVariants.{Answered, Power};
 ghost use Rattle.session_lives.specs.Counting.{KeepsPace};
-ghost use Rattle.session_lives.specs.Asking.{IsAsked, called_by, ended_by};
+ghost use Rattle.session_lives.specs.Asking.{IsAsked, StaysBy, called_by, ended_by};
 
 use crate::called::Called;
 use crate::turns::answer_quiet;
@@ -46,7 +46,7 @@ pub fn ask<D: Disk>(
     requires empty { printed.old.text ≡ [] }
     ensures asked { IsAsked D.state asked control.old control.new printed.new.text result }
     ensures pace { KeepsPace D.state control.old control.new }
-    ensures stays { StaysSo D.state control.old control.new }
+    ensures stays { StaysBy D.state asked result control.old control.new }
 {
     if printed.make_room(ANSWER_ROOM).is_err() {
         return Called::Memory;
@@ -135,7 +135,7 @@ fn arm<D: Disk>(
     requires room { ANSWER_ROOM ≤ printed.old.room }
     ensures asked { IsAsked D.state (Asked.PowerIn writes pick) control.old control.new printed.new.text result }
     ensures pace { KeepsPace D.state control.old control.new }
-    ensures stays { StaysSo D.state control.old control.new }
+    ensures stays { StaysBy D.state (Asked.PowerIn writes pick) result control.old control.new }
 {
     let is_armed = control.arm(writes);
     if is_armed {

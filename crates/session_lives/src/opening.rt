@@ -1,6 +1,6 @@
 //! Openings, and the ends of lives.
 ghost use Rattle.std.specs.Prelude.{◌≡◌, ◌<◌, ◌≤◌, ◌+◌, ◌++◌, ◌∷◌, [], true, false, if◌then◌else◌, length, vec_len, vec_capacity};
-ghost use Rattle.model_disk.specs.Disk.{Only};
+ghost use Rattle.model_disk.specs.Disk.{IsCut, Only};
 ghost use Rattle.model_session.specs.Standing.{or_cold};
 ghost use Rattle.session_lives.specs.Running.{IsReady, IsDownReady};
 ghost use Rattle.session_lives.specs.Openings as spec;
@@ -19,6 +19,7 @@ pub fn go_down<D: Disk>(control: Control<D>, kept: &mut Kept, pick: u64, stopped
     requires life_room { vec_len kept.old.lives < vec_capacity kept.old.lives }
     requires stop_room { vec_len kept.old.stops < vec_capacity kept.old.stops }
     ensures down { GoesDown D.state control kept.old kept.new stopped result }
+    ensures cut { IsCut (D.state control.disk) (D.state result.disk) }
     ensures ready { IsDownReady D.state result kept.new }
 {
     let Closed {
@@ -48,6 +49,7 @@ pub fn lay_down<D: Disk>(control: Control<D>, kept: &Kept) -> Idle<D>
     requires only { Only (D.state control.disk).shown (D.state control.disk) }
     requires life_room { vec_len kept.now.lives < vec_capacity kept.now.lives }
     ensures down { GoesDown D.state control kept.now kept.now false result }
+    ensures same { result.disk ≡ control.disk }
     ensures ready { IsDownReady D.state result kept.now }
 {
     let _ = kept;

@@ -1,6 +1,6 @@
 -- What a call of a control region does.
-use Rattle.std.specs.Prelude.{◌≡◌, ℕ, ◌+◌, ◌≤◌, ◌++◌, Bool, true, false, List, [], ◌∷◌, Option, Some, None, Ok}
-use Rattle.model_disk.specs.Disk.{Image, DiskState, Stays, FailedSince}
+use Rattle.std.specs.Prelude.{◌≡◌, ℕ, ◌+◌, ◌≤◌, ◌++◌, Bool, true, false, List, [], ◌∷◌, Option, Some, None, Ok, if◌then◌else◌}
+use Rattle.model_disk.specs.Disk.{Image, DiskState, IsSameDisk, IsToldToStop, Stays, FailedSince, armed}
 use Rattle.model_machine.specs.History.{AddsEntry, AddsNothing, IsCall, call_of, now_of}
 use Rattle.model_machine.specs.declared.counts.Counter.{Counter}
 use Rattle.model_machine.specs.declared.entry.Entry.{Entry}
@@ -16,7 +16,22 @@ use Rattle.tm_machine.specs.Parts.{PartsState}
 use Rattle.logged_machine.specs.Frugal.{IsFrugal, Raises}
 use Rattle.tm_control.specs.OnDisk.{ControlOnDisk, lasting_after}
 
--- What no call changes. Its disk's time never runs back.
+-- What no call changes, `arm` among them. The disk's time never runs back.
+pub record IsSameControl {D : Type 0} (state : D → DiskState) (old new : ControlOnDisk D) : Type 0 where
+  pub system : new.control.system ≡ old.control.system
+  pub opening : new.control.opening ≡ old.control.opening
+  pub text : new.text ≡ old.text
+  pub began : new.began ≡ old.began
+  pub disk : IsSameDisk (state old.disk) (state new.disk)
+  pub later : (state old.disk).clock ≤ (state new.disk).clock
+
+-- The disk was told to stop at a write to come, where it can be told so, and nothing else has changed.
+pub record HasArmed {D : Type 0} (state : D → DiskState) (writes : ℕ) (old new : ControlOnDisk D) : Type 0 where
+  pub same : IsSameControl state old new
+  pub told : IsToldToStop (state old.disk) (state new.disk)
+  pub until_stop : (state new.disk).until_stop ≡ (if (state old.disk).can_arm then armed writes (state old.disk).until_stop else (state old.disk).until_stop)
+
+-- What no call but `arm` changes: the disk isn't told to stop, nor told otherwise.
 pub record StaysSo {D : Type 0} (state : D → DiskState) (old new : ControlOnDisk D) : Type 0 where
   pub system : new.control.system ≡ old.control.system
   pub opening : new.control.opening ≡ old.control.opening

@@ -5,7 +5,7 @@ ghost use Rattle.std.specs.Io.BufRead.{Rests};
 ghost use Rattle.checkpoint_law.specs.Counted.{StandsUpTo};
 ghost use Rattle.checkpointing.specs.Counts.{CountsUpTo, RaisesCounts};
 ghost use Rattle.control_life.specs.declared.how.How.TheVariants.{Found};
-ghost use Rattle.model_disk.specs.Disk.{Keeps, Only, Within, armed};
+ghost use Rattle.model_disk.specs.Disk.{Only, Within, armed};
 ghost use Rattle.model_machine.specs.declared.entry.Entry.TheVariants.{Accept, Show, Acked as AckedEntry, Turn as TurnEntry, Commanded, Checked};
 ghost use Rattle.model_machine.specs.Commands.{IsServed, command_answer};
 ghost use Rattle.model_machine.specs.Machine.{output_at, terminal_at, IsRegion};
@@ -18,7 +18,7 @@ ghost use Rattle.tm_machine.specs.OnSlots.{HasSlots};
 ghost use Rattle.logged_machine.specs.Logged.{LastsNow};
 ghost use Rattle.logged_machine.specs.Taken.{IsTaken, LeavesSettled, WritesCheckpoint};
 ghost use Rattle.tm_control.specs.OnDisk.{Lasts, spent_now};
-ghost use Rattle.tm_control.specs.Calls.{StaysSo, Shows, AddsBy, CountsSince, CrashesSo, KeepsLog, RaisesBy, SavesRoom, SpentBy, StaysSpent, StaysUndone, StaysUntaken, WritesFrugally, parts_now};
+ghost use Rattle.tm_control.specs.Calls.{HasArmed, StaysSo, Shows, AddsBy, CountsSince, CrashesSo, KeepsLog, RaisesBy, SavesRoom, SpentBy, StaysSpent, StaysUndone, StaysUntaken, WritesFrugally, parts_now};
 ghost use Rattle.tm_control.specs.Closed.{Opens, Closes};
 ghost use Rattle.tm_control.specs.contracts.control.Control.{the_row};
 
@@ -150,7 +150,7 @@ impl<D: Disk> Control<D> {
         self.machine.disk()
     }
 
-    /// Whether nothing is left to do: all regions are empty, and none could take a message.
+    /// Whether nothing is left to do: all regions are empty, and none has a message to take, or the room for it.
     pub fn quiet(&self) -> bool
         requires up { self.now.up ≡ true }
         ensures { result ≡ is_quiet self.now.control.system (now_of self.now.control) }
@@ -172,9 +172,8 @@ impl<D: Disk> Control<D> {
         requires up { self.old.up ≡ true }
         ensures can { IsTrue result ↔ IsTrue (D.state self.old.disk).can_arm }
         ensures control { self.new.control ≡ self.old.control }
-        ensures stays { StaysSo D.state self.old self.new }
+        ensures arms { HasArmed D.state n self.old self.new }
         ensures up { self.new.up ≡ true }
-        ensures keeps { Keeps (D.state self.old.disk) (D.state self.new.disk) }
         ensures log { KeepsLog self.old self.new }
         ensures no_fault { (D.state self.new.disk).faults ≡ (D.state self.old.disk).faults }
         ensures armed { IsTrue result → (D.state self.new.disk).until_stop ≡ armed n (D.state self.old.disk).until_stop }
@@ -200,7 +199,8 @@ impl<D: Disk> Control<D> {
         self.history.reserve(n as usize)
     }
 
-    /// Takes an input of a terminal under a number.
+    /// Takes an input of a terminal under a number. The refusals are looked at in the order in which they are defined; a `Fault`
+    /// in the answer's place is the disk's, want of memory, or a spent counter.
     pub fn input(
         &mut self,
         terminal: &Name,
@@ -354,8 +354,9 @@ impl<D: Disk> Control<D> {
         answer
     }
 
-    /// Takes a checkpoint, of which it answers the number. Before a freeze no region may work on a message. No slot counts as
-    /// changed behind it.
+    /// Takes a checkpoint, of which it answers the number. Before a freeze no region may work on a message: `BusyRegion` has the
+    /// lowest one at work, and its message. `Fault` is the disk's, want of memory, or a spent counter. No slot counts as changed
+    /// behind it.
     pub fn checkpoint(&mut self, freeze: bool) -> Result<u64, CheckpointRefused>
         requires up { self.old.up ≡ true }
         ensures adds { AddsBy D.state (fault_in (Checked freeze result)) self.old self.new (Checked freeze result) }

@@ -3,7 +3,7 @@ use Rattle.std.proofs.Common.{◌≡◌, ℕ, ◌+◌, ◌<◌, ◌≤◌, List,
 use Rattle.std.specs.Prelude.{Result, Ok, Err, is_err, OnOk, false}
 use Rattle.std.proofs.lemmas.Bool.Decides.{nat_tests}
 use Rattle.model_disk.specs.Disk.{Image, Elapses, Keeps, MayHaveWritten, HasWritten, IsCut, one_less}
-use Rattle.model_disk.proofs.Words.{keeps_same}
+use Rattle.model_disk.proofs.Words.{keeps_same, lessens_one, lessens_same}
 use Rattle.tm_disk.specs.Count.{raised}
 use Rattle.tm_disk.specs.Contents.{now_of, past_of, GoesOn, HasSettled, Settles}
 use Rattle.tm_disk.specs.Moments.{Moment, shown_of, IsLeft, WasLeft, settled_by, after_write, writes_to}
@@ -37,7 +37,7 @@ mem_elapses now next past grown f f' w w' s s' is = record {
 
 keeps_synced : (now : Moment) (past grown : List Moment) (f w : ℕ) (s : Option ℕ) → grown ≡ past ++ now ∷ [] → Keeps (mem_state now past f w s) (mem_state (settled_by Synced now) grown f w s)
 keeps_synced now past grown f w s is = record {
-  stays = record { size = length-shown_of now.synced now.since; tells = refl; can_arm = refl; faults = omega arith; writes = omega arith };
+  stays = record { size = length-shown_of now.synced now.since; tells = refl; can_arm = refl; faults = omega arith; writes = omega arith; stop = lessens_same s };
   elapses = mem_elapses now (settled_by Synced now) past grown f f w w s s is;
   no_more = λ image left. subst (IsLeft now) (sym (synced_alone (settled_by Synced now) image refl left)) (shown_is_left now);
   shown = refl;
@@ -75,7 +75,7 @@ cut_settled : (now : Moment) (past grown : List Moment) (f w pick : ℕ) (s : Op
 cut_settled now past grown f w pick s is =
     let next = settled_by (Cut pick) now in
     record {
-      stays = record { size = length-picked pick 0 now.since now.synced; tells = refl; can_arm = refl; faults = omega arith; writes = omega arith };
+      same = record { size = length-picked pick 0 now.since now.synced; tells = refl; can_arm = refl; faults = omega arith; writes = omega arith };
       elapses = mem_elapses now next past grown f f w w s None is;
       no_more = λ image left. subst (IsLeft now) (sym (synced_alone next image refl left)) (picked_is_left now pick);
       left = λ tells. picked_is_left now pick;
@@ -87,7 +87,7 @@ cut_settled now past grown f w pick s is =
 
 cut_here : (now : Moment) (past : List Moment) (f w : ℕ) (s : Option ℕ) → now.since ≡ [] → IsCut (mem_state now past f w s) (mem_state now past f w None)
 cut_here now past f w s none = record {
-  stays = record { size = refl; tells = refl; can_arm = refl; faults = omega arith; writes = omega arith };
+  same = record { size = refl; tells = refl; can_arm = refl; faults = omega arith; writes = omega arith };
   elapses = record { later = omega arith; nothing_else = λ time image early left. inl left; keeps = λ time image early left. left };
   no_more = λ image left. left;
   left = λ tells. shown_is_left now;
@@ -113,7 +113,7 @@ cut_cuts old new f w pick s settles =
 
 tries_write : (now : Moment) (past grown : List Moment) (write : Written) (f f' w : ℕ) (s : Option ℕ) → f ≤ f' → grown ≡ past ++ now ∷ [] → MayHaveWritten write.at write.content (mem_state now past f w s) (mem_state (after_write write now) grown f' (raised w) (one_less s))
 tries_write now past grown write f f' w s le is = record {
-  stays = record { size = refl; tells = refl; can_arm = refl; faults = le; writes = raised_more w };
+  stays = record { size = refl; tells = refl; can_arm = refl; faults = le; writes = raised_more w; stop = lessens_one s };
   elapses = mem_elapses now (after_write write now) past grown f f' w (raised w) s (one_less s) is;
   follows = record { from = λ image left. let b = write_comes now write image left in record { before = b.before; left = b.left; by = b.by } };
   shown = λ tells. inr (shown_of-push now.synced now.since write);

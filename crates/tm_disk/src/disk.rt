@@ -1,6 +1,6 @@
 //! A disk of sectors: what its calls promise.
 ghost use Rattle.std.specs.Prelude.{◌≡◌, ◌<◌, ◌↔◌, IsTrue, IsFalse, OnOk, OnErr, IsErr};
-ghost use Rattle.model_disk.specs.Disk.{DiskState, IsDisk, Keeps, MayHaveWritten, HasWritten, IsCut, Only, FailedSince, sector_at, is_stopped, is_due, armed};
+ghost use Rattle.model_disk.specs.Disk.{DiskState, IsDisk, Keeps, IsToldToStop, MayHaveWritten, HasWritten, IsCut, Only, FailedSince, sector_at, is_stopped, is_due, armed};
 ghost use Rattle.tm_disk.specs.declared.disk.DiskFault.TheVariants.{Disk as disk_fault};
 
 use crate::Sector;
@@ -74,7 +74,7 @@ pub trait Disk {
     fn arm(&mut self, n: u64) -> bool
         requires { 0 < n }
         ensures can { IsTrue result ↔ IsTrue (state self.old).can_arm }
-        ensures keeps { Keeps (state self.old) (state self.new) }
+        ensures told { IsToldToStop (state self.old) (state self.new) }
         ensures no_fault { (state self.new).faults ≡ (state self.old).faults }
         ensures armed { IsTrue result → (state self.new).until_stop ≡ armed n (state self.old).until_stop }
         ensures nothing { IsFalse result → self.new ≡ self.old };

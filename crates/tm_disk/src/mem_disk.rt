@@ -1,6 +1,6 @@
 //! A disk in memory, which fails and is cut off as it is told.
 ghost use Rattle.std.specs.Prelude.{◌≡◌, ◌⊎◌, ◌+◌, ◌<◌, ◌↔◌, IsTrue, IsFalse, IfOk, OnOk, OnErr, IsErr, is_err, if◌then◌else◌, None};
-ghost use Rattle.model_disk.specs.Disk.{Keeps, MayHaveWritten, HasWritten, IsCut, Only, FailedSince, sector_at, is_stopped, is_due, armed};
+ghost use Rattle.model_disk.specs.Disk.{Keeps, IsToldToStop, MayHaveWritten, HasWritten, IsCut, Only, FailedSince, sector_at, is_stopped, is_due, armed};
 
 use crate::contents::Contents;
 use crate::plan::Plan;
@@ -156,7 +156,7 @@ impl Disk for MemDisk {
     fn arm(&mut self, n: u64) -> bool
         requires { 0 < n }
         ensures can { IsTrue result ↔ IsTrue (state_of self.old).can_arm }
-        ensures keeps { Keeps (state_of self.old) (state_of self.new) }
+        ensures told { IsToldToStop (state_of self.old) (state_of self.new) }
         ensures no_fault { (state_of self.new).faults ≡ (state_of self.old).faults }
         ensures armed { IsTrue result → (state_of self.new).until_stop ≡ armed n (state_of self.old).until_stop }
         ensures nothing { IsFalse result → self.new ≡ self.old }

@@ -3,8 +3,8 @@ use Rattle.std.proofs.Common.{◌≡◌, ◌≢◌, ◌⊎◌, ℕ, ◌+◌, ◌
 use Rattle.std.proofs.lemmas.List.{append-nil}
 use Rattle.std.specs.Prelude.{Option, Some, None, IfSome}
 use Rattle.std.specs.Option.{option_map, is_some}
-use Rattle.model_disk.specs.Disk.{DiskState, IsDisk, Stays, Only}
-use Rattle.model_disk.proofs.Words.{stays_same}
+use Rattle.model_disk.specs.Disk.{DiskState, IsDisk, IsSameDisk, Only}
+use Rattle.model_disk.proofs.Words.{same_itself}
 use Rattle.model_system.specs.System.{System}
 use Rattle.system_types.specs.Valid.{IsSystem}
 use Rattle.checkpointing.proofs.Counted.{up_to_more}
@@ -55,8 +55,8 @@ no_first (Some life) none some = cc
 
 module _ {D : Type 0} (state : D → DiskState) (is_disk : (disk : D) → IsDisk (state disk)) (system : System) (text : List ℕ) (handed : D) (session : Session D) (ended : Option Ended)
     (alone : Only (state handed).shown (state handed)) (b : HasBegun state system text handed session ended) where
-  first_stays : Stays (state handed) (state b.idle.disk)
-  first_stays = subst (λ d. Stays (state handed) (state d)) (sym b.disk_is) (stays_same (state handed))
+  first_same : IsSameDisk (state handed) (state b.idle.disk)
+  first_same = subst (λ d. IsSameDisk (state handed) (state d)) (sym b.disk_is) (same_itself (state handed))
 
   -- no life has begun
   first_sound : IsDownSound state system text handed b.idle b.kept
@@ -66,8 +66,8 @@ module _ {D : Type 0} (state : D → DiskState) (is_disk : (disk : D) → IsDisk
     text_is = b.text_is;
     size = λ begun. absurd (no_first b.idle.last b.last_is begun);
     texts = λ image left. inr (record { no_life = ap (λ l. option_map last_of l) b.last_is; left = subst (λ d. (state d).may_leave image) b.disk_is left });
-    stays = first_stays;
-    stops = subst (λ s. AreStops (state handed).faults s (state b.idle.disk).faults) (sym b.stops) first_stays.faults;
+    same = first_same;
+    stops = subst (λ s. AreStops (state handed).faults s (state b.idle.disk).faults) (sym b.stops) first_same.faults;
     legal = subst (λ l. AreLegal system (map life_of l)) (sym b.lives) tt;
     answered = subst (λ l. LastAnswered system (option_map last_of l) (kept_of l)) (sym b.last_is) refl;
     images = λ image left. inr (record {

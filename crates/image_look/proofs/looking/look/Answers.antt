@@ -47,6 +47,13 @@ returns-in-Ok-None-clause-keeps g c =
     let disk = g.met.D.Disk.is_disk c.args.disk.now in
     keeps_on old last (g.D.Disk.state c.later_sector.new.disk) disk (keeps_on old (g.D.Disk.state c.read_replayed.new.disk) last disk c.in-Ok.ensures.keeps c.in-Ok-load_named.ensures.keeps) c.in-Ok-None.ensures.keeps
 
+pub returns-in-Ok-Some-clause-keeps : goal.returns-in-Ok-Some-clause-keeps
+returns-in-Ok-Some-clause-keeps g c =
+    let old = g.D.Disk.state c.args.disk.now in
+    let last = g.D.Disk.state c.load_named.new.disk in
+    let disk = g.met.D.Disk.is_disk c.args.disk.now in
+    keeps_on old last (g.D.Disk.state c.later_sector.new.disk) disk (keeps_on old (g.D.Disk.state c.read_replayed.new.disk) last disk c.in-Ok.ensures.keeps c.in-Ok-load_named.ensures.keeps) c.in-Ok-Some.ensures.keeps
+
 pub returns-in-Ok-Some-clause-value : goal.returns-in-Ok-Some-clause-value
 returns-in-Ok-Some-clause-value g c tells =
     let system = c.args.system.now in

@@ -15,7 +15,7 @@ returns-clause-down g c =
       last = refl;
       emptied = refl;
       stopped_is = refl;
-      laid = record { stays = c.cut.ensures.stays; no_more = c.cut.ensures.no_more; faults = c.cut.ensures.faults };
+      laid = record { same = c.cut.ensures.same; no_more = c.cut.ensures.no_more; faults = c.cut.ensures.faults };
       lives = refl;
       stops = c.note_stop.ensures
           ∙ ap (λ n. c.args.kept.now.stops.items ++ (if c.args.stopped then (n, c.faults.result) ∷ [] else [])) closes.faults_are

@@ -1,0 +1,51 @@
+-- What stays over what was asked.
+use Rattle.model_disk.specs.Disk.{DiskState}
+use Rattle.model_disk.proofs.Words.{stays_is_same}
+use Rattle.model_session.specs.declared.asked.Asked.{Asked}
+use Rattle.model_session.specs.declared.asked.Asked.TheVariants.{Bad, BadCommand, Stopped, Call, Quiet, Power as AskedPower, PowerIn, Restart, ColdStart}
+use Rattle.tm_control.specs.OnDisk.{ControlOnDisk}
+use Rattle.tm_control.specs.Calls.{IsSameControl, StaysSo}
+use Rattle.session_lives.specs.declared.called.Called.{Called}
+use Rattle.session_lives.specs.declared.called.Called.TheVariants.{Answered, Frozen, Power, Broke, Memory, Spent}
+use Rattle.session_lives.specs.Asking.{StaysBy}
+use Rattle.session_lives.proofs.Asked.{stays_so}
+
+module _ {D : Type 0} (state : D → DiskState) where
+  -- a control region that stays as it was is the same
+  same_of : (a b : ControlOnDisk D) → StaysSo state a b → IsSameControl state a b
+  same_of a b stays = record {
+    system = stays.system;
+    opening = stays.opening;
+    text = stays.text;
+    began = stays.began;
+    disk = stays_is_same (state a.disk) (state b.disk) stays.disk;
+    later = stays.later;
+  }
+
+  pub same_by : (asked : Asked) (called : Called) (a b : ControlOnDisk D) → StaysBy state asked called a b → IsSameControl state a b
+  same_by (PowerIn writes pick) Answered a b h = h.same
+  same_by (PowerIn writes pick) Frozen a b h = same_of a b h
+  same_by (PowerIn writes pick) (Power picked) a b h = same_of a b h
+  same_by (PowerIn writes pick) Broke a b h = same_of a b h
+  same_by (PowerIn writes pick) Memory a b h = same_of a b h
+  same_by (PowerIn writes pick) Spent a b h = same_of a b h
+  same_by (Bad rule) called a b h = same_of a b h
+  same_by (BadCommand rule) called a b h = same_of a b h
+  same_by (Stopped terminal number reason) called a b h = same_of a b h
+  same_by (Call call) called a b h = same_of a b h
+  same_by (Quiet most) called a b h = same_of a b h
+  same_by (AskedPower pick) called a b h = same_of a b h
+  same_by Restart called a b h = same_of a b h
+  same_by ColdStart called a b h = same_of a b h
+
+  -- there was no memory to ask
+  pub stays_unasked : (asked : Asked) (a : ControlOnDisk D) → StaysBy state asked Memory a a
+  stays_unasked (PowerIn writes pick) a = stays_so state a
+  stays_unasked (Bad rule) a = stays_so state a
+  stays_unasked (BadCommand rule) a = stays_so state a
+  stays_unasked (Stopped terminal number reason) a = stays_so state a
+  stays_unasked (Call call) a = stays_so state a
+  stays_unasked (Quiet most) a = stays_so state a
+  stays_unasked (AskedPower pick) a = stays_so state a
+  stays_unasked Restart a = stays_so state a
+  stays_unasked ColdStart a = stays_so state a
