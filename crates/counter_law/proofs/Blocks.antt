@@ -21,7 +21,7 @@ use Rattle.model_session.specs.declared.asked.Form.{Form}
 use Rattle.model_session.specs.declared.asked.Form.TheVariants.{Input as InputForm, Screen as ScreenForm, Receive as ReceiveForm, Acknowledge as AcknowledgeForm, Turn as TurnForm, Quiet as QuietForm, Power as PowerForm, PowerIn as PowerInForm}
 use Rattle.model_session.specs.Numbers.{is_number, name_operand, number_in, number_operand, number_or}
 use Rattle.model_session.specs.Blocks.{Block, alone, and_line, blocks_of, closed, is_further, is_screen, line_before, open_before, takes_further}
-use Rattle.model_session.specs.Lines.{acknowledge_form, armed_form, asked_by, asked_of, block_form, command_asked, counted, entered_asked, first_long, form_of, further_forms, input_form, input_long, input_texts, is_command, lone_form, message_number, named, numbered, operand_count, pick_number, power_form, printable_block, quiet_form, receive_form, screen_asked, screen_form, stopped, terminal_and_number, turn_form, unless_long, values_in}
+use Rattle.model_session.specs.Lines.{acknowledge_form, armed_form, asked_by, asked_of, block_form, command_asked, counted, entered_asked, first_long, form_of, further_forms, input_form, input_long, input_texts, is_command, lone_form, message_number, named, numbered, operand_count, pick_number, power_form, printable_block, quiet_form, receive_form, screen_asked, screen_form, stopped, terminal_and_number, turn_form, unless_long}
 use Rattle.counter_law.specs.Measures.{most_weight, weight}
 
 -- ---- how many blocks
@@ -188,7 +188,7 @@ light_screen system terminal number values None = light_stopped system terminal 
 
 light_by : (system : System) (block : Block) (form : Result Form ℕ) → FormFits form → weight (asked_by system block form) ≤ most_weight
 light_by system block (Ok (InputForm terminal number)) fits = light_long system terminal number (input_texts block) (input_long block)
-light_by system block (Ok (ScreenForm terminal number)) fits = light_screen system terminal number (values_in block.further) (format_of system terminal)
+light_by system block (Ok (ScreenForm terminal number)) fits = light_screen system terminal number block.values (format_of system terminal)
 light_by system block (Ok (ReceiveForm terminal)) fits = omega arith
 light_by system block (Ok (AcknowledgeForm terminal number)) fits = omega arith
 light_by system block (Ok (TurnForm region)) fits = omega arith

@@ -5,4 +5,8 @@ pub mod Unfaulted
 pub mod Kept
 pub mod Ending
 pub mod Growing
+pub mod Pigeons
+pub mod Putting
+pub mod Screens
 pub mod Bounded
+pub mod Places

@@ -1,11 +1,14 @@
 -- The blocks that a session's lines make: a line, with the `+` lines that belong to it.
-use Rattle.std.specs.Prelude.{ℕ, ◌+◌, Bool, true, ◌||◌, ◌&&◌, ◌==◌, nat_lt, nat_le, Option, Some, None, if◌then◌else◌, List, [], ◌∷◌, ◌++◌, length, codes}
+use Rattle.std.specs.Prelude.{ℕ, ◌+◌, Bool, true, ◌||◌, ◌&&◌, ◌==◌, nat_lt, nat_le, Option, Some, None, Result, Ok, Err, if◌then◌else◌, List, [], ◌∷◌, ◌++◌, length, take, codes}
 use Rattle.std.specs.List.{count_by}
 use Rattle.std.specs.Option.{option_or}
 use Rattle.std.specs.Str.{bytes_eq}
 use Rattle.tm_types.specs.Segment.{are_printable}
 use Rattle.tm_types.specs.Words.{first_word, operands}
-use Rattle.text_rows.specs.Lines.{is_passed_over}
+use Rattle.text_rows.specs.Lines.{is_passed_over, split_at}
+use Rattle.text_rows.specs.Lowest.{also}
+use Rattle.model_format.specs.declared.fields.FieldValue.{FieldValue}
+use Rattle.model_session.specs.Numbers.{name_operand}
 use Rattle.model_session.specs.declared.others.Others.{Others}
 
 -- a `+` line
@@ -32,16 +35,55 @@ has_operand line = nat_le 1 (operand_count line)
 abbrev pub long_of : List ℕ → Option ℕ
 long_of text = if nat_lt 1996 (length text) then Some (length text) else None
 
--- A line, and the `+` lines that belong to it. Of those of an input only the first 16 are kept; the others are
--- counted, and with them stands what is asked of each: whether it has an operand, whether its bytes are printable,
--- and the first length that is too long.
+-- ---- the field lines of a screen
+
+-- + NAME=text: the name stands before the first =, and the text is all that follows this, and may be empty
+abbrev pub with_text : List ℕ → Result (List ℕ) ℕ → Result FieldValue ℕ
+with_text text (Ok name) = Ok (record { name = name; text = text })
+with_text text (Err rule) = Err rule
+
+abbrev pub field_parts : Option (List ℕ × List ℕ) → Result FieldValue ℕ
+field_parts (Some (name, text)) = with_text text (name_operand name)
+field_parts None = Err 8
+
+abbrev pub printable_line : List ℕ → Result (Unit {0}) ℕ
+printable_line line = if are_printable line then Ok tt else Err 6
+
+-- the value that a field line gives, or the lowest rule that it breaks
+unfoldable pub field_of : List ℕ → Result FieldValue ℕ
+field_of line = also (if has_operand line then field_parts (split_at 61 (operands line)) else Err 2) (printable_line line)
+
+abbrev pub judged : Result FieldValue ℕ → Result (Unit {0}) ℕ
+judged (Ok value) = Ok tt
+judged (Err rule) = Err rule
+
+-- a value in the place of the one for the same name, or at the end
+abbrev pub put_value : FieldValue → List FieldValue → List FieldValue
+put_value value [] = value ∷ []
+put_value value (first ∷ values) = if bytes_eq first.name value.name then value ∷ values else first ∷ put_value value values
+
+-- The last values for the first 1,921 names, with that of one more line. A screen has 1,920 places, so one of so many
+-- names is no field of its format, and the values for later names are asked for nothing.
+unfoldable pub first_values : List FieldValue → List FieldValue
+first_values values = take 1921 values
+
+abbrev pub and_value : List FieldValue → Result FieldValue ℕ → List FieldValue
+and_value values (Ok value) = first_values (put_value value values)
+and_value values (Err rule) = values
+
+-- ---- blocks
+
+-- A line, and what is kept of the `+` lines that belong to it. Of those of an input the first 16 are kept; the others
+-- are counted, and with them stands what is asked of each: whether it has an operand, whether its bytes are printable,
+-- and the first length that is too long. Of those of a screen the values are kept, and the lowest rule that one breaks.
 pub record Block : Type 0 where
   pub line : List ℕ
   pub further : List (List ℕ)
+  pub values : List FieldValue
   pub others : Others
 
 abbrev pub no_others : Others
-no_others = record { count = 0; complete = true; printable = true; long = None }
+no_others = record { count = 0; complete = true; printable = true; long = None; fields = Ok tt }
 
 abbrev pub and_other : Others → List ℕ → Others
 and_other others line =
@@ -50,21 +92,33 @@ and_other others line =
       complete = others.complete && has_operand line;
       printable = others.printable && are_printable line;
       long = option_or others.long (long_of (operands line));
+      fields = others.fields;
     }
 
 abbrev pub alone : List ℕ → Block
-alone line = record { line = line; further = []; others = no_others }
+alone line = record { line = line; further = []; values = []; others = no_others }
 
--- whether one more `+` line is kept: each field line of a screen is, and of an input the first 16
+-- whether one more text of an input is kept
 abbrev pub keeps_further : Block → Bool
-keeps_further block = is_screen block.line || nat_lt (length block.further) 16
+keeps_further block = nat_lt (length block.further) 16
 
-abbrev pub and_line : Block → List ℕ → Block
-and_line block line =
+abbrev pub and_text : Block → List ℕ → Block
+and_text block line =
     record block {
       further = if keeps_further block then block.further ++ line ∷ [] else block.further;
       others = if keeps_further block then block.others else and_other block.others line;
     }
+
+abbrev pub and_field : Block → List ℕ → Block
+and_field block line =
+    record block {
+      values = and_value block.values (field_of line);
+      others = record block.others { fields = also block.others.fields (judged (field_of line)) };
+    }
+
+-- one more `+` line: behind SCREEN stand field lines, and behind another line texts
+abbrev pub and_line : Block → List ℕ → Block
+and_line block line = if is_screen block.line then and_field block line else and_text block line
 
 -- A block before others. It takes the `+` lines that stand right behind it.
 abbrev pub open_before : Block → List Block → List Block

@@ -5,7 +5,6 @@ use Rattle.std.specs.Prelude.{ℕ, ◌<◌, ◌≤◌, ⊤, ◌==◌, nat_lt, na
 use Rattle.std.specs.List.{list_all, list_any}
 use Rattle.std.specs.Option.{option_or}
 use Rattle.std.specs.Str.{bytes_eq}
-use Rattle.text_rows.specs.Lines.{split_at}
 use Rattle.text_rows.specs.Lowest.{both, also}
 use Rattle.tm_types.specs.Segment.{are_printable}
 use Rattle.tm_types.specs.Words.{first_word, operands}
@@ -124,29 +123,9 @@ form_of regions line =
 abbrev pub text_forms : Block → Result (Unit {0}) ℕ
 text_forms block = if list_all has_operand block.further && block.others.complete then Ok tt else Err 2
 
--- + NAME=text: the name stands before the first =, and the text is all that follows this, and may be empty
-abbrev pub with_text : List ℕ → Result (List ℕ) ℕ → Result (List ℕ × List ℕ) ℕ
-with_text text (Ok name) = Ok (name, text)
-with_text text (Err rule) = Err rule
-
-abbrev pub field_parts : Option (List ℕ × List ℕ) → Result (List ℕ × List ℕ) ℕ
-field_parts (Some (name, text)) = with_text text (name_operand name)
-field_parts None = Err 8
-
-unfoldable pub field_of : List ℕ → Result (List ℕ × List ℕ) ℕ
-field_of line = if has_operand line then field_parts (split_at 61 (operands line)) else Err 2
-
-abbrev pub judged : Result (List ℕ × List ℕ) ℕ → Result (Unit {0}) ℕ
-judged (Ok field) = Ok tt
-judged (Err rule) = Err rule
-
-abbrev pub field_forms : List (List ℕ) → Result (Unit {0}) ℕ
-field_forms [] = Ok tt
-field_forms (line ∷ lines) = also (judged (field_of line)) (field_forms lines)
-
 -- behind SCREEN stand field lines, and behind another line texts
 unfoldable pub further_forms : Block → Result (Unit {0}) ℕ
-further_forms block = if is_screen block.line then field_forms block.further else text_forms block
+further_forms block = if is_screen block.line then block.others.fields else text_forms block
 
 unfoldable pub printable_block : Block → Result (Unit {0}) ℕ
 printable_block block = if are_printable block.line && list_all are_printable block.further && block.others.printable then Ok tt else Err 6
@@ -176,15 +155,6 @@ first_long (text ∷ texts) = if nat_lt 1996 (length text) then Some (length tex
 abbrev pub input_long : Block → Option ℕ
 input_long block = option_or (first_long (kept_texts block)) block.others.long
 
--- the values that the field lines of a screen give
-abbrev pub value_before : Result (List ℕ × List ℕ) ℕ → List FieldValue → List FieldValue
-value_before (Ok (name, text)) values = (record { name = name; text = text }) ∷ values
-value_before (Err rule) values = values
-
-abbrev pub values_in : List (List ℕ) → List FieldValue
-values_in [] = []
-values_in (line ∷ lines) = value_before (field_of line) (values_in lines)
-
 -- An input is refused for a segment that is too long, the first; before that one from a screen is refused
 -- where the terminal has no format, or for a name that is no field, the first. Where there is such a
 -- reason, a name that is no terminal's is refused as such before.
@@ -208,7 +178,7 @@ screen_asked system terminal number values None = stopped system terminal number
 
 abbrev pub asked_by : System → Block → Result Form ℕ → Asked
 asked_by system block (Ok (InputForm terminal number)) = unless_long system terminal number (input_texts block) (input_long block)
-asked_by system block (Ok (ScreenForm terminal number)) = screen_asked system terminal number (values_in block.further) (format_of system terminal)
+asked_by system block (Ok (ScreenForm terminal number)) = screen_asked system terminal number block.values (format_of system terminal)
 asked_by system block (Ok (ReceiveForm terminal)) = Call (Receive terminal)
 asked_by system block (Ok (AcknowledgeForm terminal number)) = Call (Acknowledge terminal number)
 asked_by system block (Ok (TurnForm region)) = Call (Turn region)

@@ -1,7 +1,9 @@
 mod Digits
 mod Printable
 mod Places
-mod Judged
-mod Values
+mod FieldTexts
+mod Latest
+mod FieldLines
+mod Enough
 mod Screens
 mod Stops

@@ -1,15 +1,17 @@
 -- Steps of reading a block.
-use Rattle.std.specs.Prelude.{ℕ, ◌≡◌, ◌≤◌, ◌^◌, ⊤, true, false, Option, Some, Result, Ok}
+use Rattle.std.specs.Prelude.{ℕ, ◌≡◌, ◌≤◌, ◌^◌, ⊤, true, false, length, Option, Some, IfSome, Result, Ok}
 use Rattle.std.specs.List.{list_all}
 use Rattle.model_session.specs.declared.asked.Form.{Form}
 use Rattle.model_session.specs.declared.asked.Form.TheVariants.{Input, Screen, Receive, Acknowledge, Turn, Quiet, Power, PowerIn}
 use Rattle.tm_types.specs.Segment.{are_printable}
+use Rattle.model_system.specs.Formats.{format_of}
+use Rattle.model_system.specs.System.{System}
 use Rattle.model_session.specs.Blocks.{Block}
 use Rattle.model_session.specs.Lines.{block_form, is_command}
 use Rattle.session_lines.specs.declared.asking.Stop.{Stop}
 use Rattle.session_lines.specs.declared.asking.Stop.TheVariants.{TooLong, Memory}
 
--- each byte of a block is printable
+-- each byte of the line of a block, and of the texts that are kept, is printable
 pub record IsPrintable (block : Block) : Type 0 where
   pub line : are_printable block.line ≡ true
   pub further : list_all are_printable block.further ≡ true
@@ -45,3 +47,8 @@ IsWithin regions (Acknowledge terminal number) = ⊤
 IsWithin regions (Quiet most) = ⊤
 IsWithin regions (Power pick) = ⊤
 IsWithin regions (PowerIn writes pick) = 1 ≤ writes
+
+-- the format of a screen's terminal has no more fields than a screen has places
+abbrev pub HasFew : System → Result Form ℕ → Type 0
+HasFew system (Ok (Screen terminal number)) = IfSome (format_of system terminal) (λ format. length format.fields ≤ 1920)
+HasFew system _ = ⊤

@@ -1,22 +1,23 @@
 //! What a block asks for.
-ghost use Rattle.std.specs.Prelude.{◌≡◌, ℕ, ◌+◌, ◌<◌, ◌≤◌, ◌++◌, ◌∷◌, [], true, Some, None, Err, List, Result, IsTrue, IfOk, IfErr, OnOk, OnErr, length, map, replicate};
+ghost use Rattle.std.specs.Prelude.{◌≡◌, ℕ, ◌+◌, ◌<◌, ◌≤◌, ◌++◌, ◌∷◌, [], true, false, Some, None, Err, List, Result, IsTrue, IfOk, IfSome, IfErr, OnOk, OnErr, length, map, replicate};
 ghost use Rattle.std.specs.List.{list_all, list_any};
 ghost use Rattle.std.specs.Str.{bytes_eq};
+ghost use Rattle.model_format.specs.Breaks.{KeepsRule};
 ghost use Rattle.model_system.specs.Formats.{format_of};
 ghost use Rattle.tm_types.specs.Segment.{are_printable};
 ghost use Rattle.model_session.specs.Lines as spec;
 ghost use Rattle.model_session.specs.Blocks.{alone, takes_further};
 ghost use Rattle.model_session.specs.Bounded.{AsksAlike, whole, with_lines};
 ghost use Rattle.mfs_edit.specs.Answers.{AnswersInput};
-ghost use Rattle.session_lines.specs.Asking.{IsFullStop, IsPrintable, IsStop, IsWithin, MayWant, WantsInput};
+ghost use Rattle.session_lines.specs.Asking.{HasFew, IsFullStop, IsPrintable, IsStop, IsWithin, MayWant, WantsInput};
 
 use crate::block::{Block, is_screen};
 use crate::commands::{command_asked, is_command};
-use crate::fields::{field_forms, values_in};
 use crate::forms::form_of;
 use crate::rules::{NOT_PRINTABLE, WRONG_OPERANDS};
 use crate::words::has_operand;
 use mfs_edit::{EditRefused, edit_in};
+use model_format::{DeviceField, Format};
 use model_machine::ControlCall;
 use model_session::{Asked, Form, InputStopped, Others};
 use std::alloc::Global;
@@ -27,9 +28,9 @@ use tm_types::{Memory, Name, Segment, SegmentRefused, Segments, are_printable, o
 
 /// What a block asks for of a system.
 ///
-/// The one error is want of memory. It comes only for an input that is well formed, since an
-/// input's texts are copied. What a block keeps of many `+` lines is enough: it asks for what all of
-/// them ask for, but that the texts of an input behind the 17th are empty.
+/// The one error is want of memory. It comes only for an input or a screen that is well formed, since
+/// texts are copied. What a block keeps of many `+` lines is enough: it asks for what all of them ask
+/// for, but that the texts of an input behind the 17th are empty.
 pub fn read_block(alloc: Global, system: &System, block: &Block) -> Result<Asked, Memory>
     ensures asked { IfOk result (λ asked. asked ≡ spec.asked_of system.now block.now) }
     ensures can { IfOk result (spec.CanAsk (length system.now.regions)) }
@@ -44,6 +45,7 @@ fn asked_block(alloc: Global, system: &System, block: &Block) -> Result<Asked, M
     ensures asked { IfOk result (λ asked. asked ≡ spec.asked_of system.now block.now) }
     ensures can { IfOk result (spec.CanAsk (length system.now.regions)) }
     ensures memory { OnErr result (MayWant (length system.now.regions) block.now) }
+    ensures few { spec.is_command block.now.line ≡ false → HasFew system.now (spec.block_form (length system.now.regions) block.now) }
 {
     if is_command(block.line()) {
         return Ok(command_asked(block.line()));
@@ -56,6 +58,7 @@ fn lines_asked(alloc: Global, system: &System, block: &Block) -> Result<Asked, M
     ensures asked { IfOk result (λ asked. asked ≡ spec.asked_by system.now block.now (spec.block_form (length system.now.regions) block.now)) }
     ensures can { IfOk result (spec.CanAsk (length system.now.regions)) }
     ensures memory { OnErr result (WantsInput (spec.block_form (length system.now.regions) block.now)) }
+    ensures few { HasFew system.now (spec.block_form (length system.now.regions) block.now) }
 {
     let regions = system.regions().len() as u32;
     let form = match block_form(regions, block) {
@@ -93,7 +96,7 @@ fn further_forms(block: &Block) -> Result<(), u8>
     ensures { result ≡ spec.further_forms block.now }
 {
     if is_screen(block.line()) {
-        field_forms(block.further())
+        block.others().fields
     } else {
         text_forms(block)
     }
@@ -208,18 +211,30 @@ fn screen_asked(
     number: u64,
     block: &Block,
 ) -> Result<Asked, Memory>
-    requires { IsPrintable block.now }
-    ensures asked { IfOk result (λ asked. asked ≡ spec.screen_asked system.now terminal number (spec.values_in block.now.further) (format_of system.now terminal)) }
+    ensures asked { IfOk result (λ asked. asked ≡ spec.screen_asked system.now terminal number block.now.values (format_of system.now terminal)) }
     ensures can { IfOk result (λ asked. (regions : ℕ) → spec.CanAsk regions asked) }
+    ensures few { IfSome (format_of system.now terminal) (λ format. length format.fields ≤ 1920) }
 {
     let Some(format) = system.format_of(&terminal) else {
         return Ok(stopped(system, terminal, number, InputStopped::Format));
     };
-    let values = values_in(alloc, block.further())?;
+    // These are few, and so the values that the block keeps are enough.
+    let _fields = fields_of(format);
+    let values = block.values(alloc)?;
     match edit_in(alloc, format, &values) {
         Ok(segments) => Ok(Asked::Call(ControlCall::Input(terminal, number, segments))),
         Err(refused) => refused_asked(system, terminal, number, &refused),
     }
+}
+
+/// The fields of a format that keeps its rule: no more than a screen has places.
+#[tactic(auto, using(model_session::proofs::Places::few_fields))]
+fn fields_of(format: &Format) -> &[DeviceField]
+    requires { KeepsRule format.now }
+    ensures fields { result.now ≡ format.now.fields }
+    ensures few { length format.now.fields ≤ 1920 }
+{
+    format.fields()
 }
 
 /// The input of a screen whose values are refused.

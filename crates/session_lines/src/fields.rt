@@ -1,25 +1,40 @@
 //! The field lines of a screen.
-ghost use Rattle.std.specs.Prelude.{◌≡◌, ◌++◌, [], ℕ, Ok, Err, IfOk, OnOk, IsTrue, MatchResult};
-ghost use Rattle.std.specs.List.{list_all};
+ghost use Rattle.std.specs.Prelude.{◌≡◌, Ok, Err, IfOk, IsTrue, MatchResult, if◌then◌else◌};
 ghost use Rattle.tm_types.specs.Segment.{are_printable};
-ghost use Rattle.model_session.specs.Lines as spec;
-ghost use Rattle.mfs_edit.specs.Texts.{values_printable};
+ghost use Rattle.tm_types.specs.Words.{operands};
+ghost use Rattle.text_rows.specs.Lines.{split_at};
+ghost use Rattle.model_session.specs.Blocks as spec;
 
 use crate::numbers::name_operand;
-use crate::rules::{NO_EQUALS, WRONG_OPERANDS};
-use crate::words::operand_count;
-use model_format::{FieldValue, Fields};
-use std::alloc::Global;
-use text_rows::{also, split_at};
-use tm_edge::Line;
-use tm_types::{Bytes, Memory, Name, operands};
+use crate::rules::{NO_EQUALS, NOT_PRINTABLE, WRONG_OPERANDS};
+use crate::words::has_operand;
+use text_rows::split_at;
+use tm_types::{Name, are_printable, operands};
 
-/// `+ NAME=text`: the name, and the text, which may be empty.
-#[tactic(auto, unfolding(model_session::specs::Lines::field_of))]
-fn field_of(line: &[u8]) -> Result<(Name, &[u8]), u8>
-    ensures { MatchResult result (λ field. spec.field_of line.now ≡ Ok (field.0, field.1.now)) (λ rule. spec.field_of line.now ≡ Err rule) }
+/// `+ NAME=text`: the name, and the text, which may be empty; or the lowest rule that the line breaks.
+pub(crate) fn field_of(line: &[u8]) -> Result<(Name, &[u8]), u8>
+    ensures value { MatchResult result (λ field. spec.field_of line.now ≡ Ok (record { name = field.0; text = field.1.now })) (λ rule. spec.field_of line.now ≡ Err rule) }
+    ensures printable { IfOk result (λ field. IsTrue (are_printable field.1.now)) }
 {
-    if operand_count(line) == 0 {
+    judged_field(line)
+}
+
+#[tactic(auto, unfolding(model_session::specs::Blocks::field_of, text_rows::specs::Lowest::also))]
+fn judged_field(line: &[u8]) -> Result<(Name, &[u8]), u8>
+    ensures { MatchResult result (λ field. spec.field_of line.now ≡ Ok (record { name = field.0; text = field.1.now })) (λ rule. spec.field_of line.now ≡ Err rule) }
+{
+    match (field_parts(line), printable_line(line)) {
+        (Ok(field), Ok(())) => Ok(field),
+        (Err(rule), Err(other)) => Err(rule.min(other)),
+        (Err(rule), Ok(())) | (Ok(_), Err(rule)) => Err(rule),
+    }
+}
+
+/// The name and the text, or the rule that their form breaks.
+fn field_parts(line: &[u8]) -> Result<(Name, &[u8]), u8>
+    ensures { MatchResult result (λ field. (if spec.has_operand line.now then spec.field_parts (split_at 61 (operands line.now)) else Err 2) ≡ Ok (record { name = field.0; text = field.1.now })) (λ rule. (if spec.has_operand line.now then spec.field_parts (split_at 61 (operands line.now)) else Err 2) ≡ Err rule) }
+{
+    if !has_operand(line) {
         return Err(WRONG_OPERANDS);
     }
     match split_at(b'=', operands(line)) {
@@ -29,7 +44,7 @@ fn field_of(line: &[u8]) -> Result<(Name, &[u8]), u8>
 }
 
 fn with_text(name: Result<Name, u8>, text: &[u8]) -> Result<(Name, &[u8]), u8>
-    ensures { MatchResult result (λ field. spec.with_text text.now name ≡ Ok (field.0, field.1.now)) (λ rule. spec.with_text text.now name ≡ Err rule) }
+    ensures { MatchResult result (λ field. spec.with_text text.now name ≡ Ok (record { name = field.0; text = field.1.now })) (λ rule. spec.with_text text.now name ≡ Err rule) }
 {
     match name {
         Ok(name) => Ok((name, text)),
@@ -37,55 +52,13 @@ fn with_text(name: Result<Name, u8>, text: &[u8]) -> Result<(Name, &[u8]), u8>
     }
 }
 
-fn field_form(line: &[u8]) -> Result<(), u8>
-    ensures { result ≡ spec.judged (spec.field_of line.now) }
+/// Rule 6 where a byte of the line isn't printable.
+fn printable_line(line: &[u8]) -> Result<(), u8>
+    ensures { result ≡ spec.printable_line line.now }
 {
-    match field_of(line) {
-        Ok(_) => Ok(()),
-        Err(rule) => Err(rule),
-    }
-}
-
-/// The lowest rule that one of the field lines breaks.
-pub(crate) fn field_forms(lines: &[Line]) -> Result<(), u8>
-    ensures { result ≡ spec.field_forms lines.now }
-{
-    let mut forms = Ok(());
-    for line in lines {
-        forms = also(forms, field_form(line.bytes()));
-    }
-    forms
-}
-
-/// The values that the field lines give, whose bytes are printable.
-#[tactic(auto, using(crate::proofs::Values::printable_values))]
-pub(crate) fn values_in(alloc: Global, lines: &[Line]) -> Result<Fields, Memory>
-    requires { IsTrue (list_all are_printable lines.now) }
-    ensures values { IfOk result (λ values. values ≡ spec.values_in lines.now) }
-    ensures printable { IfOk result (λ values. IsTrue (values_printable values)) }
-{
-    values_of(alloc, lines)
-}
-
-fn values_of(alloc: Global, lines: &[Line]) -> Result<Fields, Memory>
-    ensures { IfOk result (λ values. values ≡ spec.values_in lines.now) }
-{
-    let mut values = Fields::new(alloc);
-    for line in lines {
-        add_value(alloc, &mut values, line.bytes())?;
-    }
-    Ok(values)
-}
-
-/// Adds the value that a field line gives.
-fn add_value(alloc: Global, values: &mut Fields, line: &[u8]) -> Result<(), Memory>
-    ensures { OnOk result (values.new ≡ values.old ++ spec.value_before (spec.field_of line.now) []) }
-{
-    match field_of(line) {
-        Ok((name, text)) => {
-            let text = Bytes::copied(alloc, text)?;
-            values.push(FieldValue { name, text })
-        }
-        Err(_) => Ok(()),
+    if are_printable(line) {
+        Ok(())
+    } else {
+        Err(NOT_PRINTABLE)
     }
 }

@@ -16,4 +16,5 @@ mod fields;
 mod forms;
 mod numbers;
 mod rules;
+mod values;
 mod words;

@@ -8,7 +8,7 @@ use Rattle.std.proofs.lemmas.Slice.Eq.{bytes_eq-Decides}
 use Rattle.text_rows.specs.Lines.{is_passed_over}
 use Rattle.tm_types.specs.Words.{first_word}
 use Rattle.model_session.specs.Standing.{Setting, SessionState}
-use Rattle.model_session.specs.Blocks.{Block, alone, and_line, is_further, takes_further, open_before, line_before, blocks_behind, closed}
+use Rattle.model_session.specs.Blocks.{Block, alone, and_field, and_line, and_text, is_further, is_screen, takes_further, open_before, line_before, blocks_behind, closed}
 use Rattle.tm_session.specs.declared.outcome.Ended.{Ended}
 use Rattle.tm_session.specs.declared.outcome.Ended.TheVariants.{Done, Memory}
 use Rattle.tm_session.specs.Driving.{Serves, FailsAt, Goes, Ends, EndsWhole, AreClosed, IsOpen, line_blocks, ahead_with, kept_blocks}
@@ -96,6 +96,16 @@ open_step setting line block w a seen takes is = subst (λ x. Goes setting None 
 
 -- ---- a line behind one that may take `+` lines
 
+-- a line with one more `+` line stays the same
+line_stays : (block : Block) (line : List ℕ) → (and_line block line).line ≡ block.line
+line_stays block line = by (is_screen block.line) where
+  by : (b : Bool) → (if b then and_field block line else and_text block line).line ≡ block.line
+  by true = refl
+  by false = refl
+
+pub stays_open : (block : Block) (line : List ℕ) → IsOpen block → IsOpen (and_line block line)
+stays_open block line takes = ap takes_further (line_stays block line) ∙ takes
+
 -- a `+` line takes none
 further_takes : (line : List ℕ) → is_further line ≡ true → takes_further line ≡ false
 further_takes line plus = ap (λ w. bytes_eq w (codes "IN") || bytes_eq w (codes "SCREEN")) ((bytes_eq-Decides (first_word line) (codes "+")).0 plus)
@@ -109,7 +119,7 @@ longer block line behind seen plus =
 pub goes_longer : (setting : Setting) (block : Block) (line : List ℕ) (w : Option (List ℕ)) (a : SessionState) → is_passed_over line ≡ false → is_further line ≡ true → IsOpen block
     → Goes setting (Some block) line (Some (and_line block line)) w w a a
 goes_longer setting block line w a seen plus takes =
-    record { blocks = []; split = λ behind. longer block line behind seen plus; shut = λ served h. takes; serves = serves_none setting w a }
+    record { blocks = []; split = λ behind. longer block line behind seen plus; shut = λ served h. stays_open block line takes; serves = serves_none setting w a }
 
 pub ends_longer : (setting : Setting) (block : Block) (line : List ℕ) (w : Option (List ℕ)) (a : SessionState) → is_passed_over line ≡ false → is_further line ≡ true → IsOpen block
     → Ends setting Memory (Some block) line w w a a
@@ -117,7 +127,7 @@ ends_longer setting block line w a seen plus takes = record {
   broken = inr refl;
   blocks = [];
   others = [];
-  front = λ served. ap (λ bs. closed (served ++ bs)) (longer block line [] seen plus) ∙ open_last served (and_line block line) takes ∙ sym (append-nil served);
+  front = λ served. ap (λ bs. closed (served ++ bs)) (longer block line [] seen plus) ∙ open_last served (and_line block line) (stays_open block line takes) ∙ sym (append-nil served);
   stops = stops_none setting Memory [] w a tt;
 }
 
@@ -127,7 +137,7 @@ closes block begun [] plain = other (is_further begun.line) (open_before (and_li
 closes block begun (next ∷ behind) plain =
     elim (is_further next.line) as
     (λ t. open_before block (if t then open_before (and_line begun next.line) behind else begun ∷ next ∷ behind) ≡ block ∷ (if t then open_before (and_line begun next.line) behind else begun ∷ next ∷ behind)) [
-      | true ↦ closes block (and_line begun next.line) behind plain
+      | true ↦ closes block (and_line begun next.line) behind (ap is_further (line_stays begun next.line) ∙ plain)
       | false ↦ other (is_further begun.line) (open_before (and_line block begun.line) (next ∷ behind)) (block ∷ begun ∷ next ∷ behind) plain
     ]
 

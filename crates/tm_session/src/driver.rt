@@ -113,13 +113,14 @@ fn begin_block<K: Sink, D: Disk>(
 }
 
 /// Adds a `+` line to the line that it belongs to.
-fn lengthen(pending: &mut Option<Block>, block: Block, line: Line) -> bool
+#[tactic(auto, using(crate::proofs::Steps::stays_open))]
+fn lengthen(alloc: Global, pending: &mut Option<Block>, block: Block, line: Line) -> bool
     requires { IsOpen block }
     ensures added { IsTrue result → pending.new ≡ Some (spec.and_line block line) }
     ensures begun { IfSome pending.new IsOpen }
 {
     let mut block = block;
-    let added = block.push(line).is_ok();
+    let added = block.push(alloc, line).is_ok();
     *pending = Some(block);
     added
 }
@@ -181,7 +182,7 @@ fn serve_read<K: Sink, D: Disk>(
         return begin_block(alloc, session, printed, sink, pending, line);
     };
     if is_further(line.bytes()) {
-        if lengthen(pending, block, line) {
+        if lengthen(alloc, pending, block, line) {
             return (session, None);
         }
         return (session, Some(Ended::Memory));

@@ -9,12 +9,12 @@ use Rattle.session_lines.proofs.asking.screen_asked.Goals as goal
 pub returns-in-Ok-clause-asked : goal.returns-in-Ok-clause-asked
 returns-in-Ok-clause-asked c =
     let there : format_of c.args.system.now c.args.terminal ≡ Some c.in-Some.format.now = sym c.in-Some.ensures.value in
-    segments_asked c.args.system.now c.args.terminal c.args.number (spec.values_in c.args.block.now.further) c.in-Some.format.now (format_of c.args.system.now c.args.terminal) c.in-Ok.segments there (search rules) c.in-Ok.ensures.texts
+    segments_asked c.args.system.now c.args.terminal c.args.number c.args.block.now.values c.in-Some.format.now (format_of c.args.system.now c.args.terminal) c.in-Ok.segments there (search rules) c.in-Ok.ensures.texts
 
 pub returns-clause-asked : goal.returns-clause-asked
 returns-clause-asked c =
     let there : format_of c.args.system.now c.args.terminal ≡ Some c.in-Some.format.now = sym c.in-Some.ensures.value in
-    let values = spec.values_in c.args.block.now.further in
+    let values = c.args.block.now.values in
     if_asked (λ asked. asked ≡ spec.entered_asked c.args.system.now c.args.terminal c.args.number (entered c.in-Some.format.now values))
     (λ asked. asked ≡ spec.screen_asked c.args.system.now c.args.terminal c.args.number values (format_of c.args.system.now c.args.terminal)) c.refused_asked.result
     (λ asked e. refusal_asked c.args.system.now c.args.terminal c.args.number values c.in-Some.format.now (format_of c.args.system.now c.args.terminal) asked there e)
