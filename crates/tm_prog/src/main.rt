@@ -1,9 +1,9 @@
 //! A transaction manager: its sessions are served as `drill`, from standard input to standard output; a
 //! `workload` makes its session by itself.
 //!
-//! `main` reads the words, opens the disk that they name and prints the answer of `tm_session`'s `run`
-//! with the status that ends the process, as `specs/Status` has it. All that isn't proved is here: the
-//! words themselves and the standard streams.
+//! `main` reads the words, opens the disk that they name, calls `run` and ends the process with the number of its
+//! status, as `specs/Status` has it. Not proved are `main` itself, the standard streams (`tm_edge`) and the disk in a
+//! file (`tm_disk`).
 #![tactic(auto)]
 
 ghost use Rattle.std.specs.Prelude.{◌≡◌};
@@ -37,6 +37,7 @@ use std::alloc::Global;
 use std::env::FillError;
 use std::process::ExitCode;
 use std::rt::Env;
+use std::str;
 use tm_disk::{Disk, FileDisk, MemDisk};
 use tm_edge::{Sink, Source, StdSink, StdSource};
 use tm_session::Ended;
@@ -83,26 +84,34 @@ fn no_memory<K: Sink>(sink: &mut K) -> ExitCode {
     ExitCode::from(status_number(Ended::Memory))
 }
 
-/// The most bytes of a word that is looked at. A longer one is no word of the grammar.
+/// The most bytes of a word that is looked at.
 const WORD_ROOM: usize = 4096;
 
 /// The most words that are looked at. No command of the grammar has so many.
 const WORD_COUNT: usize = 8;
 
-/// The words that the program is called with, without its own name. One that isn't UTF-8 stands with a mark in place of
-/// what isn't, and a word that is too long as a mark alone, so that neither is a word of the grammar.
+/// The words that the program is called with, without its own name. One that isn't UTF-8, or is too long, stands as an
+/// empty word, which is no word of the grammar, and as a path names no file.
 fn called_with<R: Env + AllocGlobal>(rt: &R) -> Result<Vec<String>, Memory> {
     let alloc = rt.alloc();
     let mut words = Vec::new(alloc);
     let mut bytes = [0; WORD_ROOM];
     for place in 0..WORD_COUNT {
         match rt.arg(place + 1, &mut bytes) {
-            Ok(length) => words.push(String::from_utf8_lossy(alloc, &bytes[..length])?)?,
-            Err(FillError::TooLong) => words.push(String::from_str(alloc, "?")?)?,
+            Ok(length) => words.push(word_of(alloc, &bytes[..length])?)?,
+            Err(FillError::TooLong) => words.push(String::new(alloc))?,
             Err(FillError::NotPresent) => break,
         }
     }
     Ok(words)
+}
+
+/// A word as text, and an empty one where its bytes are no text.
+fn word_of(alloc: Global, bytes: &[u8]) -> Result<String, Memory> {
+    match str::from_utf8(bytes) {
+        Ok(word) => Ok(String::from_str(alloc, word)?),
+        Err(_) => Ok(String::new(alloc)),
+    }
 }
 
 /// The number of a status, with which the process ends.

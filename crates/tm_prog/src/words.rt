@@ -10,7 +10,7 @@ use session_lines::number_in;
 pub enum DiskWords {
     /// One in memory, of so many sectors.
     InMemory(u32),
-    /// The file that the third word names, of so many sectors.
+    /// The file that the third word names; where it is made, of so many sectors.
     InFile(u32),
 }
 

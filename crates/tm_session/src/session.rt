@@ -27,7 +27,8 @@ const TEXT_LIMIT: usize = 262_144;
 /// and restarts, and prints the answers to the sink.
 ///
 /// The status is that of the first cause met: a rule that the definition breaks, a disk that can't be opened, the source's
-/// end, its failure, the sink's, want of memory, or a limit.
+/// end, its failure, the sink's, want of memory, a limit, or a spent counter. At the source's end, while the system is down by
+/// a stop, it is `Down`.
 pub fn drill_session<S: Source, K: Sink, D: Disk>(
     alloc: Global,
     source: &mut S,
