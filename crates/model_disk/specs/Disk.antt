@@ -72,13 +72,13 @@ pub record IsSameDisk (old new : DiskState) : Type 0 where
   pub faults : old.faults ≤ new.faults
   pub writes : old.writes ≤ new.writes
 
--- A disk that wasn't told to stop isn't told so; one that was stops at no later write, and has stopped where it had.
+-- A disk that wasn't told to stop isn't told so; one that was stops no later than it would have, and has stopped where it had.
 abbrev pub Lessens : Option ℕ → Option ℕ → Type 0
 Lessens None after = after ≡ None
 Lessens (Some left) None = ⊥
 Lessens (Some left) (Some after) = after ≤ left
 
--- It is the same disk, and nothing but the writes brings its stop nearer.
+-- It is the same disk: one that wasn't told to stop isn't told so, and a stop to come may be nearer and isn't put off.
 pub record Stays (old new : DiskState) : Type 0 where
   pub size : new.size ≡ old.size
   pub tells : new.tells ≡ old.tells

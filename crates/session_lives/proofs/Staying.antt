@@ -8,7 +8,6 @@ use Rattle.tm_control.specs.Calls.{IsSameControl, StaysSo}
 use Rattle.session_lives.specs.declared.called.Called.{Called}
 use Rattle.session_lives.specs.declared.called.Called.TheVariants.{Answered, Frozen, Power, Broke, Memory, Spent}
 use Rattle.session_lives.specs.Asking.{StaysBy}
-use Rattle.session_lives.proofs.Asked.{stays_so}
 
 module _ {D : Type 0} (state : D → DiskState) where
   -- a control region that stays as it was is the same
@@ -37,15 +36,3 @@ module _ {D : Type 0} (state : D → DiskState) where
   same_by (AskedPower pick) called a b h = same_of a b h
   same_by Restart called a b h = same_of a b h
   same_by ColdStart called a b h = same_of a b h
-
-  -- there was no memory to ask
-  pub stays_unasked : (asked : Asked) (a : ControlOnDisk D) → StaysBy state asked Memory a a
-  stays_unasked (PowerIn writes pick) a = stays_so state a
-  stays_unasked (Bad rule) a = stays_so state a
-  stays_unasked (BadCommand rule) a = stays_so state a
-  stays_unasked (Stopped terminal number reason) a = stays_so state a
-  stays_unasked (Call call) a = stays_so state a
-  stays_unasked (Quiet most) a = stays_so state a
-  stays_unasked (AskedPower pick) a = stays_so state a
-  stays_unasked Restart a = stays_so state a
-  stays_unasked ColdStart a = stays_so state a

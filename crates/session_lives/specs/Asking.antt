@@ -104,7 +104,8 @@ Does state (PowerIn writes pick) old new text = AddedNothing state old new × (t
 Does state Restart old new text = AddedNothing state old new × (text ≡ up_text)
 Does state ColdStart old new text = AddedNothing state old new × (text ≡ up_text)
 
--- What it leaves as it was: the disk is told to stop by POWER IN alone, and then as the line says.
+-- What it leaves as it was. POWER IN tells the disk to stop as the line says. Nothing else tells it so or puts a stop off,
+-- which may be nearer.
 abbrev pub StaysBy : {D : Type 0} → (D → DiskState) → Asked → Called → ControlOnDisk D → ControlOnDisk D → Type 0
 StaysBy state (PowerIn writes pick) Answered old new = HasArmed state writes old new
 StaysBy state _ _ old new = StaysSo state old new

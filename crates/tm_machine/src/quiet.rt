@@ -7,7 +7,7 @@ use crate::parts::Parts;
 use tran_pick::pick;
 
 impl Parts {
-    /// Whether nothing is left to do: all regions are empty, and none could take a message.
+    /// Whether nothing is left to do: all regions are empty, and none has a message to take and the room for it.
     pub fn is_quiet(&self) -> bool
         ensures { result ≡ is_quiet self.now.system self.now.moment }
     {
@@ -19,7 +19,7 @@ impl Parts {
         true
     }
 
-    /// Whether the region is empty and could take no message.
+    /// Whether the region is empty and has no message to take, or no room for it.
     fn rests(&self, region: u32) -> bool
         requires { IsRegion self.now.system region }
         ensures { result ≡ rests self.now.system self.now.moment region }
