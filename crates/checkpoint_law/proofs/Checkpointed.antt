@@ -30,7 +30,7 @@ use Rattle.model_image.proofs.Answers.{one_answer_of}
 use Rattle.model_image.proofs.Cutting.{records_whole}
 use Rattle.model_image.proofs.Places.{snapshot_below, log_above, log_below, slot_above, one_slot}
 use Rattle.model_image.proofs.Readings as readings
-use Rattle.slot_law.specs.Committed.{Touch, Touches, changes_of}
+use Rattle.slot_law.specs.Committed.{Touches}
 use Rattle.checkpointing.specs.Parts.{CheckpointParts, AreFree, IsOver, sequence_behind, next_restart}
 use Rattle.checkpointing.specs.Written.{DirtySlot, DirtyAt}
 use Rattle.checkpointing.specs.Checkpoint.{KeepsRecovery, InArea, IsCheckpointed}

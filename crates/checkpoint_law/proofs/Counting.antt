@@ -14,8 +14,8 @@ use Rattle.restart_data.specs.declared.restart.RestartSector.{RestartSector}
 use Rattle.restart_data.specs.Restart.{IsRestart, restart_in}
 use Rattle.model_image.specs.Ahead.{NoneAhead}
 use Rattle.model_image.specs.Areas.{snapshot_area, log_first}
-use Rattle.model_image.specs.Counters.{unit_of, told_unit, greatest_unit, next_unit}
-use Rattle.model_image.specs.Cut.{Cut, cut_of, where_none_left, records_of}
+use Rattle.model_image.specs.Counters.{unit_of, told_unit, greatest_unit}
+use Rattle.model_image.specs.Cut.{cut_of, where_none_left}
 use Rattle.model_image.specs.Recovered.{snapshot_from, log_in}
 use Rattle.model_image.proofs.Cutting.{records_whole}
 use Rattle.checkpointing.specs.Counts.{AreUpTo, CountsUpTo}

@@ -1,23 +1,21 @@
 -- A checkpoint on a disk, and the beginning of a life there.
-use Rattle.std.proofs.Common.{◌≡◌, ℕ, ◌+◌, ◌<◌, ◌≤◌, ◌^◌, List, ◌∙◌, ap, subst, ⊎_elim, arith, Ok, None}
-use Rattle.model_disk.specs.Disk.{Image, DiskState, IsDisk, ComesFrom, Follows, Within, sector_at}
+use Rattle.std.proofs.Common.{ℕ, List, ⊎_elim, arith, Ok}
+use Rattle.model_disk.specs.Disk.{Image, DiskState, IsDisk, ComesFrom, Follows, Within}
 use Rattle.model_system.specs.System.{System}
 use Rattle.model_machine.specs.Machine.{LastingState}
 use Rattle.log_records.specs.declared.record.Record.{Record}
-use Rattle.log_sectors.specs.Sealed.{opened}
-use Rattle.log_writer.specs.Log.{IsAtEnd, IsReady}
+use Rattle.log_writer.specs.Log.{IsReady}
 use Rattle.restart_data.specs.declared.restart.RestartSector.{RestartSector}
 use Rattle.seg_store.specs.Slots.{Stored}
 use Rattle.seg_store.specs.Changed.{AllStores}
-use Rattle.model_image.specs.Areas.{log_first}
 use Rattle.model_image.specs.Recovered.{Recovers}
 use Rattle.model_image.proofs.Ahead.{ahead_free}
 use Rattle.slot_law.specs.Committed.{Touches}
-use Rattle.checkpointing.specs.Parts.{sequence_behind, next_restart, next_writer}
+use Rattle.checkpointing.specs.Parts.{sequence_behind}
 use Rattle.checkpointing.specs.Checkpoint.{KeepsRecovery, IsCheckpointed}
 use Rattle.checkpointing.specs.Conditions.{HasRestart, NoneIsAhead, ChangedAreNamed, ForceKeeps, SnapshotKeeps}
 use Rattle.disk_law.specs.Life.{LifeOnDisk, IsLife}
-use Rattle.disk_law.specs.Kept.{IsKept, AreKept}
+use Rattle.disk_law.specs.Kept.{AreKept}
 use Rattle.disk_law.proofs.Front.{recovers}
 use Rattle.checkpoint_law.specs.Checkpointing.{parts_with, MayCheckpoint, after_checkpoint}
 use Rattle.checkpoint_law.specs.Opening.{opened_life, MayOpen, IsOpened}

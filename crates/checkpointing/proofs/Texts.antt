@@ -1,5 +1,5 @@
 -- A checkpoint leaves the text of the definition.
-use Rattle.std.proofs.Common.{◌≡◌, ◌⊎◌, ℕ, zero, suc, ◌+◌, ◌<◌, ◌≤◌, List, ◌++◌, take, refl, sym, ◌∙◌, ap, subst, ⊎_elim, arith, Some, Ok}
+use Rattle.std.proofs.Common.{◌≡◌, ◌⊎◌, ℕ, zero, suc, ◌+◌, ◌<◌, ◌≤◌, List, ◌++◌, take, refl, sym, ◌∙◌, ap, ⊎_elim, arith, Some, Ok}
 use Rattle.std.specs.Prelude.{Option, Result}
 use Rattle.model_disk.specs.Disk.{Image, sector_at}
 use Rattle.restart_data.specs.declared.restart.RestartSector.{RestartSector}
@@ -14,7 +14,7 @@ use Rattle.checkpointing.specs.Parts.{CheckpointParts, next_restart}
 use Rattle.checkpointing.specs.Written.{DirtyAt}
 use Rattle.checkpointing.specs.Checkpoint.{InArea, IsWritten, IsCheckpointed}
 use Rattle.checkpointing.specs.Steps.{Then, ChangesUnread, Prepares}
-use Rattle.checkpointing.specs.Texts.{HasText, KeepsText}
+use Rattle.checkpointing.specs.Texts.{KeepsText}
 use Rattle.checkpointing.proofs.Keeping.{Stands, dirty_above}
 
 bytes_alike : (n : ℕ) (a b : Image) (at : ℕ) → ((k : ℕ) → at ≤ k → k < at + n → sector_at b k ≡ sector_at a k) → bytes_from n b at ≡ bytes_from n a at

@@ -1,5 +1,5 @@
 -- How many replies go where the first one does.
-use Rattle.std.proofs.Common.{◌≡◌, ℕ, List, length, take, arith}
+use Rattle.std.proofs.Common.{◌≡◌, List, length, take, arith}
 use Rattle.std.specs.Prelude.{min}
 use Rattle.std.proofs.lemmas.List.{length-take}
 use Rattle.tm_types.specs.declared.message.Reply.{Reply}

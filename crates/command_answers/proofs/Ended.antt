@@ -1,5 +1,5 @@
 -- The end of a conversation, by what the terminal's conversation answers.
-use Rattle.std.proofs.Common.{◌≡◌, ℕ, List, refl, sym, ap, ◌∙◌}
+use Rattle.std.proofs.Common.{◌≡◌, ℕ, List, refl, ap}
 use Rattle.std.specs.Prelude.{Option, Some, None, Result, Ok, Err}
 use Rattle.conversation.specs.declared.conversations.Busy.{Busy as BusyMessage}
 use Rattle.conversation.specs.Refusals.{input_answer as conversation_answer}

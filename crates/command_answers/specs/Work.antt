@@ -1,5 +1,5 @@
 -- What a region does that works on a message, by its code and id.
-use Rattle.std.specs.Prelude.{ℕ, ◌-◌, Option, Some, None, List, slice_get}
+use Rattle.std.specs.Prelude.{ℕ, ◌-◌, Option, Some, List, slice_get}
 use Rattle.std.specs.Option.{option_map_or}
 use Rattle.tm_types.specs.declared.dbd.Dbd.{Dbd}
 use Rattle.tm_types.specs.declared.resource.Resource.{Resource}

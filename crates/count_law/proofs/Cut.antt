@@ -1,13 +1,12 @@
 -- Bytes are cut into records that are in their ranges.
-use Rattle.std.proofs.Common.{◌≡◌, ℕ, zero, suc, List, [], ◌∷◌, length, drop, refl, Result, Ok, Err, Some, None, subst}
-use Rattle.std.specs.Prelude.{Option}
+use Rattle.std.proofs.Common.{◌≡◌, ℕ, zero, suc, List, [], ◌∷◌, length, drop, refl, Result, Ok, Err, Some, subst}
 use Rattle.std.specs.List.{AllByRecursion}
 use Rattle.log_records.specs.declared.record.Record.{Record}
 use Rattle.log_records.specs.Spelling.{IsRecord}
 use Rattle.log_records.specs.Reading.{record_at}
 use Rattle.log_records.proofs.Takes.{IsBytes, IsBytes-drop}
 use Rattle.log_records.proofs.Laws.{record_takes}
-use Rattle.model_image.specs.Cut.{Cut, cut_by, cut_of, from_first, records_of, where_none_left}
+use Rattle.model_image.specs.Cut.{cut_by, cut_of, from_first, records_of, where_none_left}
 
 cut_valid : (n : ℕ) (bytes : List ℕ) → IsBytes bytes → AllByRecursion IsRecord (cut_by n bytes).records
 cut_valid zero bytes are = tt

@@ -1,5 +1,5 @@
 -- What a log's records leave has messages and replies of 1 to 32 segments.
-use Rattle.std.proofs.Common.{◌≡◌, ℕ, zero, suc, ◌+◌, ◌≤◌, Bool, true, false, not, ◌&&◌, List, [], ◌∷◌, ◌++◌, length, refl, sym, ap, subst, arith, Some, None}
+use Rattle.std.proofs.Common.{◌≡◌, ℕ, zero, suc, ◌+◌, Bool, true, false, not, ◌&&◌, List, [], ◌∷◌, ◌++◌, subst, arith, Some, None}
 use Rattle.std.specs.Prelude.{Option, ◌==◌, filter, if◌then◌else◌}
 use Rattle.std.specs.Option.{option_map, option_map_or, option_and_then, is_some}
 use Rattle.std.specs.List.{AllByRecursion}
@@ -13,7 +13,7 @@ use Rattle.model_queues.specs.Outputs.{with_terminal, with_reply, without_first,
 use Rattle.model_message.specs.declared.ended_message.EndedMessage.{EndedMessage}
 use Rattle.model_system.specs.System.{System}
 use Rattle.model_machine.specs.Machine.{LastingState, message_at, output_at, terminal_at}
-use Rattle.model_machine.specs.Lasting.{KeptInput, applied, changed, sent, replied, switched, all_sent, finished, finished_by, with_pad_by, without_message, abend_text, abend_outputs, discarded_pad, input_message, without_replies}
+use Rattle.model_machine.specs.Lasting.{KeptInput, applied, changed, sent, replied, switched, finished_by, with_pad_by, without_message, abend_text, abend_outputs, discarded_pad, input_message, without_replies}
 use Rattle.model_machine.specs.Lasting.LastingStep.{Accepts, Acknowledges, Discards, Commands}
 use Rattle.log_records.specs.declared.record.Record.{Record}
 use Rattle.log_records.specs.declared.record.Record.TheVariants.{Input, Command, Reply, Discarded, Completed, Acknowledged, SyncPoint, Checkpoint, Terminal, Code, Change}
@@ -21,7 +21,7 @@ use Rattle.log_records.specs.Spelling.{IsCount, IsRecord}
 use Rattle.model_image.specs.Snapshot.{message_of}
 use Rattle.model_image.specs.States.{breaks_a_rule}
 use Rattle.model_image.specs.Replay.{Replay, done, all_done, kept_in_record, accepts, acknowledges, discards, commands, completed_message, with_step, syncs, is_of_unit, with_waiting, with_lasting, without_unit, replayed, is_known, unless_it_breaks, replay_one, replay_all, replay_of}
-use Rattle.count_law.specs.Counted.{AreCounted, AreAllCounted, IsCounted}
+use Rattle.count_law.specs.Counted.{IsCounted}
 use Rattle.count_law.proofs.Kept.{one_more, filtered, terminal_kept, reply_counted, without_first_counted}
 
 -- ---- what an answer has, if there is one

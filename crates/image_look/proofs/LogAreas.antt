@@ -1,5 +1,5 @@
 -- The first log sector of a later epoch, of both areas.
-use Rattle.std.proofs.Common.{◌≡◌, ℕ, ◌+◌, ◌*◌, sym, ◌∙◌, ap, arith, Some, None}
+use Rattle.std.proofs.Common.{◌≡◌, ℕ, ◌*◌, sym, ◌∙◌, ap, arith, Some, None}
 use Rattle.std.specs.Prelude.{Option}
 use Rattle.model_disk.specs.Disk.{Image}
 use Rattle.model_system.specs.System.{System}

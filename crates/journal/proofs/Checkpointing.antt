@@ -1,6 +1,5 @@
 -- A checkpoint of a life.
-use Rattle.std.proofs.Common.{◌≡◌, ◌≤◌, ◌<◌, ◌+◌, ◌*◌, ◌/◌, ℕ, List, length, refl, ap, sym, ◌∙◌, subst, arith}
-use Rattle.std.specs.Prelude.{Result, OnOk}
+use Rattle.std.proofs.Common.{◌≡◌, ◌≤◌, ◌+◌, ◌*◌, ◌/◌, ℕ, List, length, refl, sym, subst, arith}
 use Rattle.model_disk.specs.Disk.{DiskState, Follows}
 use Rattle.model_system.specs.System.{System}
 use Rattle.model_image.specs.Areas.{snapshot_area, snapshot_first, log_first, data_first}

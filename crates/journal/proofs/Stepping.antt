@@ -1,15 +1,12 @@
 -- A step of a life, by what its force leaves on the disk.
-use Rattle.std.proofs.Common.{◌≡◌, ◌∙◌, List, ℕ, ap, subst, sym, Ok, Err}
+use Rattle.std.proofs.Common.{subst, sym, Ok, Err}
 use Rattle.std.specs.Prelude.{Result, OnOk}
-use Rattle.std.specs.List.{flat_map}
 use Rattle.model_disk.specs.Disk.{DiskState, IsDisk, Within, Follows}
-use Rattle.log_records.specs.Spelling.{spelling}
 use Rattle.log_writer.specs.Writer.{Writer}
-use Rattle.log_writer.specs.Log.{IsReady, AddsFront, AddsAll}
-use Rattle.disk_law.specs.Changes.{with_bytes}
+use Rattle.log_writer.specs.Log.{AddsFront, AddsAll}
 use Rattle.disk_law.specs.Life.{LifeOnDisk}
 use Rattle.disk_law.specs.Kept.{AreKept}
-use Rattle.step_law.specs.Steps.{StepOnDisk, with_records, after_step}
+use Rattle.step_law.specs.Steps.{StepOnDisk, after_step}
 use Rattle.step_law.proofs.OnDisk.{step_at_any_moment, step_done}
 use Rattle.journal.specs.State.{IsStepOf, RecoverEither}
 

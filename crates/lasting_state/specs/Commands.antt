@@ -1,5 +1,5 @@
 -- What a command that lasts changes in the tables, and in the settings of the codes beside them.
-use Rattle.std.specs.Prelude.{◌≡◌, ℕ, ◌+◌, true, false, None, List}
+use Rattle.std.specs.Prelude.{◌≡◌, ◌+◌, true, false, None, List}
 use Rattle.tm_types.specs.declared.command.LastingCommand.{LastingCommand}
 use Rattle.tm_types.specs.declared.command.LastingCommand.TheVariants.{StartTransaction, StopTransaction, StartTerminal, StopTerminal, DequeueFirst, DequeueAll, Exit}
 use Rattle.model_queues.specs.Outputs.{with_terminal, without_first}

@@ -1,8 +1,7 @@
 -- A terminal that stands first in its table, and one that has a conversation.
-use Rattle.std.proofs.Common.{◌≡◌, ℕ, List, [], ◌∷◌, Option, Some, None, Bool, true, false, cond, IsSome, refl, sym, ◌∙◌, ap, subst, map}
+use Rattle.std.proofs.Common.{◌≡◌, ℕ, List, [], ◌∷◌, Option, Some, None, true, false, cond, IsSome, refl, sym, ◌∙◌, ap, subst, map}
 use Rattle.std.specs.Prelude.{is_some}
 use Rattle.std.specs.Option.{option_and_then}
-use Rattle.std.specs.Str.{bytes_eq}
 use Rattle.std.proofs.lemmas.Slice.Eq.{bytes_eq-Decides}
 use Rattle.model_conversation.specs.declared.conversation.TerminalConversation.{TerminalConversation}
 use Rattle.model_conversation.specs.Terminals.{without_conversation, terminal_at, conversation_at, IsTerminal}

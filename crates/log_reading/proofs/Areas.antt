@@ -1,12 +1,12 @@
 -- What has been read of an area, and what is still to come.
-use Rattle.std.proofs.Common.{◌≡◌, ℕ, ◌+◌, ◌-◌, ◌<◌, ◌≤◌, ◌^◌, false, List, ◌++◌, length, refl, sym, ◌∙◌, ap, subst, arith, Some, None, IsSome}
+use Rattle.std.proofs.Common.{◌≡◌, ℕ, ◌+◌, ◌-◌, ◌<◌, ◌≤◌, ◌^◌, List, ◌++◌, length, refl, sym, ◌∙◌, ap, arith, Some, None, IsSome}
 use Rattle.std.specs.Prelude.{Option}
 use Rattle.model_disk.specs.Disk.{Image, sector_at}
 use Rattle.log_sectors.specs.Sealed.{opened}
 use Rattle.log_sectors.specs.Chain.{chain}
 use Rattle.log_sectors.specs.Chain.{joined}
 use Rattle.log_sectors.proofs.Links.{chain_none, chain_some, joined_next}
-use Rattle.model_image.specs.Recovered.{is_later, first_later}
+use Rattle.model_image.specs.Recovered.{first_later}
 use Rattle.model_image.proofs.Readings.{opened_not_later}
 use Rattle.image_reading.proofs.Sectors.{later_next, later_end}
 use Rattle.std.proofs.lemmas.List.{append-nil}

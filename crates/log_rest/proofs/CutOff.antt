@@ -1,16 +1,14 @@
 -- Bytes are cut off just where they are a front of some layout.
-use Rattle.std.proofs.Common.{◌≡◌, ◌⊎◌, inl, inr, ℕ, zero, suc, ◌+◌, ◌-◌, ◌*◌, ◌^◌, ◌<◌, ◌≤◌, Bool, true, false, ◌&&◌, ◌||◌, List, [], ◌∷◌, ◌++◌, length, get_or, replicate, refl, sym, ◌∙◌, ap, subst, append_assoc, arith, Some, None}
-use Rattle.std.specs.Prelude.{Option, Decides, slice_get}
-use Rattle.std.specs.List.{list_any, AllByRecursion}
+use Rattle.std.proofs.Common.{◌≡◌, ◌⊎◌, inl, inr, ℕ, zero, suc, ◌+◌, ◌-◌, ◌*◌, ◌^◌, ◌<◌, ◌≤◌, Bool, true, false, ◌||◌, List, [], ◌∷◌, ◌++◌, length, replicate, refl, sym, ◌∙◌, ap, arith, Some, None}
+use Rattle.std.specs.Prelude.{Decides, slice_get}
+use Rattle.std.specs.List.{AllByRecursion}
 use Rattle.std.proofs.lemmas.Bool.{or_left, or_right}
 use Rattle.std.proofs.lemmas.List.{length-append, append-nil, length-replicate, nil_from_length}
 use Rattle.tm_types.specs.Name.{IsName}
-use Rattle.model_conversation.specs.declared.conversation.PadChange.{PadChange}
 use Rattle.model_conversation.specs.declared.conversation.PadChange.TheVariants.{Stays, New, Ends}
-use Rattle.model_conversation.specs.declared.conversation.Conversation.{Conversation}
 use Rattle.log_records.specs.declared.record.Record.{Record}
 use Rattle.log_records.specs.declared.record.Record.TheVariants.{Input, Command, Reply, Discarded, Completed, Acknowledged, SyncPoint, Checkpoint, Terminal, Code, Change}
-use Rattle.log_records.specs.Spelling.{number1, number2, number8, flag, name, text, segs, content, record_length, spelling, IsByte, IsNumber, IsAbend, IsText, AreSegments, AreInRange, IsShort, IsRecord}
+use Rattle.log_records.specs.Spelling.{number1, number2, number8, flag, name, text, segs, content, record_length, spelling, IsByte, IsNumber, IsAbend, AreSegments, AreInRange, IsRecord}
 use Rattle.log_records.proofs.Takes.{IsBytes, IsBytes-rest}
 use Rattle.log_records.proofs.Lengths.{eight, text_length, is_record}
 use Rattle.model_image.specs.Cut.{IsCutOff}

@@ -1,12 +1,12 @@
 -- A front of some parts is one of a text of them.
-use Rattle.std.proofs.Common.{◌≡◌, ◌⊎◌, inl, inr, ℕ, zero, suc, ◌+◌, ◌-◌, ◌<◌, ◌≤◌, Bool, true, false, ◌&&◌, List, [], ◌∷◌, ◌++◌, length, get_or, refl, sym, ◌∙◌, ap, subst, arith, Some, None}
+use Rattle.std.proofs.Common.{◌≡◌, ◌⊎◌, inl, inr, ℕ, zero, suc, ◌+◌, ◌-◌, ◌<◌, ◌≤◌, Bool, true, List, [], ◌∷◌, ◌++◌, length, refl, sym, ◌∙◌, ap, arith, Some, None}
 use Rattle.std.specs.Prelude.{Option, nat_le}
 use Rattle.std.proofs.lemmas.Bool.{cases_lt, leb-true, le-leb, and_parts, and_from}
 use Rattle.log_records.proofs.Takes.{IsBytes, IsBytes-rest}
 use Rattle.log_rest.specs.declared.parts.Part.{Part}
 use Rattle.log_rest.specs.declared.parts.Part.TheVariants.{Exactly, Flag, Positive, Any, Names, Abend, Name, Text, TextLow, Segments, Segment, SegmentLow, SegmentBytes}
 use Rattle.log_rest.specs.Parts.{step, least, most, leasts, mosts, left_before, goes_on, is_front}
-use Rattle.log_rest.proofs.Ranges.{IsPart, IsLeft, least_left, most_left, Behind, step_behind, Leads, wide}
+use Rattle.log_rest.proofs.Ranges.{IsPart, IsLeft, least_left, most_left, step_behind, Leads, wide}
 
 abbrev pub AreParts : List Part → Type 0
 AreParts [] = Unit {0}

@@ -1,20 +1,19 @@
 -- The parts of each field have its spellings as their texts.
-use Rattle.std.proofs.Common.{◌≡◌, ◌⊎◌, inl, inr, ℕ, zero, suc, ◌+◌, ◌-◌, ◌*◌, ◌^◌, ◌<◌, ◌≤◌, Bool, true, false, ◌&&◌, List, [], ◌∷◌, ◌++◌, length, get_or, refl, sym, ◌∙◌, ap, subst, append_assoc, arith, Some, None}
-use Rattle.std.specs.Prelude.{Option, nat_le, ◌==◌, IsTrue, if◌then◌else◌}
-use Rattle.std.specs.Int.{Width, w16, w64, byte_len, from_be_bytes, to_be_bytes}
+use Rattle.std.proofs.Common.{◌≡◌, ℕ, zero, suc, ◌+◌, ◌-◌, ◌*◌, ◌^◌, ◌<◌, ◌≤◌, Bool, true, false, ◌&&◌, List, [], ◌∷◌, ◌++◌, length, refl, sym, ◌∙◌, ap, append_assoc, arith, Some, None}
+use Rattle.std.specs.Prelude.{Option, nat_le, ◌==◌, if◌then◌else◌}
+use Rattle.std.specs.Int.{w16, w64, from_be_bytes, to_be_bytes}
 use Rattle.std.specs.List.{flat_map, AllByRecursion, list_all}
 use Rattle.std.proofs.lemmas.Bool.{leb-true, le-leb, eq-eqb, eqb-true, eqb-false, and_parts, and_from}
-use Rattle.std.proofs.lemmas.List.{length-append, append-nil}
 use Rattle.std.proofs.lemmas.List.Concat.{flat_map-cons}
 use Rattle.tm_types.specs.Name.{IsName, is_name_byte}
 use Rattle.tm_types.specs.Segment.{IsSegmentText, is_printable}
-use Rattle.log_records.specs.Spelling.{number1, number2, number8, flag, name, text, segs, IsByte, IsNumber, IsAbend, IsText, AreSegments}
+use Rattle.log_records.specs.Spelling.{number1, number2, number8, flag, name, text, segs, IsByte, IsNumber, IsAbend, AreSegments}
 use Rattle.log_records.proofs.Takes.{IsBytes, IsBytes-rest}
-use Rattle.log_records.proofs.FieldLaws.{IsWide, wide16, wide64, number2_length, number8_length}
+use Rattle.log_records.proofs.FieldLaws.{wide16, wide64, number2_length, number8_length}
 use Rattle.log_rest.specs.declared.parts.Part.{Part}
 use Rattle.log_rest.specs.declared.parts.Part.TheVariants.{Exactly, Flag, Positive, Any, Names, Abend, Name, Text, TextLow, Segments, Segment, SegmentLow, SegmentBytes}
-use Rattle.log_rest.specs.Parts.{any_left, names_left, segments_left, segment_left, if_so, step, left_before, goes_on, is_front}
-use Rattle.log_rest.proofs.Ranges.{so, so_from, Split, split, low_tests, are_low}
+use Rattle.log_rest.specs.Parts.{any_left, names_left, segments_left, segment_left, if_so, left_before, goes_on}
+use Rattle.log_rest.proofs.Ranges.{Split, split, low_tests, are_low}
 use Rattle.log_rest.proofs.Fronts.{is_text, bytes_nil, bytes_cons, goes_before, not_empty}
 
 -- a text, and what stands behind it

@@ -1,5 +1,5 @@
 -- Bytes are looked at one after another.
-use Rattle.std.proofs.Common.{◌≡◌, ℕ, zero, suc, ◌+◌, ◌≤◌, ◌<◌, Bool, true, false, List, [], ◌∷◌, length, get_or, drop, refl, sym, ◌∙◌, ap, arith, Some, None}
+use Rattle.std.proofs.Common.{◌≡◌, ℕ, zero, suc, ◌+◌, ◌≤◌, ◌<◌, false, List, [], ◌∷◌, length, get_or, drop, refl, sym, ◌∙◌, ap, arith, Some, None}
 use Rattle.std.specs.Option.{option_map, option_and_then}
 use Rattle.log_rest.proofs.Fronts.{goes_before}
 use Rattle.std.specs.Prelude.{Option, slice_get}

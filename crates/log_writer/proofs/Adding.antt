@@ -1,5 +1,5 @@
 -- What forcing adds to the log.
-use Rattle.std.proofs.Common.{◌≡◌, ◌⊎◌, ℕ, suc, zero, ◌+◌, ◌-◌, ◌*◌, ◌/◌, ◌<◌, ◌≤◌, List, [], ◌∷◌, ◌++◌, length, take, drop, refl, sym, ◌∙◌, ap, subst, inl, inr, ⊎_elim, arith, Option, Some, None, IsSome}
+use Rattle.std.proofs.Common.{◌≡◌, ◌⊎◌, ℕ, ◌+◌, ◌-◌, ◌*◌, ◌<◌, ◌≤◌, List, [], ◌++◌, length, take, drop, refl, sym, ◌∙◌, ap, subst, inl, inr, ⊎_elim, arith, Option, Some, None, IsSome}
 use Rattle.std.proofs.lemmas.Bool.{cases_lt}
 use Rattle.std.proofs.lemmas.List.{length-take, length-drop}
 use Rattle.model_disk.specs.Disk.{Image, sector_at}
@@ -7,9 +7,9 @@ use Rattle.log_sectors.specs.Sealed.{sealed, opened}
 use Rattle.log_sectors.specs.Chain.{chain, joined}
 use Rattle.log_sectors.proofs.Sealing.{opened-sealed}
 use Rattle.log_writer.specs.Writer.{Writer}
-use Rattle.log_writer.specs.Log.{log_of, sectors_of, IsAtEnd, StaysOrLogs, ChangesOnly, AddsFront, AddsAll, pieces, piece, Lays, HasLaid}
+use Rattle.log_writer.specs.Log.{log_of, sectors_of, IsAtEnd, StaysOrLogs, AddsFront, AddsAll, pieces, piece, Lays, HasLaid}
 use Rattle.log_writer.proofs.Laying.{length-pieces, piece-pieces, joined-pieces}
-use Rattle.log_writer.proofs.Gaining.{link, link_at, chain-front, chain-all, Front, joined-append, joined-front, sectors-enough, log-split, log-old}
+use Rattle.log_writer.proofs.Gaining.{link, link_at, chain-front, chain-all, joined-append, joined-front, sectors-enough, log-split, log-old}
 
 -- each piece has bytes, and not too many
 pub piece-some : (bytes : List ℕ) (x : ℕ) → x < sectors_of (length bytes) → 0 < length (piece (pieces (sectors_of (length bytes)) bytes) x)

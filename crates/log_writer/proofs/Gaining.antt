@@ -1,13 +1,11 @@
 -- What the laid sectors add to the chain.
-use Rattle.std.proofs.Common.{◌≡◌, ◌⊎◌, ℕ, suc, zero, ◌+◌, ◌-◌, ◌*◌, ◌/◌, ◌<◌, ◌≤◌, List, [], ◌∷◌, ◌++◌, length, take, drop, get_or, refl, sym, ◌∙◌, ap, subst, inl, inr, ⊎_elim, arith, append_assoc, Option, Some, None, IsSome, take-append-drop}
+use Rattle.std.proofs.Common.{◌≡◌, ◌⊎◌, ℕ, suc, zero, ◌+◌, ◌-◌, ◌*◌, ◌<◌, ◌≤◌, List, [], ◌∷◌, ◌++◌, length, take, drop, refl, sym, ◌∙◌, ap, subst, inl, inr, ⊎_elim, arith, append_assoc, Option, Some, None, IsSome, take-append-drop}
 use Rattle.std.proofs.lemmas.List.{take_at, append-nil}
 use Rattle.model_disk.specs.Disk.{Image, sector_at}
-use Rattle.log_sectors.specs.Sealed.{sealed, opened}
+use Rattle.log_sectors.specs.Sealed.{opened}
 use Rattle.log_sectors.specs.Chain.{before, chain, joined}
-use Rattle.log_sectors.proofs.Sealing.{opened-sealed}
 use Rattle.log_writer.specs.Writer.{Writer}
-use Rattle.log_writer.specs.Log.{log_of, sectors_of, IsAtEnd, ChangesOnly, AddsFront, AddsAll, pieces, piece, Lays, HasLaid}
-use Rattle.log_writer.proofs.Laying.{length-pieces, joined-pieces}
+use Rattle.log_writer.specs.Log.{sectors_of, IsAtEnd, piece}
 
 -- the sector of a chain at a place, with its sequence
 abbrev pub link : Image → ℕ → ℕ → ℕ → ℕ → Option (List ℕ)

@@ -1,5 +1,5 @@
 -- A writer at the start of an area of zeros.
-use Rattle.std.proofs.Common.{◌≡◌, ℕ, ◌+◌, ◌<◌, ◌≤◌, List, [], length, replicate, sym, ◌∙◌, ap, subst, ⊎_elim, arith, None}
+use Rattle.std.proofs.Common.{◌≡◌, ℕ, ◌+◌, ◌<◌, ◌≤◌, List, [], replicate, ◌∙◌, ap, ⊎_elim, arith, None}
 use Rattle.std.proofs.lemmas.Bool.{cases_lt}
 use Rattle.std.proofs.lemmas.List.{length-replicate, get_or-replicate, get_or_past}
 use Rattle.model_disk.specs.Disk.{Image, DiskState, sector_at, Only}
@@ -7,7 +7,7 @@ use Rattle.tm_disk.specs.Sector.{blank}
 use Rattle.log_sectors.specs.Sealed.{opened}
 use Rattle.log_sectors.proofs.Sealing.{opened-blank, opened-nothing}
 use Rattle.log_writer.specs.Writer.{Writer}
-use Rattle.log_writer.specs.Log.{IsAtEnd, IsReady}
+use Rattle.log_writer.specs.Log.{IsReady}
 
 opened-zeros : (epoch sequence n k : ℕ) → opened epoch sequence (sector_at (replicate n blank) k) ≡ None
 opened-zeros epoch sequence n k =

@@ -1,5 +1,5 @@
 -- No answer of the machine is a fault.
-use Rattle.std.proofs.Common.{◌≡◌, ℕ, Bool, true, false, List, refl, sym, ◌∙◌, ap, subst}
+use Rattle.std.proofs.Common.{◌≡◌, ℕ, Bool, true, false, List, refl, ◌∙◌, ap}
 use Rattle.std.specs.Prelude.{Option, Some, None, Result, Ok, Err, if◌then◌else◌, nat_lt, ◌&&◌, ◌==◌, slice_get}
 use Rattle.std.specs.Option.{is_some}
 use Rattle.model_command.specs.declared.command.Command.{Command}
@@ -22,11 +22,10 @@ use Rattle.model_machine.specs.History.{May}
 use Rattle.model_machine.specs.declared.entry.Acked.{Acked}
 use Rattle.model_machine.specs.declared.entry.Acked.TheVariants.{Removed, Already as AlreadyAcked}
 use Rattle.model_machine.specs.declared.entry.AckRefused.{AckRefused}
-use Rattle.model_machine.specs.declared.entry.AckRefused.TheVariants.{Unknown, Ahead, Fault as AckFault}
+use Rattle.model_machine.specs.declared.entry.AckRefused.TheVariants.{Ahead}
 use Rattle.model_machine.specs.declared.entry.CommandRefused.{CommandRefused}
-use Rattle.model_machine.specs.declared.entry.CommandRefused.TheVariants.{UnknownName, Busy, NoConversation}
+use Rattle.model_machine.specs.declared.entry.CommandRefused.TheVariants.{UnknownName}
 use Rattle.model_machine.specs.declared.lasting.TerminalState.{TerminalState}
-use Rattle.model_machine.specs.declared.entry.Entry.{Entry}
 use Rattle.model_machine.specs.declared.entry.Entry.TheVariants.{Accept, Acked as AckedEntry, Commanded}
 use Rattle.model_machine.specs.declared.entry.InputRefused.{InputRefused}
 use Rattle.model_machine.specs.declared.entry.InputRefused.TheVariants.{Terminal, StoppedTerminal, Expected, Conversation, Code, StoppedCode, SegmentsOver, QueueFull, Fault as InputFault}

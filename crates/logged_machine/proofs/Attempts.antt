@@ -4,8 +4,7 @@ use Rattle.std.specs.Prelude.{IfSome, Option, Some, None, Result, Ok, Err, ◌++
 use Rattle.std.specs.List.{flat_map}
 use Rattle.std.specs.Option.{is_some}
 use Rattle.std.proofs.Common.{lt-ltb}
-use Rattle.model_disk.specs.Disk.{Image, DiskState, Stays, Within, WritesAtMost, FailedSince}
-use Rattle.model_enqueue.specs.declared.victim.Victim.{Victim}
+use Rattle.model_disk.specs.Disk.{DiskState, Stays, Within, WritesAtMost, FailedSince}
 use Rattle.model_machine.specs.Machine.{Moment}
 use Rattle.model_command.specs.declared.answer.Answer.{Answer}
 use Rattle.model_command.specs.declared.command.Command.{Command}
@@ -33,7 +32,6 @@ use Rattle.log_records.specs.declared.record.Record.{Record}
 use Rattle.log_records.specs.Spelling.{spelling}
 use Rattle.log_writer.specs.Writer.{Writer}
 use Rattle.log_writer.specs.Log.{IsReady, AddsFront, sectors_of}
-use Rattle.disk_law.specs.Life.{LifeOnDisk}
 use Rattle.disk_law.specs.Changes.{with_bytes}
 use Rattle.disk_law.specs.Journal.{JournalState}
 use Rattle.journal.specs.State.{forced}
@@ -41,7 +39,6 @@ use Rattle.tm_machine.specs.Answers.{IsAnswered}
 use Rattle.tm_machine.specs.OnSlots.{HasSlots, TellByCall, TurnsSo, changes_told, slots_now, turn_records}
 use Rattle.tm_machine.specs.Parts.{PartsState}
 use Rattle.tm_machine.specs.Told.{ends_work, records_of}
-use Rattle.machine_life.specs.Counts.{AreUnspent}
 use Rattle.machine_life.specs.Turning.{next_after, unit_of, units_after}
 use Rattle.machine_life.proofs.Numbers.{units_stay}
 use Rattle.machine_life.proofs.Turns.{GoesBy}
@@ -53,7 +50,7 @@ use Rattle.machine_telling.specs.Telling.{Appends, is_input_fault}
 use Rattle.machine_life.specs.Counted.{IsCounted}
 use Rattle.model_image.specs.Counters.{greatest_unit}
 use Rattle.checkpointing.specs.Counts.{CountsUpTo}
-use Rattle.checkpoint_law.specs.Counted.{StandsUpTo, TellUnits}
+use Rattle.checkpoint_law.specs.Counted.{TellUnits}
 use Rattle.parts_life.proofs.Counts.{force_up_to, forced_tell, quiet_tells}
 use Rattle.parts_life.proofs.OwnUnits.{records_most, turn_most, unit_below}
 use Rattle.parts_life.specs.Logged.{IsLogged}

@@ -1,6 +1,6 @@
 -- What a due call has at hand once it was answered, and what follows of it.
-use Rattle.std.proofs.Common.{◌≡◌, ◌≤◌, ◌+◌, ◌<◌, ◌^◌, ℕ, Bool, true, false, List, length, refl, ap}
-use Rattle.std.specs.Prelude.{IfSome, Option, Some, None, Result, Ok}
+use Rattle.std.proofs.Common.{◌≡◌, ◌≤◌, ◌+◌, ◌<◌, ◌^◌, ℕ, Bool, true, false, List, length, ap}
+use Rattle.std.specs.Prelude.{IfSome, Some, Result, Ok}
 use Rattle.model_disk.specs.Disk.{DiskState, Stays, Within, WritesAtMost, FailedSince}
 use Rattle.model_command.specs.declared.answer.Answer.{Answer}
 use Rattle.model_command.specs.declared.command.Command.{Command}

@@ -1,10 +1,8 @@
 -- A checkpoint as a call: what it is answered, and the number that each image has behind it.
-use Rattle.std.proofs.Common.{◌≡◌, ℕ, ◌+◌, ◌<◌, ◌≤◌, Bool, true, false, List, [], Option, Some, None, Result, Ok, Err, refl, sym, ◌∙◌, ap, subst, arith}
+use Rattle.std.proofs.Common.{◌≡◌, ℕ, ◌+◌, ◌≤◌, Bool, List, [], Some, None, Result, Ok, Err, refl, sym, ◌∙◌, ap, subst, arith}
 use Rattle.model_disk.specs.Disk.{DiskState, Image, sector_at}
 use Rattle.model_system.specs.System.{System}
 use Rattle.model_machine.specs.Commands.{checkpoint_answer, unless_busy}
-use Rattle.model_machine.specs.History.{number_in}
-use Rattle.model_machine.specs.Machine.{Moment}
 use Rattle.model_machine.specs.declared.entry.CheckpointRefused.{CheckpointRefused}
 use Rattle.model_machine.specs.declared.entry.CheckpointRefused.TheVariants.{BusyRegion, Fault}
 use Rattle.model_machine.specs.declared.entry.ControlFault.{ControlFault}

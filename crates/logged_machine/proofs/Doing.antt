@@ -1,5 +1,5 @@
 -- A call behind a checkpoint, and a call as its callers see it.
-use Rattle.std.proofs.Common.{true, ◌≡◌, ◌⊎◌, ◌≤◌, ◌+◌, ℕ, List, inl, inr, ⊎_elim, refl, sym, ◌∙◌, ap, subst, arith}
+use Rattle.std.proofs.Common.{true, ◌≡◌, ◌⊎◌, ◌≤◌, ◌+◌, ℕ, List, inl, ⊎_elim, refl, ◌∙◌, ap, subst, arith}
 use Rattle.std.specs.Prelude.{Option, Some, None, Ok}
 use Rattle.model_disk.specs.Disk.{Image, DiskState, IsDisk, FailedSince, Rose}
 use Rattle.model_disk.proofs.Words.{stays_on}
@@ -13,12 +13,12 @@ use Rattle.model_image.specs.Recovered.{Recovers}
 use Rattle.checkpointing.specs.Texts.{HasText}
 use Rattle.disk_law.specs.Kept.{RecoversEither}
 use Rattle.logged_machine.specs.Logged.{LoggedState, AreLasting}
-use Rattle.logged_machine.specs.Goes.{Keeps, WentOn, Failed, GoesBy, CrashesBy}
-use Rattle.logged_machine.specs.Leaving.{Brings, Leaves}
+use Rattle.logged_machine.specs.Goes.{Keeps, WentOn, GoesBy, CrashesBy}
+use Rattle.logged_machine.specs.Leaving.{Brings}
 use Rattle.checkpointing.specs.Counts.{CountsUpTo}
 use Rattle.checkpointing.proofs.Counted.{up_to_more}
-use Rattle.logged_machine.specs.Doing.{Broke, CountsSince, Did, DidBy, LeavesCounts, LeavesSo, Refreshed, lasting_with}
-use Rattle.logged_machine.proofs.Leaving.{leaves_same, leaves_then, leaves_all, leaves_now}
+use Rattle.logged_machine.specs.Doing.{CountsSince, Did, DidBy, LeavesCounts, LeavesSo, Refreshed, lasting_with}
+use Rattle.logged_machine.proofs.Leaving.{leaves_then, leaves_all, leaves_now}
 
 -- there was memory
 abbrev pub IsNoMemory : Option ControlFault → Type 0

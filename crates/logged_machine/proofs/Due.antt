@@ -1,5 +1,5 @@
 -- A call behind a checkpoint that was due before it.
-use Rattle.std.proofs.Common.{◌≡◌, ◌≤◌, ◌+◌, ℕ, Bool, true, false, List, length, refl, sym, ◌∙◌, ap, subst}
+use Rattle.std.proofs.Common.{◌≡◌, ℕ, Bool, true, false, List, length, refl, sym, ◌∙◌, ap, subst}
 use Rattle.std.specs.Prelude.{Option, Some, None}
 use Rattle.model_disk.specs.Disk.{DiskState, Stays, Within, WritesAtMost, FailedSince}
 use Rattle.model_machine.specs.History.{after_entry, call_of}
@@ -16,7 +16,7 @@ use Rattle.control_life.specs.Faults.{fault_in}
 use Rattle.machine_checkpoint.specs.Taking.{Untaken, checkpoint_sectors, settled_parts}
 use Rattle.machine_due.specs.Due.{Behind, CountsWithin, KeepsOnDisk}
 use Rattle.logged_machine.specs.Logged.{LoggedState}
-use Rattle.logged_machine.specs.Doing.{Done, Refreshed, Tried, Unrefreshed, is_memory}
+use Rattle.logged_machine.specs.Doing.{Done, Refreshed, Unrefreshed, is_memory}
 use Rattle.logged_machine.proofs.Attempts.{Attempt, tried_failed, tried_forced, tried_quiet}
 use Rattle.logged_machine.proofs.Checkpointed.{broke, refreshed, same_all, same_logged}
 use Rattle.logged_machine.proofs.Doing.{IsNoMemory}

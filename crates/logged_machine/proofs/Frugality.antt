@@ -1,7 +1,7 @@
 -- What a call writes, and how far it raises what is counted on.
 use Rattle.std.proofs.Common.{◌≡◌, ◌≤◌, ◌<◌, ◌+◌, ◌*◌, ℕ, Bool, true, false, List, [], ◌∷◌, length, refl, sym, ◌∙◌, ap, subst, arith, ⊎_elim, inl, inr}
 use Rattle.std.specs.Prelude.{Option, Some, None}
-use Rattle.model_disk.specs.Disk.{Image, DiskState, ComesFrom, Within, WritesAtMost}
+use Rattle.model_disk.specs.Disk.{DiskState, ComesFrom, Within, WritesAtMost}
 use Rattle.model_system.specs.System.{System}
 use Rattle.model_machine.specs.History.{call_of}
 use Rattle.model_machine.specs.declared.entry.Entry.{Entry}

@@ -1,5 +1,5 @@
 -- What opening a machine with its log answers, by what opening its parts does.
-use Rattle.std.proofs.Common.{◌≡◌, ℕ, ◌<◌, ◌≤◌, true, List, Ok, Err, refl, sym, subst}
+use Rattle.std.proofs.Common.{◌≡◌, ℕ, ◌<◌, ◌≤◌, true, List, Err, refl}
 use Rattle.model_disk.specs.Disk.{DiskState, Stays, Within}
 use Rattle.model_disk.proofs.Words.{keeps_same, stays_same, within_same}
 use Rattle.model_system.specs.System.{System}
@@ -13,7 +13,6 @@ use Rattle.tm_machine.specs.Parts.{PartsState}
 use Rattle.control_life.specs.declared.how.How.{How}
 use Rattle.machine_opening.specs.Opened.{OpensOn}
 use Rattle.control_life.specs.Opened.{KeepsBy, Refuses}
-use Rattle.logged_machine.specs.Logged.{LoggedState}
 use Rattle.logged_machine.specs.Opened.{Opens}
 use Rattle.control_life.specs.Opened.{HandsBack}
 

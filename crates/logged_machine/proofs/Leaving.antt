@@ -1,5 +1,5 @@
 -- What crashes leave, over one call of a disk and another.
-use Rattle.std.proofs.Common.{◌≡◌, ◌⊎◌, ◌≤◌, ℕ, inl, inr, ⊎_elim, arith, refl, subst, sym}
+use Rattle.std.proofs.Common.{◌⊎◌, inl, inr, ⊎_elim, arith}
 use Rattle.model_disk.specs.Disk.{Image, DiskState, IsDisk, ComesFrom, Within}
 use Rattle.logged_machine.specs.Leaving.{Leaves}
 

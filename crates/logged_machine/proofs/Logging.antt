@@ -1,29 +1,26 @@
 -- The life of a machine with its log, as calls go on.
-use Rattle.std.proofs.Common.{◌≡◌, ◌⊎◌, ◌≤◌, ◌<◌, ◌+◌, ◌^◌, ℕ, List, refl, sym, ◌∙◌, ap, subst, arith, inl, inr, length}
-use Rattle.std.specs.Prelude.{Option, Some, None, Result, Ok}
-use Rattle.std.specs.List.{flat_map}
-use Rattle.model_disk.specs.Disk.{Image, DiskState, IsDisk, Within, Follows}
+use Rattle.std.proofs.Common.{◌≡◌, ◌≤◌, ◌+◌, ℕ, List, sym, ◌∙◌, ap, subst, arith, length}
+use Rattle.std.specs.Prelude.{Option, Some, Result, Ok}
+use Rattle.model_disk.specs.Disk.{Image, DiskState, Within}
 use Rattle.model_system.specs.System.{System}
 use Rattle.model_machine.specs.Machine.{LastingState, Moment}
-use Rattle.log_records.specs.Spelling.{spelling}
 use Rattle.log_writer.specs.Writer.{Writer}
 use Rattle.log_writer.specs.Log.{IsReady, AddsFront}
 use Rattle.restart_data.specs.declared.restart.RestartSector.{RestartSector}
-use Rattle.model_image.specs.Areas.{data_first, log_first, snapshot_area}
+use Rattle.model_image.specs.Areas.{data_first, snapshot_area}
 use Rattle.model_image.specs.Recovered.{Recovers}
 use Rattle.model_image.specs.Text.{text_in}
 use Rattle.model_image.proofs.Places.{log_below, slot_above}
 use Rattle.restart_data.specs.Restart.{restart_in}
-use Rattle.disk_law.specs.Life.{LifeOnDisk, IsLife, IsWriterOf}
+use Rattle.disk_law.specs.Life.{IsWriterOf}
 use Rattle.disk_law.specs.Changes.{with_bytes}
-use Rattle.disk_law.specs.Kept.{IsKept, AreKept, RecoversEither}
+use Rattle.disk_law.specs.Kept.{AreKept, RecoversEither}
 use Rattle.disk_law.proofs.Front.{recovers}
 use Rattle.disk_law.proofs.Forcing.{restart_stays, text_stays}
-use Rattle.step_law.specs.Steps.{StepOnDisk, IsStep, after_step, with_records}
+use Rattle.step_law.specs.Steps.{after_step, with_records}
 use Rattle.step_law.proofs.Stepping.{step_front}
 use Rattle.disk_law.specs.Journal.{JournalState}
-use Rattle.journal.specs.State.{IsStepOf, forced, holding}
-use Rattle.program_rows.specs.OnSlots.{SlotsState}
+use Rattle.journal.specs.State.{IsStepOf, forced}
 use Rattle.tm_machine.specs.OnSlots.{slots_now}
 use Rattle.tm_machine.specs.Parts.{PartsState}
 use Rattle.machine_life.specs.Carried.{IsCarriedBy}

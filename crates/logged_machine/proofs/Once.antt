@@ -1,9 +1,9 @@
 -- One attempt of a call: it appends what it tells, and forces that where a lasting step is among it.
-use Rattle.std.proofs.Common.{◌≡◌, ◌≤◌, ◌+◌, ℕ, Bool, true, false, List, refl, sym, ◌∙◌, ap, subst, arith, length}
-use Rattle.std.specs.Prelude.{Option, Some, None, ◌++◌}
+use Rattle.std.proofs.Common.{◌≡◌, ◌≤◌, ℕ, Bool, true, false, List, refl, sym, ◌∙◌, ap, subst, arith, length}
+use Rattle.std.specs.Prelude.{Option, Some, None}
 use Rattle.std.specs.List.{flat_map}
 use Rattle.std.specs.Option.{is_some}
-use Rattle.model_disk.specs.Disk.{Image, DiskState, Stays, Within, Follows, FailedSince}
+use Rattle.model_disk.specs.Disk.{DiskState, Stays, Within, Follows, FailedSince}
 use Rattle.model_disk.proofs.Words.{stays_same}
 use Rattle.model_machine.specs.Machine.{LastingState, Moment}
 use Rattle.model_machine.specs.Lasting.{LastingStep}
@@ -13,26 +13,24 @@ use Rattle.model_machine.specs.declared.entry.ControlFault.TheVariants.{Disk}
 use Rattle.log_records.specs.declared.record.Record.{Record}
 use Rattle.log_records.specs.Spelling.{spelling}
 use Rattle.log_writer.specs.Writer.{Writer}
-use Rattle.log_writer.specs.Log.{IsReady, AddsFront, AddsAll, sectors_of}
+use Rattle.log_writer.specs.Log.{IsReady, AddsFront, AddsAll}
 use Rattle.disk_law.specs.Life.{LifeOnDisk}
 use Rattle.disk_law.specs.Kept.{AreKept}
 use Rattle.step_law.specs.Steps.{StepOnDisk, after_step}
 use Rattle.checkpoint_law.specs.Counted.{TellUnits}
 use Rattle.disk_law.specs.Journal.{JournalState}
 use Rattle.journal.specs.State.{IsStepOf, forced}
-use Rattle.program_rows.specs.OnSlots.{SlotsState}
 use Rattle.tm_machine.specs.Answers.{IsAnswered}
 use Rattle.tm_machine.specs.OnSlots.{slots_now}
 use Rattle.tm_machine.specs.Parts.{PartsState}
-use Rattle.machine_life.specs.Going.{GoesOn, StepsOn}
+use Rattle.machine_life.specs.Going.{StepsOn}
 use Rattle.machine_life.proofs.Turns.{GoesBy}
 use Rattle.parts_life.proofs.Closing.{goes_quiet, goes_step}
 use Rattle.machine_telling.specs.Telling.{Appends}
 use Rattle.logged_machine.specs.Logged.{LoggedState}
-use Rattle.logged_machine.specs.Goes.{Keeps}
 use Rattle.parts_life.specs.Logged.{IsLogged}
 use Rattle.logged_machine.specs.Leaving.{Brings, Leaves}
-use Rattle.logged_machine.specs.Doing.{Did, LeavesSo, lasting_with}
+use Rattle.logged_machine.specs.Doing.{Did, lasting_with}
 use Rattle.logged_machine.proofs.Leaving.{leaves_same}
 use Rattle.logged_machine.proofs.Logging.{force_leaves, step_of, stepped, continued}
 

@@ -1,5 +1,5 @@
 -- What a machine with its log has while it is served.
-use Rattle.std.proofs.Common.{◌≡◌, ◌≤◌, ◌<◌, ◌+◌, ◌^◌, ℕ, true, List, sym, subst, arith}
+use Rattle.std.proofs.Common.{◌≡◌, ◌≤◌, ◌<◌, ◌+◌, ◌^◌, ℕ, List, sym, subst, arith}
 use Rattle.log_writer.specs.Writer.{Writer}
 use Rattle.restart_data.specs.Restart.{IsCounter}
 use Rattle.model_disk.specs.Disk.{DiskState, IsToldToStop}

@@ -13,8 +13,8 @@ use Rattle.checkpointing.specs.Steps.{Takes}
 use Rattle.disk_law.specs.Journal.{JournalState}
 use Rattle.journal.specs.Checkpoints.{CanCheckpoint, parts_for}
 use Rattle.journal.specs.State.{holding}
-use Rattle.program_rows.specs.OnSlots.{all_stores, slots_in}
-use Rattle.program_rows.specs.State.{DatabasesState, settled, with_marks}
+use Rattle.program_rows.specs.OnSlots.{all_stores}
+use Rattle.program_rows.specs.State.{settled}
 use Rattle.tm_machine.specs.Answers.{IsAnswered}
 use Rattle.tm_machine.specs.OnSlots.{HasSlots, slots_now}
 use Rattle.tm_machine.specs.Parts.{PartsState}

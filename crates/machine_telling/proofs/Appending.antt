@@ -17,7 +17,7 @@ use Rattle.model_machine.specs.declared.entry.ControlCall.{ControlCall}
 use Rattle.model_machine.specs.History.{is_fault}
 use Rattle.model_machine.specs.Machine.{Moment}
 use Rattle.model_system.specs.System.{System}
-use Rattle.tm_machine.specs.Told.{Tells, TellsUnless, bytes_of, records_of}
+use Rattle.tm_machine.specs.Told.{Tells, TellsUnless, bytes_of}
 use Rattle.machine_telling.specs.Telling.{HasRoom, Appends, is_input_fault}
 
 behind : (a b : List ℕ) → IsBytes (a ++ b) → IsBytes b

@@ -7,22 +7,21 @@ use Rattle.tm_types.specs.declared.function.Function.{Function}
 use Rattle.tm_types.specs.declared.function.Function.TheVariants.{GU, GN, GNP, GHU, GHN, GHNP, ISRT, REPL, DLET, PURG, CHNG, ROLB, ROLL}
 use Rattle.model_script.specs.declared.need.CallText.{CallText}
 use Rattle.model_script.specs.declared.need.Need.{Need}
-use Rattle.model_script.specs.declared.need.Need.TheVariants.{Call, Ended, Abend}
+use Rattle.model_script.specs.declared.need.Need.TheVariants.{Call}
 use Rattle.model_script.specs.Script.{need_at}
 use Rattle.model_system.specs.declared.pcb.Pcb.{Pcb}
 use Rattle.model_system.specs.Jobs.{Job}
 use Rattle.model_system.specs.Pcbs.{pcb_at}
 use Rattle.model_message.specs.Work.{MessageWork}
 use Rattle.model_dli.specs.Data.{Data}
-use Rattle.model_machine.specs.Trial.{Given, Reached, Trial, reached, reached_by, is_sync, is_get_unique, trial_need}
-use Rattle.model_machine.specs.Trial.Reached.{Messages, Rows, Nothing}
+use Rattle.model_machine.specs.Trial.{Given, Trial, reached, reached_by, is_sync, is_get_unique}
+use Rattle.model_machine.specs.Trial.Reached.{Messages}
 use Rattle.seg_store.specs.Slots.{Stored}
 use Rattle.system_types.specs.Valid.{IsDatabase, IsSystem}
 use Rattle.model_system.specs.System.{System}
 use Rattle.log_records.specs.declared.record.Record.{Record}
 use Rattle.log_records.specs.declared.untold.Untold.{Untold}
-use Rattle.log_records.specs.declared.untold.Untold.TheVariants.{Memory, Full}
-use Rattle.program_rows.specs.State.{DatabasesState, data_of, dbds_of}
+use Rattle.program_rows.specs.State.{DatabasesState, data_of}
 use Rattle.program_rows.specs.Answering.{told_blocked}
 use Rattle.program_rows.specs.Telling.{spelled, unless_stopped, Tells, IsUntold}
 use Rattle.tm_types.specs.declared.abend.AbendCode.{AbendCode}

@@ -1,5 +1,5 @@
 -- Which log sectors a life has still to write.
-use Rattle.std.proofs.Common.{◌≡◌, ◌⊎◌, ℕ, zero, suc, ◌+◌, ◌-◌, ◌*◌, ◌<◌, ◌≤◌, ◌^◌, Bool, true, false, List, [], refl, sym, ◌∙◌, ap, subst, ⊎_elim, arith, Some, None, IsSome, nat_lt, ◌&&◌}
+use Rattle.std.proofs.Common.{◌≡◌, ◌⊎◌, ℕ, zero, suc, ◌+◌, ◌-◌, ◌*◌, ◌<◌, ◌≤◌, ◌^◌, true, false, List, [], refl, sym, ◌∙◌, ap, subst, ⊎_elim, arith, Some, None, IsSome, nat_lt}
 use Rattle.std.specs.Prelude.{Option, codes}
 use Rattle.std.specs.Str.{bytes_eq}
 use Rattle.std.proofs.lemmas.Bool.{lt-ltb, and_from}

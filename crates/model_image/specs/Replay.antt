@@ -18,7 +18,6 @@ use Rattle.model_machine.specs.Lasting.LastingStep.{Accepts, Acknowledges, Disca
 use Rattle.log_records.specs.declared.record.Record.{Record}
 use Rattle.log_records.specs.declared.record.Record.TheVariants.{Input, Command, Reply, Discarded, Completed, Acknowledged, SyncPoint, Checkpoint, Terminal, Code, Change}
 use Rattle.model_conversation.specs.declared.conversation.PadChange.{PadChange}
-use Rattle.model_conversation.specs.declared.conversation.PadChange.TheVariants.{Stays, New, Ends}
 use Rattle.model_image.specs.States.{is_terminal, is_code, breaks_a_rule}
 use Rattle.model_image.specs.Snapshot.{message_of}
 use Rattle.model_image.specs.Slots.{is_image_of}

@@ -8,7 +8,7 @@ use Rattle.model_system.specs.declared.code.Transaction.{Transaction}
 use Rattle.model_system.specs.declared.code.SegmentKind.{SegmentKind}
 use Rattle.model_system.specs.declared.code.SegmentKind.TheVariants.{Multiple, Single}
 use Rattle.model_system.specs.System.{System}
-use Rattle.model_system.specs.Codes.{code_at, code_place}
+use Rattle.model_system.specs.Codes.{code_at}
 use Rattle.model_system.specs.Jobs.{Job, job_of}
 use Rattle.model_conversation.specs.declared.conversation.Conversation.{Conversation}
 use Rattle.model_conversation.specs.Input.{busy_id}

@@ -1,6 +1,6 @@
 -- Only the disk's fault ends a life whose entries are answered, or whose last one has that fault.
-use Rattle.std.proofs.Common.{◌≡◌, ℕ, Bool, true, false, List, [], ◌∷◌, ◌++◌, sym, ◌∙◌, ap, subst}
-use Rattle.std.specs.Prelude.{Option, Some, None}
+use Rattle.std.proofs.Common.{◌≡◌, true, false, List, [], ◌∷◌, ◌++◌, sym, ◌∙◌, ap, subst}
+use Rattle.std.specs.Prelude.{Some}
 use Rattle.model_machine.specs.declared.entry.Entry.{Entry}
 use Rattle.model_system.specs.System.{System}
 use Rattle.model_machine.specs.Machine.{Moment}

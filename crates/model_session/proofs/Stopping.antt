@@ -1,7 +1,6 @@
 -- A session is down by a stop, or has no life yet, only where a stop is told.
-use Rattle.std.proofs.Common.{◌≡◌, ◌≢◌, ◌⊎◌, ℕ, Bool, true, false, List, [], ◌∷◌, ◌++◌, sym, ap, subst, refl, inl, inr}
-use Rattle.std.specs.Prelude.{Option, Some, None}
-use Rattle.std.specs.Option.{is_some}
+use Rattle.std.proofs.Common.{◌≡◌, ◌≢◌, ℕ, Bool, true, false, List, [], ◌∷◌, ◌++◌, sym, subst, inl, inr}
+use Rattle.std.specs.Prelude.{None}
 use Rattle.model_machine.specs.declared.entry.Entry.{Entry}
 use Rattle.model_system.specs.System.{System}
 use Rattle.model_session.specs.declared.asked.Asked.{Asked}
@@ -9,9 +8,9 @@ use Rattle.model_session.specs.declared.asked.Asked.TheVariants.{Bad, BadCommand
 use Rattle.model_session.specs.Blocks.{Block}
 use Rattle.model_session.specs.Lines.{asked_of}
 use Rattle.model_session.specs.Lives.{LastLife}
-use Rattle.model_session.specs.Standing.{Setting, SessionState, Outage, Standing, Stop, no_life, unbegun, gone_on, called_on, ended, broken, opened, failed, is_stopped, last_life}
+use Rattle.model_session.specs.Standing.{Setting, SessionState, Outage, Standing, Stop, no_life, unbegun, gone_on, called_on, ended, broken, failed, is_stopped, last_life}
 use Rattle.model_session.specs.Standing.Standing.{Up, Down}
-use Rattle.model_session.specs.Session.{IsServed, ServedBy, IsServedUp, IsServedDown, IsRestarted, AreServed, Begins, IsBegun, IsBegunBy}
+use Rattle.model_session.specs.Session.{ServedBy, IsServedUp, IsServedDown, IsRestarted, AreServed, Begins, IsBegun, IsBegunBy}
 
 -- Where a session is down by a stop, or no life has begun, a stop is told.
 pub record HasStops (state : SessionState) : Type 0 where

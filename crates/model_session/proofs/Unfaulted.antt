@@ -1,5 +1,5 @@
 -- An entry with the machine's answer has no fault in its place.
-use Rattle.std.proofs.Common.{◌≡◌, ℕ, ◌+◌, Bool, true, false, ◌&&◌, List, [], ◌∷◌, ◌++◌, length, refl, ◌∙◌, ap}
+use Rattle.std.proofs.Common.{◌≡◌, ℕ, ◌+◌, Bool, true, false, ◌&&◌, List, length, refl, ◌∙◌, ap}
 use Rattle.std.specs.Prelude.{Option, Some, None, Result, Ok, Err, if◌then◌else◌, nat_le, nat_lt, ◌==◌, slice_get}
 use Rattle.std.specs.Option.{is_some, option_map_or, option_and_then, option_or, unwrap_or}
 use Rattle.model_command.specs.declared.command.Command.{Command}
@@ -22,16 +22,14 @@ use Rattle.model_machine.specs.declared.entry.ControlCall.{ControlCall}
 use Rattle.model_machine.specs.declared.entry.ControlCall.TheVariants.{Input, Receive, Acknowledge, Turn, Command as CommandCall, Checkpoint}
 use Rattle.model_machine.specs.declared.entry.Entry.{Entry}
 use Rattle.model_machine.specs.declared.entry.Entry.TheVariants.{Accept, Acked as AckedEntry, Commanded, Checked}
-use Rattle.model_machine.specs.declared.entry.InputRefused.{InputRefused}
 use Rattle.model_machine.specs.declared.entry.InputRefused.TheVariants.{Terminal as NoTerminal, StoppedTerminal, Expected, Code as NoCode, StoppedCode, SegmentsOver, QueueFull}
-use Rattle.model_machine.specs.declared.entry.Taken.{Taken}
 use Rattle.model_machine.specs.declared.entry.Taken.TheVariants.{New, Already}
 use Rattle.model_machine.specs.declared.lasting.TerminalState.{TerminalState}
 use Rattle.model_enqueue.specs.declared.victim.Victim.{Victim}
 use Rattle.model_machine.specs.Machine.{Moment, terminal_at, output_at, content, busy_slots, waiting_now}
 use Rattle.model_machine.specs.Lasting.{KeptInput, kept_input}
 use Rattle.model_machine.specs.Commands.{CommandAnswer, shown_code, shown_terminal, first_dequeued, all_dequeued, exited, command_answer, unless_busy, first_busy, checkpoint_answer, state_now}
-use Rattle.model_machine.specs.Steps.{Refusal, refusals, first_of, by_number, busy_by, most_segments, by_count, input_answer, ack_by, ack_answer}
+use Rattle.model_machine.specs.Steps.{Refusal, refusals, first_of, by_number, busy_by, most_segments, by_count, input_answer, ack_by}
 use Rattle.model_machine.specs.History.{May, call_of, entry_now, is_fault, number_in, victims_in}
 
 -- ---- inputs

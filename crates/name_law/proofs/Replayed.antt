@@ -17,13 +17,13 @@ use Rattle.model_message.specs.declared.ended_message.EndedMessage.{EndedMessage
 use Rattle.model_system.specs.System.{System}
 use Rattle.model_system.specs.Lists.{change_at}
 use Rattle.model_machine.specs.Machine.{LastingState, empty_state, message_at, output_at, terminal_at, terminal_place, setting_place}
-use Rattle.model_machine.specs.Lasting.{KeptInput, applied, changed, sent, replied, switched, finished_by, with_pad_by, with_begun, with_last, padded, new_pad, conversing, without_message, abend_text, abend_outputs, discarded_pad, without_replies, stopped_code, stopped_terminal}
+use Rattle.model_machine.specs.Lasting.{KeptInput, applied, changed, sent, replied, switched, finished_by, with_pad_by, with_begun, with_last, padded, new_pad, without_message, abend_text, abend_outputs, discarded_pad, without_replies, stopped_code, stopped_terminal}
 use Rattle.model_machine.specs.Lasting.LastingStep.{Accepts, Acknowledges, Discards, Commands}
 use Rattle.log_records.specs.declared.record.Record.{Record}
 use Rattle.log_records.specs.declared.record.Record.TheVariants.{Input, Command, Reply, Discarded, Completed, Acknowledged, SyncPoint, Checkpoint, Terminal, Code, Change}
 use Rattle.model_image.specs.Snapshot.{code_names, message_of, told, told_by, snapshot_state}
 use Rattle.model_image.specs.States.{breaks_a_rule}
-use Rattle.model_image.specs.Replay.{Replay, done, all_done, kept_in_record, accepts, acknowledges, discards, commands, completed_message, with_step, syncs, is_of_unit, with_waiting, with_lasting, without_unit, replayed, is_known, unless_it_breaks, replay_one, replay_all, replay_of}
+use Rattle.model_image.specs.Replay.{Replay, done, all_done, kept_in_record, accepts, acknowledges, discards, commands, completed_message, with_step, syncs, is_of_unit, with_lasting, without_unit, replayed, is_known, unless_it_breaks, replay_one, replay_all, replay_of}
 use Rattle.told_lasting.specs.Telling.{AreNamed, of_state, of_output, of_conversation, of_setting}
 use Rattle.told_lasting.proofs.Named.{change_names, output_names, conversation_names, told_named, empty_named}
 

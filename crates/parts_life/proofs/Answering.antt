@@ -1,5 +1,5 @@
 -- Inputs, acknowledgements, commands and what is shown: the life goes on with what the parts tell.
-use Rattle.std.proofs.Common.{◌≡◌, ℕ, true, false, List, [], Ok, Result, refl, sym, ◌∙◌, ap, subst}
+use Rattle.std.proofs.Common.{◌≡◌, ℕ, true, List, [], Result, refl, sym, ap, subst}
 use Rattle.std.specs.Prelude.{IfSome}
 use Rattle.std.specs.List.{flat_map}
 use Rattle.tm_types.specs.Commands.{name_in}
@@ -21,7 +21,6 @@ use Rattle.model_machine.specs.Commands.{lasting_command}
 use Rattle.model_machine.specs.Machine.{Moment}
 use Rattle.model_machine.specs.Steps.{After, lasting_step}
 use Rattle.program_rows.specs.OnSlots.{SlotsState, slots_in}
-use Rattle.program_rows.specs.State.{DatabasesState}
 use Rattle.tm_machine.specs.Answers.{IsAnswered}
 use Rattle.tm_machine.specs.OnSlots.{HasSlots, slots_now}
 use Rattle.tm_machine.specs.Parts.{PartsState}

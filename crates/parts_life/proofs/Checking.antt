@@ -1,11 +1,11 @@
 -- A checkpoint as a call: it is answered by its number, or refused, and the machine stands where it stood.
-use Rattle.std.proofs.Common.{◌≡◌, ℕ, Bool, true, false, List, [], Option, Some, None, Result, Ok, Err, refl, ap}
+use Rattle.std.proofs.Common.{◌≡◌, ℕ, Bool, true, false, List, [], Option, Some, None, Result, refl, ap}
 use Rattle.model_machine.specs.declared.entry.CheckpointRefused.{CheckpointRefused}
 use Rattle.model_machine.specs.declared.entry.Entry.TheVariants.{Checked, Show as ShowEntry}
 use Rattle.model_machine.specs.declared.entry.ShowAnswer.{ShowAnswer}
 use Rattle.model_machine.specs.Commands.{checkpoint_answer, first_busy, unless_busy}
 use Rattle.model_machine.specs.History.{number_in}
-use Rattle.model_machine.specs.Machine.{Moment, Slot}
+use Rattle.model_machine.specs.Machine.{Moment}
 use Rattle.tm_machine.specs.Answers.{IsAnswered}
 use Rattle.tm_machine.specs.Parts.{PartsState}
 

@@ -13,8 +13,6 @@ use Rattle.model_image.specs.Counters.{greatest_unit}
 use Rattle.checkpointing.specs.Counts.{CountsUpTo}
 use Rattle.disk_law.specs.Changes.{with_bytes}
 use Rattle.disk_law.specs.Journal.{JournalState}
-use Rattle.disk_law.specs.Kept.{IsKept}
-use Rattle.disk_law.specs.Life.{LifeOnDisk}
 use Rattle.checkpoint_law.specs.Counted.{TellsUnits, TellUnits, StandsUpTo}
 use Rattle.checkpoint_law.proofs.Counting.{appended_tells, forced_tells, front_up_to}
 use Rattle.tm_machine.specs.Parts.{PartsState}

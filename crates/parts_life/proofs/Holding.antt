@@ -1,6 +1,6 @@
 -- What always holds of parts, as the laws of the life ask for it.
-use Rattle.std.proofs.Common.{◌≡◌, ℕ, true, List, refl, sym, ◌∙◌, ap, subst}
-use Rattle.std.specs.Prelude.{length, map}
+use Rattle.std.proofs.Common.{◌≡◌, true, subst}
+use Rattle.std.specs.Prelude.{length}
 use Rattle.std.specs.List.{list_all, AllByRecursion}
 use Rattle.model_enqueue.specs.Table.{EnqueueTable}
 use Rattle.model_image.specs.States.{has_right_pad}

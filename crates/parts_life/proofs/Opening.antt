@@ -1,10 +1,9 @@
 -- Parts that are opened: the life that begins goes with them.
-use Rattle.std.proofs.Common.{◌≡◌, ℕ, zero, suc, ◌-◌, ◌<◌, Bool, true, false, List, [], ◌∷◌, length, map, replicate, refl, sym, ◌∙◌, ap, subst, arith}
+use Rattle.std.proofs.Common.{◌≡◌, ℕ, zero, suc, ◌-◌, ◌<◌, false, List, [], ◌∷◌, length, map, replicate, refl, sym, ◌∙◌, ap, subst}
 use Rattle.std.specs.Prelude.{◌==◌, slice_index_or}
 use Rattle.std.specs.List.{list_any}
 use Rattle.tm_types.specs.declared.dbd.Dbd.{Dbd}
 use Rattle.model_disk.specs.Disk.{DiskState, Image}
-use Rattle.model_system.specs.System.{System}
 use Rattle.model_machine.specs.Machine.{LastingState, Moment, start_of}
 use Rattle.log_writer.specs.Log.{IsReady}
 use Rattle.model_image.specs.Holding.{HoldsStores}
@@ -12,14 +11,12 @@ use Rattle.model_image.specs.States.{breaks_a_rule}
 use Rattle.restart_data.specs.declared.restart.RestartSector.{RestartSector}
 use Rattle.restart_data.specs.Restart.{IsRestart}
 use Rattle.seg_store.specs.Slots.{Stored, rows_of_slots}
-use Rattle.seg_store.specs.Changed.{AllStores}
 use Rattle.seg_store.specs.Stores.{no_changed}
 use Rattle.unit_work.specs.declared.change.Change.{Change}
 use Rattle.change_records.specs.Marks.{is_marked}
 use Rattle.snapshot_records.specs.Records.{IsOfSystem, snapshot_records}
 use Rattle.count_law.specs.Counted.{IsCounted}
 use Rattle.disk_law.specs.Kept.{AreKept}
-use Rattle.disk_law.specs.Life.{LifeOnDisk}
 use Rattle.checkpoint_law.specs.Opening.{IsOpened, MayOpen, opened_life}
 use Rattle.checkpoint_law.proofs.OnDisk as on_disk
 use Rattle.program_rows.specs.OnSlots.{SlotsState, touched_in}

@@ -1,26 +1,22 @@
 -- A checkpoint of parts: the life goes with them once all is written.
-use Rattle.std.proofs.Common.{◌≡◌, ⊎_elim, ℕ, zero, suc, ◌+◌, ◌-◌, ◌*◌, ◌<◌, ◌≤◌, Bool, true, false, List, [], ◌∷◌, length, map, refl, sym, ◌∙◌, ap, subst, arith, Some, None}
-use Rattle.std.specs.Prelude.{Option, slice_get}
+use Rattle.std.proofs.Common.{◌≡◌, ⊎_elim, ℕ, zero, suc, ◌+◌, ◌-◌, ◌<◌, ◌≤◌, Bool, true, false, List, [], ◌∷◌, length, sym, ◌∙◌, subst, arith, Some}
+use Rattle.std.specs.Prelude.{slice_get}
 use Rattle.std.specs.List.{AllByRecursion}
 use Rattle.tm_types.specs.declared.dbd.Dbd.{Dbd}
 use Rattle.model_rows.specs.declared.row.Row.{Row}
 use Rattle.model_rows.specs.Record.{spelling}
-use Rattle.model_conversation.specs.declared.conversation.Conversation.{Conversation}
-use Rattle.model_conversation.specs.declared.conversation.TerminalConversation.{TerminalConversation}
-use Rattle.model_system.specs.System.{System}
-use Rattle.model_machine.specs.Machine.{LastingState}
 use Rattle.log_writer.specs.Log.{sectors_of}
 use Rattle.seg_store.specs.Slots.{Stored, IsSlot}
 use Rattle.unit_work.specs.declared.change.Change.{Change}
 use Rattle.change_records.specs.Marks.{is_marked}
 use Rattle.snapshot_records.specs.declared.touches.OpenUnit.{OpenUnit}
 use Rattle.snapshot_records.specs.Records.{snapshot_records}
-use Rattle.snapshot_records.specs.Spelled.{Adds, IsWritable}
-use Rattle.snapshot_records.specs.Touches.{AreAllSpelled, AreOpen, AreSpelled, AreTouched, HasOneSector, IsSpelled, IsTouched, changes_of}
+use Rattle.snapshot_records.specs.Spelled.{Adds}
+use Rattle.snapshot_records.specs.Touches.{AreAllSpelled, AreOpen, AreTouched, HasOneSector, IsSpelled, IsTouched, changes_of}
 use Rattle.snapshot_records.proofs.Judged.{AreCounts}
 use Rattle.disk_law.specs.Life.{LifeOnDisk}
 use Rattle.checkpoint_law.specs.Checkpointing.{MayCheckpoint, after_checkpoint}
-use Rattle.program_rows.specs.OnSlots.{SlotsState, AreTouchedSlots, HaveSlots, IsTouchedSlot, all_stores, touched_in}
+use Rattle.program_rows.specs.OnSlots.{SlotsState, HaveSlots, IsTouchedSlot, all_stores, touched_in}
 use Rattle.program_rows.specs.State.{settled}
 use Rattle.tm_machine.specs.OnSlots.{HasSlots, slots_now}
 use Rattle.tm_machine.specs.Parts.{PartsState}

@@ -1,24 +1,21 @@
 -- A turn of a region: the life goes on with what the parts tell.
-use Rattle.std.proofs.Common.{◌≡◌, ℕ, ◌+◌, ◌-◌, ◌≤◌, List, [], ◌∷◌, ◌++◌, length, map, Option, None, Ok, refl, sym, ◌∙◌, ap, subst}
+use Rattle.std.proofs.Common.{◌≡◌, ℕ, ◌-◌, List, [], ◌∷◌, length, map, Option, None, Ok, sym, ◌∙◌, ap, subst}
 use Rattle.std.specs.Prelude.{slice_set}
 use Rattle.std.specs.List.{flat_map}
 use Rattle.tm_types.specs.declared.dbd.Dbd.{Dbd}
-use Rattle.model_enqueue.specs.Table.{EnqueueTable}
 use Rattle.model_enqueue.specs.declared.victim.Victim.{Victim}
 use Rattle.log_records.specs.declared.record.Record.{Record}
 use Rattle.log_records.specs.Spelling.{spelling}
-use Rattle.seg_store.specs.Slots.{Stored, rows_of_slots}
+use Rattle.seg_store.specs.Slots.{rows_of_slots}
 use Rattle.disk_law.specs.Life.{LifeOnDisk}
 use Rattle.model_machine.specs.declared.entry.ControlCall.TheVariants.{Turn}
-use Rattle.model_machine.specs.declared.entry.Entry.{Entry}
 use Rattle.model_machine.specs.declared.entry.Entry.TheVariants.{Turn as TurnEntry}
 use Rattle.model_machine.specs.declared.entry.Turned.{Turned}
 use Rattle.model_machine.specs.declared.entry.Turned.TheVariants.{Scheduled, Called, Next, QC, Done, Abended, Idle, Held, Waits, Backed}
 use Rattle.model_machine.specs.History.{victims_in}
-use Rattle.model_machine.specs.Machine.{LastingState, Moment, Slot}
+use Rattle.model_machine.specs.Machine.{Moment, Slot}
 use Rattle.model_machine.specs.Steps.{After, lasting_step, turn_answer}
 use Rattle.program_rows.specs.OnSlots.{SlotsState}
-use Rattle.program_rows.specs.State.{committed_rows}
 use Rattle.tm_machine.specs.Answers.{IsAnswered}
 use Rattle.tm_machine.specs.OnSlots as slots
 use Rattle.tm_machine.specs.OnSlots.{HasSlots, TellByCall, TurnsSo, changes_told, slots_now, turn_records}

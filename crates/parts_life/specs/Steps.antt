@@ -8,7 +8,7 @@ use Rattle.model_machine.specs.declared.entry.AckRefused.{AckRefused}
 use Rattle.model_machine.specs.declared.entry.InputRefused.{InputRefused}
 use Rattle.model_machine.specs.declared.entry.Taken.{Taken}
 use Rattle.model_machine.specs.declared.entry.Taken.TheVariants.{New, Already}
-use Rattle.model_machine.specs.Commands.{CommandAnswer, lasting_command, steps_by}
+use Rattle.model_machine.specs.Commands.{CommandAnswer, lasting_command}
 
 -- an input was accepted
 abbrev pub is_new : Result Taken InputRefused → Bool

@@ -1,9 +1,8 @@
 -- A region beside which no other one holds anything, and nobody waits.
-use Rattle.std.proofs.Common.{◌≡◌, ℕ, ◌-◌, ◌≤◌, ◌∷◌, ◌++◌, [], List, refl, sym, ap, ◌∙◌, arith, Bool, true, false, cond, not, ◌&&◌, Option, None, eqb, take, drop, length, zero, suc}
+use Rattle.std.proofs.Common.{◌≡◌, ℕ, ◌-◌, ◌≤◌, ◌∷◌, ◌++◌, [], List, refl, sym, ap, ◌∙◌, arith, Bool, true, false, cond, not, ◌&&◌, None, take, drop, length, zero, suc}
 use Rattle.std.specs.Prelude.{filter, map, slice_get, slice_index_or}
 use Rattle.std.specs.List.{AllByRecursion}
 use Rattle.std.specs.Map.{keys_of}
-use Rattle.std.specs.Option.{option_map_or, is_some}
 use Rattle.std.proofs.lemmas.Bool.{eq-eqb}
 use Rattle.tm_types.specs.declared.resource.Resource.{Resource}
 use Rattle.tm_types.specs.declared.resource.Mode.{Mode}

@@ -1,9 +1,6 @@
 -- What a region comes to hold, and how that is taken back.
 use Rattle.std.proofs.Common.{◌≡◌, ℕ, ◌≤◌, ◌-◌, ◌∷◌, [], ◌++◌, List, refl, sym, ap, subst, ◌∙◌, arith, Bool, true, false, cond, not, ◌||◌, ◌&&◌, Option, Some, None, eqb, length}
-use Rattle.std.specs.Prelude.{filter, OnOk, OnErr, slice_set}
-use Rattle.std.specs.declared.result.Result.{Result}
-use Rattle.std.specs.declared.result.Result.TheVariants.{Ok, Err}
-use Rattle.std.specs.declared.alloc.AllocError.{AllocError}
+use Rattle.std.specs.Prelude.{filter, slice_set}
 use Rattle.std.specs.List.{AllByRecursion}
 use Rattle.std.specs.List.Sorted.{IsStrictlySortedBy}
 use Rattle.std.specs.BTreeMap.{insert_entry, is_at}
@@ -22,7 +19,7 @@ use Rattle.model_enqueue.specs.Ask.{asker, granted_mode, with_hold}
 use Rattle.pi_enqueue.specs.declared.holds.Change.{Change}
 use Rattle.pi_enqueue.specs.Lists.{IsUpTo, is_on, is_listed, AreListed, StayListed, with_mode, before_all, is_more}
 use Rattle.pi_enqueue.proofs.Keys.{holder_total, held_is, holder_exact, holder_ties, resource_same}
-use Rattle.pi_enqueue.proofs.Ascending.{all_map, all_keys_inserted, insert_same, reset_inserted, remove_inserted, remove_absent, filter_removed, none_removed}
+use Rattle.pi_enqueue.proofs.Ascending.{all_map, all_keys_inserted, insert_same, reset_inserted, remove_inserted, filter_removed, none_removed}
 
 -- ---- the mode
 pub serves_keeps : (a b : Mode) → serves a b ≡ true → stronger a b ≡ a

@@ -25,7 +25,7 @@ use Rattle.model_enqueue.specs.Table.{EnqueueTable}
 use Rattle.model_enqueue.specs.Ask.{after_asks, first_blocked}
 use Rattle.pi_enqueue.specs.Kept.{IsKept}
 use Rattle.seg_rows.specs.StoreRefused.{set_refusal}
-use Rattle.seg_store.specs.Slots.{Stored, AreSlots, has_root, slot_for, rows_of_slots, with_image}
+use Rattle.seg_store.specs.Slots.{Stored, AreSlots, slot_for, rows_of_slots, with_image}
 use Rattle.seg_store.proofs.SlotRows.{record_image_root}
 use Rattle.unit_work.specs.declared.change.Change.{Change}
 use Rattle.unit_work.specs.Changes.{with_change, is_full}

@@ -19,7 +19,6 @@ use Rattle.unit_work.specs.BackOut.{backed_out, IsStored}
 use Rattle.program_rows.specs.State.{roots_of, rows_of, rows_in, with_records_from}
 use Rattle.program_rows.specs.Isolation.{AgreeOnHeld}
 use Rattle.program_rows.specs.Open.{HoldsAlone, StaysInSlot, Sits, AreUnits, backed_all, seen_by}
-use Rattle.program_rows.proofs.Beside.{AreOthers}
 use Rattle.program_rows.proofs.Together.{push, beside_others, get_set_else, set_apart}
 use Rattle.program_rows.proofs.Backed.{IsGood, good_all, stay_all, record_back, roots_back, dbds_all}
 use Rattle.program_rows.proofs.Apart.{holds_changed, others_apart, all_beside, all_good, all_rooted}

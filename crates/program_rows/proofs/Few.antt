@@ -1,5 +1,5 @@
 -- A unit of few records has touched few slots that had or have one.
-use Rattle.std.proofs.Common.{◌≡◌, ◌≢◌, ℕ, ◌+◌, ◌-◌, ◌<◌, ◌≤◌, ◌∷◌, [], List, length, zero, suc, refl, sym, ◌∙◌, ap, subst, Bool, true, false, cond, None, arith, get_or, eqb, ◌&&◌, ◌||◌, inl, inr, ⊎_elim, sum_by}
+use Rattle.std.proofs.Common.{◌≡◌, ◌≢◌, ℕ, ◌+◌, ◌-◌, ◌≤◌, ◌∷◌, [], List, length, zero, suc, refl, sym, ◌∙◌, ap, Bool, true, false, cond, None, arith, get_or, eqb, ◌&&◌, ◌||◌, ⊎_elim, sum_by}
 use Rattle.std.specs.List.{AllByRecursion, list_any}
 use Rattle.std.proofs.lemmas.Bool.{false≢true, eqb-true}
 use Rattle.std.proofs.lemmas.List.Sums.{sum_by-cons}
@@ -9,7 +9,7 @@ use Rattle.seg_store.specs.Slots.{Stored, AtMostOne, has_root, is_free, place_of
 use Rattle.seg_store.proofs.Places.{none_head, none_tail}
 use Rattle.unit_work.specs.declared.change.Change.{Change}
 use Rattle.unit_work.specs.Changes.{Pairs, Ascend, is_before}
-use Rattle.unit_work.specs.BackOut.{is_touched, was_in, cleared_slot, backed_out, CanBackOut}
+use Rattle.unit_work.specs.BackOut.{is_touched, was_in, CanBackOut}
 use Rattle.change_records.specs.Images.{slots_at, image_at}
 use Rattle.program_rows.specs.OnSlots.{records_in}
 use Rattle.program_rows.specs.Open.{was_there, IsTouched}

@@ -1,5 +1,5 @@
 -- What always holds of the slots of databases that are whole.
-use Rattle.std.proofs.Common.{◌≡◌, ℕ, ◌-◌, ◌<◌, ◌≤◌, ◌∷◌, [], List, length, map, suc, refl, sym, ◌∙◌, ap, subst, Bool, true, false, cond, Option, None, Some, arith, get_or, zero, ◌||◌, ◌&&◌, ◌⊎◌, not, eqb, ⊎_elim}
+use Rattle.std.proofs.Common.{◌≡◌, ℕ, ◌-◌, ◌<◌, ◌≤◌, ◌∷◌, [], List, length, suc, refl, sym, ◌∙◌, ap, subst, Bool, true, false, cond, Option, None, Some, arith, get_or, zero, ◌||◌, ◌&&◌, ◌⊎◌, not, eqb, ⊎_elim}
 use Rattle.std.specs.List.{AllByRecursion, slice_get}
 use Rattle.std.specs.Option.{option_map_or}
 use Rattle.std.proofs.lemmas.Bool.{false≢true, cases_lt}
@@ -14,8 +14,7 @@ use Rattle.unit_work.specs.declared.change.Change.{Change}
 use Rattle.unit_work.specs.Changes.{Changes, is_seen}
 use Rattle.unit_work.specs.BackOut.{was_in, backed_slot, cleared_slot}
 use Rattle.change_records.specs.Images.{slots_at, image_at, IsSlotOf}
-use Rattle.program_rows.specs.State.{DatabasesState}
-use Rattle.program_rows.specs.OnSlots.{SlotsState, slots_in as slots_seen, touched_in, root_in, HoldsSlot, IsTouchedSlot, AreTouchedSlots, HaveSlots, AreOnSlots}
+use Rattle.program_rows.specs.OnSlots.{slots_in as slots_seen, root_in, HoldsSlot, IsTouchedSlot, AreTouchedSlots, AreOnSlots}
 use Rattle.program_rows.specs.Open.{records_of, slots_of, HoldsAlone, IsUnit, was_there, IsTouched}
 use Rattle.program_rows.specs.Making.{seen, IsWhole}
 use Rattle.program_rows.specs.declared.opened.Opened.{Opened}

@@ -1,7 +1,7 @@
 -- The slot that a record takes: the image that stands there, and what is told of it.
-use Rattle.std.proofs.Common.{◌≡◌, ℕ, ◌-◌, ◌<◌, ◌≤◌, ◌++◌, ◌∷◌, [], List, length, map, refl, sym, ◌∙◌, ap, subst, Some, get_or, take, Result, Ok, Err}
+use Rattle.std.proofs.Common.{◌≡◌, ℕ, ◌-◌, ◌<◌, ◌≤◌, ◌++◌, ◌∷◌, [], List, length, map, refl, sym, ◌∙◌, ap, subst, Some, get_or, take}
 use Rattle.std.specs.List.{slice_get}
-use Rattle.std.specs.Prelude.{IfSome, IfErr, OnOk}
+use Rattle.std.specs.Prelude.{IfSome}
 use Rattle.std.proofs.lemmas.Option.{slice_get_within, slice_get-get_or}
 use Rattle.tm_types.specs.declared.dbd.Dbd.{Dbd}
 use Rattle.model_rows.specs.declared.row.Row.{Row}
@@ -11,10 +11,9 @@ use Rattle.seg_store.specs.Slots.{Stored, slot_for, rows_of_slots}
 use Rattle.dli_calls.specs.declared.planned.Edit.{Edit}
 use Rattle.log_records.specs.declared.record.Record.{Record}
 use Rattle.log_records.specs.declared.record.Record.TheVariants as told
-use Rattle.log_records.specs.declared.untold.Untold.{Untold}
 use Rattle.change_records.specs.Images.{image_at}
 use Rattle.program_rows.specs.Making.{TakesSlot, edit_told}
-use Rattle.program_rows.specs.Telling.{set_told, spelled, Tells, IsUntold}
+use Rattle.program_rows.specs.Telling.{set_told, spelled, Tells}
 use Rattle.program_rows.proofs.Aside.{slots_there}
 use Rattle.program_rows.proofs.Setting.{taken, dbd_there}
 use Rattle.program_rows.proofs.Stepping.{has_slot}

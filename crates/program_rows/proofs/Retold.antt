@@ -1,9 +1,9 @@
 -- What a call tells, and the slots that it touches: of one that waits, changes no record, sets one or leads to an abend.
-use Rattle.std.proofs.Common.{◌≡◌, ℕ, ◌-◌, ◌≤◌, ◌<◌, ◌∷◌, [], List, refl, sym, ◌∙◌, ap, subst, map, length, Option, None, Some, Result, Ok, Err, Bool, true, false, arith, get_or, set, zero, suc, ◌&&◌, eqb, ◌||◌, ◌⊎◌, inl, inr, ⊎_elim, ◌++◌}
+use Rattle.std.proofs.Common.{◌≡◌, ℕ, ◌-◌, ◌≤◌, ◌<◌, ◌∷◌, [], List, refl, sym, ◌∙◌, ap, subst, map, length, Option, None, Some, Result, Ok, Err, Bool, true, false, arith, get_or, set, zero, suc, ◌&&◌, ◌||◌, ◌⊎◌, inl, inr, ⊎_elim, ◌++◌}
 use Rattle.std.specs.List.{slice_get, AllByRecursion, list_any}
 use Rattle.std.specs.Prelude.{IfOk, IfErr, OnOk, OnErr}
-use Rattle.std.proofs.lemmas.Bool.{false≢true, eqb-true, eq-eqb}
-use Rattle.std.proofs.lemmas.List.{length-map, length-set}
+use Rattle.std.proofs.lemmas.Bool.{false≢true, eq-eqb}
+use Rattle.std.proofs.lemmas.List.{length-map}
 use Rattle.tm_types.specs.declared.dbd.Dbd.{Dbd}
 use Rattle.tm_types.specs.declared.abend.AbendCode.{AbendCode}
 use Rattle.tm_types.specs.declared.resource.Resource.{Resource}
@@ -12,8 +12,7 @@ use Rattle.model_rows.specs.Record as rows
 use Rattle.model_dli.specs.Conditions.{IsDbCall, IsPosition}
 use Rattle.model_dli.specs.declared.call.DbCall.{DbCall}
 use Rattle.model_dli.specs.declared.call.Position.{Position}
-use Rattle.model_dli.specs.Dli.{DliResult, dli}
-use Rattle.model_dli.specs.Data.{data_abend}
+use Rattle.model_dli.specs.Dli.{dli}
 use Rattle.model_dli.specs.Footprint.{footprint}
 use Rattle.model_enqueue.specs.declared.request.Request.{Request}
 use Rattle.model_enqueue.specs.Table.{EnqueueTable}
@@ -36,10 +35,10 @@ use Rattle.program_rows.specs.State.{rows_in, rows_of, rows_numbered, touched_by
 use Rattle.program_rows.specs.Isolation.{request_of, requests_of_call}
 use Rattle.program_rows.specs.Answering.{told_blocked}
 use Rattle.program_rows.specs.OnSlots.{slots_in as slots_seen, all_stores, SlotsState, CallsSo}
-use Rattle.program_rows.specs.Open.{records_of, slots_of, backed_all, HoldsAlone, AreUnits, AreTouched, AllTouch}
+use Rattle.program_rows.specs.Open.{records_of, slots_of, backed_all, AreUnits, AllTouch}
 use Rattle.program_rows.specs.Calling.{IsDone}
-use Rattle.program_rows.specs.Making.{seen, IsWhole, AreThere, HasTouched, IsSame, Reads, WaitsAt, IsPut, IsSet, HasAsked, IsEdited, LeadsTo, Makes, IsUntoldEdit, planned_abend, changed_in, edit_told, kept_of, made_told, slots_in}
-use Rattle.program_rows.specs.Telling.{call_told, changed_touched, set_told, slot_touched, touched_after, unless_stopped, Tells, IsUntold}
+use Rattle.program_rows.specs.Making.{seen, IsWhole, AreThere, HasTouched, IsSame, Reads, WaitsAt, IsEdited, LeadsTo, Makes, IsUntoldEdit, planned_abend, changed_in, edit_told, kept_of, made_told, slots_in}
+use Rattle.program_rows.specs.Telling.{call_told, set_told, slot_touched, touched_after, unless_stopped, Tells, IsUntold}
 use Rattle.program_rows.specs.declared.answer.DataAnswer.{DataAnswer}
 use Rattle.program_rows.specs.declared.answer.DataAnswer.TheVariants.{Answered, Abend, Blocked}
 use Rattle.program_rows.specs.declared.asked.Asked.{Asked}
@@ -47,7 +46,7 @@ use Rattle.program_rows.specs.declared.opened.Opened.{Opened}
 use Rattle.program_rows.proofs.Called.{same_asks, none_told, none_touched, led_told, edit_touched, edit_is_told, set_in, after_units, within}
 use Rattle.program_rows.proofs.Followed.{follows}
 use Rattle.program_rows.proofs.OneSlot.{OneSlot}
-use Rattle.program_rows.proofs.SetUnits.{Follows, one, set_committed}
+use Rattle.program_rows.proofs.SetUnits.{one, set_committed}
 use Rattle.program_rows.proofs.Slotted.{calls_none}
 use Rattle.program_rows.proofs.Setting.{rows_at_is}
 use Rattle.program_rows.proofs.Touching.{follows_touched, set_touched}

@@ -13,7 +13,7 @@ use Rattle.seg_store.specs.Slots.{Stored, has_root, AreSlots, slot_of, slot_for,
 use Rattle.seg_store.proofs.SlotRows.{same_key, record_some}
 use Rattle.unit_work.specs.declared.change.Change.{Change}
 use Rattle.unit_work.specs.Changes.{is_changed, with_change, is_full}
-use Rattle.unit_work.specs.BackOut.{is_touched, cleared_slot, backed_out, CanBackOut}
+use Rattle.unit_work.specs.BackOut.{is_touched, cleared_slot, backed_out}
 use Rattle.unit_work.proofs.Keeping.{kept_touch}
 use Rattle.program_rows.specs.State.{rows_of, rows_in}
 use Rattle.program_rows.specs.Open.{HoldsAlone, StaysInSlot, Sits, IsUnit, AreUnits, backed_all, seen_by, was_there}
@@ -22,7 +22,7 @@ use Rattle.program_rows.proofs.Stepping.{Own, HasSlot, Steps, steps, has_slot}
 use Rattle.program_rows.proofs.Beside.{IsIdle, touched_is, none_touched, all_changed}
 use Rattle.program_rows.proofs.Aside.{can_aside, cleared_where, slots_there}
 use Rattle.program_rows.proofs.Together.{pull, all_by, get_set, get_set_else, set_twice, set_apart}
-use Rattle.program_rows.proofs.Backed.{AreValid, all_there, valid_all, record_all, rows_in_is}
+use Rattle.program_rows.proofs.Backed.{AreValid, all_there, record_all, rows_in_is}
 use Rattle.program_rows.proofs.Apart.{holds_changed, free_where, all_beside}
 use Rattle.program_rows.proofs.OneSlot.{OneSlot, slot_put, one_aside, one_all}
 use Rattle.program_rows.proofs.SlotRows.{Replaces, one_rows}

@@ -1,5 +1,5 @@
 -- Slots that were changed are written.
-use Rattle.std.proofs.Common.{◌≡◌, ℕ, ◌-◌, zero, suc, refl, sym, ◌∙◌, [], ◌∷◌, List, map, ap, subst, get_or, eqb, Bool, true, false}
+use Rattle.std.proofs.Common.{◌≡◌, ℕ, ◌-◌, zero, suc, refl, sym, ◌∙◌, [], ◌∷◌, List, map, ap, subst, get_or, eqb, false}
 use Rattle.std.specs.List.{list_any}
 use Rattle.std.proofs.lemmas.Bool.{false≢true}
 use Rattle.seg_store.specs.Changed.{AllStores}

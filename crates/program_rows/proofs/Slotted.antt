@@ -1,16 +1,16 @@
 -- What calls do to slots and to the marks of those that were changed.
-use Rattle.std.proofs.Common.{◌≡◌, ◌≢◌, ℕ, ◌-◌, ◌<◌, ◌≤◌, ◌++◌, ◌∷◌, [], List, map, refl, sym, ◌∙◌, ap, subst, Bool, true, false, Option, None, Some, get_or, set, eqb, ◌&&◌, ◌||◌, inl, inr}
-use Rattle.std.specs.List.{AllByRecursion, slice_get, list_any}
+use Rattle.std.proofs.Common.{◌≡◌, ℕ, ◌-◌, ◌≤◌, ◌∷◌, [], List, refl, sym, ◌∙◌, ap, subst, Bool, true, false, Option, None, Some, ◌&&◌, ◌||◌, inl}
+use Rattle.std.specs.List.{list_any}
 use Rattle.std.specs.Option.{option_map_or}
 use Rattle.std.proofs.lemmas.Bool.{eq-eqb}
 use Rattle.model_rows.specs.declared.row.Row.{Row}
 use Rattle.model_rows.specs.Record as rows
 use Rattle.log_records.specs.declared.record.Record.{Record}
 use Rattle.seg_store.specs.Slots.{Stored, slot_of, slot_for, lowest_free, first_of, with_root, with_image}
-use Rattle.seg_store.specs.Changed.{Kept, AllStores, stored, with_changed, slot_changed}
+use Rattle.seg_store.specs.Changed.{Kept, AllStores, with_changed, slot_changed}
 use Rattle.seg_store.specs.Stores.{IsStoreOf, with_store}
 use Rattle.seg_store.proofs.SlotRows.{free_at, set_itself}
-use Rattle.change_records.specs.Images.{slots_at, image_at}
+use Rattle.change_records.specs.Images.{slots_at}
 use Rattle.change_records.specs.Marks.{AreMarked}
 use Rattle.change_records.specs.Told.{is_told_of, ChangesTold}
 use Rattle.unit_work.proofs.Marking.{marks_none, marks_same, marks_one}

@@ -1,6 +1,5 @@
 -- The slots that units have touched, once one of them has set a record, was backed out or stays, and once regions hold more or release all.
-use Rattle.std.proofs.Common.{◌≡◌, ◌≢◌, ℕ, ◌+◌, ◌-◌, ◌<◌, ◌≤◌, ◌++◌, ◌∷◌, [], List, length, suc, zero, refl, sym, ◌∙◌, ap, subst, Bool, true, false, cond, Option, None, Some, arith, get_or, set, not, eqb, ◌&&◌, ◌||◌, ◌⊎◌, inl, inr, ⊎_elim}
-use Rattle.std.specs.List.{AllByRecursion, slice_get, list_any}
+use Rattle.std.proofs.Common.{◌≡◌, ◌≢◌, ℕ, ◌+◌, ◌-◌, ◌<◌, ◌≤◌, ◌++◌, ◌∷◌, [], List, length, suc, zero, refl, sym, ◌∙◌, ap, subst, Bool, true, false, cond, None, arith, get_or, set, not, eqb, ◌&&◌, ◌||◌, ◌⊎◌, inl, inr, ⊎_elim}
 use Rattle.std.proofs.lemmas.Bool.{false≢true, cases_eq, cases_lt, eq-eqb, ne_eqb}
 use Rattle.std.proofs.lemmas.Option.{slice_get-get_or}
 use Rattle.std.proofs.lemmas.List.{length-set}
@@ -9,15 +8,14 @@ use Rattle.model_rows.proofs.Lists.{all_then}
 use Rattle.tm_types.specs.declared.resource.Resource.{Resource}
 use Rattle.model_enqueue.specs.Table.{EnqueueTable}
 use Rattle.model_enqueue.specs.Ask.{released}
-use Rattle.pi_enqueue.specs.Kept.{IsKept}
 use Rattle.seg_store.specs.Slots.{Stored, has_root, is_free}
 use Rattle.unit_work.specs.declared.change.Change.{Change}
 use Rattle.unit_work.specs.Changes.{AreInOrder, is_changed, is_seen, with_change, with_slot, is_full}
 use Rattle.unit_work.specs.BackOut.{is_touched, was_in, backed_slot, cleared_slot, backed_out, backs}
-use Rattle.change_records.specs.Images.{slots_at, image_at, IsSlotOf}
-use Rattle.program_rows.specs.Open.{HoldsAlone, IsUnit, AreUnits, was_there, IsTouched, AreTouched, AllTouch}
+use Rattle.change_records.specs.Images.{slots_at, image_at}
+use Rattle.program_rows.specs.Open.{HoldsAlone, AreUnits, was_there, IsTouched, AreTouched, AllTouch}
 use Rattle.program_rows.proofs.Slotwise.{back, backed_is, image_at_each}
-use Rattle.program_rows.proofs.Beside.{IsIdle, AreBeside, idle_back, none_touched}
+use Rattle.program_rows.proofs.Beside.{IsIdle, idle_back, none_touched}
 use Rattle.program_rows.proofs.Aside.{ChangesAside, aside_back, slots_there}
 use Rattle.program_rows.proofs.Apart.{free_where}
 use Rattle.program_rows.proofs.Backed.{backed_lengths}

@@ -1,5 +1,5 @@
 -- What units leave of the slots that others have touched, and what is committed of a slot.
-use Rattle.std.proofs.Common.{◌≡◌, ◌≢◌, ℕ, ◌<◌, ◌≤◌, ◌∷◌, [], List, length, suc, refl, sym, ◌∙◌, ap, subst, Bool, true, false, cond, None, arith, get_or, set, inl, inr, ⊎_elim}
+use Rattle.std.proofs.Common.{◌≡◌, ◌≢◌, ℕ, ◌<◌, ◌≤◌, ◌∷◌, [], List, length, suc, refl, sym, ◌∙◌, ap, subst, Bool, true, false, cond, None, arith, get_or, set, ⊎_elim}
 use Rattle.std.specs.List.{AllByRecursion}
 use Rattle.std.proofs.lemmas.Bool.{false≢true, cases_eq, cases_lt}
 use Rattle.std.proofs.lemmas.List.{length-set}
@@ -10,7 +10,7 @@ use Rattle.unit_work.specs.declared.change.Change.{Change}
 use Rattle.unit_work.specs.Changes.{is_before, is_slot, is_seen}
 use Rattle.unit_work.specs.BackOut.{is_touched, backed_out, backs}
 use Rattle.change_records.specs.Images.{slots_at, image_at}
-use Rattle.program_rows.specs.Open.{HoldsAlone, backed_all, IsUnit, AreUnits, was_there, IsTouched, AreTouched, AllTouch}
+use Rattle.program_rows.specs.Open.{HoldsAlone, backed_all, IsUnit, AreUnits, was_there, IsTouched, AllTouch}
 use Rattle.program_rows.proofs.Slotwise.{back}
 use Rattle.program_rows.proofs.Beside.{IsIdle, idle_back, none_touched}
 use Rattle.program_rows.proofs.Backed.{backed_lengths, lengths_all}

@@ -7,7 +7,7 @@ use Rattle.tm_types.specs.declared.abend.AbendCode.{AbendCode}
 use Rattle.tm_types.specs.declared.message.Message.{Message}
 use Rattle.model_conversation.specs.declared.conversation.PadChange.{PadChange}
 use Rattle.model_queues.specs.declared.queued.Queued.{Queued}
-use Rattle.model_queues.specs.Queue.{messages_of, with_message, without, has_id}
+use Rattle.model_queues.specs.Queue.{messages_of, without, has_id}
 use Rattle.model_queues.specs.Queue as queue
 use Rattle.model_queues.specs.Outputs.{with_terminal, without_first, next_of, reply_at, replies_at}
 use Rattle.model_system.specs.System.{System}

@@ -14,7 +14,7 @@ use Rattle.seg_store.specs.Slots.{Stored}
 use Rattle.slot_loading.proofs.Spelled.{RowsOf, rows_spell}
 use Rattle.model_image.specs.Areas.{data_first}
 use Rattle.model_image.specs.Holding.{HoldsBytes, HoldsStores}
-use Rattle.model_image.specs.Slots.{Slot, slots_by, slot_in, named_by, all_slots, slot_fault, rows_of, rows_from, rows_of_bytes, bytes_in, is_image, is_wrong_length, has_wrong_length, has_no_record, rows_in, first_in, fault_of, first_shared}
+use Rattle.model_image.specs.Slots.{Slot, slots_by, slot_in, named_by, all_slots, slot_fault, rows_of, rows_from, rows_of_bytes, bytes_in, is_image, has_wrong_length, has_no_record, rows_in, first_in, fault_of, first_shared}
 use Rattle.model_image.specs.Slots.Source.{Spelled}
 use Rattle.model_image.specs.Recovered.{log_in}
 use Rattle.checkpointing.proofs.Slots.{dbd_found}

@@ -1,5 +1,5 @@
 -- A command leaves a state that breaks no rule.
-use Rattle.std.proofs.Common.{◌≡◌, ℕ, Bool, true, false, not, List, [], refl, Some, None}
+use Rattle.std.proofs.Common.{◌≡◌, ℕ, Bool, true, false, not, List, refl, Some, None}
 use Rattle.std.specs.Prelude.{Option, ◌==◌}
 use Rattle.std.specs.List.{list_all}
 use Rattle.tm_types.specs.declared.command.LastingCommand.{LastingCommand}

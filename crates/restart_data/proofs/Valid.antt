@@ -1,11 +1,11 @@
 -- What is read as a restart sector keeps its rules.
-use Rattle.std.proofs.Common.{◌≡◌, ℕ, ◌<◌, ◌≤◌, Bool, true, false, ◌||◌, List, [], ◌∷◌, refl, subst, arith, Some, None, Ok, zero, suc}
+use Rattle.std.proofs.Common.{◌≡◌, ℕ, ◌<◌, Bool, true, false, ◌||◌, List, [], ◌∷◌, refl, subst, arith, Some, None, Ok, zero, suc}
 use Rattle.std.specs.Prelude.{Option, IfSome, ◌==◌, nat_lt, nat_le, if◌then◌else◌}
-use Rattle.std.proofs.lemmas.Bool.{ltb-false, leb-false, eqb-false}
+use Rattle.std.proofs.lemmas.Bool.{ltb-false, leb-false}
 use Rattle.restart_data.specs.declared.restart.RestartSector.{RestartSector}
 use Rattle.restart_data.specs.Fields.{are_zeros}
 use Rattle.restart_data.specs.Rules.{first_broken, unless_broken}
-use Rattle.restart_data.specs.Restart.{IsCounter, IsRestart, fields_of, other_letters, other_version, other_area, wrong_size, wrong_counter, wrong_counters, stray_bytes, long_text, restart_rules, restart_of}
+use Rattle.restart_data.specs.Restart.{IsCounter, fields_of, other_letters, other_version, other_area, wrong_size, wrong_counter, wrong_counters, stray_bytes, long_text, restart_rules, restart_of}
 use Rattle.restart_data.specs.Images.{IsValid}
 
 kept_left : (a b : Bool) → a || b ≡ false → a ≡ false

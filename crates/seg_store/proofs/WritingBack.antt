@@ -1,5 +1,5 @@
 -- One store after another is written.
-use Rattle.std.proofs.Common.{◌≡◌, ◌⊎◌, ℕ, ◌+◌, ◌<◌, ◌≤◌, zero, suc, List, [], ◌∷◌, ◌++◌, length, get_or, take, drop, refl, sym, ◌∙◌, ap, subst, inl, inr, ⊎_elim, arith, None, Some, eqb, append_assoc, IsTrue}
+use Rattle.std.proofs.Common.{◌≡◌, ◌⊎◌, ℕ, ◌+◌, ◌<◌, ◌≤◌, zero, suc, List, [], ◌∷◌, ◌++◌, length, take, drop, refl, sym, ◌∙◌, ap, subst, inl, inr, ⊎_elim, arith, None, Some, eqb, append_assoc}
 use Rattle.std.specs.Prelude.{Option, Result, Ok, Err, OnOk, map, sum_by, slice_index_or, slice_set, if◌then◌else◌}
 use Rattle.std.specs.List.{slice_get, AllByRecursion}
 use Rattle.std.specs.Option.{option_or, unwrap_or}
@@ -10,7 +10,7 @@ use Rattle.model_rows.specs.Record.{spelling}
 use Rattle.model_disk.specs.Disk.{Image, DiskState, sector_at, Follows, Within}
 use Rattle.model_disk.proofs.Words.{follows_on, follows_more, within_more, within_within}
 use Rattle.seg_store.specs.Slots.{Stored, AreSlots}
-use Rattle.seg_store.specs.Changed.{Kept, AllStores, stored, all_stores}
+use Rattle.seg_store.specs.Changed.{Kept, stored, all_stores}
 use Rattle.seg_store.specs.DataSectors.{data_sector, IsGivenAt, given_at, MayPut, HasPut, bytes_of}
 use Rattle.seg_store.specs.WriteBack.{slot_count, changed_count, bytes_behind, all_bytes, all_written, kept_bytes, kept_slots, kept_count, written_kept}
 

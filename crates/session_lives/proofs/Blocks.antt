@@ -6,7 +6,7 @@ use Rattle.model_session.specs.Blocks.{Block}
 use Rattle.model_session.specs.Lines.{asked_of}
 use Rattle.model_session.specs.declared.asked.Asked.{Asked}
 use Rattle.model_session.specs.declared.asked.Asked.TheVariants.{Bad, BadCommand, Stopped, Call, Quiet, Power, PowerIn, Restart, ColdStart}
-use Rattle.model_session.specs.Standing.{Setting, SessionState, Standing}
+use Rattle.model_session.specs.Standing.{SessionState, Standing}
 use Rattle.model_session.specs.Standing.Standing.{Up, Down}
 use Rattle.model_session.specs.Session.{IsBegunBy}
 use Rattle.tm_control.specs.OnDisk.{ControlOnDisk}

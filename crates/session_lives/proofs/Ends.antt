@@ -1,7 +1,7 @@
 -- How a life goes on, and how it ends.
-use Rattle.std.proofs.Common.{◌≡◌, ◌⊎◌, ℕ, ◌+◌, ◌*◌, ◌-◌, ◌≤◌, ◌<◌, Bool, true, false, List, [], ◌∷◌, ◌++◌, length, map, sym, ◌∙◌, ap, subst, refl, arith, append_assoc, inl, inr}
+use Rattle.std.proofs.Common.{◌≡◌, ◌⊎◌, ℕ, ◌+◌, ◌*◌, ◌-◌, ◌≤◌, Bool, true, false, List, [], ◌∷◌, ◌++◌, length, map, sym, ◌∙◌, ap, subst, refl, arith, inl, inr}
 use Rattle.std.proofs.lemmas.List.{append-nil, length-append}
-use Rattle.std.specs.Prelude.{if◌then◌else◌, Option, Some, None, Ok, vec_len, vec_capacity}
+use Rattle.std.specs.Prelude.{if◌then◌else◌, Option, Some, None, Ok}
 use Rattle.std.specs.Option.{option_map}
 use Rattle.model_disk.specs.Disk.{Image, DiskState, IsSameDisk, Only, Rose}
 use Rattle.model_disk.proofs.Words.{same_on}
@@ -19,15 +19,14 @@ use Rattle.counter_law.specs.Measures.{call_raises, last_measure, lives_measure,
 use Rattle.cold_start.specs.FirstImage.{sectors_needed}
 use Rattle.disk_law.specs.Kept.{RecoversEither}
 use Rattle.model_session.specs.Lives.{LifeState, LastLife, AreLegal, HasAnswered, Leaves, is_disk_fault, longer}
-use Rattle.model_session.specs.Standing.{Setting, Standing, Outage, SessionState, Stop, AreStops, LastAnswered, IsLeft, gone_on, ended, broken}
+use Rattle.model_session.specs.Standing.{Standing, Outage, SessionState, Stop, AreStops, LastAnswered, IsLeft, gone_on, ended, broken}
 use Rattle.model_session.specs.Standing.Standing.{Up as StandsUp, Down as StandsDown}
-use Rattle.tm_control.specs.OnDisk.{ControlOnDisk, Lasts, IsUp, IsDown, LastsBy, lasting_after}
-use Rattle.tm_control.specs.Closed.{Closes}
+use Rattle.tm_control.specs.OnDisk.{ControlOnDisk, LastsBy, lasting_after}
 use Rattle.control_life.specs.declared.life.Life.{Life}
 use Rattle.session_lives.specs.declared.place.Idle.{Idle}
 use Rattle.session_lives.specs.declared.place.Place.TheVariants.{Up, Down}
 use Rattle.session_lives.specs.declared.place.Kept.{Kept}
-use Rattle.session_lives.specs.Running.{life_of, last_of, last_up, kept_of, outage_of, session_at, setting_of, CountsDown, CountsFirst, Recalls, Holds, IsUpReady, IsUpSound, IsDownSound}
+use Rattle.session_lives.specs.Running.{life_of, last_of, last_up, kept_of, outage_of, session_at, setting_of, CountsDown, CountsFirst, Holds, IsDownSound}
 use Rattle.session_lives.specs.Counting.{CountsUp}
 use Rattle.session_lives.specs.Openings.{GoesDown}
 use Rattle.session_lives.proofs.Asked.{disk_fault_is, fault_is}

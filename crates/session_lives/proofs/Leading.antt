@@ -1,5 +1,4 @@
 -- What leads on, whatever disk was handed in.
-use Rattle.std.proofs.Common.{◌≡◌}
 use Rattle.model_disk.specs.Disk.{DiskState}
 use Rattle.model_session.specs.Standing.{Setting, SessionState}
 use Rattle.session_lives.specs.declared.place.Session.{Session}

@@ -7,11 +7,10 @@ use Rattle.model_system.specs.System.{System}
 use Rattle.model_system.specs.Formats.{format_of}
 use Rattle.model_queues.specs.declared.replies.TerminalReplies.{TerminalReplies}
 use Rattle.model_machine.specs.declared.lasting.TerminalState.{TerminalState}
-use Rattle.model_machine.specs.declared.entry.ShowAnswer.{ShowAnswer}
-use Rattle.model_machine.specs.declared.entry.ShowAnswer.TheVariants.{Reply as Showed, Empty, Stopped, Unknown}
+use Rattle.model_machine.specs.declared.entry.ShowAnswer.TheVariants.{Reply as Showed, Empty, Stopped}
 use Rattle.model_machine.specs.Machine.{Moment, terminal_at, output_at}
 use Rattle.model_machine.specs.Steps.{show_by, show_to, show_answer}
-use Rattle.model_session.specs.Text.{show_text, shown_text, first_reply}
+use Rattle.model_session.specs.Text.{show_text, shown_text}
 use Rattle.lasting_state.specs.declared.shown.Shown.TheVariants.{Reply as ShownReply}
 use Rattle.lasting_state.specs.Showing.{IsShownTo, IsShownWhere}
 

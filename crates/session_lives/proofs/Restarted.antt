@@ -2,9 +2,9 @@
 use Rattle.std.proofs.Common.{◌≡◌, ◌⊎◌, ℕ, suc, ◌+◌, ◌*◌, ◌-◌, ◌≤◌, max, Bool, true, false, List, [], ◌∷◌, ◌++◌, map, sym, ◌∙◌, ap, subst, refl, arith, inl, inr, ⊎_elim}
 use Rattle.std.proofs.lemmas.List.{map-append}
 use Rattle.std.proofs.lemmas.Bool.{cases_Bool, eq-eqb}
-use Rattle.std.specs.Prelude.{◌==◌, if◌then◌else◌, Option, Some, None, Result, Ok, Err, IsTrue}
+use Rattle.std.specs.Prelude.{◌==◌, if◌then◌else◌, Option, Some, None, Result, Ok, Err}
 use Rattle.std.specs.Option.{option_map, is_some}
-use Rattle.model_disk.specs.Disk.{Image, DiskState, IsDisk, IsSameDisk, ComesFrom, Within, Only, Rose}
+use Rattle.model_disk.specs.Disk.{Image, DiskState, IsDisk, IsSameDisk, ComesFrom, Within}
 use Rattle.model_disk.proofs.Words.{same_on, stays_is_same, within_each, leaves_none}
 use Rattle.model_system.specs.System.{System}
 use Rattle.model_machine.specs.Machine.{LastingState, empty_state}
@@ -16,9 +16,9 @@ use Rattle.model_session.specs.declared.asked.ImageRefused.{ImageRefused}
 use Rattle.model_session.specs.declared.asked.ImageRefused.TheVariants.{Rule, Text, Size}
 use Rattle.model_session.specs.declared.asked.Asked.{Asked}
 use Rattle.model_session.specs.declared.asked.Asked.TheVariants.{Bad, BadCommand, Stopped, Call, Quiet, Power, PowerIn, Restart, ColdStart}
-use Rattle.model_session.specs.Text.{broken_text, opened_text, image_text, down_text}
+use Rattle.model_session.specs.Text.{broken_text, down_text}
 use Rattle.model_session.specs.Lives.{LifeState, LastLife, AreLegal, Leaves, with_life}
-use Rattle.model_session.specs.Standing.{Setting, Standing, Outage, SessionState, Stop, AreStops, IsEmptied, MayBeFound, MayHold, LastAnswered, IsLeft, or_cold, opened, failed}
+use Rattle.model_session.specs.Standing.{Setting, Outage, SessionState, AreStops, IsEmptied, MayBeFound, LastAnswered, IsLeft, or_cold, opened, failed}
 use Rattle.model_session.specs.Standing.Standing.{Up as StandsUp, Down as StandsDown}
 use Rattle.model_session.proofs.Kept.{kept_has}
 use Rattle.model_session.specs.Session.{MayOpen, MayRefuse, OpensFirst, IsRestarted, Opens as OpensLife, FailsToOpen}
@@ -40,24 +40,21 @@ use Rattle.opening_parts.specs.Parts.{OpeningParts}
 use Rattle.opening_answers.specs.Opening.{TellsOpening, SizeFirst, IsOther, IsSpent}
 use Rattle.disk_law.specs.Journal.{JournalState}
 use Rattle.control_life.specs.Opened.{KeepsBy, Begins, Refuses}
-use Rattle.tm_control.specs.OnDisk.{ControlOnDisk}
-use Rattle.tm_control.specs.Closed.{Opens}
 use Rattle.control_life.specs.declared.life.Life.{Life}
 use Rattle.session_lives.specs.declared.called.Opening.{Opening}
 use Rattle.session_lives.specs.declared.called.Opening.TheVariants.{Opened, Broke as OpeningBroke, Refused, Memory as OpeningMemory, Spent as OpeningSpent}
 use Rattle.session_lives.specs.declared.called.Served.{Served}
 use Rattle.session_lives.specs.declared.called.Served.TheVariants.{Printed, Broke, Undone as NotServed}
-use Rattle.session_lives.specs.declared.called.Undone.TheVariants.{Memory as NoMemory, Spent as NoCounter, Image as BadImage}
 use Rattle.session_lives.specs.declared.place.Idle.{Idle}
 use Rattle.session_lives.specs.declared.place.Place.TheVariants.{Up, Down}
 use Rattle.session_lives.specs.declared.place.Kept.{Kept}
 use Rattle.session_lives.specs.declared.place.Session.{Session}
-use Rattle.session_lives.specs.Running.{life_of, last_of, last_up, kept_of, outage_of, session_at, session_of, session_down, setting_of, CountsDown, CountsFirst, LeadsBy, IsFoundAs, IsBrokenAs, IsRefusedFirst, Recalls, IsUnopened, IsOfDefinition, IsEmptyImage, IsRight, IsOfText, Holds, IsUpSound, IsDownSound, IsSound, IsSoundAt, error_of}
+use Rattle.session_lives.specs.Running.{life_of, last_of, last_up, kept_of, outage_of, session_at, session_of, session_down, setting_of, CountsDown, CountsFirst, LeadsBy, IsBrokenAs, IsRefusedFirst, IsOfDefinition, IsEmptyImage, IsRight, IsOfText, Holds, IsDownSound, IsSound, IsSoundAt, error_of}
 use Rattle.session_lives.specs.Counting.{CountsUp}
 use Rattle.session_lives.proofs.Counting.{stands_more}
 use Rattle.session_lives.proofs.Told.{told_text}
 use Rattle.session_lives.specs.Openings.{how_of, kept_by, with_last, HasOpened, StaysIdle, HasFailed, HasGone, RefusesSpent, IsToldSo, IsRefusalTold, IsRestartedSo, IsLookedAt, CountsOn, UndoneBy, IsServedSo, restart_of}
-use Rattle.session_lives.proofs.Ends.{state_with, same_state, outage_with, life_with, same_life, stops_one, rose_from}
+use Rattle.session_lives.proofs.Ends.{same_state, outage_with, life_with, same_life, stops_one, rose_from}
 
 some_is : (a b : Bool) → Some b ≡ Some a → a ≡ b
 some_is a b e = cc

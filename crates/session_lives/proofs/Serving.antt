@@ -1,40 +1,35 @@
 -- What was asked of a control region that is up, as a block that was served.
-use Rattle.std.proofs.Common.{◌≡◌, ◌⊎◌, ℕ, ◌+◌, ◌*◌, ◌≤◌, ◌<◌, Bool, true, false, List, [], ◌∷◌, ◌++◌, length, map, sym, ◌∙◌, ap, subst, refl, arith, inl, inr}
+use Rattle.std.proofs.Common.{◌≡◌, ℕ, ◌+◌, ◌*◌, ◌≤◌, ◌<◌, Bool, true, false, List, [], ◌∷◌, ◌++◌, length, map, sym, ◌∙◌, ap, subst, refl, arith, inl, inr}
 use Rattle.std.proofs.lemmas.List.{append-nil}
-use Rattle.std.specs.Prelude.{Option, Some, None, vec_len, vec_capacity}
+use Rattle.std.specs.Prelude.{vec_len, vec_capacity}
 use Rattle.model_disk.specs.Disk.{DiskState, IsSameDisk, Only, Rose}
 use Rattle.model_disk.proofs.Words.{same_on}
 use Rattle.model_system.specs.System.{System}
 use Rattle.model_machine.specs.declared.entry.Entry.{Entry}
-use Rattle.model_machine.specs.declared.entry.ControlCall.{ControlCall}
 use Rattle.model_machine.specs.declared.entry.ControlCall.TheVariants.{Turn}
-use Rattle.model_machine.specs.Machine.{LastingState, start_of}
-use Rattle.model_machine.specs.History.{May, AreSteps, IsCall, is_fault, call_of, now_of, moment_after}
+use Rattle.model_machine.specs.Machine.{start_of}
+use Rattle.model_machine.specs.History.{May, AreSteps, IsCall, call_of, now_of, moment_after}
 use Rattle.model_session.specs.declared.asked.Asked.{Asked}
 use Rattle.model_session.specs.declared.asked.Asked.TheVariants.{Bad, BadCommand, Stopped, Call, Quiet, Power as AskedPower, PowerIn, Restart, ColdStart}
 use Rattle.model_session.specs.Text.{entry_text, broken_text, armed_text}
 use Rattle.model_session.specs.Turns.{IsQuieted, IsBrokenOff, quieted_text, region_after}
 use Rattle.model_session.specs.Lives.{AreLegal, now_in}
-use Rattle.model_session.specs.Standing.{Setting, SessionState, AreStops, gone_on, called_on, ended, broken}
+use Rattle.model_session.specs.Standing.{Setting, SessionState, AreStops, gone_on, called_on, broken}
 use Rattle.model_session.specs.Session.{IsServedUp, IsBegunBy}
 use Rattle.tm_control.specs.OnDisk.{ControlOnDisk}
-use Rattle.tm_control.specs.Calls.{IsSameControl, Answered as IsAnswered, AddedNothing}
+use Rattle.tm_control.specs.Calls.{IsSameControl, AddedNothing}
 use Rattle.session_lives.specs.declared.called.Called.{Called}
 use Rattle.session_lives.specs.declared.called.Called.TheVariants.{Answered, Frozen, Power, Broke, Memory, Spent}
 use Rattle.session_lives.specs.declared.called.Served.{Served}
-use Rattle.session_lives.specs.declared.called.Served.TheVariants.{Printed, Broke as ServedBroke, Undone as NotServed}
-use Rattle.session_lives.specs.declared.called.Undone.TheVariants.{Memory as NoMemory, Spent as SpentCounter}
-use Rattle.session_lives.specs.declared.place.Idle.{Idle}
-use Rattle.session_lives.specs.declared.place.Place.TheVariants.{Up, Down}
+use Rattle.session_lives.specs.declared.place.Place.TheVariants.{Up}
 use Rattle.session_lives.specs.declared.place.Kept.{Kept}
 use Rattle.session_lives.specs.declared.place.Session.{Session}
 use Rattle.counter_law.specs.Measures.{call_raises, lives_measure, measure}
 use Rattle.counter_law.specs.Spent.{HasSpent, IsSpentAt}
 use Rattle.session_lives.specs.Counting.{CountsUp, KeepsPace}
 use Rattle.session_lives.specs.Running.{life_of, last_up, session_at, session_of, session_up, setting_of, CountsFirst, IsUpReady, IsUpSound, IsSound, IsSoundAt, IsReadyAt, LeadsBy}
-use Rattle.session_lives.specs.Asking.{IsAsked, IsFrozen, Does, Freezes, Fails, PowersOff, Undoes, IsSpentUp, LooksAtCounters}
+use Rattle.session_lives.specs.Asking.{IsAsked, Does, Freezes, Fails, PowersOff, Undoes, IsSpentUp, LooksAtCounters}
 use Rattle.session_lives.specs.Openings.{GoesOn, HasEndedLife, IsAloneBy, IsSettled, CountsOn, IsServedSo}
-use Rattle.session_lives.proofs.Asked.{stays_so}
 use Rattle.session_lives.proofs.Counting.{counts_more}
 use Rattle.session_lives.proofs.Ends.{up_state, same_up, ended_state, broken_state, down_sound, stop_behind, no_stop}
 

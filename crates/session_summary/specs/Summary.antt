@@ -1,5 +1,5 @@
 -- The summary of a workload.
-use Rattle.std.specs.Prelude.{ℕ, List, [], ◌∷◌, ◌++◌, Option, Some, None, codes, decimal}
+use Rattle.std.specs.Prelude.{ℕ, List, [], ◌++◌, Option, Some, None, codes, decimal}
 use Rattle.session_summary.specs.declared.counts.Counts.{Counts}
 
 -- a word and a number on a line

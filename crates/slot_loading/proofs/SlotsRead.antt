@@ -12,8 +12,7 @@ use Rattle.std.proofs.lemmas.Cmp.{ranked}
 use Rattle.tm_types.specs.declared.dbd.Dbd.{Dbd}
 use Rattle.tm_types.specs.SegTypes.{IsHierarchy}
 use Rattle.model_rows.specs.declared.row.Row.{Row}
-use Rattle.model_rows.specs.Record.{Spells}
-use Rattle.model_image.specs.Slots.{Slot, Source, Named, Spelled, source_of, slots_by, rows_of_bytes, bytes_from, is_image, is_wrong_length, is_no_record, has_wrong_length, has_no_record, rows_in}
+use Rattle.model_image.specs.Slots.{Slot, Source, Named, Spelled, source_of, slots_by, rows_of_bytes, is_image, is_wrong_length, has_wrong_length, has_no_record, rows_in}
 use Rattle.seg_store.specs.Slots.{IsSlot}
 use Rattle.seg_store.proofs.SlotRows.{record_image_root}
 use Rattle.model_disk.specs.Disk.{Image, sector_at}

@@ -1,8 +1,8 @@
 -- An image with a snapshot of the empty state, and zeros in the log areas and the data, recovers to the empty state.
 use Rattle.std.proofs.Common.{◌≡◌, ℕ, zero, suc, ◌+◌, ◌-◌, ◌*◌, ◌<◌, ◌≤◌, Bool, true, false, not, ◌||◌, List, [], ◌∷◌, ◌++◌, length, take, drop, map, refl, sym, ◌∙◌, ap, subst, arith, Some, None, Ok, nat_le, nat_lt}
 use Rattle.std.specs.Prelude.{Option, Result, if◌then◌else◌, filter, find, slice_get}
-use Rattle.std.specs.Option.{option_or, option_map, unwrap_or}
-use Rattle.std.specs.List.{list_all, list_any, AllByRecursion, flat_map}
+use Rattle.std.specs.Option.{option_map, unwrap_or}
+use Rattle.std.specs.List.{list_any, AllByRecursion, flat_map}
 use Rattle.std.specs.Int.{w16, from_be_bytes}
 use Rattle.std.specs.Str.{bytes_eq}
 use Rattle.std.proofs.lemmas.Bool.Decides.{nat_tests}
@@ -25,15 +25,12 @@ use Rattle.restart_data.specs.Restart.{restart_in}
 use Rattle.restart_data.specs.Snapshot.{snapshot_in}
 use Rattle.restart_data.proofs.Zeros.{blank_is, take-zeros, drop-zeros, are_zeros-zeros}
 use Rattle.model_image.specs.Areas.{snapshot_area, snapshot_first, log_first, data_first}
-use Rattle.model_image.specs.Cut.{Cut, cut_of, records_of, IsCutOff}
-use Rattle.model_image.specs.Faults.{Fault, in_sector, unless_any, or_fault, unless_fault}
-use Rattle.model_image.specs.Snapshot.{snapshot_rules}
+use Rattle.model_image.specs.Cut.{Cut, cut_of, IsCutOff}
+use Rattle.model_image.specs.Faults.{Fault, in_sector, unless_fault}
 use Rattle.model_image.specs.Slots.{Slot, Source, source_of, slots_by, slot_in, named_by, is_change_of, all_slots, slot_fault, rows_of, rows_from, rows_of_bytes, rows_by, used_in, bytes_in, is_wrong_length, has_wrong_length, has_no_record, rows_in, have_one_root, first_shared, first_in, is_image}
 use Rattle.model_image.specs.Slots.Source.{Spelled}
 use Rattle.model_image.specs.Recovered.{is_later, snapshot_from, log_in, log_from, state_from, later_sector, state_with, state_by, rest_by, log_rest, Recovers}
 use Rattle.model_image.specs.States.{breaks_a_rule}
-use Rattle.model_image.proofs.Cutting.{records_whole}
-use Rattle.restart_data.specs.Rules.{unless_broken}
 use Rattle.model_image.proofs.Later.{none_later}
 use Rattle.model_image.proofs.Answers.{nothing_cut_off}
 use Rattle.model_image.proofs.Places.{slot_above, slot_below, both_logs, log_above, log_below}

@@ -1,5 +1,5 @@
 -- What holds of the changes of open units.
-use Rattle.std.proofs.Common.{◌≡◌, ℕ, ◌<◌, ◌≤◌, Bool, true, false, ◌&&◌, ◌||◌, List, [], ◌∷◌, ◌++◌, refl, sym, ◌∙◌, ap, subst, arith, nat_le, nat_lt, append-nil, Some, None}
+use Rattle.std.proofs.Common.{◌≡◌, ℕ, ◌≤◌, Bool, true, false, ◌&&◌, ◌||◌, List, [], ◌∷◌, ◌++◌, refl, ◌∙◌, ap, arith, nat_le, nat_lt, append-nil, Some, None}
 use Rattle.std.specs.Prelude.{Option, filter_map}
 use Rattle.std.specs.List.{list_all, list_any, cons_option, AllByRecursion}
 use Rattle.std.proofs.lemmas.Bool.Decides.{nat_tests}

@@ -1,8 +1,8 @@
 -- A snapshot of a state that keeps the rules fits its area.
 use Rattle.std.proofs.Common.{◌≡◌, ℕ, zero, suc, ◌+◌, ◌*◌, ◌/◌, ◌≤◌, ◌<◌, Bool, true, false, not, ◌&&◌, ◌||◌, List, [], ◌∷◌, ◌++◌, length, map, refl, sym, ◌∙◌, ap, arith, Some, None, nat_lt, cond, subst}
-use Rattle.std.specs.Prelude.{Option, All, IfSome, find, slice_get, take, drop, ◌==◌}
+use Rattle.std.specs.Prelude.{Option, All, IfSome, find, take, drop, ◌==◌}
 use Rattle.std.specs.Option.{option_map_or}
-use Rattle.std.specs.List.{list_all, flat_map, AllByRecursion, count_by}
+use Rattle.std.specs.List.{list_all, flat_map, AllByRecursion}
 use Rattle.std.specs.Str.{bytes_eq}
 use Rattle.std.proofs.lemmas.Option.{same_Some, none-some}
 use Rattle.std.proofs.lemmas.List.{length-map}
@@ -23,7 +23,7 @@ use Rattle.log_records.specs.Spelling.{spelling, IsRecord, HasRoom}
 use Rattle.model_image.specs.Areas.{snapshot_area}
 use Rattle.model_image.specs.States.{is_printable, is_conversation, is_pad_of, has_right_pad, wrong_values, wrong_ids, unknown_messages, wrong_replies, over_full, breaks_a_rule, is_next, is_small, is_setting}
 use Rattle.system_types.specs.Valid.{IsSystem, IsPadLength}
-use Rattle.snapshot_records.specs.Records.{terminal_records, code_record, message_record, reply_records, snapshot_records, code_names, IsOfSystem}
+use Rattle.snapshot_records.specs.Records.{terminal_records, code_record, message_record, reply_records, snapshot_records, IsOfSystem}
 use Rattle.count_law.specs.Counted.{IsCounted}
 use Rattle.snapshot_records.specs.Spelled.{HaveRoom, IsWritable}
 use Rattle.snapshot_records.proofs.Sizes.{size, size_both, size_more, front_valid, back_valid, IsShortPad, counts_size, terminals_size, codes_size, messages_size, replies_size}

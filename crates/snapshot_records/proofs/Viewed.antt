@@ -1,7 +1,6 @@
 -- What a life begins with, as a snapshot shows it.
-use Rattle.std.proofs.Common.{◌≡◌, suc, Bool, List, [], ◌∷◌, length, map, refl, ap, arith, None}
+use Rattle.std.proofs.Common.{◌≡◌, Bool, List, [], ◌∷◌, length, map, refl, ap, arith, None}
 use Rattle.tm_types.specs.declared.message.Message.{Message}
-use Rattle.model_queues.specs.declared.queued.Queued.{Queued}
 use Rattle.model_queues.specs.Queue.{messages_of}
 use Rattle.model_machine.specs.declared.lasting.CodeSetting.{CodeSetting}
 use Rattle.model_machine.specs.Machine.{setting_of, states_by}

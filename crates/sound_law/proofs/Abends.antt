@@ -1,5 +1,5 @@
 -- The number of each abend is one from 1 to 4095.
-use Rattle.std.proofs.Common.{◌≡◌, ℕ, zero, suc, ◌≤◌, Bool, true, false, List, [], ◌∷◌, length, refl, sym, ap, ◌∙◌, subst, arith}
+use Rattle.std.proofs.Common.{◌≡◌, ℕ, zero, suc, ◌≤◌, Bool, true, false, List, [], ◌∷◌, length, refl, subst, arith}
 use Rattle.std.specs.Prelude.{Option, Some, None, IfSome, IsSomeAnd, ⊤, slice_get, if◌then◌else◌, nat_le, nat_lt, ◌&&◌, not, cond}
 use Rattle.std.specs.List.{list_all}
 use Rattle.std.specs.Option.{option_and_then, option_map}
@@ -21,12 +21,12 @@ use Rattle.model_script.specs.declared.statement.Statement.{Statement}
 use Rattle.model_script.specs.declared.statement.Statement.TheVariants.{Label, Set, Word, Cut, Pad, Add, Less, If, Goto, Call, Abend, End}
 use Rattle.model_script.specs.Arithmetic.{sum_text, difference_text}
 use Rattle.model_script.specs.Programs.{is_statement}
-use Rattle.model_script.specs.Script.{Executed, ScriptState, GoesOn, Needs, counted, executed_by, need_at, need_of, script_after, script_start, settled, step_by, variable_text}
+use Rattle.model_script.specs.Script.{ScriptState, Needs, counted, executed_by, need_at, need_of, script_after, script_start, settled, step_by, variable_text}
 use Rattle.model_system.specs.Jobs.{Job, job_of}
 use Rattle.model_system.specs.System.{System}
 use Rattle.model_machine.specs.Machine.{LastingState, Slot}
 use Rattle.model_machine.specs.Steps.{AtWork, slot_work, work_by}
-use Rattle.model_machine.specs.Trial.{Advance, Outcome, Reached, Trial, advance, advance_by, call_outcome, called, gone_on, is_sync, outcome_at, reached, trial_need, unless_abend}
+use Rattle.model_machine.specs.Trial.{Outcome, Reached, Trial, advance, advance_by, call_outcome, called, gone_on, is_sync, outcome_at, reached, trial_need, unless_abend}
 use Rattle.model_machine.specs.Trial.Advance.{Stops}
 use Rattle.model_machine.specs.Trial.Reached.{Messages, Rows, Nothing}
 use Rattle.model_machine.specs.Trial.WorkEnd.{Abends, Syncs}

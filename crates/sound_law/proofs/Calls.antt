@@ -1,16 +1,16 @@
 -- Each message call keeps what the work may send within its limits.
-use Rattle.std.proofs.Common.{◌≡◌, ℕ, ◌+◌, ◌*◌, ◌≤◌, nat_le, nat_lt, not, Bool, true, false, ◌&&◌, ◌||◌, List, [], ◌∷◌, ◌++◌, find, length, Option, Some, None, refl, sym, ◌∙◌, ap, subst, arith}
-use Rattle.std.specs.Prelude.{map, sum_by, slice_get, slice_set, if◌then◌else◌, ◌==◌}
+use Rattle.std.proofs.Common.{◌≡◌, ℕ, ◌+◌, ◌*◌, ◌≤◌, nat_le, nat_lt, not, Bool, true, false, ◌&&◌, ◌||◌, List, [], ◌∷◌, ◌++◌, find, Option, Some, None, refl, ◌∙◌, ap, subst, arith}
+use Rattle.std.specs.Prelude.{slice_get, slice_set, if◌then◌else◌, ◌==◌}
 use Rattle.std.specs.List.{list_all, list_any, flat_map}
 use Rattle.std.specs.Option.{option_map_or, option_and_then, option_or, is_some}
 use Rattle.std.specs.Str.{bytes_eq}
 use Rattle.std.proofs.lemmas.Bool.{leb-false, ltb-false}
 use Rattle.std.proofs.lemmas.Bool.Decides.{nat_tests}
 use Rattle.std.proofs.lemmas.List.{length-append}
-use Rattle.std.proofs.lemmas.List.Sums.{sum_by-append, sum_by_push}
+use Rattle.std.proofs.lemmas.List.Sums.{sum_by-append}
 use Rattle.tm_types.specs.declared.function.Function.{Function}
 use Rattle.tm_types.specs.declared.function.Function.TheVariants.{GU, GN, ISRT, PURG, CHNG, ROLB}
-use Rattle.tm_types.specs.declared.status.Status.TheVariants.{Blank, A2, A3, A6, A7, QH}
+use Rattle.tm_types.specs.declared.status.Status.TheVariants.{Blank, A3, A6, A7}
 use Rattle.tm_types.specs.Segment.{segment_length}
 use Rattle.model_system.specs.declared.code.Code.{Code}
 use Rattle.model_system.specs.declared.pcb.Pcb.{Pcb}
@@ -20,10 +20,10 @@ use Rattle.model_system.specs.Lists.{change_at}
 use Rattle.model_system.specs.System.{System}
 use Rattle.model_message.specs.declared.open_pcb.OpenPcb.{OpenPcb}
 use Rattle.model_message.specs.Work.{MessageWork, destination_by, destination_of, ended_by, fresh_pcb, without_message}
-use Rattle.model_message.specs.Calls.{is_blank, destination_at, gives_back, segment_status, with_segment, segment_work, returned_pad, insert_work, purge_status, ended_at, purge_work, switched_to, destination_named, without_blanks, change_by, can_change, change_status, with_chosen, change_work, reset_pcb, reset_work, finish_work, work_by}
+use Rattle.model_message.specs.Calls.{is_blank, destination_at, gives_back, segment_status, with_segment, segment_work, returned_pad, insert_work, purge_status, ended_at, purge_work, switched_to, destination_named, without_blanks, change_status, with_chosen, change_work, reset_pcb, reset_work, finish_work, work_by}
 use Rattle.model_image.specs.States.{is_terminal, is_code}
 use Rattle.replay_law.specs.Steps.{takes_switched}
-use Rattle.replay_law.proofs.Bools.{both, first_of, second_of, not_false, same_bytes, bytes_same}
+use Rattle.replay_law.proofs.Bools.{both, same_bytes, bytes_same}
 use Rattle.replay_law.proofs.Lists.{all_more, found_is_one}
 use Rattle.sound_law.specs.Sending.{is_receiver, sends_well, is_short, is_well, ended_bytes, sent_bytes, open_count, open_segments, is_sent_well, SendsWithin}
 use Rattle.sound_law.proofs.Changes.{all_changed, all_mapped, all_both, passes_at, sum_set, sum_same, sum_more, sum_mapped_zero}

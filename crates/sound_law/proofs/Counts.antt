@@ -1,5 +1,5 @@
 -- Each message that a unit sends has 1 to 32 segments.
-use Rattle.std.proofs.Common.{◌≡◌, ℕ, zero, suc, ◌+◌, ◌≤◌, Bool, true, false, not, ◌&&◌, List, [], ◌∷◌, ◌++◌, Option, Some, None, length, map, refl, sym, ◌∙◌, ap, subst, arith}
+use Rattle.std.proofs.Common.{◌≡◌, ℕ, zero, suc, ◌+◌, ◌≤◌, Bool, true, false, not, ◌&&◌, List, [], ◌∷◌, ◌++◌, Option, Some, None, length, map, refl, arith}
 use Rattle.std.specs.Prelude.{if◌then◌else◌, nat_le, nat_lt, slice_get, slice_set}
 use Rattle.std.specs.List.{AllByRecursion, flat_map}
 use Rattle.std.specs.Option.{is_some, option_map_or}
@@ -18,7 +18,7 @@ use Rattle.model_system.specs.System.{System}
 use Rattle.model_message.specs.declared.ended_message.EndedMessage.{EndedMessage}
 use Rattle.model_message.specs.declared.open_pcb.OpenPcb.{OpenPcb}
 use Rattle.model_message.specs.Work.{MessageWork, destination_of, ended_by, ended_to, fresh_pcb, without_message}
-use Rattle.model_message.specs.Calls.{change_status, change_work, destination_at, destination_named, ended_at, finish_work, gives_back, insert_work, is_blank, next_work, purge_status, purge_work, reset_pcb, returned_pad, segment_status, segment_work, texts_of, with_chosen, with_segment, without_blanks, work_by}
+use Rattle.model_message.specs.Calls.{change_status, change_work, destination_at, destination_named, ended_at, gives_back, insert_work, is_blank, next_work, purge_status, purge_work, reset_pcb, returned_pad, segment_status, segment_work, texts_of, with_chosen, with_segment, without_blanks, work_by}
 use Rattle.model_machine.specs.Trial.{Given, Trial, outputs_of, trial_of}
 use Rattle.sound_law.proofs.Trials.{IsJob, trial_has}
 

@@ -1,8 +1,8 @@
 -- The job of a code of a system keeps the limits of all codes, and its PCBs send to receivers.
-use Rattle.std.proofs.Common.{◌≡◌, ◌+◌, ◌⊎◌, inl, inr, ℕ, ◌≤◌, Bool, true, false, ◌||◌, List, [], ◌∷◌, find, position, Option, Some, None, IsSome, IfSome, All, refl, sym, ◌∙◌, ap, subst, arith}
+use Rattle.std.proofs.Common.{◌≡◌, ◌+◌, ◌⊎◌, inl, inr, ℕ, Bool, true, false, ◌||◌, List, [], ◌∷◌, find, position, Option, Some, None, IsSome, IfSome, All, refl, subst, arith}
 use Rattle.std.specs.Prelude.{if◌then◌else◌, ◌==◌}
 use Rattle.std.specs.List.{list_all, list_any, position_from}
-use Rattle.std.specs.Option.{is_some, option_map, option_map_or, option_and_then}
+use Rattle.std.specs.Option.{option_map, option_map_or, option_and_then}
 use Rattle.std.specs.Str.{bytes_eq}
 use Rattle.std.proofs.lemmas.Bool.Decides.{nat_tests}
 use Rattle.std.proofs.lemmas.Iterator.Adapters.{position_from-zero}
@@ -19,7 +19,7 @@ use Rattle.system_types.specs.Definitions.{IsTransaction}
 use Rattle.system_types.specs.Valid.{IsKnownTo, IsSentTo, IsSystem}
 use Rattle.replay_law.specs.Steps.{takes_switched}
 use Rattle.replay_law.proofs.Bools.{both}
-use Rattle.sound_law.specs.Sending.{is_receiver, sends_well}
+use Rattle.sound_law.specs.Sending.{sends_well}
 use Rattle.sound_law.proofs.Trials.{IsJob}
 
 -- what holds of all holds of what is found

@@ -1,15 +1,14 @@
 -- Only the work on a message of a conversation changes a pad.
-use Rattle.std.proofs.Common.{◌≡◌, ℕ, ◌+◌, Bool, true, false, ◌&&◌, List, [], ◌∷◌, ◌++◌, Option, Some, None, IsSome, refl, sym, ◌∙◌, ap, subst}
+use Rattle.std.proofs.Common.{◌≡◌, ℕ, ◌+◌, Bool, true, false, ◌&&◌, List, ◌++◌, Option, Some, None, refl, sym, ◌∙◌, ap}
 use Rattle.std.specs.Prelude.{if◌then◌else◌, ◌==◌, nat_lt, not, length}
-use Rattle.std.specs.Option.{is_some, option_map}
+use Rattle.std.specs.Option.{is_some}
 use Rattle.tm_types.specs.declared.function.Function.{Function}
 use Rattle.tm_types.specs.declared.function.Function.TheVariants.{GU, GN, ISRT, PURG, CHNG, ROLB}
 use Rattle.model_conversation.specs.declared.conversation.Conversation.{Conversation}
 use Rattle.model_conversation.specs.declared.conversation.PadChange.{PadChange}
 use Rattle.model_conversation.specs.declared.conversation.PadChange.TheVariants.{Stays, New, Ends}
-use Rattle.model_conversation.specs.Pads.{ends, fitted, pad_change_by}
+use Rattle.model_conversation.specs.Pads.{pad_change_by}
 use Rattle.model_rows.specs.declared.row.Row.{Row}
-use Rattle.model_script.specs.declared.need.CallText.{CallText}
 use Rattle.model_system.specs.Jobs.{Job}
 use Rattle.model_system.specs.Lists.{change_at}
 use Rattle.model_system.specs.System.{System}

@@ -1,9 +1,8 @@
 -- An input that is new was refused for nothing.
-use Rattle.std.proofs.Common.{◌≡◌, ℕ, ◌+◌, ◌≤◌, nat_le, nat_lt, Bool, true, false, List, [], ◌∷◌, length, Option, Some, None, Result, Ok, Err, refl, sym, ◌∙◌, ap, subst, arith}
+use Rattle.std.proofs.Common.{◌≡◌, ℕ, ◌+◌, ◌≤◌, nat_le, nat_lt, Bool, true, false, List, length, Option, Some, None, Result, Ok, Err, refl, arith}
 use Rattle.std.specs.Prelude.{if◌then◌else◌}
 use Rattle.std.specs.Option.{is_some, option_and_then, option_map_or, option_or, unwrap_or}
 use Rattle.std.proofs.lemmas.Bool.{ltb-false}
-use Rattle.std.proofs.lemmas.Bool.Decides.{nat_tests}
 use Rattle.tm_types.specs.Segment.{counted_bytes}
 use Rattle.model_conversation.specs.declared.conversation.Conversation.{Conversation}
 use Rattle.model_conversation.specs.Input.{busy_id}
@@ -19,9 +18,8 @@ use Rattle.model_machine.specs.declared.entry.Taken.{Taken}
 use Rattle.model_machine.specs.declared.entry.Taken.TheVariants.{New, Already}
 use Rattle.model_machine.specs.declared.lasting.TerminalState.{TerminalState}
 use Rattle.model_machine.specs.Lasting.{KeptInput, LastingStep, kept_input}
-use Rattle.model_machine.specs.Lasting.LastingStep.{Accepts}
 use Rattle.model_machine.specs.Commands.{state_now}
-use Rattle.model_machine.specs.Machine.{LastingState, Moment, busy_slots, content, terminal_at}
+use Rattle.model_machine.specs.Machine.{Moment, busy_slots, content, terminal_at}
 use Rattle.model_machine.specs.Steps.{Refusal, accepts, busy_by, busy_conversation, by_count, by_number, by_room, first_of, input_answer, many_segments, most_segments, no_room, refusals, stopped_code, stopped_terminal, unknown_code, unknown_terminal, wrong_number}
 
 -- no refusal says that an input is new

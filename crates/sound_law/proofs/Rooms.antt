@@ -1,32 +1,18 @@
 -- Each step of the machine keeps its room.
-use Rattle.std.proofs.Common.{◌≡◌, ℕ, zero, suc, ◌+◌, ◌-◌, ◌*◌, ◌≤◌, nat_le, nat_lt, not, Bool, true, false, ◌&&◌, ◌||◌, List, [], ◌∷◌, length, find, Option, Some, None, Result, Ok, Err, IsSome, refl, sym, ◌∙◌, ap, subst, arith}
-use Rattle.std.specs.Prelude.{if◌then◌else◌, max, slice_get, slice_set, ◌==◌, sum_by}
-use Rattle.std.specs.List.{list_all}
-use Rattle.std.specs.Option.{is_some, option_and_then, option_map_or, unwrap_or}
-use Rattle.std.proofs.lemmas.Bool.{ltb-false}
-use Rattle.std.proofs.lemmas.Bool.Decides.{nat_tests}
+use Rattle.std.proofs.Common.{◌≡◌, ℕ, ◌+◌, ◌*◌, ◌≤◌, List, Option, Some, None, refl, arith}
 use Rattle.std.proofs.lemmas.List.Sums.{sum_by_push}
 use Rattle.tm_types.specs.declared.abend.AbendCode.{AbendCode}
 use Rattle.tm_types.specs.declared.command.LastingCommand.{LastingCommand}
 use Rattle.tm_types.specs.declared.command.LastingCommand.TheVariants.{StartTransaction, StopTransaction, StartTerminal, StopTerminal, DequeueFirst, DequeueAll, Exit}
 use Rattle.tm_types.specs.declared.message.Message.{Message}
 use Rattle.model_conversation.specs.declared.conversation.PadChange.{PadChange}
-use Rattle.model_enqueue.specs.declared.request.Request.{Request}
-use Rattle.model_enqueue.specs.declared.victim.Victim.{Victim}
 use Rattle.model_rows.specs.declared.row.Row.{Row}
-use Rattle.model_system.specs.declared.code.Code.{Code}
-use Rattle.model_system.specs.declared.code_state.CodeState.{CodeState}
-use Rattle.model_system.specs.Jobs.{Job, job_of}
 use Rattle.model_system.specs.System.{System}
-use Rattle.model_queues.specs.Room.{input_needs, message_bytes, slot_needs, slot_room}
-use Rattle.model_queues.specs.Waiting.{first_waiting}
+use Rattle.model_queues.specs.Room.{input_needs, message_bytes, slot_room}
 use Rattle.model_message.specs.declared.ended_message.EndedMessage.{EndedMessage}
-use Rattle.model_machine.specs.declared.entry.Turned.{Turned}
-use Rattle.model_machine.specs.Lasting.{LastingStep, abend_outputs, accepted, applied, changed, finished, finished_by, input_message, kept_input, with_pad_by}
+use Rattle.model_machine.specs.Lasting.{abend_outputs, applied, finished_by, input_message, kept_input, with_pad_by}
 use Rattle.model_machine.specs.Lasting.LastingStep.{Accepts, Acknowledges, Completes, Discards, Commands}
-use Rattle.model_machine.specs.Machine.{LastingState, Moment, Slot, busy_slots, content, is_held, message_at}
-use Rattle.model_machine.specs.Steps.{need_now, no_room}
-use Rattle.sound_law.specs.Rooms.{HasRoom}
+use Rattle.model_machine.specs.Machine.{LastingState, Moment, busy_slots, content, message_at}
 use Rattle.sound_law.specs.Sending.{sent_bytes}
 use Rattle.sound_law.proofs.Contents.{acknowledged_bytes, dequeued_bytes, finished_content}
 use Rattle.sound_law.proofs.Refused.{IsNew, has_room}

@@ -1,5 +1,5 @@
 -- Each call of the machine leaves it sound.
-use Rattle.std.proofs.Common.{◌≡◌, ℕ, ◌+◌, ◌-◌, ◌≤◌, nat_le, Bool, true, false, not, ◌&&◌, ◌||◌, List, [], ◌∷◌, map, find, Option, Some, None, Result, Ok, Err, IsSome, All, refl, sym, ◌∙◌, ap, subst, arith}
+use Rattle.std.proofs.Common.{◌≡◌, ℕ, ◌+◌, ◌-◌, nat_le, Bool, true, false, ◌||◌, List, [], ◌∷◌, map, find, Option, Some, None, Result, Ok, Err, IsSome, All, refl, sym, ◌∙◌, ap, subst, arith}
 use Rattle.std.specs.Prelude.{if◌then◌else◌, ◌==◌}
 use Rattle.std.specs.List.{list_all, list_any}
 use Rattle.std.specs.Option.{is_some, option_and_then, option_map, option_map_or}
@@ -26,38 +26,38 @@ use Rattle.model_system.specs.Codes.{code_at}
 use Rattle.model_system.specs.System.{System}
 use Rattle.model_message.specs.declared.ended_message.EndedMessage.{EndedMessage}
 use Rattle.model_rows.specs.declared.row.Row.{Row}
-use Rattle.model_image.specs.States.{has_right_pad, is_code, is_conversation, is_terminal}
+use Rattle.model_image.specs.States.{has_right_pad, is_conversation, is_terminal}
 use Rattle.model_machine.specs.declared.entry.Acked.{Acked}
 use Rattle.model_machine.specs.declared.entry.Acked.TheVariants.{Removed, Already as AckAlready}
 use Rattle.model_machine.specs.declared.entry.AckRefused.{AckRefused}
 use Rattle.model_machine.specs.declared.entry.ControlCall.{ControlCall}
 use Rattle.model_machine.specs.declared.entry.ControlCall.TheVariants.{Input, Receive, Acknowledge, Turn, Command as CommandCall, Checkpoint as CheckpointCall}
 use Rattle.model_machine.specs.declared.entry.InputRefused.{InputRefused}
-use Rattle.model_machine.specs.declared.entry.InputRefused.TheVariants.{Terminal as NoTerminal, Code as NoCode, Conversation as Conversing}
+use Rattle.model_machine.specs.declared.entry.InputRefused.TheVariants.{Terminal as NoTerminal, Code as NoCode}
 use Rattle.model_machine.specs.declared.entry.Taken.{Taken}
 use Rattle.model_machine.specs.declared.entry.Taken.TheVariants.{New as IsNewInput, Already}
 use Rattle.model_machine.specs.declared.lasting.TerminalState.{TerminalState}
 use Rattle.model_machine.specs.declared.entry.CommandRefused.TheVariants.{UnknownName}
 use Rattle.model_machine.specs.Commands.{CommandAnswer, command_answer, command_step, exited, steps_by}
 use Rattle.model_machine.specs.History.{AreVictims}
-use Rattle.model_machine.specs.Lasting.{LastingStep, KeptInput, abend_outputs, abend_text, all_sent, applied, discarded_pad, finished, finished_by, kept_input, padded, replied, sent, switched, with_pad_by, with_text}
-use Rattle.model_machine.specs.Lasting.LastingStep.{Accepts, Acknowledges, Completes, Discards, Commands}
+use Rattle.model_machine.specs.Lasting.{LastingStep, KeptInput, abend_outputs, abend_text, all_sent, applied, discarded_pad, finished_by, kept_input, padded, replied, sent, switched, with_pad_by, with_text}
+use Rattle.model_machine.specs.Lasting.LastingStep.{Accepts, Commands}
 use Rattle.model_machine.specs.Machine.{LastingState, Moment, Slot, message_at, output_at, slot_at, terminal_at}
 use Rattle.model_machine.specs.Requests.{blocked_now}
-use Rattle.model_machine.specs.Steps.{AtWork, After, Refusal, accepts, ack_answer, acknowledges, busy_by, ended_step, ending_step, input_answer, slot_work, step_in_turn, turn_step, unless_blocked}
+use Rattle.model_machine.specs.Steps.{AtWork, After, Refusal, accepts, ack_answer, acknowledges, busy_by, ended_step, input_answer, slot_work, step_in_turn, turn_step, unless_blocked}
 use Rattle.model_machine.specs.Trial.{Advance, Trial, outputs_of, pad_of}
 use Rattle.model_machine.specs.Trial.Advance.{Goes, Stops}
 use Rattle.model_machine.specs.Trial.WorkEnd.{Ends as ScriptEnds, Syncs, Abends}
 use Rattle.system_types.specs.Valid.{IsPadLength, IsSystem}
-use Rattle.replay_law.specs.Steps.{EndsNoneWaiting, HasPads, IsFree, PadFits, has_receiver, has_room, takes_switched}
+use Rattle.replay_law.specs.Steps.{EndsNoneWaiting, IsFree, PadFits, has_receiver, has_room, takes_switched}
 use Rattle.replay_law.proofs.Accepted.{accepted_stands}
-use Rattle.replay_law.proofs.Bools.{both, first_of, second_of}
+use Rattle.replay_law.proofs.Bools.{both}
 use Rattle.replay_law.proofs.Commanded.{commanded_stands}
 use Rattle.replay_law.proofs.Conversing.{itself_changed}
 use Rattle.replay_law.proofs.Kept.{Stands, acknowledged_stands, finished_stands}
 use Rattle.replay_law.proofs.Lists.{all_imply, found_passes}
 use Rattle.sound_law.specs.Rooms.{StaysSound}
-use Rattle.sound_law.specs.Sending.{is_receiver, is_sent_well}
+use Rattle.sound_law.specs.Sending.{is_sent_well}
 use Rattle.sound_law.proofs.Pads.{Changes}
 use Rattle.sound_law.proofs.Refused.{IsNew, is_new}
 use Rattle.sound_law.proofs.Turns.{call_fits}

@@ -1,8 +1,8 @@
 -- Every trial of a message keeps within what its unit may send.
-use Rattle.std.proofs.Common.{◌≡◌, ℕ, zero, suc, ◌+◌, ◌*◌, ◌≤◌, Bool, true, false, ◌&&◌, List, [], ◌∷◌, Option, Some, None, refl, sym, ◌∙◌, ap, subst, arith}
+use Rattle.std.proofs.Common.{◌≡◌, ℕ, zero, suc, ◌≤◌, Bool, true, false, List, [], ◌∷◌, Option, Some, None, refl, subst, arith}
 use Rattle.std.specs.Prelude.{map, if◌then◌else◌}
 use Rattle.std.specs.List.{list_all}
-use Rattle.std.specs.Option.{option_and_then, option_map_or}
+use Rattle.std.specs.Option.{option_and_then}
 use Rattle.std.proofs.lemmas.List.Sums.{sum_by-cons}
 use Rattle.tm_types.specs.declared.abend.AbendCode.{AbendCode}
 use Rattle.model_rows.specs.declared.row.Row.{Row}
@@ -14,10 +14,9 @@ use Rattle.model_system.specs.declared.pcb.Pcb.TheVariants.{Destination}
 use Rattle.model_system.specs.Jobs.{Job}
 use Rattle.model_system.specs.System.{System}
 use Rattle.model_dli.specs.Data.{Data}
-use Rattle.model_message.specs.declared.open_pcb.OpenPcb.{OpenPcb}
 use Rattle.model_message.specs.Work.{MessageWork, fresh_pcb}
 use Rattle.model_message.specs.Calls.{message_work}
-use Rattle.model_machine.specs.Trial.{Advance, Given, Outcome, Reached, Trial, WorkEnd, advance, advance_by, call_outcome, called, gone, gone_on, is_sync, outcome_at, outputs_of, reached, trial_need, trial_of, trial_start, unless_abend}
+use Rattle.model_machine.specs.Trial.{Advance, Given, Outcome, Reached, Trial, advance, advance_by, call_outcome, called, gone, gone_on, is_sync, outcome_at, outputs_of, reached, trial_need, trial_of, trial_start, unless_abend}
 use Rattle.model_machine.specs.Trial.Advance.{Goes, Stops}
 use Rattle.model_machine.specs.Trial.WorkEnd.{Syncs}
 use Rattle.model_machine.specs.Trial.Reached.{Messages, Rows, Nothing}

@@ -1,15 +1,15 @@
 -- Each call of the machine keeps its room.
-use Rattle.std.proofs.Common.{◌≡◌, ℕ, ◌+◌, ◌-◌, ◌*◌, ◌≤◌, nat_le, nat_lt, not, Bool, true, false, ◌&&◌, List, [], ◌∷◌, Option, Some, None, Result, Ok, Err, refl, sym, ◌∙◌, ap, subst, arith}
-use Rattle.std.specs.Prelude.{if◌then◌else◌, slice_get, slice_set}
-use Rattle.std.specs.Option.{is_some, option_and_then, option_map_or, unwrap_or}
-use Rattle.std.proofs.lemmas.Bool.{leb-false, ltb-false}
+use Rattle.std.proofs.Common.{◌≡◌, ℕ, ◌+◌, ◌-◌, ◌*◌, ◌≤◌, nat_le, nat_lt, Bool, true, false, ◌&&◌, List, [], ◌∷◌, Option, Some, None, Result, Ok, Err, refl, sym, ◌∙◌, ap, subst, arith}
+use Rattle.std.specs.Prelude.{if◌then◌else◌, slice_set}
+use Rattle.std.specs.Option.{option_and_then, option_map_or}
+use Rattle.std.proofs.lemmas.Bool.{ltb-false}
 use Rattle.std.proofs.lemmas.Bool.Decides.{nat_tests}
 use Rattle.tm_types.specs.declared.abend.AbendCode.{AbendCode}
 use Rattle.model_enqueue.specs.declared.request.Request.{Request}
 use Rattle.model_enqueue.specs.declared.victim.Victim.{Victim}
 use Rattle.model_system.specs.declared.code.Code.{Code}
 use Rattle.model_system.specs.declared.code_state.CodeState.{CodeState}
-use Rattle.model_system.specs.Codes.{code_at, code_place}
+use Rattle.model_system.specs.Codes.{code_at}
 use Rattle.model_system.specs.System.{System}
 use Rattle.model_queues.specs.Room.{slot_room}
 use Rattle.model_queues.specs.Waiting.{first_waiting}
@@ -21,23 +21,22 @@ use Rattle.model_machine.specs.declared.entry.ControlCall.TheVariants.{Input, Re
 use Rattle.model_machine.specs.declared.entry.InputRefused.{InputRefused}
 use Rattle.model_machine.specs.declared.entry.Taken.{Taken}
 use Rattle.model_machine.specs.declared.entry.Taken.TheVariants.{New, Already}
-use Rattle.model_machine.specs.declared.entry.Turned.{Turned}
 use Rattle.model_machine.specs.declared.entry.Turned.TheVariants.{Idle, Held, Scheduled}
 use Rattle.tm_types.specs.declared.command.LastingCommand.{LastingCommand}
 use Rattle.model_machine.specs.Commands.{CommandAnswer, command_answer, lasting_command, state_now, steps_by}
 use Rattle.model_machine.specs.History.{AreVictims}
 use Rattle.model_machine.specs.Lasting.{LastingStep, KeptInput, applied, kept_input}
 use Rattle.model_machine.specs.Lasting.LastingStep.{Accepts}
-use Rattle.model_machine.specs.Machine.{LastingState, Moment, Slot, busy_slots, content, is_held, slot_at, states_of}
+use Rattle.model_machine.specs.Machine.{LastingState, Moment, Slot, busy_slots, content, is_held, slot_at}
 use Rattle.model_machine.specs.Pick.{Candidate}
 use Rattle.model_machine.specs.Requests.{blocked_now, BreaksAt, BreaksWhere, asked_table, changes_now, without_victims}
-use Rattle.model_machine.specs.Steps.{AtWork, After, accepts, acknowledges, ack_answer, blocked_answer, ended_step, ending_step, input_answer, lasting_after, lasting_step, may_go_on, need_now, next_among, next_message, pick_now, schedule_answer, slot_after, slot_answer, slot_work, slots_after, step_in_turn, sync_answer, turn_answer, turn_by, turn_step, unless_blocked, work_answer}
-use Rattle.model_machine.specs.Trial.{Advance, Trial, WorkEnd}
+use Rattle.model_machine.specs.Steps.{AtWork, After, accepts, acknowledges, ack_answer, blocked_answer, ended_step, ending_step, input_answer, may_go_on, need_now, next_among, next_message, pick_now, schedule_answer, slot_after, slot_answer, slot_work, step_in_turn, sync_answer, turn_by, turn_step, unless_blocked, work_answer}
+use Rattle.model_machine.specs.Trial.{Advance, Trial}
 use Rattle.model_machine.specs.Trial.Advance.{Goes, Stops}
 use Rattle.model_machine.specs.Trial.WorkEnd.{Ends, Syncs, Abends}
 use Rattle.system_types.specs.Valid.{IsSystem}
 use Rattle.sound_law.specs.Rooms.{HasRoom, StaysSound}
-use Rattle.sound_law.proofs.Refused.{IsNew, is_new}
+use Rattle.sound_law.proofs.Refused.{is_new}
 use Rattle.sound_law.proofs.Rooms.{accepted_room, acknowledged_content, commanded_content, completed_content, discarded_content}
 use Rattle.sound_law.proofs.Slots.{fewer_slots, freed_slots, kept_slots, more_slots, victims_slots}
 use Rattle.sound_law.proofs.Works.{SendsWell, abend_fits, work_sends}

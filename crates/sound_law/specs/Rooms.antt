@@ -1,5 +1,5 @@
 -- A machine that stays sound: what it leaves breaks no rule of a state, but that its counts may rise too far.
-use Rattle.std.specs.Prelude.{ℕ, ◌+◌, ◌*◌, ◌≤◌}
+use Rattle.std.specs.Prelude.{◌+◌, ◌*◌, ◌≤◌}
 use Rattle.model_system.specs.System.{System}
 use Rattle.model_queues.specs.Room.{slot_room}
 use Rattle.model_machine.specs.Machine.{Moment, content, busy_slots}

@@ -1,11 +1,10 @@
 -- A lasting step on a disk: what a crash within its force leaves, and what is there once it is done.
-use Rattle.std.proofs.Common.{◌≡◌, ◌⊎◌, inl, inr, ⊎_elim, arith, Ok}
+use Rattle.std.proofs.Common.{◌⊎◌, inl, ⊎_elim, arith}
 use Rattle.model_disk.specs.Disk.{Image, DiskState, IsDisk, ComesFrom, Follows, Within}
-use Rattle.model_machine.specs.Machine.{LastingState}
 use Rattle.log_writer.specs.Log.{AddsFront, AddsAll}
 use Rattle.disk_law.specs.Life.{LifeOnDisk, IsLife}
-use Rattle.disk_law.specs.Kept.{IsKept, AreKept, RecoversEither}
-use Rattle.disk_law.proofs.Front.{recovers, front_recovers}
+use Rattle.disk_law.specs.Kept.{AreKept, RecoversEither}
+use Rattle.disk_law.proofs.Front.{recovers}
 use Rattle.step_law.specs.Steps.{StepOnDisk, with_records, after_step, IsStep}
 use Rattle.step_law.proofs.Stepping.{step_front, step_kept}
 

@@ -1,7 +1,7 @@
 -- The destination of each PCB is a terminal or a code.
-use Rattle.std.proofs.Common.{ℕ, ◌≡◌, ◌+◌, ◌⊎◌, inl, inr, ◌&&◌, ◌||◌, cond, not, Bool, true, false, List, [], ◌∷◌, find, position, Option, Some, None, IfSome, IsSome, IsTrue, All, refl, sym, subst}
+use Rattle.std.proofs.Common.{ℕ, ◌≡◌, ◌+◌, ◌⊎◌, inl, inr, ◌||◌, cond, not, Bool, true, false, List, [], ◌∷◌, position, Option, Some, None, IfSome, IsSome, IsTrue, All, refl, sym, subst}
 use Rattle.std.specs.Str.{bytes_eq}
-use Rattle.std.specs.List.{list_any, position_from}
+use Rattle.std.specs.List.{position_from}
 use Rattle.std.proofs.lemmas.Bool.{false≢true}
 use Rattle.std.proofs.lemmas.Iterator.Adapters.{position_from-zero}
 use Rattle.std.proofs.lemmas.List.Elements.{All-head, All-tail}

@@ -11,7 +11,7 @@ use Rattle.text_rows.specs.Lowest.{also, both}
 use Rattle.text_rows.specs.Numbers.{is_number, number_between, number_of}
 use Rattle.text_rows.specs.Operands.{needed, only, or_as, read_or, values}
 use Rattle.system_types.specs.declared.definition.Macro.{Macro}
-use Rattle.system_types.specs.Definitions.{IsInRange, IsTransaction, is_application, is_control, is_end, may_stand}
+use Rattle.system_types.specs.Definitions.{IsInRange, is_application, is_control, is_end, may_stand}
 use Rattle.sysdef_rows.specs.declared.kinds.Kind.{Kind}
 use Rattle.sysdef_rows.specs.declared.kinds.Kind.TheVariants.{Control, Database, Segment, Application, Pcb, Transaction, Terminal, Region, End}
 use Rattle.sysdef_rows.specs.declared.pcbs.PcbForm.{PcbForm}

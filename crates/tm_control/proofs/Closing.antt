@@ -1,6 +1,6 @@
 -- The end of a life.
-use Rattle.std.proofs.Common.{◌≡◌, ◌+◌, ◌-◌, ◌≤◌, ℕ, Bool, true, false, List, [], ◌∷◌, ◌++◌, refl, sym, ◌∙◌, ap, subst, arith}
-use Rattle.std.specs.Prelude.{Option, Some, None, Result, Ok, Err}
+use Rattle.std.proofs.Common.{◌≡◌, ◌+◌, ◌-◌, ◌≤◌, ℕ, Bool, true, false, List, refl, sym, ◌∙◌, ap, arith}
+use Rattle.std.specs.Prelude.{Some, None, Result, Ok, Err}
 use Rattle.model_disk.specs.Disk.{DiskState}
 use Rattle.model_system.specs.System.{System}
 use Rattle.model_machine.specs.declared.entry.Acked.{Acked as AckAnswer}
@@ -25,7 +25,7 @@ use Rattle.deadlock_pick.specs.Broken.{HasNoCycles}
 use Rattle.logged_machine.specs.Logged.{LoggedState}
 use Rattle.control_life.specs.Faults.{fault_in}
 use Rattle.tm_control.specs.OnDisk.{lasting_after}
-use Rattle.tm_control.specs.Inside.{IsServed, IsBroken, HoldsBy}
+use Rattle.tm_control.specs.Inside.{HoldsBy}
 use Rattle.tm_control.proofs.Rings.{no_ring}
 
 -- ---- an entry with a fault

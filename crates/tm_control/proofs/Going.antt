@@ -1,5 +1,5 @@
 -- A call of a control region, by what it leaves of its machine.
-use Rattle.std.proofs.Common.{◌≡◌, ◌≤◌, ◌⊎◌, ◌+◌, ◌*◌, ℕ, Bool, true, false, List, [], ◌∷◌, ◌++◌, refl, sym, ◌∙◌, ap, subst, arith}
+use Rattle.std.proofs.Common.{◌≡◌, ◌≤◌, ◌+◌, ◌*◌, ℕ, Bool, true, false, List, [], ◌∷◌, ◌++◌, refl, sym, ◌∙◌, ap, subst, arith}
 use Rattle.std.specs.Prelude.{Option, Some, None, Result, Ok, Err, IfErr, if◌then◌else◌}
 use Rattle.std.specs.Option.{option_map_or}
 use Rattle.model_disk.specs.Disk.{Image, DiskState, IsDisk}
@@ -23,15 +23,15 @@ use Rattle.checkpointing.specs.Texts.{HasText}
 use Rattle.checkpointing.proofs.Counted.{up_to_more}
 use Rattle.disk_law.specs.Journal.{JournalState}
 use Rattle.logged_machine.specs.Logged.{LoggedState, LastsNow}
-use Rattle.logged_machine.specs.Goes.{Keeps, WentOn, Failed, GoesBy, CrashesBy}
+use Rattle.logged_machine.specs.Goes.{Keeps, Failed, GoesBy, CrashesBy}
 use Rattle.control_life.specs.Faults.{fault_in}
-use Rattle.tm_control.specs.OnDisk.{ControlOnDisk, IsUp, IsDown, Lasts, LastsBy, lasting_after}
+use Rattle.tm_control.specs.OnDisk.{ControlOnDisk, IsDown, Lasts, LastsBy, lasting_after}
 use Rattle.model_machine.specs.declared.entry.ControlCall.{ControlCall}
 use Rattle.tm_machine.specs.Parts.{PartsState}
 use Rattle.logged_machine.specs.Frugal.{IsFrugal}
 use Rattle.logged_machine.specs.Taken.{StaysUntaken}
 use Rattle.tm_control.specs.Calls.{StaysSo, CountsSince, StaysUndone, StaysUntaken as Untaken, AddsBy, CrashesSo, CrashesAlone, is_noted, noted, parts_now}
-use Rattle.tm_control.specs.Inside.{IsServed, IsBroken, Holds, HoldsBy, last_checked}
+use Rattle.tm_control.specs.Inside.{IsServed, Holds, HoldsBy, last_checked}
 use Rattle.tm_control.proofs.Numbers.{ascend_more, last_more, Numbers, Next, next_number, fault_ascends}
 
 -- a control region by its parts

@@ -1,14 +1,12 @@
 -- No ring of waiting regions stands after any call.
-use Rattle.std.proofs.Common.{◌≡◌, ℕ, Bool, true, false, List, [], ◌∷◌, refl, sym, ap, ◌∙◌, subst}
+use Rattle.std.proofs.Common.{◌≡◌, ℕ, Bool, true, false, List, [], ◌∷◌, refl, sym, ap, subst}
 use Rattle.std.specs.Prelude.{Option, Some, None, if◌then◌else◌, map, nat_lt}
-use Rattle.std.specs.List.{AllByRecursion}
 use Rattle.std.specs.Option.{option_map_or}
 use Rattle.model_dli.specs.declared.need.Need.{Need as RootNeed}
 use Rattle.model_dli.specs.Data.{Data}
 use Rattle.model_enqueue.specs.declared.request.Request.{Request}
 use Rattle.model_enqueue.specs.declared.victim.Victim.{Victim}
 use Rattle.model_enqueue.specs.Table.{EnqueueTable, empty_table}
-use Rattle.model_enqueue.specs.Ask.{after_asks}
 use Rattle.model_enqueue.specs.Cycle.{after_victims}
 use Rattle.model_script.specs.declared.need.CallText.{CallText}
 use Rattle.model_script.specs.declared.need.Need.{Need}
@@ -20,7 +18,7 @@ use Rattle.model_machine.specs.declared.entry.ControlCall.TheVariants.{Input, Re
 use Rattle.model_machine.specs.declared.entry.Entry.{Entry}
 use Rattle.model_machine.specs.declared.entry.Turned.{Turned}
 use Rattle.model_machine.specs.declared.entry.Turned.TheVariants.{Scheduled, Called, Next, QC, Done, Abended, Idle, Held, Waits, Backed}
-use Rattle.model_machine.specs.Trial.{Reached, Trial, WorkEnd, Advance, reached, trial_need}
+use Rattle.model_machine.specs.Trial.{Reached, Trial, Advance, reached, trial_need}
 use Rattle.model_machine.specs.Trial.Reached.{Messages, Rows, Nothing}
 use Rattle.model_machine.specs.Trial.WorkEnd.{Ends, Syncs, Abends}
 use Rattle.model_machine.specs.Trial.Advance.{Goes, Stops}
@@ -29,7 +27,7 @@ use Rattle.model_machine.specs.Lasting.{applied}
 use Rattle.model_machine.specs.Pick.{Candidate}
 use Rattle.model_machine.specs.Work.{slot_trial}
 use Rattle.model_machine.specs.Requests.{BreaksAt, BreaksWhere, blocked_now, changes_now, request_for, requests_at, requests_by, requests_of, requests_on, slot_requests, table_after, table_by}
-use Rattle.model_machine.specs.Steps.{AtWork, blocked_answer, ending_step, enqueues_after, need_now, next_message, pick_now, schedule_answer, slot_answer, slot_work, sync_answer, turn_answer, turn_by, work_answer}
+use Rattle.model_machine.specs.Steps.{AtWork, blocked_answer, ending_step, enqueues_after, need_now, next_message, pick_now, schedule_answer, slot_answer, slot_work, sync_answer, turn_by, work_answer}
 use Rattle.model_machine.specs.History.{AreSteps, AreVictims, after_entry, call_of, moment_after, victims_in}
 use Rattle.pi_enqueue.proofs.Asking.{AreOf}
 use Rattle.deadlock_pick.specs.Broken.{HasNoCycles}

@@ -1,5 +1,5 @@
 -- What a command that lasts leaves of the parts.
-use Rattle.std.proofs.Common.{◌≡◌, ℕ, zero, suc, ◌+◌, Bool, true, false, not, ◌&&◌, List, [], ◌∷◌, map, length, refl, sym, ap, ◌∙◌, subst, arith}
+use Rattle.std.proofs.Common.{◌≡◌, ℕ, zero, suc, ◌+◌, Bool, true, false, not, ◌&&◌, List, [], ◌∷◌, map, length, refl, sym, ap, ◌∙◌, subst}
 use Rattle.std.specs.Prelude.{Option, Some, None, IfSome, find, cond, if◌then◌else◌, nat_lt, slice_get, slice_set, position}
 use Rattle.std.specs.List.{AllByRecursion, prefix_len}
 use Rattle.std.specs.Option.{option_map, option_map_or}
@@ -18,9 +18,7 @@ use Rattle.model_system.specs.declared.code_state.CodeState.{CodeState}
 use Rattle.model_system.specs.Lists.{change_at}
 use Rattle.model_system.specs.System.{System}
 use Rattle.system_types.specs.Codes.{is_state_of}
-use Rattle.model_machine.specs.declared.lasting.CodeSetting.{CodeSetting}
-use Rattle.model_machine.specs.declared.lasting.TerminalState.{TerminalState}
-use Rattle.model_machine.specs.Machine.{Moment, moment_with, raised_now, setting_of, setting_place, terminal_place}
+use Rattle.model_machine.specs.Machine.{Moment, moment_with, setting_of, setting_place, terminal_place}
 use Rattle.model_machine.specs.Lasting.{applied, conversing, stopped_code, stopped_terminal}
 use Rattle.model_machine.specs.Lasting.LastingStep.{Commands}
 use Rattle.model_machine.specs.Trial.{Given}

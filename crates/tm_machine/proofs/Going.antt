@@ -1,6 +1,6 @@
 -- What a turn of a region that is at work comes to.
 use Rattle.std.proofs.Common.{◌≡◌, ℕ, ◌+◌, ◌-◌, ◌≤◌, List, [], refl, sym, ap, ◌∙◌, subst}
-use Rattle.std.specs.Prelude.{Option, Some, None, IsSomeAnd, Result, Ok, Err, IfOk, IfErr, IfSome, OnOk, OnErr, slice_get, slice_set}
+use Rattle.std.specs.Prelude.{Option, Some, None, IsSomeAnd, Result, Ok, Err, IfOk, IfSome, OnOk, OnErr, slice_get, slice_set}
 use Rattle.tm_types.specs.declared.message.Message.{Message}
 use Rattle.model_queues.specs.Queue.{message_at, free_count}
 use Rattle.model_system.specs.declared.code_state.CodeState.{CodeState}

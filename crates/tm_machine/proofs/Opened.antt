@@ -1,7 +1,7 @@
 -- A control region that goes on with what lasts.
-use Rattle.std.proofs.Common.{◌≡◌, ℕ, zero, suc, ◌+◌, ◌-◌, ◌<◌, ◌≤◌, Bool, true, false, not, List, [], ◌∷◌, ◌++◌, map, take, drop, length, replicate, refl, sym, ap, ◌∙◌, subst, arith, ◌&&◌, ◌||◌}
-use Rattle.std.specs.Prelude.{Option, Some, None, IfSome, IsSomeAnd, All, find, slice_get, if◌then◌else◌, ◌==◌, nat_lt}
-use Rattle.std.specs.Option.{is_some, option_map_or}
+use Rattle.std.proofs.Common.{◌≡◌, ℕ, zero, suc, ◌+◌, ◌-◌, ◌≤◌, Bool, true, false, not, List, [], ◌∷◌, map, take, drop, length, replicate, refl, sym, ap, ◌∙◌, subst, arith, ◌&&◌, ◌||◌}
+use Rattle.std.specs.Prelude.{Option, Some, None, IfSome, IsSomeAnd, slice_get, if◌then◌else◌, ◌==◌, nat_lt}
+use Rattle.std.specs.Option.{option_map_or}
 use Rattle.std.specs.List.{AllByRecursion, list_all, list_any}
 use Rattle.std.specs.Str.{bytes_eq}
 use Rattle.std.proofs.lemmas.Bool.{false≢true, and_parts, eqb-true, ltb-true}
@@ -16,14 +16,12 @@ use Rattle.model_conversation.specs.Pads.{code_field}
 use Rattle.model_conversation.specs.Terminals.{conversation_at}
 use Rattle.model_conversation.specs.Input.{is_conversing}
 use Rattle.model_queues.specs.Queue.{IsNewId, free_count, messages_of}
-use Rattle.model_queues.specs.declared.queued.Queued.{Queued}
 use Rattle.model_system.specs.declared.code.Code.{Code}
-use Rattle.model_system.specs.declared.code_state.CodeState.{CodeState}
 use Rattle.model_system.specs.Codes.{code_at}
 use Rattle.model_system.specs.System.{System}
 use Rattle.model_machine.specs.declared.lasting.CodeSetting.{CodeSetting}
 use Rattle.model_machine.specs.declared.lasting.TerminalState.{TerminalState}
-use Rattle.model_machine.specs.Machine.{LastingState, Moment, Slot, is_held, raised_now, states_by, start_of, waiting_now}
+use Rattle.model_machine.specs.Machine.{LastingState, Slot, is_held, raised_now, states_by, start_of, waiting_now}
 use Rattle.model_machine.proofs.Flags.{now_twice, now_same}
 use Rattle.model_enqueue.specs.Table.{empty_table, wait_of}
 use Rattle.model_image.specs.States.{ascend_below, are_alone, breaks_a_rule, has_right_pad, is_conversation, is_known, is_of_conversation, is_terminal, is_code, is_pad_of, has_no_pad, is_next, is_small, is_setting, wrong_ids, wrong_values, unknown_messages, wrong_replies, over_full}
@@ -34,7 +32,7 @@ use Rattle.program_rows.specs.State.{DatabasesState, AreRowsOf, clean_region, co
 use Rattle.lasting_state.specs.Tables.{TablesState, lasting_of}
 use Rattle.step_changes.proofs.Abended.{both, name_prints}
 use Rattle.region_work.specs.declared.region.Busy.{Busy}
-use Rattle.tm_machine.specs.Parts.{slot_of, slots_of, settings_of, flags_of, IsTold, AreAlone, AreApart, AreConversations, AreParts, IsConversation, IsOfConversation}
+use Rattle.tm_machine.specs.Parts.{slot_of, slots_of, settings_of, flags_of, IsTold, AreAlone, AreApart, AreParts, IsConversation, IsOfConversation}
 use Rattle.tm_machine.proofs.Joining.{field_is, blanks_print}
 use Rattle.tm_machine.proofs.Linked.{free_count_is}
 use Rattle.tm_machine.proofs.Started.{none_busy, none_slots, none_length, rows_length, below_none, clean_first}

@@ -1,8 +1,7 @@
 -- The flags of the codes that moved follow.
-use Rattle.std.proofs.Common.{◌≡◌, ℕ, ◌+◌, ◌<◌, false, List, [], ◌∷◌, length, drop, get_or, sym, ap, ◌∙◌, refl}
+use Rattle.std.proofs.Common.{◌≡◌, ℕ, false, List, [], ◌∷◌, length, sym, ap, ◌∙◌, refl}
 use Rattle.std.specs.List.{list_any}
 use Rattle.std.specs.Str.{bytes_eq}
-use Rattle.std.proofs.lemmas.List.{drop_more}
 use Rattle.model_queues.specs.Queue.{QueuesState, free_count}
 use Rattle.model_message.specs.declared.ended_message.EndedMessage.{EndedMessage}
 use Rattle.model_system.specs.declared.code.Code.{Code}

@@ -1,6 +1,5 @@
 -- Parts whose slots count as changed or not.
-use Rattle.std.proofs.Common.{◌≡◌, ℕ, ◌+◌, suc, List, [], Option, Some, None, map}
-use Rattle.std.specs.List.{slice_get}
+use Rattle.std.proofs.Common.{ℕ, ◌+◌, List, [], Option, Some, None, map}
 use Rattle.model_conversation.specs.declared.conversation.TerminalConversation.{TerminalConversation}
 use Rattle.model_queues.specs.declared.queued.Queued.{Queued}
 use Rattle.model_system.specs.declared.code_state.CodeState.{CodeState}
@@ -12,8 +11,8 @@ use Rattle.message_run.specs.Ahead.{IsAhead}
 use Rattle.program_rows.specs.State.{DatabasesState, IsClean, settled, with_marks}
 use Rattle.lasting_state.specs.Tables.{TablesState}
 use Rattle.region_work.specs.declared.region.Busy.{Busy}
-use Rattle.region_work.specs.Region.{IsUnit, IsWork, given_in}
-use Rattle.tm_machine.specs.Parts.{AreParts, AreAtWork, AreIdle, IsAtWork}
+use Rattle.region_work.specs.Region.{IsUnit, given_in}
+use Rattle.tm_machine.specs.Parts.{AreParts, AreAtWork, AreIdle}
 
 clean_marked : (changed : List (List ℕ)) (region : ℕ) (d : DatabasesState) → IsClean region d → IsClean region (with_marks changed d)
 clean_marked changed region d clean = record { sees = clean.sees; changed = clean.changed }

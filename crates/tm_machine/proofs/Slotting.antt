@@ -1,5 +1,5 @@
 -- What a turn tells, and what it does to slots.
-use Rattle.std.proofs.Common.{◌≡◌, ◌⊎◌, inl, inr, ⊎_elim, ℕ, ◌+◌, ◌-◌, ◌<◌, ◌≤◌, ◌++◌, ◌∷◌, [], List, length, length-append, suc, refl, sym, ap, ◌∙◌, subst, arith, Bool, false}
+use Rattle.std.proofs.Common.{◌≡◌, ℕ, ◌+◌, ◌-◌, ◌<◌, ◌≤◌, ◌++◌, ◌∷◌, [], List, length, length-append, suc, refl, sym, ap, ◌∙◌, subst, arith}
 use Rattle.std.specs.Prelude.{Option, Some, None, IsSome, IsSomeAnd, IfOk, Result, Ok, Err, slice_get, slice_set}
 use Rattle.std.specs.List.{AllByRecursion, flat_map}
 use Rattle.std.specs.Option.{option_map_or}
@@ -10,7 +10,7 @@ use Rattle.tm_types.specs.declared.resource.Resource.{Resource}
 use Rattle.system_types.specs.Valid.{IsDatabase}
 use Rattle.model_queues.specs.Queue.{message_at}
 use Rattle.model_system.specs.declared.code_state.CodeState.{CodeState}
-use Rattle.model_system.specs.Jobs.{Job, job_of}
+use Rattle.model_system.specs.Jobs.{job_of}
 use Rattle.model_system.specs.System.{System}
 use Rattle.model_enqueue.specs.declared.victim.Victim.{Victim}
 use Rattle.model_machine.specs.declared.entry.ControlCall.TheVariants.{Turn}
@@ -25,17 +25,16 @@ use Rattle.program_rows.specs.State.{DatabasesState}
 use Rattle.program_rows.specs.Telling.{spelled, Tells as RowsTell}
 use Rattle.program_rows.specs.OnSlots.{SlotsState, slots_in, GivesUpSo, HaveSlots, AreOnSlots}
 use Rattle.message_run.proofs.Calls.{all_at}
-use Rattle.message_run.specs.Telling.{next_told, TellsNext}
+use Rattle.message_run.specs.Telling.{next_told}
 use Rattle.lasting_state.specs.Tables.{TablesState, lasting_of}
 use Rattle.region_work.specs.declared.region.Busy.{Busy}
 use Rattle.region_work.specs.Region.{given_in, HasNext, NextTells, calls_made}
 use Rattle.tm_machine.specs.Parts.{PartsState, slots_of, settings_of, flags_of, AreDatabases, AreParts}
 use Rattle.tm_machine.specs.OnSlots.{slots_now, GiveUpSo, VictimsGiveUp, slot_told, changes_told, turn_records, TellByCall, TurnTells, IsTurnLonger, TurnsSo, HasSlots}
-use Rattle.tm_machine.specs.Told.{bytes_of, records_of, ends_work, IsLonger, Tells}
-use Rattle.tm_machine.specs.Turns.{IsTurned, waited}
+use Rattle.tm_machine.specs.Told.{bytes_of, records_of, IsLonger, Tells}
+use Rattle.tm_machine.specs.Turns.{waited}
 use Rattle.tm_machine.specs.Victims.{all_gave_way, gave_way}
 use Rattle.tm_machine.proofs.Stepped.{moment_at, slot_is, trial_is}
-use Rattle.tm_machine.proofs.Telling.{quiet_tells}
 
 -- ---- the next call of a region
 module _ (system : System) (tables : TablesState) (states : List CodeState) (regions : List (Option Busy)) (region : ℕ) (parts : AreParts system tables states regions) where

@@ -1,12 +1,11 @@
 -- What a call tells is what its answer says.
-use Rattle.std.proofs.Common.{◌≡◌, ℕ, ◌-◌, ◌<◌, ◌≤◌, Bool, true, false, List, [], ◌∷◌, ◌++◌, length, refl, sym, ap, ◌∙◌, subst, arith}
-use Rattle.std.specs.Prelude.{Option, Some, None, Result, Ok, Err, if◌then◌else◌, nat_lt, slice_get}
+use Rattle.std.proofs.Common.{◌≡◌, ℕ, ◌-◌, ◌<◌, ◌≤◌, true, false, List, [], ◌++◌, length, refl, sym, ap, ◌∙◌, subst, arith}
+use Rattle.std.specs.Prelude.{Option, Some, None, Result, Ok, Err}
 use Rattle.std.specs.List.{flat_map, AllByRecursion}
 use Rattle.std.specs.Option.{option_map_or, option_and_then}
 use Rattle.std.proofs.lemmas.List.{append-nil}
 use Rattle.model_enqueue.specs.declared.request.Request.{Request}
 use Rattle.model_enqueue.specs.declared.victim.Victim.{Victim}
-use Rattle.model_system.specs.declared.code_state.CodeState.{CodeState}
 use Rattle.model_system.specs.System.{System}
 use Rattle.model_machine.specs.declared.entry.ControlCall.{ControlCall}
 use Rattle.model_machine.specs.declared.entry.ControlCall.TheVariants.{Input, Turn}
@@ -16,7 +15,7 @@ use Rattle.model_machine.specs.declared.entry.Taken.TheVariants.{New as NewInput
 use Rattle.model_machine.specs.declared.entry.InputRefused.{InputRefused}
 use Rattle.model_machine.specs.declared.entry.InputRefused.TheVariants.{Terminal, StoppedTerminal, StoppedCode, Expected, Conversation, Code, SegmentsOver, QueueFull, Fault}
 use Rattle.model_machine.specs.declared.entry.Turned.{Turned}
-use Rattle.model_machine.specs.declared.entry.Turned.TheVariants.{Next, QC, Done, Abended, Idle}
+use Rattle.model_machine.specs.declared.entry.Turned.TheVariants.{Idle}
 use Rattle.model_machine.specs.Trial.{Advance, Trial}
 use Rattle.model_machine.specs.Trial.WorkEnd.{Ends, Syncs, Abends}
 use Rattle.model_machine.specs.Trial.Advance.{Goes, Stops}
@@ -25,7 +24,7 @@ use Rattle.model_machine.specs.declared.lasting.CodeSetting.{CodeSetting}
 use Rattle.model_machine.specs.Lasting.{LastingStep, applied}
 use Rattle.model_machine.specs.Lasting.LastingStep.{Accepts}
 use Rattle.model_machine.specs.Requests.{blocked_now}
-use Rattle.model_machine.specs.Steps.{AtWork, accepts, blocked_answer, ended_step, ending_step, input_answer, lasting_step, next_message, slot_answer, slot_work, step_in_turn, sync_answer, turn_answer, turn_by, turn_step, unless_blocked, work_answer}
+use Rattle.model_machine.specs.Steps.{AtWork, accepts, blocked_answer, ended_step, ending_step, input_answer, lasting_step, next_message, slot_answer, slot_work, step_in_turn, sync_answer, turn_by, turn_step, unless_blocked, work_answer}
 use Rattle.model_machine.specs.Lasting.{KeptInput, kept_input}
 use Rattle.model_machine.specs.History.{is_fault}
 use Rattle.model_conversation.specs.declared.conversation.Conversation.{Conversation as PadConversation}

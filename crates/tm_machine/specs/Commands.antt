@@ -2,7 +2,7 @@
 use Rattle.std.specs.Prelude.{◌≡◌, ⊤, ℕ, ◌<◌, ◌≤◌, Bool, true, false, None, List, ◌++◌, length, position}
 use Rattle.std.specs.List.{AllByRecursion}
 use Rattle.tm_types.specs.declared.command.LastingCommand.{LastingCommand}
-use Rattle.tm_types.specs.declared.command.LastingCommand.TheVariants.{StartTransaction, StopTransaction, StartTerminal, StopTerminal, DequeueFirst, DequeueAll, Exit}
+use Rattle.tm_types.specs.declared.command.LastingCommand.TheVariants.{StartTransaction, StopTransaction, Exit}
 use Rattle.model_conversation.specs.Input.{busy_id}
 use Rattle.model_system.specs.declared.code_state.CodeState.{CodeState}
 use Rattle.model_system.specs.Lists.{change_at}

@@ -1,5 +1,5 @@
 -- The commands of an operator that last, and how each is spelled.
-use Rattle.std.specs.Prelude.{◌≡◌, ℕ, ◌==◌, if◌then◌else◌, Option, None, Some, List, [], ◌++◌, codes}
+use Rattle.std.specs.Prelude.{◌≡◌, ℕ, if◌then◌else◌, Option, None, Some, List, ◌++◌, codes}
 use Rattle.std.specs.Str.{bytes_eq}
 use Rattle.tm_types.specs.Name.{IsName, is_name}
 use Rattle.tm_types.specs.Words.{first_word, operands}

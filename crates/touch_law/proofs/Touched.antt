@@ -1,8 +1,8 @@
 -- The slots that open units touched are changes of a snapshot, and there is room for them.
-use Rattle.std.proofs.Common.{◌≡◌, ◌⊎◌, inl, inr, ⊎_elim, ℕ, zero, suc, ◌+◌, ◌-◌, ◌*◌, ◌≤◌, ◌<◌, Bool, true, false, ◌&&◌, ◌||◌, List, [], ◌∷◌, ◌++◌, length, map, refl, sym, ◌∙◌, ap, subst, arith, Some, None, nat_lt, cond}
+use Rattle.std.proofs.Common.{◌≡◌, ◌⊎◌, ⊎_elim, ℕ, ◌+◌, ◌-◌, ◌*◌, ◌≤◌, ◌<◌, Bool, true, false, ◌&&◌, ◌||◌, List, [], ◌∷◌, ◌++◌, length, map, refl, sym, ◌∙◌, ap, subst, arith, Some, None, nat_lt}
 use Rattle.std.specs.Prelude.{Option, ◌==◌, sum_by, slice_get, slice_index_or, if◌then◌else◌}
 use Rattle.std.specs.Option.{option_map_or, is_some, option_map}
-use Rattle.std.specs.List.{list_all, flat_map, AllByRecursion}
+use Rattle.std.specs.List.{list_all, AllByRecursion}
 use Rattle.std.proofs.lemmas.Bool.Decides.{nat_tests}
 use Rattle.std.proofs.lemmas.List.Sums.{sum_by-cons}
 use Rattle.std.proofs.lemmas.Option.{slice_get_within, slice_get-map}
@@ -14,14 +14,14 @@ use Rattle.model_system.specs.System.{System}
 use Rattle.log_records.specs.declared.record.Record.{Record}
 use Rattle.log_records.specs.Spelling.{record_length}
 use Rattle.log_records.specs.declared.record.Record.TheVariants as record_of
-use Rattle.seg_store.specs.Slots.{Stored, AreSlots, IsSlot, image_root}
+use Rattle.seg_store.specs.Slots.{Stored, IsSlot, image_root}
 use Rattle.unit_work.specs.declared.change.Change.{Change}
 use Rattle.slot_loading.proofs.Spelled.{spells_rows, no_bytes}
-use Rattle.model_image.specs.Slots.{rows_of_bytes, is_image, are_images, dbd_at, is_image_of}
+use Rattle.model_image.specs.Slots.{is_image, are_images, dbd_at, is_image_of}
 use Rattle.model_image.specs.Snapshot.{is_before, ascend}
 use Rattle.snapshot_records.specs.declared.touches.OpenUnit.{OpenUnit}
 use Rattle.snapshot_records.specs.Changes.{IsChange, AreChanges}
-use Rattle.snapshot_records.specs.Touches.{image_in, touch_record, touch_records, changes_of, HasOneSector, IsSpelled, AreSpelled, AreAllSpelled, IsTouched, IsSlotBefore, SlotsAscend, records_in, AreTouched, UnitsAscend, AreOpen}
+use Rattle.snapshot_records.specs.Touches.{image_in, touch_record, touch_records, changes_of, HasOneSector, IsSpelled, AreAllSpelled, IsTouched, IsSlotBefore, SlotsAscend, records_in, AreTouched, UnitsAscend, AreOpen}
 use Rattle.snapshot_records.proofs.Present.{one_sector, slot_at}
 use Rattle.snapshot_records.proofs.Sizes.{size, size_both, size_more, change_size}
 

@@ -1,9 +1,9 @@
 -- The slots that count as changed once one of them is set, and once a unit is backed out.
 use Rattle.std.proofs.Common.{◌≡◌, ◌≢◌, ℕ, ◌-◌, ◌<◌, ◌≤◌, ◌++◌, ◌∷◌, [], List, length, zero, suc, refl, sym, ◌∙◌, ap, subst, Bool, true, false, cond, Option, None, Some, arith, get_or, set, ltb, eqb, ◌||◌, ◌&&◌, ◌⊎◌, inl, inr, ⊎_elim}
 use Rattle.std.specs.Prelude.{IsTrue}
-use Rattle.std.specs.List.{AllByRecursion, slice_get, list_any}
+use Rattle.std.specs.List.{slice_get, list_any}
 use Rattle.std.specs.Option.{option_map_or}
-use Rattle.std.proofs.lemmas.Bool.{false≢true, eqb-true, ne_eqb, eq-eqb, cases_eq}
+use Rattle.std.proofs.lemmas.Bool.{false≢true, eqb-true, eq-eqb, cases_eq}
 use Rattle.std.proofs.lemmas.List.Folds.{list_any_at}
 use Rattle.std.proofs.lemmas.Option.{slice_get-get_or, slice_get_within}
 use Rattle.model_rows.specs.declared.row.Row.{Row}
@@ -11,8 +11,8 @@ use Rattle.seg_store.specs.Slots.{Stored, has_root, is_free, slot_of, with_root}
 use Rattle.seg_store.specs.Changed.{Kept, AllStores, stored, with_number, with_changed}
 use Rattle.seg_store.specs.Stores.{IsStoreOf, with_store}
 use Rattle.seg_store.proofs.Places.{place_passes}
-use Rattle.seg_store.proofs.SlotRows.{root_there, root_absent, set_itself}
-use Rattle.change_records.specs.Images.{slots_at, image_at}
+use Rattle.seg_store.proofs.SlotRows.{root_there, root_absent}
+use Rattle.change_records.specs.Images.{image_at}
 use Rattle.change_records.specs.Marks.{is_marked, AreMarked}
 use Rattle.unit_work.specs.declared.change.Change.{Change}
 use Rattle.unit_work.specs.BackOut.{is_touched, was_in, backs}

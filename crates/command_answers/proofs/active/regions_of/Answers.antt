@@ -1,4 +1,4 @@
-use Rattle.std.proofs.Common.{◌≡◌, ◌+◌, ◌<◌, ◌++◌, List, length, drop, ap, ◌∙◌, arith}
+use Rattle.std.proofs.Common.{◌+◌, ◌<◌, ◌++◌, List, length, drop, ap, ◌∙◌, arith}
 use Rattle.model_command.specs.declared.active.ActiveRegion.{ActiveRegion}
 use Rattle.model_machine.specs.Commands.{active_from}
 use Rattle.command_answers.proofs.Regions.{active_more}

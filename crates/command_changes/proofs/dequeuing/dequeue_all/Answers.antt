@@ -1,5 +1,5 @@
-use Rattle.std.proofs.Common.{◌≤◌, ◌<◌, subst, sym, arith}
-use Rattle.command_changes.proofs.Dequeued.{all_gone, all_removed, kept_at}
+use Rattle.std.proofs.Common.{◌<◌, subst, arith}
+use Rattle.command_changes.proofs.Dequeued.{all_gone, all_removed}
 use Rattle.command_changes.proofs.dequeuing.dequeue_all.Goals as goal
 
 pub loop-removed-preserved : goal.loop-removed-preserved

@@ -1,4 +1,4 @@
-use Rattle.std.proofs.Common.{ℕ, ◌+◌, ◌*◌, refl, arith}
+use Rattle.std.proofs.Common.{◌+◌, ◌*◌, refl, arith}
 use Rattle.log_rest.proofs.CutOff.{decided, decided_not}
 use Rattle.log_rest.proofs.rest.is_cut_behind.Goals as goal
 

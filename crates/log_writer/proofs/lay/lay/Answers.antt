@@ -1,9 +1,9 @@
-use Rattle.std.proofs.Common.{◌≡◌, ℕ, ◌+◌, ◌<◌, ◌≤◌, List, length, refl, sym, ◌∙◌, ap, subst, arith, IsTrue}
+use Rattle.std.proofs.Common.{◌≡◌, ℕ, ◌+◌, List, length, refl, sym, ◌∙◌, ap, subst, arith, IsTrue}
 use Rattle.model_disk.specs.Disk.{HasWritten}
 use Rattle.model_disk.proofs.Words.{stays_on}
 use Rattle.log_sectors.specs.Sealed.{sealed}
 use Rattle.log_sectors.proofs.Links.{at_ok}
-use Rattle.log_writer.specs.Log.{sectors_of, pieces, piece, Lays, HasLaid}
+use Rattle.log_writer.specs.Log.{sectors_of, pieces, piece}
 use Rattle.log_writer.proofs.Laying.{has_laid_step}
 use Rattle.log_writer.proofs.Calls.{lays_follows, lays_within}
 use Rattle.log_writer.proofs.lay.lay.Goals as goal

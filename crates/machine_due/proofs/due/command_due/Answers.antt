@@ -1,4 +1,4 @@
-use Rattle.std.proofs.Common.{◌≡◌, ℕ, ◌+◌, List, sym, ◌∙◌, ap, subst}
+use Rattle.std.proofs.Common.{ℕ, ◌+◌, List, sym, ◌∙◌, ap, subst}
 use Rattle.model_system.specs.System.{System}
 use Rattle.log_writer.specs.Writer.{Writer}
 use Rattle.restart_data.specs.declared.restart.RestartSector.{RestartSector}
@@ -8,7 +8,6 @@ use Rattle.journal.specs.Checkpoints.{CanCheckpoint, parts_for}
 use Rattle.program_rows.specs.OnSlots.{all_stores, slots_in}
 use Rattle.program_rows.specs.State.{DatabasesState}
 use Rattle.tm_machine.specs.OnSlots.{slots_now}
-use Rattle.tm_machine.specs.Parts.{PartsState}
 use Rattle.machine_checkpoint.specs.Taking.{IsSnapshot}
 use Rattle.machine_due.specs.Due.{WroteTold}
 use Rattle.model_machine.specs.declared.entry.ControlCall.TheVariants.{Command}

@@ -1,5 +1,4 @@
 use Rattle.std.proofs.Common.{subst}
-use Rattle.std.proofs.Common.{◌++◌}
 use Rattle.log_records.proofs.Takes.{IsBytes}
 use Rattle.machine_telling.proofs.Appending.{appends, all_both, on_ok}
 use Rattle.machine_telling.proofs.telling.tell_turn.Goals as goal

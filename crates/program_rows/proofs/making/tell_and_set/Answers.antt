@@ -1,11 +1,7 @@
-use Rattle.std.proofs.Common.{List, subst}
-use Rattle.std.specs.Prelude.{IfErr, OnOk}
-use Rattle.log_records.specs.declared.record.Record.{Record}
 use Rattle.log_records.specs.declared.record.Record.TheVariants as told
 use Rattle.seg_store.specs.Changed.{stored}
-use Rattle.program_rows.specs.Telling.{Tells, IsUntold}
 use Rattle.program_rows.proofs.Setting.{is_stored}
-use Rattle.program_rows.proofs.Placing.{slot_within, short_before, short_after, told_is, told_back}
+use Rattle.program_rows.proofs.Placing.{slot_within, short_before, short_after}
 use Rattle.program_rows.proofs.making.tell_and_set.Goals as goal
 
 pub store-store-requires-clause-most : goal.store-store-requires-clause-most

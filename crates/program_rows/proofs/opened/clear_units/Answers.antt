@@ -1,4 +1,4 @@
-use Rattle.std.proofs.Common.{◌≡◌, ◌<◌, ◌++◌, List, drop, length, replicate, ◌∙◌, ap, arith, set}
+use Rattle.std.proofs.Common.{◌<◌, ◌++◌, List, drop, length, replicate, ◌∙◌, ap, arith, set}
 use Rattle.unit_work.specs.Changes.{Changes, no_changes}
 use Rattle.program_rows.proofs.Clearing.{cleared_next, cleared_all}
 use Rattle.program_rows.proofs.opened.clear_units.Goals as goal

@@ -1,7 +1,5 @@
-use Rattle.std.proofs.Common.{refl, sym, subst}
-use Rattle.message_run.specs.Telling.{TellsNext}
+use Rattle.std.proofs.Common.{refl}
 use Rattle.message_run.proofs.NextTold.{tells_nothing}
-use Rattle.region_work.specs.Region.{NextTells}
 use Rattle.region_work.proofs.region.advance.Goals as goal
 
 pub returns-in_default-clause-tells : goal.returns-in_default-clause-tells

@@ -1,6 +1,6 @@
-use Rattle.std.proofs.Common.{◌≡◌, ◌<◌, List, length, ◌∙◌, ap, arith}
+use Rattle.std.proofs.Common.{◌<◌, List, length, ◌∙◌, ap, arith}
 use Rattle.std.specs.List.{slice_get}
-use Rattle.std.specs.Prelude.{map, slice_set}
+use Rattle.std.specs.Prelude.{slice_set}
 use Rattle.seg_store.specs.Changed.{Kept}
 use Rattle.seg_store.specs.WriteBack.{written_kept}
 use Rattle.seg_store.proofs.WritingBack.{partly_get, partly_set, found_at}

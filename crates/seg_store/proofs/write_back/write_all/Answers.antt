@@ -1,11 +1,7 @@
-use Rattle.std.proofs.Common.{◌≡◌, ℕ, ◌+◌, ◌<◌, ◌≤◌, List, length, take, sym, ◌∙◌, ap, subst, arith, Some, IsTrue}
-use Rattle.std.specs.List.{slice_get}
+use Rattle.std.proofs.Common.{◌≡◌, ◌<◌, ◌≤◌, length, sym, ◌∙◌, ap, subst, arith, IsTrue}
 use Rattle.std.proofs.lemmas.Option.{get_or_from_slice_get}
-use Rattle.model_disk.specs.Disk.{Within, Follows}
 use Rattle.model_disk.proofs.Words.{stays_on}
 use Rattle.seg_store.specs.Changed.{Kept}
-use Rattle.seg_store.specs.DataSectors.{MayPut, HasPut, bytes_of}
-use Rattle.seg_store.specs.WriteBack.{kept_slots, kept_count, kept_bytes}
 use Rattle.seg_store.proofs.WritingBack.{found_at, all_at, slots_within, count_within, sum_more, next_within, next_follows, next_has}
 use Rattle.seg_store.proofs.write_back.write_all.Goals as goal
 

@@ -1,5 +1,5 @@
 -- the text that was made before is that of the answer
-use Rattle.std.proofs.Common.{◌≡◌, [], ◌++◌, ◌∙◌, ap, ◌*◌, arith}
+use Rattle.std.proofs.Common.{◌≡◌, ◌++◌, ◌∙◌, ap, ◌*◌, arith}
 use Rattle.model_machine.specs.Commands.{command_answer}
 use Rattle.model_machine.specs.History.{now_of}
 use Rattle.model_session.specs.Text.{command_text}

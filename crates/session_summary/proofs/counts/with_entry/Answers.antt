@@ -1,5 +1,5 @@
 -- each count with what the entry adds to it
-use Rattle.std.proofs.Common.{◌≡◌, ◌+◌, ◌∙◌, ap}
+use Rattle.std.proofs.Common.{◌+◌, ◌∙◌, ap}
 use Rattle.session_summary.proofs.Counting.{four}
 use Rattle.session_summary.proofs.counts.with_entry.Goals as goal
 

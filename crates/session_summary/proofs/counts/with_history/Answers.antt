@@ -1,5 +1,5 @@
 -- the entry at a place is the next one
-use Rattle.std.proofs.Common.{◌+◌, ◌<◌, arith, rules, length}
+use Rattle.std.proofs.Common.{◌<◌, arith, rules, length}
 use Rattle.session_summary.proofs.Counting.{entry_more}
 use Rattle.session_summary.proofs.counts.with_history.Goals as goal
 

@@ -1,6 +1,6 @@
 -- the next line may show a later reply; behind the last line none is left
-use Rattle.std.proofs.Common.{◌≡◌, ◌∙◌, ap, sym, ℕ, List, Bor}
-use Rattle.std.specs.Prelude.{Option, Some, None}
+use Rattle.std.proofs.Common.{◌∙◌, ap, sym, ℕ, List, Bor}
+use Rattle.std.specs.Prelude.{Option}
 use Rattle.std.specs.Option.{option_map}
 use Rattle.text_rows.specs.Lines.{split_at}
 use Rattle.session_summary.specs.Shown.{later, last_reply}

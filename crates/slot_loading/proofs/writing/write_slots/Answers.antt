@@ -3,7 +3,7 @@ use Rattle.std.proofs.lemmas.List.{take_more}
 use Rattle.std.specs.List.{AllByRecursion, slice_get}
 use Rattle.model_disk.specs.Disk.{HasWritten}
 use Rattle.model_disk.proofs.Words.{stays_on}
-use Rattle.seg_store.specs.DataSectors.{data_sector, IsGivenAt, HasPut}
+use Rattle.seg_store.specs.DataSectors.{data_sector, HasPut}
 use Rattle.seg_store.proofs.Putting.{at_ok, given_there, has_step, put_follows, put_within}
 use Rattle.slot_loading.proofs.Slotted.{all_at, slots_few, slot_there}
 use Rattle.slot_loading.proofs.writing.write_slots.Goals as goal

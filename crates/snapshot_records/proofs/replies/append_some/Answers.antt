@@ -1,7 +1,6 @@
-use Rattle.std.proofs.Common.{◌≡◌, ◌+◌, List, map, drop, ap, sym, arith, Some, length}
+use Rattle.std.proofs.Common.{◌≡◌, ◌+◌, List, map, drop, ap, sym, arith, Some}
 use Rattle.std.specs.Prelude.{slice_get}
 use Rattle.tm_types.specs.declared.message.Reply.{Reply}
-use Rattle.log_records.specs.declared.record.Record.{Record}
 use Rattle.log_records.specs.Spelling.{IsCount}
 use Rattle.snapshot_records.specs.Records.{reply_record}
 use Rattle.snapshot_records.proofs.Adding.{comes_more, comes_end, drop_more, drop_end, all_more}

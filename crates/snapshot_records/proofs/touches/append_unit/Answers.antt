@@ -1,4 +1,4 @@
-use Rattle.std.proofs.Common.{◌≡◌, ◌+◌, List, drop, ap, sym, arith, Some, None, length}
+use Rattle.std.proofs.Common.{◌≡◌, ◌+◌, List, drop, ap, sym, arith, Some}
 use Rattle.std.specs.Prelude.{slice_get}
 use Rattle.std.proofs.lemmas.Option.{slice_get_within}
 use Rattle.unit_work.specs.declared.change.Change.{Change}

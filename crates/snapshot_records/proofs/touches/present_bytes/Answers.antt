@@ -1,4 +1,4 @@
-use Rattle.std.proofs.Common.{◌≡◌, ◌∙◌, sym, ap, List, [], None}
+use Rattle.std.proofs.Common.{◌∙◌, sym, ap, List, None}
 use Rattle.model_rows.specs.declared.row.Row.{Row}
 use Rattle.model_rows.specs.Record.{spelling}
 use Rattle.seg_store.specs.Changed.{stored}

@@ -1,5 +1,5 @@
 -- the text of each disk that can't be opened
-use Rattle.std.proofs.Common.{◌≡◌, ℕ, List, [], ◌∷◌, ◌++◌, codes, sym, ◌∙◌, ap, append_assoc}
+use Rattle.std.proofs.Common.{◌≡◌, [], ◌∷◌, ◌++◌, codes, sym, ◌∙◌, ap, append_assoc}
 use Rattle.std.specs.Prelude.{decimal}
 use Rattle.tm_session.specs.declared.outcome.Ended.TheVariants.{Image}
 use Rattle.model_session.specs.declared.asked.ImageRefused.TheVariants.{Rule, Text, Size}

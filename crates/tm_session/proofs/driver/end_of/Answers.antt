@@ -1,5 +1,5 @@
 -- behind the last line
-use Rattle.std.proofs.Common.{inl, ap, ◌∙◌, sym, subst}
+use Rattle.std.proofs.Common.{inl, sym, subst}
 use Rattle.tm_edge.specs.Lines.{unread}
 use Rattle.session_lives.proofs.Leading.{leads_same, leads_map}
 use Rattle.tm_session.specs.Driving.{StopsBetween}

@@ -1,5 +1,5 @@
 -- the definition was read and opened, and then its session was driven
-use Rattle.std.proofs.Common.{◌≡◌, ℕ, List, sym, ◌∙◌, subst}
+use Rattle.std.proofs.Common.{ℕ, List, sym, ◌∙◌, subst}
 use Rattle.std.specs.Prelude.{Option}
 use Rattle.tm_edge.specs.Lines.{unread}
 use Rattle.model_session.specs.Standing.{is_stopped}

@@ -1,4 +1,4 @@
-use Rattle.std.proofs.Common.{◌-◌, ◌≡◌, [], sym, ◌∙◌, subst, slice_index_or}
+use Rattle.std.proofs.Common.{◌-◌, [], sym, ◌∙◌, subst, slice_index_or}
 use Rattle.std.specs.Option.{IfSome, IsSome}
 use Rattle.model_queues.specs.Queue.{first_free}
 use Rattle.model_system.specs.Codes.{code_at}

@@ -1,4 +1,4 @@
-use Rattle.std.proofs.Common.{◌≡◌, sym, ap, subst, List, ℕ}
+use Rattle.std.proofs.Common.{ap, subst, List}
 use Rattle.model_disk.specs.Disk.{Follows}
 use Rattle.log_records.specs.declared.record.Record.{Record}
 use Rattle.slot_law.specs.Committed.{Touches}

@@ -1,4 +1,4 @@
-use Rattle.std.proofs.Common.{◌≡◌, ℕ, ◌+◌, ◌≤◌, List, length, refl, sym, ◌∙◌, ap, subst, arith, IsTrue}
+use Rattle.std.proofs.Common.{◌≡◌, ℕ, ◌+◌, ◌≤◌, List, length, sym, ◌∙◌, ap, subst, arith, IsTrue}
 use Rattle.model_disk.specs.Disk.{Image, Within, Follows, Only}
 use Rattle.log_sectors.proofs.Links.{at_ok}
 use Rattle.log_writer.specs.Writer.{Writer}

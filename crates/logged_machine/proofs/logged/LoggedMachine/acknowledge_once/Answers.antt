@@ -1,5 +1,5 @@
 -- an attempt, by what it told
-use Rattle.std.proofs.Common.{◌≡◌, ◌∙◌, sym, ap, subst, refl, Ok, Err, List, ℕ}
+use Rattle.std.proofs.Common.{◌∙◌, sym, ap, subst, refl, Err}
 use Rattle.model_machine.specs.declared.entry.AckRefused.TheVariants.{Fault}
 use Rattle.model_machine.specs.declared.entry.ControlFault.TheVariants.{Disk}
 use Rattle.model_machine.specs.declared.entry.Entry.TheVariants.{Acked}

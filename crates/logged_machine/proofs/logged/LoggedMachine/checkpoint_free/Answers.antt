@@ -1,5 +1,5 @@
 -- a checkpoint that was taken, or not
-use Rattle.std.proofs.Common.{◌≡◌, ℕ, Err, Result, IfErr, IfOk, OnOk, sym, subst}
+use Rattle.std.proofs.Common.{ℕ, Err, Result, IfErr, IfOk, OnOk, sym, subst}
 use Rattle.model_machine.specs.declared.entry.CheckpointRefused.{CheckpointRefused}
 use Rattle.model_machine.specs.declared.entry.CheckpointRefused.TheVariants.{Fault}
 use Rattle.model_machine.specs.declared.entry.Entry.TheVariants.{Checked}

@@ -1,9 +1,5 @@
 use Rattle.std.proofs.Common.{◌≡◌, ◌∙◌, [], ap, sym, length, map, replicate}
-use Rattle.tm_types.specs.declared.dbd.Dbd.{Dbd}
-use Rattle.model_enqueue.specs.Table.{EnqueueTable}
 use Rattle.program_rows.specs.State.{DatabasesState, rows_of, clean_region}
-use Rattle.program_rows.specs.Open.{records_of}
-use Rattle.program_rows.specs.OnSlots.{SlotsState}
 use Rattle.program_rows.specs.declared.opened.Opened.{Opened}
 use Rattle.program_rows.proofs.Ending.{opens, opens_slots, opens_touched, opens_marks, opens_committed, opens_regions, committed_are_rows}
 use Rattle.program_rows.proofs.Clearing.{units_count, regions_count}

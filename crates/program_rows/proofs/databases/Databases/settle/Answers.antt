@@ -1,4 +1,4 @@
-use Rattle.std.proofs.Common.{◌≡◌, ◌∙◌, ap, sym, subst}
+use Rattle.std.proofs.Common.{◌∙◌, ap, sym, subst}
 use Rattle.seg_store.specs.Changed.{AllStores}
 use Rattle.program_rows.specs.State.{settled}
 use Rattle.program_rows.specs.Making.{seen, IsWhole}

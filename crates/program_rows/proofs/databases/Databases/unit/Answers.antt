@@ -1,4 +1,4 @@
-use Rattle.std.proofs.Common.{◌≡◌, ◌∙◌, ◌-◌, ap, sym, length, arith, List, [], get_or}
+use Rattle.std.proofs.Common.{◌∙◌, ◌-◌, ap, sym, length, arith, List, [], get_or}
 use Rattle.unit_work.specs.Changes.{Changes}
 use Rattle.program_rows.specs.Open.{slots_of}
 use Rattle.program_rows.specs.State.{DatabasesState, touched_by}

@@ -1,5 +1,5 @@
 -- what is copied is the front of what is left
-use Rattle.std.proofs.Common.{◌≡◌, ◌+◌, ◌≤◌, ◌∙◌, sym, ap, drop, length, rules}
+use Rattle.std.proofs.Common.{◌≡◌, ◌+◌, ◌≤◌, ◌∙◌, sym, ap, length, rules}
 use Rattle.std.specs.Prelude.{Some, slice_range}
 use Rattle.tm_edge.proofs.Taken.{taken_part}
 use Rattle.text_edge.proofs.source.TextSourceSource.take.Goals as goal

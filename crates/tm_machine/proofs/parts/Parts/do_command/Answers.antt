@@ -1,4 +1,4 @@
-use Rattle.std.proofs.Common.{◌≡◌, ◌∙◌, ap, sym, subst, rules}
+use Rattle.std.proofs.Common.{◌∙◌, ap, sym, subst, rules}
 use Rattle.tm_machine.specs.Commands.{EndsNoneBusy}
 use Rattle.tm_machine.specs.Parts.{PartsState, settings_of}
 use Rattle.tm_machine.proofs.Commanded.{parts_commanded, commanded_is, same_databases}

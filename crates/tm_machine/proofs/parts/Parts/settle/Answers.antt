@@ -1,6 +1,5 @@
-use Rattle.std.proofs.Common.{◌≡◌, ◌∙◌, ap, sym, subst}
+use Rattle.std.proofs.Common.{◌∙◌, ap, sym, subst}
 use Rattle.program_rows.specs.State.{DatabasesState, settled}
-use Rattle.lasting_state.specs.Tables.{TablesState}
 use Rattle.tm_machine.specs.Parts.{PartsState, AreParts}
 use Rattle.tm_machine.specs.PartsView.{moment_of}
 use Rattle.tm_machine.proofs.Settled.{parts_settled}

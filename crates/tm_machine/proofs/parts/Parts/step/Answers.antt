@@ -1,4 +1,4 @@
-use Rattle.std.proofs.Common.{◌≡◌, refl, sym, ap, subst, ◌∙◌, [], List, ℕ}
+use Rattle.std.proofs.Common.{◌≡◌, refl, sym, ap, subst, ◌∙◌}
 use Rattle.model_machine.specs.declared.entry.Turned.TheVariants.{Called as TurnCalled}
 use Rattle.tm_machine.specs.OnSlots.{changes_told, TurnsSo}
 use Rattle.tm_machine.specs.Turns.{IsTurned}

@@ -1,5 +1,5 @@
 use Rattle.std.proofs.Common.{List, sym, subst}
-use Rattle.std.specs.List.{AllByRecursion, list_any}
+use Rattle.std.specs.List.{AllByRecursion}
 use Rattle.change_records.specs.Images.{image_at}
 use Rattle.change_records.specs.Marks.{AreMarked}
 use Rattle.unit_work.specs.declared.change.Change.{Change}
