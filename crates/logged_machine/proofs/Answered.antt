@@ -30,7 +30,7 @@ use Rattle.model_machine.specs.declared.entry.Entry.TheVariants.{Accept, Acked a
 use Rattle.model_machine.specs.declared.entry.InputRefused.{InputRefused}
 use Rattle.model_machine.specs.declared.entry.InputRefused.TheVariants.{Terminal, StoppedTerminal, Expected, Conversation, Code, StoppedCode, SegmentsOver, QueueFull, Fault as InputFault}
 use Rattle.model_machine.specs.declared.entry.Taken.{Taken}
-use Rattle.machine_telling.specs.Telling.{is_input_fault}
+use Rattle.tm_machine.specs.Inputs.{is_input_fault}
 use Rattle.control_life.specs.Faults.{fault_in}
 
 -- ---- inputs

@@ -46,7 +46,8 @@ use Rattle.parts_life.specs.Steps.{is_lasting, is_new, is_removed}
 use Rattle.parts_life.proofs.Answering.{ack_of_parts, command_of_parts, input_of_parts}
 use Rattle.parts_life.proofs.Turning.{turn_of_parts}
 use Rattle.parts_life.proofs.Closing.{ack_steps, command_steps, input_steps, room_in_log, turn_steps}
-use Rattle.machine_telling.specs.Telling.{Appends, is_input_fault}
+use Rattle.machine_telling.specs.Telling.{Appends}
+use Rattle.tm_machine.specs.Inputs.{is_input_fault}
 use Rattle.machine_life.specs.Counted.{IsCounted}
 use Rattle.model_image.specs.Counters.{greatest_unit}
 use Rattle.checkpointing.specs.Counts.{CountsUpTo}

@@ -32,7 +32,7 @@ use Rattle.parts_life.specs.Logged.{IsLogged}
 use Rattle.parts_life.specs.Steps.{is_lasting, is_new, is_removed}
 use Rattle.control_life.specs.Faults.{fault_in}
 use Rattle.machine_checkpoint.specs.Taking.{checkpoint_sectors, settled_parts}
-use Rattle.machine_telling.specs.Telling.{is_input_fault}
+use Rattle.tm_machine.specs.Inputs.{is_input_fault}
 use Rattle.machine_due.specs.Due.{Behind, CountsWithin, KeepsOnDisk}
 use Rattle.logged_machine.specs.Doing.{Done}
 use Rattle.logged_machine.proofs.Attempts.{Attempt, ack_attempt, command_attempt, force_area, force_ready, force_sequences, input_attempt, logged_forced, logged_quiet, turn_attempt}

@@ -29,17 +29,17 @@ impl<D: Disk> LoggedMachine<D> {
         &mut self,
         terminal: &Name,
         number: u64,
-        segments: Segments,
+        segments: &Segments,
     ) -> Result<Taken, InputRefused>
-        requires some { 0 < length segments }
+        requires some { 0 < length segments.now }
         requires served { self.old.served ≡ true }
         requires unspent { spent_now self.old ≡ None }
-        ensures goes { GoesBy D.state (fault_in (Accept terminal.now number segments result)) self.old self.new (Accept terminal.now number segments result) }
-        ensures crash { CrashesBy D.state (fault_in (Accept terminal.now number segments result)) self.old self.new (Accept terminal.now number segments result) }
+        ensures goes { GoesBy D.state (fault_in (Accept terminal.now number segments.now result)) self.old self.new (Accept terminal.now number segments.now result) }
+        ensures crash { CrashesBy D.state (fault_in (Accept terminal.now number segments.now result)) self.old self.new (Accept terminal.now number segments.now result) }
         ensures lasts { LastsNow D.state self.new }
         ensures keeps { Keeps D.state self.old self.new }
         ensures counts { CountsSince D.state (2 * self.old.machine.system.logs) self.old self.new }
-        ensures frugal { IsFrugal D.state (fault_in (Accept terminal.now number segments result)) self.old.machine self.old.units (Input terminal.now number segments) self.old.journal self.new.journal self.old.disk self.new.disk }
+        ensures frugal { IsFrugal D.state (fault_in (Accept terminal.now number segments.now result)) self.old.machine self.old.units (Input terminal.now number segments.now) self.old.journal self.new.journal self.old.disk self.new.disk }
         ensures raises { self.new.served ≡ true → Raises (2 * self.old.machine.system.logs) self.old.journal self.new.journal self.old.next_unit self.new.next_unit }
     {
         let _before = self.is_served();
@@ -53,42 +53,21 @@ impl<D: Disk> LoggedMachine<D> {
         &mut self,
         terminal: &Name,
         number: u64,
-        segments: Segments,
+        segments: &Segments,
     ) -> Result<Taken, InputRefused>
-        requires some { 0 < length segments }
+        requires some { 0 < length segments.now }
         requires served { self.old.served ≡ true }
         requires counted { IsCounted 0 self.old.machine.moment.lasting self.old.next_unit self.old.journal }
-        ensures did { DoneFrugally D.state (fault_in (Accept terminal.now number segments result)) self.old self.new (Accept terminal.now number segments result) }
+        ensures did { DoneFrugally D.state (fault_in (Accept terminal.now number segments.now result)) self.old self.new (Accept terminal.now number segments.now result) }
     {
         if is_past(number) {
             return Err(InputRefused::Fault(ControlFault::Memory));
         }
-        match segments.clone() {
-            Ok(again) => self.accept_first(terminal, number, segments, again),
-            Err(_) => Err(InputRefused::Fault(ControlFault::Memory)),
-        }
-    }
-
-    /// The same, where the segments are there once more for an attempt behind a checkpoint.
-    fn accept_first(
-        &mut self,
-        terminal: &Name,
-        number: u64,
-        segments: Segments,
-        again: Segments,
-    ) -> Result<Taken, InputRefused>
-        requires some { 0 < length segments }
-        requires served { self.old.served ≡ true }
-        requires counted { IsCounted 0 self.old.machine.moment.lasting self.old.next_unit self.old.journal }
-        requires small { number < 2000000000000000000 }
-        requires again { again ≡ segments }
-        ensures did { DoneFrugally D.state (fault_in (Accept terminal.now number segments result)) self.old self.new (Accept terminal.now number segments result) }
-    {
         let room = room_left(&self.journal);
         match self.accept_once(terminal, number, segments, room) {
             Ok(answer) => answer,
             Err(Untold::Memory) => Err(InputRefused::Fault(ControlFault::Memory)),
-            Err(Untold::Full) => self.accept_behind(terminal, number, again),
+            Err(Untold::Full) => self.accept_behind(terminal, number, segments),
         }
     }
 
@@ -97,13 +76,13 @@ impl<D: Disk> LoggedMachine<D> {
         &mut self,
         terminal: &Name,
         number: u64,
-        segments: Segments,
+        segments: &Segments,
     ) -> Result<Taken, InputRefused>
-        requires some { 0 < length segments }
+        requires some { 0 < length segments.now }
         requires served { self.old.served ≡ true }
         requires counted { IsCounted 0 self.old.machine.moment.lasting self.old.next_unit self.old.journal }
         requires small { number < 2000000000000000000 }
-        ensures did { Done D.state (fault_in (Accept terminal.now number segments result)) self.old self.new (Accept terminal.now number segments result) }
+        ensures did { Done D.state (fault_in (Accept terminal.now number segments.now result)) self.old self.new (Accept terminal.now number segments.now result) }
     {
         let done = input_due(
             self.alloc,
@@ -140,18 +119,18 @@ impl<D: Disk> LoggedMachine<D> {
         &mut self,
         terminal: &Name,
         number: u64,
-        segments: Segments,
+        segments: &Segments,
         room: usize,
     ) -> Result<Result<Taken, InputRefused>, Untold>
-        requires some { 0 < length segments }
+        requires some { 0 < length segments.now }
         requires served { self.old.served ≡ true }
         requires counted { IsCounted 4294967296 self.old.machine.moment.lasting self.old.next_unit self.old.journal }
         requires small { number < 2000000000000000000 }
         requires room { HasRoom room self.old.journal.log }
-        ensures did { IfOk result (λ answer. Tried D.state (fault_in (Accept terminal.now number segments answer)) self.old self.new (Accept terminal.now number segments answer)) }
+        ensures did { IfOk result (λ answer. Tried D.state (fault_in (Accept terminal.now number segments.now answer)) self.old self.new (Accept terminal.now number segments.now answer)) }
         ensures same { OnErr result (self.new ≡ self.old) }
-        ensures fits { OnOk result (length (own_bytes self.old.machine self.old.units (Input terminal.now number segments)) ≤ room) }
-        ensures full { IfErr result (WhereFull (room < length (own_bytes self.old.machine self.old.units (Input terminal.now number segments)))) }
+        ensures fits { OnOk result (length (own_bytes self.old.machine self.old.units (Input terminal.now number segments.now)) ≤ room) }
+        ensures full { IfErr result (WhereFull (room < length (own_bytes self.old.machine self.old.units (Input terminal.now number segments.now)))) }
     {
         let told = tell_input(
             self.alloc,

@@ -15,7 +15,7 @@ ghost use Rattle.machine_life.specs.Counted.{IsCounted};
 ghost use Rattle.machine_life.specs.Turning.{unit_of};
 ghost use Rattle.parts_life.specs.Logged.{IsLogged};
 ghost use Rattle.machine_checkpoint.specs.Taking.{Untaken, checkpoint_sectors, settled_parts};
-ghost use Rattle.machine_telling.specs.Telling.{is_input_fault};
+ghost use Rattle.tm_machine.specs.Inputs.{is_input_fault};
 ghost use Rattle.machine_due.specs.Due.{Behind, CountsWithin, KeepsOnDisk};
 
 use crate::writing::{write_parts, write_told};
@@ -41,16 +41,16 @@ pub fn input_due<D: Disk>(
     next_unit: u64,
     terminal: &Name,
     number: u64,
-    segments: Segments,
+    segments: &Segments,
 ) -> Result<Result<Taken, InputRefused>, ControlFault>
-    requires some { 0 < length segments }
+    requires some { 0 < length segments.now }
     requires logged { (text : List ℕ) × IsLogged parts.old units.now next_unit journal.old text (D.state disk.old) }
     requires counted { IsCounted 0 parts.old.moment.lasting next_unit journal.old }
     ensures system { parts.new.system ≡ parts.old.system }
     ensures keeps { KeepsOnDisk parts.old.system (D.state disk.old) (D.state disk.new) }
     ensures counts { CountsWithin parts.old.system journal.old next_unit (D.state disk.old) (D.state disk.new) }
-    ensures behind { OnOk result (Behind D.state parts.old units.entry.now next_unit (records_of parts.old.system parts.old.moment 0 (Input terminal.now number segments)) journal.old journal.new disk.old disk.new) }
-    ensures answer { IfOk result (λ answer. IsAnswered (settled_parts parts.old) parts.new (Accept terminal.now number segments answer)) }
+    ensures behind { OnOk result (Behind D.state parts.old units.entry.now next_unit (records_of parts.old.system parts.old.moment 0 (Input terminal.now number segments.now)) journal.old journal.new disk.old disk.new) }
+    ensures answer { IfOk result (λ answer. IsAnswered (settled_parts parts.old) parts.new (Accept terminal.now number segments.now answer)) }
     ensures no_fault { IfOk result (λ answer. is_input_fault answer ≡ false) }
     ensures databases { OnOk result (parts.new.databases ≡ settled parts.old.databases) }
     ensures before { OnOk result (HasSlots (settled_parts parts.old)) }

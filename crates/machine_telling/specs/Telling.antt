@@ -1,5 +1,5 @@
 -- Records that are told behind what was appended to a log.
-use Rattle.std.specs.Prelude.{◌≡◌, ℕ, ◌+◌, ◌<◌, ◌≤◌, Bool, true, false, List, ◌++◌, length, Result, Err}
+use Rattle.std.specs.Prelude.{◌≡◌, ℕ, ◌+◌, ◌<◌, ◌≤◌, List, ◌++◌, length}
 use Rattle.std.specs.List.{flat_map, AllByRecursion}
 use Rattle.log_records.specs.declared.record.Record.{Record}
 use Rattle.log_records.specs.Spelling.{spelling, IsRecord}
@@ -7,9 +7,6 @@ use Rattle.log_records.proofs.Takes.{IsBytes}
 use Rattle.log_writer.specs.Writer.{Writer}
 use Rattle.log_writer.specs.Log.{sectors_of}
 use Rattle.disk_law.specs.Changes.{with_bytes}
-use Rattle.model_machine.specs.declared.entry.InputRefused.{InputRefused}
-use Rattle.model_machine.specs.declared.entry.InputRefused.TheVariants.{Fault}
-use Rattle.model_machine.specs.declared.entry.Taken.{Taken}
 use Rattle.disk_law.specs.Journal.{JournalState}
 use Rattle.journal.specs.State.{LeavesSectors}
 
@@ -32,8 +29,3 @@ pub record Appends (records : List Record) (old new : JournalState) : Type 0 whe
   pub valid : AllByRecursion IsRecord records
   pub bytes : IsBytes (flat_map spelling records)
   pub fits : old.log.place + sectors_of (length (old.log.appended ++ flat_map spelling records)) ≤ old.log.count
-
--- an input met a fault
-abbrev pub is_input_fault : Result Taken InputRefused → Bool
-is_input_fault (Err (Fault fault)) = true
-is_input_fault _ = false

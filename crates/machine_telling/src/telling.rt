@@ -11,8 +11,9 @@ ghost use Rattle.tm_types.specs.Name.{IsName};
 ghost use Rattle.step_telling.specs.Untold.{WhereFull};
 ghost use Rattle.tm_machine.specs.Answers.{IsAnswered};
 ghost use Rattle.tm_machine.specs.OnSlots.{TurnsSo, TellByCall, HasSlots, IsTurnLonger, changes_told, turn_records};
+ghost use Rattle.tm_machine.specs.Inputs.{is_input_fault};
 ghost use Rattle.tm_machine.specs.Told.{IsLonger, records_of};
-ghost use Rattle.machine_telling.specs.Telling.{HasRoom, Appends, is_input_fault};
+ghost use Rattle.machine_telling.specs.Telling.{HasRoom, Appends};
 
 use crate::bytes::see_bytes;
 use crate::names::see_names;
@@ -32,16 +33,16 @@ pub fn tell_input(
     journal: &mut Journal,
     terminal: &Name,
     number: u64,
-    segments: Segments,
+    segments: &Segments,
     room: usize,
 ) -> Result<Result<Taken, InputRefused>, Untold>
-    requires some { 0 < length segments }
+    requires some { 0 < length segments.now }
     requires room { HasRoom room journal.old.log }
-    ensures answer { IfOk result (λ answer. IsAnswered parts.old parts.new (Accept terminal.now number segments answer)) }
+    ensures answer { IfOk result (λ answer. IsAnswered parts.old parts.new (Accept terminal.now number segments.now answer)) }
     ensures no_fault { IfOk result (λ answer. is_input_fault answer ≡ false) }
-    ensures told { OnOk result (Appends (records_of parts.old.system parts.old.moment 0 (Input terminal.now number segments)) journal.old journal.new) }
-    ensures fits { OnOk result (length (flat_map spelling (records_of parts.old.system parts.old.moment 0 (Input terminal.now number segments))) ≤ room) }
-    ensures full { IfErr result (WhereFull (IsLonger parts.old.system parts.old.moment 0 room (Input terminal.now number segments))) }
+    ensures told { OnOk result (Appends (records_of parts.old.system parts.old.moment 0 (Input terminal.now number segments.now)) journal.old journal.new) }
+    ensures fits { OnOk result (length (flat_map spelling (records_of parts.old.system parts.old.moment 0 (Input terminal.now number segments.now))) ≤ room) }
+    ensures full { IfErr result (WhereFull (IsLonger parts.old.system parts.old.moment 0 room (Input terminal.now number segments.now))) }
     ensures databases { parts.new.databases ≡ parts.old.databases }
     ensures before { HasSlots parts.old }
     ensures behind { OnOk result (HasSlots parts.new) }
@@ -54,12 +55,8 @@ pub fn tell_input(
     let answer = parts.accept(terminal, number, segments, room, &mut told);
     see_bytes(told.as_slice());
     journal.exchange(&mut told);
-    let answer = answer?;
-    if is_fault(&answer) {
-        return Err(Untold::Memory);
-    }
     let _behind = parts.stores();
-    Ok(answer)
+    answer
 }
 
 /// Lets the machine take an acknowledgement, in the same way.
@@ -154,14 +151,4 @@ pub fn tell_turn(
     journal.exchange(&mut told);
     let _behind = parts.stores();
     turned
-}
-
-/// Whether an input met a fault.
-fn is_fault(answer: &Result<Taken, InputRefused>) -> bool
-    ensures { result ≡ is_input_fault answer.now }
-{
-    match answer {
-        Err(InputRefused::Fault(_)) => true,
-        _ => false,
-    }
 }

@@ -224,17 +224,14 @@ impl<D: Disk> Control<D> {
         if let Some(counter) = self.machine.spent() {
             return Err(InputRefused::Fault(ControlFault::Spent(counter)));
         }
-        let Ok(kept) = segments.clone() else {
-            return Err(InputRefused::Fault(ControlFault::Memory));
-        };
         if self.history.reserve(1).is_err() {
             return Err(InputRefused::Fault(ControlFault::Memory));
         }
-        let answer = self.machine.accept(terminal, number, segments);
+        let answer = self.machine.accept(terminal, number, &segments);
         self.steps = steps_of(self.steps, &self.machine);
         note(
             &mut self.history,
-            input_entry(terminal, number, kept, &answer),
+            input_entry(terminal, number, segments, &answer),
         );
         answer
     }

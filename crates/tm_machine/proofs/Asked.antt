@@ -19,6 +19,7 @@ use Rattle.system_types.proofs.Indexed.{found_at}
 use Rattle.model_machine.proofs.Flags.{states_again}
 use Rattle.model_machine.specs.declared.entry.Taken.{Taken}
 use Rattle.model_machine.specs.declared.entry.Taken.TheVariants.{New, Already}
+use Rattle.model_machine.specs.declared.entry.ControlFault.{ControlFault}
 use Rattle.model_machine.specs.declared.entry.InputRefused.{InputRefused}
 use Rattle.model_machine.specs.declared.entry.InputRefused.TheVariants.{Terminal as NoTerminal, StoppedTerminal, Expected, Conversation as Conversing, Code as NoCode, StoppedCode, SegmentsOver, QueueFull, Fault}
 use Rattle.model_machine.specs.declared.entry.Acked.{Acked}
@@ -38,8 +39,8 @@ use Rattle.tm_machine.specs.Told.{IsLonger, Tells}
 use Rattle.tm_machine.proofs.Telling.{unlasting_tells, tells_step, longer_step}
 use Rattle.lasting_state.specs.Tables.{TablesState, lasting_of, IsAcknowledged}
 use Rattle.region_work.specs.declared.region.Busy.{Busy}
-use Rattle.tm_machine.specs.Answers.{IsAnswered, Answers}
-use Rattle.tm_machine.specs.Inputs.{IsNewInput, IsRefusal, code_for, kept_so, way_by}
+use Rattle.tm_machine.specs.Answers.{IsAnswered}
+use Rattle.tm_machine.specs.Inputs.{IsNewInput, IsRefusal, code_for, is_input_fault, kept_so, way_by}
 use Rattle.tm_machine.specs.declared.input.NewInput.{NewInput}
 use Rattle.tm_types.specs.Name.{IsName}
 use Rattle.model_conversation.specs.Input.{busy_id}
@@ -170,25 +171,46 @@ not_new last number id e = by (nat_le number last) (nat_lt (last + 1) number) e
     by false true f = cc
     by false false f = cc
 
-is_refusal : (right answer : Result Taken InputRefused) → answer ≡ right → ((id : ℕ) → answer ≡ Ok (New id) → ⊥) → IsRefusal right answer
-is_refusal right (Ok (New id)) e other = absurd (other id refl)
-is_refusal right (Ok Already) e other = e
-is_refusal right (Err NoTerminal) e other = e
-is_refusal right (Err StoppedTerminal) e other = e
-is_refusal right (Err (StoppedCode code)) e other = e
-is_refusal right (Err (Expected next)) e other = e
-is_refusal right (Err (Conversing id)) e other = e
-is_refusal right (Err NoCode) e other = e
-is_refusal right (Err (SegmentsOver count most)) e other = e
-is_refusal right (Err (QueueFull need limit)) e other = e
-is_refusal right (Err (Fault fault)) e other = tt
+not_fault : (last number : ℕ) (fault : ControlFault) → by_number last number ≡ Some (Err (Fault fault)) → ⊥
+not_fault last number fault e = by (nat_le number last) (nat_lt (last + 1) number) e
+  where
+    by : (a b : Bool) → ◌≡◌ {A = Refusal} (if a then Some (Ok Already) else if b then Some (Err (Expected (last + 1))) else None) (Some (Err (Fault fault))) → ⊥
+    by true b f = cc
+    by false true f = cc
+    by false false f = cc
+
+is_refusal : (right answer : Result Taken InputRefused) → answer ≡ right → ((id : ℕ) → answer ≡ Ok (New id) → ⊥) → ((fault : ControlFault) → answer ≡ Err (Fault fault) → ⊥) → IsRefusal right answer
+is_refusal right (Ok (New id)) e other sound = absurd (other id refl)
+is_refusal right (Ok Already) e other sound = e
+is_refusal right (Err NoTerminal) e other sound = e
+is_refusal right (Err StoppedTerminal) e other sound = e
+is_refusal right (Err (StoppedCode code)) e other sound = e
+is_refusal right (Err (Expected next)) e other sound = e
+is_refusal right (Err (Conversing id)) e other sound = e
+is_refusal right (Err NoCode) e other sound = e
+is_refusal right (Err (SegmentsOver count most)) e other sound = e
+is_refusal right (Err (QueueFull need limit)) e other sound = e
+is_refusal right (Err (Fault fault)) e other sound = absurd (sound fault refl)
+
+-- a refusal is no fault
+pub refused_unfaulted : (right answer : Result Taken InputRefused) → IsRefusal right answer → is_input_fault answer ≡ false
+refused_unfaulted right (Ok taken) h = refl
+refused_unfaulted right (Err NoTerminal) h = refl
+refused_unfaulted right (Err StoppedTerminal) h = refl
+refused_unfaulted right (Err (StoppedCode code)) h = refl
+refused_unfaulted right (Err (Expected next)) h = refl
+refused_unfaulted right (Err (Conversing id)) h = refl
+refused_unfaulted right (Err NoCode) h = refl
+refused_unfaulted right (Err (SegmentsOver count most)) h = refl
+refused_unfaulted right (Err (QueueFull need limit)) h = refl
+refused_unfaulted right (Err (Fault fault)) h = absurd h
 
 pub numbered : (t : Option TerminalState) (last number : ℕ) (busy : Refusal) (code : Option Code) (halted : Refusal) (count : ℕ) (room : Refusal) (next : ℕ) (answer : Result Taken InputRefused)
     → IsSomeAnd t (IsRunning last) → Some answer ≡ by_number last number → IsRefusal (answer_by t number busy code halted count room next) answer
 numbered (Some s) last number busy code halted count room next answer same e =
     let here : by_number s.last number ≡ Some answer = ap (λ n. by_number n number) (sym same.0) ∙ sym e in
     is_refusal (answer_by (Some s) number busy code halted count room next) answer (sym (step same.1 here))
-    (λ id f. not_new last number id (sym e ∙ ap (λ a. Some a) f))
+    (λ id f. not_new last number id (sym e ∙ ap (λ a. Some a) f)) (λ fault f. not_fault last number fault (sym e ∙ ap (λ a. Some a) f))
   where
     step : s.stopped ≡ false → by_number s.last number ≡ Some answer → answer_by (Some s) number busy code halted count room next ≡ answer
     step u h = rw u (rw h refl)
@@ -290,7 +312,7 @@ module _ (system : System) (tables : TablesState) (states : List CodeState) (reg
 
   -- an input that is refused
   pub refused_input : (terminal : List ℕ) (number : ℕ) (segments : List (List ℕ)) (answer : Result Taken InputRefused) → 0 < length segments
-      → IsRefusal (input_answer system moment_now terminal number segments) answer → Answers state_now state_now (Accept terminal number segments answer)
+      → IsRefusal (input_answer system moment_now terminal number segments) answer → IsAnswered state_now state_now (Accept terminal number segments answer)
   refused_input terminal number segments (Ok (New id)) some h = absurd h
   refused_input terminal number segments (Ok Already) some h = answered terminal number segments (Ok Already) some h refl
   refused_input terminal number segments (Err NoTerminal) some h = answered terminal number segments (Err NoTerminal) some h refl
@@ -301,7 +323,7 @@ module _ (system : System) (tables : TablesState) (states : List CodeState) (reg
   refused_input terminal number segments (Err NoCode) some h = answered terminal number segments (Err NoCode) some h refl
   refused_input terminal number segments (Err (SegmentsOver count most)) some h = answered terminal number segments (Err (SegmentsOver count most)) some h refl
   refused_input terminal number segments (Err (QueueFull need limit)) some h = answered terminal number segments (Err (QueueFull need limit)) some h refl
-  refused_input terminal number segments (Err (Fault fault)) some h = refl
+  refused_input terminal number segments (Err (Fault fault)) some h = absurd h
 
   -- an acknowledgement
   abbrev state_with : TablesState → PartsState

@@ -9,7 +9,6 @@ use Rattle.model_enqueue.specs.declared.victim.Victim.{Victim}
 use Rattle.model_system.specs.System.{System}
 use Rattle.model_machine.specs.declared.entry.ControlCall.{ControlCall}
 use Rattle.model_machine.specs.declared.entry.ControlCall.TheVariants.{Input, Turn}
-use Rattle.model_machine.specs.declared.entry.Entry.TheVariants.{Accept}
 use Rattle.model_machine.specs.declared.entry.Taken.{Taken}
 use Rattle.model_machine.specs.declared.entry.Taken.TheVariants.{New as NewInput, Already}
 use Rattle.model_machine.specs.declared.entry.InputRefused.{InputRefused}
@@ -26,7 +25,6 @@ use Rattle.model_machine.specs.Lasting.LastingStep.{Accepts}
 use Rattle.model_machine.specs.Requests.{blocked_now}
 use Rattle.model_machine.specs.Steps.{AtWork, accepts, blocked_answer, ended_step, ending_step, input_answer, lasting_step, next_message, slot_answer, slot_work, step_in_turn, sync_answer, turn_by, turn_step, unless_blocked, work_answer}
 use Rattle.model_machine.specs.Lasting.{KeptInput, kept_input}
-use Rattle.model_machine.specs.History.{is_fault}
 use Rattle.model_conversation.specs.declared.conversation.Conversation.{Conversation as PadConversation}
 use Rattle.model_conversation.specs.declared.conversation.PadChange.{PadChange}
 use Rattle.model_conversation.specs.declared.conversation.PadChange.TheVariants.{Stays, New, Ends as PadEnds}
@@ -41,7 +39,7 @@ use Rattle.lasting_state.specs.Tables.{TablesState, lasting_of}
 use Rattle.lasting_state.specs.Telling.{Tells as TablesTell, IsLonger as IsLongerStep}
 use Rattle.tm_machine.specs.Inputs.{IsRefusal}
 use Rattle.tm_machine.specs.Parts.{PartsState}
-use Rattle.tm_machine.specs.Told.{bytes_of, ends_work, records_of, IsLonger, Tells, TellsUnless}
+use Rattle.tm_machine.specs.Told.{bytes_of, ends_work, records_of, IsLonger, Tells}
 use Rattle.tm_machine.specs.Turns.{IsTurned}
 
 -- ---- by the step that lasts
@@ -124,7 +122,7 @@ module _ (system : System) (moment : Moment) (room : ℕ) (terminal : List ℕ) 
 
   -- an input that isn't kept tells nothing
   pub refused_tells : (answer : Result Taken InputRefused) → IsRefusal (input_answer system moment terminal number segments) answer
-      → TellsUnless (is_fault (Accept terminal number segments answer)) system moment 0 room (Input terminal number segments) told told
+      → Tells system moment 0 room (Input terminal number segments) told told
   refused_tells (Ok (NewInput id)) h = absurd h
   refused_tells (Ok Already) h = refused_so (λ id e. let clash : Ok Already ≡ Ok (NewInput id) = h ∙ e in cc)
   refused_tells (Err Terminal) h = refused_so (λ id e. let clash : Err Terminal ≡ Ok (NewInput id) = h ∙ e in cc)
@@ -135,7 +133,7 @@ module _ (system : System) (moment : Moment) (room : ℕ) (terminal : List ℕ) 
   refused_tells (Err Code) h = refused_so (λ id e. let clash : Err Code ≡ Ok (NewInput id) = h ∙ e in cc)
   refused_tells (Err (SegmentsOver count most)) h = refused_so (λ id e. let clash : Err (SegmentsOver count most) ≡ Ok (NewInput id) = h ∙ e in cc)
   refused_tells (Err (QueueFull need limit)) h = refused_so (λ id e. let clash : Err (QueueFull need limit) ≡ Ok (NewInput id) = h ∙ e in cc)
-  refused_tells (Err (Fault fault)) h = refl
+  refused_tells (Err (Fault fault)) h = absurd h
 
 -- ---- by what the tables tell
 module _ (system : System) (moment : Moment) (unit room : ℕ) (call : ControlCall) (step : LastingStep) (tables : TablesState) (settings : List CodeSetting)

@@ -1,5 +1,5 @@
 -- Inputs, but for the room that they want.
-use Rattle.std.specs.Prelude.{◌≡◌, ⊤, ℕ, ◌<◌, ◌≤◌, ◌-◌, ◌==◌, true, false, if◌then◌else◌, List, Option, Some, None, Result, Ok, Err, length}
+use Rattle.std.specs.Prelude.{◌≡◌, ℕ, Bool, ◌<◌, ◌≤◌, ◌-◌, ◌==◌, true, false, if◌then◌else◌, List, Option, Some, None, Result, Ok, Err, length}
 use Rattle.std.specs.Option.{unwrap_or}
 use Rattle.model_machine.specs.declared.entry.Taken.{Taken}
 use Rattle.model_machine.specs.declared.entry.Taken.TheVariants.{New, Already}
@@ -43,7 +43,7 @@ pub record IsNewInput (parts : PartsState) (terminal : List ℕ) (number : ℕ) 
   pub free : busy_conversation parts.moment.lasting terminal ≡ None
   pub few : length segments ≤ 16
 
--- the right answer, which isn't that the input is new; or a fault
+-- the right answer, which is neither that the input is new nor a fault
 abbrev pub IsRefusal : Result Taken InputRefused → Result Taken InputRefused → Type 0
 IsRefusal right (Ok (New id)) = ⊥
 IsRefusal right (Ok Already) = Ok Already ≡ right
@@ -55,4 +55,9 @@ IsRefusal right (Err (Conversation id)) = Err (Conversation id) ≡ right
 IsRefusal right (Err Code) = Err Code ≡ right
 IsRefusal right (Err (SegmentsOver count most)) = Err (SegmentsOver count most) ≡ right
 IsRefusal right (Err (QueueFull need limit)) = Err (QueueFull need limit) ≡ right
-IsRefusal right (Err (Fault fault)) = ⊤
+IsRefusal right (Err (Fault fault)) = ⊥
+
+-- an input met a fault
+abbrev pub is_input_fault : Result Taken InputRefused → Bool
+is_input_fault (Err (Fault fault)) = true
+is_input_fault _ = false

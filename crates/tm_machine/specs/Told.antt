@@ -25,11 +25,6 @@ pub record Tells (system : System) (moment : Moment) (unit room : ℕ) (call : C
   pub valid : AllByRecursion IsRecord (records_of system moment unit call)
   pub fits : length (bytes_of system moment unit call) ≤ room
 
--- a call that met a fault tells nothing
-abbrev pub TellsUnless : Bool → System → Moment → ℕ → ℕ → ControlCall → List ℕ → List ℕ → Type 0
-TellsUnless true system moment unit room call before after = after ≡ before
-TellsUnless false system moment unit room call before after = Tells system moment unit room call before after
-
 -- they are longer than the room
 abbrev pub IsLonger : System → Moment → ℕ → ℕ → ControlCall → Type 0
 IsLonger system moment unit room call = room < length (bytes_of system moment unit call)

@@ -1,22 +1,21 @@
 //! Inputs of terminals.
-ghost use Rattle.std.specs.Prelude.{◌≡◌, ◌<◌, false, length, slice_get, IfOk, IfErr, IfSome, OnErr, Some};
+ghost use Rattle.std.specs.Prelude.{◌≡◌, ◌<◌, false, length, slice_get, IfOk, IfErr, IfSome, OnErr, OnOk, Some};
 ghost use Rattle.std.specs.Option.{option_and_then, option_copied, option_map_or};
 ghost use Rattle.tm_types.specs.Name.{IsName};
 ghost use Rattle.model_system.specs.Codes.{code_at, code_place};
 ghost use Rattle.model_machine.specs.declared.entry.Entry.TheVariants.{Accept};
 ghost use Rattle.model_machine.specs.declared.entry.ControlCall.TheVariants.{Input};
-ghost use Rattle.model_machine.specs.History.{is_fault};
 ghost use Rattle.model_machine.specs.Steps.{by_number, most_segments, input_answer};
 ghost use Rattle.step_telling.specs.Untold.{WhereFull};
-ghost use Rattle.tm_machine.specs.Answers.{Answers};
-ghost use Rattle.tm_machine.specs.Inputs.{IsNewInput, IsRefusal, code_for, way_by, kept_so};
-ghost use Rattle.tm_machine.specs.Told.{IsLonger, TellsUnless};
+ghost use Rattle.tm_machine.specs.Answers.{IsAnswered};
+ghost use Rattle.tm_machine.specs.Inputs.{IsNewInput, IsRefusal, code_for, is_input_fault, way_by, kept_so};
+ghost use Rattle.tm_machine.specs.Told.{IsLonger, Tells};
 
 use crate::lookup::{code_word, find_code};
 use crate::parts::Parts;
 use conversation::Busy;
 use lasting_state::{Enqueued, KeptInput, Untold, kept_first};
-use model_machine::{ControlFault, InputRefused, Taken};
+use model_machine::{InputRefused, Taken};
 use model_system::{Code, SegmentKind};
 use region_work::{count_busy, follow};
 use std::alloc::Global;
@@ -77,23 +76,23 @@ fn way_by(conversation: &Option<Name>, pad: u16) -> Way
 }
 
 /// The input as it is kept.
-fn kept_so(alloc: Global, input: &NewInput, segments: Segments) -> Result<KeptInput, Memory>
-    ensures { IfOk result (λ kept. kept ≡ kept_so input.now.way input.now.code segments) }
+fn kept_so(alloc: Global, input: &NewInput, segments: &Segments) -> Result<KeptInput, Memory>
+    ensures { IfOk result (λ kept. kept ≡ kept_so input.now.way input.now.code segments.now) }
 {
     match input.way {
         Way::Alone => Ok(KeptInput {
             code: input.code,
             conversation: false,
-            segments,
+            segments: segments.clone()?,
             begins: None,
         }),
         Way::GoesOn => Ok(KeptInput {
             code: input.code,
             conversation: true,
-            segments,
+            segments: segments.clone()?,
             begins: None,
         }),
-        Way::Begins(pad) => kept_first(alloc, &input.code, pad, &segments),
+        Way::Begins(pad) => kept_first(alloc, &input.code, pad, segments),
     }
 }
 
@@ -142,39 +141,44 @@ fn by_number(last: u64, number: u64) -> Option<Result<Taken, InputRefused>>
 
 impl Parts {
     /// Takes an input, or says why not. The record of an input that is kept, of at most `room` bytes, is appended. A
-    /// refusal changes nothing; `Memory` is answered too where a count would pass its limit. A fault in the answer's
-    /// place changes and tells nothing.
+    /// refusal changes nothing, and no answer is a fault; `Memory` comes too where a count would pass its limit.
     pub fn accept(
         &mut self,
         terminal: &Name,
         number: u64,
-        segments: Segments,
+        segments: &Segments,
         room: usize,
         told: &mut Vec<u8>,
     ) -> Result<Result<Taken, InputRefused>, Untold>
-        requires { 0 < length segments }
-        ensures answer { IfOk result (λ answer. Answers self.old self.new (Accept terminal.now number segments answer)) }
-        ensures told { IfOk result (λ answer. TellsUnless (is_fault (Accept terminal.now number segments answer)) self.old.system self.old.moment 0 room (Input terminal.now number segments) told.old.items told.new.items) }
+        requires { 0 < length segments.now }
+        ensures answer { IfOk result (λ answer. IsAnswered self.old self.new (Accept terminal.now number segments.now answer)) }
+        ensures no_fault { IfOk result (λ answer. is_input_fault answer ≡ false) }
+        ensures told { OnOk result (Tells self.old.system self.old.moment 0 room (Input terminal.now number segments.now) told.old.items told.new.items) }
         ensures databases { self.new.databases ≡ self.old.databases }
         ensures err { OnErr result (self.new ≡ self.old) }
         ensures untold { OnErr result (told.new.items ≡ told.old.items) }
-        ensures full { IfErr result (WhereFull (IsLonger self.old.system self.old.moment 0 room (Input terminal.now number segments))) }
+        ensures full { IfErr result (WhereFull (IsLonger self.old.system self.old.moment 0 room (Input terminal.now number segments.now))) }
     {
         let _ = &self.alloc;
-        match self.new_input(terminal, number, &segments) {
+        let Ok(count) = u32::try_from(segments.len()) else {
+            return Err(Untold::Memory);
+        };
+        match self.new_input(terminal, number, segments, count) {
             Ok(input) => self.enqueue(terminal, number, input, segments, room, told),
             Err(answer) => Ok(answer),
         }
     }
 
-    /// Where an input goes, if it is new; else its answer.
+    /// Where an input of so many segments goes, if it is new; else its answer.
     fn new_input(
         &self,
         terminal: &Name,
         number: u64,
         segments: &Segments,
+        count: u32,
     ) -> Result<NewInput, Result<Taken, InputRefused>>
-        requires { 0 < length segments.now }
+        requires some { 0 < length segments.now }
+        requires count { count ≡ length segments.now }
         ensures new { IfOk result (IsNewInput self.now terminal.now number segments.now) }
         ensures refused { IfErr result (IsRefusal (input_answer self.now.system self.now.moment terminal.now number segments.now)) }
     {
@@ -203,9 +207,6 @@ impl Parts {
             return Err(Err(InputRefused::StoppedCode(name)));
         }
         let most = most_segments(code.transaction.segment_kind);
-        let Ok(count) = u32::try_from(segments.len()) else {
-            return Err(Err(InputRefused::Fault(ControlFault::Memory)));
-        };
         if count > most {
             return Err(Err(InputRefused::SegmentsOver(count, most)));
         }
@@ -223,18 +224,19 @@ impl Parts {
         terminal: &Name,
         number: u64,
         input: NewInput,
-        segments: Segments,
+        segments: &Segments,
         room: usize,
         told: &mut Vec<u8>,
     ) -> Result<Result<Taken, InputRefused>, Untold>
-        requires new { IsNewInput self.old terminal.now number segments input }
-        requires segment { 0 < length segments }
-        ensures answer { IfOk result (λ answer. Answers self.old self.new (Accept terminal.now number segments answer)) }
-        ensures told { IfOk result (λ answer. TellsUnless (is_fault (Accept terminal.now number segments answer)) self.old.system self.old.moment 0 room (Input terminal.now number segments) told.old.items told.new.items) }
+        requires new { IsNewInput self.old terminal.now number segments.now input }
+        requires segment { 0 < length segments.now }
+        ensures answer { IfOk result (λ answer. IsAnswered self.old self.new (Accept terminal.now number segments.now answer)) }
+        ensures no_fault { IfOk result (λ answer. is_input_fault answer ≡ false) }
+        ensures told { OnOk result (Tells self.old.system self.old.moment 0 room (Input terminal.now number segments.now) told.old.items told.new.items) }
         ensures databases { self.new.databases ≡ self.old.databases }
         ensures err { OnErr result (self.new ≡ self.old) }
         ensures untold { OnErr result (told.new.items ≡ told.old.items) }
-        ensures full { IfErr result (WhereFull (IsLonger self.old.system self.old.moment 0 room (Input terminal.now number segments))) }
+        ensures full { IfErr result (WhereFull (IsLonger self.old.system self.old.moment 0 room (Input terminal.now number segments.now))) }
     {
         let Ok(kept) = kept_so(self.alloc, &input, segments) else {
             return Err(Untold::Memory);

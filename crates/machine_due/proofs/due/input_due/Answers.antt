@@ -26,7 +26,7 @@ pub returns-in-Ok-write_parts-clause-behind : goal.returns-in-Ok-write_parts-cla
 returns-in-Ok-write_parts-clause-behind g c =
     behind g.D.Disk.state c.args.parts.now c.args.units.now c.args.next_unit c.args.journal.now c.args.disk.now c.requires.logged c.stores-before.ensures.has c.requires.counted c.in-Ok.bytes.items
     (subst (λ (r : RestartSector). IsSnapshot c.args.parts.now c.args.units.now c.args.next_unit (r.checkpoint + 1) c.in-Ok.bytes.items) c.restart.ensures c.in-Ok.ensures)
-    c.write_parts.new.journal c.write_parts.new.disk c.write_parts.ensures.keeps.stays.size c.tell_input.new.parts.system c.in-Ok-tell_input.ensures.answer.system (all_stores (slots_now c.tell_input.new.parts)) (ap (λ (d : DatabasesState). all_stores (slots_in d)) c.tell_input.ensures.databases) c.begin-told.result c.tell_input.new.journal (records_of c.args.parts.now.system c.args.parts.now.moment 0 (Input c.args.terminal.now c.args.number c.args.segments))
+    c.write_parts.new.journal c.write_parts.new.disk c.write_parts.ensures.keeps.stays.size c.tell_input.new.parts.system c.in-Ok-tell_input.ensures.answer.system (all_stores (slots_now c.tell_input.new.parts)) (ap (λ (d : DatabasesState). all_stores (slots_in d)) c.tell_input.ensures.databases) c.begin-told.result c.tell_input.new.journal (records_of c.args.parts.now.system c.args.parts.now.moment 0 (Input c.args.terminal.now c.args.number c.args.segments.now))
     (record { count_is = ap (λ (w : Writer). w.count) c.begin-told.ensures.log ∙ c.logs.ensures.value ∙ ap (λ (y : System). y.logs) c.system.ensures; place_is = ap (λ (w : Writer). w.place) c.begin-told.ensures.log; appended_is = ap (λ (w : Writer). w.appended) c.begin-told.ensures.log }) c.in-Ok-tell_input.ensures.told
     (subst (λ (b : List ℕ). WroteTold c.tell_input.new.parts.system (all_stores (slots_now c.tell_input.new.parts)) b c.tell_input.new.journal.log.appended c.args.journal.now c.write_parts.new.journal (g.D.Disk.state c.args.disk.now) (g.D.Disk.state c.write_parts.new.disk)) c.as_slice.ensures.value c.in-Ok-write_parts.ensures.done)
 

@@ -10,11 +10,11 @@ pub accept_any-answer-requires-clause-counted : goal.accept_any-answer-requires-
 accept_any-answer-requires-clause-counted g c = counted_now c.args.self.now.machine.moment.lasting c.args.self.now.next_unit c.args.self.now.journal c.requires.unspent
 
 pub returns-clause-goes : goal.returns-clause-goes
-returns-clause-goes g c = goes g.D.Disk.state c.args.self.now c.accept_any-answer.new.self (Accept c.args.terminal.now c.args.number c.args.segments c.accept_any-answer.result) (c.is_served-before.ensures.lasts c.requires.served) (g.met.D.Disk.is_disk c.args.self.now.disk) (g.met.D.Disk.is_disk c.accept_any-answer.new.self.disk) (fault_in (Accept c.args.terminal.now c.args.number c.args.segments c.accept_any-answer.result)) c.accept_any-answer.ensures.did.did.did
+returns-clause-goes g c = goes g.D.Disk.state c.args.self.now c.accept_any-answer.new.self (Accept c.args.terminal.now c.args.number c.args.segments.now c.accept_any-answer.result) (c.is_served-before.ensures.lasts c.requires.served) (g.met.D.Disk.is_disk c.args.self.now.disk) (g.met.D.Disk.is_disk c.accept_any-answer.new.self.disk) (fault_in (Accept c.args.terminal.now c.args.number c.args.segments.now c.accept_any-answer.result)) c.accept_any-answer.ensures.did.did.did
 
 pub returns-clause-crash : goal.returns-clause-crash
-returns-clause-crash g c = crashes g.D.Disk.state c.args.self.now c.accept_any-answer.new.self (Accept c.args.terminal.now c.args.number c.args.segments c.accept_any-answer.result) (c.is_served-before.ensures.lasts c.requires.served) (g.met.D.Disk.is_disk c.args.self.now.disk) (g.met.D.Disk.is_disk c.accept_any-answer.new.self.disk) (fault_in (Accept c.args.terminal.now c.args.number c.args.segments c.accept_any-answer.result)) c.accept_any-answer.ensures.did.did.did
+returns-clause-crash g c = crashes g.D.Disk.state c.args.self.now c.accept_any-answer.new.self (Accept c.args.terminal.now c.args.number c.args.segments.now c.accept_any-answer.result) (c.is_served-before.ensures.lasts c.requires.served) (g.met.D.Disk.is_disk c.args.self.now.disk) (g.met.D.Disk.is_disk c.accept_any-answer.new.self.disk) (fault_in (Accept c.args.terminal.now c.args.number c.args.segments.now c.accept_any-answer.result)) c.accept_any-answer.ensures.did.did.did
 
 pub returns-clause-counts : goal.returns-clause-counts
 returns-clause-counts g c =
-    counted g.D.Disk.state c.args.self.now c.accept_any-answer.new.self (Accept c.args.terminal.now c.args.number c.args.segments c.accept_any-answer.result) (c.is_served-before.ensures.lasts c.requires.served) (g.met.D.Disk.is_disk c.args.self.now.disk) (g.met.D.Disk.is_disk c.accept_any-answer.new.self.disk) (2 * c.args.self.now.machine.system.logs) (omega arith) c.accept_any-answer.ensures.did.counts
+    counted g.D.Disk.state c.args.self.now c.accept_any-answer.new.self (Accept c.args.terminal.now c.args.number c.args.segments.now c.accept_any-answer.result) (c.is_served-before.ensures.lasts c.requires.served) (g.met.D.Disk.is_disk c.args.self.now.disk) (g.met.D.Disk.is_disk c.accept_any-answer.new.self.disk) (2 * c.args.self.now.machine.system.logs) (omega arith) c.accept_any-answer.ensures.did.counts

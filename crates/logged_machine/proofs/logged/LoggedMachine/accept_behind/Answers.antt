@@ -22,7 +22,7 @@ invariant_of-self-then-not-is_new g c =
     (behind_input g.D.Disk.state (ap (λ (v : LoggedState _). v.served) c.self.view_is ∙ c.requires.served) (c.self.invariant (ap (λ (v : LoggedState _). v.served) c.self.view_is ∙ c.requires.served))
     (subst (λ (v : LoggedState _). IsCounted 0 v.machine.moment.lasting v.next_unit v.journal) (sym c.self.view_is) c.requires.counted)
     c.input_due-done.ensures.keeps c.input_due-done.ensures.counts c.input_due-done.ensures.writes c.as_slice.ensures.value c.in-Ok.ensures.before c.in-Ok.ensures.slots
-    c.args.terminal.now c.args.number c.args.segments c.in-Ok.answer c.in-Ok.ensures.behind c.in-Ok.ensures.answer c.in-Ok.ensures.no_fault c.in-Ok.ensures.databases c.requires.small) (sym c.if-not-is_new.ensures)
+    c.args.terminal.now c.args.number c.args.segments.now c.in-Ok.answer c.in-Ok.ensures.behind c.in-Ok.ensures.answer c.in-Ok.ensures.no_fault c.in-Ok.ensures.databases c.requires.small) (sym c.if-not-is_new.ensures)
 
 pub force-requires-clause-area : goal.force-requires-clause-area
 force-requires-clause-area g c =
@@ -30,7 +30,7 @@ force-requires-clause-area g c =
     (behind_input g.D.Disk.state (ap (λ (v : LoggedState _). v.served) c.self.view_is ∙ c.requires.served) (c.self.invariant (ap (λ (v : LoggedState _). v.served) c.self.view_is ∙ c.requires.served))
     (subst (λ (v : LoggedState _). IsCounted 0 v.machine.moment.lasting v.next_unit v.journal) (sym c.self.view_is) c.requires.counted)
     c.input_due-done.ensures.keeps c.input_due-done.ensures.counts c.input_due-done.ensures.writes c.as_slice.ensures.value c.in-Ok.ensures.before c.in-Ok.ensures.slots
-    c.args.terminal.now c.args.number c.args.segments c.in-Ok.answer c.in-Ok.ensures.behind c.in-Ok.ensures.answer c.in-Ok.ensures.no_fault c.in-Ok.ensures.databases c.requires.small)
+    c.args.terminal.now c.args.number c.args.segments.now c.in-Ok.answer c.in-Ok.ensures.behind c.in-Ok.ensures.answer c.in-Ok.ensures.no_fault c.in-Ok.ensures.databases c.requires.small)
 
 pub force-requires-clause-sequences : goal.force-requires-clause-sequences
 force-requires-clause-sequences g c =
@@ -38,7 +38,7 @@ force-requires-clause-sequences g c =
     (behind_input g.D.Disk.state (ap (λ (v : LoggedState _). v.served) c.self.view_is ∙ c.requires.served) (c.self.invariant (ap (λ (v : LoggedState _). v.served) c.self.view_is ∙ c.requires.served))
     (subst (λ (v : LoggedState _). IsCounted 0 v.machine.moment.lasting v.next_unit v.journal) (sym c.self.view_is) c.requires.counted)
     c.input_due-done.ensures.keeps c.input_due-done.ensures.counts c.input_due-done.ensures.writes c.as_slice.ensures.value c.in-Ok.ensures.before c.in-Ok.ensures.slots
-    c.args.terminal.now c.args.number c.args.segments c.in-Ok.answer c.in-Ok.ensures.behind c.in-Ok.ensures.answer c.in-Ok.ensures.no_fault c.in-Ok.ensures.databases c.requires.small)
+    c.args.terminal.now c.args.number c.args.segments.now c.in-Ok.answer c.in-Ok.ensures.behind c.in-Ok.ensures.answer c.in-Ok.ensures.no_fault c.in-Ok.ensures.databases c.requires.small)
 
 pub force-requires-clause-ready : goal.force-requires-clause-ready
 force-requires-clause-ready g c =
@@ -46,7 +46,7 @@ force-requires-clause-ready g c =
     (behind_input g.D.Disk.state (ap (λ (v : LoggedState _). v.served) c.self.view_is ∙ c.requires.served) (c.self.invariant (ap (λ (v : LoggedState _). v.served) c.self.view_is ∙ c.requires.served))
     (subst (λ (v : LoggedState _). IsCounted 0 v.machine.moment.lasting v.next_unit v.journal) (sym c.self.view_is) c.requires.counted)
     c.input_due-done.ensures.keeps c.input_due-done.ensures.counts c.input_due-done.ensures.writes c.as_slice.ensures.value c.in-Ok.ensures.before c.in-Ok.ensures.slots
-    c.args.terminal.now c.args.number c.args.segments c.in-Ok.answer c.in-Ok.ensures.behind c.in-Ok.ensures.answer c.in-Ok.ensures.no_fault c.in-Ok.ensures.databases c.requires.small)
+    c.args.terminal.now c.args.number c.args.segments.now c.in-Ok.answer c.in-Ok.ensures.behind c.in-Ok.ensures.answer c.in-Ok.ensures.no_fault c.in-Ok.ensures.databases c.requires.small)
 
 pub invariant_of-self-in-Ok-force : goal.invariant_of-self-in-Ok-force
 invariant_of-self-in-Ok-force g c =
@@ -54,7 +54,7 @@ invariant_of-self-in-Ok-force g c =
     (behind_input g.D.Disk.state (ap (λ (v : LoggedState _). v.served) c.self.view_is ∙ c.requires.served) (c.self.invariant (ap (λ (v : LoggedState _). v.served) c.self.view_is ∙ c.requires.served))
     (subst (λ (v : LoggedState _). IsCounted 0 v.machine.moment.lasting v.next_unit v.journal) (sym c.self.view_is) c.requires.counted)
     c.input_due-done.ensures.keeps c.input_due-done.ensures.counts c.input_due-done.ensures.writes c.as_slice.ensures.value c.in-Ok.ensures.before c.in-Ok.ensures.slots
-    c.args.terminal.now c.args.number c.args.segments c.in-Ok.answer c.in-Ok.ensures.behind c.in-Ok.ensures.answer c.in-Ok.ensures.no_fault c.in-Ok.ensures.databases c.requires.small)
+    c.args.terminal.now c.args.number c.args.segments.now c.in-Ok.answer c.in-Ok.ensures.behind c.in-Ok.ensures.answer c.in-Ok.ensures.no_fault c.in-Ok.ensures.databases c.requires.small)
     (sym c.if-not-is_new.ensures) c.force.new.self c.force.new.disk (record { within = c.force.ensures.any_moment; stays = c.force.ensures.stays; kept = c.in-Ok-force.ensures.kept; log_is = c.in-Ok-force.ensures.log; ready = c.in-Ok-force.ensures.ready; no_fault = c.in-Ok-force.ensures.no_fault; follows = c.in-Ok-force.ensures.done }) c.force.ensures.restart
 
 pub returns-then-not-is_new : goal.returns-then-not-is_new
@@ -65,7 +65,7 @@ returns-then-not-is_new g c =
           (behind_input g.D.Disk.state (ap (λ (v : LoggedState _). v.served) c.self.view_is ∙ c.requires.served) (c.self.invariant (ap (λ (v : LoggedState _). v.served) c.self.view_is ∙ c.requires.served))
           (subst (λ (v : LoggedState _). IsCounted 0 v.machine.moment.lasting v.next_unit v.journal) (sym c.self.view_is) c.requires.counted)
           c.input_due-done.ensures.keeps c.input_due-done.ensures.counts c.input_due-done.ensures.writes c.as_slice.ensures.value c.in-Ok.ensures.before c.in-Ok.ensures.slots
-          c.args.terminal.now c.args.number c.args.segments c.in-Ok.answer c.in-Ok.ensures.behind c.in-Ok.ensures.answer c.in-Ok.ensures.no_fault c.in-Ok.ensures.databases c.requires.small) (sym c.if-not-is_new.ensures);
+          c.args.terminal.now c.args.number c.args.segments.now c.in-Ok.answer c.in-Ok.ensures.behind c.in-Ok.ensures.answer c.in-Ok.ensures.no_fault c.in-Ok.ensures.databases c.requires.small) (sym c.if-not-is_new.ensures);
     })
 
 pub returns-in-Ok-force : goal.returns-in-Ok-force
@@ -76,7 +76,7 @@ returns-in-Ok-force g c =
           (behind_input g.D.Disk.state (ap (λ (v : LoggedState _). v.served) c.self.view_is ∙ c.requires.served) (c.self.invariant (ap (λ (v : LoggedState _). v.served) c.self.view_is ∙ c.requires.served))
           (subst (λ (v : LoggedState _). IsCounted 0 v.machine.moment.lasting v.next_unit v.journal) (sym c.self.view_is) c.requires.counted)
           c.input_due-done.ensures.keeps c.input_due-done.ensures.counts c.input_due-done.ensures.writes c.as_slice.ensures.value c.in-Ok.ensures.before c.in-Ok.ensures.slots
-          c.args.terminal.now c.args.number c.args.segments c.in-Ok.answer c.in-Ok.ensures.behind c.in-Ok.ensures.answer c.in-Ok.ensures.no_fault c.in-Ok.ensures.databases c.requires.small)
+          c.args.terminal.now c.args.number c.args.segments.now c.in-Ok.answer c.in-Ok.ensures.behind c.in-Ok.ensures.answer c.in-Ok.ensures.no_fault c.in-Ok.ensures.databases c.requires.small)
           (sym c.if-not-is_new.ensures) c.force.new.self c.force.new.disk (record { within = c.force.ensures.any_moment; stays = c.force.ensures.stays; kept = c.in-Ok-force.ensures.kept; log_is = c.in-Ok-force.ensures.log; ready = c.in-Ok-force.ensures.ready; no_fault = c.in-Ok-force.ensures.no_fault; follows = c.in-Ok-force.ensures.done }) c.force.ensures.restart c.force.ensures.writes;
     })
 
@@ -88,10 +88,10 @@ returns-in-Err-force g c =
           (behind_input g.D.Disk.state (ap (λ (v : LoggedState _). v.served) c.self.view_is ∙ c.requires.served) (c.self.invariant (ap (λ (v : LoggedState _). v.served) c.self.view_is ∙ c.requires.served))
           (subst (λ (v : LoggedState _). IsCounted 0 v.machine.moment.lasting v.next_unit v.journal) (sym c.self.view_is) c.requires.counted)
           c.input_due-done.ensures.keeps c.input_due-done.ensures.counts c.input_due-done.ensures.writes c.as_slice.ensures.value c.in-Ok.ensures.before c.in-Ok.ensures.slots
-          c.args.terminal.now c.args.number c.args.segments c.in-Ok.answer c.in-Ok.ensures.behind c.in-Ok.ensures.answer c.in-Ok.ensures.no_fault c.in-Ok.ensures.databases c.requires.small)
-          (sym c.if-not-is_new.ensures) c.force.new.self c.force.new.disk (Accept c.args.terminal.now c.args.number c.args.segments (Err (Fault Disk))) refl refl refl c.force.ensures.any_moment c.force.ensures.stays c.in-Err-force.ensures.cause c.force.ensures.restart c.force.ensures.writes;
+          c.args.terminal.now c.args.number c.args.segments.now c.in-Ok.answer c.in-Ok.ensures.behind c.in-Ok.ensures.answer c.in-Ok.ensures.no_fault c.in-Ok.ensures.databases c.requires.small)
+          (sym c.if-not-is_new.ensures) c.force.new.self c.force.new.disk (Accept c.args.terminal.now c.args.number c.args.segments.now (Err (Fault Disk))) refl refl refl c.force.ensures.any_moment c.force.ensures.stays c.in-Err-force.ensures.cause c.force.ensures.restart c.force.ensures.writes;
     })
 
 pub returns-in-Err : goal.returns-in-Err
 returns-in-Err g c =
-    rw (sym c.self.view_is, c.is_memory-self-inside.ensures) (record { did = done_refused g.D.Disk.state c.self.inside.parts c.input_due-done.new.parts c.self.inside.text c.self.inside.journal c.input_due-done.new.journal c.self.inside.units.items c.self.inside.next_unit c.self.inside.disk c.input_due-done.new.disk c.self.inside.served (c.self.invariant (ap (λ (v : LoggedState _). v.served) c.self.view_is ∙ c.requires.served)) (ap (λ (v : LoggedState _). v.served) c.self.view_is ∙ c.requires.served) c.input_due-done.ensures.keeps c.input_due-done.ensures.counts c.input_due-done.ensures.writes c.input_due-done.ensures.system c.in-Err.fault (Accept c.args.terminal.now c.args.number c.args.segments (Err (Fault c.in-Err.fault))) c.in-Err.ensures.cause })
+    rw (sym c.self.view_is, c.is_memory-self-inside.ensures) (record { did = done_refused g.D.Disk.state c.self.inside.parts c.input_due-done.new.parts c.self.inside.text c.self.inside.journal c.input_due-done.new.journal c.self.inside.units.items c.self.inside.next_unit c.self.inside.disk c.input_due-done.new.disk c.self.inside.served (c.self.invariant (ap (λ (v : LoggedState _). v.served) c.self.view_is ∙ c.requires.served)) (ap (λ (v : LoggedState _). v.served) c.self.view_is ∙ c.requires.served) c.input_due-done.ensures.keeps c.input_due-done.ensures.counts c.input_due-done.ensures.writes c.input_due-done.ensures.system c.in-Err.fault (Accept c.args.terminal.now c.args.number c.args.segments.now (Err (Fault c.in-Err.fault))) c.in-Err.ensures.cause })

@@ -1,5 +1,5 @@
 -- the control region goes on as its machine does
-use Rattle.std.proofs.Common.{◌≡◌, ◌-◌, ◌∙◌, refl, sym, ap, subst, List, ℕ, arith}
+use Rattle.std.proofs.Common.{◌≡◌, ◌-◌, ◌∙◌, refl, sym, ap, subst, List, arith}
 use Rattle.model_machine.specs.declared.entry.Entry.{Entry}
 use Rattle.model_machine.specs.declared.entry.Entry.TheVariants.{Accept}
 use Rattle.control_life.specs.Faults.{fault_in}
@@ -23,7 +23,7 @@ invariant_of-self-2 g c =
       numbers = λ served. tt;
     })
     c.steps_of-self-inside.ensures c.accept-answer.ensures.goes c.accept-answer.ensures.crash
-    (subst (λ (e : Entry). c.note.new.history.items ≡ noted (is_noted (fault_in e)) c.self.inside.history.items e) (c.input_entry.ensures ∙ ap (λ (s : List (List ℕ)). Accept c.args.terminal.now c.args.number s c.accept-answer.result) c.in-Ok.ensures)
+    (subst (λ (e : Entry). c.note.new.history.items ≡ noted (is_noted (fault_in e)) c.self.inside.history.items e) c.input_entry.ensures
     (c.note.ensures.items ∙ ap (λ (es : List Entry). noted (is_noted (fault_in c.input_entry.result)) es c.input_entry.result) c.reserve.ensures.items))).1
 
 pub returns-clause-crash : goal.returns-clause-crash
@@ -39,7 +39,7 @@ returns-clause-crash g c = rw (sym c.self.view_is)
       numbers = λ served. tt;
     })
     c.steps_of-self-inside.ensures c.accept-answer.ensures.goes c.accept-answer.ensures.crash
-    (subst (λ (e : Entry). c.note.new.history.items ≡ noted (is_noted (fault_in e)) c.self.inside.history.items e) (c.input_entry.ensures ∙ ap (λ (s : List (List ℕ)). Accept c.args.terminal.now c.args.number s c.accept-answer.result) c.in-Ok.ensures)
+    (subst (λ (e : Entry). c.note.new.history.items ≡ noted (is_noted (fault_in e)) c.self.inside.history.items e) c.input_entry.ensures
     (c.note.ensures.items ∙ ap (λ (es : List Entry). noted (is_noted (fault_in c.input_entry.result)) es c.input_entry.result) c.reserve.ensures.items))).0.crash
 
 pub returns-clause-undone : goal.returns-clause-undone
@@ -55,7 +55,7 @@ returns-clause-undone g c = rw (sym c.self.view_is)
       numbers = λ served. tt;
     })
     c.steps_of-self-inside.ensures c.accept-answer.ensures.goes c.accept-answer.ensures.crash
-    (subst (λ (e : Entry). c.note.new.history.items ≡ noted (is_noted (fault_in e)) c.self.inside.history.items e) (c.input_entry.ensures ∙ ap (λ (s : List (List ℕ)). Accept c.args.terminal.now c.args.number s c.accept-answer.result) c.in-Ok.ensures)
+    (subst (λ (e : Entry). c.note.new.history.items ≡ noted (is_noted (fault_in e)) c.self.inside.history.items e) c.input_entry.ensures
     (c.note.ensures.items ∙ ap (λ (es : List Entry). noted (is_noted (fault_in c.input_entry.result)) es c.input_entry.result) c.reserve.ensures.items))).0.undone
 
 pub returns-clause-room : goal.returns-clause-room
@@ -65,7 +65,7 @@ returns-clause-room g c = rw (sym c.self.view_is)
     c.self.inside.history.items c.note.new.history.items c.self.inside.history.len c.note.new.history.len c.self.inside.history.cap c.note.new.history.cap
     refl refl c.self.inside.history.ok.0 c.note.new.history.ok.0 (omega (arith, c.reserve.ensures.capacity, c.note.ensures.capacity))
     (fault_in (Accept c.args.terminal.now c.args.number c.args.segments c.accept-answer.result)) (Accept c.args.terminal.now c.args.number c.args.segments c.accept-answer.result)
-    (subst (λ (e : Entry). c.note.new.history.items ≡ noted (is_noted (fault_in e)) c.self.inside.history.items e) (c.input_entry.ensures ∙ ap (λ (s : List (List ℕ)). Accept c.args.terminal.now c.args.number s c.accept-answer.result) c.in-Ok.ensures)
+    (subst (λ (e : Entry). c.note.new.history.items ≡ noted (is_noted (fault_in e)) c.self.inside.history.items e) c.input_entry.ensures
     (c.note.ensures.items ∙ ap (λ (es : List Entry). noted (is_noted (fault_in c.input_entry.result)) es c.input_entry.result) c.reserve.ensures.items)))
 
 pub returns-clause-lasts : goal.returns-clause-lasts
@@ -81,7 +81,7 @@ returns-clause-lasts g c =
       numbers = λ served. tt;
     })
     c.steps_of-self-inside.ensures c.accept-answer.ensures.goes c.accept-answer.ensures.crash
-    (subst (λ (e : Entry). c.note.new.history.items ≡ noted (is_noted (fault_in e)) c.self.inside.history.items e) (c.input_entry.ensures ∙ ap (λ (s : List (List ℕ)). Accept c.args.terminal.now c.args.number s c.accept-answer.result) c.in-Ok.ensures)
+    (subst (λ (e : Entry). c.note.new.history.items ≡ noted (is_noted (fault_in e)) c.self.inside.history.items e) c.input_entry.ensures
     (c.note.ensures.items ∙ ap (λ (es : List Entry). noted (is_noted (fault_in c.input_entry.result)) es c.input_entry.result) c.reserve.ensures.items))).0.lasts
 
 pub returns-clause-frugal : goal.returns-clause-frugal
@@ -98,10 +98,6 @@ returns-clause-counts g c = rw (sym c.self.view_is) c.accept-answer.ensures.coun
 
 pub returns-in-Some-clause-counts : goal.returns-in-Some-clause-counts
 returns-in-Some-clause-counts g c = rw (sym c.self.view_is)
-    (still_counts g.D.Disk.state c.self.inside.machine c.self.inside.opening c.self.inside.history.items 0 0 c.self.inside.began (ap (λ (v : ControlOnDisk _). v.up) c.self.view_is ∙ c.requires.up) c.spent.ensures.lasts (g.met.D.Disk.is_disk c.self.inside.machine.disk))
-
-pub returns-in_default-clone-clause-counts : goal.returns-in_default-clone-clause-counts
-returns-in_default-clone-clause-counts g c = rw (sym c.self.view_is)
     (still_counts g.D.Disk.state c.self.inside.machine c.self.inside.opening c.self.inside.history.items 0 0 c.self.inside.began (ap (λ (v : ControlOnDisk _). v.up) c.self.view_is ∙ c.requires.up) c.spent.ensures.lasts (g.met.D.Disk.is_disk c.self.inside.machine.disk))
 
 pub returns-then-is_err-clause-counts : goal.returns-then-is_err-clause-counts

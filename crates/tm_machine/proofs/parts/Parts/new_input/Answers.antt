@@ -1,4 +1,4 @@
-use Rattle.std.proofs.Common.{rules, ◌≡◌, sym, ap, ◌∙◌, refl}
+use Rattle.std.proofs.Common.{◌≡◌, sym, ap, ◌∙◌, refl}
 use Rattle.std.specs.Prelude.{Ok}
 use Rattle.model_queues.specs.Queue.{messages_of}
 use Rattle.model_conversation.specs.Input.{busy_id}
@@ -59,7 +59,7 @@ returns-then-count-most-clause-refused c =
     (c.in-Some-code_for.ensures.value ∙ ap (λ k. code_at k (code_for c.in-Ok.conversation c.args.segments.now)) c.codes.ensures.value) (not_halted c.self.inside.system c.self.inside.tables c.self.inside.codes c.self.inside.regions.items c.self.invariant c.args.terminal.now c.args.number c.args.segments.now
     c.in-Some.place c.in-Some.ensures.value c.is_stopped.result c.is_stopped.ensures c.if-is_stopped.false c.last_input.result c.last_input.ensures c.in_default-by_number.ensures c.in-Ok.conversation says c.in-Some-code_for.code.now
     (c.in-Some-code_for.ensures.value ∙ ap (λ k. code_at k (code_for c.in-Ok.conversation c.args.segments.now)) c.codes.ensures.value) c.named-name.result c.named-name.ensures.value c.in-Some-code_for.ensures.named
-    c.is_code_stopped.result c.is_code_stopped.ensures c.if-is_code_stopped.false) c.most_segments-most.result c.in-Ok-try_from.count c.most_segments-most.ensures (search rules)
+    c.is_code_stopped.result c.is_code_stopped.ensures c.if-is_code_stopped.false) c.most_segments-most.result c.args.count c.most_segments-most.ensures c.requires.count
     c.if-count-most.true)
 
 pub returns-clause-new : goal.returns-clause-new
@@ -72,6 +72,6 @@ returns-clause-new c =
     (c.in-Some-code_for.ensures.value ∙ ap (λ k. code_at k (code_for c.in-Ok.conversation c.args.segments.now)) c.codes.ensures.value) (not_halted c.self.inside.system c.self.inside.tables c.self.inside.codes c.self.inside.regions.items c.self.invariant c.args.terminal.now c.args.number c.args.segments.now
     c.in-Some.place c.in-Some.ensures.value c.is_stopped.result c.is_stopped.ensures c.if-is_stopped.false c.last_input.result c.last_input.ensures c.in_default-by_number.ensures c.in-Ok.conversation says c.in-Some-code_for.code.now
     (c.in-Some-code_for.ensures.value ∙ ap (λ k. code_at k (code_for c.in-Ok.conversation c.args.segments.now)) c.codes.ensures.value) c.named-name.result c.named-name.ensures.value c.in-Some-code_for.ensures.named
-    c.is_code_stopped.result c.is_code_stopped.ensures c.if-is_code_stopped.false) c.most_segments-most.result c.in-Ok-try_from.count c.most_segments-most.ensures (search rules)
+    c.is_code_stopped.result c.is_code_stopped.ensures c.if-is_code_stopped.false) c.most_segments-most.result c.args.count c.most_segments-most.ensures c.requires.count
     c.if-count-most.false (record { place = c.in-Some.place; code = c.named-name.result; way = c.way_by-way.result }) refl c.in-Some.ensures.within c.way_by-way.ensures c.named-name.ensures.value
     c.in-Some-code_for.ensures.named c.named-name.ensures.name)
