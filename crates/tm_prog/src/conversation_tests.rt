@@ -1,407 +1,115 @@
 //! Worked sessions of conversations.
 
-use crate::tests::{expect_source, joined};
-use std::alloc::Global;
-use std::process::Abort;
+use crate::test_runs::{expect_bank, expect_each};
+use crate::test_texts::{CONVERSATION_PROGRAM, CONVERSING, ECHO_PROGRAM, joined};
 use std::test::Fail;
 
-/// Codes with scratch pads: one that repeats what it gets, one that counts in its pad, one that shows what its pad
-/// was, one that takes what it gets for its pad, and one that gives its pad back twice. One without a pad switches
-/// to them. Two regions have the class of all.
-pub const CONVERSING: &[u8] = b"IMSCTRL QBYTES=1048576,LOGS=256
-APPLCTN PSB=CONVP
-TRANSACT CODE=CONV,SPA=34
-APPLCTN PSB=COUNTP
-TRANSACT CODE=COUNT,SPA=16
-APPLCTN PSB=LASTP
-TRANSACT CODE=LAST,SPA=20
-APPLCTN PSB=GIVEP
-TRANSACT CODE=GIVE,SPA=20
-APPLCTN PSB=BACKP
-TRANSACT CODE=BACK,SPA=34
-APPLCTN PSB=SWITP
-PCB TYPE=TP,MODIFY=YES
-TRANSACT CODE=SWIT
-NAME LTERM=T1
-NAME LTERM=T2
-NAME LTERM=T9
-REGION CLASS=(1,2)
-REGION CLASS=(1,2)
-PROGRAM CONVP
-CALL GU 0 A
-CALL GN 0 B
-IF B = \"FAIL\" GOTO BAD
-SET A \"CONV    \" B
-CALL ISRT 0 A
-CALL ISRT 0 B
-END
-LABEL BAD
-ABEND 0100
-ENDPROG
-PROGRAM COUNTP
-CALL GU 0 A
-CALL GN 0 B
-IF B = \"SKIP\" GOTO SKIP
-CUT C A 9 2
-IF C <> \"  \" GOTO MORE
-SET C \"0\"
-LABEL MORE
-SET D \"1\"
-ADD C D
-IF B = \"END\" GOTO LAST
-PAD C 2
-SET A \"COUNT   \" C
-CALL ISRT 0 A
-SET G \"STEP \" C \" \" B
-CALL ISRT 0 G
-END
-LABEL LAST
-SET A \"        \"
-CALL ISRT 0 A
-SET G \"ENDED AT \" C
-CALL ISRT 0 G
-LABEL SKIP
-END
-ENDPROG
-PROGRAM LASTP
-CALL GU 0 A
-CALL GN 0 B
-CUT C A 9 100
-SET D \"LAST    \" B
-CALL ISRT 0 D
-SET G C \".\" B
-CALL ISRT 0 G
-CALL GU 0 A
-ENDPROG
-PROGRAM GIVEP
-CALL GU 0 A
-CALL GN 0 B
-CALL ISRT 0 B
-SET G A \".\"
-CALL ISRT 0 G
-END
-ENDPROG
-PROGRAM BACKP
-CALL GU 0 A
-CALL GN 0 B
-SET C \"BACK    \" B
-CALL ISRT 0 C
-CALL ISRT 0 B
-CALL ROLB 0 D
-CALL GN 0 E
-SET C \"BACK    NEW\"
-CALL ISRT 0 C
-CUT F D 9 100
-SET G F \".\" E
-CALL ISRT 0 G
-END
-ENDPROG
-PROGRAM SWITP
-CALL GU 0 A
-SET B \"CONV\"
-CALL CHNG 1 B
-CALL ISRT 1 A
-END
-ENDPROG
-END
-";
-
-/// Accounts with their movements, a screen, and codes for all that a program may do.
-const EVERYTHING: &[u8] = b"IMSCTRL QBYTES=1048576,LOGS=256
-DBD NAME=ACC,ROOTS=100
-SEGM NAME=ACCT,PARENT=0,KEY=4,BYTES=12
-SEGM NAME=MOVE,PARENT=ACCT,KEY=4,BYTES=12
+/// With these the bank has codes for all that a program may do, and a second region.
+const FURTHER_CODES: &[u8] = b"REGION CLASS=(1,2)
 APPLCTN PSB=ECHOP
 TRANSACT CODE=ECHO,PRTY=(5,9,3)
-APPLCTN PSB=SEGSP
-TRANSACT CODE=SEGS,PRTY=(7,7,65535)
 APPLCTN PSB=LOOPP
 TRANSACT CODE=LOOP,MSGTYPE=(MULTSEG,NONRESPONSE,2),PRTY=(9,9,65535),PROCLIM=(1,1000)
-APPLCTN PSB=SPINP
-TRANSACT CODE=SPIN,PROCLIM=(1,10)
 APPLCTN PSB=CONVP
 TRANSACT CODE=CONV,SPA=34
-APPLCTN PSB=SWITP
-PCB TYPE=TP,MODIFY=YES
-TRANSACT CODE=SWIT
-NAME LTERM=T1
-NAME LTERM=T2
-NAME LTERM=T8,FORMAT=F1
-NAME LTERM=T9
-REGION CLASS=(1,2)
-REGION CLASS=(1,2)
-FMT NAME=F1
-DFLD NAME=FROM,POS=(3,10),LTH=4
-DFLD NAME=TO,POS=(4,10),LTH=4
-DFLD NAME=AMT,POS=(5,10),LTH=4
-DFLD NAME=MSG,POS=(24,1),LTH=20
-MSG TYPE=INPUT
-SEG
-MFLD LIT='XFER '
-MFLD SRC=FROM,LTH=4
-MFLD LIT=' '
-MFLD SRC=TO,LTH=4
-MFLD LIT=' '
-MFLD SRC=AMT,LTH=4,JUST=R,FILL=0
-MSG TYPE=OUTPUT
-SEG
-MFLD SRC=MSG,LTH=14
-FMTEND
-APPLCTN PSB=OPENP
-PCB TYPE=DB,DBDNAME=ACC,PROCOPT=A
-TRANSACT CODE=OPEN
-APPLCTN PSB=XFERP
-PCB TYPE=DB,DBDNAME=ACC,PROCOPT=A
-TRANSACT CODE=XFER
-APPLCTN PSB=BALP
-PCB TYPE=DB,DBDNAME=ACC,PROCOPT=A
-TRANSACT CODE=BAL
-APPLCTN PSB=ABNDP
-PCB TYPE=DB,DBDNAME=ACC,PROCOPT=A
-TRANSACT CODE=ABND
-APPLCTN PSB=RBP
-PCB TYPE=DB,DBDNAME=ACC,PROCOPT=A
-TRANSACT CODE=RB
-APPLCTN PSB=ADDMP
-PCB TYPE=DB,DBDNAME=ACC,PROCOPT=A
-TRANSACT CODE=ADDM
-APPLCTN PSB=SCANP
-PCB TYPE=DB,DBDNAME=ACC,PROCOPT=A
-TRANSACT CODE=SCAN
-PROGRAM ECHOP
-CALL GU 0 A
-CALL ISRT 0 A
-END
-ENDPROG
-PROGRAM SEGSP
-CALL GU 0 A
-LABEL L
-CALL ISRT 0 A
-CALL GN 0 A
-IF STATUS <> \"QD\" GOTO L
-END
-ENDPROG
 PROGRAM LOOPP
 CALL GU 0 A
 CALL ISRT 0 A
 CALL GU 0 A
 ENDPROG
-PROGRAM SPINP
-LABEL L
-GOTO L
-ENDPROG
-PROGRAM CONVP
-CALL GU 0 A
-CALL GN 0 B
-IF B = \"FAIL\" GOTO BAD
-SET A \"CONV    \" B
-CALL ISRT 0 A
-CALL ISRT 0 B
-END
-LABEL BAD
-ABEND 0100
-ENDPROG
-PROGRAM SWITP
-CALL GU 0 A
-SET B \"NOWHERE\"
-CALL CHNG 1 B
-CUT C A 6 100
-CALL ISRT 1 C
-SET B \"BAL\"
-CALL CHNG 1 B
-CALL ISRT 1 C
-CALL CHNG 1 B
-CALL PURG 1
-END
-ENDPROG
-PROGRAM OPENP
-CALL GU 0 A
-WORD B A 2
-WORD C A 3
-PAD C 8
-SET E B C
-CALL ISRT 1 E ACCT
-SET G \"OPENED \" B
-CALL ISRT 0 G
-END
-ENDPROG
-PROGRAM XFERP
-CALL GU 0 A
-WORD B A 2
-WORD C A 3
-WORD D A 4
-PAD D 8
-CALL GHU 1 E ACCT=B
-IF STATUS = \"GE\" GOTO NONE
-CUT F E 5 8
-IF F < D GOTO POOR
-LESS F D
-PAD F 8
-SET E B F
-CALL REPL 1 E
-CALL GHU 1 E ACCT=C
-IF STATUS = \"GE\" GOTO NONE
-CUT F E 5 8
-ADD F D
-PAD F 8
-SET E C F
-CALL REPL 1 E
-SET G \"MOVED \" D
-CALL ISRT 0 G
-END
-LABEL NONE
-CALL ROLB 0 A
-SET G \"NO ACCOUNT\"
-CALL ISRT 0 G
-END
-LABEL POOR
-SET G \"NO FUNDS\"
-CALL ISRT 0 G
-ENDPROG
-PROGRAM BALP
-CALL GU 0 A
-WORD B A 2
-CALL GU 1 E ACCT=B
-CUT F E 5 8
-SET G B \" \" F
-CALL ISRT 0 G
-END
-ENDPROG
-PROGRAM ABNDP
-CALL GU 0 A
-WORD B A 2
-CALL GHU 1 E ACCT=B
-SET E B \"00000000\"
-CALL REPL 1 E
-CALL ISRT 0 E
-ABEND 0123
-ENDPROG
-PROGRAM RBP
-CALL GU 0 A
-WORD B A 2
-CALL GHU 1 E ACCT=B
-SET E B \"00000001\"
-CALL REPL 1 E
-CALL ISRT 0 E
-CALL ROLB 0 C
-CALL GHU 1 E ACCT=B
-SET E B \"00000002\"
-CALL REPL 1 E
-CALL ISRT 0 C
-END
-ENDPROG
-PROGRAM ADDMP
-CALL GU 0 A
-WORD B A 2
-SET D \"0001 OPENING\"
-CALL ISRT 1 D ACCT=B MOVE
-END
-ENDPROG
-PROGRAM SCANP
-CALL GU 0 A
-CALL GN 1 E
-CALL GN 1 E
-CALL GN 1 E
-CALL GN 1 E
-CALL GN 1 E
-END
-ENDPROG
-END
 ";
 
-/// Each session by itself, to its end.
-fn expect_each(rt: &impl Abort, alloc: Global, table: &[(&[u8], &[u8])]) -> Result<(), Fail> {
-    for session in table {
-        let source = joined(alloc, &[CONVERSING, session.0])?;
-        expect_source(rt, alloc, &source, session.1)?;
-    }
-    Ok(())
-}
+const ONE_CONVERSATION: &[(&[u8], &[u8])] = &[(
+    b"IN T1 1 CONV HI\nQUIET 100\nIN T1 2 FAIL\nQUIET 100\nIN T1 3 MORE\nRECV T1\nACK T1 1\nRECV T1\n",
+    b"ACK T1 1\nQUIET 11\nACK T1 2\nQUIET 7\nREFUSED T1 3 CODE MORE\nOUT T1 1 HI\nACKED T1 1\nOUT T1 2 DFS555I TRAN CONV ABEND U0100\n",
+)];
 
 /// One input begins a conversation, the next one goes to its code whatever its text, and an abend ends it.
 #[test]
 fn one_conversation(rt: HostRuntime) -> Result<(), Fail> {
-    let lines: &[u8] =
-        b"IN T1 1 CONV HI\nQUIET 100\nIN T1 2 FAIL\nQUIET 100\nIN T1 3 MORE\nRECV T1\nACK T1 1\nRECV T1\n";
-    let printed: &[u8] =
-        b"ACK T1 1\nQUIET 11\nACK T1 2\nQUIET 7\nREFUSED T1 3 CODE MORE\nOUT T1 1 HI\nACKED T1 1\nOUT T1 2 DFS555I TRAN CONV ABEND U0100\n";
-    let source = joined(rt.alloc(), &[EVERYTHING, lines])?;
-    expect_source(&rt, rt.alloc(), &source, printed)
+    let further = joined(
+        rt.alloc(),
+        &[FURTHER_CODES, ECHO_PROGRAM, CONVERSATION_PROGRAM],
+    )?;
+    expect_bank(&rt, rt.alloc(), &further, ONE_CONVERSATION)
 }
+
+const CONVERSATION_SESSIONS: &[(&[u8], &[u8])] = &[
+    // The code and the blank behind it aren't kept, and no more than these.
+    (
+        b"IN T1 1 CONV\nIN T2 1 CONV  A\n+ B\nQUIET 100\nRECV T1\nRECV T2\n",
+        b"ACK T1 1\nACK T2 1\nQUIET 12\nOUT T1 1 \nOUT T2 1  A\n",
+    ),
+    // Five steps are counted in the pad; the last one ends the conversation, and it is begun anew.
+    (
+        b"IN T1 1 COUNT ONE\nQUIET 100\nIN T1 2 TWO\nQUIET 100\nIN T1 3 COUNT THREE\nQUIET 100\nIN T1 4 FOUR\nQUIET 100\nIN T1 5 END\nQUIET 100\nIN T1 6 SIX\nIN T1 6 COUNT AGAIN\nQUIET 100\nRECV T1\nACK T1 1\nRECV T1\nACK T1 2\nRECV T1\nACK T1 3\nRECV T1\nACK T1 4\nRECV T1\nACK T1 5\nRECV T1\n",
+        b"ACK T1 1\nQUIET 11\nACK T1 2\nQUIET 11\nACK T1 3\nQUIET 11\nACK T1 4\nQUIET 11\nACK T1 5\nQUIET 11\nREFUSED T1 6 CODE SIX\nACK T1 6\nQUIET 11\nOUT T1 1 STEP 01 ONE\nACKED T1 1\nOUT T1 2 STEP 02 TWO\nACKED T1 2\nOUT T1 3 STEP 03 COUNT THREE\nACKED T1 3\nOUT T1 4 STEP 04 FOUR\nACKED T1 4\nOUT T1 5 ENDED AT 5\nACKED T1 5\nOUT T1 6 STEP 01 AGAIN\n",
+    ),
+    // A pad that isn't given back stays as it was.
+    (
+        b"IN T1 1 COUNT ONE\nQUIET 100\nIN T1 2 SKIP\nQUIET 100\nIN T1 3 TWO\nQUIET 100\nRECV T1\nACK T1 1\nRECV T1\n",
+        b"ACK T1 1\nQUIET 11\nACK T1 2\nQUIET 7\nACK T1 3\nQUIET 11\nOUT T1 1 STEP 01 ONE\nACKED T1 1\nOUT T1 2 STEP 02 TWO\n",
+    ),
+    // ROLB takes back a pad that was given back, and gives the one before.
+    (
+        b"IN T1 1 BACK ONE\nQUIET 100\nIN T1 2 TWO\nQUIET 100\nRECV T1\nACK T1 1\nRECV T1\n",
+        b"ACK T1 1\nQUIET 19\nACK T1 2\nQUIET 19\nOUT T1 1                     .ONE\nACKED T1 1\nOUT T1 2 NEW                 .TWO\n",
+    ),
+];
 
 #[test]
 fn conversations(rt: HostRuntime) -> Result<(), Fail> {
-    let table: [(&[u8], &[u8]); 4] = [
-        // The code and the blank behind it aren't kept, and no more than these.
-        (
-            b"IN T1 1 CONV\nIN T2 1 CONV  A\n+ B\nQUIET 100\nRECV T1\nRECV T2\n",
-            b"ACK T1 1\nACK T2 1\nQUIET 12\nOUT T1 1 \nOUT T2 1  A\n",
-        ),
-        // Five steps are counted in the pad; the last one ends the conversation, and it is begun anew.
-        (
-            b"IN T1 1 COUNT ONE\nQUIET 100\nIN T1 2 TWO\nQUIET 100\nIN T1 3 COUNT THREE\nQUIET 100\nIN T1 4 FOUR\nQUIET 100\nIN T1 5 END\nQUIET 100\nIN T1 6 SIX\nIN T1 6 COUNT AGAIN\nQUIET 100\nRECV T1\nACK T1 1\nRECV T1\nACK T1 2\nRECV T1\nACK T1 3\nRECV T1\nACK T1 4\nRECV T1\nACK T1 5\nRECV T1\n",
-            b"ACK T1 1\nQUIET 11\nACK T1 2\nQUIET 11\nACK T1 3\nQUIET 11\nACK T1 4\nQUIET 11\nACK T1 5\nQUIET 11\nREFUSED T1 6 CODE SIX\nACK T1 6\nQUIET 11\nOUT T1 1 STEP 01 ONE\nACKED T1 1\nOUT T1 2 STEP 02 TWO\nACKED T1 2\nOUT T1 3 STEP 03 COUNT THREE\nACKED T1 3\nOUT T1 4 STEP 04 FOUR\nACKED T1 4\nOUT T1 5 ENDED AT 5\nACKED T1 5\nOUT T1 6 STEP 01 AGAIN\n",
-        ),
-        // A pad that isn't given back stays as it was.
-        (
-            b"IN T1 1 COUNT ONE\nQUIET 100\nIN T1 2 SKIP\nQUIET 100\nIN T1 3 TWO\nQUIET 100\nRECV T1\nACK T1 1\nRECV T1\n",
-            b"ACK T1 1\nQUIET 11\nACK T1 2\nQUIET 7\nACK T1 3\nQUIET 11\nOUT T1 1 STEP 01 ONE\nACKED T1 1\nOUT T1 2 STEP 02 TWO\n",
-        ),
-        // ROLB takes back a pad that was given back, and gives the one before.
-        (
-            b"IN T1 1 BACK ONE\nQUIET 100\nIN T1 2 TWO\nQUIET 100\nRECV T1\nACK T1 1\nRECV T1\n",
-            b"ACK T1 1\nQUIET 19\nACK T1 2\nQUIET 19\nOUT T1 1                     .ONE\nACKED T1 1\nOUT T1 2 NEW                 .TWO\n",
-        ),
-    ];
-    expect_each(&rt, rt.alloc(), &table)
+    expect_each(&rt, rt.alloc(), CONVERSING, CONVERSATION_SESSIONS)
 }
+
+const BUSY_SESSIONS: &[(&[u8], &[u8])] = &[
+    // While the message is queued, and while it is worked on, the terminal's next input is refused. The number is
+    // looked at before, and the code behind.
+    (
+        b"IN T1 1 CONV HI\nIN T1 2 CONV A\nIN T1 3 X\nIN T1 1 X\nTURN 1\nIN T1 2 X\nTURN 1\nTURN 1\nTURN 1\nTURN 1\nIN T1 2 X\nTURN 1\nIN T1 2 X\nTURN 1\n",
+        b"ACK T1 1\nREFUSED T1 2 CONVERSATION 1\nREFUSED T1 3 EXPECTED 2\nALREADY T1 1\nR1 SCHEDULED CONV 1\nREFUSED T1 2 CONVERSATION 1\nR1 GU 0 OK\nR1 GN 0 OK\nR1 ISRT 0 OK\nR1 ISRT 0 OK\nREFUSED T1 2 CONVERSATION 1\nR1 DONE CONV 1\nACK T1 2\nR1 SCHEDULED CONV 2\n",
+    ),
+    // Two terminals have a conversation of one code each, at the same time, in two regions.
+    (
+        b"IN T1 1 COUNT A\nIN T2 1 COUNT B\nIN T9 1 B\nTURN 1\nTURN 2\nIN T2 2 C\nQUIET 100\nIN T2 2 C\nQUIET 100\nIN T1 2 END\nIN T2 3 D\nQUIET 100\nIN T1 3 E\nIN T2 4 E\nRECV T1\nACK T1 1\nRECV T1\nRECV T2\nACK T2 1\nRECV T2\nACK T2 2\nRECV T2\n",
+        b"ACK T1 1\nACK T2 1\nREFUSED T9 1 CODE B\nR1 SCHEDULED COUNT 1\nR2 SCHEDULED COUNT 2\nREFUSED T2 2 CONVERSATION 2\nQUIET 10\nACK T2 2\nQUIET 11\nACK T1 2\nACK T2 3\nQUIET 12\nREFUSED T1 3 CODE E\nACK T2 4\nOUT T1 1 STEP 01 A\nACKED T1 1\nOUT T1 2 ENDED AT 2\nOUT T2 1 STEP 01 B\nACKED T2 1\nOUT T2 2 STEP 02 C\nACKED T2 2\nOUT T2 3 STEP 03 D\n",
+    ),
+    // Behind a further GU the next message comes with its own terminal's pad.
+    (
+        b"IN T1 1 LAST ONE\nIN T2 1 LAST LONGER THAN SIX\nTURN 1\nTURN 1\nTURN 1\nTURN 1\nTURN 1\nTURN 1\nTURN 1\nTURN 1\nTURN 1\nTURN 1\nTURN 1\nIN T1 2 TWO\nIN T2 2 X\nQUIET 100\nRECV T1\nACK T1 1\nRECV T1\nRECV T2\nACK T2 1\nRECV T2\n",
+        b"ACK T1 1\nACK T2 1\nR1 SCHEDULED LAST 1\nR1 GU 0 OK\nR1 GN 0 OK\nR1 ISRT 0 OK\nR1 ISRT 0 OK\nR1 NEXT LAST 1 2\nR1 GU 0 OK\nR1 GN 0 OK\nR1 ISRT 0 OK\nR1 ISRT 0 OK\nR1 QC LAST 2\nACK T1 2\nACK T2 2\nQUIET 12\nOUT T1 1       .ONE\nACKED T1 1\nOUT T1 2 ONE   .TWO\nOUT T2 1       .LONGER THAN SIX\nACKED T2 1\nOUT T2 2 LONGER.X\n",
+    ),
+];
 
 #[test]
 fn busy_conversations(rt: HostRuntime) -> Result<(), Fail> {
-    let table: [(&[u8], &[u8]); 3] = [
-        // While the message is queued, and while it is worked on, the terminal's next input is refused. The number is
-        // looked at before, and the code behind.
-        (
-            b"IN T1 1 CONV HI\nIN T1 2 CONV A\nIN T1 3 X\nIN T1 1 X\nTURN 1\nIN T1 2 X\nTURN 1\nTURN 1\nTURN 1\nTURN 1\nIN T1 2 X\nTURN 1\nIN T1 2 X\nTURN 1\n",
-            b"ACK T1 1\nREFUSED T1 2 CONVERSATION 1\nREFUSED T1 3 EXPECTED 2\nALREADY T1 1\nR1 SCHEDULED CONV 1\nREFUSED T1 2 CONVERSATION 1\nR1 GU 0 OK\nR1 GN 0 OK\nR1 ISRT 0 OK\nR1 ISRT 0 OK\nREFUSED T1 2 CONVERSATION 1\nR1 DONE CONV 1\nACK T1 2\nR1 SCHEDULED CONV 2\n",
-        ),
-        // Two terminals have a conversation of one code each, at the same time, in two regions.
-        (
-            b"IN T1 1 COUNT A\nIN T2 1 COUNT B\nIN T9 1 B\nTURN 1\nTURN 2\nIN T2 2 C\nQUIET 100\nIN T2 2 C\nQUIET 100\nIN T1 2 END\nIN T2 3 D\nQUIET 100\nIN T1 3 E\nIN T2 4 E\nRECV T1\nACK T1 1\nRECV T1\nRECV T2\nACK T2 1\nRECV T2\nACK T2 2\nRECV T2\n",
-            b"ACK T1 1\nACK T2 1\nREFUSED T9 1 CODE B\nR1 SCHEDULED COUNT 1\nR2 SCHEDULED COUNT 2\nREFUSED T2 2 CONVERSATION 2\nQUIET 10\nACK T2 2\nQUIET 11\nACK T1 2\nACK T2 3\nQUIET 12\nREFUSED T1 3 CODE E\nACK T2 4\nOUT T1 1 STEP 01 A\nACKED T1 1\nOUT T1 2 ENDED AT 2\nOUT T2 1 STEP 01 B\nACKED T2 1\nOUT T2 2 STEP 02 C\nACKED T2 2\nOUT T2 3 STEP 03 D\n",
-        ),
-        // Behind a further GU the next message comes with its own terminal's pad.
-        (
-            b"IN T1 1 LAST ONE\nIN T2 1 LAST LONGER THAN SIX\nTURN 1\nTURN 1\nTURN 1\nTURN 1\nTURN 1\nTURN 1\nTURN 1\nTURN 1\nTURN 1\nTURN 1\nTURN 1\nIN T1 2 TWO\nIN T2 2 X\nQUIET 100\nRECV T1\nACK T1 1\nRECV T1\nRECV T2\nACK T2 1\nRECV T2\n",
-            b"ACK T1 1\nACK T2 1\nR1 SCHEDULED LAST 1\nR1 GU 0 OK\nR1 GN 0 OK\nR1 ISRT 0 OK\nR1 ISRT 0 OK\nR1 NEXT LAST 1 2\nR1 GU 0 OK\nR1 GN 0 OK\nR1 ISRT 0 OK\nR1 ISRT 0 OK\nR1 QC LAST 2\nACK T1 2\nACK T2 2\nQUIET 12\nOUT T1 1       .ONE\nACKED T1 1\nOUT T1 2 ONE   .TWO\nOUT T2 1       .LONGER THAN SIX\nACKED T2 1\nOUT T2 2 LONGER.X\n",
-        ),
-    ];
-    expect_each(&rt, rt.alloc(), &table)
+    expect_each(&rt, rt.alloc(), CONVERSING, BUSY_SESSIONS)
 }
+
+const PAD_SESSIONS: &[(&[u8], &[u8])] = &[
+    // No message is switched to a code with conversations.
+    (
+        b"IN T1 1 SWIT X\nTURN 1\nTURN 1\nTURN 1\nTURN 1\nTURN 1\nTURN 1\n",
+        b"ACK T1 1\nR1 SCHEDULED SWIT 1\nR1 GU 0 OK\nR1 CHNG 1 QH\nR1 ISRT 1 A3\nR1 DONE SWIT 1\nR1 IDLE\n",
+    ),
+    // A text shorter than a code is no pad: the program ends abnormally, and the conversation ends.
+    (
+        b"IN T1 1 GIVE SHORTER\nTURN 1\nTURN 1\nTURN 1\nTURN 1\nRECV T1\nIN T1 2 MORE\n",
+        b"ACK T1 1\nR1 SCHEDULED GIVE 1\nR1 GU 0 OK\nR1 GN 0 OK\nR1 ABENDED GIVE 1 U0904\nOUT T1 1 DFS555I TRAN GIVE ABEND U0904\nREFUSED T1 2 CODE MORE\n",
+    ),
+    // A text with another code is none either.
+    (
+        b"IN T1 1 GIVE GIVEN   X\nTURN 1\nTURN 1\nTURN 1\nTURN 1\nRECV T1\nIN T1 2 MORE\n",
+        b"ACK T1 1\nR1 SCHEDULED GIVE 1\nR1 GU 0 OK\nR1 GN 0 OK\nR1 ABENDED GIVE 1 U0904\nOUT T1 1 DFS555I TRAN GIVE ABEND U0904\nREFUSED T1 2 CODE MORE\n",
+    ),
+    // Another text is padded with blanks, or cut. Blanks end the conversation, whatever stands behind them.
+    (
+        b"IN T1 1 GIVE GIVE    \nQUIET 100\nIN T1 2 GIVE    ABC\nQUIET 100\nIN T1 3 GIVE    ABCDEFGH\nQUIET 100\nIN T1 4         X\nQUIET 100\nIN T1 5 GIVE    \nQUIET 100\nRECV T1\nACK T1 1\nRECV T1\nACK T1 2\nRECV T1\nACK T1 3\nRECV T1\nACK T1 4\nRECV T1\n",
+        b"ACK T1 1\nQUIET 11\nACK T1 2\nQUIET 11\nACK T1 3\nQUIET 11\nACK T1 4\nQUIET 11\nACK T1 5\nQUIET 7\nOUT T1 1 GIVE          .\nACKED T1 1\nOUT T1 2 GIVE          .\nACKED T1 2\nOUT T1 3 GIVE    ABC   .\nACKED T1 3\nOUT T1 4 GIVE    ABCDEF.\nACKED T1 4\nOUT T1 5 DFS555I TRAN GIVE ABEND U0904\n",
+    ),
+];
 
 #[test]
 fn pads(rt: HostRuntime) -> Result<(), Fail> {
-    let table: [(&[u8], &[u8]); 4] = [
-        // No message is switched to a code with conversations.
-        (
-            b"IN T1 1 SWIT X\nTURN 1\nTURN 1\nTURN 1\nTURN 1\nTURN 1\nTURN 1\n",
-            b"ACK T1 1\nR1 SCHEDULED SWIT 1\nR1 GU 0 OK\nR1 CHNG 1 QH\nR1 ISRT 1 A3\nR1 DONE SWIT 1\nR1 IDLE\n",
-        ),
-        // A text shorter than a code is no pad: the program ends abnormally, and the conversation ends.
-        (
-            b"IN T1 1 GIVE SHORTER\nTURN 1\nTURN 1\nTURN 1\nTURN 1\nRECV T1\nIN T1 2 MORE\n",
-            b"ACK T1 1\nR1 SCHEDULED GIVE 1\nR1 GU 0 OK\nR1 GN 0 OK\nR1 ABENDED GIVE 1 U0904\nOUT T1 1 DFS555I TRAN GIVE ABEND U0904\nREFUSED T1 2 CODE MORE\n",
-        ),
-        // A text with another code is none either.
-        (
-            b"IN T1 1 GIVE GIVEN   X\nTURN 1\nTURN 1\nTURN 1\nTURN 1\nRECV T1\nIN T1 2 MORE\n",
-            b"ACK T1 1\nR1 SCHEDULED GIVE 1\nR1 GU 0 OK\nR1 GN 0 OK\nR1 ABENDED GIVE 1 U0904\nOUT T1 1 DFS555I TRAN GIVE ABEND U0904\nREFUSED T1 2 CODE MORE\n",
-        ),
-        // Another text is padded with blanks, or cut. Blanks end the conversation, whatever stands behind them.
-        (
-            b"IN T1 1 GIVE GIVE    \nQUIET 100\nIN T1 2 GIVE    ABC\nQUIET 100\nIN T1 3 GIVE    ABCDEFGH\nQUIET 100\nIN T1 4         X\nQUIET 100\nIN T1 5 GIVE    \nQUIET 100\nRECV T1\nACK T1 1\nRECV T1\nACK T1 2\nRECV T1\nACK T1 3\nRECV T1\nACK T1 4\nRECV T1\n",
-            b"ACK T1 1\nQUIET 11\nACK T1 2\nQUIET 11\nACK T1 3\nQUIET 11\nACK T1 4\nQUIET 11\nACK T1 5\nQUIET 7\nOUT T1 1 GIVE          .\nACKED T1 1\nOUT T1 2 GIVE          .\nACKED T1 2\nOUT T1 3 GIVE    ABC   .\nACKED T1 3\nOUT T1 4 GIVE    ABCDEF.\nACKED T1 4\nOUT T1 5 DFS555I TRAN GIVE ABEND U0904\n",
-        ),
-    ];
-    expect_each(&rt, rt.alloc(), &table)
+    expect_each(&rt, rt.alloc(), CONVERSING, PAD_SESSIONS)
 }

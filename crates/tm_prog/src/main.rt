@@ -27,6 +27,10 @@ mod screen_tests;
 mod sector_tests;
 mod summed;
 #[cfg(test)]
+mod test_runs;
+#[cfg(test)]
+mod test_texts;
+#[cfg(test)]
 mod tests;
 mod words;
 #[cfg(test)]

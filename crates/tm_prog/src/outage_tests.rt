@@ -1,128 +1,106 @@
 //! Worked sessions of stops and restarts.
 
-use crate::database_tests::{BANK, BANK_PROGRAMS, OPENED, OPENED_PRINTED};
-use crate::run::run;
-use crate::status_number;
-use crate::tests::{DRILL, PROGRAMS, SYSTEM, joined};
+use crate::test_runs::{DRILL, serve, serve_to, told};
+use crate::test_texts::{
+    BALANCE_PROGRAM, HALF, HALF_PRINTED, OPENED, OPENED_PRINTED, OPENING_PROGRAM, PROGRAMS, SYSTEM,
+    bank, joined, system_from,
+};
 use std::alloc::{AllocError, Global};
 use std::process::Abort;
 use std::test::Fail;
-use tm_disk::{Disk, MemDisk};
-use tm_edge::{MemSink, MemSource};
+use tm_disk::MemDisk;
 
-/// What a session over a disk comes to, and the disk, cut off: its status, and whether this was printed.
-pub fn serve<D: Disk + Drop>(
+/// A session over a new disk in memory.
+fn expect_new(
     rt: &impl Abort,
     alloc: Global,
     texts: &[&[u8]],
-    disk: D,
     wanted: (u8, &[u8]),
-) -> Result<D, Fail> {
-    serve_to(rt, alloc, texts, &[], disk, wanted)
-}
-
-/// The same, where the sink fails at these calls.
-fn serve_to<D: Disk + Drop>(
-    rt: &impl Abort,
-    alloc: Global,
-    texts: &[&[u8]],
-    puts: &[u64],
-    disk: D,
-    wanted: (u8, &[u8]),
-) -> Result<D, Fail> {
-    let mut words = Vec::new(alloc);
-    for word in DRILL {
-        words.push(String::from_str(alloc, word)?)?;
-    }
-    let mut source = MemSource::new(joined(alloc, texts)?, Vec::new(alloc));
-    let mut sink = MemSink::new(alloc, puts.to_vec(alloc)?);
-    sink.reserve(8192)?;
-    let mut disk = disk;
-    disk.cut(0);
-    let outcome = run(alloc, &words, &mut source, &mut sink, disk);
-    assert_eq!(rt; status_number(outcome.status), wanted.0);
-    assert!(rt; sink.bytes() == wanted.1);
-    Ok(outcome.disk)
-}
-
-/// A session of the system over a new disk in memory.
-fn expect(rt: &impl Abort, alloc: Global, lines: &[u8], wanted: (u8, &[u8])) -> Result<(), Fail> {
+) -> Result<(), Fail> {
     let disk = MemDisk::new(alloc, 1517, Vec::new(alloc))?;
-    let _ = serve(rt, alloc, &[SYSTEM, PROGRAMS, lines], disk, wanted)?;
+    let _ = serve(rt, alloc, texts, disk, wanted)?;
     Ok(())
 }
 
+/// The same for a session of the bank.
+fn expect_bank(rt: &impl Abort, alloc: Global, lines: &[u8], wanted: &[u8]) -> Result<(), Fail> {
+    let system = bank(alloc, b"")?;
+    expect_new(rt, alloc, &[&system, lines], (0, wanted))
+}
+
 /// Power that fails, and what is sent again.
+const POWER_SESSIONS: &[(&[u8], u8, &[u8])] = &[
+    // What was acknowledged is there behind a restart, and is taken once.
+    (
+        b"IN T1 1 ECHO A\nPOWER 0\nRECV T1\n/ERESTART\nIN T1 1 ECHO A\nQUIET 100\nRECV T1\n",
+        0,
+        b"ACK T1 1\nPOWER\nDOWN\nRESTARTED\nALREADY T1 1\nQUIET 7\nOUT T1 1 ECHO A\n",
+    ),
+    // A reply that was shown is shown again under its number.
+    (
+        b"IN T1 1 ECHO A\nQUIET 100\nRECV T1\nPOWER 7\n/NRESTART\nRECV T1\nACK T1 1\nPOWER 0\n/ERESTART\nRECV T1\n",
+        0,
+        b"ACK T1 1\nQUIET 7\nOUT T1 1 ECHO A\nPOWER\nRESTARTED\nOUT T1 1 ECHO A\nACKED T1 1\nPOWER\nRESTARTED\nNONE T1\n",
+    ),
+    // The write of the input fails: it was left or not, as the pick says.
+    (
+        b"POWER IN 1 0\nIN T1 1 ECHO HELLO\nRECV T1\n/ERESTART\nIN T1 1 ECHO HELLO\nQUIET 100\nRECV T1\n",
+        0,
+        b"ARMED 1\nSTOPPED\nDOWN\nRESTARTED\nACK T1 1\nQUIET 7\nOUT T1 1 ECHO HELLO\n",
+    ),
+    (
+        b"POWER IN 1 1\nIN T1 1 ECHO HELLO\nRECV T1\n/ERESTART\nIN T1 1 ECHO HELLO\nQUIET 100\nRECV T1\n",
+        0,
+        b"ARMED 1\nSTOPPED\nDOWN\nRESTARTED\nALREADY T1 1\nQUIET 7\nOUT T1 1 ECHO HELLO\n",
+    ),
+    // A cold start begins an empty machine.
+    (
+        b"IN T1 1 ECHO A\nPOWER 0\n/NRESTART CHECKPOINT 0\nIN T1 1 ECHO A\n",
+        0,
+        b"ACK T1 1\nPOWER\nCOLD STARTED\nACK T1 1\n",
+    ),
+    // A restart while the system is up, and whatever else while it is down, with its `+` lines.
+    (
+        b"/ERESTART\n/NRESTART\n/NRESTART CHECKPOINT 0\n/ERESTART x\nPOWER 0\nIN T1 1 ECHO A\n+ B\nHELP\nPOWER 0\n/ERESTART x\n\n* A\n+ C\n",
+        0,
+        b"UP\nUP\nUP\nBAD COMMAND 3\nPOWER\nDOWN\nDOWN\nDOWN\nDOWN\nDOWN\n",
+    ),
+    // The source ends while the system is down by a stop.
+    (
+        b"POWER IN 1 0\nIN T1 1 ECHO HELLO\n",
+        3,
+        b"ARMED 1\nSTOPPED\nSTATUS 3 DOWN\n",
+    ),
+    // An armed write and its pick stay over a checkpoint, a freeze and an opening, and end with a cut. A second takes the place
+    // of the first.
+    (
+        b"POWER IN 3 0\n/CHECKPOINT FREEZE\n/ERESTART\n/ERESTART\n/CHECKPOINT\n",
+        0,
+        b"ARMED 3\nFROZEN 2\nSTOPPED\nRESTARTED\nCHECKPOINT 4\n",
+    ),
+    (
+        b"POWER IN 9 1\nPOWER IN 1 0\n/STOP LTERM T1\n/ERESTART\n/DISPLAY LTERM T1\n",
+        0,
+        b"ARMED 9\nARMED 1\nSTOPPED\nRESTARTED\nLTERM T1 IN 0 OUT 0 KEPT 0 STARTED\n",
+    ),
+    (
+        b"POWER IN 1 1\nPOWER 0\n/ERESTART\n/STOP LTERM T1\n/DISPLAY LTERM T1\n",
+        0,
+        b"ARMED 1\nPOWER\nRESTARTED\nSTOPPED T1\nLTERM T1 IN 0 OUT 0 KEPT 0 STOPPED\n",
+    ),
+    // A stop within turns is told alone.
+    (
+        b"IN T1 1 ECHO A\nPOWER IN 1 1\nQUIET 100\n/ERESTART\nRECV T1\n",
+        0,
+        b"ACK T1 1\nARMED 1\nSTOPPED\nRESTARTED\nOUT T1 1 ECHO A\n",
+    ),
+];
+
 #[test]
 fn power(rt: HostRuntime) -> Result<(), Fail> {
-    let table: [(&[u8], u8, &[u8]); 11] = [
-        // What was acknowledged is there behind a restart, and is taken once.
-        (
-            b"IN T1 1 ECHO A\nPOWER 0\nRECV T1\n/ERESTART\nIN T1 1 ECHO A\nQUIET 100\nRECV T1\n",
-            0,
-            b"ACK T1 1\nPOWER\nDOWN\nRESTARTED\nALREADY T1 1\nQUIET 7\nOUT T1 1 ECHO A\n",
-        ),
-        // A reply that was shown is shown again under its number.
-        (
-            b"IN T1 1 ECHO A\nQUIET 100\nRECV T1\nPOWER 7\n/NRESTART\nRECV T1\nACK T1 1\nPOWER 0\n/ERESTART\nRECV T1\n",
-            0,
-            b"ACK T1 1\nQUIET 7\nOUT T1 1 ECHO A\nPOWER\nRESTARTED\nOUT T1 1 ECHO A\nACKED T1 1\nPOWER\nRESTARTED\nNONE T1\n",
-        ),
-        // The write of the input fails: it was left or not, as the pick says.
-        (
-            b"POWER IN 1 0\nIN T1 1 ECHO HELLO\nRECV T1\n/ERESTART\nIN T1 1 ECHO HELLO\nQUIET 100\nRECV T1\n",
-            0,
-            b"ARMED 1\nSTOPPED\nDOWN\nRESTARTED\nACK T1 1\nQUIET 7\nOUT T1 1 ECHO HELLO\n",
-        ),
-        (
-            b"POWER IN 1 1\nIN T1 1 ECHO HELLO\nRECV T1\n/ERESTART\nIN T1 1 ECHO HELLO\nQUIET 100\nRECV T1\n",
-            0,
-            b"ARMED 1\nSTOPPED\nDOWN\nRESTARTED\nALREADY T1 1\nQUIET 7\nOUT T1 1 ECHO HELLO\n",
-        ),
-        // A cold start begins an empty machine.
-        (
-            b"IN T1 1 ECHO A\nPOWER 0\n/NRESTART CHECKPOINT 0\nIN T1 1 ECHO A\n",
-            0,
-            b"ACK T1 1\nPOWER\nCOLD STARTED\nACK T1 1\n",
-        ),
-        // A restart while the system is up, and whatever else while it is down, with its `+` lines.
-        (
-            b"/ERESTART\n/NRESTART\n/NRESTART CHECKPOINT 0\n/ERESTART x\nPOWER 0\nIN T1 1 ECHO A\n+ B\nHELP\nPOWER 0\n/ERESTART x\n\n* A\n+ C\n",
-            0,
-            b"UP\nUP\nUP\nBAD COMMAND 3\nPOWER\nDOWN\nDOWN\nDOWN\nDOWN\nDOWN\n",
-        ),
-        // The source ends while the system is down by a stop.
-        (
-            b"POWER IN 1 0\nIN T1 1 ECHO HELLO\n",
-            3,
-            b"ARMED 1\nSTOPPED\nSTATUS 3 DOWN\n",
-        ),
-        // An armed write and its pick stay over a checkpoint, a freeze and an opening, and end with a cut. A second takes the place
-        // of the first.
-        (
-            b"POWER IN 3 0\n/CHECKPOINT FREEZE\n/ERESTART\n/ERESTART\n/CHECKPOINT\n",
-            0,
-            b"ARMED 3\nFROZEN 2\nSTOPPED\nRESTARTED\nCHECKPOINT 4\n",
-        ),
-        (
-            b"POWER IN 9 1\nPOWER IN 1 0\n/STOP LTERM T1\n/ERESTART\n/DISPLAY LTERM T1\n",
-            0,
-            b"ARMED 9\nARMED 1\nSTOPPED\nRESTARTED\nLTERM T1 IN 0 OUT 0 KEPT 0 STARTED\n",
-        ),
-        (
-            b"POWER IN 1 1\nPOWER 0\n/ERESTART\n/STOP LTERM T1\n/DISPLAY LTERM T1\n",
-            0,
-            b"ARMED 1\nPOWER\nRESTARTED\nSTOPPED T1\nLTERM T1 IN 0 OUT 0 KEPT 0 STOPPED\n",
-        ),
-        // A stop within turns is told alone.
-        (
-            b"IN T1 1 ECHO A\nPOWER IN 1 1\nQUIET 100\n/ERESTART\nRECV T1\n",
-            0,
-            b"ACK T1 1\nARMED 1\nSTOPPED\nRESTARTED\nOUT T1 1 ECHO A\n",
-        ),
-    ];
-    for (lines, status, printed) in &table {
-        expect(&rt, rt.alloc(), lines, (*status, printed))?;
+    for (lines, status, printed) in POWER_SESSIONS {
+        let wanted = (*status, *printed);
+        expect_new(&rt, rt.alloc(), &[SYSTEM, PROGRAMS, lines], wanted)?;
     }
     Ok(())
 }
@@ -154,22 +132,15 @@ fn broken_cold_starts(rt: HostRuntime) -> Result<(), Fail> {
         (b"POWER IN 3 1\n", empty),
         (b"POWER IN 4 0\n", empty),
     ];
-    let mut words = Vec::new(alloc);
-    for word in DRILL {
-        words.push(String::from_str(alloc, word)?)?;
-    }
     for (power, shown) in &table {
-        let mut source = MemSource::new(broken_cold(alloc, power)?, Vec::new(alloc));
-        let mut sink = MemSink::new(alloc, Vec::new(alloc));
-        sink.reserve(8192)?;
-        let disk = MemDisk::new(alloc, 1517, Vec::new(alloc))?;
-        let outcome = run(alloc, &words, &mut source, &mut sink, disk);
-        assert_eq!(rt; status_number(outcome.status), 0);
-        assert!(rt; sink.bytes().ends_with(shown));
-        let Some(life) = outcome.lives.items.first() else {
+        let source = broken_cold(alloc, power)?;
+        let report = told(alloc, DRILL, &source, (&[], &[]), (1517, &[]))?;
+        assert_eq!(rt; report.status, 0);
+        assert!(rt; report.printed.ends_with(shown));
+        let Some((_, kept)) = report.lives.first() else {
             return Err("no life is told".into());
         };
-        assert_eq!(rt; life.kept, 3);
+        assert_eq!(rt; *kept, 3);
     }
     Ok(())
 }
@@ -184,11 +155,7 @@ fn refused_disks(rt: HostRuntime) -> Result<(), Fail> {
     // A disk that another definition's system has begun.
     let disk = MemDisk::new(alloc, 1517, Vec::new(alloc))?;
     let disk = serve(&rt, alloc, &[SYSTEM, PROGRAMS], disk, (0, b""))?;
-    let mut other = b"IMSCTRL QBYTES=1048577,LOGS=256\n".to_vec(alloc)?;
-    let Some(behind) = SYSTEM.get(32..) else {
-        return Err(Fail::from("the system is too short"));
-    };
-    other.extend_from_slice(behind)?;
+    let other = system_from(alloc, b"IMSCTRL QBYTES=1048577,LOGS=256\n")?;
     let printed = b"STATUS 6 TEXT 21\n";
     let disk = serve(&rt, alloc, &[&other, PROGRAMS], disk, (6, printed))?;
     // Its own system goes on with it.
@@ -210,13 +177,6 @@ fn refused_disks(rt: HostRuntime) -> Result<(), Fail> {
     Ok(())
 }
 
-/// A bank's session over a new disk in memory.
-fn expect_bank(rt: &impl Abort, alloc: Global, lines: &[u8], wanted: &[u8]) -> Result<(), Fail> {
-    let disk = MemDisk::new(alloc, 1517, Vec::new(alloc))?;
-    let _ = serve(rt, alloc, &[BANK, BANK_PROGRAMS, lines], disk, (0, wanted))?;
-    Ok(())
-}
-
 /// A line that lets power fail at a write, with a pick; both are digits.
 fn power_in(alloc: Global, write: u8, pick: u8) -> Result<Vec<u8>, Fail> {
     let mut line = b"POWER IN ".to_vec(alloc)?;
@@ -230,12 +190,6 @@ fn armed(alloc: Global, write: u8) -> Result<Vec<u8>, Fail> {
     line.extend_from_slice(&[b'0' + write % 10, b'\n'])?;
     Ok(line)
 }
-
-/// A transfer that has replaced one account, up to a checkpoint.
-pub const HALF: &[u8] = b"IN T1 1 XFER 0001 0002 5\nTURN 1\nTURN 1\nTURN 1\nTURN 1\n";
-
-pub const HALF_PRINTED: &[u8] =
-    b"ACK T1 1\nR1 SCHEDULED XFER 3\nR1 GU 0 OK\nR1 GHU 1 OK\nR1 REPL 1 OK\n";
 
 /// Behind a stop the transfer is done anew.
 const AGAIN: &[u8] =
@@ -288,30 +242,15 @@ const THERE_PRINTED: &[u8] =
 /// One write of the session fails, and behind a restart all its lines are sent again.
 fn ends_so(rt: &impl Abort, alloc: Global, write: u8, pick: u8) -> Result<(), Fail> {
     let power = power_in(alloc, write, pick)?;
-    let mut words = Vec::new(alloc);
-    for word in DRILL {
-        words.push(String::from_str(alloc, word)?)?;
-    }
+    let system = bank(alloc, b"")?;
     let source = joined(
         alloc,
-        &[
-            BANK,
-            BANK_PROGRAMS,
-            &power,
-            SHORT,
-            b"/ERESTART\n",
-            SHORT,
-            THERE,
-        ],
+        &[&system, &power, SHORT, b"/ERESTART\n", SHORT, THERE],
     )?;
-    let mut source = MemSource::new(source, Vec::new(alloc));
-    let mut sink = MemSink::new(alloc, Vec::new(alloc));
-    sink.reserve(8192)?;
-    let disk = MemDisk::new(alloc, 1517, Vec::new(alloc))?;
-    let outcome = run(alloc, &words, &mut source, &mut sink, disk);
-    assert_eq!(rt; status_number(outcome.status), 0);
-    assert!(rt; sink.bytes().ends_with(THERE_PRINTED));
-    assert_eq!(rt; outcome.stops.items.len(), 1);
+    let report = told(alloc, DRILL, &source, (&[], &[]), (1517, &[]))?;
+    assert_eq!(rt; report.status, 0);
+    assert!(rt; report.printed.ends_with(THERE_PRINTED));
+    assert_eq!(rt; report.stops, 1);
     Ok(())
 }
 
@@ -331,7 +270,9 @@ fn stopped_sessions(rt: HostRuntime) -> Result<(), Fail> {
 }
 
 /// Accounts that are opened and looked at, with the least log areas and queues.
-const SMALL: &[u8] = b"IMSCTRL QBYTES=131072,LOGS=64
+const SMALL: &[&[u8]] = &[SMALL_MACROS, OPENING_PROGRAM, BALANCE_PROGRAM, b"END\n"];
+
+const SMALL_MACROS: &[u8] = b"IMSCTRL QBYTES=131072,LOGS=64
 DBD NAME=ACC,ROOTS=2
 SEGM NAME=ACCT,PARENT=0,KEY=4,BYTES=12
 APPLCTN PSB=OPENP
@@ -343,89 +284,57 @@ TRANSACT CODE=BAL
 NAME LTERM=T2
 NAME LTERM=T9
 REGION CLASS=(1)
-PROGRAM OPENP
-CALL GU 0 A
-WORD B A 2
-WORD C A 3
-PAD C 8
-SET E B C
-CALL ISRT 1 E ACCT
-SET G \"OPENED \" B
-CALL ISRT 0 G
-END
-ENDPROG
-PROGRAM BALP
-CALL GU 0 A
-WORD B A 2
-CALL GU 1 E ACCT=B
-CUT F E 5 8
-SET G B \" \" F
-CALL ISRT 0 G
-END
-ENDPROG
-END
 ";
 
 /// Whether a session ends so, over a disk of which this call fails, a read, a write or a sync.
 fn ends_at(alloc: Global, call: u64, wanted: (u8, &[u8])) -> Result<bool, Fail> {
-    let mut words = Vec::new(alloc);
-    for word in DRILL {
-        words.push(String::from_str(alloc, word)?)?;
-    }
-    let mut fails = Vec::new(alloc);
-    fails.push(call)?;
-    let disk = MemDisk::new(alloc, 455, fails)?;
+    let system = joined(alloc, SMALL)?;
     let restarts = b"POWER 0\n/ERESTART\n/ERESTART\n";
-    let lines = joined(alloc, &[SMALL, SHORT, restarts, SHORT, THERE])?;
-    let mut source = MemSource::new(lines, Vec::new(alloc));
-    let mut sink = MemSink::new(alloc, Vec::new(alloc));
-    sink.reserve(8192)?;
-    let outcome = run(alloc, &words, &mut source, &mut sink, disk);
-    Ok(
-        status_number(outcome.status) == wanted.0
-            && sink.bytes() == wanted.1
-            && outcome.stops.items.len() == 1,
-    )
+    let source = joined(alloc, &[&system, SHORT, restarts, SHORT, THERE])?;
+    let report = told(alloc, DRILL, &source, (&[], &[]), (455, &[call]))?;
+    Ok(report.status == wanted.0 && report.printed.as_slice() == wanted.1 && report.stops == 1)
 }
 
 /// Each call of the disk fails in turn, so many of each answer. Nothing that was acknowledged is lost, and what was not is as if it had
 /// not been sent.
+const CALLS: &[(u16, &[u8])] = &[
+    // The first opening reads sector 0, makes it zeros and syncs, writes a sector of text, two log areas, two data sectors and a snapshot,
+    // syncs, and writes and syncs the restart sector. Where it fails it tells nothing.
+    (
+        138,
+        b"DOWN\nDOWN\nDOWN\nDOWN\nDOWN\nDOWN\nRESTARTED\nUP\nACK T9 1\nQUIET 5\nOUT T9 1 OPENED 0001\nACKED T9 1\nCHECKPOINT 2\n",
+    ),
+    // The input is written and synced.
+    (
+        2,
+        b"STOPPED\nDOWN\nDOWN\nDOWN\nDOWN\nDOWN\nRESTARTED\nUP\nACK T9 1\nQUIET 5\nOUT T9 1 OPENED 0001\nACKED T9 1\nCHECKPOINT 3\n",
+    ),
+    // So is its completion.
+    (
+        2,
+        b"ACK T9 1\nSTOPPED\nDOWN\nDOWN\nDOWN\nDOWN\nRESTARTED\nUP\nALREADY T9 1\nQUIET 5\nOUT T9 1 OPENED 0001\nACKED T9 1\nCHECKPOINT 3\n",
+    ),
+    // So is the acknowledgement.
+    (
+        2,
+        b"ACK T9 1\nQUIET 5\nOUT T9 1 OPENED 0001\nSTOPPED\nDOWN\nDOWN\nRESTARTED\nUP\nALREADY T9 1\nQUIET 0\nOUT T9 1 OPENED 0001\nACKED T9 1\nCHECKPOINT 3\n",
+    ),
+    // The checkpoint writes and syncs a data sector, a snapshot and the restart sector.
+    (
+        6,
+        b"ACK T9 1\nQUIET 5\nOUT T9 1 OPENED 0001\nACKED T9 1\nSTOPPED\nDOWN\nRESTARTED\nUP\nALREADY T9 1\nQUIET 0\nNONE T9\nALREADY T9 1\nCHECKPOINT 3\n",
+    ),
+];
+
 #[test]
 fn failing_calls(rt: HostRuntime) -> Result<(), Fail> {
     let alloc = rt.alloc();
-    let table: [(u16, &[u8]); 5] = [
-        // The first opening reads sector 0, makes it zeros and syncs, writes a sector of text, two log areas, two data sectors and a snapshot,
-        // syncs, and writes and syncs the restart sector. Where it fails it tells nothing.
-        (
-            138,
-            b"DOWN\nDOWN\nDOWN\nDOWN\nDOWN\nDOWN\nRESTARTED\nUP\nACK T9 1\nQUIET 5\nOUT T9 1 OPENED 0001\nACKED T9 1\nCHECKPOINT 2\nLTERM T9 IN 1 OUT 1 KEPT 0 STARTED\nACK T2 1\nQUIET 5\nOUT T2 1 0001 00001000\n",
-        ),
-        // The input is written and synced.
-        (
-            2,
-            b"STOPPED\nDOWN\nDOWN\nDOWN\nDOWN\nDOWN\nRESTARTED\nUP\nACK T9 1\nQUIET 5\nOUT T9 1 OPENED 0001\nACKED T9 1\nCHECKPOINT 3\nLTERM T9 IN 1 OUT 1 KEPT 0 STARTED\nACK T2 1\nQUIET 5\nOUT T2 1 0001 00001000\n",
-        ),
-        // So is its completion.
-        (
-            2,
-            b"ACK T9 1\nSTOPPED\nDOWN\nDOWN\nDOWN\nDOWN\nRESTARTED\nUP\nALREADY T9 1\nQUIET 5\nOUT T9 1 OPENED 0001\nACKED T9 1\nCHECKPOINT 3\nLTERM T9 IN 1 OUT 1 KEPT 0 STARTED\nACK T2 1\nQUIET 5\nOUT T2 1 0001 00001000\n",
-        ),
-        // So is the acknowledgement.
-        (
-            2,
-            b"ACK T9 1\nQUIET 5\nOUT T9 1 OPENED 0001\nSTOPPED\nDOWN\nDOWN\nRESTARTED\nUP\nALREADY T9 1\nQUIET 0\nOUT T9 1 OPENED 0001\nACKED T9 1\nCHECKPOINT 3\nLTERM T9 IN 1 OUT 1 KEPT 0 STARTED\nACK T2 1\nQUIET 5\nOUT T2 1 0001 00001000\n",
-        ),
-        // The checkpoint writes and syncs a data sector, a snapshot and the restart sector.
-        (
-            6,
-            b"ACK T9 1\nQUIET 5\nOUT T9 1 OPENED 0001\nACKED T9 1\nSTOPPED\nDOWN\nRESTARTED\nUP\nALREADY T9 1\nQUIET 0\nNONE T9\nALREADY T9 1\nCHECKPOINT 3\nLTERM T9 IN 1 OUT 1 KEPT 0 STARTED\nACK T2 1\nQUIET 5\nOUT T2 1 0001 00001000\n",
-        ),
-    ];
     let mut call = 0u64;
-    for (calls, wanted) in &table {
+    for (calls, front) in CALLS {
+        let wanted = joined(alloc, &[front, THERE_PRINTED])?;
         for _ in 0..*calls {
             call = call.saturating_add(1);
-            assert!(rt; ends_at(alloc, call, (0, wanted))?);
+            assert!(rt; ends_at(alloc, call, (0, &wanted))?);
         }
     }
     Ok(())
@@ -451,38 +360,40 @@ fn failing_restarts(rt: HostRuntime) -> Result<(), Fail> {
 }
 
 /// Where an answer can't be written the program ends, and what it answered is there. Sent again, all of it stands once.
+const ANSWERS: &[(&[u8], &[u8])] = &[
+    (
+        b"",
+        b"ALREADY T9 1\nQUIET 5\nOUT T9 1 OPENED 0001\nACKED T9 1\nCHECKPOINT 3\n",
+    ),
+    (
+        b"ACK T9 1\n",
+        b"ALREADY T9 1\nQUIET 0\nOUT T9 1 OPENED 0001\nACKED T9 1\nCHECKPOINT 3\n",
+    ),
+    (
+        b"ACK T9 1\nQUIET 5\n",
+        b"ALREADY T9 1\nQUIET 0\nOUT T9 1 OPENED 0001\nACKED T9 1\nCHECKPOINT 3\n",
+    ),
+    (
+        b"ACK T9 1\nQUIET 5\nOUT T9 1 OPENED 0001\n",
+        b"ALREADY T9 1\nQUIET 0\nNONE T9\nALREADY T9 1\nCHECKPOINT 3\n",
+    ),
+    (
+        b"ACK T9 1\nQUIET 5\nOUT T9 1 OPENED 0001\nACKED T9 1\n",
+        b"ALREADY T9 1\nQUIET 0\nNONE T9\nALREADY T9 1\nCHECKPOINT 4\n",
+    ),
+];
+
 #[test]
 fn failing_answers(rt: HostRuntime) -> Result<(), Fail> {
     let alloc = rt.alloc();
-    let table: [(&[u8], &[u8]); 5] = [
-        (
-            b"",
-            b"ALREADY T9 1\nQUIET 5\nOUT T9 1 OPENED 0001\nACKED T9 1\nCHECKPOINT 3\n",
-        ),
-        (
-            b"ACK T9 1\n",
-            b"ALREADY T9 1\nQUIET 0\nOUT T9 1 OPENED 0001\nACKED T9 1\nCHECKPOINT 3\n",
-        ),
-        (
-            b"ACK T9 1\nQUIET 5\n",
-            b"ALREADY T9 1\nQUIET 0\nOUT T9 1 OPENED 0001\nACKED T9 1\nCHECKPOINT 3\n",
-        ),
-        (
-            b"ACK T9 1\nQUIET 5\nOUT T9 1 OPENED 0001\n",
-            b"ALREADY T9 1\nQUIET 0\nNONE T9\nALREADY T9 1\nCHECKPOINT 3\n",
-        ),
-        (
-            b"ACK T9 1\nQUIET 5\nOUT T9 1 OPENED 0001\nACKED T9 1\n",
-            b"ALREADY T9 1\nQUIET 0\nNONE T9\nALREADY T9 1\nCHECKPOINT 4\n",
-        ),
-    ];
+    let system = joined(alloc, SMALL)?;
     let mut put = 1u8;
-    for (before, behind) in &table {
+    for (before, behind) in ANSWERS {
         let disk = MemDisk::new(alloc, 455, Vec::new(alloc))?;
         let fails = [u64::from(put)];
-        let disk = serve_to(&rt, alloc, &[SMALL, SHORT], &fails, disk, (5, before))?;
+        let disk = serve_to(&rt, alloc, &[&system, SHORT], &fails, disk, (5, before))?;
         let wanted = joined(alloc, &[behind, THERE_PRINTED])?;
-        let _ = serve(&rt, alloc, &[SMALL, SHORT, THERE], disk, (0, &wanted))?;
+        let _ = serve(&rt, alloc, &[&system, SHORT, THERE], disk, (0, &wanted))?;
         put = put.saturating_add(1);
     }
     Ok(())

@@ -1,8 +1,10 @@
 //! Images that worked sessions leave, byte by byte. What stands here is written from the layouts of docs/FORMATS.md.
 
-use crate::database_tests::{BANK, BANK_PROGRAMS, OPENED, OPENED_PRINTED};
-use crate::outage_tests::{HALF, HALF_PRINTED, serve};
-use crate::tests::{FIRST, FIRST_PRINTED, PROGRAMS, SYSTEM, joined};
+use crate::test_runs::serve;
+use crate::test_texts::{
+    FIRST, FIRST_PRINTED, HALF, HALF_PRINTED, OPENED, OPENED_PRINTED, PROGRAMS, SYSTEM, bank,
+    joined,
+};
 use std::alloc::Global;
 use std::process::Abort;
 use std::test::Fail;
@@ -80,14 +82,13 @@ const RESTARTED_IMAGE: [(u32, &[&[u8]]); 2] = [
 
 /// A checkpoint in the middle of a transfer leaves these. The snapshot has the message, the replies and what the open unit has
 /// changed, and the data sectors have what was written last.
-const HALF_IMAGE: [(u32, &[&[u8]]); 11] = [
+const HALF_IMAGE: [(u32, &[&[u8]]); 10] = [
     (
         0,
         &[
             b"IMSR\0\0\0\x01\0\0\0\0\0\0\0\x01\x01\x01\0\0\0\0\0\x01\0\0\0\0\0\0\0\x07\0\0\0\0\0\0\0\x02\0\0\x0a\x73",
         ],
     ),
-    (1, &[BANK, BANK_PROGRAMS]),
     (
         420,
         &[
@@ -212,9 +213,12 @@ fn images(rt: HostRuntime) -> Result<(), Fail> {
     let _ = expect_image(&rt, alloc, disk, left, &[])?;
 
     let disk = MemDisk::new(alloc, 1387, Vec::new(alloc))?;
-    let half = [BANK, BANK_PROGRAMS, OPENED, HALF, b"/CHECKPOINT\n"];
+    let system = bank(alloc, b"")?;
+    let half = [system.as_slice(), OPENED, HALF, b"/CHECKPOINT\n"];
     let printed = joined(alloc, &[OPENED_PRINTED, HALF_PRINTED, b"CHECKPOINT 2\n"])?;
     let disk = serve(&rt, alloc, &half, disk, (0, &printed))?;
-    let _ = expect_image(&rt, alloc, disk, &HALF_IMAGE, &[2, 421, 781, 1031, 1289])?;
+    let mut disk = expect_image(&rt, alloc, disk, &HALF_IMAGE, &[2, 421, 781, 1031, 1289])?;
+    // The text stands there too.
+    assert!(rt; holds(alloc, &mut disk, 1, &[&system])?);
     Ok(())
 }

@@ -1,231 +1,125 @@
 //! Worked sessions, words, definitions, faults and limits.
 
-use crate::run::run;
-use crate::status_number;
+use crate::test_runs::{DRILL, expect, expect_each, expect_source, told};
+use crate::test_texts::{FIRST, FIRST_PRINTED, PROGRAMS, SYSTEM, joined, system_from};
 use std::alloc::{AllocError, Global};
-use std::process::Abort;
 use std::test::Fail;
-use tm_disk::MemDisk;
-use tm_edge::{MemSink, MemSource};
 
-/// Three codes, three terminals and two regions.
-pub const SYSTEM: &[u8] = b"IMSCTRL QBYTES=1048576,LOGS=256
-APPLCTN PSB=ECHOP
-TRANSACT CODE=ECHO,PRTY=(5,9,3)
-APPLCTN PSB=SEGSP
-TRANSACT CODE=SEGS,PRTY=(7,7,65535)
-APPLCTN PSB=LOOPP
-TRANSACT CODE=LOOP,MSGTYPE=(MULTSEG,NONRESPONSE,2),PRTY=(9,9,65535),PROCLIM=(1,1000)
-NAME LTERM=T1
-NAME LTERM=T2
-NAME LTERM=T9
-REGION CLASS=(1,2)
-REGION CLASS=(1,2)
-";
-
-/// The programs of the system, and its end.
-pub const PROGRAMS: &[u8] = b"PROGRAM ECHOP
-CALL GU 0 A
-CALL ISRT 0 A
-END
-ENDPROG
-PROGRAM SEGSP
-CALL GU 0 A
-CALL ISRT 0 A
-END
-ENDPROG
-PROGRAM LOOPP
-CALL GU 0 A
-CALL ISRT 0 A
-CALL GU 0 A
-ENDPROG
-END
-";
-
-/// One message from its line to its acknowledged reply.
-pub const FIRST: &[u8] = b"IN T1 1 ECHO HELLO\nTURN 1\nTURN 1\nTURN 1\nTURN 1\nRECV T1\nACK T1 1\n";
-
-pub const FIRST_PRINTED: &[u8] =
-    b"ACK T1 1\nR1 SCHEDULED ECHO 1\nR1 GU 0 OK\nR1 ISRT 0 OK\nR1 DONE ECHO 1\nOUT T1 1 ECHO HELLO\nACKED T1 1\n";
-
-/// These texts, one behind another.
-pub fn joined(alloc: Global, texts: &[&[u8]]) -> Result<Vec<u8>, AllocError> {
-    let mut all = Vec::new(alloc);
-    for text in texts {
-        all.extend_from_slice(text)?;
-    }
-    Ok(all)
-}
-
-/// The words of a session over a disk in memory that is large enough for each of the systems.
-pub const DRILL: &[&str] = &["drill", "MEM", "4096"];
-
-/// Runs a source by these words, over a source and a sink that fail at the listed calls, and compares
-/// the status and what was printed.
-fn expect(
-    rt: &impl Abort,
-    alloc: Global,
-    words: &[&str],
-    bytes: &[u8],
-    fails: (&[u64], &[u64]),
-    wanted: (u8, &[u8]),
-) -> Result<(), Fail> {
-    let mut all = Vec::new(alloc);
-    for word in words {
-        all.push(String::from_str(alloc, word)?)?;
-    }
-    let mut source = MemSource::new(bytes.to_vec(alloc)?, fails.0.to_vec(alloc)?);
-    let mut sink = MemSink::new(alloc, fails.1.to_vec(alloc)?);
-    sink.reserve(8192)?;
-    let disk = MemDisk::new(alloc, 4096, Vec::new(alloc))?;
-    let outcome = run(alloc, &all, &mut source, &mut sink, disk);
-    assert_eq!(rt; status_number(outcome.status), wanted.0);
-    assert!(rt; sink.bytes() == wanted.1);
-    Ok(())
-}
-
-/// The same for a source that is read to its end.
-pub fn expect_source(
-    rt: &impl Abort,
-    alloc: Global,
-    source: &[u8],
-    printed: &[u8],
-) -> Result<(), Fail> {
-    expect(rt, alloc, DRILL, source, (&[], &[]), (0, printed))
-}
-
-/// The same for a session of the system, to its end.
-fn expect_session(
-    rt: &impl Abort,
-    alloc: Global,
-    lines: &[u8],
-    printed: &[u8],
-) -> Result<(), Fail> {
-    let source = joined(alloc, &[SYSTEM, PROGRAMS, lines])?;
-    expect(rt, alloc, DRILL, &source, (&[], &[]), (0, printed))
-}
+const SYSTEM_SESSIONS: &[(&[u8], &[u8])] = &[
+    (FIRST, FIRST_PRINTED),
+    // No line, no answer.
+    (b"", b""),
+    // The same input twice is accepted once, and one reply is kept.
+    (
+        b"IN T1 1 ECHO HELLO\nIN T1 1 ECHO HELLO\nQUIET 100\nRECV T1\nACK T1 1\nRECV T1\n",
+        b"ACK T1 1\nALREADY T1 1\nQUIET 7\nOUT T1 1 ECHO HELLO\nACKED T1 1\nNONE T1\n",
+    ),
+    // A number too high.
+    (
+        b"IN T1 1 ECHO A\nIN T1 3 ECHO B\n",
+        b"ACK T1 1\nREFUSED T1 3 EXPECTED 2\n",
+    ),
+    // A reply is shown again until it is acknowledged; one acknowledged ahead is refused.
+    (
+        b"IN T1 1 ECHO HELLO\nTURN 1\nTURN 1\nTURN 1\nTURN 1\nRECV T1\nRECV T1\nACK T1 2\nACK T1 1\nACK T1 1\nRECV T1\n",
+        b"ACK T1 1\nR1 SCHEDULED ECHO 1\nR1 GU 0 OK\nR1 ISRT 0 OK\nR1 DONE ECHO 1\nOUT T1 1 ECHO HELLO\nOUT T1 1 ECHO HELLO\nREFUSED T1 2 FIRST 1\nACKED T1 1\nALREADY T1 1\nNONE T1\n",
+    ),
+    // The first class goes before the priority.
+    (
+        b"IN T1 1 LOOP A\nIN T2 1 ECHO B\nTURN 1\n",
+        b"ACK T1 1\nACK T2 1\nR1 SCHEDULED ECHO 2\n",
+    ),
+    // The limit priority counts from the limit count on, until no message waits.
+    (
+        b"IN T1 1 SEGS X\nIN T2 1 ECHO A\nIN T2 2 ECHO B\nTURN 1\nIN T1 2 SEGS Y\nIN T2 3 ECHO C\nTURN 2\nTURN 2\nTURN 2\nTURN 2\nTURN 2\nTURN 2\nTURN 2\nTURN 2\nTURN 2\nTURN 2\nTURN 2\nTURN 2\nTURN 2\n",
+        b"ACK T1 1\nACK T2 1\nACK T2 2\nR1 SCHEDULED SEGS 1\nACK T1 2\nACK T2 3\nR2 SCHEDULED ECHO 2\nR2 GU 0 OK\nR2 ISRT 0 OK\nR2 DONE ECHO 2\nR2 SCHEDULED ECHO 3\nR2 GU 0 OK\nR2 ISRT 0 OK\nR2 DONE ECHO 3\nR2 SCHEDULED ECHO 5\nR2 GU 0 OK\nR2 ISRT 0 OK\nR2 DONE ECHO 5\nR2 SCHEDULED SEGS 4\n",
+    ),
+    // One message of a scheduling.
+    (
+        b"IN T1 1 LOOP A\nIN T1 2 LOOP B\nTURN 1\nTURN 1\nTURN 1\nTURN 1\nTURN 1\n",
+        b"ACK T1 1\nACK T1 2\nR1 SCHEDULED LOOP 1\nR1 GU 0 OK\nR1 ISRT 0 OK\nR1 QC LOOP 1\nR1 SCHEDULED LOOP 2\n",
+    ),
+];
 
 #[test]
 fn sessions(rt: HostRuntime) -> Result<(), Fail> {
-    let table: [(&[u8], &[u8]); 8] = [
-        (FIRST, FIRST_PRINTED),
-        // No line, no answer.
-        (b"", b""),
-        // The same input twice is accepted once, and one reply is kept.
-        (
-            b"IN T1 1 ECHO HELLO\nIN T1 1 ECHO HELLO\nQUIET 100\nRECV T1\nACK T1 1\nRECV T1\n",
-            b"ACK T1 1\nALREADY T1 1\nQUIET 7\nOUT T1 1 ECHO HELLO\nACKED T1 1\nNONE T1\n",
-        ),
-        // A number too high.
-        (
-            b"IN T1 1 ECHO A\nIN T1 3 ECHO B\n",
-            b"ACK T1 1\nREFUSED T1 3 EXPECTED 2\n",
-        ),
-        // A reply is shown again until it is acknowledged; one acknowledged ahead is refused.
-        (
-            b"IN T1 1 ECHO HELLO\nTURN 1\nTURN 1\nTURN 1\nTURN 1\nRECV T1\nRECV T1\nACK T1 2\nACK T1 1\nACK T1 1\nRECV T1\n",
-            b"ACK T1 1\nR1 SCHEDULED ECHO 1\nR1 GU 0 OK\nR1 ISRT 0 OK\nR1 DONE ECHO 1\nOUT T1 1 ECHO HELLO\nOUT T1 1 ECHO HELLO\nREFUSED T1 2 FIRST 1\nACKED T1 1\nALREADY T1 1\nNONE T1\n",
-        ),
-        // The first class goes before the priority.
-        (
-            b"IN T1 1 LOOP A\nIN T2 1 ECHO B\nTURN 1\n",
-            b"ACK T1 1\nACK T2 1\nR1 SCHEDULED ECHO 2\n",
-        ),
-        // The limit priority counts from the limit count on, until no message waits.
-        (
-            b"IN T1 1 SEGS X\nIN T2 1 ECHO A\nIN T2 2 ECHO B\nTURN 1\nIN T1 2 SEGS Y\nIN T2 3 ECHO C\nTURN 2\nTURN 2\nTURN 2\nTURN 2\nTURN 2\nTURN 2\nTURN 2\nTURN 2\nTURN 2\nTURN 2\nTURN 2\nTURN 2\nTURN 2\n",
-            b"ACK T1 1\nACK T2 1\nACK T2 2\nR1 SCHEDULED SEGS 1\nACK T1 2\nACK T2 3\nR2 SCHEDULED ECHO 2\nR2 GU 0 OK\nR2 ISRT 0 OK\nR2 DONE ECHO 2\nR2 SCHEDULED ECHO 3\nR2 GU 0 OK\nR2 ISRT 0 OK\nR2 DONE ECHO 3\nR2 SCHEDULED ECHO 5\nR2 GU 0 OK\nR2 ISRT 0 OK\nR2 DONE ECHO 5\nR2 SCHEDULED SEGS 4\n",
-        ),
-        // One message of a scheduling.
-        (
-            b"IN T1 1 LOOP A\nIN T1 2 LOOP B\nTURN 1\nTURN 1\nTURN 1\nTURN 1\nTURN 1\n",
-            b"ACK T1 1\nACK T1 2\nR1 SCHEDULED LOOP 1\nR1 GU 0 OK\nR1 ISRT 0 OK\nR1 QC LOOP 1\nR1 SCHEDULED LOOP 2\n",
-        ),
-    ];
-    for (lines, printed) in &table {
-        expect_session(&rt, rt.alloc(), lines, printed)?;
-    }
-    Ok(())
+    expect_each(&rt, rt.alloc(), &[SYSTEM, PROGRAMS], SYSTEM_SESSIONS)
 }
+
+const BLOCK_SESSIONS: &[(&[u8], &[u8])] = &[
+    // An input with its `+` lines has one answer, also where lines stand between that are passed over.
+    (
+        b"IN T1 1 SEGS A\n+ B\n\n* a comment\n+ C\nTURN 1\n",
+        b"ACK T1 1\nR1 SCHEDULED SEGS 1\n",
+    ),
+    // It is served at the end of the source too, and at the next line that is none.
+    (b"IN T1 1 ECHO A\n+ B", b"ACK T1 1\n"),
+    (
+        b"IN T1 1 ECHO A\n+ B\nIN T1 2 ECHO C\n+\n+ D\nHELP\n+ E\n+\n+x\n",
+        b"ACK T1 1\nBAD LINE 2\nBAD LINE 1\nBAD LINE 5\nBAD LINE 2\nBAD LINE 1\n",
+    ),
+    // The lowest rule over all lines of an input.
+    (
+        b"IN T1 x ECHO\n+ \x7f\nIN T1 1 ECHO A\n+ \x7f\nIN t1 x ECHO\nIN t1 1 ECHO\nIN T1 1\n+ A\nin T1 1 ECHO\n",
+        b"BAD LINE 3\nBAD LINE 6\nBAD LINE 3\nBAD LINE 4\nBAD LINE 2\nBAD LINE 1\n",
+    ),
+    // Seventeen segments are too many.
+    (
+        b"IN T1 1 ECHO\n+ \n+ \n+ \n+ \n+ \n+ \n+ \n+ \n+ \n+ \n+ \n+ \n+ \n+ \n+ \n+ \n",
+        b"REFUSED T1 1 SEGMENTS 17 16\n",
+    ),
+    // Each QUIET begins with the first region.
+    (
+        b"IN T1 1 ECHO A\nQUIET 3\nQUIET 100\nQUIET 1\n",
+        b"ACK T1 1\nTURNS SPENT 3\nQUIET 3\nQUIET 0\n",
+    ),
+];
 
 #[test]
 fn blocks(rt: HostRuntime) -> Result<(), Fail> {
-    let table: [(&[u8], &[u8]); 6] = [
-        // An input with its `+` lines has one answer, also where lines stand between that are passed over.
-        (
-            b"IN T1 1 SEGS A\n+ B\n\n* a comment\n+ C\nTURN 1\n",
-            b"ACK T1 1\nR1 SCHEDULED SEGS 1\n",
-        ),
-        // It is served at the end of the source too, and at the next line that is none.
-        (b"IN T1 1 ECHO A\n+ B", b"ACK T1 1\n"),
-        (
-            b"IN T1 1 ECHO A\n+ B\nIN T1 2 ECHO C\n+\n+ D\nHELP\n+ E\n+\n+x\n",
-            b"ACK T1 1\nBAD LINE 2\nBAD LINE 1\nBAD LINE 5\nBAD LINE 2\nBAD LINE 1\n",
-        ),
-        // The lowest rule over all lines of an input.
-        (
-            b"IN T1 x ECHO\n+ \x7f\nIN T1 1 ECHO A\n+ \x7f\nIN t1 x ECHO\nIN t1 1 ECHO\nIN T1 1\n+ A\nin T1 1 ECHO\n",
-            b"BAD LINE 3\nBAD LINE 6\nBAD LINE 3\nBAD LINE 4\nBAD LINE 2\nBAD LINE 1\n",
-        ),
-        // Seventeen segments are too many.
-        (
-            b"IN T1 1 ECHO\n+ \n+ \n+ \n+ \n+ \n+ \n+ \n+ \n+ \n+ \n+ \n+ \n+ \n+ \n+ \n+ \n",
-            b"REFUSED T1 1 SEGMENTS 17 16\n",
-        ),
-        // Each QUIET begins with the first region.
-        (
-            b"IN T1 1 ECHO A\nQUIET 3\nQUIET 100\nQUIET 1\n",
-            b"ACK T1 1\nTURNS SPENT 3\nQUIET 3\nQUIET 0\n",
-        ),
-    ];
-    for (lines, printed) in &table {
-        expect_session(&rt, rt.alloc(), lines, printed)?;
-    }
-    Ok(())
+    expect_each(&rt, rt.alloc(), &[SYSTEM, PROGRAMS], BLOCK_SESSIONS)
 }
+
+const LINE_SESSIONS: &[(&[u8], &[u8])] = &[
+    (b"HELP", b"BAD LINE 1\n"),
+    (b"POWER", b"BAD LINE 2\n"),
+    (b"POWER IN 0 1", b"BAD LINE 3\n"),
+    (b" TURN 1", b"BAD LINE 1\n"),
+    (b"TURN", b"BAD LINE 2\n"),
+    (b"TURN 1 ", b"BAD LINE 2\n"),
+    (b"TURN ", b"BAD LINE 3\n"),
+    (b"TURN 0", b"BAD LINE 3\n"),
+    (b"TURN 3", b"BAD LINE 3\n"),
+    (b"TURN 02", b"R2 IDLE\n"),
+    (b"TURN 00000000000000000001", b"R1 IDLE\n"),
+    (b"TURN 000000000000000000001", b"BAD LINE 3\n"),
+    (b"QUIET 0", b"BAD LINE 3\n"),
+    (b"QUIET 1000001", b"BAD LINE 3\n"),
+    (b"QUIET 1000000", b"QUIET 0\n"),
+    (b"RECV", b"BAD LINE 2\n"),
+    (b"RECV T1 ", b"BAD LINE 2\n"),
+    (b"RECV ", b"BAD LINE 4\n"),
+    (b"RECV t1", b"BAD LINE 4\n"),
+    (b"RECV T12345678", b"BAD LINE 4\n"),
+    (b"RECV T5", b"REFUSED T5 TERMINAL\n"),
+    (b"RECV T9", b"NONE T9\n"),
+    (b"ACK T1", b"BAD LINE 2\n"),
+    (b"ACK T1 1 ", b"BAD LINE 2\n"),
+    (b"ACK t1 0", b"BAD LINE 3\n"),
+    (b"ACK T1 1000000000000", b"BAD LINE 3\n"),
+    (b"ACK t1 1", b"BAD LINE 4\n"),
+    (b"ACK T5 1", b"REFUSED T5 1 TERMINAL\n"),
+    (b"ACK T1 999999999999", b"REFUSED T1 999999999999 FIRST 1\n"),
+    (b"IN T1 1 ", b"REFUSED T1 1 CODE -\n"),
+    (b"IN T1 1  ECHO A", b"REFUSED T1 1 CODE -\n"),
+    (b"IN T1 1 OTHERCODES B", b"REFUSED T1 1 CODE OTHERCOD\n"),
+    (b"IN T5 1 ECHO A", b"REFUSED T5 1 TERMINAL\n"),
+    (b"IN T1 001 ECHO", b"ACK T1 1\n"),
+];
 
 #[test]
 fn bad_lines_and_refusals(rt: HostRuntime) -> Result<(), Fail> {
-    let table: [(&[u8], &[u8]); 34] = [
-        (b"HELP", b"BAD LINE 1\n"),
-        (b"POWER", b"BAD LINE 2\n"),
-        (b"POWER IN 0 1", b"BAD LINE 3\n"),
-        (b" TURN 1", b"BAD LINE 1\n"),
-        (b"TURN", b"BAD LINE 2\n"),
-        (b"TURN 1 ", b"BAD LINE 2\n"),
-        (b"TURN ", b"BAD LINE 3\n"),
-        (b"TURN 0", b"BAD LINE 3\n"),
-        (b"TURN 3", b"BAD LINE 3\n"),
-        (b"TURN 02", b"R2 IDLE\n"),
-        (b"TURN 00000000000000000001", b"R1 IDLE\n"),
-        (b"TURN 000000000000000000001", b"BAD LINE 3\n"),
-        (b"QUIET 0", b"BAD LINE 3\n"),
-        (b"QUIET 1000001", b"BAD LINE 3\n"),
-        (b"QUIET 1000000", b"QUIET 0\n"),
-        (b"RECV", b"BAD LINE 2\n"),
-        (b"RECV T1 ", b"BAD LINE 2\n"),
-        (b"RECV ", b"BAD LINE 4\n"),
-        (b"RECV t1", b"BAD LINE 4\n"),
-        (b"RECV T12345678", b"BAD LINE 4\n"),
-        (b"RECV T5", b"REFUSED T5 TERMINAL\n"),
-        (b"RECV T9", b"NONE T9\n"),
-        (b"ACK T1", b"BAD LINE 2\n"),
-        (b"ACK T1 1 ", b"BAD LINE 2\n"),
-        (b"ACK t1 0", b"BAD LINE 3\n"),
-        (b"ACK T1 1000000000000", b"BAD LINE 3\n"),
-        (b"ACK t1 1", b"BAD LINE 4\n"),
-        (b"ACK T5 1", b"REFUSED T5 1 TERMINAL\n"),
-        (b"ACK T1 999999999999", b"REFUSED T1 999999999999 FIRST 1\n"),
-        (b"IN T1 1 ", b"REFUSED T1 1 CODE -\n"),
-        (b"IN T1 1  ECHO A", b"REFUSED T1 1 CODE -\n"),
-        (b"IN T1 1 OTHERCODES B", b"REFUSED T1 1 CODE OTHERCOD\n"),
-        (b"IN T5 1 ECHO A", b"REFUSED T5 1 TERMINAL\n"),
-        (b"IN T1 001 ECHO", b"ACK T1 1\n"),
-    ];
-    for (line, printed) in &table {
-        expect_session(&rt, rt.alloc(), line, printed)?;
-    }
-    Ok(())
+    expect_each(&rt, rt.alloc(), &[SYSTEM, PROGRAMS], LINE_SESSIONS)
 }
 
 /// An input of so many segments of so many bytes each, the first beginning with a code.
@@ -254,11 +148,7 @@ fn long_input(
 #[test]
 fn room(rt: HostRuntime) -> Result<(), Fail> {
     let alloc = rt.alloc();
-    let mut system = b"IMSCTRL QBYTES=131072,LOGS=256\n".to_vec(alloc)?;
-    let Some(behind) = SYSTEM.get(32..) else {
-        return Err(Fail::from("the system is too short"));
-    };
-    system.extend_from_slice(behind)?;
+    let system = system_from(alloc, b"IMSCTRL QBYTES=131072,LOGS=256\n")?;
     let first = long_input(alloc, b"IN T1 1 ", 16, 1996)?;
     let second = long_input(alloc, b"IN T1 2 ", 16, 1996)?;
     let over = long_input(alloc, b"IN T1 3 ", 1, 1389)?;
@@ -275,32 +165,24 @@ fn room(rt: HostRuntime) -> Result<(), Fail> {
     // A segment that is too long is refused before the number is looked at, and behind the terminal.
     let long = long_input(alloc, b"IN T1 7 ", 1, 1997)?;
     let unknown = long_input(alloc, b"IN T5 7 ", 2, 1998)?;
-    let lines = joined(alloc, &[&long, &unknown])?;
+    let source = joined(alloc, &[SYSTEM, PROGRAMS, &long, &unknown])?;
     let printed = b"REFUSED T1 7 LENGTH 1997 1996\nREFUSED T5 7 TERMINAL\n";
-    expect_session(&rt, alloc, &lines, printed)
+    expect_source(&rt, alloc, &source, printed)
 }
 
 #[test]
 fn lives(rt: HostRuntime) -> Result<(), Fail> {
     let alloc = rt.alloc();
-    let mut words = Vec::new(alloc);
-    for word in DRILL {
-        words.push(String::from_str(alloc, word)?)?;
-    }
     // No line leaves a life with an empty history; no definition leaves none.
-    for (bytes, lives) in [
+    for (source, lives) in [
         (joined(alloc, &[SYSTEM, PROGRAMS])?, 1),
         (Vec::new(alloc), 0),
     ] {
-        let mut source = MemSource::new(bytes, Vec::new(alloc));
-        let mut sink = MemSink::new(alloc, Vec::new(alloc));
-        sink.reserve(100)?;
-        let disk = MemDisk::new(alloc, 4096, Vec::new(alloc))?;
-        let outcome = run(alloc, &words, &mut source, &mut sink, disk);
-        assert_eq!(rt; outcome.lives.items.len(), lives);
-        for life in &outcome.lives.items {
-            assert_eq!(rt; life.history.len(), 0);
-            assert_eq!(rt; life.kept, 0);
+        let report = told(alloc, DRILL, &source, (&[], &[]), (4096, &[]))?;
+        assert_eq!(rt; report.lives.len(), lives);
+        for (history, kept) in &report.lives {
+            assert_eq!(rt; *history, 0);
+            assert_eq!(rt; *kept, 0);
         }
     }
     Ok(())
@@ -331,36 +213,37 @@ fn words(rt: HostRuntime) -> Result<(), Fail> {
     Ok(())
 }
 
+const FAULTY_DEFINITIONS: &[(&[u8], &[u8])] = &[
+    // END is missing one past the last line.
+    (b"", b"STATUS 2 LINE 1 RULE 13\n"),
+    (
+        b"IMSCTRL\nPROGRAM A\nEND\nENDPROG\n",
+        b"STATUS 2 LINE 5 RULE 13\n",
+    ),
+    // A fault within a program.
+    (
+        b"IMSCTRL\nPROGRAM A\nCALL GU 0 A\nGO L\nEND\nENDPROG\nEND\n",
+        b"STATUS 2 LINE 4 RULE 21\n",
+    ),
+    // Nothing is judged but the lines up to END.
+    (
+        b"IMSCTRL\nREGION CLASS=(1)\nEND\nNAME LTERM=T1\n",
+        b"STATUS 2 LINE 3 CROSS 17\n",
+    ),
+    // END ends the text, also where it breaks a rule; a line with a fault doesn't.
+    (
+        b"IMSCTRL\nNAME LTERM=t1\nEND X\nTURN 1\n",
+        b"STATUS 2 LINE 2 RULE 7\n",
+    ),
+    (b"IMSCTRL\nEND X\nTURN 1\n", b"STATUS 2 LINE 2 RULE 2\n"),
+    // A CR at the end of a last line without LF is a byte of the line.
+    (b"IMSCTRL\nEND\r", b"STATUS 2 LINE 2 RULE 1\n"),
+];
+
 #[test]
 fn definitions(rt: HostRuntime) -> Result<(), Fail> {
     let alloc = rt.alloc();
-    let table: [(&[u8], &[u8]); 7] = [
-        // END is missing one past the last line.
-        (b"", b"STATUS 2 LINE 1 RULE 13\n"),
-        (
-            b"IMSCTRL\nPROGRAM A\nEND\nENDPROG\n",
-            b"STATUS 2 LINE 5 RULE 13\n",
-        ),
-        // A fault within a program.
-        (
-            b"IMSCTRL\nPROGRAM A\nCALL GU 0 A\nGO L\nEND\nENDPROG\nEND\n",
-            b"STATUS 2 LINE 4 RULE 21\n",
-        ),
-        // Nothing is judged but the lines up to END.
-        (
-            b"IMSCTRL\nREGION CLASS=(1)\nEND\nNAME LTERM=T1\n",
-            b"STATUS 2 LINE 3 CROSS 17\n",
-        ),
-        // END ends the text, also where it breaks a rule; a line with a fault doesn't.
-        (
-            b"IMSCTRL\nNAME LTERM=t1\nEND X\nTURN 1\n",
-            b"STATUS 2 LINE 2 RULE 7\n",
-        ),
-        (b"IMSCTRL\nEND X\nTURN 1\n", b"STATUS 2 LINE 2 RULE 2\n"),
-        // A CR at the end of a last line without LF is a byte of the line.
-        (b"IMSCTRL\nEND\r", b"STATUS 2 LINE 2 RULE 1\n"),
-    ];
-    for (source, printed) in &table {
+    for (source, printed) in FAULTY_DEFINITIONS {
         expect(&rt, alloc, DRILL, source, (&[], &[]), (2, printed))?;
     }
     // A definition has 262,144 bytes at most: 8 of the first line, and 1,024 of each further one.

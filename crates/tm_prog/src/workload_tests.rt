@@ -1,31 +1,19 @@
 //! Workloads: their words, and what they are summed up in.
 
-use crate::run::run;
-use crate::status_number;
+use crate::test_runs::{Report, told};
 use std::alloc::Global;
 use std::process::Abort;
 use std::test::Fail;
-use tm_disk::MemDisk;
-use tm_edge::{MemSink, MemSource};
 
 /// Runs these words over a source that fails at its first call, a sink that fails at the listed calls, and a disk of so many
-/// sectors that fails at the listed calls; answers the status and what was printed.
-fn told(
+/// sectors that fails at the listed calls.
+fn summed(
     alloc: Global,
     words: &[&str],
     sink_fails: &[u64],
     disk: (u32, &[u64]),
-) -> Result<(u8, Vec<u8>), Fail> {
-    let mut all = Vec::new(alloc);
-    for word in words {
-        all.push(String::from_str(alloc, word)?)?;
-    }
-    let mut source = MemSource::new(Vec::new(alloc), [1].to_vec(alloc)?);
-    let mut sink = MemSink::new(alloc, sink_fails.to_vec(alloc)?);
-    sink.reserve(8192)?;
-    let disk = MemDisk::new(alloc, disk.0, disk.1.to_vec(alloc)?)?;
-    let outcome = run(alloc, &all, &mut source, &mut sink, disk);
-    Ok((status_number(outcome.status), sink.bytes().to_vec(alloc)?))
+) -> Result<Report, Fail> {
+    told(alloc, words, b"", (&[1], sink_fails), disk)
 }
 
 /// Each input of a workload is accepted and completed, and no money comes or goes. How often a region gives way isn't told
@@ -36,11 +24,11 @@ fn expect_sum(
     words: &[&str],
     front: &[u8],
 ) -> Result<Vec<u8>, Fail> {
-    let (status, printed) = told(alloc, words, &[], (16384, &[]))?;
-    assert_eq!(rt; status, 0);
-    assert!(rt; printed.starts_with(front));
-    assert!(rt; printed.ends_with(b"\nSUM 00100000\n"));
-    Ok(printed)
+    let report = summed(alloc, words, &[], (16384, &[]))?;
+    assert_eq!(rt; report.status, 0);
+    assert!(rt; report.printed.starts_with(front));
+    assert!(rt; report.printed.ends_with(b"\nSUM 00100000\n"));
+    Ok(report.printed)
 }
 
 #[test]
@@ -90,22 +78,22 @@ fn broken_workloads(rt: HostRuntime) -> Result<(), Fail> {
     let words: [&str; 3] = ["workload", "7", "1"];
     let none: &[u8] = b"WORKLOAD 7 1\nACCEPTED 0\nDONE 0\nABENDED 0\nU0777 0\n";
     // The disk is too small: nothing was done. With four regions each snapshot area has 549 sectors.
-    let (status, printed) = told(alloc, &words, &[], (1000, &[]))?;
-    assert_eq!(rt; status, 6);
-    assert!(rt; printed.starts_with(none));
-    assert!(rt; printed.ends_with(b"\nSTATUS 6 SIZE 1775 1000\n"));
+    let report = summed(alloc, &words, &[], (1000, &[]))?;
+    assert_eq!(rt; report.status, 6);
+    assert!(rt; report.printed.starts_with(none));
+    assert!(rt; report.printed.ends_with(b"\nSTATUS 6 SIZE 1775 1000\n"));
     // The disk fails at the opening, and the system stays down.
-    let (status, printed) = told(alloc, &words, &[], (16384, &[1]))?;
-    assert_eq!(rt; status, 3);
-    assert!(rt; printed.starts_with(none));
-    assert!(rt; printed.ends_with(b"\nSTATUS 3 DOWN\n"));
+    let report = summed(alloc, &words, &[], (16384, &[1]))?;
+    assert_eq!(rt; report.status, 3);
+    assert!(rt; report.printed.starts_with(none));
+    assert!(rt; report.printed.ends_with(b"\nSTATUS 3 DOWN\n"));
     // The sink fails: the summary isn't written, and the first cause that is met counts.
-    let (status, printed) = told(alloc, &words, &[1], (16384, &[]))?;
-    assert_eq!(rt; status, 5);
-    assert!(rt; printed.is_empty());
-    let (status, printed) = told(alloc, &words, &[1], (1000, &[]))?;
-    assert_eq!(rt; status, 6);
-    assert!(rt; printed.is_empty());
+    let report = summed(alloc, &words, &[1], (16384, &[]))?;
+    assert_eq!(rt; report.status, 5);
+    assert!(rt; report.printed.is_empty());
+    let report = summed(alloc, &words, &[1], (1000, &[]))?;
+    assert_eq!(rt; report.status, 6);
+    assert!(rt; report.printed.is_empty());
     Ok(())
 }
 
@@ -125,9 +113,9 @@ fn words_of_a_workload(rt: HostRuntime) -> Result<(), Fail> {
         (&["workloads", "7", "5"], b"STATUS 1 WORD 1 RULE 1\n"),
     ];
     for (words, printed) in &table {
-        let (status, found) = told(rt.alloc(), words, &[], (16384, &[]))?;
-        assert_eq!(rt; status, 1);
-        assert!(rt; found.as_slice() == *printed);
+        let report = summed(rt.alloc(), words, &[], (16384, &[]))?;
+        assert_eq!(rt; report.status, 1);
+        assert!(rt; report.printed.as_slice() == *printed);
     }
     Ok(())
 }
