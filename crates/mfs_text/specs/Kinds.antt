@@ -1,9 +1,8 @@
 -- The macros of a format and their keys.
-use Rattle.std.specs.Prelude.{ℕ, Bool, true, false, ◌&&◌, not, List, [], ◌∷◌, codes, Option, Some, None, Result, Ok, Err, if◌then◌else◌}
-use Rattle.std.specs.List.{list_all, list_any}
+use Rattle.std.specs.Prelude.{ℕ, Bool, true, false, ◌&&◌, not, List, [], ◌∷◌, codes, Result, Ok, Err, if◌then◌else◌}
+use Rattle.std.specs.List.{list_any}
 use Rattle.std.specs.Str.{bytes_eq}
-use Rattle.text_rows.specs.Lines.{split_at}
-use Rattle.text_rows.specs.Operands.{only, values}
+use Rattle.text_rows.specs.Operands.{known_among, stands}
 use Rattle.mfs_text.specs.declared.kinds.Kind.{Kind}
 use Rattle.mfs_text.specs.declared.kinds.Kind.TheVariants.{Field, Message, Segment, MessageField, End}
 
@@ -24,15 +23,6 @@ kind_of name =
     else (if list_any (bytes_eq name) other_macros then Err 10
     else Err 1)))))
 
--- an operand with a key stands there, be it once or twice
-abbrev pub is_there : Result (Option (List ℕ)) ℕ → Bool
-is_there (Ok None) = false
-is_there (Ok (Some value)) = true
-is_there (Err rule) = true
-
-abbrev pub stands : List ℕ → List (List ℕ) → Bool
-stands key ops = is_there (only (values key ops))
-
 -- An MFLD with LIT is a literal, unless it has SRC too.
 unfoldable pub is_literal : List (List ℕ) → Bool
 is_literal ops = stands (codes "LIT") ops && not (stands (codes "SRC") ops)
@@ -51,17 +41,6 @@ keys Segment literal = []
 keys MessageField true = codes "LIT" ∷ []
 keys MessageField false = source_keys
 keys End literal = []
-
-abbrev pub is_among : List (List ℕ) → Option (List ℕ × List ℕ) → Bool
-is_among words None = false
-is_among words (Some (word, value)) = list_any (bytes_eq word) words
-
--- an operand without = has no key
-unfoldable pub has_key : List (List ℕ) → List ℕ → Bool
-has_key words operand = is_among words (split_at 61 operand)
-
-abbrev pub known_among : List (List ℕ) → List (List ℕ) → Result (Unit {0}) ℕ
-known_among words operands = if list_all (has_key words) operands then Ok tt else Err 2
 
 -- Rule 2: each operand has one of these keys.
 unfoldable pub known : Kind → List (List ℕ) → Result (Unit {0}) ℕ

@@ -1,7 +1,6 @@
 //! The table of a format's macros.
 ghost use Rattle.std.specs.Prelude.{◌≡◌, ◌+◌, ◌≤◌, Ok, Err, IfOk, IsTrue, MatchResult, codes};
 ghost use Rattle.text_rows.specs.Lowest.{both};
-ghost use Rattle.text_rows.specs.Names as names;
 ghost use Rattle.text_rows.specs.Numbers.{number_between};
 ghost use Rattle.text_rows.specs.Operands.{needed, or_as};
 ghost use Rattle.model_format.specs.declared.message_field.Justify.TheVariants.{Left};
@@ -11,25 +10,13 @@ ghost use Rattle.mfs_text.specs.Values as values;
 ghost use Rattle.mfs_text.specs.Rows as spec;
 
 use crate::kinds::is_literal;
-use crate::rules::OPERAND_MISSING;
-use crate::values::{byte_between, direction_of, fill_of, justify_of, literal_of, place_of};
+use crate::values::{direction_of, fill_of, justify_of, literal_of, place_of};
 use crate::{Direction, FormatLine, Kind};
 use model_format::{DeviceField, Justify, MessageField, MessageFieldLine, Source};
 use std::alloc::Global;
-use text_rows::rules::OUT_OF_RANGE;
-use text_rows::{Operands, both, name_of};
+use text_rows::rules::{OPERAND_MISSING, OUT_OF_RANGE};
+use text_rows::{Operands, both, byte_between};
 use tm_types::{Bytes, Memory, Name};
-
-/// The name under a key that must be there.
-#[tactic(auto, unfolding(text_rows::specs::Operands::needed))]
-fn needed_name(key: &[u8], operands: &Operands<'_>) -> Result<Name, u8>
-    ensures { result ≡ needed key.now names.name_of operands.now }
-{
-    match operands.only_value(key)? {
-        Some(text) => name_of(text),
-        None => Err(OPERAND_MISSING),
-    }
-}
 
 #[tactic(auto, unfolding(text_rows::specs::Operands::needed))]
 fn place(operands: &Operands<'_>) -> Result<(u8, u8), u8>
@@ -115,7 +102,7 @@ fn field_row(number: u32, operands: &Operands<'_>) -> Result<FormatLine, u8>
     ensures value { result ≡ spec.field_row number operands.now }
     ensures valid { IfOk result (λ line. IsTrue (is_good line)) }
 {
-    let (name, extent) = both(needed_name(b"NAME", operands), extent_part(operands))?;
+    let (name, extent) = both(operands.needed_name(b"NAME"), extent_part(operands))?;
     let ((row, column), width) = extent;
     Ok(FormatLine::Field(DeviceField {
         number,
@@ -161,7 +148,7 @@ fn source_part(operands: &Operands<'_>) -> Result<(Name, u8), u8>
     ensures value { result ≡ spec.source_part operands.now }
     ensures within { IfOk result (λ part. (1 ≤ part.1) × (part.1 ≤ 80)) }
 {
-    both(needed_name(b"SRC", operands), width(operands))
+    both(operands.needed_name(b"SRC"), width(operands))
 }
 
 #[tactic(auto, unfolding(crate::specs::Rows::fitting_part))]

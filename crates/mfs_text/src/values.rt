@@ -1,27 +1,14 @@
 //! The values of operands.
 ghost use Rattle.std.specs.Prelude.{◌≡◌, ◌≤◌, Ok, Err, IfOk, IsTrue, MatchResult};
 ghost use Rattle.text_rows.specs.Lines.{split_at};
-ghost use Rattle.text_rows.specs.Numbers.{number_between};
 ghost use Rattle.model_format.specs.Valid.{is_fill, is_literal};
 ghost use Rattle.mfs_text.specs.Values as spec;
 
 use crate::Direction;
-use crate::rules::WRONG_WORD;
 use model_format::Justify;
-use text_rows::rules::NOT_PRINTABLE;
-use text_rows::{both, is_word, number_between, split_at, two_of};
+use text_rows::rules::{NOT_PRINTABLE, WRONG_WORD};
+use text_rows::{both, byte_between, is_word, split_at, two_of};
 use tm_types::{are_printable, is_printable};
-
-/// A number that a byte holds.
-pub(crate) fn byte_between(low: u8, high: u8, text: &[u8]) -> Result<u8, u8>
-    ensures value { result ≡ number_between low high text.now }
-    ensures within { IfOk result (λ number. (low ≤ number) × (number ≤ high)) }
-{
-    match number_between(u32::from(low), u32::from(high), text) {
-        Ok(number) => Ok(number as u8),
-        Err(rule) => Err(rule),
-    }
-}
 
 /// POS: a row of 1 to 24 and a column of 1 to 80.
 #[tactic(auto, unfolding(crate::specs::Values::place_of))]

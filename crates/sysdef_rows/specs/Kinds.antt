@@ -1,8 +1,7 @@
 -- The macros and their keys.
-use Rattle.std.specs.Prelude.{ℕ, Bool, false, List, [], ◌∷◌, codes, Option, Some, None, Result, Ok, Err, if◌then◌else◌}
-use Rattle.std.specs.List.{list_all, list_any}
+use Rattle.std.specs.Prelude.{ℕ, List, [], ◌∷◌, codes, Result, Ok, Err, if◌then◌else◌}
 use Rattle.std.specs.Str.{bytes_eq}
-use Rattle.text_rows.specs.Lines.{split_at}
+use Rattle.text_rows.specs.Operands.{known_among}
 use Rattle.sysdef_rows.specs.declared.kinds.Kind.{Kind}
 use Rattle.sysdef_rows.specs.declared.kinds.Kind.TheVariants.{Control, Database, Segment, Application, Pcb, Transaction, Terminal, Region, End}
 use Rattle.sysdef_rows.specs.Pcbs.{form_keys, form_of, pcb_keys}
@@ -41,17 +40,6 @@ keys End = []
 
 abbrev pub format_keys : List (List ℕ)
 format_keys = codes "NAME" ∷ []
-
-abbrev pub is_among : List (List ℕ) → Option (List ℕ × List ℕ) → Bool
-is_among words None = false
-is_among words (Some (word, value)) = list_any (bytes_eq word) words
-
--- an operand without = has no key
-unfoldable pub has_key : List (List ℕ) → List ℕ → Bool
-has_key words operand = is_among words (split_at 61 operand)
-
-abbrev pub known_among : List (List ℕ) → List (List ℕ) → Result (Unit {0}) ℕ
-known_among words operands = if list_all (has_key words) operands then Ok tt else Err 2
 
 -- Rule 2: each operand has one of the macro's keys, or of the keys of the PCB's form.
 unfoldable pub known : Kind → List (List ℕ) → Result (Unit {0}) ℕ

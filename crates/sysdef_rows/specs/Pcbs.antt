@@ -1,22 +1,14 @@
 -- The PCBs of a definition, which have one of three forms.
-use Rattle.std.specs.Prelude.{ℕ, Bool, true, false, List, [], ◌∷◌, codes, Option, None, Result, Ok, Err, if◌then◌else◌}
+use Rattle.std.specs.Prelude.{ℕ, Bool, true, false, List, [], ◌∷◌, codes, Result, Ok, Err, if◌then◌else◌}
 use Rattle.std.specs.Str.{bytes_eq}
 use Rattle.text_rows.specs.Lowest.{both, also}
 use Rattle.text_rows.specs.Names.{name_of}
-use Rattle.text_rows.specs.Operands.{needed, only, or_as, values}
+use Rattle.text_rows.specs.Operands.{needed, or_as, stands}
 use Rattle.system_types.specs.declared.definition.Macro.{Macro}
 use Rattle.system_types.specs.declared.definition.Macro.TheVariants as macro
 use Rattle.sysdef_rows.specs.declared.pcbs.PcbForm.{PcbForm}
 use Rattle.sysdef_rows.specs.declared.pcbs.PcbForm.TheVariants.{OnDatabase, ToDestination, Modifiable}
 use Rattle.sysdef_rows.specs.Values.{options_of, modify_of}
-
--- an operand with a key stands there, be it once or twice
-abbrev pub is_there : Result (Option (List ℕ)) ℕ → Bool
-is_there (Ok None) = false
-is_there _ = true
-
-abbrev pub stands : List ℕ → List (List ℕ) → Bool
-stands key ops = is_there (only (values key ops))
 
 -- TYPE: DB or TP. A PCB of TYPE=TP has the destination that LTERM names, or sets one where there is
 -- no LTERM.

@@ -4,14 +4,14 @@ use Rattle.text_rows.specs.Lines.{split_at}
 use Rattle.text_rows.specs.Lowest.{also, both}
 use Rattle.text_rows.specs.Names.{name_of}
 use Rattle.text_rows.specs.Numbers.{number_between}
-use Rattle.text_rows.specs.Operands.{needed, or_as}
+use Rattle.text_rows.specs.Operands.{known_among, needed, or_as}
 use Rattle.model_system.specs.declared.code.SegmentKind.{SegmentKind}
 use Rattle.model_system.specs.declared.code.SegmentKind.TheVariants.{Multiple}
 use Rattle.system_types.specs.declared.definition.Macro.{Macro}
 use Rattle.system_types.specs.declared.definition.Macro.TheVariants as macro
 use Rattle.sysdef_rows.specs.declared.kinds.Kind.{Kind}
 use Rattle.sysdef_rows.specs.declared.kinds.Kind.TheVariants.{Control, Database, Segment, Application, Pcb, Transaction, Terminal, Region, End}
-use Rattle.sysdef_rows.specs.Kinds.{format_keys, known_among}
+use Rattle.sysdef_rows.specs.Kinds.{format_keys}
 use Rattle.sysdef_rows.specs.Pcbs.{pcb_row}
 use Rattle.sysdef_rows.specs.Values.{named, parent_of, message_type_of, priorities_of, limits_of, pad_of, serial_of, classes_of}
 

@@ -1,13 +1,11 @@
 //! The macros and their keys.
 ghost use Rattle.std.specs.Prelude.{◌≡◌};
-ghost use Rattle.std.specs.List.{list_any};
-ghost use Rattle.std.specs.Str.{bytes_eq};
+ghost use Rattle.text_rows.specs.Operands.{known_among};
 ghost use Rattle.sysdef_rows.specs.Kinds as spec;
-ghost use Rattle.sysdef_rows.specs.Pcbs as pcbs;
 
-use crate::pcbs::{PcbForm, form_of, is_form_key, is_pcb_key};
-use crate::rules::{UNKNOWN_MACRO, UNKNOWN_OPERAND};
-use text_rows::{Operands, is_word, split_at};
+use crate::pcbs::{form_of, known_in_form};
+use text_rows::rules::UNKNOWN_MACRO;
+use text_rows::{Operands, is_word};
 
 /// The macros that have operands with keys.
 #[derive(Clone, Copy, Debug)]
@@ -66,109 +64,22 @@ pub fn known(kind: Kind, operands: &Operands<'_>) -> Result<(), u8>
     ensures { result ≡ spec.known kind operands.now }
 {
     match kind {
+        Kind::Control => operands.known_among(&[b"QBYTES", b"LOGS"]),
+        Kind::Database => operands.known_among(&[b"NAME", b"ROOTS"]),
+        Kind::Segment => operands.known_among(&[b"NAME", b"PARENT", b"KEY", b"BYTES"]),
+        Kind::Application => operands.known_among(&[b"PSB"]),
         Kind::Pcb => known_in_form(form_of(operands), operands),
-        _ => known_keys(kind, operands),
+        Kind::Transaction => known_of_transaction(operands),
+        Kind::Terminal => operands.known_among(&[b"LTERM", b"FORMAT"]),
+        Kind::Region => operands.known_among(&[b"CLASS"]),
+        Kind::End => operands.known_among(&[]),
     }
 }
 
-fn known_in_form(form: Result<PcbForm, u8>, operands: &Operands<'_>) -> Result<(), u8>
-    ensures { result ≡ spec.known_among (pcbs.form_keys form) operands.now }
+fn known_of_transaction(operands: &Operands<'_>) -> Result<(), u8>
+    ensures { result ≡ known_among spec.transaction_keys operands.now }
 {
-    for operand in operands.pieces() {
-        if !has_form_key(form, operand) {
-            return Err(UNKNOWN_OPERAND);
-        }
-    }
-    Ok(())
-}
-
-#[tactic(auto, unfolding(crate::specs::Kinds::has_key))]
-fn has_form_key(form: Result<PcbForm, u8>, operand: &[u8]) -> bool
-    ensures { result ≡ spec.has_key (pcbs.form_keys form) operand.now }
-{
-    match split_at(b'=', operand) {
-        Some((word, _)) => is_form_key(form, word),
-        None => false,
-    }
-}
-
-fn known_keys(kind: Kind, operands: &Operands<'_>) -> Result<(), u8>
-    ensures { result ≡ spec.known_among (spec.keys kind) operands.now }
-{
-    for operand in operands.pieces() {
-        if !has_key(kind, operand) {
-            return Err(UNKNOWN_OPERAND);
-        }
-    }
-    Ok(())
-}
-
-#[tactic(auto, unfolding(crate::specs::Kinds::has_key))]
-fn has_key(kind: Kind, operand: &[u8]) -> bool
-    ensures { result ≡ spec.has_key (spec.keys kind) operand.now }
-{
-    match split_at(b'=', operand) {
-        Some((word, _)) => is_key(kind, word),
-        None => false,
-    }
-}
-
-/// Rule 2 where an operand isn't the name of an FMT.
-pub(crate) fn known_name(operands: &Operands<'_>) -> Result<(), u8>
-    ensures { result ≡ spec.known_among spec.format_keys operands.now }
-{
-    for operand in operands.pieces() {
-        if !has_name_key(operand) {
-            return Err(UNKNOWN_OPERAND);
-        }
-    }
-    Ok(())
-}
-
-#[tactic(auto, unfolding(crate::specs::Kinds::has_key))]
-fn has_name_key(operand: &[u8]) -> bool
-    ensures { result ≡ spec.has_key spec.format_keys operand.now }
-{
-    match split_at(b'=', operand) {
-        Some((word, _)) => is_word(word, b"NAME"),
-        None => false,
-    }
-}
-
-fn is_key(kind: Kind, word: &[u8]) -> bool
-    ensures { result ≡ list_any (bytes_eq word.now) (spec.keys kind) }
-{
-    match kind {
-        Kind::Control => is_word(word, b"QBYTES") || is_word(word, b"LOGS"),
-        Kind::Database => is_word(word, b"NAME") || is_word(word, b"ROOTS"),
-        Kind::Segment => is_segment_key(word),
-        Kind::Application => is_word(word, b"PSB"),
-        Kind::Pcb => is_pcb_key(word),
-        Kind::Transaction => is_transaction_key(word),
-        Kind::Terminal => is_word(word, b"LTERM") || is_word(word, b"FORMAT"),
-        Kind::Region => is_word(word, b"CLASS"),
-        Kind::End => false,
-    }
-}
-
-fn is_segment_key(word: &[u8]) -> bool
-    ensures { result ≡ list_any (bytes_eq word.now) spec.segment_keys }
-{
-    is_word(word, b"NAME")
-        || is_word(word, b"PARENT")
-        || is_word(word, b"KEY")
-        || is_word(word, b"BYTES")
-}
-
-fn is_transaction_key(word: &[u8]) -> bool
-    ensures { result ≡ list_any (bytes_eq word.now) spec.transaction_keys }
-{
-    is_word(word, b"CODE")
-        || is_word(word, b"MSGTYPE")
-        || is_word(word, b"PRTY")
-        || is_word(word, b"PROCLIM")
-        || is_word(word, b"SPA")
-        || is_word(word, b"SEGNO")
-        || is_word(word, b"SEGSIZE")
-        || is_word(word, b"SERIAL")
+    operands.known_among(&[
+        b"CODE", b"MSGTYPE", b"PRTY", b"PROCLIM", b"SPA", b"SEGNO", b"SEGSIZE", b"SERIAL",
+    ])
 }

@@ -12,5 +12,4 @@ pub use rows::{format_name, program_name, row};
 mod kinds;
 mod pcbs;
 mod rows;
-mod rules;
 mod values;

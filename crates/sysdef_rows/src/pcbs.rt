@@ -1,16 +1,13 @@
 //! The three forms of a PCB.
-ghost use Rattle.std.specs.Prelude.{◌≡◌, [], ◌∷◌, Err, codes};
-ghost use Rattle.std.specs.List.{list_any};
-ghost use Rattle.std.specs.Str.{bytes_eq};
+ghost use Rattle.std.specs.Prelude.{◌≡◌, Err, codes};
 ghost use Rattle.text_rows.specs.Names as names;
-ghost use Rattle.text_rows.specs.Operands.{needed, or_as};
+ghost use Rattle.text_rows.specs.Operands.{known_among, needed, or_as};
 ghost use Rattle.sysdef_rows.specs.Values as values;
 ghost use Rattle.sysdef_rows.specs.Pcbs as spec;
 
-use crate::rows::needed_name;
-use crate::rules::{OPERAND_MISSING, WRONG_WORD};
 use crate::values::{modify_of, options_of};
 use system_types::Macro;
+use text_rows::rules::{OPERAND_MISSING, WRONG_WORD};
 use text_rows::{Operands, also, both, is_word, name_of};
 use tm_types::Name;
 
@@ -23,16 +20,6 @@ pub enum PcbForm {
     ToDestination,
     /// TYPE=TP without LTERM.
     Modifiable,
-}
-
-fn stands(key: &[u8], operands: &Operands<'_>) -> bool
-    ensures { result ≡ spec.stands key.now operands.now }
-{
-    match operands.only_value(key) {
-        Ok(None) => false,
-        Ok(Some(_)) => true,
-        Err(_) => true,
-    }
 }
 
 fn output_form(named: bool) -> PcbForm
@@ -64,37 +51,20 @@ pub(crate) fn form_of(operands: &Operands<'_>) -> Result<PcbForm, u8>
     ensures { result ≡ spec.form_of operands.now }
 {
     match operands.only_value(b"TYPE")? {
-        Some(text) => form_in(stands(b"LTERM", operands), text),
+        Some(text) => form_in(operands.stands(b"LTERM"), text),
         None => Err(OPERAND_MISSING),
     }
 }
 
-/// Whether a word is a key of some PCB.
-pub(crate) fn is_pcb_key(word: &[u8]) -> bool
-    ensures { result ≡ list_any (bytes_eq word.now) spec.pcb_keys }
-{
-    is_word(word, b"TYPE")
-        || is_word(word, b"DBDNAME")
-        || is_word(word, b"PROCOPT")
-        || is_word(word, b"LTERM")
-        || is_word(word, b"MODIFY")
-}
-
-fn is_database_key(word: &[u8]) -> bool
-    ensures { result ≡ list_any (bytes_eq word.now) (codes "TYPE" ∷ codes "DBDNAME" ∷ codes "PROCOPT" ∷ []) }
-{
-    is_word(word, b"TYPE") || is_word(word, b"DBDNAME") || is_word(word, b"PROCOPT")
-}
-
-/// Whether a word is a key of the form.
-pub(crate) fn is_form_key(form: Result<PcbForm, u8>, word: &[u8]) -> bool
-    ensures { result ≡ list_any (bytes_eq word.now) (spec.form_keys form) }
+/// Rule 2 where an operand isn't one of the form.
+pub(crate) fn known_in_form(form: Result<PcbForm, u8>, operands: &Operands<'_>) -> Result<(), u8>
+    ensures { result ≡ known_among (spec.form_keys form) operands.now }
 {
     match form {
-        Ok(PcbForm::OnDatabase) => is_database_key(word),
-        Ok(PcbForm::ToDestination) => is_word(word, b"TYPE") || is_word(word, b"LTERM"),
-        Ok(PcbForm::Modifiable) => is_word(word, b"TYPE") || is_word(word, b"MODIFY"),
-        Err(_) => is_pcb_key(word),
+        Ok(PcbForm::OnDatabase) => operands.known_among(&[b"TYPE", b"DBDNAME", b"PROCOPT"]),
+        Ok(PcbForm::ToDestination) => operands.known_among(&[b"TYPE", b"LTERM"]),
+        Ok(PcbForm::Modifiable) => operands.known_among(&[b"TYPE", b"MODIFY"]),
+        Err(_) => operands.known_among(&[b"TYPE", b"DBDNAME", b"PROCOPT", b"LTERM", b"MODIFY"]),
     }
 }
 
@@ -179,7 +149,7 @@ fn standing_output(operands: &Operands<'_>) -> Result<(), u8>
 fn database_part(operands: &Operands<'_>) -> Result<(Name, u8), u8>
     ensures { result ≡ spec.database_part operands.now }
 {
-    both(needed_name(b"DBDNAME", operands), options(operands))
+    both(operands.needed_name(b"DBDNAME"), options(operands))
 }
 
 fn database_pcb(operands: &Operands<'_>) -> Result<Macro, u8>
@@ -192,7 +162,7 @@ fn database_pcb(operands: &Operands<'_>) -> Result<Macro, u8>
 fn destination_pcb(operands: &Operands<'_>) -> Result<Macro, u8>
     ensures { result ≡ spec.destination_pcb (needed (codes "LTERM") names.name_of operands.now) }
 {
-    let destination = needed_name(b"LTERM", operands)?;
+    let destination = operands.needed_name(b"LTERM")?;
     Ok(Macro::DestinationPcb { destination })
 }
 

@@ -8,28 +8,16 @@ ghost use Rattle.sysdef_rows.specs.Values as values;
 ghost use Rattle.sysdef_rows.specs.Rows as spec;
 
 use crate::Kind;
-use crate::kinds::known_name;
 use crate::pcbs::pcb_row;
-use crate::rules::OPERAND_MISSING;
 use crate::values::{
-    byte_between, classes_of, limits_of, message_type_of, pad_of, parent_of, priorities_of,
-    serial_of, short_between,
+    classes_of, limits_of, message_type_of, pad_of, parent_of, priorities_of, serial_of,
+    short_between,
 };
 use model_system::{Classes, SegmentKind, Transaction};
 use system_types::Macro;
-use text_rows::{Operands, also, both, name_of, number_between, split_at};
+use text_rows::rules::OPERAND_MISSING;
+use text_rows::{Operands, also, both, byte_between, name_of, number_between, split_at};
 use tm_types::Name;
-
-/// The name under a key that must be there.
-#[tactic(auto, unfolding(text_rows::specs::Operands::needed))]
-pub(crate) fn needed_name(key: &[u8], operands: &Operands<'_>) -> Result<Name, u8>
-    ensures { result ≡ needed key.now names.name_of operands.now }
-{
-    match operands.only_value(key)? {
-        Some(text) => name_of(text),
-        None => Err(OPERAND_MISSING),
-    }
-}
 
 #[tactic(auto, unfolding(text_rows::specs::Operands::or_as))]
 fn qbytes(operands: &Operands<'_>) -> Result<u32, u8>
@@ -194,7 +182,7 @@ fn control_row(operands: &Operands<'_>) -> Result<Macro, u8>
 fn database_row(operands: &Operands<'_>) -> Result<Macro, u8>
     ensures { result ≡ spec.database_row operands.now }
 {
-    let (name, roots) = both(needed_name(b"NAME", operands), roots(operands))?;
+    let (name, roots) = both(operands.needed_name(b"NAME"), roots(operands))?;
     Ok(Macro::Database { name, roots })
 }
 
@@ -202,7 +190,7 @@ fn database_row(operands: &Operands<'_>) -> Result<Macro, u8>
 fn place_part(operands: &Operands<'_>) -> Result<(Name, Option<Name>), u8>
     ensures { result ≡ spec.place_part operands.now }
 {
-    both(needed_name(b"NAME", operands), parent(operands))
+    both(operands.needed_name(b"NAME"), parent(operands))
 }
 
 #[tactic(auto, unfolding(crate::specs::Rows::length_part))]
@@ -229,7 +217,7 @@ fn segment_row(operands: &Operands<'_>) -> Result<Macro, u8>
 fn application_row(operands: &Operands<'_>) -> Result<Macro, u8>
     ensures { result ≡ spec.application_row operands.now }
 {
-    let psb = needed_name(b"PSB", operands)?;
+    let psb = operands.needed_name(b"PSB")?;
     Ok(Macro::Application { psb })
 }
 
@@ -237,7 +225,7 @@ fn application_row(operands: &Operands<'_>) -> Result<Macro, u8>
 fn terminal_row(operands: &Operands<'_>) -> Result<Macro, u8>
     ensures { result ≡ spec.terminal_row operands.now }
 {
-    let (name, format) = both(needed_name(b"LTERM", operands), format(operands))?;
+    let (name, format) = both(operands.needed_name(b"LTERM"), format(operands))?;
     Ok(Macro::Terminal { name, format })
 }
 
@@ -253,7 +241,7 @@ fn region_row(operands: &Operands<'_>) -> Result<Macro, u8>
 fn code_part(operands: &Operands<'_>) -> Result<(Name, (SegmentKind, u8)), u8>
     ensures { result ≡ spec.code_part operands.now }
 {
-    both(needed_name(b"CODE", operands), message_type(operands))
+    both(operands.needed_name(b"CODE"), message_type(operands))
 }
 
 #[tactic(auto, unfolding(crate::specs::Rows::pad_part))]
@@ -344,5 +332,8 @@ pub fn program_name(line: &[u8]) -> Result<Name, u8>
 pub fn format_name(operands: &Operands<'_>) -> Result<Name, u8>
     ensures { result ≡ spec.format_name operands.now }
 {
-    also(needed_name(b"NAME", operands), known_name(operands))
+    also(
+        operands.needed_name(b"NAME"),
+        operands.known_among(&[b"NAME"]),
+    )
 }

@@ -4,22 +4,13 @@ ghost use Rattle.text_rows.specs.Lowest.{both};
 ghost use Rattle.text_rows.specs.Numbers.{number_between};
 ghost use Rattle.sysdef_rows.specs.Values as spec;
 
-use crate::rules::WRONG_WORD;
 use model_system::{Classes, SegmentKind};
-use text_rows::rules::{OUT_OF_RANGE, WRONG_LIST};
-use text_rows::{Pieces, also, both, is_word, list_of, name_of, number_between, three_of, two_of};
+use text_rows::rules::{OUT_OF_RANGE, WRONG_LIST, WRONG_WORD};
+use text_rows::{
+    Pieces, also, both, byte_between, is_word, list_of, name_of, number_between, three_of, two_of,
+};
 use tm_types::Name;
 use tm_types::processing::{DELETE, GET, INSERT, REPLACE};
-
-/// A number that a byte holds.
-pub(crate) fn byte_between(low: u8, high: u8, text: &[u8]) -> Result<u8, u8>
-    ensures { result ≡ number_between low high text.now }
-{
-    match number_between(u32::from(low), u32::from(high), text) {
-        Ok(number) => Ok(number as u8),
-        Err(rule) => Err(rule),
-    }
-}
 
 /// A number that two bytes hold.
 pub(crate) fn short_between(low: u16, high: u16, text: &[u8]) -> Result<u16, u8>

@@ -1,5 +1,6 @@
 -- The operands of a macro.
-use Rattle.std.specs.Prelude.{ℕ, List, [], ◌∷◌, Option, Some, None, Result, Ok, Err, if◌then◌else◌}
+use Rattle.std.specs.Prelude.{ℕ, Bool, true, false, List, [], ◌∷◌, Option, Some, None, Result, Ok, Err, if◌then◌else◌}
+use Rattle.std.specs.List.{list_all, list_any}
 use Rattle.std.specs.Str.{bytes_eq}
 use Rattle.text_rows.specs.declared.pieces.Place.TheVariants.{Operand}
 use Rattle.text_rows.specs.Pieces.{pieces}
@@ -56,3 +57,24 @@ needed key read operands = read_or (Err 4) read (only (values key operands))
 -- an operand that stands for the default where it is missing
 unfoldable pub or_as : {A : Type 0} → List ℕ → (List ℕ → Result A ℕ) → A → List (List ℕ) → Result A ℕ
 or_as key read default operands = read_or (Ok default) read (only (values key operands))
+
+-- an operand with a key stands there, be it once or twice
+abbrev pub is_there : Result (Option (List ℕ)) ℕ → Bool
+is_there (Ok None) = false
+is_there (Ok (Some value)) = true
+is_there (Err rule) = true
+
+abbrev pub stands : List ℕ → List (List ℕ) → Bool
+stands key operands = is_there (only (values key operands))
+
+abbrev pub is_among : List (List ℕ) → Option (List ℕ × List ℕ) → Bool
+is_among keys None = false
+is_among keys (Some (word, value)) = list_any (bytes_eq word) keys
+
+-- an operand without = has no key
+unfoldable pub has_key : List (List ℕ) → List ℕ → Bool
+has_key keys operand = is_among keys (split_at 61 operand)
+
+-- Rule 2: each operand has one of these keys.
+abbrev pub known_among : List (List ℕ) → List (List ℕ) → Result (Unit {0}) ℕ
+known_among keys operands = if list_all (has_key keys) operands then Ok tt else Err 2

@@ -9,7 +9,7 @@ pub use lines::{is_passed_over, printable_line, split_at};
 pub use lists::{list_of, three_of, two_of};
 pub use lowest::{also, both};
 pub use names::name_of;
-pub use numbers::number_between;
+pub use numbers::{byte_between, number_between};
 pub use operands::{Operands, is_word, split_macro};
 pub use pieces::{Pieces, Place};
 pub use refused::LineRefused;

@@ -1,9 +1,9 @@
 //! Numbers.
 ghost use Rattle.std.specs.Prelude.{◌≡◌, ◌<◌, ◌≤◌, min, IfOk};
-ghost use Rattle.std.specs.List.{list_all};
 ghost use Rattle.text_rows.specs.Numbers as spec;
 
 use crate::rules::{NO_NUMBER, OUT_OF_RANGE};
+use tm_types::are_digits;
 
 /// One more than the greatest limit that `number_between` can be given.
 pub const NUMBER_CAP: u32 = 1_000_000_000;
@@ -27,22 +27,21 @@ pub fn number_between(low: u32, high: u32, text: &[u8]) -> Result<u32, u8>
     Ok(number)
 }
 
+/// The number that the text spells, from `low` to `high`, where a byte holds both.
+pub fn byte_between(low: u8, high: u8, text: &[u8]) -> Result<u8, u8>
+    ensures value { result ≡ spec.number_between low high text.now }
+    ensures within { IfOk result (λ number. (low ≤ number) × (number ≤ high)) }
+{
+    match number_between(u32::from(low), u32::from(high), text) {
+        Ok(number) => Ok(number as u8),
+        Err(rule) => Err(rule),
+    }
+}
+
 fn is_number(text: &[u8]) -> bool
     ensures { result ≡ spec.is_number text.now }
 {
     1 <= text.len() && text.len() <= 20 && are_digits(text)
-}
-
-fn are_digits(text: &[u8]) -> bool
-    ensures { result ≡ list_all spec.is_digit text.now }
-{
-    text.iter().all(|&byte| is_digit(byte))
-}
-
-fn is_digit(byte: u8) -> bool
-    ensures { result ≡ spec.is_digit byte }
-{
-    b'0' <= byte && byte <= b'9'
 }
 
 #[tactic(auto, using(crate::proofs::CappedNumber::capped_more), unfolding(crate::specs::Numbers::number_of))]

@@ -1,13 +1,17 @@
 //! The operands of a macro.
-ghost use Rattle.std.specs.Prelude.{◌≡◌, Ok, Err, MatchResult};
+ghost use Rattle.std.specs.Prelude.{◌≡◌, Ok, Err, MatchResult, map};
+ghost use Rattle.std.specs.List.{list_any};
 ghost use Rattle.std.specs.Option.{option_copied};
 ghost use Rattle.std.specs.Str.{bytes_eq};
+ghost use Rattle.text_rows.specs.Names as names;
 ghost use Rattle.text_rows.specs.Operands as spec;
 
 use crate::lines::split_at;
+use crate::names::name_of;
 use crate::pieces::{Pieces, Place};
-use crate::rules::OPERAND_TWICE;
+use crate::rules::{OPERAND_MISSING, OPERAND_TWICE, UNKNOWN_OPERAND};
 use std::marker::Model;
+use tm_types::Name;
 
 /// The operands of a macro, seen as the list of their texts.
 #[derive(Drop)]
@@ -53,6 +57,62 @@ impl<'a> Operands<'a> {
         }
         Ok(found)
     }
+
+    /// Whether an operand with this key stands there, be it once or twice.
+    pub fn stands(&self, key: &[u8]) -> bool
+        ensures { result ≡ spec.stands key.now self.now }
+    {
+        match self.only_value(key) {
+            Ok(None) => false,
+            Ok(Some(_)) => true,
+            Err(_) => true,
+        }
+    }
+
+    /// The name under a key: rule 4 where it isn't there.
+    #[tactic(auto, unfolding(crate::specs::Operands::needed))]
+    pub fn needed_name(&self, key: &[u8]) -> Result<Name, u8>
+        ensures { result ≡ spec.needed key.now names.name_of self.now }
+    {
+        match self.only_value(key)? {
+            Some(text) => name_of(text),
+            None => Err(OPERAND_MISSING),
+        }
+    }
+
+    /// Rule 2 where an operand has none of these keys.
+    pub fn known_among(&self, keys: &[&[u8]]) -> Result<(), u8>
+        ensures { result ≡ spec.known_among (map (λ key. key.now) keys.now) self.now }
+    {
+        for operand in self.pieces() {
+            if !has_key(keys, operand) {
+                return Err(UNKNOWN_OPERAND);
+            }
+        }
+        Ok(())
+    }
+}
+
+/// Whether an operand has one of these keys.
+#[tactic(auto, unfolding(crate::specs::Operands::has_key))]
+fn has_key(keys: &[&[u8]], operand: &[u8]) -> bool
+    ensures { result ≡ spec.has_key (map (λ key. key.now) keys.now) operand.now }
+{
+    match split_at(b'=', operand) {
+        Some((word, _)) => is_among(keys, word),
+        None => false,
+    }
+}
+
+fn is_among(words: &[&[u8]], text: &[u8]) -> bool
+    ensures { result ≡ list_any (bytes_eq text.now) (map (λ word. word.now) words.now) }
+{
+    for &word in words {
+        if is_word(text, word) {
+            return true;
+        }
+    }
+    false
 }
 
 /// The name of the macro that stands in the line, and its operands.
