@@ -1,57 +1,46 @@
--- What has been read of an area, and what is still to come.
-use Rattle.std.proofs.Common.{◌≡◌, ℕ, ◌+◌, ◌-◌, ◌<◌, ◌≤◌, ◌^◌, List, ◌++◌, length, refl, sym, ◌∙◌, ap, arith, Some, None, IsSome}
-use Rattle.std.specs.Prelude.{Option}
+-- The sectors behind the chain of an area.
+use Rattle.std.proofs.Common.{◌≡◌, ℕ, zero, suc, ◌+◌, ◌-◌, ◌<◌, ◌^◌, Bool, false, List, length, refl, sym, ◌∙◌, ap, subst, arith, Some, None, IsSome}
+use Rattle.std.specs.Prelude.{Option, if◌then◌else◌}
 use Rattle.model_disk.specs.Disk.{Image, sector_at}
 use Rattle.log_sectors.specs.Sealed.{opened}
-use Rattle.log_sectors.specs.Chain.{chain}
-use Rattle.log_sectors.specs.Chain.{joined}
-use Rattle.log_sectors.proofs.Links.{chain_none, chain_some, joined_next}
-use Rattle.model_image.specs.Recovered.{first_later}
+use Rattle.log_sectors.specs.Chain.{before, chain}
+use Rattle.model_image.specs.Recovered.{is_later, first_later}
 use Rattle.model_image.proofs.Readings.{opened_not_later}
-use Rattle.image_reading.proofs.Sectors.{later_next, later_end}
-use Rattle.std.proofs.lemmas.List.{append-nil}
-
--- Behind so many sectors of the chain: its bytes so far, and no later epoch among them.
-pub record IsReadTo (count : ℕ) (image : Image) (first sequence epoch place : ℕ) (payload : List ℕ) : Type 0 where
-  pub payload_is : joined (chain count image first sequence epoch) ≡ payload ++ joined (chain (count - place) image (first + place) (sequence + place) epoch)
-  pub sectors : length (chain count image first sequence epoch) ≡ place + length (chain (count - place) image (first + place) (sequence + place) epoch)
-  pub later : first_later count image first epoch ≡ first_later (count - place) image (first + place) epoch
 
 some_is : (o : Option (List ℕ)) (bytes : List ℕ) → o ≡ Some bytes → IsSome o
 some_is (Some x) bytes is = refl
 some_is None bytes is = cc
 
-module _ (count : ℕ) (image : Image) (first sequence epoch place : ℕ) (payload : List ℕ) (so_far : IsReadTo count image first sequence epoch place payload) where
-  -- one sector of the chain more
-  pub read_on : (bytes next : List ℕ) → place < count → epoch < 2 ^ 64 → opened epoch (sequence + place) (sector_at image (first + place)) ≡ Some bytes → next ≡ payload ++ bytes → IsReadTo count image first sequence epoch (place + 1) next
-  read_on bytes next lt small some made =
-      let link = chain_some count place image first sequence epoch bytes lt some in
-      record {
-        payload_is = joined_next (joined (chain count image first sequence epoch)) payload bytes next _ _ so_far.payload_is link made;
-        sectors = omega (arith, so_far.sectors, ap (length {A = List ℕ}) link);
-        later = later_next count place image first epoch (first_later count image first epoch) lt so_far.later
-            (opened_not_later epoch (sequence + place) (sector_at image (first + place)) small (some_is (opened epoch (sequence + place) (sector_at image (first + place))) bytes some));
-      }
+-- before others, a sector that is of no later epoch
+later_on : (n at k : ℕ) (image : Image) (epoch : ℕ) → is_later epoch (sector_at image at) ≡ false → first_later n image (at + 1) epoch ≡ first_later (n - k) image (at + 1 + k) epoch → first_later (suc n) image at epoch ≡ first_later (suc n - suc k) image (at + suc k) epoch
+later_on n at k image epoch not behind =
+    let left : n - k ≡ suc n - suc k = omega arith in
+    let place : at + 1 + k ≡ at + suc k = omega arith in
+    ap (λ (b : Bool). if b then Some at else first_later n image (at + 1) epoch) not
+    ∙ behind
+    ∙ ap (λ m. first_later m image (at + 1 + k) epoch) left
+    ∙ ap (λ m. first_later (suc n - suc k) image m epoch) place
 
-  module _ (lt : place < count) (none : opened epoch (sequence + place) (sector_at image (first + place)) ≡ None) where
-    -- the chain ends before the next
-    pub ended_payload : payload ≡ joined (chain count image first sequence epoch)
-    ended_payload =
-        sym (so_far.payload_is ∙ ap (λ (l : List (List ℕ)). payload ++ joined l) (chain_none count place image first sequence epoch lt none) ∙ append-nil payload)
+by_sector : (n : ℕ) (image : Image) (first sequence epoch : ℕ) → epoch < 2 ^ 64 → (rest : List (List ℕ)) → first_later n image (first + 1) epoch ≡ first_later (n - length rest) image (first + 1 + length rest) epoch
+    → (o : Option (List ℕ)) → opened epoch sequence (sector_at image first) ≡ o → first_later (suc n) image first epoch ≡ first_later (suc n - length (before o rest)) image (first + length (before o rest)) epoch
+by_sector n image first sequence epoch small rest behind None is =
+    let left : suc n ≡ suc n - 0 = omega arith in
+    let place : first ≡ first + 0 = omega arith in
+    ap (λ m. first_later m image first epoch) left ∙ ap (λ m. first_later (suc n - 0) image m epoch) place
+by_sector n image first sequence epoch small rest behind (Some bytes) is =
+    later_on n first (length rest) image epoch (opened_not_later epoch sequence (sector_at image first) small (some_is (opened epoch sequence (sector_at image first)) bytes is)) behind
 
-    pub ended_sectors : place ≡ length (chain count image first sequence epoch)
-    ended_sectors = omega (arith, so_far.sectors, ap (length {A = List ℕ}) (chain_none count place image first sequence epoch lt none))
+-- those of the chain are of no later epoch
+behind_chain : (count : ℕ) (image : Image) (first sequence epoch : ℕ) → epoch < 2 ^ 64 → first_later count image first epoch ≡ first_later (count - length (chain count image first sequence epoch)) image (first + length (chain count image first sequence epoch)) epoch
+behind_chain zero image first sequence epoch small = refl
+behind_chain (suc n) image first sequence epoch small =
+    by_sector n image first sequence epoch small (chain n image (first + 1) (sequence + 1) epoch) (behind_chain n image (first + 1) (sequence + 1) epoch small) (opened epoch sequence (sector_at image first)) refl
 
-  module _ (end : count ≤ place) where
-    none_left : count - place ≡ 0
-    none_left = omega (arith, end)
+module _ (count : ℕ) (image : Image) (first sequence epoch place : ℕ) (small : epoch < 2 ^ 64) (is : place ≡ length (chain count image first sequence epoch)) where
+  pub later_behind : first_later (count - place) image (first + place) epoch ≡ first_later count image first epoch
+  later_behind = sym (subst (λ k. first_later count image first epoch ≡ first_later (count - k) image (first + k) epoch) (sym is) (behind_chain count image first sequence epoch small))
 
-    pub whole_payload : payload ≡ joined (chain count image first sequence epoch)
-    whole_payload =
-        sym (so_far.payload_is ∙ ap (λ k. payload ++ joined (chain k image (first + place) (sequence + place) epoch)) none_left ∙ append-nil payload)
-
-    pub whole_sectors : place ≡ length (chain count image first sequence epoch)
-    whole_sectors = omega (arith, so_far.sectors, ap (λ k. length {A = List ℕ} (chain k image (first + place) (sequence + place) epoch)) none_left)
-
-    pub whole_later : None ≡ first_later count image first epoch
-    whole_later = sym (later_end count place image first epoch (first_later count image first epoch) end so_far.later)
+  pub none_behind : count ≡ place → None ≡ first_later count image first epoch
+  none_behind whole =
+      let none : count - place ≡ 0 = omega (arith, whole) in
+      sym (ap (λ k. first_later k image (first + place) epoch) none) ∙ later_behind

@@ -5,7 +5,7 @@ ghost use Rattle.log_reading.specs.Reading.{IsAreaOf, LogCause};
 
 use crate::reading::LogFault;
 use image_reading::first_later_from;
-use log_sectors::unseal;
+use log_sectors::{ChainFault, read_chain_by};
 use std::alloc::Global;
 use tm_disk::{Disk, Sector};
 use tm_types::Bytes;
@@ -40,33 +40,26 @@ pub fn read_area<D: Disk>(
     ensures keeps { Keeps (D.state disk.old) (D.state disk.new) }
     ensures cause { LogCause result (D.state disk.old) (D.state disk.new) }
 {
-    let mut payload = Bytes::new(alloc);
     let mut sector = Sector::blank();
-    for place in 0..count {
-        if disk.read(first + place, &mut sector).is_err() {
-            return Err(LogFault::Disk);
-        }
-        match unseal(&sector, epoch, sequence + place as u64) {
-            Some(bytes) => {
-                if payload.append(bytes).is_err() {
-                    return Err(LogFault::Memory);
-                }
-            }
-            None => {
-                return match first_later_from(disk, first + place, count - place, epoch, &sector) {
-                    Ok(later) => Ok(LogArea {
-                        payload,
-                        sectors: place,
-                        later,
-                    }),
-                    Err(_) => Err(LogFault::Disk),
-                };
-            }
-        }
+    let chain = match read_chain_by(alloc, disk, &mut sector, first, count, sequence, epoch) {
+        Ok(chain) => chain,
+        Err(ChainFault::Disk) => return Err(LogFault::Disk),
+        Err(ChainFault::Memory) => return Err(LogFault::Memory),
+    };
+    let sectors = chain.sectors;
+    if sectors == count {
+        return Ok(LogArea {
+            payload: chain.payload,
+            sectors,
+            later: None,
+        });
     }
-    Ok(LogArea {
-        payload,
-        sectors: count,
-        later: None,
-    })
+    match first_later_from(disk, first + sectors, count - sectors, epoch, &sector) {
+        Ok(later) => Ok(LogArea {
+            payload: chain.payload,
+            sectors,
+            later,
+        }),
+        Err(_) => Err(LogFault::Disk),
+    }
 }

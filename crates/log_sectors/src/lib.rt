@@ -8,5 +8,5 @@
 mod chain;
 mod log_sector;
 
-pub use chain::{Chain, ChainFault, read_chain};
+pub use chain::{Chain, ChainFault, read_chain, read_chain_by};
 pub use log_sector::{PAYLOAD_BYTES, seal, unseal};

@@ -101,6 +101,7 @@ impl Table {
         ensures answer { IfOk result (λ blocked. blocked ≡ option_map told (first_blocked requests.now self.old)) }
         ensures ok { OnOk result (self.new ≡ after_asks region requests.now self.old) }
         ensures err { OnErr result (self.new ≡ self.old) }
+        ensures kept { IsKept self.new }
     {
         self.lists.ask_all(region, requests)
     }

@@ -78,9 +78,7 @@ pub fn read(asked: &Asked, planned: Planned, table: &mut Table) -> Result<DataAn
     ensures held { IsKept table.new }
     ensures kept { OnErr result (table.new ≡ table.old) }
 {
-    let waited = table.ask_all(asked.region, &asked.requests);
-    let _regions = table.regions();
-    match waited {
+    match table.ask_all(asked.region, &asked.requests) {
         Ok(Some(blocked)) => Ok(DataAnswer::Blocked(Blocked {
             resource: blocked.resource,
             by: blocked.by,
@@ -105,9 +103,7 @@ pub fn wait(asked: &Asked, table: &mut Table) -> Result<DataAnswer, Untold>
     ensures held { IsKept table.new }
     ensures kept { OnErr result (table.new ≡ table.old) }
 {
-    let waited = table.ask_all(asked.region, &asked.requests);
-    let _regions = table.regions();
-    match waited {
+    match table.ask_all(asked.region, &asked.requests) {
         Ok(Some(blocked)) => Ok(DataAnswer::Blocked(Blocked {
             resource: blocked.resource,
             by: blocked.by,
@@ -126,9 +122,7 @@ pub fn ask(asked: &Asked, table: &mut Table) -> Result<(), Memory>
     ensures held { IsKept table.new }
     ensures kept { OnErr result (table.new ≡ table.old) }
 {
-    let granted = table.ask_all(asked.region, &asked.requests);
-    let _regions = table.regions();
-    match granted {
+    match table.ask_all(asked.region, &asked.requests) {
         Ok(None) => Ok(()),
         Ok(Some(_)) => unreachable!(),
         Err(error) => Err(error),

@@ -1,7 +1,6 @@
 //! The record of a plan is set, and its image before kept.
 ghost use Rattle.std.specs.Prelude.{◌≡◌, ◌≤◌, ◌-◌, Some, None, IfOk, IfErr, OnOk, OnErr, IfSome, false, slice_get, slice_set, map, length};
 ghost use Rattle.std.specs.List.{AllByRecursion};
-ghost use Rattle.model_rows.specs.Record.{record_limit};
 ghost use Rattle.model_rows.specs.Rows.{IsImage, record_of};
 ghost use Rattle.model_dli.specs.Data.{limit_abend};
 ghost use Rattle.model_enqueue.specs.Ask.{first_blocked};
@@ -22,7 +21,7 @@ use dli_calls::{Edit, Planned};
 use log_records::Untold;
 use model_dli::RowsLimit;
 use model_dli::abends::{RECORD_TOO_LONG, TOO_MANY_RECORDS, TOO_MANY_ROOTS};
-use seg_rows::{RecordImage, Rows};
+use seg_rows::{RecordImage, Rows, record_limit};
 use seg_store::{Store, Stores};
 use std::alloc::Global;
 use tm_types::{AbendCode, Dbd, Key, Memory};
@@ -135,13 +134,6 @@ fn slot_to_take(dbd: &Dbd, edit: &Edit, store: &Store) -> Result<u16, RowsLimit>
         }
         None => Err(RowsLimit::Roots),
     }
-}
-
-// The most bytes that a record of the database has: 4,000 for each of its sectors.
-fn record_limit(dbd: &Dbd) -> usize
-    ensures { result ≡ record_limit dbd.now }
-{
-    4000 * dbd.sectors as usize
 }
 
 // Tells of a record, and then sets it; where it isn't set, it isn't told of.

@@ -1,5 +1,5 @@
 //! What is told of slots that are changed.
-ghost use Rattle.std.specs.Prelude.{◌≡◌, ◌<◌, ◌≤◌, Some, slice_get, ◌++◌, ◌∷◌, [], length, map, IfOk, IfErr, OnOk, OnErr};
+ghost use Rattle.std.specs.Prelude.{◌≡◌, ◌<◌, ◌≤◌, Some, slice_get, ◌++◌, ◌∷◌, [], length, map, IfErr, OnOk, OnErr};
 ghost use Rattle.std.specs.List.{AllByRecursion};
 ghost use Rattle.log_records.specs.declared.record.Record.TheVariants.{Change as ChangeRecord};
 ghost use Rattle.log_records.specs.Spelling.{spelling, IsRecord};
@@ -7,10 +7,10 @@ ghost use Rattle.model_rows.specs.Record.{spelling as rows_spelling};
 ghost use Rattle.program_rows.specs.Telling.{slot_told, Adds, Tells, IsUntold, IsToldable, IsTooLong};
 
 use log_records::{Untold, append_change};
-use seg_rows::{RecordImage, Row};
+use seg_rows::{RecordImage, rows_as_bytes};
 use seg_store::{Store, Stores};
 use std::alloc::Global;
-use tm_types::{Bytes, Memory};
+use tm_types::Memory;
 use unit_work::Change;
 
 /// Tells of a slot's change, where there is room for that. An Err leaves what was told before.
@@ -138,15 +138,4 @@ fn append_slot(
     let before = rows_as_bytes(alloc, before.as_slice())?;
     let after = rows_as_bytes(alloc, after.as_slice())?;
     append_change(out, unit, number, slot, before.as_slice(), after.as_slice())
-}
-
-fn rows_as_bytes(alloc: Global, rows: &[Row]) -> Result<Bytes, Memory>
-    ensures { IfOk result (λ bytes. bytes ≡ rows_spelling rows.now) }
-{
-    let mut bytes = Bytes::new(alloc);
-    for row in rows {
-        bytes.push(row.path.segment())?;
-        bytes.append(row.bytes.as_slice())?;
-    }
-    Ok(bytes)
 }

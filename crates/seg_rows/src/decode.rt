@@ -1,9 +1,7 @@
 //! A record is read from its bytes.
 ghost use Rattle.std.specs.Prelude.{◌≡◌, ◌≤◌, List, length, take, IfOk, IfErr};
-ghost use Rattle.std.specs.List.{list_all};
 ghost use Rattle.std.specs.Ordering.{is_lt};
 ghost use Rattle.std.specs.Option.{option_copied};
-ghost use Rattle.tm_types.specs.Segment.{is_printable};
 ghost use Rattle.tm_types.specs.SegTypes.{IsHierarchy, type_at};
 ghost use Rattle.model_rows.specs.declared.row.Row.{Row};
 ghost use Rattle.model_rows.specs.Path.{path_cmp, end_type};
@@ -16,7 +14,7 @@ use crate::encode::record_limit;
 use model_rows::{Path, Row};
 use std::alloc::Global;
 use thiserror::Error;
-use tm_types::{Bytes, Dbd, Key, Memory, SegType, is_printable};
+use tm_types::{Bytes, Dbd, Key, Memory, SegType, are_printable};
 
 /// Why bytes are no record.
 #[derive(Debug, Drop, Error)]
@@ -122,12 +120,6 @@ fn row_of_type(
     } else {
         Ok(None)
     }
-}
-
-fn are_printable(bytes: &[u8]) -> bool
-    ensures { result ≡ list_all is_printable bytes.now }
-{
-    bytes.iter().all(|&byte| is_printable(byte))
 }
 
 fn is_before(last: &[(u8, Key)], path: &Path) -> bool

@@ -44,7 +44,8 @@ pub fn record_limit(dbd: &Dbd) -> usize
     4000 * dbd.sectors as usize
 }
 
-fn rows_as_bytes(alloc: Global, rows: &[Row]) -> Result<Bytes, Memory>
+/// The bytes of rows: of each in turn its type number and its data.
+pub fn rows_as_bytes(alloc: Global, rows: &[Row]) -> Result<Bytes, Memory>
     ensures { IfOk result (λ bytes. bytes ≡ spelling rows.now) }
 {
     let mut bytes = Bytes::new(alloc);

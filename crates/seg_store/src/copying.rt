@@ -4,7 +4,7 @@ ghost use Rattle.std.specs.Vec.{vec_capacity};
 
 use seg_rows::RecordImage;
 use std::alloc::Global;
-use tm_types::{Key, Memory};
+use tm_types::Memory;
 
 /// The same images.
 pub fn copy_images(alloc: Global, images: &[RecordImage]) -> Result<Vec<RecordImage>, Memory>
@@ -17,26 +17,12 @@ pub fn copy_images(alloc: Global, images: &[RecordImage]) -> Result<Vec<RecordIm
     Ok(copy)
 }
 
-/// The same index.
-pub fn copy_index(
-    alloc: Global,
-    index: &[(Key, u16)],
-    roots: u16,
-) -> Result<Vec<(Key, u16)>, Memory>
-    ensures items { IfOk result (λ copy. copy.items ≡ index.now) }
+/// The same numbers, or the same index.
+pub fn copy_list<T: Copy>(alloc: Global, list: &[T], roots: u16) -> Result<Vec<T>, Memory>
+    ensures items { IfOk result (λ copy. copy.items ≡ list.now) }
     ensures room { IfOk result (λ copy. roots ≤ vec_capacity copy) }
 {
     let mut copy = Vec::with_capacity(alloc, roots as usize)?;
-    copy.extend_from_slice(index)?;
-    Ok(copy)
-}
-
-/// The same numbers.
-pub fn copy_numbers(alloc: Global, numbers: &[u16], roots: u16) -> Result<Vec<u16>, Memory>
-    ensures items { IfOk result (λ copy. copy.items ≡ numbers.now) }
-    ensures room { IfOk result (λ copy. roots ≤ vec_capacity copy) }
-{
-    let mut copy = Vec::with_capacity(alloc, roots as usize)?;
-    copy.extend_from_slice(numbers)?;
+    copy.extend_from_slice(list)?;
     Ok(copy)
 }

@@ -2,7 +2,7 @@
 ghost use Rattle.std.specs.Prelude.{◌≡◌, ◌↔◌, ◌*◌, ◌+◌, ◌≤◌, ◌<◌, ◌≢◌, ℕ, [], IfOk, IfErr, OnOk, OnErr, IsOk, IsTrue, None, Some, slice_get, slice_set, length};
 ghost use Rattle.std.specs.Vec.{vec_len};
 ghost use Rattle.std.specs.Option.{is_some, option_copied};
-ghost use Rattle.model_rows.specs.Record.{IsRecord, IsLongRecord, record_limit};
+ghost use Rattle.model_rows.specs.Record.{IsRecord, IsLongRecord};
 ghost use Rattle.model_rows.specs.Rows.{record_of, with_record, IsImage, AreRows};
 ghost use Rattle.seg_rows.specs.StoreRefused.{set_refusal};
 ghost use Rattle.model_disk.specs.Disk.{Stays, Within, Follows, WritesAtMost, FailedSince};
@@ -11,11 +11,11 @@ ghost use Rattle.seg_store.specs.DataSectors.{bytes_of, MayPut, HasPut};
 ghost use Rattle.seg_store.specs.Slots.{image_root, slot_of, lowest_free, slot_for, with_root, rows_of_slots, AreSlots, free_slots, without_root};
 
 use crate::changed::add_changed;
-use crate::copying::{copy_images, copy_index, copy_numbers};
+use crate::copying::{copy_images, copy_list};
 use crate::data_sectors::put_slots;
 use crate::free::{add_slot, all_free, lowest, take_slot};
 use crate::index::{add_root, next_entry, slot_of, take_root};
-use seg_rows::{RecordImage, Rows, StoreRefused};
+use seg_rows::{RecordImage, Rows, StoreRefused, record_limit};
 use std::alloc::Global;
 use std::marker::Model;
 use tm_disk::{Disk, DiskFault};
@@ -75,9 +75,9 @@ impl Store {
             alloc: self.alloc,
             dbd: self.dbd.clone()?,
             slots: copy_images(self.alloc, &self.slots)?,
-            index: copy_index(self.alloc, &self.index, roots)?,
-            free: copy_numbers(self.alloc, &self.free, roots)?,
-            changed: copy_numbers(self.alloc, &self.changed, roots)?,
+            index: copy_list(self.alloc, &self.index, roots)?,
+            free: copy_list(self.alloc, &self.free, roots)?,
+            changed: copy_list(self.alloc, &self.changed, roots)?,
         })
     }
 
@@ -344,13 +344,6 @@ fn no_records(alloc: Global, roots: u16) -> Result<Vec<RecordImage>, Memory>
         slots.push(RecordImage::new(alloc))?;
     }
     Ok(slots)
-}
-
-// The most bytes that a record of the database has: 4,000 for each of its sectors.
-fn record_limit(dbd: &Dbd) -> usize
-    ensures { result ≡ record_limit dbd.now }
-{
-    4000 * dbd.sectors as usize
 }
 
 fn image_at(slots: &[RecordImage], slot: u16) -> Option<&RecordImage>

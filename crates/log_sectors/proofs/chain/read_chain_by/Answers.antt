@@ -5,7 +5,7 @@ use Rattle.model_disk.proofs.Words.{keeps_on}
 use Rattle.log_sectors.specs.Sealed.{opened}
 use Rattle.log_sectors.specs.Chain.{chain, joined}
 use Rattle.log_sectors.proofs.Links.{chain_none, chain_some, at_ok, joined_next}
-use Rattle.log_sectors.proofs.chain.read_chain.Goals as goal
+use Rattle.log_sectors.proofs.chain.read_chain_by.Goals as goal
 
 pub returns-in-None-clause-payload : goal.returns-in-None-clause-payload
 returns-in-None-clause-payload g c tells =
@@ -48,3 +48,10 @@ loop-place-preserved g c =
       payload = λ tells. joined_next (joined (chain c.args.count old.shown c.args.first c.args.sequence c.args.epoch)) c.loop-place.payload c.in-Some.bytes.now c.append.new.self _ _ (c.loop-place.invariant.payload tells) (link tells) made;
       sectors = λ tells. omega (arith, c.loop-place.invariant.sectors tells, ap (length {A = List ℕ}) (link tells));
     }
+
+pub returns-in-None-clause-behind : goal.returns-in-None-clause-behind
+returns-in-None-clause-behind g c tells lt =
+    let mid = g.D.Disk.state c.loop-place.disk in
+    let keeps = c.loop-place.invariant.keeps in
+    let value = at_ok c.read.result (IsTrue mid.tells → c.read.new.into ≡ sector_at mid.shown (c.args.first + c.loop-place.place)) (sym c.if-is_err.ensures.value) c.read.ensures.value in
+    value (subst (λ b. IsTrue b) (sym keeps.stays.tells) tells) ∙ ap (λ (i : Image). sector_at i (c.args.first + c.loop-place.place)) keeps.shown

@@ -1,7 +1,7 @@
 use Rattle.std.proofs.Common.{◌≡◌, ◌+◌, ◌-◌, ◌++◌, length, IsTrue}
 use Rattle.model_disk.specs.Disk.{Keeps}
 use Rattle.log_sectors.specs.Chain.{chain, joined}
-use Rattle.log_sectors.proofs.chain.read_chain.Given as goal
+use Rattle.log_sectors.proofs.chain.read_chain_by.Given as goal
 
 abbrev pub invariant-loop-place : goal.invariant-loop-place
 invariant-loop-place g l =
