@@ -4,7 +4,7 @@
 #![tactic(auto)]
 
 pub use dequeuing::{dequeue_all, dequeue_first};
-pub use stopping::{stop_code, stop_terminal};
+pub use stopping::{stop_code, stop_terminal, terminal_place};
 
 mod dequeuing;
 mod stopping;

@@ -48,7 +48,8 @@ pub fn stop_terminal(terminals: &mut Vec<TerminalState>, name: &Name, stopped: b
     }
 }
 
-fn terminal_place(terminals: &[TerminalState], name: &Name) -> Option<usize>
+/// The place of the terminal of this name, counted from 0.
+pub fn terminal_place(terminals: &[TerminalState], name: &Name) -> Option<usize>
     ensures value { result ≡ terminal_place terminals.now name.now }
     ensures within { IfSome result (λ place. place < length terminals.now) }
 {

@@ -10,6 +10,7 @@ pub use conversations::{Busy, Conversations};
 pub use model_conversation::{Conversation, TerminalConversation};
 pub use pads::{PadRefused, begun};
 pub use table::without_conversations;
+pub use walk::is_conversing;
 
 mod conversations;
 mod pads;

@@ -21,7 +21,8 @@ pub fn busy_id(queues: &Queues, terminal: &Name) -> Option<u64>
     None
 }
 
-fn is_conversing(terminal: &Name, message: &Message) -> bool
+/// Whether a message belongs to the terminal's conversation.
+pub fn is_conversing(terminal: &Name, message: &Message) -> bool
     ensures { result ≡ is_conversing terminal.now message.now }
 {
     &message.origin == terminal && message.conversation

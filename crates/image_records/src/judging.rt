@@ -10,11 +10,12 @@ ghost use Rattle.model_image.specs.States.{is_small, is_next, is_setting, is_pri
 
 use crate::order::{is_next, is_small};
 use crate::rules::{is_code, is_terminal};
+use conversation::is_conversing;
 use model_conversation::{Conversation, TerminalConversation};
 use model_machine::{CodeSetting, Lasting, TerminalState};
 use model_queues::{Replies, TerminalReplies};
 use system_types::System;
-use tm_types::{Message, Name};
+use tm_types::{Message, Name, are_printable};
 
 /// 12: a number isn't one of a state, a setting is out of its range, or a pad isn't one of its conversation.
 pub fn wrong_values(system: &System, lasting: &Lasting) -> bool
@@ -114,18 +115,6 @@ fn has_printable_work(bytes: &[u8]) -> bool
 {
     let work = &bytes[bytes.len().min(8)..];
     are_printable(work)
-}
-
-fn are_printable(bytes: &[u8]) -> bool
-    ensures { result ≡ list_all is_printable bytes.now }
-{
-    bytes.iter().all(|byte| is_printable(*byte))
-}
-
-fn is_printable(byte: u8) -> bool
-    ensures { result ≡ is_printable byte }
-{
-    32 <= byte && byte <= 126
 }
 
 /// 13: the ids don't ascend, or not below the next one.
@@ -256,12 +245,6 @@ fn has_conversing(terminal: &Name, messages: &[Message]) -> bool
     messages
         .iter()
         .any(|message| is_conversing(terminal, message))
-}
-
-fn is_conversing(terminal: &Name, message: &Message) -> bool
-    ensures { result ≡ is_conversing terminal.now message.now }
-{
-    &message.origin == terminal && message.conversation
 }
 
 /// 15: a terminal's replies don't follow one another up to its next number.

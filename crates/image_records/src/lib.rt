@@ -11,6 +11,7 @@ pub use fault::RecordsFault;
 pub use judging::{are_alone, is_conversation};
 pub use kept::Kept;
 pub use log_records::Record;
+pub use order::{is_next, is_small};
 pub use reading::read_records;
 pub use replay::Replayed;
 pub use rules::{is_code, is_terminal};

@@ -2,13 +2,12 @@
 ghost use Rattle.std.specs.Prelude.{◌≡◌, ◌≤◌, IfOk, IfSome, Some, length};
 ghost use Rattle.std.specs.Option.{option_copied};
 ghost use Rattle.std.specs.Str.{bytes_eq};
-ghost use Rattle.tm_types.specs.Segment.{IsSegmentText};
 ghost use Rattle.model_conversation.specs.Pads.{code_field, ends, fitted, is_pad, pad_change_by};
 ghost use Rattle.io_pcb.specs.Pads.{IsPadText, lent_pad};
 
 use crate::LentPad;
 use std::alloc::Global;
-use tm_types::{Bytes, Memory, Name, Segment, SegmentRefused};
+use tm_types::{Bytes, Memory, Name, Segment, segment_of};
 
 /// How many bytes of a pad are the code.
 const CODE_BYTES: usize = 8;
@@ -21,20 +20,6 @@ pub fn copied(alloc: Global, pad: Option<&[u8]>) -> Result<Option<Segment>, Memo
     match pad {
         Some(pad) => Ok(Some(segment_of(alloc, pad)?)),
         None => Ok(None),
-    }
-}
-
-/// The segment of a text that is one.
-#[tactic(auto, using(crate::proofs::Printable::no_bad_byte))]
-pub fn segment_of(alloc: Global, text: &[u8]) -> Result<Segment, Memory>
-    requires { IsSegmentText text.now }
-    ensures { IfOk result (λ segment. segment ≡ text.now) }
-{
-    match Segment::make(alloc, text) {
-        Ok(segment) => Ok(segment),
-        Err(SegmentRefused::Memory) => Err(Memory),
-        Err(SegmentRefused::TooLong(_)) => unreachable!(),
-        Err(SegmentRefused::BadByte(_)) => unreachable!(),
     }
 }
 

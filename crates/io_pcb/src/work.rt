@@ -13,7 +13,6 @@ ghost use Rattle.io_pcb.specs.Starting.{IsPadFor, IsStartFor};
 ghost use Rattle.io_pcb.specs.Pads.{IsPadText, Suits, conversation_by, gives_wrong, lent_pad};
 
 use crate::destinations::{destination_named, without_blanks};
-use crate::pads::segment_of;
 use crate::{LentPad, Output, outputs, pads, pcbs};
 use model_message::{EndedMessage, OpenPcb};
 use model_system::{Pcbs, Transaction};
@@ -21,7 +20,7 @@ use std::alloc::Global;
 use std::collections::VecDeque;
 use std::marker::Model;
 use system_types::System;
-use tm_types::{Bytes, Memory, Message, Name, Segment, Segments, Status};
+use tm_types::{Bytes, Memory, Message, Name, Segment, Segments, Status, segment_of};
 
 /// What a get is answered.
 #[derive(Debug, Drop)]

@@ -10,8 +10,7 @@ use conversation::begun;
 use model_conversation::Conversation;
 use std::alloc::Global;
 use std::marker::Model;
-use step_changes::segment_of;
-use tm_types::{Memory, Message, Name, Segment, Segments, operands};
+use tm_types::{Memory, Message, Name, Segment, Segments, operands, segment_of};
 
 /// An input as it is to be kept.
 #[derive(Debug, Drop)]

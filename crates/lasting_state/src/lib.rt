@@ -21,4 +21,3 @@ mod sending;
 mod shown;
 mod tables;
 mod telling;
-mod terminals;

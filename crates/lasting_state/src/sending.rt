@@ -1,6 +1,5 @@
 //! Outputs on their way: to codes as messages, and to terminals as replies.
 ghost use Rattle.std.specs.Prelude.{◌≡◌, ◌≤◌, ◌+◌, ◌^◌, IfOk, IfSome, OnOk, OnErr, IsSome};
-ghost use Rattle.std.specs.Option.{is_some};
 ghost use Rattle.tm_types.specs.Segment.{counted_bytes};
 ghost use Rattle.model_queues.specs.Queue.{IsNewId, with_message};
 ghost use Rattle.model_queues.specs.Outputs.{replies_at, with_terminal, with_reply};
@@ -32,7 +31,7 @@ pub fn send_all(
         return Ok(next_id);
     };
     let to = first.to;
-    if is_terminal(terminals, &to) {
+    if terminals.has_terminal(&to) {
         reply(terminals, first)?;
         return match send_all(queues, terminals, next_id, origin, outputs) {
             Ok(next) => Ok(next),
@@ -50,12 +49,6 @@ pub fn send_all(
             Err(Memory)
         }
     }
-}
-
-fn is_terminal(terminals: &Outputs, name: &Name) -> bool
-    ensures { result ≡ is_some (replies_at name.now terminals.now) }
-{
-    terminals.terminal(name).is_some()
 }
 
 /// Sends an output to a code.

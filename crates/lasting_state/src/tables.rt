@@ -17,7 +17,6 @@ use crate::abend::abend_outputs;
 use crate::conversing::KeptInput;
 use crate::limits::COUNT_LIMIT;
 use crate::sending::send_all;
-use crate::terminals::note_input;
 use conversation::{Conversations, without_conversations};
 use first_state::fresh_states;
 use model_conversation::PadChange;
@@ -29,7 +28,7 @@ use program_rows::Databases;
 use std::alloc::Global;
 use std::collections::VecDeque;
 use std::marker::Model;
-use step_changes::{begin, bytes_of, change_pad, discarded_pad};
+use step_changes::{begin, bytes_of, change_pad, discarded_pad, note_input};
 use system_types::System;
 use tm_types::{AbendCode, Memory, Message, Name, Segments};
 

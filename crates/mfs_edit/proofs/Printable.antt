@@ -1,13 +1,13 @@
 -- Printable texts, and how long they are.
-use Rattle.std.proofs.Common.{ℕ, zero, suc, ◌≡◌, ◌+◌, ◌-◌, ◌<◌, Bool, true, false, cond, ◌&&◌, List, [], ◌∷◌, ◌++◌, length, take, drop, replicate, reverse, refl, ap, sym, ◌∙◌, arith, nat_lt, nat_le}
-use Rattle.std.specs.Prelude.{Option, Some, None, find, position, not, IsTrue}
-use Rattle.std.specs.List.{list_all, position_or_len}
+use Rattle.std.proofs.Common.{ℕ, zero, suc, ◌≡◌, ◌-◌, ◌≤◌, Bool, true, false, cond, ◌&&◌, List, [], ◌∷◌, ◌++◌, length, take, drop, replicate, reverse, refl, ap, sym, ◌∙◌, arith, nat_lt, nat_le}
+use Rattle.std.specs.Prelude.{Option, Some, None, find, IsTrue}
+use Rattle.std.specs.List.{list_all}
 use Rattle.std.specs.Option.{option_map_or}
 use Rattle.std.specs.Str.{bytes_eq}
 use Rattle.std.proofs.lemmas.List.{reverse-append, length-append, length-take, length-drop, length-replicate}
 use Rattle.std.proofs.lemmas.List.Folds.{list_all-append}
 use Rattle.std.proofs.lemmas.Bool.Decides.{nat_tests}
-use Rattle.tm_types.specs.Segment.{is_printable, are_printable}
+use Rattle.tm_types.specs.Segment.{IsSegmentText, is_printable, are_printable}
 use Rattle.model_format.specs.declared.fields.FieldValue.{FieldValue}
 use Rattle.model_format.specs.declared.device_field.DeviceField.{DeviceField}
 use Rattle.model_format.specs.declared.message_field.Justify.{Justify}
@@ -66,24 +66,11 @@ module _ {A : Type 0} (p : A → Bool) where
       let parts = parts_true (p x) (list_all p xs) e in
       found_by (q x) q x y (find q xs) parts.0 (λ k. all_found q xs y parts.1 k) h
 
-  len_by : (b : Bool) (x : A) (xs : List A) (n : ℕ) → b ≡ true → n ≡ length xs → cond (not (not b)) (1 + n) 0 ≡ length (x ∷ xs)
-  len_by true x xs n e h = omega (arith, h)
-  len_by false x xs n e h = cc
+short_by : (n : ℕ) → nat_le n 1996 ≡ true → n ≤ 1996
+short_by n e = grind (arith, nat_tests)
 
-  none_fails : (xs : List A) → list_all p xs ≡ true → position_or_len (λ x. not (p x)) xs ≡ length xs
-  none_fails [] e = refl
-  none_fails (x ∷ xs) e =
-      let parts = parts_true (p x) (list_all p xs) e in
-      len_by (p x) x xs (position_or_len (λ y. not (p y)) xs) parts.0 (none_fails xs parts.1)
-
-no_place : (n m place : ℕ) (t : Bool) → nat_lt n m ≡ t → n ≡ m → cond t (Some n) None ≡ Some place → ⊥
-no_place n m place true e h f = let below : n < m = grind (arith, nat_tests) in absurd (omega (arith, below, h))
-no_place n m place false e h f = cc
-
-pub no_bad_byte : (text : List ℕ) (place : ℕ) → IsTrue (is_text text) → position (λ b. not (is_printable b)) text ≡ Some place → ⊥
-no_bad_byte text place h e =
-    no_place (position_or_len (λ b. not (is_printable b)) text) (length text) place (nat_lt (position_or_len (λ b. not (is_printable b)) text) (length text)) refl
-    (none_fails is_printable text (parts_true (nat_le (length text) 1996) (are_printable text) h).1) e
+pub text_held : (text : List ℕ) → IsTrue (is_text text) → IsSegmentText text
+text_held text h = let parts = parts_true (nat_le (length text) 1996) (are_printable text) h in (short_by (length text) parts.0, parts.1)
 
 fitted_printable : (justify : Justify) (fill width : ℕ) (text : List ℕ) → is_printable fill ≡ true → are_printable text ≡ true → are_printable (fitted justify fill width text) ≡ true
 fitted_printable Left fill width text f e = all_both is_printable (take width text) (replicate (width - length text) fill) (all_take is_printable width text e) (all_same is_printable (width - length text) fill f)

@@ -19,7 +19,7 @@ use model_format::{
 };
 use std::alloc::Global;
 use std::collections::BTreeMap;
-use tm_types::{Memory, Name, Segment, SegmentRefused, Segments};
+use tm_types::{Memory, Name, Segment, Segments};
 
 /// The segments that the values of a screen make: one for each SEG of the input, its MFLDs joined.
 ///
@@ -115,16 +115,12 @@ fn segment_of(
 }
 
 /// The segment of a text that may be one.
+#[tactic(auto, using(crate::proofs::Printable::text_held))]
 fn make_segment(alloc: Global, text: &[u8]) -> Result<Segment, Memory>
     requires { IsTrue (is_text text.now) }
     ensures { IfOk result (λ segment. segment ≡ text.now) }
 {
-    match Segment::make(alloc, text) {
-        Ok(segment) => Ok(segment),
-        Err(SegmentRefused::Memory) => Err(Memory),
-        Err(SegmentRefused::TooLong(_)) => unreachable!(),
-        Err(SegmentRefused::BadByte(_)) => unreachable!(),
-    }
+    tm_types::segment_of(alloc, text)
 }
 
 /// Adds what an MFLD makes of the values.

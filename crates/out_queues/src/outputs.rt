@@ -94,6 +94,13 @@ impl Outputs {
         table::lookup(&self.terminals, name)
     }
 
+    /// Whether there is a terminal of this name.
+    pub fn has_terminal(&self, name: &Name) -> bool
+        ensures { result ≡ is_some (replies_at name.now self.now) }
+    {
+        self.terminal(name).is_some()
+    }
+
     /// Adds a reply behind all others of the terminal, and answers its number. Where no memory is
     /// left the segments come back and nothing has changed.
     pub fn add(&mut self, terminal: &Name, segments: Segments) -> Result<u64, AllocFailed<Segments>>

@@ -11,22 +11,12 @@ ghost use Rattle.record_replay.specs.Steps.{with_added, with_replied, with_gone,
 use crate::judging::is_known;
 use crate::tally::Tally;
 use crate::waiting::UnitRecords;
-use image_records::Kept;
+use image_records::{Kept, is_small};
 use log_records::Record;
 use out_queues::Outputs;
 use step_changes::bytes_of;
 use system_types::System;
 use tm_types::{Memory, Message, Name, Segments};
-
-/// From this number on a number isn't counted on.
-const NUMBER_LIMIT: u64 = 2_000_000_000_000_000_000;
-
-/// Whether a number may be counted on.
-pub fn is_small(number: u64) -> bool
-    ensures { result ≡ is_small number }
-{
-    number < NUMBER_LIMIT
-}
 
 /// Whether the number behind this one may be counted on.
 #[tactic(auto, using(crate::proofs::Orders::small_after))]

@@ -9,8 +9,7 @@ ghost use Rattle.record_replay.specs.Judged.{lasting_in, are_right, knows_by, Ke
 ghost use Rattle.record_replay.specs.Tallied.{ends_pad};
 ghost use Rattle.model_system.specs.Codes.{code_at};
 
-use crate::doing::is_small;
-use image_records::{Kept, is_code, is_conversation, is_terminal};
+use image_records::{Kept, is_code, is_conversation, is_next, is_small, is_terminal};
 use model_conversation::PadChange;
 use system_types::System;
 use tm_types::Name;
@@ -41,12 +40,6 @@ fn are_counts_right(kept: &Kept) -> bool
     ensures { result ≡ (is_next kept.now.next_id && is_small kept.now.steps) }
 {
     is_next(kept.next_id) && is_small(kept.steps)
-}
-
-fn is_next(number: u64) -> bool
-    ensures { result ≡ is_next number }
-{
-    number != 0 && is_small(number)
 }
 
 fn has_room(system: &System, kept: &Kept) -> bool

@@ -3,13 +3,12 @@ ghost use Rattle.std.specs.Prelude.{◌≡◌, ◌+◌, ◌==◌, ◌<◌, ◌^�
 ghost use Rattle.std.specs.List.{list_all};
 ghost use Rattle.std.specs.Option.{is_some, option_copied, option_map_or};
 ghost use Rattle.std.specs.Str.{bytes_eq};
-ghost use Rattle.model_system.specs.Lists.{change_at};
 ghost use Rattle.model_machine.specs.Machine.{terminal_at, terminal_place};
-ghost use Rattle.model_machine.specs.Lasting.{with_last};
 ghost use Rattle.model_image.specs.Replay.{pad_size};
 ghost use Rattle.model_image.specs.States.{is_small};
 ghost use Rattle.record_replay.specs.Steps.{begins_with};
 
+use command_changes::terminal_place;
 use conversation::begun;
 use image_records::Kept;
 use model_conversation::Conversation;
@@ -41,7 +40,7 @@ fn place_behind(terminals: &[TerminalState], name: &Name, number: u64) -> Option
     if !next {
         return None;
     }
-    place_of(terminals, name)
+    terminal_place(terminals, name)
 }
 
 fn terminal_at<'a>(terminals: &'a [TerminalState], name: &Name) -> Option<&'a TerminalState>
@@ -59,34 +58,10 @@ fn is_next_input(terminal: &TerminalState, number: u64) -> bool
     terminal.last + 1 == number
 }
 
-/// The place of the terminal of this name, counted from 0.
-fn place_of(terminals: &[TerminalState], name: &Name) -> Option<usize>
-    ensures value { result ≡ terminal_place terminals.now name.now }
-    ensures within { IfSome result (λ place. place < length terminals.now) }
-{
-    terminals
-        .iter()
-        .position(|terminal| is_name(&terminal.name, name))
-}
-
 fn is_name(name: &Name, other: &Name) -> bool
     ensures { result ≡ bytes_eq name.now other.now }
 {
     name == other
-}
-
-/// Makes this number the last input's of the terminal at this place.
-pub fn note_input(terminals: &mut Vec<TerminalState>, place: usize, number: u64)
-    requires { place < length terminals.old.items }
-    ensures { terminals.new.items ≡ change_at terminals.old.items (Some place) (with_last number) }
-{
-    set_last(&mut terminals[place], number);
-}
-
-fn set_last(terminal: &mut TerminalState, number: u64)
-    ensures { terminal.new ≡ with_last number terminal.old }
-{
-    terminal.last = number;
 }
 
 /// The conversation that begins with an input of this terminal to this code, if one does.

@@ -10,13 +10,12 @@ ghost use Rattle.record_replay.specs.Tallied.{Follows};
 ghost use Rattle.record_replay.specs.Working.{IsAt, Comes, ComesTo, IsDone, Waits, waits_for};
 
 use crate::commanding::{command, ended_by};
-use crate::doing::is_small;
 use crate::judging::{ends_pad, has_pad_at, has_pad_of, is_known, is_sound};
 use crate::steps::{accept, acknowledge, count_discarded, discard, found, origin_done, sync};
 use crate::tally::Tally;
 use crate::waiting::{UnitRecords, push, take};
 use crate::working::Working;
-use image_records::{Kept, is_code, is_terminal};
+use image_records::{Kept, is_code, is_small, is_terminal};
 use log_records::Record;
 use model_conversation::PadChange;
 use std::alloc::Global;

@@ -1,11 +1,11 @@
 //! The lasting steps of a log, done on the tables.
 ghost use Rattle.std.specs.Prelude.{◌≡◌, ◌+◌, ◌<◌, ◌==◌, ◌^◌, ◌∷◌, [], true, not, ◌&&◌, Some, IfOk, OnOk, IsSome, length};
 ghost use Rattle.std.specs.List.{list_all};
-ghost use Rattle.std.specs.Option.{is_some, option_copied, option_map};
+ghost use Rattle.std.specs.Option.{option_copied, option_map};
 ghost use Rattle.model_image.specs.States.{is_small};
 ghost use Rattle.model_image.specs.Replay.{completed_id};
 ghost use Rattle.model_queues.specs.Queue.{message_at, messages_of};
-ghost use Rattle.model_queues.specs.Outputs.{next_of, replies_at};
+ghost use Rattle.model_queues.specs.Outputs.{next_of};
 ghost use Rattle.model_system.specs.Lists.{change_at};
 ghost use Rattle.model_machine.specs.Lasting.{with_begun, with_last};
 ghost use Rattle.record_replay.specs.Judged.{AreSmall, Does, IsOrderly};
@@ -14,15 +14,15 @@ ghost use Rattle.record_replay.specs.Steps.{step_accepts, step_acknowledges, ste
 
 use crate::doing::{add_message, add_reply, do_all, is_small_after, next_at};
 use crate::judging::is_known;
-use crate::places::{begins_with, input_place, note_input};
+use crate::places::{begins_with, input_place};
 use crate::tally::Tally;
 use crate::waiting::UnitRecords;
 use image_records::Kept;
 use log_records::Record;
 use model_conversation::{Conversation, PadChange};
-use out_queues::{Acked, Outputs};
+use out_queues::Acked;
 use std::alloc::Global;
-use step_changes::{abend_segments, begin, change_pad, discarded_pad};
+use step_changes::{abend_segments, begin, change_pad, discarded_pad, note_input};
 use system_types::System;
 use tm_types::{AbendCode, Memory, Message, Name, Segments};
 
@@ -144,7 +144,7 @@ pub fn count_discarded(
     ensures { OnOk result (Discards system.now kept.now message.now tally.old tally.new) }
 {
     tally.remove(&message.origin, message.conversation, true)?;
-    let told = has_terminal(&kept.outputs, &message.origin);
+    let told = kept.outputs.has_terminal(&message.origin);
     count_told(system, kept, tally, &message.origin, told)
 }
 
@@ -207,7 +207,7 @@ fn tell(kept: &mut Kept, origin: &Name, segments: Segments) -> Result<(), Memory
     requires { IsOrderly kept.old }
     ensures { OnOk result (kept.new ≡ with_told origin.now segments kept.old) }
 {
-    let is_kept = has_terminal(&kept.outputs, origin);
+    let is_kept = kept.outputs.has_terminal(origin);
     if is_kept {
         return add_reply(kept, origin, segments);
     }
@@ -222,12 +222,6 @@ fn tell(kept: &mut Kept, origin: &Name, segments: Segments) -> Result<(), Memory
             segments,
         },
     )
-}
-
-fn has_terminal(outputs: &Outputs, name: &Name) -> bool
-    ensures { result ≡ is_some (replies_at name.now outputs.now) }
-{
-    outputs.terminal(name).is_some()
 }
 
 /// A unit reaches its sync point: its records are done, and this becomes of the pad of the message that they complete.

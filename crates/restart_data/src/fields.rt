@@ -36,7 +36,7 @@ pub fn number8(bytes: &[u8], at: usize) -> u64
 
 /// Whether all of the bytes are zero.
 #[tactic(auto, unfolding(crate::specs::Fields::are_zeros))]
-pub(crate) fn all_zero(bytes: &[u8]) -> bool
+pub fn all_zero(bytes: &[u8]) -> bool
     ensures { result ≡ are_zeros bytes.now }
 {
     bytes.iter().all(|&byte| byte == 0)

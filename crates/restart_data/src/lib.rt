@@ -11,6 +11,6 @@ mod restart_sector;
 mod snapshot;
 mod snapshot_sector;
 
-pub use fields::number8;
+pub use fields::{all_zero, number8};
 pub use restart::{RestartFault, RestartSector, read_restart, write_restart};
 pub use snapshot::{SnapshotFault, read_snapshot, write_snapshot};

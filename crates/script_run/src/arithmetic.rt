@@ -1,14 +1,12 @@
 //! Sums and differences of texts of digits.
 ghost use Rattle.std.specs.Prelude.{◌≡◌, ◌<◌, ◌≤◌, ◌^◌, IsTrue, IfOk, IfSome, length};
-ghost use Rattle.std.specs.List.{list_all};
-ghost use Rattle.std.specs.Char.{is_ascii_digit};
 ghost use Rattle.std.specs.Option.{option_map};
 ghost use Rattle.std.specs.Fmt.{decimal};
 ghost use Rattle.tm_types.specs.Segment.{IsSegmentText};
 ghost use Rattle.model_script.specs.Arithmetic as spec;
 
 use std::alloc::Global;
-use tm_types::{Bytes, Memory};
+use tm_types::{Bytes, Memory, are_digits};
 
 /// One more than the greatest number of 18 digits.
 const AMOUNT_CAP: u64 = 1_000_000_000_000_000_000;
@@ -53,12 +51,6 @@ fn is_amount(text: &[u8]) -> bool
     ensures { result ≡ spec.is_amount text.now }
 {
     1 <= text.len() && text.len() <= 18 && are_digits(text)
-}
-
-fn are_digits(text: &[u8]) -> bool
-    ensures { result ≡ list_all is_ascii_digit text.now }
-{
-    text.iter().all(|b| b.is_ascii_digit())
 }
 
 /// The number that the digits write.

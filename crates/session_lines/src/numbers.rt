@@ -6,7 +6,7 @@ ghost use Rattle.std.specs.Str.Parse.{digits_value};
 ghost use Rattle.model_session.specs.Numbers as spec;
 
 use crate::rules::{NO_NAME, NO_NUMBER};
-use tm_types::Name;
+use tm_types::{Name, are_digits};
 
 /// The name that an operand is.
 #[tactic(auto, unfolding(model_session::specs::Numbers::name_operand))]
@@ -50,12 +50,6 @@ fn is_number(text: &[u8]) -> bool
     ensures { result ≡ spec.is_number text.now }
 {
     !text.is_empty() && text.len() <= 20 && are_digits(text)
-}
-
-fn are_digits(text: &[u8]) -> bool
-    ensures { result ≡ list_all is_ascii_digit text.now }
-{
-    text.iter().all(|b| b.is_ascii_digit())
 }
 
 /// The number that these digits write.

@@ -1,8 +1,8 @@
 //! What a slot's bytes and a data sector spell.
 ghost use Rattle.std.specs.Prelude.{◌≡◌, true, false, length, IfOk, MatchOption};
-ghost use Rattle.restart_data.specs.Fields.{are_zeros};
 ghost use Rattle.model_image.specs.Slots.{Spelled, bytes_in, is_wrong_length, rows_of_bytes, used_in};
 
+use restart_data::all_zero;
 use seg_rows::{DecodeFault, RecordImage, decode_record};
 use std::alloc::Global;
 use tm_disk::Sector;
@@ -49,11 +49,4 @@ fn used(bytes: &[u8]) -> usize
     ensures { result ≡ used_in bytes.now }
 {
     u16::from_be_bytes([bytes[0], bytes[1]]) as usize
-}
-
-#[tactic(auto, unfolding(restart_data::specs::Fields::are_zeros))]
-fn all_zero(bytes: &[u8]) -> bool
-    ensures { result ≡ are_zeros bytes.now }
-{
-    bytes.iter().all(|&byte| byte == 0)
 }

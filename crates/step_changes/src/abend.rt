@@ -1,11 +1,10 @@
 //! What the origin of a discarded message is sent.
 ghost use Rattle.std.specs.Prelude.{◌≡◌, ◌∷◌, [], IfOk, OnOk};
 ghost use Rattle.tm_types.specs.Name.{IsName};
-ghost use Rattle.tm_types.specs.Segment.{IsSegmentText};
 ghost use Rattle.model_machine.specs.Lasting.{abend_text};
 
 use std::alloc::Global;
-use tm_types::{AbendCode, Bytes, Memory, Name, Segment, SegmentRefused, Segments, four_digits};
+use tm_types::{AbendCode, Bytes, Memory, Name, Segments, four_digits, segment_of};
 
 /// The text of an abend as the one segment of a reply.
 #[tactic(auto, using(crate::proofs::Abended::text_is))]
@@ -27,18 +26,4 @@ fn abend_text(alloc: Global, code: &Name, abend: AbendCode) -> Result<Bytes, Mem
     text.append(b" ABEND U")?;
     text.append(&four_digits(abend.number))?;
     Ok(text)
-}
-
-/// The segment of a text that is one.
-#[tactic(auto, using(crate::proofs::Abended::no_bad_byte))]
-pub fn segment_of(alloc: Global, text: &[u8]) -> Result<Segment, Memory>
-    requires { IsSegmentText text.now }
-    ensures { IfOk result (λ segment. segment ≡ text.now) }
-{
-    match Segment::make(alloc, text) {
-        Ok(segment) => Ok(segment),
-        Err(SegmentRefused::Memory) => Err(Memory),
-        Err(SegmentRefused::TooLong(_)) => unreachable!(),
-        Err(SegmentRefused::BadByte(_)) => unreachable!(),
-    }
 }

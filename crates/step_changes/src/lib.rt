@@ -4,10 +4,12 @@
 //! Each carries out a definition of model_machine.
 #![tactic(auto)]
 
-pub use abend::{abend_segments, segment_of};
+pub use abend::abend_segments;
 pub use pads::{begin, change_pad, discarded_pad};
 pub use sizes::bytes_of;
+pub use terminals::note_input;
 
 mod abend;
 mod pads;
 mod sizes;
+mod terminals;

@@ -1,8 +1,6 @@
 //! The records of what a unit sends.
 ghost use Rattle.std.specs.Prelude.{◌≡◌, ◌≤◌, ◌++◌, ◌∷◌, [], take, length, count_by, IfOk, OnOk};
 ghost use Rattle.std.specs.List.{flat_map, AllByRecursion};
-ghost use Rattle.std.specs.Option.{is_some};
-ghost use Rattle.model_queues.specs.Outputs.{replies_at};
 ghost use Rattle.log_records.specs.Spelling.{spelling, IsCount, IsRecord};
 ghost use Rattle.step_telling.specs.Counted.{goes_to, counted_record, counted_records, id_after};
 ghost use Rattle.step_telling.specs.Ranges.{HaveCounts};
@@ -12,12 +10,6 @@ use model_message::EndedMessage;
 use out_queues::Outputs;
 use std::collections::VecDeque;
 use tm_types::{Memory, Name};
-
-fn is_terminal(terminals: &Outputs, name: &Name) -> bool
-    ensures { result ≡ is_some (replies_at name.now terminals.now) }
-{
-    terminals.terminal(name).is_some()
-}
 
 fn goes_to(output: &EndedMessage, name: &Name) -> bool
     ensures { result ≡ goes_to name.now output.now }
@@ -56,7 +48,7 @@ fn put_output(
     ensures valid { OnOk result (IsRecord (counted_record unit origin.now earlier output.now terminals.now id)) }
     ensures next { IfOk result (λ next. next ≡ id_after output.now terminals.now id) }
 {
-    if is_terminal(terminals, &output.to) {
+    if terminals.has_terminal(&output.to) {
         let Some(number) = terminals.next(&output.to).checked_add(earlier) else {
             return Err(Memory);
         };

@@ -2,3 +2,4 @@ pub mod Printable
 pub mod Hierarchy
 pub mod Places
 pub mod Commands
+pub mod DigitSteps

@@ -9,7 +9,7 @@ pub use abend::AbendCode;
 pub use bytes::Bytes;
 pub use command::LastingCommand;
 pub use dbd::{Dbd, SegType, SegTypes};
-pub use digits::four_digits;
+pub use digits::{are_digits, four_digits};
 pub use function::Function;
 pub use key::Key;
 pub use message::{Message, Reply};
@@ -17,7 +17,7 @@ pub use name::{Name, is_name_byte};
 pub use resource::{Mode, Resource};
 pub use segment::{
     SEGMENT_LIMIT, Segment, SegmentRefused, Segments, are_printable, first_unprintable,
-    is_printable,
+    is_printable, segment_of,
 };
 pub use ssa::{KeyTest, Ssa, Ssas};
 pub use status::Status;

@@ -104,6 +104,16 @@ impl Clone for Segment {
     }
 }
 
+/// The segment of a text that is one.
+pub fn segment_of(alloc: Global, text: &[u8]) -> Result<Segment, AllocError>
+    requires { IsSegmentText text.now }
+    ensures { IfOk result (λ segment. segment ≡ text.now) }
+{
+    Ok(Segment {
+        text: Vec::from_slice(alloc, text)?,
+    })
+}
+
 /// The place of the first byte that isn't printable, counted from 0.
 pub fn first_unprintable(text: &[u8]) -> Option<usize>
     ensures value { result ≡ position (λ b. not (is_printable b)) text.now }

@@ -10,13 +10,13 @@ use Rattle.lasting_state.proofs.sending.+send_all.Goals as goal
 pub take_back-requires : goal.take_back-requires
 take_back-requires t c =
     subst (λ ts. IsSomeAnd (replies_at c.in-Some.first.to ts) (λ u. 1 ≤ length u.replies)) (sym (c.in-Err.ensures.terminals ∙ c.in_ok-reply.ensures.ok))
-    (reply_kept c.in-Some.first.to c.in-Some.first.segments c.args.terminals.now (sym c.is_terminal.ensures ∙ c.if-is_terminal.true))
+    (reply_kept c.in-Some.first.to c.in-Some.first.segments c.args.terminals.now (sym c.has_terminal.ensures ∙ c.if-has_terminal.true))
 
 pub returns-in-Ok-clause-ok : goal.returns-in-Ok-clause-ok
 returns-in-Ok-clause-ok t c =
     subst (λ os. IsSent c.args.origin.now os c.args.queues.now c.send_all.new.queues c.args.terminals.now c.send_all.new.terminals c.args.next_id c.in-Ok.next) (sym c.in-Some.ensures.items)
     (sent_to_terminal c.args.origin.now c.in-Some.first c.pop_front.new.self.items c.args.queues.now c.send_all.new.queues c.args.terminals.now c.send_all.new.terminals c.args.next_id c.in-Ok.next
-    c.reply.new.terminals (sym c.is_terminal.ensures ∙ c.if-is_terminal.true) c.in_ok-reply.ensures.ok c.in-Ok.ensures.ok)
+    c.reply.new.terminals (sym c.has_terminal.ensures ∙ c.if-has_terminal.true) c.in_ok-reply.ensures.ok c.in-Ok.ensures.ok)
 
 pub returns-in-Err-clause-terminals : goal.returns-in-Err-clause-terminals
 returns-in-Err-clause-terminals t c =
@@ -33,7 +33,7 @@ pub returns-in-Ok-send_all-clause-ok : goal.returns-in-Ok-send_all-clause-ok
 returns-in-Ok-send_all-clause-ok t c =
     subst (λ os. IsSent c.args.origin.now os c.args.queues.now c.send_all-2.new.queues c.args.terminals.now c.send_all-2.new.terminals c.args.next_id c.in-Ok-send_all.next) (sym c.in-Some.ensures.items)
     (sent_to_code c.args.origin.now c.in-Some.first c.pop_front.new.self.items c.args.queues.now c.send_all-2.new.queues c.args.terminals.now c.send_all-2.new.terminals c.args.next_id c.in-Ok-send_all.next
-    c.switch.new.queues (sym c.is_terminal.ensures ∙ c.if-is_terminal.false) c.in_ok-switch.ensures.ok c.in-Ok-send_all.ensures.ok)
+    c.switch.new.queues (sym c.has_terminal.ensures ∙ c.if-has_terminal.false) c.in_ok-switch.ensures.ok c.in-Ok-send_all.ensures.ok)
 
 pub returns-in-Err-send_all-clause-queues : goal.returns-in-Err-send_all-clause-queues
 returns-in-Err-send_all-clause-queues t c =

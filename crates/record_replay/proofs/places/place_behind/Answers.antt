@@ -19,7 +19,7 @@ pub returns-clause-next : goal.returns-clause-next
 returns-clause-next c =
     ap (λ o. option_map_or (λ t. t.last + 1 == c.args.number) o false) (sym c.terminal_at.ensures ∙ ap option_copied c.in-Some.is)
     ∙ sym c.is_next_input-next.ensures ∙ c.if-not-next.false
-    ∙ sym (ap is_some c.place_of.ensures.value ∙ place_there c.args.terminals.now c.args.name.now c.args.number c.in-Some.terminal.now (sym c.terminal_at.ensures ∙ ap option_copied c.in-Some.is))
+    ∙ sym (ap is_some c.terminal_place.ensures.value ∙ place_there c.args.terminals.now c.args.name.now c.args.number c.in-Some.terminal.now (sym c.terminal_at.ensures ∙ ap option_copied c.in-Some.is))
 
 pub returns-clause-place : goal.returns-clause-place
-returns-clause-place c = some_place _ _ c.place_of.ensures.value
+returns-clause-place c = some_place _ _ c.terminal_place.ensures.value

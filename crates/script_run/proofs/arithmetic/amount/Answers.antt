@@ -1,5 +1,6 @@
 use Rattle.std.proofs.Common.{arith}
-use Rattle.script_run.proofs.Digits.{amount_digits, digit_at, value_more, next_below}
+use Rattle.tm_types.proofs.DigitSteps.{digit_at, value_more, next_below}
+use Rattle.script_run.proofs.Digits.{amount_digits}
 use Rattle.script_run.proofs.arithmetic.amount.Goals as goal
 
 pub loop-digit-preserved : goal.loop-digit-preserved

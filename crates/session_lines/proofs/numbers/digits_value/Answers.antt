@@ -1,5 +1,5 @@
 use Rattle.std.proofs.Common.{arith}
-use Rattle.session_lines.proofs.Digits.{digit_at, value_more, next_below}
+use Rattle.tm_types.proofs.DigitSteps.{digit_at, value_more, next_below}
 use Rattle.session_lines.proofs.numbers.digits_value.Goals as goal
 
 pub loop-digit-preserved : goal.loop-digit-preserved
