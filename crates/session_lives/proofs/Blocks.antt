@@ -1,6 +1,7 @@
 -- A block that was served, by what it asks for of the session's system.
-use Rattle.std.proofs.Common.{◌≡◌, ℕ, List, ◌∙◌, ap, subst, refl, inl}
+use Rattle.std.proofs.Common.{◌≡◌, ℕ, true, List, sym, ◌∙◌, ap, subst, refl, arith, inl}
 use Rattle.model_disk.specs.Disk.{DiskState}
+use Rattle.model_disk.proofs.Words.{stays_same}
 use Rattle.model_system.specs.System.{System}
 use Rattle.model_session.specs.Blocks.{Block}
 use Rattle.model_session.specs.Lines.{asked_of}
@@ -10,15 +11,23 @@ use Rattle.model_session.specs.Standing.{SessionState, Standing}
 use Rattle.model_session.specs.Standing.Standing.{Up, Down}
 use Rattle.model_session.specs.Session.{IsBegunBy}
 use Rattle.tm_control.specs.OnDisk.{ControlOnDisk}
+use Rattle.tm_control.specs.Calls.{IsSameControl, AddedNothing, StaysSo}
+use Rattle.session_lives.specs.declared.called.Called.{Called}
+use Rattle.session_lives.specs.declared.called.Called.TheVariants.{Memory as NotAsked}
 use Rattle.session_lives.specs.declared.called.Served.{Served}
 use Rattle.session_lives.specs.declared.called.Served.TheVariants.{Undone as NotServed}
 use Rattle.session_lives.specs.declared.called.Undone.TheVariants.{Memory as NoMemory}
 use Rattle.session_lives.specs.declared.place.Idle.{Idle}
+use Rattle.session_lives.specs.declared.place.Place.TheVariants.{Up as StandsAt}
 use Rattle.session_lives.specs.declared.place.Kept.{Kept}
 use Rattle.session_lives.specs.declared.place.Session.{Session}
-use Rattle.session_lives.specs.Running.{session_up, session_down, Leads, LeadsBy}
-use Rattle.session_lives.specs.Openings.{IsServedSo}
+use Rattle.session_lives.specs.Counting.{KeepsPace}
+use Rattle.session_lives.specs.Asking.{IsAsked, StaysBy, Undoes}
+use Rattle.session_lives.specs.Running.{session_at, session_of, session_up, session_down, setting_of, IsUpReady, IsReady, IsReadyAt, IsSoundAt, Leads, LeadsBy}
+use Rattle.session_lives.specs.Openings.{IsEndable, IsAloneBy, IsSettled, IsServedSo}
 use Rattle.session_lives.proofs.Leading.{leads_same}
+use Rattle.session_lives.proofs.Serving.{served_up, endable_up, alone_up, ready_up}
+use Rattle.session_lives.proofs.Staying.{same_by}
 
 -- nothing stands of a block
 pub nothing_begun : (asked : Asked) (system : System) (a : SessionState) (standing : Standing) → IsBegunBy asked system a standing a
@@ -32,6 +41,36 @@ nothing_begun (Power pick) system a standing = refl
 nothing_begun (PowerIn writes pick) system a standing = refl
 nothing_begun Restart system a standing = refl
 nothing_begun ColdStart system a standing = refl
+
+-- a block that couldn't be read asks for nothing
+module _ {D : Type 0} (state : D → DiskState) (a : ControlOnDisk D) where
+  stays_here : StaysSo state a a
+  stays_here = record { system = refl; opening = refl; text = refl; began = refl; disk = stays_same (state a.disk); later = omega arith }
+
+  pub stays_unread : (asked : Asked) → StaysBy state asked NotAsked a a
+  stays_unread (Bad rule) = stays_here
+  stays_unread (BadCommand rule) = stays_here
+  stays_unread (Stopped terminal number reason) = stays_here
+  stays_unread (Call call) = stays_here
+  stays_unread (Quiet most) = stays_here
+  stays_unread (Power pick) = stays_here
+  stays_unread (PowerIn writes pick) = stays_here
+  stays_unread Restart = stays_here
+  stays_unread ColdStart = stays_here
+
+  adds_here : a.up ≡ true → AddedNothing state a a
+  adds_here up = record { adds = record { system = refl; opening = refl; history = refl }; up = up; no_fault = refl }
+
+  pub undone_unread : (asked : Asked) → a.up ≡ true → Undoes state asked a a
+  undone_unread (Bad rule) up = adds_here up
+  undone_unread (BadCommand rule) up = adds_here up
+  undone_unread (Stopped terminal number reason) up = adds_here up
+  undone_unread (Call call) up = adds_here up
+  undone_unread (Quiet most) up = inl (adds_here up)
+  undone_unread (Power pick) up = adds_here up
+  undone_unread (PowerIn writes pick) up = adds_here up
+  undone_unread Restart up = adds_here up
+  undone_unread ColdStart up = adds_here up
 
 module _ {D : Type 0} (state : D → DiskState) (block : Block) (text : List ℕ) where
   -- for want of memory
@@ -57,3 +96,37 @@ module _ {D : Type 0} (state : D → DiskState) (block : Block) (text : List ℕ
       subst (λ (a : Asked). LeadsBy state (λ setting old new. IsServedSo a text served setting old new) system source handed (session_down idle kept) session)
       (is ∙ ap (λ s. asked_of s block) sound.system_is) (leads system source handed sound) in
       record { goes = led.goes; sound = led.sound }
+
+  -- ---- of a session that was up
+
+  pub served_at : (a b : ControlOnDisk D) (before : Session D) (kept : Kept) (session : Session D) (called : Called) (served : Served) → before.place ≡ StandsAt a
+      → StaysBy state (asked_of a.control.system block) called a b → kept.lives ≡ before.kept.lives → kept.stops ≡ before.kept.stops → KeepsPace state a b
+      → IsAsked state (asked_of a.control.system block) a b text called → IsSettled state (session_up b kept) called session served
+      → Leads state (λ setting x y. IsServedSo (asked_of setting.system block) text served setting x y) before session
+  served_at a b before kept session called served is stays lives stops pace asked settled = λ system source handed sound.
+      let led : LeadsBy state (λ setting x y. IsServedSo (asked_of setting.system block) text served setting x y) system source handed (session_up a before.kept) session =
+      block_up a before.kept session (asked_of a.control.system block) served refl
+      (λ system source handed sound.
+      served_up state system source handed a b before.kept kept session text sound (same_by state (asked_of a.control.system block) called a b stays) lives stops pace (asked_of a.control.system block) called served asked settled)
+      system source handed (subst (λ p. IsSoundAt state system source handed p before.kept) is sound) in
+      record {
+        goes = subst (λ p. IsServedSo (asked_of system block) text served (setting_of state system source handed) (session_at p before.kept) (session_of session)) (sym is) led.goes;
+        sound = led.sound;
+      }
+
+  module _ (a b : ControlOnDisk D) (before : Session D) (kept : Kept) (called : Called) (is : before.place ≡ StandsAt a) (ready : IsReady state before)
+      (stays : StaysBy state (asked_of a.control.system block) called a b) (lives : kept.lives ≡ before.kept.lives) (stops : kept.stops ≡ before.kept.stops) where
+    up_at : IsUpReady a before.kept
+    up_at = subst (λ p. IsReadyAt state p before.kept) is ready
+
+    same_at : IsSameControl state a b
+    same_at = same_by state (asked_of a.control.system block) called a b stays
+
+    pub endable_at : IsEndable b kept
+    endable_at = endable_up state a b before.kept kept before text up_at same_at lives stops
+
+    pub alone_at : IsAsked state (asked_of a.control.system block) a b text called → IsAloneBy state b called
+    alone_at asked = alone_up state a b before.kept kept before text up_at same_at lives stops (asked_of a.control.system block) called asked
+
+    pub ready_at : (session : Session D) (served : Served) → IsAsked state (asked_of a.control.system block) a b text called → IsSettled state (session_up b kept) called session served → IsReady state session
+    ready_at session served asked settled = ready_up state a b before.kept kept session text up_at same_at lives stops (asked_of a.control.system block) called served asked settled

@@ -14,7 +14,7 @@ use Rattle.model_session.specs.Standing.Standing.{Up as StandsUp}
 use Rattle.tm_control.specs.OnDisk.{ControlOnDisk, LastsBy}
 use Rattle.control_life.specs.declared.life.Life.{Life}
 use Rattle.session_lives.specs.declared.place.Idle.{Idle}
-use Rattle.session_lives.specs.declared.place.Place.TheVariants.{Up, Down}
+use Rattle.session_lives.specs.declared.place.Place.TheVariants.{Up, Down, Moved}
 use Rattle.session_lives.specs.declared.place.Place.{Place}
 use Rattle.session_lives.specs.declared.place.Kept.{Kept}
 use Rattle.session_lives.specs.declared.place.Session.{Session}
@@ -80,6 +80,7 @@ module _ {D : Type 0} (state : D → DiskState) (system : System) (source : List
       → IsClosedAt state place kept disk lives stops → Remains state system source handed disk (session_at place kept) lives stops
   remains_at (Up control) kept disk lives stops ready sound over = up_remains control kept disk lives stops ready sound over
   remains_at (Down idle) kept disk lives stops ready sound over = down_remains idle kept disk lives stops sound over
+  remains_at Moved kept disk lives stops ready sound over = absurd ready
 
 pub closed_leaves : {D : Type 0} (state : D → DiskState) (session : Session D) (disk : D) (lives : List Life) (stops : List Stop) → IsReady state session → IsClosed state session disk lives stops
     → LeavesSo state session disk lives stops

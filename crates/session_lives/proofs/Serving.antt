@@ -29,7 +29,7 @@ use Rattle.counter_law.specs.Spent.{HasSpent, IsSpentAt}
 use Rattle.session_lives.specs.Counting.{CountsUp, KeepsPace}
 use Rattle.session_lives.specs.Running.{life_of, last_up, session_at, session_of, session_up, setting_of, CountsFirst, IsUpReady, IsUpSound, IsSound, IsSoundAt, IsReadyAt, LeadsBy}
 use Rattle.session_lives.specs.Asking.{IsAsked, Does, Freezes, Fails, PowersOff, Undoes, IsSpentUp, LooksAtCounters}
-use Rattle.session_lives.specs.Openings.{GoesOn, HasEndedLife, IsAloneBy, IsSettled, CountsOn, IsServedSo}
+use Rattle.session_lives.specs.Openings.{IsEndable, HasEndedLife, IsAloneBy, IsSettled, CountsOn, IsServedSo}
 use Rattle.session_lives.proofs.Counting.{counts_more}
 use Rattle.session_lives.proofs.Ends.{up_state, same_up, ended_state, broken_state, down_sound, stop_behind, no_stop}
 
@@ -56,13 +56,13 @@ module _ {D : Type 0} (state : D → DiskState) (system : System) (source : List
   setting = setting_of state system source handed
 
   -- where the session stands now
-  goes_up : GoesOn b kept session → session_of session ≡ session_at (Up b) kept
-  goes_up on = ap (λ p. session_at p session.kept) on.place ∙ ap (λ k. session_at (Up b) k) on.kept
+  goes_up : session ≡ session_up b kept → session_of session ≡ session_at (Up b) kept
+  goes_up on = ap (λ (s : Session D). session_of s) on
 
-  up_after : GoesOn b kept session → (entries : List Entry) → b.control.history ≡ a.control.history ++ entries → session_of session ≡ gone_on before (last_up a) entries
+  up_after : session ≡ session_up b kept → (entries : List Entry) → b.control.history ≡ a.control.history ++ entries → session_of session ≡ gone_on before (last_up a) entries
   up_after on entries history = goes_up on ∙ up_state a b old kept entries stays.opening history lives stops
 
-  same_after : GoesOn b kept session → b.control.history ≡ a.control.history → session_of session ≡ before
+  same_after : session ≡ session_up b kept → b.control.history ≡ a.control.history → session_of session ≡ before
   same_after on history = goes_up on ∙ same_up a b old kept stays.opening history lives stops
 
   -- the machine's answer, in the system's own words
@@ -100,10 +100,9 @@ module _ {D : Type 0} (state : D → DiskState) (system : System) (source : List
 
   -- ---- what is sound behind it
 
-  pub up_sound : GoesOn b kept session → IsSound state system source handed session
+  pub up_sound : session ≡ session_up b kept → IsSound state system source handed session
   up_sound on =
-      subst (λ p. IsSoundAt state system source handed p session.kept) (sym on.place)
-      (subst (λ k. IsSoundAt state system source handed (Up b) k) (sym on.kept)
+      subst (λ (s : Session D). IsSoundAt state system source handed s.place s.kept) (sym on)
       (record {
         handed_alone = sound.handed_alone;
         system_is = stays.system ∙ sound.system_is;
@@ -115,7 +114,7 @@ module _ {D : Type 0} (state : D → DiskState) (system : System) (source : List
         legal = subst (λ v. AreLegal system (map life_of v.items)) (sym lives) sound.legal;
         valid = sound.valid;
         counts = counts_now;
-      }))
+      })
 
   same_now : IsSameDisk (state handed) (state b.disk)
   same_now = same_on (state handed) (state a.disk) (state b.disk) sound.same stays.disk
@@ -143,10 +142,10 @@ module _ {D : Type 0} (state : D → DiskState) (system : System) (source : List
 
   -- ---- what was served
 
-  nothing : GoesOn b kept session → AddedNothing state a b → session_of session ≡ before
+  nothing : session ≡ session_up b kept → AddedNothing state a b → session_of session ≡ before
   nothing on added = same_after on added.adds.history
 
-  does : (asked : Asked) → Does state asked a b text → GoesOn b kept session → IsServedUp asked setting before (last_up a) (session_of session) text
+  does : (asked : Asked) → Does state asked a b text → session ≡ session_up b kept → IsServedUp asked setting before (last_up a) (session_of session) text
   does (Bad rule) (added, printed) on = (nothing on added, printed)
   does (BadCommand rule) (added, printed) on = (nothing on added, printed)
   does (Stopped terminal number reason) (added, printed) on = (nothing on added, printed)
@@ -250,7 +249,7 @@ module _ {D : Type 0} (state : D → DiskState) (system : System) (source : List
   powers Restart pick never over = absurd never
   powers ColdStart pick never over = absurd never
 
-  undoes : (asked : Asked) → Undoes state asked a b → GoesOn b kept session → IsBegunBy asked system before before.standing (session_of session)
+  undoes : (asked : Asked) → Undoes state asked a b → session ≡ session_up b kept → IsBegunBy asked system before before.standing (session_of session)
   undoes (Quiet most) (inl added) on = inl (nothing on added)
   undoes (Quiet most) (inr stand) on =
       inr (record { turns = stand.turns; steps = steps_in stand.turns stand.steps; begun = begun_in most stand.turns stand.begun; goes = up_after on stand.turns stand.adds.history })
@@ -278,15 +277,15 @@ module _ {D : Type 0} (state : D → DiskState) (system : System) (source : List
             record { epoch_low = stands.epoch; sequence_low = stands.sequence; checkpoint_low = stands.checkpoint; unit_low = stands.unit };
       })
 
-  spent_now_at : GoesOn b kept session → b.up ≡ true → IsSpentUp b → IsSpentAt setting.counts setting (session_of session)
+  spent_now_at : session ≡ session_up b kept → b.up ≡ true → IsSpentUp b → IsSpentAt setting.counts setting (session_of session)
   spent_now_at on up spent = subst (λ s. IsSpentAt setting.counts setting s) (sym (goes_up on)) (has_spent up spent)
 
-  counts_on : (asked : Asked) → LooksAtCounters asked → GoesOn b kept session → CountsOn (session_of session).standing asked
+  counts_on : (asked : Asked) → LooksAtCounters asked → session ≡ session_up b kept → CountsOn (session_of session).standing asked
   counts_on asked looks on = subst (λ (s : SessionState). CountsOn s.standing asked) (sym (goes_up on)) looks
 
   -- ---- all of it
 
-  pub served_up : (asked : Asked) (called : Called) (served : Served) → IsAsked state asked a b text called → IsSettled state b kept called session served
+  pub served_up : (asked : Asked) (called : Called) (served : Served) → IsAsked state asked a b text called → IsSettled state (session_up b kept) called session served
       → LeadsBy state (λ setting old new. IsServedSo asked text served setting old new) system source handed (session_up a old) session
   served_up asked Answered served does_it (on, printed) =
       subst (λ s. LeadsBy state (λ setting old new. IsServedSo asked text s setting old new) system source handed (session_up a old) session) (sym printed)
@@ -322,14 +321,17 @@ module _ {D : Type 0} (state : D → DiskState) (a b : ControlOnDisk D) (old kep
   up_done Restart does_it = does_it.0.up
   up_done ColdStart does_it = does_it.0.up
 
-  pub text_room : length b.text ≤ 262144
+  text_room : length b.text ≤ 262144
   text_room = subst (λ t. length t ≤ 262144) (sym stays.text) ready.text
 
-  pub life_room : vec_len kept.lives < vec_capacity kept.lives
+  life_room : vec_len kept.lives < vec_capacity kept.lives
   life_room = subst (λ v. vec_len v < vec_capacity v) (sym lives) ready.life_room
 
-  pub stop_room : vec_len kept.stops < vec_capacity kept.stops
+  stop_room : vec_len kept.stops < vec_capacity kept.stops
   stop_room = subst (λ v. vec_len v < vec_capacity v) (sym stops) ready.stop_room
+
+  pub endable_up : IsEndable b kept
+  endable_up = record { text = text_room; life_room = life_room; stop_room = stop_room }
 
   -- behind a freeze
   alone_by : (asked : Asked) → Freezes state asked a b text → Only (state b.disk).shown (state b.disk)
@@ -351,15 +353,14 @@ module _ {D : Type 0} (state : D → DiskState) (a b : ControlOnDisk D) (old kep
   alone_up asked Memory is = tt
   alone_up asked Spent is = tt
 
-  ready_on : b.up ≡ true → GoesOn b kept session → IsReadyAt state session.place session.kept
+  ready_on : b.up ≡ true → session ≡ session_up b kept → IsReadyAt state session.place session.kept
   ready_on up on =
-      subst (λ p. IsReadyAt state p session.kept) (sym on.place)
-      (subst (λ k. IsReadyAt state (Up b) k) (sym on.kept) (record { up = up; text = text_room; life_room = life_room; stop_room = stop_room }))
+      subst (λ (s : Session D). IsReadyAt state s.place s.kept) (sym on) (record { up = up; text = text_room; life_room = life_room; stop_room = stop_room })
 
   ready_over : (stopped : Bool) → HasEndedLife state b kept stopped session → IsReadyAt state session.place session.kept
   ready_over stopped over = subst (λ p. IsReadyAt state p session.kept) (sym over.place) over.ready
 
-  pub ready_up : (asked : Asked) (called : Called) (served : Served) → IsAsked state asked a b text called → IsSettled state b kept called session served → IsReadyAt state session.place session.kept
+  pub ready_up : (asked : Asked) (called : Called) (served : Served) → IsAsked state asked a b text called → IsSettled state (session_up b kept) called session served → IsReadyAt state session.place session.kept
   ready_up asked Answered served does_it settled = ready_on (up_done asked does_it) settled.0
   ready_up asked Frozen served frozen settled = ready_over false settled.0
   ready_up asked (Power pick) served power settled = ready_over false settled.0

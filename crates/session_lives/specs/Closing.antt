@@ -11,7 +11,7 @@ use Rattle.tm_control.specs.Closed.{Closes}
 use Rattle.control_life.specs.declared.life.Life.{Life}
 use Rattle.session_lives.specs.declared.place.Idle.{Idle}
 use Rattle.session_lives.specs.declared.place.Place.{Place}
-use Rattle.session_lives.specs.declared.place.Place.TheVariants.{Up, Down}
+use Rattle.session_lives.specs.declared.place.Place.TheVariants.{Up, Down, Moved}
 use Rattle.session_lives.specs.declared.place.Kept.{Kept}
 use Rattle.session_lives.specs.declared.place.Session.{Session}
 use Rattle.session_lives.specs.Running.{life_of, session_of, Holds, IsSound}
@@ -45,6 +45,7 @@ pub record IsClosedDown {D : Type 0} (idle : Idle D) (kept : Kept) (disk : D) (l
 abbrev pub IsClosedAt : {D : Type 0} → (D → DiskState) → Place D → Kept → D → List Life → List Stop → Type 0
 IsClosedAt state (Up control) kept disk lives stops = IsClosedUp state control kept disk lives stops
 IsClosedAt state (Down idle) kept disk lives stops = IsClosedDown idle kept disk lives stops
+IsClosedAt state Moved kept disk lives stops = ⊥
 
 abbrev pub IsClosed : {D : Type 0} → (D → DiskState) → Session D → D → List Life → List Stop → Type 0
 IsClosed state session disk lives stops = IsClosedAt state session.place session.kept disk lives stops

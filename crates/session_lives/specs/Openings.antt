@@ -1,5 +1,5 @@
 -- Openings, the ends of lives, and what serving a block comes to.
-use Rattle.std.specs.Prelude.{◌≡◌, ℕ, ◌+◌, ◌-◌, max, ◌++◌, Bool, true, false, if◌then◌else◌, List, [], ◌∷◌, Option, Some, None, IsTrue}
+use Rattle.std.specs.Prelude.{◌≡◌, ℕ, ◌+◌, ◌-◌, ◌<◌, ◌≤◌, max, ◌++◌, Bool, true, false, if◌then◌else◌, List, [], ◌∷◌, length, Option, Some, None, IsTrue, vec_len, vec_capacity}
 use Rattle.std.specs.Option.{is_some}
 use Rattle.model_disk.specs.Disk.{DiskState, IsSameDisk, Within, NoMore, Only, IsCut}
 use Rattle.model_system.specs.System.{System}
@@ -34,7 +34,8 @@ use Rattle.session_lives.specs.declared.called.Undone.TheVariants.{Memory, Spent
 use Rattle.session_lives.specs.declared.called.Opening.{Opening}
 use Rattle.session_lives.specs.declared.called.Opening.TheVariants.{Opened, Broke as OpeningBroke, Refused, Memory as OpeningMemory, Spent as OpeningSpent}
 use Rattle.session_lives.specs.declared.place.Idle.{Idle}
-use Rattle.session_lives.specs.declared.place.Place.TheVariants.{Up, Down}
+use Rattle.session_lives.specs.declared.place.Place.{Place}
+use Rattle.session_lives.specs.declared.place.Place.TheVariants.{Up, Down, Moved}
 use Rattle.session_lives.specs.declared.place.Kept.{Kept}
 use Rattle.session_lives.specs.declared.place.Session.{Session}
 use Rattle.counter_law.specs.Spent.{IsSpentAt}
@@ -183,29 +184,56 @@ HasGone state idle old cold session (Refused refusal) =
 HasGone state idle old cold session OpeningMemory = StaysIdle state idle old session
 HasGone state idle old cold session OpeningSpent = StaysIdle state idle old session × RefusesSpent state idle cold
 
--- how a call was settled: the life goes on, or it has ended
-pub record GoesOn {D : Type 0} (control : ControlOnDisk D) (old : Kept) (session : Session D) : Type 0 where
-  pub place : session.place ≡ Up control
-  pub kept : session.kept ≡ old
+-- ---- how a call was settled
 
+-- A life that is up may end: there is room for it, and for its stop.
+pub record IsEndable {D : Type 0} (control : ControlOnDisk D) (kept : Kept) : Type 0 where
+  pub text : length control.text ≤ 262144
+  pub life_room : vec_len kept.lives < vec_capacity kept.lives
+  pub stop_room : vec_len kept.stops < vec_capacity kept.stops
+
+abbrev pub MayEndAt : {D : Type 0} → Place D → Kept → Type 0
+MayEndAt (Up control) kept = IsEndable control kept
+MayEndAt (Down idle) kept = ⊥
+MayEndAt Moved kept = ⊥
+
+abbrev pub MayEnd : {D : Type 0} → Session D → Type 0
+MayEnd session = MayEndAt session.place session.kept
+
+-- The life has ended, and the system is down.
 pub record HasEndedLife {D : Type 0} (state : D → DiskState) (control : ControlOnDisk D) (old : Kept) (stopped : Bool) (session : Session D) : Type 0 where
   pub idle : Idle D
   pub place : session.place ≡ Down idle
   pub down : GoesDown state control old session.kept stopped idle
   pub ready : IsDownReady state idle session.kept
 
+-- so has the one that was up
+abbrev pub EndsAt : {D : Type 0} → (D → DiskState) → Bool → Place D → Kept → Session D → Type 0
+EndsAt state stopped (Up control) old session = HasEndedLife state control old stopped session
+EndsAt state stopped (Down idle) old session = ⊥
+EndsAt state stopped Moved old session = ⊥
+
+abbrev pub EndsLife : {D : Type 0} → (D → DiskState) → Bool → Session D → Session D → Type 0
+EndsLife state stopped old new = EndsAt state stopped old.place old.kept new
+
 -- behind a freeze a crash leaves the shown disk alone
 abbrev pub IsAloneBy : {D : Type 0} → (D → DiskState) → ControlOnDisk D → Called → Type 0
 IsAloneBy state control Frozen = Only (state control.disk).shown (state control.disk)
 IsAloneBy state control _ = Unit {0}
 
-abbrev pub IsSettled : {D : Type 0} → (D → DiskState) → ControlOnDisk D → Kept → Called → Session D → Served → Type 0
-IsSettled state control old Answered session served = GoesOn control old session × (served ≡ Printed)
-IsSettled state control old Frozen session served = HasEndedLife state control old false session × (served ≡ Printed)
-IsSettled state control old (Power pick) session served = HasEndedLife state control old false session × (served ≡ Printed)
-IsSettled state control old CallBroke session served = HasEndedLife state control old true session × (served ≡ Broke)
-IsSettled state control old CallMemory session served = GoesOn control old session × (served ≡ NotServed Memory)
-IsSettled state control old CallSpent session served = GoesOn control old session × (served ≡ NotServed Spent)
+abbrev pub IsAloneAt : {D : Type 0} → (D → DiskState) → Place D → Called → Type 0
+IsAloneAt state (Up control) called = IsAloneBy state control called
+IsAloneAt state (Down idle) called = ⊥
+IsAloneAt state Moved called = ⊥
+
+-- the life goes on, and all is as it was; or it has ended
+abbrev pub IsSettled : {D : Type 0} → (D → DiskState) → Session D → Called → Session D → Served → Type 0
+IsSettled state old Answered new served = (new ≡ old) × (served ≡ Printed)
+IsSettled state old Frozen new served = EndsLife state false old new × (served ≡ Printed)
+IsSettled state old (Power pick) new served = EndsLife state false old new × (served ≡ Printed)
+IsSettled state old CallBroke new served = EndsLife state true old new × (served ≡ Broke)
+IsSettled state old CallMemory new served = (new ≡ old) × (served ≡ NotServed Memory)
+IsSettled state old CallSpent new served = (new ≡ old) × (served ≡ NotServed Spent)
 
 -- ---- a block
 

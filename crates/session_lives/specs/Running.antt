@@ -7,7 +7,7 @@ use Rattle.model_machine.specs.Machine.{LastingState, empty_state}
 use Rattle.model_image.specs.Recovered.{Recovers}
 use Rattle.model_image.specs.Alike.{RecoversAlike}
 use Rattle.model_session.specs.Lives.{LifeState, LastLife, AreLegal}
-use Rattle.model_session.specs.Standing.{Setting, Outage, Standing, SessionState, LastAnswered, MayHold, HasNoLife, AreStops}
+use Rattle.model_session.specs.Standing.{Setting, Outage, Standing, SessionState, LastAnswered, MayHold, HasNoLife, AreStops, no_life}
 use Rattle.model_session.specs.Standing.Standing.{Up as StandsUp, Down as StandsDown}
 use Rattle.model_session.specs.Session.{OpensFirst}
 use Rattle.model_session.specs.declared.asked.ImageRefused.{ImageRefused}
@@ -25,7 +25,7 @@ use Rattle.counter_law.specs.Counts.{LastsUpTo}
 use Rattle.counter_law.specs.Measures.{call_raises, measure}
 use Rattle.session_lives.specs.declared.place.Idle.{Idle}
 use Rattle.session_lives.specs.declared.place.Place.{Place}
-use Rattle.session_lives.specs.declared.place.Place.TheVariants.{Up, Down}
+use Rattle.session_lives.specs.declared.place.Place.TheVariants.{Up, Down, Moved}
 use Rattle.session_lives.specs.declared.place.Kept.{Kept}
 use Rattle.session_lives.specs.declared.place.Session.{Session}
 use Rattle.session_lives.specs.Counting.{CountsUp}
@@ -45,9 +45,11 @@ last_up c = record { opening = c.control.opening; history = c.control.history }
 abbrev pub outage_of : {D : Type 0} → Idle D → Outage
 outage_of idle = record { last = option_map last_of idle.last; emptied = idle.emptied; stopped = idle.stopped }
 
+-- nothing is said of one that is moved out, as it isn't between two blocks
 abbrev pub standing_of : {D : Type 0} → Place D → Standing
 standing_of (Up control) = StandsUp (last_up control)
 standing_of (Down idle) = StandsDown (outage_of idle)
+standing_of Moved = StandsDown no_life
 
 abbrev pub session_at : {D : Type 0} → Place D → Kept → SessionState
 session_at place kept = record { lives = map life_of kept.lives.items; stops = kept.stops.items; standing = standing_of place }
@@ -61,9 +63,15 @@ session_up control kept = record { place = Up control; kept = kept }
 abbrev pub session_down : {D : Type 0} → Idle D → Kept → Session D
 session_down idle kept = record { place = Down idle; kept = kept }
 
-abbrev pub system_of : {D : Type 0} → Place D → System
-system_of (Up control) = control.control.system
-system_of (Down idle) = idle.system
+abbrev pub IsUp : {D : Type 0} → Place D → Type 0
+IsUp (Up control) = Unit {0}
+IsUp (Down idle) = ⊥
+IsUp Moved = ⊥
+
+abbrev pub IsDown : {D : Type 0} → Place D → Type 0
+IsDown (Up control) = ⊥
+IsDown (Down idle) = Unit {0}
+IsDown Moved = ⊥
 
 -- the steps of the last life that were answered, as they are kept
 abbrev pub kept_of : Option Life → ℕ
@@ -189,6 +197,7 @@ pub record IsDownReady {D : Type 0} (state : D → DiskState) (idle : Idle D) (k
 abbrev pub IsReadyAt : {D : Type 0} → (D → DiskState) → Place D → Kept → Type 0
 IsReadyAt state (Up control) kept = IsUpReady control kept
 IsReadyAt state (Down idle) kept = IsDownReady state idle kept
+IsReadyAt state Moved kept = ⊥
 
 abbrev pub IsReady : {D : Type 0} → (D → DiskState) → Session D → Type 0
 IsReady state session = IsReadyAt state session.place session.kept
@@ -256,6 +265,7 @@ pub record IsDownSound {D : Type 0} (state : D → DiskState) (system : System) 
 abbrev pub IsSoundAt : {D : Type 0} → (D → DiskState) → System → List ℕ → D → Place D → Kept → Type 0
 IsSoundAt state system source handed (Up control) kept = IsUpSound state system source handed control kept
 IsSoundAt state system source handed (Down idle) kept = IsDownSound state system source handed idle kept
+IsSoundAt state system source handed Moved kept = ⊥
 
 abbrev pub IsSound : {D : Type 0} → (D → DiskState) → System → List ℕ → D → Session D → Type 0
 IsSound state system source handed session = IsSoundAt state system source handed session.place session.kept

@@ -36,6 +36,7 @@ fn hand_over<D: Disk>(session: Session<D>) -> Over<D>
     match place {
         Place::Up(control) => close_up(control, kept),
         Place::Down(idle) => close_down(idle, kept),
+        Place::Moved => unreachable!(),
     }
 }
 

@@ -1,8 +1,10 @@
 //! Where a session stands.
 ghost use Rattle.std.specs.Prelude.{◌≡◌, ◌<◌, ◌≤◌, ◌+◌, [], OnOk, vec_len, vec_capacity};
-ghost use Rattle.session_lives.specs.Running.{system_of};
+ghost use Rattle.session_lives.specs.Running.{IsUp, IsDown};
+ghost use Rattle.session_lives.specs.declared.place.Place.TheVariants.{Up, Down, Moved};
 
 use std::alloc::Global;
+use std::mem;
 use system_types::System;
 use tm_control::{Control, Life};
 use tm_disk::Disk;
@@ -27,6 +29,8 @@ pub struct Idle<D: Disk> {
 pub enum Place<D: Disk> {
     Up(Control<D>),
     Down(Idle<D>),
+    /// What stood here is moved out, within a call. Between two blocks no session stands so.
+    Moved,
 }
 
 /// What a session keeps beside.
@@ -74,14 +78,40 @@ pub struct Session<D: Disk> {
     pub kept: Kept,
 }
 
-impl<D: Disk> Place<D> {
-    /// The system.
-    pub fn system(&self) -> &System
-        ensures { result.now ≡ system_of self.now }
-    {
-        match self {
-            Place::Up(control) => control.system(),
-            Place::Down(idle) => &idle.system,
-        }
+/// Moves a control region out that is up.
+pub(crate) fn take_up<D: Disk>(place: &mut Place<D>) -> Control<D>
+    requires { IsUp place.old }
+    ensures taken { place.old ≡ Up result }
+    ensures moved { place.new ≡ Moved }
+{
+    match mem::replace(place, Place::Moved) {
+        Place::Up(control) => control,
+        Place::Down(_) => unreachable!(),
+        Place::Moved => unreachable!(),
+    }
+}
+
+/// Moves a system out that is down.
+pub(crate) fn take_down<D: Disk>(place: &mut Place<D>) -> Idle<D>
+    requires { IsDown place.old }
+    ensures taken { place.old ≡ Down result }
+    ensures moved { place.new ≡ Moved }
+{
+    match mem::replace(place, Place::Moved) {
+        Place::Down(idle) => idle,
+        Place::Up(_) => unreachable!(),
+        Place::Moved => unreachable!(),
+    }
+}
+
+/// Puts in what stands where something was moved out.
+pub(crate) fn put<D: Disk>(place: &mut Place<D>, next: Place<D>)
+    requires { place.old ≡ Moved }
+    ensures { place.new ≡ next }
+{
+    match mem::replace(place, next) {
+        Place::Moved => {}
+        Place::Up(_) => unreachable!(),
+        Place::Down(_) => unreachable!(),
     }
 }

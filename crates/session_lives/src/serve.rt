@@ -1,18 +1,21 @@
 //! One block of a session, served.
-ghost use Rattle.std.specs.Prelude.{◌≡◌, ◌<◌, ◌≤◌, [], false, length, vec_len, vec_capacity};
-ghost use Rattle.model_disk.specs.Disk.{Only};
-ghost use Rattle.model_session.specs.Lines.{CanAsk, asked_of};
-ghost use Rattle.session_lives.specs.Running.{IsReady, IsUpReady, IsDownReady, Leads, session_up, session_down};
-ghost use Rattle.session_lives.specs.Openings.{IsServedSo, IsSettled, IsAloneBy, GoesOn, HasEndedLife, IsRestartedSo, IsToldSo, IsRefusalTold, restart_of};
+ghost use Rattle.std.specs.Prelude.{◌≡◌, ◌≤◌, [], true, false};
+ghost use Rattle.model_session.specs.Lines.{asked_of};
+ghost use Rattle.session_lives.specs.declared.called.Called.TheVariants.{Frozen};
+ghost use Rattle.session_lives.specs.Counting.{KeepsPace};
+ghost use Rattle.session_lives.specs.Asking.{IsAsked, StaysBy};
+ghost use Rattle.session_lives.specs.Running.{IsReady, IsDown, IsDownReady, Leads, session_down};
+ghost use Rattle.session_lives.specs.Openings.{IsServedSo, IsSettled, IsAloneAt, MayEnd, EndsLife, IsRestartedSo, IsToldSo, IsRefusalTold, restart_of};
 
 use crate::asking::ask;
 use crate::called::{Called, Opening, Served, Undone};
 use crate::opening::{go_down, lay_down, open};
-use crate::place::{Idle, Kept, Place, Session};
+use crate::place::{Idle, Kept, Place, Session, put, take_down, take_up};
 use model_session::{Asked, ImageRefused};
 use session_lines::{Block, read_block};
 use session_text::{ANSWER_ROOM, Printed, down_line, image_line, opened_line};
 use std::alloc::Global;
+use std::mem;
 use tm_control::Control;
 use tm_disk::Disk;
 
@@ -21,99 +24,137 @@ use tm_disk::Disk;
 /// Where it could not be served all is as before, but that the turns of a QUIET stand that were done by then.
 pub fn serve_block<D: Disk>(
     alloc: Global,
-    session: Session<D>,
+    session: &mut Session<D>,
+    printed: &mut Printed,
+    block: &Block,
+) -> Served
+    requires ready { IsReady D.state session.old }
+    ensures served { Leads D.state (λ setting old new. IsServedSo (asked_of setting.system block.now) printed.new.text result setting old new) session.old session.new }
+    ensures ready { IsReady D.state session.new }
+{
+    printed.clear();
+    match &mut session.place {
+        Place::Up(control) => {
+            let called = ask_block(alloc, control, &mut session.kept.pick, printed, block);
+            settle(session, called)
+        }
+        Place::Down(_) => serve_down(alloc, session, printed, block),
+        Place::Moved => unreachable!(),
+    }
+}
+
+/// Asks a control region that is up for what a block asks for.
+fn ask_block<D: Disk>(
+    alloc: Global,
+    control: &mut Control<D>,
+    picked: &mut u64,
+    printed: &mut Printed,
+    block: &Block,
+) -> Called
+    requires up { control.old.up ≡ true }
+    requires empty { printed.old.text ≡ [] }
+    ensures asked { IsAsked D.state (asked_of control.old.control.system block.now) control.old control.new printed.new.text result }
+    ensures pace { KeepsPace D.state control.old control.new }
+    ensures stays { StaysBy D.state (asked_of control.old.control.system block.now) result control.old control.new }
+{
+    let Ok(asked) = read_block(alloc, control.system(), block) else {
+        return Called::Memory;
+    };
+    ask(alloc, control, picked, printed, asked)
+}
+
+/// What follows from how a call went: the life goes on, or it has ended. The session is moved only where it has.
+fn settle<D: Disk>(session: &mut Session<D>, called: Called) -> Served
+    requires may_end { MayEnd session.old }
+    requires alone { IsAloneAt D.state session.old.place called }
+    ensures { IsSettled D.state session.old called session.new result }
+{
+    match called {
+        Called::Answered => Served::Printed,
+        Called::Frozen => {
+            freeze(session);
+            Served::Printed
+        }
+        Called::Power(pick) => {
+            end(session, pick, false);
+            Served::Printed
+        }
+        Called::Broke => {
+            let pick = session.kept.pick;
+            end(session, pick, true);
+            Served::Broke
+        }
+        Called::Memory => Served::Undone(Undone::Memory),
+        Called::Spent => Served::Undone(Undone::Spent),
+    }
+}
+
+#[inline(never)]
+fn freeze<D: Disk>(session: &mut Session<D>)
+    requires may_end { MayEnd session.old }
+    requires alone { IsAloneAt D.state session.old.place Frozen }
+    ensures { EndsLife D.state false session.old session.new }
+{
+    let control = take_up(&mut session.place);
+    let idle = lay_down(control, &session.kept);
+    put(&mut session.place, Place::Down(idle));
+}
+
+#[inline(never)]
+fn end<D: Disk>(session: &mut Session<D>, pick: u64, stopped: bool)
+    requires { MayEnd session.old }
+    ensures { EndsLife D.state stopped session.old session.new }
+{
+    let control = take_up(&mut session.place);
+    let idle = go_down(control, &mut session.kept, pick, stopped);
+    put(&mut session.place, Place::Down(idle));
+}
+
+/// Serves a block while the system is down.
+#[inline(never)]
+fn serve_down<D: Disk>(
+    alloc: Global,
+    session: &mut Session<D>,
+    printed: &mut Printed,
+    block: &Block,
+) -> Served
+    requires down { IsDown session.old.place }
+    requires ready { IsReady D.state session.old }
+    requires empty { printed.old.text ≡ [] }
+    ensures served { Leads D.state (λ setting old new. IsServedSo (asked_of setting.system block.now) printed.new.text result setting old new) session.old session.new }
+    ensures ready { IsReady D.state session.new }
+{
+    let idle = take_down(&mut session.place);
+    let kept = mem::replace(&mut session.kept, Kept::new(alloc));
+    let (after, served) = serve_idle(alloc, idle, kept, printed, block);
+    let Session { place, kept } = after;
+    put(&mut session.place, place);
+    session.kept = kept;
+    served
+}
+
+/// Reads a block while the system is down, and serves it.
+fn serve_idle<D: Disk>(
+    alloc: Global,
+    idle: Idle<D>,
+    kept: Kept,
     printed: &mut Printed,
     block: &Block,
 ) -> (Session<D>, Served)
-    requires ready { IsReady D.state session }
-    ensures served { Leads D.state (λ setting old new. IsServedSo (asked_of setting.system block.now) printed.new.text result.1 setting old new) session result.0 }
+    requires ready { IsDownReady D.state idle kept }
+    requires empty { printed.old.text ≡ [] }
+    ensures served { Leads D.state (λ setting old new. IsServedSo (asked_of setting.system block.now) printed.new.text result.1 setting old new) (session_down idle kept) result.0 }
     ensures ready { IsReady D.state result.0 }
 {
-    printed.clear();
-    let Session { place, kept } = session;
-    let Ok(asked) = read_block(alloc, place.system(), block) else {
+    let Ok(asked) = read_block(alloc, &idle.system, block) else {
+        let place = Place::Down(idle);
         return (Session { place, kept }, Served::Undone(Undone::Memory));
     };
-    match place {
-        Place::Up(control) => serve_up(alloc, control, kept, printed, asked),
-        Place::Down(idle) => serve_down(alloc, idle, kept, printed, &asked),
-    }
-}
-
-/// Serves what a block asks for while the system is up.
-fn serve_up<D: Disk>(
-    alloc: Global,
-    control: Control<D>,
-    kept: Kept,
-    printed: &mut Printed,
-    asked: Asked,
-) -> (Session<D>, Served)
-    requires ready { IsUpReady control kept }
-    requires can { CanAsk (length control.control.system.regions) asked }
-    requires empty { printed.old.text ≡ [] }
-    ensures served { Leads D.state (λ setting old new. IsServedSo asked printed.new.text result.1 setting old new) (session_up control kept) result.0 }
-    ensures ready { IsReady D.state result.0 }
-{
-    let mut control = control;
-    let Kept { lives, stops, pick } = kept;
-    let mut pick = pick;
-    let called = ask(alloc, &mut control, &mut pick, printed, asked);
-    settle(control, Kept { lives, stops, pick }, called)
-}
-
-/// What follows from how a call went: the life goes on, or it has ended.
-fn settle<D: Disk>(control: Control<D>, kept: Kept, called: Called) -> (Session<D>, Served)
-    requires text { length control.text ≤ 262144 }
-    requires life_room { vec_len kept.lives < vec_capacity kept.lives }
-    requires stop_room { vec_len kept.stops < vec_capacity kept.stops }
-    requires alone { IsAloneBy D.state control called }
-    ensures { IsSettled D.state control kept called result.0 result.1 }
-{
-    match called {
-        Called::Answered => (stay(control, kept), Served::Printed),
-        Called::Frozen => (freeze(control, kept), Served::Printed),
-        Called::Power(pick) => (end(control, kept, pick, false), Served::Printed),
-        Called::Broke => {
-            let pick = kept.pick;
-            (end(control, kept, pick, true), Served::Broke)
-        }
-        Called::Memory => (stay(control, kept), Served::Undone(Undone::Memory)),
-        Called::Spent => (stay(control, kept), Served::Undone(Undone::Spent)),
-    }
-}
-
-fn stay<D: Disk>(control: Control<D>, kept: Kept) -> Session<D>
-    ensures { GoesOn control kept result }
-{
-    let place = Place::Up(control);
-    Session { place, kept }
-}
-
-fn freeze<D: Disk>(control: Control<D>, kept: Kept) -> Session<D>
-    requires text { length control.text ≤ 262144 }
-    requires only { Only (D.state control.disk).shown (D.state control.disk) }
-    requires life_room { vec_len kept.lives < vec_capacity kept.lives }
-    ensures { HasEndedLife D.state control kept false result }
-{
-    let idle = lay_down(control, &kept);
-    let place = Place::Down(idle);
-    Session { place, kept }
-}
-
-fn end<D: Disk>(control: Control<D>, kept: Kept, pick: u64, stopped: bool) -> Session<D>
-    requires text { length control.text ≤ 262144 }
-    requires life_room { vec_len kept.lives < vec_capacity kept.lives }
-    requires stop_room { vec_len kept.stops < vec_capacity kept.stops }
-    ensures { HasEndedLife D.state control kept stopped result }
-{
-    let mut kept = kept;
-    let idle = go_down(control, &mut kept, pick, stopped);
-    let place = Place::Down(idle);
-    Session { place, kept }
+    serve_asked(alloc, idle, kept, printed, &asked)
 }
 
 /// Serves what a block asks for while the system is down: a restart, and nothing else.
-fn serve_down<D: Disk>(
+fn serve_asked<D: Disk>(
     alloc: Global,
     idle: Idle<D>,
     kept: Kept,

@@ -25,7 +25,7 @@ use Rattle.sysdef_text.specs.Ends.{definition_lines}
 use Rattle.session_lives.specs.declared.called.Opening.{Opening}
 use Rattle.session_lives.specs.declared.called.Opening.TheVariants.{Opened, Broke, Refused, Memory as NoMemory, Spent as SpentCounter}
 use Rattle.session_lives.specs.declared.place.Place.{Place}
-use Rattle.session_lives.specs.declared.place.Place.TheVariants.{Up, Down}
+use Rattle.session_lives.specs.declared.place.Place.TheVariants.{Up, Down, Moved}
 use Rattle.session_lives.specs.declared.place.Kept.{Kept}
 use Rattle.session_lives.specs.declared.place.Session.{Session}
 use Rattle.session_lives.specs.Running.{life_of, last_of, kept_of, outage_of, standing_of, session_at, session_of, setting_of, error_of, IsDownSound, IsSound, IsSoundAt, Leads, LeadsBy}
@@ -240,6 +240,7 @@ module _ {D : Type 0} (state : D → DiskState) (system : System) (source : List
   valid_at : (place : Place D) (kept : Kept) → IsSoundAt state system source handed place kept → IsSystem system
   valid_at (Up control) kept sound = sound.valid
   valid_at (Down idle) kept sound = sound.valid
+  valid_at Moved kept sound = absurd sound
 
   left_either : (undone : Bool) (others : List Block) (mid last : SessionState) → left_if undone system others mid last → (last ≡ mid) ⊎ IsBegun system others mid last
   left_either true others mid last left = inr left

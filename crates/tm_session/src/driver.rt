@@ -27,22 +27,22 @@ const LINE_PAST: u64 = 1_000_001;
 /// Serves a block, and writes its text.
 fn serve_whole<K: Sink, D: Disk>(
     alloc: Global,
-    session: Session<D>,
+    session: &mut Session<D>,
     printed: &mut Printed,
     sink: &mut K,
     block: &Block,
-) -> (Session<D>, Option<Ended>)
-    requires ready { IsReady D.state session }
-    ensures step { Leads D.state (λ setting a b. MatchOption result.1
+) -> Option<Ended>
+    requires ready { IsReady D.state session.old }
+    ensures step { Leads D.state (λ setting a b. MatchOption result
         (Serves setting (block.now ∷ []) (K.written sink.old) (K.written sink.new) a b)
-        (λ ended. FailsAt setting ended block.now (K.written sink.old) (K.written sink.new) a b)) session result.0 }
-    ensures ready { IsReady D.state result.0 }
-    ensures broken { IfSome result.1 IsBroken }
-    ensures calm { IsNone result.1 → K.faults sink.new ≡ K.faults sink.old }
-    ensures cause { IfSome result.1 (λ ended. HasCause ended 0 0 (K.faults sink.old) (K.faults sink.new)) }
+        (λ ended. FailsAt setting ended block.now (K.written sink.old) (K.written sink.new) a b)) session.old session.new }
+    ensures ready { IsReady D.state session.new }
+    ensures broken { IfSome result IsBroken }
+    ensures calm { IsNone result → K.faults sink.new ≡ K.faults sink.old }
+    ensures cause { IfSome result (λ ended. HasCause ended 0 0 (K.faults sink.old) (K.faults sink.new)) }
 {
-    let (session, served) = serve_block(alloc, session, printed, block);
-    (session, finish(printed, sink, served))
+    let served = serve_block(alloc, session, printed, block);
+    finish(printed, sink, served)
 }
 
 /// Writes the text of a block that was served so.
@@ -86,28 +86,28 @@ fn ended_by(undone: Undone) -> Ended
 /// Serves a line that belongs to no line before it, or keeps it where it may take `+` lines.
 fn begin_block<K: Sink, D: Disk>(
     alloc: Global,
-    session: Session<D>,
+    session: &mut Session<D>,
     printed: &mut Printed,
     sink: &mut K,
     pending: &mut Option<Block>,
     line: Line,
-) -> (Session<D>, Option<Ended>)
-    requires ready { IsReady D.state session }
+) -> Option<Ended>
+    requires ready { IsReady D.state session.old }
     requires none { pending.old ≡ None }
     requires seen { is_passed_over line ≡ false }
-    ensures step { Leads D.state (λ setting a b. MatchOption result.1
+    ensures step { Leads D.state (λ setting a b. MatchOption result
         (Goes setting None line pending.new (K.written sink.old) (K.written sink.new) a b)
-        (λ ended. Ends setting ended None line (K.written sink.old) (K.written sink.new) a b)) session result.0 }
-    ensures ready { IsReady D.state result.0 }
+        (λ ended. Ends setting ended None line (K.written sink.old) (K.written sink.new) a b)) session.old session.new }
+    ensures ready { IsReady D.state session.new }
     ensures begun { IfSome pending.new IsOpen }
-    ensures broken { IfSome result.1 IsBroken }
-    ensures calm { IsNone result.1 → K.faults sink.new ≡ K.faults sink.old }
-    ensures cause { IfSome result.1 (λ ended. HasCause ended 0 0 (K.faults sink.old) (K.faults sink.new)) }
+    ensures broken { IfSome result IsBroken }
+    ensures calm { IsNone result → K.faults sink.new ≡ K.faults sink.old }
+    ensures cause { IfSome result (λ ended. HasCause ended 0 0 (K.faults sink.old) (K.faults sink.new)) }
 {
     let block = Block::alone(alloc, line);
     if takes_further(block.line()) {
         *pending = Some(block);
-        return (session, None);
+        return None;
     }
     serve_whole(alloc, session, printed, sink, &block)
 }
@@ -128,64 +128,64 @@ fn lengthen(alloc: Global, pending: &mut Option<Block>, block: Block, line: Line
 /// Serves the line that was kept, and then the next one, which doesn't belong to it.
 fn serve_both<K: Sink, D: Disk>(
     alloc: Global,
-    session: Session<D>,
+    session: &mut Session<D>,
     printed: &mut Printed,
     sink: &mut K,
     pending: &mut Option<Block>,
     block: Block,
     line: Line,
-) -> (Session<D>, Option<Ended>)
-    requires ready { IsReady D.state session }
+) -> Option<Ended>
+    requires ready { IsReady D.state session.old }
     requires none { pending.old ≡ None }
     requires seen { is_passed_over line ≡ false }
     requires plain { spec.is_further line ≡ false }
-    ensures step { Leads D.state (λ setting a b. MatchOption result.1
+    ensures step { Leads D.state (λ setting a b. MatchOption result
         (Goes setting (Some block) line pending.new (K.written sink.old) (K.written sink.new) a b)
-        (λ ended. Ends setting ended (Some block) line (K.written sink.old) (K.written sink.new) a b)) session result.0 }
-    ensures ready { IsReady D.state result.0 }
+        (λ ended. Ends setting ended (Some block) line (K.written sink.old) (K.written sink.new) a b)) session.old session.new }
+    ensures ready { IsReady D.state session.new }
     ensures begun { IfSome pending.new IsOpen }
-    ensures broken { IfSome result.1 IsBroken }
-    ensures calm { IsNone result.1 → K.faults sink.new ≡ K.faults sink.old }
-    ensures cause { IfSome result.1 (λ ended. HasCause ended 0 0 (K.faults sink.old) (K.faults sink.new)) }
+    ensures broken { IfSome result IsBroken }
+    ensures calm { IsNone result → K.faults sink.new ≡ K.faults sink.old }
+    ensures cause { IfSome result (λ ended. HasCause ended 0 0 (K.faults sink.old) (K.faults sink.new)) }
 {
-    let (session, failed) = serve_whole(alloc, session, printed, sink, &block);
+    let failed = serve_whole(alloc, session, printed, sink, &block);
     match failed {
         None => begin_block(alloc, session, printed, sink, pending, line),
-        Some(ended) => (session, Some(ended)),
+        Some(ended) => Some(ended),
     }
 }
 
 /// Does what a line asks for that was read.
 fn serve_read<K: Sink, D: Disk>(
     alloc: Global,
-    session: Session<D>,
+    session: &mut Session<D>,
     printed: &mut Printed,
     sink: &mut K,
     pending: &mut Option<Block>,
     line: Line,
-) -> (Session<D>, Option<Ended>)
-    requires ready { IsReady D.state session }
+) -> Option<Ended>
+    requires ready { IsReady D.state session.old }
     requires begun { IfSome pending.old IsOpen }
-    ensures step { Leads D.state (λ setting a b. MatchOption result.1
+    ensures step { Leads D.state (λ setting a b. MatchOption result
         (Goes setting pending.old line pending.new (K.written sink.old) (K.written sink.new) a b)
-        (λ ended. Ends setting ended pending.old line (K.written sink.old) (K.written sink.new) a b)) session result.0 }
-    ensures ready { IsReady D.state result.0 }
+        (λ ended. Ends setting ended pending.old line (K.written sink.old) (K.written sink.new) a b)) session.old session.new }
+    ensures ready { IsReady D.state session.new }
     ensures begun { IfSome pending.new IsOpen }
-    ensures broken { IfSome result.1 IsBroken }
-    ensures calm { IsNone result.1 → K.faults sink.new ≡ K.faults sink.old }
-    ensures cause { IfSome result.1 (λ ended. HasCause ended 0 0 (K.faults sink.old) (K.faults sink.new)) }
+    ensures broken { IfSome result IsBroken }
+    ensures calm { IsNone result → K.faults sink.new ≡ K.faults sink.old }
+    ensures cause { IfSome result (λ ended. HasCause ended 0 0 (K.faults sink.old) (K.faults sink.new)) }
 {
     if is_passed_over(line.bytes()) {
-        return (session, None);
+        return None;
     }
     let Some(block) = pending.take() else {
         return begin_block(alloc, session, printed, sink, pending, line);
     };
     if is_further(line.bytes()) {
         if lengthen(alloc, pending, block, line) {
-            return (session, None);
+            return None;
         }
-        return (session, Some(Ended::Memory));
+        return Some(Ended::Memory);
     }
     serve_both(alloc, session, printed, sink, pending, block, line)
 }
@@ -193,39 +193,39 @@ fn serve_read<K: Sink, D: Disk>(
 /// Serves the last block of a source.
 fn serve_last<K: Sink, D: Disk>(
     alloc: Global,
-    session: Session<D>,
+    session: &mut Session<D>,
     printed: &mut Printed,
     sink: &mut K,
     block: &Block,
-) -> (Session<D>, Ended)
-    requires ready { IsReady D.state session }
-    ensures step { Leads D.state (λ setting a b. EndsWhole setting result.1 (Some block.now) (K.written sink.old) (K.written sink.new) a b) session result.0 }
-    ensures ready { IsReady D.state result.0 }
-    ensures cause { HasCause result.1 0 0 (K.faults sink.old) (K.faults sink.new) }
+) -> Ended
+    requires ready { IsReady D.state session.old }
+    ensures step { Leads D.state (λ setting a b. EndsWhole setting result (Some block.now) (K.written sink.old) (K.written sink.new) a b) session.old session.new }
+    ensures ready { IsReady D.state session.new }
+    ensures cause { HasCause result 0 0 (K.faults sink.old) (K.faults sink.new) }
 {
-    let (session, failed) = serve_whole(alloc, session, printed, sink, block);
+    let failed = serve_whole(alloc, session, printed, sink, block);
     match failed {
-        None => (session, Ended::Done),
-        Some(ended) => (session, ended),
+        None => Ended::Done,
+        Some(ended) => ended,
     }
 }
 
 /// Serves the line that was kept, at the end of the source.
 fn serve_end<K: Sink, D: Disk>(
     alloc: Global,
-    session: Session<D>,
+    session: &mut Session<D>,
     printed: &mut Printed,
     sink: &mut K,
     pending: &mut Option<Block>,
-) -> (Session<D>, Ended)
-    requires ready { IsReady D.state session }
-    ensures step { Leads D.state (λ setting a b. EndsWhole setting result.1 pending.old (K.written sink.old) (K.written sink.new) a b) session result.0 }
-    ensures ready { IsReady D.state result.0 }
+) -> Ended
+    requires ready { IsReady D.state session.old }
+    ensures step { Leads D.state (λ setting a b. EndsWhole setting result pending.old (K.written sink.old) (K.written sink.new) a b) session.old session.new }
+    ensures ready { IsReady D.state session.new }
     ensures none { pending.new ≡ None }
-    ensures cause { HasCause result.1 0 0 (K.faults sink.old) (K.faults sink.new) }
+    ensures cause { HasCause result 0 0 (K.faults sink.old) (K.faults sink.new) }
 {
     match pending.take() {
-        None => (session, Ended::Done),
+        None => Ended::Done,
         Some(block) => serve_last(alloc, session, printed, sink, &block),
     }
 }
@@ -236,30 +236,30 @@ fn serve_next<S: Source, K: Sink, D: Disk>(
     lines: &mut Lines,
     source: &mut S,
     sink: &mut K,
-    session: Session<D>,
+    session: &mut Session<D>,
     printed: &mut Printed,
     pending: &mut Option<Block>,
-) -> (Session<D>, Option<Ended>)
-    requires ready { IsReady D.state session }
+) -> Option<Ended>
+    requires ready { IsReady D.state session.old }
     requires begun { IfSome pending.old IsOpen }
-    ensures step { Leads D.state (λ setting a b. MatchOption result.1
+    ensures step { Leads D.state (λ setting a b. MatchOption result
         (Steps setting (unread lines.old (S.left source.old)) (unread lines.new (S.left source.new)) pending.old pending.new (K.written sink.old) (K.written sink.new) a b)
-        (λ ended. (count : ℕ) → count < 1000000 → StopsHere setting count ended (unread lines.old (S.left source.old)) (unread lines.new (S.left source.new)) pending.old (K.written sink.old) (K.written sink.new) a b)) session result.0 }
-    ensures ready { IsReady D.state result.0 }
+        (λ ended. (count : ℕ) → count < 1000000 → StopsHere setting count ended (unread lines.old (S.left source.old)) (unread lines.new (S.left source.new)) pending.old (K.written sink.old) (K.written sink.new) a b)) session.old session.new }
+    ensures ready { IsReady D.state session.new }
     ensures begun { IfSome pending.new IsOpen }
-    ensures reads { IsNone result.1 → S.faults source.new ≡ S.faults source.old }
-    ensures writes { IsNone result.1 → K.faults sink.new ≡ K.faults sink.old }
+    ensures reads { IsNone result → S.faults source.new ≡ S.faults source.old }
+    ensures writes { IsNone result → K.faults sink.new ≡ K.faults sink.old }
     ensures back { IsBack (unread lines.old (S.left source.old)) (unread lines.new (S.left source.new)) }
-    ensures whole { IfSome result.1 (λ ended. IsReadToEnd ended (unread lines.new (S.left source.new))) }
-    ensures cause { IfSome result.1 (λ ended. HasCause ended (S.faults source.old) (S.faults source.new) (K.faults sink.old) (K.faults sink.new)) }
+    ensures whole { IfSome result (λ ended. IsReadToEnd ended (unread lines.new (S.left source.new))) }
+    ensures cause { IfSome result (λ ended. HasCause ended (S.faults source.old) (S.faults source.new) (K.faults sink.old) (K.faults sink.new)) }
 {
     match read_line(lines, source) {
         Ok(Some(line)) => serve_read(alloc, session, printed, sink, pending, line),
         Ok(None) => {
-            let (session, ended) = serve_end(alloc, session, printed, sink, pending);
-            (session, Some(ended))
+            let ended = serve_end(alloc, session, printed, sink, pending);
+            Some(ended)
         }
-        Err(stopped) => (session, Some(stopped)),
+        Err(stopped) => Some(stopped),
     }
 }
 
@@ -269,21 +269,21 @@ fn end_of<S: Source, K: Sink, D: Disk>(
     lines: &mut Lines,
     source: &mut S,
     sink: &mut K,
-    session: Session<D>,
+    session: &mut Session<D>,
     printed: &mut Printed,
     pending: &mut Option<Block>,
-) -> (Session<D>, Ended)
-    requires ready { IsReady D.state session }
-    ensures step { Leads D.state (λ setting a b. StopsLast setting 1000000 result.1 (unread lines.old (S.left source.old)) (unread lines.new (S.left source.new)) pending.old (K.written sink.old) (K.written sink.new) a b) session result.0 }
-    ensures ready { IsReady D.state result.0 }
+) -> Ended
+    requires ready { IsReady D.state session.old }
+    ensures step { Leads D.state (λ setting a b. StopsLast setting 1000000 result (unread lines.old (S.left source.old)) (unread lines.new (S.left source.new)) pending.old (K.written sink.old) (K.written sink.new) a b) session.old session.new }
+    ensures ready { IsReady D.state session.new }
     ensures back { IsBack (unread lines.old (S.left source.old)) (unread lines.new (S.left source.new)) }
-    ensures whole { IsReadToEnd result.1 (unread lines.new (S.left source.new)) }
-    ensures cause { HasCause result.1 (S.faults source.old) (S.faults source.new) (K.faults sink.old) (K.faults sink.new) }
+    ensures whole { IsReadToEnd result (unread lines.new (S.left source.new)) }
+    ensures cause { HasCause result (S.faults source.old) (S.faults source.new) (K.faults sink.old) (K.faults sink.new) }
 {
     match read_line(lines, source) {
-        Ok(Some(_)) => (session, Ended::Limit(LINE_PAST)),
+        Ok(Some(_)) => Ended::Limit(LINE_PAST),
         Ok(None) => serve_end(alloc, session, printed, sink, pending),
-        Err(ended) => (session, behind_last(ended)),
+        Err(ended) => behind_last(ended),
     }
 }
 
@@ -305,21 +305,20 @@ pub fn serve_lines<S: Source, K: Sink, D: Disk>(
     before: u32,
     source: &mut S,
     sink: &mut K,
-    session: Session<D>,
-) -> (Session<D>, Ended)
+    session: &mut Session<D>,
+) -> Ended
     requires few { before ≤ 1000000 }
-    requires ready { IsReady D.state session }
-    ensures driven { Leads D.state (λ setting a b. HasDriven setting before (unread lines.old (S.left source.old)) (unread lines.new (S.left source.new)) (K.written sink.old) (K.written sink.new) a b result.1) session result.0 }
-    ensures ready { IsReady D.state result.0 }
+    requires ready { IsReady D.state session.old }
+    ensures driven { Leads D.state (λ setting a b. HasDriven setting before (unread lines.old (S.left source.old)) (unread lines.new (S.left source.new)) (K.written sink.old) (K.written sink.new) a b result) session.old session.new }
+    ensures ready { IsReady D.state session.new }
     ensures taken { IsBack (unread lines.old (S.left source.old)) (S.left source.new) }
-    ensures whole { IsReadToEnd result.1 (S.left source.new) }
-    ensures cause { HasCause result.1 (S.faults source.old) (S.faults source.new) (K.faults sink.old) (K.faults sink.new) }
+    ensures whole { IsReadToEnd result (S.left source.new) }
+    ensures cause { HasCause result (S.faults source.old) (S.faults source.new) (K.faults sink.old) (K.faults sink.new) }
 {
     let mut printed = Printed::new(alloc);
     let mut pending = None;
-    let mut session = session;
     for _count in before..LINE_COUNT {
-        let (after, ended) = serve_next(
+        let ended = serve_next(
             alloc,
             lines,
             source,
@@ -328,9 +327,8 @@ pub fn serve_lines<S: Source, K: Sink, D: Disk>(
             &mut printed,
             &mut pending,
         );
-        session = after;
         match ended {
-            Some(ended) => return (session, ended),
+            Some(ended) => return ended,
             None => {}
         }
     }

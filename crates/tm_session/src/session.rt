@@ -50,7 +50,8 @@ pub fn drill_session<S: Source, K: Sink, D: Disk>(
     match refused {
         Some(status) => finish(session, status),
         None => {
-            let (session, status) = serve_lines(alloc, &mut lines, count, source, sink, session);
+            let mut session = session;
+            let status = serve_lines(alloc, &mut lines, count, source, sink, &mut session);
             finish(session, status)
         }
     }

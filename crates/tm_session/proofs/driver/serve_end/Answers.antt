@@ -10,12 +10,12 @@ use Rattle.tm_session.proofs.driver.serve_end.Goals as goal
 pub returns-in-None-clause-step : goal.returns-in-None-clause-step
 returns-in-None-clause-step g c =
     let none : c.args.pending.now ≡ None = cc in
-    leads_same g.D.Disk.state _ c.args.session
+    leads_same g.D.Disk.state _ c.args.session.now
     (λ setting x. subst (λ p. EndsWhole setting Done p (g.K.Sink.written c.args.sink.now) (g.K.Sink.written c.args.sink.now) x x) (sym none) (whole_none setting (g.K.Sink.written c.args.sink.now) x))
 
 pub returns-in-Some-clause-step : goal.returns-in-Some-clause-step
 returns-in-Some-clause-step g c =
     let some : c.args.pending.now ≡ Some c.in-Some.block = cc in
-    leads_map g.D.Disk.state _ _ c.args.session c.serve_last.result.0
-    (λ setting x y one. subst (λ p. EndsWhole setting c.serve_last.result.1 p (g.K.Sink.written c.args.sink.now) (g.K.Sink.written c.serve_last.new.sink) x y) (sym some) one)
+    leads_map g.D.Disk.state _ _ c.args.session.now c.serve_last.new.session
+    (λ setting x y one. subst (λ p. EndsWhole setting c.serve_last.result p (g.K.Sink.written c.args.sink.now) (g.K.Sink.written c.serve_last.new.sink) x y) (sym some) one)
     c.serve_last.ensures.step

@@ -34,14 +34,14 @@ returns-clause-session g c =
     let read : IsRead (g.S.Source.left c.args.source.now) (unread c.read_system.new.lines (g.S.Source.left c.read_system.new.source)) c.in-Ok.read.0 c.in-Ok.read.1 c.in-Ok.read.2 =
     subst (λ (told : Option (List ℕ)). IsRead told (unread c.read_system.new.lines (g.S.Source.left c.read_system.new.source)) c.in-Ok.read.0 c.in-Ok.read.1 c.in-Ok.read.2)
     (begun_is c.new-lines.result (g.S.Source.left c.args.source.now) c.new-lines.ensures) c.in-Ok.ensures.read in
-    is_session g.D.Disk.state c.in-Ok.read.1 c.in-Ok.read.2 c.args.disk (g.S.Source.left c.args.source.now) (unread c.read_system.new.lines (g.S.Source.left c.read_system.new.source)) c.serve_lines-session.new.lines (g.S.Source.left c.serve_lines-session.new.source)
-    (g.K.Sink.written c.args.sink.now) (g.K.Sink.written c.serve_lines-session.new.sink) c.in-Ok.read.0 c.finish-in-None.result.disk c.begin-session.result.0 c.serve_lines-session.result.0 c.serve_lines-session.result.1
+    is_session g.D.Disk.state c.in-Ok.read.1 c.in-Ok.read.2 c.args.disk (g.S.Source.left c.args.source.now) (unread c.read_system.new.lines (g.S.Source.left c.read_system.new.source)) c.serve_lines-status.new.lines (g.S.Source.left c.serve_lines-status.new.source)
+    (g.K.Sink.written c.args.sink.now) (g.K.Sink.written c.serve_lines-status.new.sink) c.in-Ok.read.0 c.finish-in-None.result.disk c.begin-session.result.0 c.serve_lines-status.new.session c.serve_lines-status.result
     c.finish-in-None.result.status c.finish-in-None.result.lives c.finish-in-None.result.stops read
     (text_told (g.S.Source.left c.args.source.now) (unread c.read_system.new.lines (g.S.Source.left c.read_system.new.source)) read.texts c.in-Ok.read.2 read.read read.joined)
     (begins g.D.Disk.state g.met.D.Disk.is_disk c.in-Ok.read.1 c.in-Ok.read.2 c.args.disk c.begin-session.result.0 c.begin-session.result.1 c.requires.only c.begin-session.ensures.begun c.in-None.is)
     (opened_first g.D.Disk.state g.met.D.Disk.is_disk c.in-Ok.read.1 c.in-Ok.read.2 c.args.disk c.begin-session.result.0 c.begin-session.result.1 c.requires.only c.begin-session.ensures.begun c.in-None.is)
     (begun_sound g.D.Disk.state g.met.D.Disk.is_disk c.in-Ok.read.1 c.in-Ok.read.2 c.args.disk c.begin-session.result.0 c.begin-session.result.1 c.requires.only c.begin-session.ensures.begun)
-    c.serve_lines-session.ensures.driven c.finish-in-None.ensures.status c.finish-in-None.ensures.leaves
+    c.serve_lines-status.ensures.driven c.finish-in-None.ensures.status c.finish-in-None.ensures.leaves
 
 pub returns-in-Err-clause-taken : goal.returns-in-Err-clause-taken
 returns-in-Err-clause-taken g c =
@@ -56,7 +56,7 @@ returns-clause-taken g c =
     let back : IsBack (g.S.Source.left c.args.source.now) (unread c.read_system.new.lines (g.S.Source.left c.read_system.new.source)) =
     subst (λ (told : Option (List ℕ)). IsBack told (unread c.read_system.new.lines (g.S.Source.left c.read_system.new.source)))
     (begun_is c.new-lines.result (g.S.Source.left c.args.source.now) c.new-lines.ensures) c.read_system.ensures.back in
-    back_twice (g.S.Source.left c.args.source.now) (unread c.read_system.new.lines (g.S.Source.left c.read_system.new.source)) (g.S.Source.left c.serve_lines-session.new.source) back c.serve_lines-session.ensures.taken
+    back_twice (g.S.Source.left c.args.source.now) (unread c.read_system.new.lines (g.S.Source.left c.read_system.new.source)) (g.S.Source.left c.serve_lines-status.new.source) back c.serve_lines-status.ensures.taken
 
 pub returns-in-Some-clause-cause : goal.returns-in-Some-clause-cause
 returns-in-Some-clause-cause g c =
@@ -67,9 +67,9 @@ returns-in-Some-clause-cause g c =
 
 pub returns-clause-cause : goal.returns-clause-cause
 returns-clause-cause g c =
-    let session = c.serve_lines-session.result.0 in
-    driven_cause (is_stopped (standing_of session.place)) c.serve_lines-session.result.1 c.finish-in-None.result.status
-    (g.S.Source.faults c.args.source.now) (g.S.Source.faults c.read_system.new.source) (g.S.Source.faults c.serve_lines-session.new.source) (g.K.Sink.faults c.args.sink.now) (g.K.Sink.faults c.serve_lines-session.new.sink)
-    c.serve_lines-session.ensures.cause
+    let session = c.serve_lines-status.new.session in
+    driven_cause (is_stopped (standing_of session.place)) c.serve_lines-status.result c.finish-in-None.result.status
+    (g.S.Source.faults c.args.source.now) (g.S.Source.faults c.read_system.new.source) (g.S.Source.faults c.serve_lines-status.new.source) (g.K.Sink.faults c.args.sink.now) (g.K.Sink.faults c.serve_lines-status.new.sink)
+    c.serve_lines-status.ensures.cause
     c.finish-in-None.ensures.status
     c.in-Ok.ensures.calm

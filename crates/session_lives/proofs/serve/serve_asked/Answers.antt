@@ -1,7 +1,7 @@
 -- a restart
 use Rattle.std.proofs.Common.{sym}
 use Rattle.session_lives.proofs.Restarted.{served_down}
-use Rattle.session_lives.proofs.serve.serve_down.Goals as goal
+use Rattle.session_lives.proofs.serve.serve_asked.Goals as goal
 
 pub returns-in-Some-clause-served : goal.returns-in-Some-clause-served
 returns-in-Some-clause-served g c = λ system source handed sound.
