@@ -24,6 +24,8 @@ pub record DiskState : Type 1 where
   pub shown : Image
   -- what a crash at this moment may leave
   pub may_leave : Image → Type 0
+  -- what a cut at this moment leaves, by its pick
+  pub chosen : ℕ → Image
   -- the time, which never runs back
   pub clock : ℕ
   -- what a crash at some moment since a time might have left
@@ -177,12 +179,14 @@ pub record HasWritten (at : ℕ) (sector : List ℕ) (old new : DiskState) : Typ
   pub without : (image : Image) → old.may_leave image → new.may_leave image
   pub written : (image : Image) → old.may_leave image → new.may_leave (with_sector image at sector)
 
--- The disk was cut off: one of the images that a crash might have left is shown and synced. It did not fail.
-pub record IsCut (old new : DiskState) : Type 0 where
+-- The disk was cut off with a pick: of the images that a crash might have left the one that the pick chooses is shown and synced.
+-- It did not fail.
+pub record IsCut (pick : ℕ) (old new : DiskState) : Type 0 where
   pub same : IsSameDisk old new
   pub elapses : Elapses old new
   pub no_more : NoMore old new
   pub left : IsTrue old.tells → old.may_leave new.shown
+  pub picked : IsTrue old.tells → new.shown ≡ old.chosen pick
   pub synced : Only new.shown new
   pub writes : new.writes ≡ old.writes
   pub faults : new.faults ≡ old.faults

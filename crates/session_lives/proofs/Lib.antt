@@ -10,5 +10,6 @@ pub mod Told
 pub mod Restarted
 pub mod Staying
 pub mod Serving
+pub mod Picks
 pub mod Remaining
 pub mod Valid

@@ -1,7 +1,7 @@
 -- An opening that was refused.
 use Rattle.std.proofs.Common.{◌≡◌, ℕ, Bool, false, List, [], ◌∷◌, ◌++◌, sym, ◌∙◌, ap, subst}
 use Rattle.std.specs.Prelude.{Option}
-use Rattle.model_disk.specs.Disk.{DiskState, Within}
+use Rattle.model_disk.specs.Disk.{DiskState, Within, IsCut}
 use Rattle.model_system.specs.System.{System}
 use Rattle.opening_answers.specs.declared.refusals.OpenError.{OpenError}
 use Rattle.opening_answers.specs.declared.refusals.OpenError.TheVariants.{BadImage, WrongDefinition, TooSmall, Spent, Disk, Memory}
@@ -27,7 +27,7 @@ refused_back state disk system text last emptied stopped cold began old (Spent c
 refused_back state disk system text last emptied stopped cold began old Memory session is back = back
 
 module _ {D : Type 0} (state : D → DiskState) (idle : Idle D) (old kept : Kept) (cold : Bool) (disk : D) (system : System) (text : List ℕ) (began : ℕ) (session : Session D)
-    (began_is : began ≡ (state idle.disk).faults) (counts : Within (RaisesCounts 1 idle.system) (state idle.disk) (state disk)) (lives : kept.lives.items ≡ old.lives.items) (stops : kept.stops.items ≡ old.stops.items) where
+    (began_is : began ≡ (state idle.disk).faults) (counts : Within (RaisesCounts 1 idle.system) (state idle.disk) (state disk)) (lives : kept.lives.items ≡ old.lives.items) (stops : kept.stops.items ≡ old.stops.items) (picks : kept.pick ≡ old.pick) where
   failed_gone : HandsBack state (how_of cold) idle.system idle.text idle.disk Disk disk system text
       → IsCutDown state disk system text idle.last idle.emptied cold began kept session → HasFailed state idle old cold session
   failed_gone handed cut = record {
@@ -37,11 +37,12 @@ module _ {D : Type 0} (state : D → DiskState) (idle : Idle D) (old kept : Kept
     back = subst (λ t. HandsBack state (how_of cold) idle.system idle.text idle.disk Disk disk cut.after.system t) (sym cut.text_is)
         (subst (λ s. HandsBack state (how_of cold) idle.system idle.text idle.disk Disk disk s text) (sym cut.system_is) handed);
     counts = counts;
-    cut = cut.cut;
+    cut = subst (λ (n : ℕ). IsCut n (state disk) (state cut.after.disk)) picks cut.cut;
     last = cut.last_is;
     emptied = cut.emptied_is;
     stopped = cut.stopped_is;
     lives = cut.lives ∙ lives;
+    pick = cut.pick;
     stops = cut.stops ∙ ap (λ s. s ++ (began, (state disk).faults) ∷ []) stops ∙ ap (λ n. old.stops.items ++ (n, (state disk).faults) ∷ []) began_is;
   }
 
@@ -58,6 +59,7 @@ module _ {D : Type 0} (state : D → DiskState) (idle : Idle D) (old kept : Kept
     wrote = subst (λ d. WroteNothing (state idle.disk) (state d)) (sym back.disk_is) wrote;
     lives = ap (λ k. k.lives.items) back.kept_is ∙ lives;
     stops = ap (λ k. k.stops.items) back.kept_is ∙ stops;
+    pick = ap (λ k. k.pick) back.kept_is ∙ picks;
   }
 
   gone_by : (error : OpenError) → HandsBack state (how_of cold) idle.system idle.text idle.disk error disk system text

@@ -1,7 +1,7 @@
 -- What was asked of a control region that is up, as a block that was served.
 use Rattle.std.proofs.Common.{◌≡◌, ℕ, ◌+◌, ◌*◌, ◌≤◌, ◌<◌, Bool, true, false, List, [], ◌∷◌, ◌++◌, length, map, sym, ◌∙◌, ap, subst, refl, arith, inl, inr}
 use Rattle.std.proofs.lemmas.List.{append-nil}
-use Rattle.std.specs.Prelude.{vec_len, vec_capacity}
+use Rattle.std.specs.Prelude.{Option, Some, None, vec_len, vec_capacity}
 use Rattle.model_disk.specs.Disk.{DiskState, IsSameDisk, Only, Rose}
 use Rattle.model_disk.proofs.Words.{same_on}
 use Rattle.model_system.specs.System.{System}
@@ -128,13 +128,13 @@ module _ {D : Type 0} (state : D → DiskState) (system : System) (source : List
   began_before : b.began ≤ (state a.disk).faults
   began_before = subst (λ n. n ≤ (state a.disk).faults) (sym stays.began) sound.began
 
-  pub power_sound : HasEndedLife state b kept false session → IsSound state system source handed session
+  pub power_sound : {cut : Option ℕ} → HasEndedLife state b kept cut false session → IsSound state system source handed session
   power_sound over =
       subst (λ p. IsSoundAt state system source handed p session.kept) (sym over.place)
       (down_sound state system source handed b (stays.system ∙ sound.system_is) sound.handed_alone (stays.text ∙ sound.text_is) sound.size kept session.kept false over.idle over.down same_now legal_now
       (no_stop state system source handed b (stays.system ∙ sound.system_is) kept session.kept over.idle over.down stops_now (omega (arith, began_before, stays.disk.faults))) sound.valid counts_now)
 
-  pub broke_sound : HasEndedLife state b kept true session → Rose (state a.disk).faults (state b.disk).faults → IsSound state system source handed session
+  pub broke_sound : {cut : Option ℕ} → HasEndedLife state b kept cut true session → Rose (state a.disk).faults (state b.disk).faults → IsSound state system source handed session
   broke_sound over rose =
       subst (λ p. IsSoundAt state system source handed p session.kept) (sym over.place)
       (down_sound state system source handed b (stays.system ∙ sound.system_is) sound.handed_alone (stays.text ∙ sound.text_is) sound.size kept session.kept true over.idle over.down same_now legal_now
@@ -169,7 +169,7 @@ module _ {D : Type 0} (state : D → DiskState) (system : System) (source : List
   does Restart (added, printed) on = (nothing on added, printed)
   does ColdStart (added, printed) on = (nothing on added, printed)
 
-  freezes : (asked : Asked) → Freezes state asked a b text → HasEndedLife state b kept false session → IsServedUp asked setting before (last_up a) (session_of session) text
+  freezes : (asked : Asked) → Freezes state asked a b text → HasEndedLife state b kept None false session → IsServedUp asked setting before (last_up a) (session_of session) text
   freezes (Call call) frozen over = inl (record {
     entry = frozen.entry;
     asked = frozen.asked;
@@ -188,12 +188,12 @@ module _ {D : Type 0} (state : D → DiskState) (system : System) (source : List
   freezes Restart never over = absurd never
   freezes ColdStart never over = absurd never
 
-  ends_with : (entries : List Entry) → b.control.history ≡ a.control.history ++ entries → (over : HasEndedLife state b kept true session)
+  ends_with : {cut : Option ℕ} → (entries : List Entry) → b.control.history ≡ a.control.history ++ entries → (over : HasEndedLife state b kept cut true session)
       → session_of session ≡ broken before (last_up a) entries (b.began, (state over.down.disk).faults)
   ends_with entries history over =
       ap (λ p. session_at p session.kept) over.place ∙ broken_state state a b old kept session.kept over.idle entries over.down lives stops stays.opening history
 
-  fails : (asked : Asked) → Fails state asked a b → HasEndedLife state b kept true session → IsServedUp asked setting before (last_up a) (session_of session) broken_text
+  fails : (asked : Asked) → Fails state asked a b → HasEndedLife state b kept (Some kept.pick) true session → IsServedUp asked setting before (last_up a) (session_of session) broken_text
   fails (Call call) failed over = inr (record {
     entry = failed.entry;
     stop = (b.began, (state over.down.disk).faults);
@@ -234,8 +234,8 @@ module _ {D : Type 0} (state : D → DiskState) (system : System) (source : List
   rose_in Restart never = absurd never
   rose_in ColdStart never = absurd never
 
-  powers : (asked : Asked) (pick : ℕ) → PowersOff state asked pick a b text → HasEndedLife state b kept false session → IsServedUp asked setting before (last_up a) (session_of session) text
-  powers (AskedPower asked) pick (same, added, printed) over = (
+  powers : (asked : Asked) (pick : ℕ) → PowersOff state asked pick a b text → HasEndedLife state b kept (Some pick) false session → IsServedUp asked setting before (last_up a) (session_of session) text
+  powers (AskedPower asked) pick (same, unchanged, added, printed) over = (
     ap (λ p. session_at p session.kept) over.place
         ∙ ended_state state a b old kept session.kept over.idle [] over.down lives stops stays.opening (added.adds.history ∙ sym (append-nil a.control.history)),
     printed,
@@ -357,7 +357,7 @@ module _ {D : Type 0} (state : D → DiskState) (a b : ControlOnDisk D) (old kep
   ready_on up on =
       subst (λ (s : Session D). IsReadyAt state s.place s.kept) (sym on) (record { up = up; text = text_room; life_room = life_room; stop_room = stop_room })
 
-  ready_over : (stopped : Bool) → HasEndedLife state b kept stopped session → IsReadyAt state session.place session.kept
+  ready_over : {cut : Option ℕ} → (stopped : Bool) → HasEndedLife state b kept cut stopped session → IsReadyAt state session.place session.kept
   ready_over stopped over = subst (λ p. IsReadyAt state p session.kept) (sym over.place) over.ready
 
   pub ready_up : (asked : Asked) (called : Called) (served : Served) → IsAsked state asked a b text called → IsSettled state (session_up b kept) called session served → IsReadyAt state session.place session.kept

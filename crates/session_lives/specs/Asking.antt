@@ -1,5 +1,5 @@
 -- What is asked of a control region that is up, and how that went.
-use Rattle.std.specs.Prelude.{◌≡◌, ◌⊎◌, ℕ, ◌++◌, Bool, true, false, List, [], ◌∷◌, length, Option, Some, None}
+use Rattle.std.specs.Prelude.{◌≡◌, ◌⊎◌, ℕ, ◌++◌, Bool, true, false, if◌then◌else◌, List, [], ◌∷◌, length, Option, Some, None}
 use Rattle.model_disk.specs.Disk.{DiskState, FailedSince, Only}
 use Rattle.model_machine.specs.declared.entry.Entry.{Entry}
 use Rattle.model_machine.specs.declared.entry.ControlCall.{ControlCall}
@@ -110,6 +110,11 @@ abbrev pub StaysBy : {D : Type 0} → (D → DiskState) → Asked → Called →
 StaysBy state (PowerIn writes pick) Answered old new = HasArmed state writes old new
 StaysBy state _ _ old new = StaysSo state old new
 
+-- the pick that a stop is cut with: that of the last POWER IN which armed the disk
+abbrev pub pick_by : Asked → Called → Bool → ℕ → ℕ
+pick_by (PowerIn writes pick) Answered can_arm picked = if can_arm then pick else picked
+pick_by _ _ can_arm picked = picked
+
 -- the disk failed in it
 abbrev pub Fails : {D : Type 0} → (D → DiskState) → Asked → ControlOnDisk D → ControlOnDisk D → Type 0
 Fails state (Call call) old new = IsFailed state call old new
@@ -121,9 +126,9 @@ abbrev pub Freezes : {D : Type 0} → (D → DiskState) → Asked → ControlOnD
 Freezes state (Call call) old new text = IsFrozen state call old new text
 Freezes state _ old new text = ⊥
 
--- power is to fail
+-- Power is to fail, and all is as it was.
 abbrev pub PowersOff : {D : Type 0} → (D → DiskState) → Asked → ℕ → ControlOnDisk D → ControlOnDisk D → List ℕ → Type 0
-PowersOff state (AskedPower pick) picked old new text = (picked ≡ pick) × AddedNothing state old new × (text ≡ power_text)
+PowersOff state (AskedPower pick) picked old new text = (picked ≡ pick) × (new ≡ old) × AddedNothing state old new × (text ≡ power_text)
 PowersOff state _ picked old new text = ⊥
 
 -- it was not done; only turns of a QUIET may stand

@@ -4,7 +4,9 @@ use Rattle.std.specs.Option.{is_some}
 use Rattle.model_disk.specs.Disk.{DiskState, IsSameDisk, Within, NoMore, Only, IsCut}
 use Rattle.model_system.specs.System.{System}
 use Rattle.model_session.specs.declared.asked.Asked.{Asked}
-use Rattle.model_session.specs.declared.asked.Asked.TheVariants.{Restart, ColdStart}
+use Rattle.model_session.specs.declared.asked.Asked.TheVariants.{Power as AskedPower, PowerIn, Restart, ColdStart}
+use Rattle.model_session.specs.Blocks.{Block}
+use Rattle.model_session.specs.Lines.{asked_of}
 use Rattle.model_session.specs.declared.asked.ImageRefused.{ImageRefused}
 use Rattle.model_session.specs.declared.asked.ImageRefused.TheVariants.{Rule, Text, Size}
 use Rattle.model_session.specs.Text.{broken_text, opened_text, image_text}
@@ -93,6 +95,7 @@ pub record HasOpened {D : Type 0} (state : D → DiskState) (idle : Idle D) (old
   pub stands : StandsAbove (how_of cold) idle.system (state idle.disk) control.journal control.next_unit
   pub lives : session.kept.lives.items ≡ with_last old.lives.items idle.last cold control.control.opening.steps
   pub stops : session.kept.stops.items ≡ old.stops.items
+  pub pick : session.kept.pick ≡ old.pick
 
 -- The system is down as it was, and nothing was written.
 pub record StaysIdle {D : Type 0} (state : D → DiskState) (idle : Idle D) (old : Kept) (session : Session D) : Type 0 where
@@ -106,20 +109,22 @@ pub record StaysIdle {D : Type 0} (state : D → DiskState) (idle : Idle D) (old
   pub wrote : WroteNothing (state idle.disk) (state after.disk)
   pub lives : session.kept.lives.items ≡ old.lives.items
   pub stops : session.kept.stops.items ≡ old.stops.items
+  pub pick : session.kept.pick ≡ old.pick
 
--- The disk failed in the opening, which is a stop; it was cut. No counter of what a crash leaves has come more than one further.
+-- The disk failed in the opening, which is a stop; it was cut with the pick that was kept for it. No counter of what a crash leaves has come more than one further.
 pub record HasFailed {D : Type 0} (state : D → DiskState) (idle : Idle D) (old : Kept) (cold : Bool) (session : Session D) : Type 0 where
   pub after : Idle D
   pub place : session.place ≡ Down after
   pub disk : D
   pub back : HandsBack state (how_of cold) idle.system idle.text idle.disk Disk disk after.system after.text
   pub counts : Within (RaisesCounts 1 idle.system) (state idle.disk) (state disk)
-  pub cut : IsCut (state disk) (state after.disk)
+  pub cut : IsCut old.pick (state disk) (state after.disk)
   pub last : after.last ≡ idle.last
   pub emptied : after.emptied ≡ or_cold cold idle.emptied
   pub stopped : after.stopped ≡ true
   pub lives : session.kept.lives.items ≡ old.lives.items
   pub stops : session.kept.stops.items ≡ old.stops.items ++ ((state idle.disk).faults, (state disk).faults) ∷ []
+  pub pick : session.kept.pick ≡ 0
 
 -- how an opening went by its refusal
 abbrev pub opening_by : OpenError → Opening
@@ -138,7 +143,7 @@ is_disk (TooSmall needed has) = false
 is_disk (SpentCounter counter) = false
 is_disk NoMemory = false
 
--- The disk failed in an opening that began with so many faults, and it was cut.
+-- The disk failed in an opening that began with so many faults, and it was cut with the pick that was kept for it.
 pub record IsCutDown {D : Type 0} (state : D → DiskState) (disk : D) (system : System) (text : List ℕ) (last : Option Life) (emptied cold : Bool) (began : ℕ) (old : Kept) (session : Session D) : Type 0 where
   pub after : Idle D
   pub place : session.place ≡ Down after
@@ -147,9 +152,10 @@ pub record IsCutDown {D : Type 0} (state : D → DiskState) (disk : D) (system :
   pub last_is : after.last ≡ last
   pub emptied_is : after.emptied ≡ or_cold cold emptied
   pub stopped_is : after.stopped ≡ true
-  pub cut : IsCut (state disk) (state after.disk)
+  pub cut : IsCut old.pick (state disk) (state after.disk)
   pub lives : session.kept.lives.items ≡ old.lives.items
   pub stops : session.kept.stops.items ≡ old.stops.items ++ (began, (state disk).faults) ∷ []
+  pub pick : session.kept.pick ≡ 0
 
 -- The system is down with all that was handed back.
 pub record IsBack {D : Type 0} (disk : D) (system : System) (text : List ℕ) (last : Option Life) (emptied stopped : Bool) (old : Kept) (session : Session D) : Type 0 where
@@ -200,21 +206,33 @@ MayEndAt Moved kept = ⊥
 abbrev pub MayEnd : {D : Type 0} → Session D → Type 0
 MayEnd session = MayEndAt session.place session.kept
 
+-- What becomes of the disk where a life ends: it is cut with a pick; or, behind a freeze, it stays as it is.
+abbrev pub IsLeftBy : {D : Type 0} → (D → DiskState) → Option ℕ → D → D → Type 0
+IsLeftBy state None old new = new ≡ old
+IsLeftBy state (Some pick) old new = IsCut pick (state old) (state new)
+
+-- a cut takes with it the pick that was kept for a stop
+abbrev pub pick_left : Option ℕ → ℕ → ℕ
+pick_left None picked = picked
+pick_left (Some pick) picked = 0
+
 -- The life has ended, and the system is down.
-pub record HasEndedLife {D : Type 0} (state : D → DiskState) (control : ControlOnDisk D) (old : Kept) (stopped : Bool) (session : Session D) : Type 0 where
+pub record HasEndedLife {D : Type 0} (state : D → DiskState) (control : ControlOnDisk D) (old : Kept) (cut : Option ℕ) (stopped : Bool) (session : Session D) : Type 0 where
   pub idle : Idle D
   pub place : session.place ≡ Down idle
+  pub disk : IsLeftBy state cut control.disk idle.disk
+  pub pick : session.kept.pick ≡ pick_left cut old.pick
   pub down : GoesDown state control old session.kept stopped idle
   pub ready : IsDownReady state idle session.kept
 
 -- so has the one that was up
-abbrev pub EndsAt : {D : Type 0} → (D → DiskState) → Bool → Place D → Kept → Session D → Type 0
-EndsAt state stopped (Up control) old session = HasEndedLife state control old stopped session
-EndsAt state stopped (Down idle) old session = ⊥
-EndsAt state stopped Moved old session = ⊥
+abbrev pub EndsAt : {D : Type 0} → (D → DiskState) → Option ℕ → Bool → Place D → Kept → Session D → Type 0
+EndsAt state cut stopped (Up control) old session = HasEndedLife state control old cut stopped session
+EndsAt state cut stopped (Down idle) old session = ⊥
+EndsAt state cut stopped Moved old session = ⊥
 
-abbrev pub EndsLife : {D : Type 0} → (D → DiskState) → Bool → Session D → Session D → Type 0
-EndsLife state stopped old new = EndsAt state stopped old.place old.kept new
+abbrev pub EndsLife : {D : Type 0} → (D → DiskState) → Option ℕ → Bool → Session D → Session D → Type 0
+EndsLife state cut stopped old new = EndsAt state cut stopped old.place old.kept new
 
 -- behind a freeze a crash leaves the shown disk alone
 abbrev pub IsAloneBy : {D : Type 0} → (D → DiskState) → ControlOnDisk D → Called → Type 0
@@ -229,9 +247,9 @@ IsAloneAt state Moved called = ⊥
 -- the life goes on, and all is as it was; or it has ended
 abbrev pub IsSettled : {D : Type 0} → (D → DiskState) → Session D → Called → Session D → Served → Type 0
 IsSettled state old Answered new served = (new ≡ old) × (served ≡ Printed)
-IsSettled state old Frozen new served = EndsLife state false old new × (served ≡ Printed)
-IsSettled state old (Power pick) new served = EndsLife state false old new × (served ≡ Printed)
-IsSettled state old CallBroke new served = EndsLife state true old new × (served ≡ Broke)
+IsSettled state old Frozen new served = EndsLife state None false old new × (served ≡ Printed)
+IsSettled state old (Power pick) new served = EndsLife state (Some pick) false old new × (served ≡ Printed)
+IsSettled state old CallBroke new served = EndsLife state (Some old.kept.pick) true old new × (served ≡ Broke)
 IsSettled state old CallMemory new served = (new ≡ old) × (served ≡ NotServed Memory)
 IsSettled state old CallSpent new served = (new ≡ old) × (served ≡ NotServed Spent)
 
@@ -268,6 +286,35 @@ abbrev pub IsServedSo : Asked → List ℕ → Served → Setting → SessionSta
 IsServedSo asked text Printed setting old new = IsServed asked setting old new text
 IsServedSo asked text Broke setting old new = IsServed asked setting old new broken_text
 IsServedSo asked text (NotServed undone) setting old new = IsBegunBy asked setting.system old old.standing new × UndoneBy undone asked setting new
+
+-- POWER leaves of the disk what its pick chooses.
+abbrev pub IsCutAt : {D : Type 0} → (D → DiskState) → ℕ → D → Place D → Type 0
+IsCutAt state pick disk (Up control) = ⊥
+IsCutAt state pick disk (Down idle) = IsCut pick (state disk) (state idle.disk)
+IsCutAt state pick disk Moved = ⊥
+
+abbrev pub CutsAt : {D : Type 0} → (D → DiskState) → Block → Place D → Served → Place D → Type 0
+CutsAt state block (Up control) Printed new = (pick : ℕ) → asked_of control.control.system block ≡ AskedPower pick → IsCutAt state pick control.disk new
+CutsAt state block (Up control) _ new = Unit {0}
+CutsAt state block (Down idle) served new = Unit {0}
+CutsAt state block Moved served new = ⊥
+
+-- The pick that a stop is cut with, behind a block: that of the last POWER IN which armed the disk. A cut takes it.
+abbrev pub pick_up : Served → Asked → Bool → ℕ → ℕ
+pick_up Broke asked can_arm picked = 0
+pick_up Printed (AskedPower pick) can_arm picked = 0
+pick_up Printed (PowerIn writes pick) can_arm picked = if can_arm then pick else picked
+pick_up _ asked can_arm picked = picked
+
+-- a block that is served while the system is down arms nothing
+abbrev pub pick_down : Served → ℕ → ℕ
+pick_down Broke picked = 0
+pick_down _ picked = picked
+
+abbrev pub PicksAt : {D : Type 0} → (D → DiskState) → Block → Place D → Served → ℕ → ℕ → Type 0
+PicksAt state block (Up control) served old new = new ≡ pick_up served (asked_of control.control.system block) (state control.disk).can_arm old
+PicksAt state block (Down idle) served old new = new ≡ pick_down served old
+PicksAt state block Moved served old new = ⊥
 
 -- a block that asks for a restart, and for a cold start or not
 abbrev pub restart_of : Asked → Option Bool

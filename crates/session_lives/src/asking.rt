@@ -14,7 +14,7 @@ ghost use Rattle.model_session.specs.Lives.{ends_life};
 ghost use Rattle.tm_control.specs.Calls.{StaysSo};
 ghost use Rattle.session_lives.specs.declared.called.Called.TheVariants.{Answered, Power};
 ghost use Rattle.session_lives.specs.Counting.{KeepsPace};
-ghost use Rattle.session_lives.specs.Asking.{IsAsked, StaysBy, called_by, ended_by};
+ghost use Rattle.session_lives.specs.Asking.{IsAsked, StaysBy, called_by, ended_by, pick_by};
 
 use crate::called::Called;
 use crate::turns::answer_quiet;
@@ -45,6 +45,7 @@ pub fn ask<D: Disk>(
     requires can { CanAsk (length control.old.control.system.regions) asked }
     requires empty { printed.old.text ≡ [] }
     ensures asked { IsAsked D.state asked control.old control.new printed.new.text result }
+    ensures picks { picked.new ≡ pick_by asked result (D.state control.old.disk).can_arm picked.old }
     ensures pace { KeepsPace D.state control.old control.new }
     ensures stays { StaysBy D.state asked result control.old control.new }
 {
@@ -134,6 +135,7 @@ fn arm<D: Disk>(
     requires empty { printed.old.text ≡ [] }
     requires room { ANSWER_ROOM ≤ printed.old.room }
     ensures asked { IsAsked D.state (Asked.PowerIn writes pick) control.old control.new printed.new.text result }
+    ensures picks { picked.new ≡ pick_by (Asked.PowerIn writes pick) result (D.state control.old.disk).can_arm picked.old }
     ensures pace { KeepsPace D.state control.old control.new }
     ensures stays { StaysBy D.state (Asked.PowerIn writes pick) result control.old control.new }
 {
@@ -155,6 +157,7 @@ fn answer<D: Disk>(
     requires up { control.old.up ≡ true }
     requires can { CanAsk (length control.old.control.system.regions) (Asked.Call call) }
     requires empty { printed.old.text ≡ [] }
+    requires room { ANSWER_ROOM ≤ printed.old.room }
     ensures asked { IsAsked D.state (Asked.Call call) control.old control.new printed.new.text result }
     ensures pace { KeepsPace D.state control.old control.new }
     ensures stays { StaysSo D.state control.old control.new }
@@ -184,14 +187,12 @@ fn answer_input<D: Disk>(
     requires up { control.old.up ≡ true }
     requires segment { 0 < length segments }
     requires empty { printed.old.text ≡ [] }
+    requires room { ANSWER_ROOM ≤ printed.old.room }
     ensures asked { IsAsked D.state (Asked.Call (ControlCall.Input terminal.now number segments)) control.old control.new printed.new.text result }
     ensures pace { KeepsPace D.state control.old control.new }
     ensures stays { StaysSo D.state control.old control.new }
 {
     let mut word = Printed::new(alloc);
-    if printed.make_room(ANSWER_ROOM).is_err() {
-        return Called::Memory;
-    }
     if word.make_room(WORD_ROOM).is_err() {
         return Called::Memory;
     }
@@ -237,13 +238,11 @@ fn answer_receive<D: Disk>(
 ) -> Called
     requires up { control.old.up ≡ true }
     requires empty { printed.old.text ≡ [] }
+    requires room { ANSWER_ROOM ≤ printed.old.room }
     ensures asked { IsAsked D.state (Asked.Call (ControlCall.Receive terminal.now)) control.old control.new printed.new.text result }
     ensures pace { KeepsPace D.state control.old control.new }
     ensures stays { StaysSo D.state control.old control.new }
 {
-    if printed.make_room(ANSWER_ROOM).is_err() {
-        return Called::Memory;
-    }
     if control.reserve(1).is_err() {
         return Called::Memory;
     }
@@ -311,13 +310,11 @@ fn answer_acknowledge<D: Disk>(
 ) -> Called
     requires up { control.old.up ≡ true }
     requires empty { printed.old.text ≡ [] }
+    requires room { ANSWER_ROOM ≤ printed.old.room }
     ensures asked { IsAsked D.state (Asked.Call (ControlCall.Acknowledge terminal.now number)) control.old control.new printed.new.text result }
     ensures pace { KeepsPace D.state control.old control.new }
     ensures stays { StaysSo D.state control.old control.new }
 {
-    if printed.make_room(ANSWER_ROOM).is_err() {
-        return Called::Memory;
-    }
     let answer = control.acknowledge(terminal, number);
     ack_line(printed, terminal, number, &answer);
     ack_called(&answer)
@@ -413,13 +410,11 @@ fn answer_checkpoint<D: Disk>(
 ) -> Called
     requires up { control.old.up ≡ true }
     requires empty { printed.old.text ≡ [] }
+    requires room { ANSWER_ROOM ≤ printed.old.room }
     ensures asked { IsAsked D.state (Asked.Call (ControlCall.Checkpoint freeze)) control.old control.new printed.new.text result }
     ensures pace { KeepsPace D.state control.old control.new }
     ensures stays { StaysSo D.state control.old control.new }
 {
-    if printed.make_room(ANSWER_ROOM).is_err() {
-        return Called::Memory;
-    }
     let answer = control.checkpoint(freeze);
     checkpoint_line(printed, freeze, &answer);
     checkpoint_called(freeze, &answer)

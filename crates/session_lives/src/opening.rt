@@ -13,13 +13,14 @@ use std::alloc::Global;
 use tm_control::{Closed, Control, How, Life, OpenError, OpenRefused};
 use tm_disk::Disk;
 
-/// Ends a life, since the disk failed in it or power fails. The disk is cut with this pick.
+/// Ends a life, since the disk failed in it or power fails. The disk is cut with this pick, which takes the one that was kept for a stop.
 pub fn go_down<D: Disk>(control: Control<D>, kept: &mut Kept, pick: u64, stopped: bool) -> Idle<D>
     requires text { length control.text ≤ 262144 }
     requires life_room { vec_len kept.old.lives < vec_capacity kept.old.lives }
     requires stop_room { vec_len kept.old.stops < vec_capacity kept.old.stops }
     ensures down { GoesDown D.state control kept.old kept.new stopped result }
-    ensures cut { IsCut (D.state control.disk) (D.state result.disk) }
+    ensures cut { IsCut pick (D.state control.disk) (D.state result.disk) }
+    ensures pick { kept.new.pick ≡ 0 }
     ensures ready { IsDownReady D.state result kept.new }
 {
     let Closed {
@@ -80,7 +81,7 @@ fn note_stop(stops: &mut Vec<(u64, u64)>, stopped: bool, began: u64, ended: u64)
     }
 }
 
-/// Opens a life. Where the disk fails it is cut; else the system is up, or it is down as it was.
+/// Opens a life. Where the disk fails it is cut with the pick that was kept; else the system is up, or it is down as it was.
 pub fn open<D: Disk>(alloc: Global, idle: Idle<D>, kept: Kept, cold: bool) -> (Session<D>, Opening)
     requires ready { IsDownReady D.state idle kept }
     ensures gone { HasGone D.state idle kept cold result.0 result.1 }

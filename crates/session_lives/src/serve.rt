@@ -1,11 +1,11 @@
 //! One block of a session, served.
-ghost use Rattle.std.specs.Prelude.{◌≡◌, ◌≤◌, [], true, false};
+ghost use Rattle.std.specs.Prelude.{◌≡◌, ◌≤◌, [], true, false, Some, None};
 ghost use Rattle.model_session.specs.Lines.{asked_of};
 ghost use Rattle.session_lives.specs.declared.called.Called.TheVariants.{Frozen};
 ghost use Rattle.session_lives.specs.Counting.{KeepsPace};
-ghost use Rattle.session_lives.specs.Asking.{IsAsked, StaysBy};
+ghost use Rattle.session_lives.specs.Asking.{IsAsked, StaysBy, pick_by};
 ghost use Rattle.session_lives.specs.Running.{IsReady, IsDown, IsDownReady, Leads, session_down};
-ghost use Rattle.session_lives.specs.Openings.{IsServedSo, IsSettled, IsAloneAt, MayEnd, EndsLife, IsRestartedSo, IsToldSo, IsRefusalTold, restart_of};
+ghost use Rattle.session_lives.specs.Openings.{IsServedSo, IsSettled, IsAloneAt, MayEnd, EndsLife, CutsAt, PicksAt, IsRestartedSo, IsToldSo, IsRefusalTold, restart_of, pick_down};
 
 use crate::asking::ask;
 use crate::called::{Called, Opening, Served, Undone};
@@ -31,6 +31,10 @@ pub fn serve_block<D: Disk>(
     requires ready { IsReady D.state session.old }
     ensures served { Leads D.state (λ setting old new. IsServedSo (asked_of setting.system block.now) printed.new.text result setting old new) session.old session.new }
     ensures ready { IsReady D.state session.new }
+
+    // POWER cuts the disk with its pick, and a stop with that of the last POWER IN, or with 0.
+    ensures power { CutsAt D.state block.now session.old.place result session.new.place }
+    ensures pick { PicksAt D.state block.now session.old.place result session.old.kept.pick session.new.kept.pick }
 {
     printed.clear();
     match &mut session.place {
@@ -54,6 +58,7 @@ fn ask_block<D: Disk>(
     requires up { control.old.up ≡ true }
     requires empty { printed.old.text ≡ [] }
     ensures asked { IsAsked D.state (asked_of control.old.control.system block.now) control.old control.new printed.new.text result }
+    ensures picks { picked.new ≡ pick_by (asked_of control.old.control.system block.now) result (D.state control.old.disk).can_arm picked.old }
     ensures pace { KeepsPace D.state control.old control.new }
     ensures stays { StaysBy D.state (asked_of control.old.control.system block.now) result control.old control.new }
 {
@@ -93,7 +98,7 @@ fn settle<D: Disk>(session: &mut Session<D>, called: Called) -> Served
 fn freeze<D: Disk>(session: &mut Session<D>)
     requires may_end { MayEnd session.old }
     requires alone { IsAloneAt D.state session.old.place Frozen }
-    ensures { EndsLife D.state false session.old session.new }
+    ensures { EndsLife D.state None false session.old session.new }
 {
     let control = take_up(&mut session.place);
     let idle = lay_down(control, &session.kept);
@@ -103,7 +108,7 @@ fn freeze<D: Disk>(session: &mut Session<D>)
 #[inline(never)]
 fn end<D: Disk>(session: &mut Session<D>, pick: u64, stopped: bool)
     requires { MayEnd session.old }
-    ensures { EndsLife D.state stopped session.old session.new }
+    ensures { EndsLife D.state (Some pick) stopped session.old session.new }
 {
     let control = take_up(&mut session.place);
     let idle = go_down(control, &mut session.kept, pick, stopped);
@@ -123,6 +128,7 @@ fn serve_down<D: Disk>(
     requires empty { printed.old.text ≡ [] }
     ensures served { Leads D.state (λ setting old new. IsServedSo (asked_of setting.system block.now) printed.new.text result setting old new) session.old session.new }
     ensures ready { IsReady D.state session.new }
+    ensures pick { session.new.kept.pick ≡ pick_down result session.old.kept.pick }
 {
     let idle = take_down(&mut session.place);
     let kept = mem::replace(&mut session.kept, Kept::new(alloc));
@@ -145,6 +151,7 @@ fn serve_idle<D: Disk>(
     requires empty { printed.old.text ≡ [] }
     ensures served { Leads D.state (λ setting old new. IsServedSo (asked_of setting.system block.now) printed.new.text result.1 setting old new) (session_down idle kept) result.0 }
     ensures ready { IsReady D.state result.0 }
+    ensures pick { result.0.kept.pick ≡ pick_down result.1 kept.pick }
 {
     let Ok(asked) = read_block(alloc, &idle.system, block) else {
         let place = Place::Down(idle);
@@ -165,6 +172,7 @@ fn serve_asked<D: Disk>(
     requires empty { printed.old.text ≡ [] }
     ensures served { Leads D.state (λ setting old new. IsServedSo asked.now printed.new.text result.1 setting old new) (session_down idle kept) result.0 }
     ensures ready { IsReady D.state result.0 }
+    ensures pick { result.0.kept.pick ≡ pick_down result.1 kept.pick }
 {
     if printed.make_room(ANSWER_ROOM).is_err() {
         let place = Place::Down(idle);

@@ -1,12 +1,11 @@
 -- A disk in memory stays sound.
-use Rattle.std.proofs.Common.{◌≡◌, ℕ, ◌<◌, ◌≤◌, List, [], ◌∷◌, ◌++◌, length, take, drop, ◌-◌, refl, sym, ◌∙◌, ap, subst, ⊎_elim, arith, length-append}
-use Rattle.std.specs.Prelude.{All, Contains}
+use Rattle.std.proofs.Common.{◌≡◌, ℕ, ◌<◌, ◌≤◌, List, [], ◌∷◌, ◌++◌, length, take, drop, ◌-◌, refl, sym, ◌∙◌, ap, subst, arith, length-append}
+use Rattle.std.specs.Prelude.{All}
 use Rattle.std.proofs.lemmas.List.{drop-append-le, drop_all, take_rest}
 use Rattle.std.proofs.lemmas.List.Elements.{All-push}
-use Rattle.model_disk.specs.Disk.{Image, sector_at, with_sector}
-use Rattle.tm_disk.specs.Moments.{Moment, zero_disk, shown_of, writes_to, picked, settled_by, after_write, moment_now, moments_past, IsSound}
-use Rattle.tm_disk.specs.MomentLaws.{length-shown_of, length-picked, Contains-cons_cases, shown_each}
-use Rattle.tm_disk.proofs.Crash.{picked_is_left}
+use Rattle.model_disk.specs.Disk.{Image, with_sector}
+use Rattle.tm_disk.specs.Moments.{Moment, zero_disk, shown_of, picked, settled_by, after_write, moment_now, moments_past, IsSound}
+use Rattle.tm_disk.specs.MomentLaws.{length-shown_of, length-picked}
 use Rattle.tm_disk.proofs.Past.{after-push, past-write, past-synced, past-cut}
 use Rattle.tm_disk.specs.declared.record.Written.{Written}
 use Rattle.tm_disk.specs.declared.record.Before.{Before}
@@ -78,20 +77,6 @@ module _ (shown synced next : Image) (writes : List Written) (settled : ℕ) (so
       ap (λ n. moments_past (zero_disk n) writes (Cut pick)) size
       ∙ past-cut (zero_disk (length synced)) writes pick
       ∙ ap (λ (m : Moment). moments_past (zero_disk (length synced)) writes Nothing ++ m ∷ []) sound.now_is
-
--- what a cut takes back is what was written
-pub others-cut : (shown synced next : Image) (since : List Written) (pick : ℕ) → shown ≡ shown_of synced since → next ≡ picked pick 0 since synced → (k : ℕ) → writes_to k since ≡ [] → sector_at shown k ≡ sector_at next k
-others-cut shown synced next since pick is_shown is_next k none =
-    let moment : Moment = record { synced = synced; since = since } in
-    let one : (c : List ℕ) → Contains (sector_at synced k ∷ writes_to k since) c → sector_at synced k ≡ c =
-    λ c has. ⊎_elim (λ e. e) (λ (w : Contains [] c). absurd (omega (arith, w.1))) (Contains-cons_cases (sector_at synced k) [] c (subst (λ (l : List (List ℕ)). Contains (sector_at synced k ∷ l) c) none has)) in
-    ap (λ (i : Image). sector_at i k) is_shown
-    ∙ sym (one (sector_at (shown_of synced since) k) (shown_each synced since k))
-    ∙ one (sector_at (picked pick 0 since synced) k) ((picked_is_left moment pick).each k)
-    ∙ ap (λ (i : Image). sector_at i k) (sym is_next)
-
-pub length-shown : (shown synced : Image) (writes : List Written) (settled : ℕ) (pending : Before) → IsSound shown synced writes settled pending → length shown ≡ length synced
-length-shown shown synced writes settled pending sound = ap (length {A = List ℕ}) sound.shown_is ∙ length-shown_of synced (drop settled writes)
 
 -- what a sync or a cut leaves: it is sound, and what was now is past
 pub record Settling (shown synced : Image) (writes : List Written) (settled : ℕ) (shown' synced' : Image) (settled' : ℕ) (before : Before) : Type 0 where

@@ -3,3 +3,4 @@ pub mod Picks
 pub mod Keeping
 pub mod Past
 pub mod States
+pub mod Numbers

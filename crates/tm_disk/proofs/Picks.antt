@@ -1,15 +1,12 @@
 -- The steps of the loops over the writes of a disk in memory.
 use Rattle.std.proofs.Common.{◌≡◌, ℕ, suc, zero, ◌+◌, ◌/◌, ◌%◌, ◌<◌, ◌≤◌, List, [], ◌∷◌, ◌++◌, length, refl, sym, ◌∙◌, ap, ⊎_elim, arith, get_or}
 use Rattle.std.proofs.lemmas.Bool.{cases_eq}
-use Rattle.std.proofs.lemmas.List.{ext_get_or, length_push}
+use Rattle.std.proofs.lemmas.List.{length_push}
 use Rattle.model_disk.specs.Disk.{Image, sector_at}
 use Rattle.tm_disk.specs.Moments.{writes_to, picked, digits}
 use Rattle.tm_disk.specs.MomentLaws.{writes_to-same, writes_to-other}
 use Rattle.tm_disk.proofs.Crash.{writes_to-push-same, writes_to-push-other}
 use Rattle.tm_disk.specs.declared.record.Written.{Written}
-
-pub same_images : (image from : Image) → length image ≡ length from → ((k : ℕ) → sector_at image k ≡ sector_at from k) → image ≡ from
-same_images image from size each = ext_get_or [] image from size (λ k lt. each k)
 
 -- where no sector is written, a pick leaves what was synced
 pub picked_none : (pick from : ℕ) (writes : List Written) (image : Image) → ((k : ℕ) → from ≤ k → writes_to k writes ≡ []) → picked pick from writes image ≡ image

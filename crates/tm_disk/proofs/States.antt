@@ -71,7 +71,7 @@ sync_alone old new settles =
 
 -- a cut
 
-cut_settled : (now : Moment) (past grown : List Moment) (f w pick : ℕ) (s : Option ℕ) → grown ≡ past ++ now ∷ [] → IsCut (mem_state now past f w s) (mem_state (settled_by (Cut pick) now) grown f w None)
+cut_settled : (now : Moment) (past grown : List Moment) (f w pick : ℕ) (s : Option ℕ) → grown ≡ past ++ now ∷ [] → IsCut pick (mem_state now past f w s) (mem_state (settled_by (Cut pick) now) grown f w None)
 cut_settled now past grown f w pick s is =
     let next = settled_by (Cut pick) now in
     record {
@@ -79,34 +79,42 @@ cut_settled now past grown f w pick s is =
       elapses = mem_elapses now next past grown f f w w s None is;
       no_more = λ image left. subst (IsLeft now) (sym (synced_alone next image refl left)) (picked_is_left now pick);
       left = λ tells. picked_is_left now pick;
+      picked = λ tells. refl;
       synced = λ image left. synced_alone next image refl left;
       writes = refl;
       faults = refl;
       disarmed = refl;
     }
 
-cut_here : (now : Moment) (past : List Moment) (f w : ℕ) (s : Option ℕ) → now.since ≡ [] → IsCut (mem_state now past f w s) (mem_state now past f w None)
-cut_here now past f w s none = record {
+cut_none : (pick : ℕ) (now : Moment) → now.since ≡ [] → now ≡ settled_by (Cut pick) now
+cut_none pick now none =
+    let bare : Image → Moment = λ i. record { synced = i; since = [] } in
+    ap (λ (l : List Written). record { synced = now.synced; since = l }) none
+    ∙ ap bare (sym (picked_none pick 0 now.since now.synced (λ k le. ap (λ (l : List Written). writes_to k l) none)))
+
+cut_here : (now : Moment) (past : List Moment) (f w pick : ℕ) (s : Option ℕ) → now.since ≡ [] → IsCut pick (mem_state now past f w s) (mem_state now past f w None)
+cut_here now past f w pick s none = record {
   same = record { size = refl; tells = refl; can_arm = refl; faults = omega arith; writes = omega arith };
   elapses = record { later = omega arith; nothing_else = λ time image early left. inl left; keeps = λ time image early left. left };
   no_more = λ image left. left;
   left = λ tells. shown_is_left now;
+  picked = λ tells. ap (λ (m : Moment). shown_of m.synced m.since) (cut_none pick now none);
   synced = alone now none;
   writes = refl;
   faults = refl;
   disarmed = refl;
 }
 
-pub cut_cuts : (old new : Contents) (f w pick : ℕ) (s : Option ℕ) → Settles (Cut pick) old new → IsCut (mem_state (now_of old) (past_of old) f w s) (mem_state (now_of new) (past_of new) f w None)
+pub cut_cuts : (old new : Contents) (f w pick : ℕ) (s : Option ℕ) → Settles (Cut pick) old new → IsCut pick (mem_state (now_of old) (past_of old) f w s) (mem_state (now_of new) (past_of new) f w None)
 cut_cuts old new f w pick s settles =
     ⊎_elim
     (λ (goes : GoesOn old new (settled_by (Cut pick) (now_of old))).
-    subst (λ (m : Moment). IsCut (mem_state (now_of old) (past_of old) f w s) (mem_state m (past_of new) f w None)) (sym goes.now)
+    subst (λ (m : Moment). IsCut pick (mem_state (now_of old) (past_of old) f w s) (mem_state m (past_of new) f w None)) (sym goes.now)
     (cut_settled (now_of old) (past_of old) (past_of new) f w pick s goes.past))
     (λ (settled : HasSettled old new).
-    subst (λ (m : Moment). IsCut (mem_state (now_of old) (past_of old) f w s) (mem_state m (past_of new) f w None)) (sym settled.same.now)
-    (subst (λ (l : List Moment). IsCut (mem_state (now_of old) (past_of old) f w s) (mem_state (now_of old) l f w None)) (sym settled.same.past)
-    (cut_here (now_of old) (past_of old) f w s settled.none)))
+    subst (λ (m : Moment). IsCut pick (mem_state (now_of old) (past_of old) f w s) (mem_state m (past_of new) f w None)) (sym settled.same.now)
+    (subst (λ (l : List Moment). IsCut pick (mem_state (now_of old) (past_of old) f w s) (mem_state (now_of old) l f w None)) (sym settled.same.past)
+    (cut_here (now_of old) (past_of old) f w pick s settled.none)))
     settles
 
 -- a write
@@ -144,12 +152,6 @@ synced_none : (now : Moment) → now.since ≡ [] → now ≡ settled_by Synced 
 synced_none now none =
     let bare : Image → Moment = λ i. record { synced = i; since = [] } in
     ap (λ (l : List Written). record { synced = now.synced; since = l }) none ∙ ap (λ (l : List Written). bare (shown_of now.synced l)) (sym none)
-
-cut_none : (pick : ℕ) (now : Moment) → now.since ≡ [] → now ≡ settled_by (Cut pick) now
-cut_none pick now none =
-    let bare : Image → Moment = λ i. record { synced = i; since = [] } in
-    ap (λ (l : List Written). record { synced = now.synced; since = l }) none
-    ∙ ap bare (sym (picked_none pick 0 now.since now.synced (λ k le. ap (λ (l : List Written). writes_to k l) none)))
 
 pub sync_moment : (old new : Contents) → Settles Synced old new → now_of new ≡ settled_by Synced (now_of old)
 sync_moment old new settles =

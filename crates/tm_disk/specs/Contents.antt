@@ -1,11 +1,12 @@
 -- The moment at which a disk in memory is, and those before it.
 use Rattle.std.specs.Prelude.{◌≡◌, ◌⊎◌, List, [], ◌∷◌, ◌++◌, length, drop}
 use Rattle.tm_disk.specs.Moments.{Moment, zero_disk, settled_by, moments_past}
+use Rattle.tm_disk.specs.Numbered.{image_by}
 use Rattle.tm_disk.specs.declared.record.Before.{Before}
 use Rattle.tm_disk.specs.declared.contents.Contents.{Contents}
 
 abbrev pub now_of : Contents → Moment
-now_of contents = record { synced = contents.synced.items; since = drop contents.settled contents.writes.items }
+now_of contents = record { synced = image_by contents.writes.items contents.synced.items; since = drop contents.settled contents.writes.items }
 
 abbrev pub past_of : Contents → List Moment
 past_of contents = moments_past (zero_disk (length contents.synced.items)) contents.writes.items contents.pending

@@ -11,6 +11,7 @@ silent_state size faults writes = record {
   tells = false;
   shown = replicate size [];
   may_leave = λ image. ⊥;
+  chosen = λ pick. replicate size [];
   clock = 0;
   left_since = λ time image. ⊥;
   faults = faults;

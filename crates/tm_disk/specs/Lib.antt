@@ -5,5 +5,6 @@ pub mod MemDisk
 pub mod MemState
 pub mod MomentLaws
 pub mod Moments
+pub mod Numbered
 pub mod Plan
 pub mod Sector

@@ -1,10 +1,11 @@
 -- What a disk in memory shows of itself.
 use Rattle.std.specs.Prelude.{◌≡◌, ◌⊎◌, ℕ, ◌+◌, ◌≤◌, List, length, Bool, IsTrue, if◌then◌else◌, vec_capacity}
-use Rattle.std.proofs.Common.{◌∙◌}
-use Rattle.std.proofs.lemmas.List.{length-replicate}
+use Rattle.std.proofs.Common.{sym, ◌∙◌}
+use Rattle.std.proofs.lemmas.List.{length-map, length-replicate}
 use Rattle.model_disk.specs.Disk.{DiskState, IsDisk, is_due, is_stopped}
 use Rattle.tm_disk.specs.Sector.{blank}
 use Rattle.tm_disk.specs.Moments.{Moment, zero_disk, after_write}
+use Rattle.tm_disk.specs.Numbered.{made_by}
 use Rattle.tm_disk.specs.Count.{raised}
 use Rattle.tm_disk.specs.declared.record.Before.{Before}
 use Rattle.tm_disk.specs.MomentLaws.{size-moments_past}
@@ -88,4 +89,4 @@ pub disk_law : (disk : MemDisk) → IsDisk (state_of disk)
 disk_law disk =
     let c = disk.contents in
     mem_is_disk (now_of c) (past_of c) disk.plan.faults disk.plan.writes disk.plan.until_stop c.sound.size_fits
-    (λ image left. size-moments_past (zero_disk (length c.synced.items)) c.writes.items c.pending image left ∙ length-replicate (length c.synced.items) blank)
+    (λ image left. size-moments_past (zero_disk (length c.synced.items)) c.writes.items c.pending image left ∙ length-replicate (length c.synced.items) blank ∙ sym (length-map c.synced.items (made_by c.writes.items)))

@@ -3,7 +3,7 @@ use Rattle.std.specs.Prelude.{◌≡◌, ◌⊎◌, ℕ, ◌<◌, ◌^◌, true,
 use Rattle.std.proofs.Common.{⊎_elim, inl}
 use Rattle.std.proofs.lemmas.Bool.{true≢false}
 use Rattle.model_disk.specs.Disk.{Image, DiskState, IsDisk}
-use Rattle.tm_disk.specs.Moments.{Moment, shown_of, IsLeft, WasLeft}
+use Rattle.tm_disk.specs.Moments.{Moment, shown_of, picked, IsLeft, WasLeft}
 use Rattle.tm_disk.specs.MomentLaws.{length-shown_of, shown_is_left, none_left, WasLeft-drop}
 
 -- It tells its contents, and can be armed. Time counts the moments past.
@@ -13,6 +13,7 @@ mem_state now past faults writes until_stop = record {
   tells = true;
   shown = shown_of now.synced now.since;
   may_leave = IsLeft now;
+  chosen = λ pick. picked pick 0 now.since now.synced;
   clock = length past;
   left_since = λ time image. IsLeft now image ⊎ WasLeft (drop time past) image;
   faults = faults;

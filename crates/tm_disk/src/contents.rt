@@ -1,10 +1,11 @@
-//! The sectors of a disk in memory, and each write that was made. A sync and a cut only note that they came, so that
-//! neither takes memory.
-ghost use Rattle.std.specs.Prelude.{◌≡◌, ◌+◌, ◌<◌, length};
+//! Each write that was made to a disk in memory, and its sectors by the numbers of these writes. So the bytes of a sector are kept
+//! once, whatever is shown and synced. A sync and a cut only note that they came, so that neither takes memory.
+ghost use Rattle.std.specs.Prelude.{◌≡◌, ◌+◌, ◌<◌, ◌≤◌, length};
 ghost use Rattle.tm_disk.specs.Moments.{IsSound};
+ghost use Rattle.tm_disk.specs.Numbered.{AreNumbers, image_by, made_by};
 
 use crate::Sector;
-use crate::images::{choose, make, take_back};
+use crate::images::{choose, take_over};
 use crate::record::{Before, Written};
 use std::alloc::{AllocError, Global};
 
@@ -13,8 +14,10 @@ pub const RECORD: usize = 262_144;
 
 #[derive(Drop)]
 pub struct Contents {
-    pub shown: Vec<Sector>,
-    pub synced: Vec<Sector>,
+    // The number of the write that each sector shows, counted from 1, and 0 where it was never written.
+    pub shown: Vec<u32>,
+    // The same of what was synced last.
+    pub synced: Vec<u32>,
     pub writes: Vec<Written>,
     // How many of the writes are synced or cut off.
     pub settled: usize,
@@ -23,11 +26,23 @@ pub struct Contents {
     // As many numbers as there are sectors, for a cut to count with.
     pub counts: Vec<u32>,
     ghost counts_size: { length counts.items ≡ length synced.items },
-    ghost sound: { IsSound shown.items synced.items writes.items settled pending },
+    ghost numbers: { AreNumbers shown.items synced.items writes.items settled },
+    ghost sound: { IsSound (image_by writes.items shown.items) (image_by writes.items synced.items) writes.items settled pending },
+}
+
+// What the write of a number made.
+fn made(writes: &[Written], number: u32) -> Sector
+    requires { number ≤ length writes.now }
+    ensures { result ≡ made_by writes.now number }
+{
+    if number == 0 {
+        return Sector::blank();
+    }
+    writes[number as usize - 1].content
 }
 
 impl Contents {
-    ghost use Rattle.std.specs.Prelude.{[], ◌∷◌, ◌++◌, ◌≤◌, IfOk, OnOk, OnErr, IsTrue, ◌↔◌, vec_capacity};
+    ghost use Rattle.std.specs.Prelude.{[], ◌∷◌, ◌++◌, IfOk, OnOk, OnErr, IsTrue, ◌↔◌, vec_capacity};
     ghost use Rattle.model_disk.specs.Disk.{sector_at};
     ghost use Rattle.tm_disk.specs.Moments.{zero_disk, shown_of, after_write, settled_by};
     ghost use Rattle.tm_disk.specs.Contents.{now_of, past_of, GoesOn, StaysAt, Settles};
@@ -40,8 +55,8 @@ impl Contents {
     {
         let size = sectors as usize;
         Ok(Contents {
-            shown: vec![in alloc; Sector::blank(); size]?,
-            synced: vec![in alloc; Sector::blank(); size]?,
+            shown: vec![in alloc; 0; size]?,
+            synced: vec![in alloc; 0; size]?,
             writes: Vec::new(alloc),
             settled: 0,
             pending: Before::Nothing,
@@ -59,7 +74,7 @@ impl Contents {
         requires { at < length (now_of self.now).synced }
         ensures { result ≡ sector_at (shown_of (now_of self.now).synced (now_of self.now).since) at }
     {
-        self.shown[at as usize]
+        made(&self.writes, self.shown[at as usize])
     }
 
     pub fn is_full(&self) -> bool
@@ -68,21 +83,22 @@ impl Contents {
         self.writes.len() == RECORD
     }
 
-    pub fn write(&mut self, at: u32, content: Sector) -> Result<(), AllocError>
+    pub fn write(&mut self, at: u32, content: &Sector) -> Result<(), AllocError>
         requires in_range { at < length (now_of self.old).synced }
         requires room { length self.old.writes.items < 262144 }
-        ensures ok { OnOk result (GoesOn self.old self.new (after_write (record { at = at; content = content; before = self.old.pending }) (now_of self.old))) }
+        ensures ok { OnOk result (GoesOn self.old self.new (after_write (record { at = at; content = content.now; before = self.old.pending }) (now_of self.old))) }
         ensures count { OnOk result (length self.new.writes.items ≡ length self.old.writes.items + 1) }
         ensures err { OnErr result (StaysAt self.old self.new) }
         ensures same_count { OnErr result (length self.new.writes.items ≡ length self.old.writes.items) }
         ensures growth { OnErr result (vec_capacity self.old.writes ≤ length self.old.writes.items) }
     {
-        self.writes.push(Written {
+        self.writes.reserve(1)?;
+        self.writes.push_reserved(Written {
             at,
-            content,
+            content: *content,
             before: self.pending,
-        })?;
-        self.shown[at as usize] = content;
+        });
+        self.shown[at as usize] = self.writes.len() as u32;
         self.pending = Before::Nothing;
         Ok(())
     }
@@ -92,7 +108,7 @@ impl Contents {
         ensures same_count { length self.new.writes.items ≡ length self.old.writes.items }
     {
         if let Before::Nothing = self.pending {
-            make(&mut self.synced, &self.writes[self.settled..]);
+            take_over(&mut self.synced, &self.shown, &self.writes[self.settled..]);
             self.settled = self.writes.len();
             self.pending = Before::Synced;
         }
@@ -103,9 +119,14 @@ impl Contents {
         ensures same_count { length self.new.writes.items ≡ length self.old.writes.items }
     {
         if let Before::Nothing = self.pending {
-            let since = &self.writes[self.settled..];
-            choose(&mut self.synced, &mut self.counts, since, pick);
-            take_back(&mut self.shown, &self.synced, since);
+            choose(
+                &mut self.synced,
+                &mut self.counts,
+                &self.writes,
+                self.settled,
+                pick,
+            );
+            take_over(&mut self.shown, &self.synced, &self.writes[self.settled..]);
             self.settled = self.writes.len();
             self.pending = Before::Cut(pick);
         }

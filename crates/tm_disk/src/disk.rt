@@ -79,9 +79,9 @@ pub trait Disk {
         ensures armed { IsTrue result → (state self.new).until_stop ≡ armed n (state self.old).until_stop }
         ensures nothing { IsFalse result → self.new ≡ self.old };
 
-    /// Leaves one of the images that a crash may leave now, shown and synced, and disarms.
+    /// Leaves one of the images that a crash may leave now, the one that the pick chooses, shown and synced, and disarms.
     fn cut(&mut self, pick: u64)
-        ensures { IsCut (state self.old) (state self.new) };
+        ensures { IsCut pick (state self.old) (state self.new) };
 
     /// It is a disk at each moment.
     ghost is_disk: { (disk : Self) → IsDisk (state disk) };

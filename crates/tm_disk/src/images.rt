@@ -1,30 +1,19 @@
-//! What syncs and cuts do to the sectors of a disk in memory.
-ghost use Rattle.std.specs.Prelude.{◌≡◌, ◌↔◌, ℕ, ◌-◌, ◌<◌, ◌≤◌, [], ◌∷◌, length, All, IsTrue, slice_index, slice_index_or};
-ghost use Rattle.model_disk.specs.Disk.{sector_at};
-ghost use Rattle.tm_disk.specs.Moments.{shown_of, writes_to, picked, digits};
+//! What syncs and cuts do to the sectors of a disk in memory. Each is kept as the number of the write that made it.
+ghost use Rattle.std.specs.Prelude.{◌≡◌, ◌↔◌, ℕ, ◌-◌, ◌<◌, ◌≤◌, [], ◌∷◌, length, drop, All, IsTrue, slice_index, slice_index_or, slice_set};
+ghost use Rattle.tm_disk.specs.Moments.{writes_to, picked, digits};
+ghost use Rattle.tm_disk.specs.Numbered.{made_by, image_by, chosen_by};
 
-use crate::Sector;
 use crate::record::Written;
 
-// Makes the writes.
-pub fn make(image: &mut Vec<Sector>, writes: &[Written])
-    requires { All (λ w. w.at < length image.old.items) writes.now }
-    ensures { image.new.items ≡ shown_of image.old.items writes.now }
-{
-    for write in writes {
-        image[write.at as usize] = write.content;
-    }
-}
-
 // Takes the sectors that were written from another image.
-pub fn take_back(image: &mut Vec<Sector>, from: &[Sector], writes: &[Written])
-    requires in_range { All (λ w. w.at < length image.old.items) writes.now }
-    requires size { length image.old.items ≡ length from.now }
-    requires others { (k : ℕ) → writes_to k writes.now ≡ [] → sector_at image.old.items k ≡ sector_at from.now k }
-    ensures { image.new.items ≡ from.now }
+pub fn take_over(numbers: &mut Vec<u32>, from: &[u32], writes: &[Written])
+    requires in_range { All (λ w. w.at < length numbers.old.items) writes.now }
+    requires size { length numbers.old.items ≡ length from.now }
+    requires others { (k : ℕ) → writes_to k writes.now ≡ [] → slice_index_or numbers.old.items k 0 ≡ slice_index_or from.now k 0 }
+    ensures { numbers.new.items ≡ from.now }
 {
     for write in writes {
-        image[write.at as usize] = from[write.at as usize];
+        numbers[write.at as usize] = from[write.at as usize];
     }
 }
 
@@ -74,31 +63,57 @@ fn comes_to_0(left: &mut u32) -> bool
     *left == 0
 }
 
-// Makes of the writes to each sector the one that is so many on.
-fn make_chosen(image: &mut Vec<Sector>, left: &mut Vec<u32>, writes: &[Written])
-    requires in_range { All (λ w. w.at < length image.old.items) writes.now }
-    requires same_size { length left.old.items ≡ length image.old.items }
-    ensures size { length image.new.items ≡ length image.old.items }
-    ensures left { length left.new.items ≡ length left.old.items }
-    ensures chosen { (k : ℕ) → k < length image.old.items → sector_at image.new.items k ≡ slice_index_or (sector_at image.old.items k ∷ writes_to k writes.now) (slice_index left.old.items k) (sector_at image.old.items k) }
+// One write more to a sector: it is chosen where the count comes to 0.
+fn choose_one(numbers: &mut Vec<u32>, left: &mut Vec<u32>, at: usize, number: u32)
+    requires in_range { at < length numbers.old.items }
+    requires same_size { length left.old.items ≡ length numbers.old.items }
+    ensures left { left.new.items ≡ slice_set left.old.items at (slice_index left.old.items at - 1) }
+    ensures numbers { numbers.new.items ≡ chosen_by (slice_index left.old.items at) numbers.old.items at number }
 {
-    for write in writes {
-        let at = write.at as usize;
-        if comes_to_0(&mut left[at]) {
-            image[at] = write.content;
-        }
+    let came = comes_to_0(&mut left[at]);
+    if !came {
+        return;
+    }
+    numbers[at] = number;
+}
+
+// Makes of the writes to each sector, behind those that are settled, the one that is so many on.
+fn make_chosen(numbers: &mut Vec<u32>, left: &mut Vec<u32>, writes: &[Written], settled: usize)
+    requires in_range { All (λ w. w.at < length numbers.old.items) writes.now }
+    requires few { length writes.now ≤ 262144 }
+    requires settled_in { settled ≤ length writes.now }
+    requires same_size { length left.old.items ≡ length numbers.old.items }
+    ensures size { length numbers.new.items ≡ length numbers.old.items }
+    ensures left { length left.new.items ≡ length left.old.items }
+    ensures chosen { (k : ℕ) → k < length numbers.old.items → made_by writes.now (slice_index numbers.new.items k) ≡ slice_index_or (made_by writes.now (slice_index numbers.old.items k) ∷ writes_to k (drop settled writes.now)) (slice_index left.old.items k) (made_by writes.now (slice_index numbers.old.items k)) }
+    ensures others { (k : ℕ) → writes_to k (drop settled writes.now) ≡ [] → slice_index numbers.new.items k ≡ slice_index numbers.old.items k }
+    ensures within { All (λ n. n ≤ length writes.now) numbers.old.items → All (λ n. n ≤ length writes.now) numbers.new.items }
+{
+    for place in settled..writes.len() {
+        let at = writes[place].at as usize;
+        choose_one(numbers, left, at, place as u32 + 1);
     }
 }
 
-// Leaves of each sector what the pick chooses. The counts are scratch.
-pub fn choose(image: &mut Vec<Sector>, counts: &mut Vec<u32>, writes: &[Written], pick: u64)
-    requires in_range { All (λ w. w.at < length image.old.items) writes.now }
+// Leaves of each sector what the pick chooses of the writes behind those that are settled. The counts are scratch.
+pub fn choose(
+    numbers: &mut Vec<u32>,
+    counts: &mut Vec<u32>,
+    writes: &[Written],
+    settled: usize,
+    pick: u64,
+)
+    requires in_range { All (λ w. w.at < length numbers.old.items) writes.now }
     requires few { length writes.now ≤ 262144 }
-    requires same_size { length counts.old.items ≡ length image.old.items }
-    ensures picked { image.new.items ≡ picked pick 0 writes.now image.old.items }
+    requires settled_in { settled ≤ length writes.now }
+    requires same_size { length counts.old.items ≡ length numbers.old.items }
+    ensures picked { image_by writes.now numbers.new.items ≡ picked pick 0 (drop settled writes.now) (image_by writes.now numbers.old.items) }
+    ensures others { (k : ℕ) → writes_to k (drop settled writes.now) ≡ [] → slice_index numbers.new.items k ≡ slice_index numbers.old.items k }
+    ensures within { All (λ n. n ≤ length writes.now) numbers.old.items → All (λ n. n ≤ length writes.now) numbers.new.items }
+    ensures size { length numbers.new.items ≡ length numbers.old.items }
     ensures counts { length counts.new.items ≡ length counts.old.items }
 {
-    count(counts, writes);
+    count(counts, &writes[settled..]);
     draw(counts, pick);
-    make_chosen(image, counts, writes);
+    make_chosen(numbers, counts, writes, settled);
 }

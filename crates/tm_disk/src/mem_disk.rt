@@ -119,7 +119,7 @@ impl Disk for MemDisk {
             self.plan.fault();
             return Err(Failed);
         }
-        if self.contents.write(at, *from).is_err() {
+        if self.contents.write(at, from).is_err() {
             self.plan.starve();
             return Err(Failed);
         }
@@ -169,7 +169,7 @@ impl Disk for MemDisk {
     }
 
     fn cut(&mut self, pick: u64)
-        ensures cut { IsCut (state_of self.old) (state_of self.new) }
+        ensures cut { IsCut pick (state_of self.old) (state_of self.new) }
 
         // The sectors that were written take the digits of the pick in ascending order.
         ensures picked { moment_of self.new ≡ settled_by (Cut pick) (moment_of self.old) }

@@ -12,6 +12,7 @@ returns-clause-failed g c = record {
   emptied_is = c.or_cold.ensures;
   stopped_is = refl;
   cut = c.cut.ensures;
+  pick = refl;
   lives = refl;
   stops = c.push_reserved.ensures.items ∙ ap (λ n. c.args.kept.stops.items ++ (c.args.began, n) ∷ []) c.faults.ensures;
 }

@@ -21,12 +21,13 @@ returns-then-is_err-clause-gone g c = record {
   wrote = record { keeps = keeps_same (g.D.Disk.state c.args.idle.disk); no_fault = refl };
   lives = c.make_room.ensures.lives;
   stops = c.make_room.ensures.stops;
+  pick = c.make_room.ensures.pick;
 }
 
 pub returns-in-Err-clause-gone : goal.returns-in-Err-clause-gone
 returns-in-Err-clause-gone g c =
     refused_gone g.D.Disk.state c.args.idle c.args.kept c.make_room.new.self c.args.cold c.in-Err.refused.disk c.in-Err.refused.system c.in-Err.refused.text c.faults-began.result c.refuse.result.0
-    c.faults-began.ensures c.in-Err.ensures.counts_back c.make_room.ensures.lives c.make_room.ensures.stops c.in-Err.refused.error c.refuse.result.1
+    c.faults-began.ensures c.in-Err.ensures.counts_back c.make_room.ensures.lives c.make_room.ensures.stops c.make_room.ensures.pick c.in-Err.refused.error c.refuse.result.1
     (subst (λ h. HandsBack g.D.Disk.state h c.args.idle.system c.args.idle.text c.args.idle.disk c.in-Err.refused.error c.in-Err.refused.disk c.in-Err.refused.system c.in-Err.refused.text) c.how.ensures c.in-Err.ensures.refused)
     c.refuse.ensures.refused c.refuse.ensures.opening
 
@@ -46,4 +47,5 @@ returns-in-Ok-clause-gone g c =
       lives = c.keep.ensures.items ∙ ap (λ l. with_last l c.args.idle.last c.args.cold c.steps.result) c.make_room.ensures.lives
           ∙ ap (with_last c.args.kept.lives.items c.args.idle.last c.args.cold) steps;
       stops = c.make_room.ensures.stops;
+      pick = c.make_room.ensures.pick;
     }

@@ -1,5 +1,5 @@
 -- the life that was up
-use Rattle.std.proofs.Common.{false, sym, subst}
+use Rattle.std.proofs.Common.{false, sym, subst, refl, None}
 use Rattle.session_lives.specs.declared.called.Called.TheVariants.{Frozen}
 use Rattle.session_lives.specs.Openings.{IsAloneAt, MayEndAt, EndsAt}
 use Rattle.session_lives.proofs.serve.freeze.Goals as goal
@@ -15,5 +15,5 @@ lay_down-idle-requires-clause-life_room g c = (subst (λ p. MayEndAt p c.args.se
 
 pub returns : goal.returns
 returns g c =
-    subst (λ p. EndsAt g.D.Disk.state false p c.args.session.now.kept (record { place = c.put.new.place; kept = c.args.session.now.kept })) (sym c.take_up-control.ensures.taken)
-    (record { idle = c.lay_down-idle.result; place = c.put.ensures; down = c.lay_down-idle.ensures.down; ready = c.lay_down-idle.ensures.ready })
+    subst (λ p. EndsAt g.D.Disk.state None false p c.args.session.now.kept (record { place = c.put.new.place; kept = c.args.session.now.kept })) (sym c.take_up-control.ensures.taken)
+    (record { idle = c.lay_down-idle.result; place = c.put.ensures; disk = c.lay_down-idle.ensures.same; pick = refl; down = c.lay_down-idle.ensures.down; ready = c.lay_down-idle.ensures.ready })

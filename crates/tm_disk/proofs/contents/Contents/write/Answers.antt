@@ -1,23 +1,41 @@
-use Rattle.std.proofs.Common.{List, length, arith, ◌∙◌, ap}
-use Rattle.tm_disk.specs.Moments.{zero_disk, moments_past}
+use Rattle.std.proofs.Common.{◌≡◌, ◌+◌, List, [], ◌∷◌, ◌++◌, length, set, arith, refl, sym, ◌∙◌, ap, subst}
+use Rattle.tm_disk.specs.Moments.{zero_disk, moments_past, IsSound}
+use Rattle.tm_disk.specs.Numbered.{image_by, AreNumbers}
 use Rattle.tm_disk.specs.declared.record.Written.{Written}
 use Rattle.tm_disk.specs.declared.record.Before.TheVariants.{Nothing}
-use Rattle.tm_disk.proofs.Keeping.{moment_of, sound-write, write-past, write-now, length-shown}
+use Rattle.tm_disk.proofs.Keeping.{moment_of, write-past}
+use Rattle.tm_disk.proofs.Numbers.{length_image_by, numbers-write, numbered-write, numbered-now, past_numbers}
 use Rattle.tm_disk.proofs.contents.Contents.write.Goals as goal
 
 pub index_mut-requires : goal.index_mut-requires
-index_mut-requires c = let m = c.args.self.now in omega (arith, length-shown m.shown.items m.synced.items m.writes.items m.settled m.pending m.sound, m.shown.ok, m.synced.ok)
+index_mut-requires c =
+    let m = c.args.self.now in
+    omega (arith, c.requires.in_range, length_image_by m.writes.items m.synced.items, m.numbers.size, m.shown.ok, m.synced.ok)
 
 pub invariant_of-self-2 : goal.invariant_of-self-2
 invariant_of-self-2 c =
     let m = c.args.self.now in
-    record { counts_size = m.counts_size; sound = rw c.in_ok-push.ensures.items (sound-write m.shown.items m.synced.items m.writes.items m.settled m.pending c.args.at c.args.content m.sound c.requires.in_range c.requires.room) }
+    let write : Written = record { at = c.args.at; content = c.args.content.now; before = m.pending } in
+    let grown : List Written = m.writes.items ++ write ∷ [] in
+    let items : c.push_reserved.new.self.items ≡ grown = c.push_reserved.ensures.items ∙ ap (λ (l : List Written). l ++ write ∷ []) c.in_ok-reserve.ensures.items in
+    let number : c.len.result ≡ length m.writes.items + 1 =
+    omega (arith, c.len.ensures, c.push_reserved.ensures.len, c.in_ok-reserve.ensures.len, m.writes.ok) in
+    record {
+      counts_size = m.counts_size;
+      numbers = subst (λ l. AreNumbers (set m.shown.items c.args.at c.len.result) m.synced.items l m.settled) (sym items) (numbers-write m.shown.items m.synced.items m.writes.items m.settled c.args.at c.len.result write m.numbers m.sound.settled_in refl number);
+      sound = subst (λ l. IsSound (image_by l (set m.shown.items c.args.at c.len.result)) (image_by l m.synced.items) l m.settled Nothing) (sym items)
+          (numbered-write m.shown.items m.synced.items m.writes.items m.settled m.pending c.args.at c.len.result c.args.content.now m.numbers m.sound c.requires.in_range c.requires.room number);
+    }
 
 pub returns-clause-ok : goal.returns-clause-ok
 returns-clause-ok c =
     let m = c.args.self.now in
-    let write : Written = record { at = c.args.at; content = c.args.content; before = m.pending } in
+    let write : Written = record { at = c.args.at; content = c.args.content.now; before = m.pending } in
+    let grown : List Written = m.writes.items ++ write ∷ [] in
+    let items : c.push_reserved.new.self.items ≡ grown = c.push_reserved.ensures.items ∙ ap (λ (l : List Written). l ++ write ∷ []) c.in_ok-reserve.ensures.items in
     record {
-      now = ap (λ (l : List Written). moment_of m.synced.items l m.settled) c.in_ok-push.ensures.items ∙ write-now m.synced.items m.writes.items m.settled write m.sound.settled_in;
-      past = ap (λ (l : List Written). moments_past (zero_disk (length m.synced.items)) l Nothing) c.in_ok-push.ensures.items ∙ write-past m.shown.items m.synced.items m.writes.items m.settled m.pending c.args.at c.args.content m.sound;
+      now = ap (λ (l : List Written). moment_of (image_by l m.synced.items) l m.settled) items ∙ numbered-now m.synced.items m.writes.items m.settled write m.numbers.synced_in m.sound.settled_in;
+      past = ap (λ (l : List Written). moments_past (zero_disk (length m.synced.items)) l Nothing) items
+          ∙ past_numbers m.writes.items grown m.synced.items m.synced.items Nothing m.pending (moment_of (image_by m.writes.items m.synced.items) m.writes.items m.settled)
+          (write-past (image_by m.writes.items m.shown.items) (image_by m.writes.items m.synced.items) m.writes.items m.settled m.pending c.args.at c.args.content.now m.sound);
     }

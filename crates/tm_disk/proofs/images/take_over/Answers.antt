@@ -1,0 +1,9 @@
+use Rattle.std.proofs.Common.{arith, ap}
+use Rattle.std.proofs.lemmas.List.{drop_all, ext_get_or}
+use Rattle.tm_disk.specs.Moments.{writes_to}
+use Rattle.tm_disk.proofs.images.take_over.Goals as goal
+
+pub returns : goal.returns
+returns c =
+    let none = drop_all c.loop-write.write-index c.args.writes.now (omega arith) in
+    ext_get_or 0 c.loop-write.numbers.items c.args.from.now (omega arith) (λ k lt. c.loop-write.invariant.others k (ap (λ l. writes_to k l) none))
