@@ -15,9 +15,9 @@ pub fn victim(cycle: &Cycle, weights: &Weights) -> u32
     ensures { result ≡ victim_of weights.now cycle.now }
 {
     let regions = cycle.as_slice();
-    let mut victim = regions[0];
+    let mut victim = u32::from(regions[0]);
     for region in &regions[1..] {
-        victim = gives_way(weights, victim, *region);
+        victim = gives_way(weights, victim, u32::from(*region));
     }
     victim
 }

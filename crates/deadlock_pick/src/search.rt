@@ -20,7 +20,7 @@ pub fn least_cycle(table: &Table, region: u32) -> Option<Cycle>
     ensures none { IfNone result (HasNoCycle table.now region) }
 {
     let mut way = Cycle::new();
-    way.push(region);
+    add(&mut way, region);
     search(table, region, way, region)
 }
 
@@ -65,15 +65,27 @@ fn goes_on(table: &Table, way: &Cycle, last: u32, next: u32) -> bool
 fn is_on(way: &Cycle, region: u32) -> bool
     ensures { result ≡ list_any (nat_eq region) way.now }
 {
-    way.as_slice().iter().any(|other| region == *other)
+    way.as_slice()
+        .iter()
+        .any(|other| region == u32::from(*other))
 }
 
 // The way with one region more.
 fn longer(way: Cycle, next: u32) -> Cycle
-    requires { length way < 8 }
+    requires room { length way < 8 }
+    requires small { next < 256 }
     ensures { result ≡ way ++ next ∷ [] }
 {
     let mut longer = way;
-    longer.push(next);
+    add(&mut longer, next);
     longer
+}
+
+// Adds a region at the end of a way.
+fn add(way: &mut Cycle, region: u32)
+    requires room { length way.old < 8 }
+    requires small { region < 256 }
+    ensures { way.new ≡ way.old ++ region ∷ [] }
+{
+    way.push(region as u8);
 }

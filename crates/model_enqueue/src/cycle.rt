@@ -8,7 +8,7 @@ use std::marker::Model;
 #[derive(Clone, Copy, Debug)]
 pub struct Cycle {
     len: u8,
-    regions: [u32; 8],
+    regions: [u8; 8],
 }
 
 impl Model for Cycle {
@@ -40,7 +40,7 @@ impl Cycle {
     }
 
     /// Adds a region at the end. Eight fit.
-    pub fn push(&mut self, region: u32)
+    pub fn push(&mut self, region: u8)
         requires { length self.old < 8 }
         ensures { self.new ≡ self.old ++ region ∷ [] }
     {
@@ -49,7 +49,7 @@ impl Cycle {
     }
 
     /// The regions in their order.
-    pub fn as_slice(&self) -> &[u32]
+    pub fn as_slice(&self) -> &[u8]
         ensures value { result.now ≡ self.now }
         ensures few { length self.now ≤ 8 }
     {

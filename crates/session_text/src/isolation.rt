@@ -69,7 +69,7 @@ fn add_victim(out: &mut Printed, region: u32, victim: &Victim)
 }
 
 /// Adds numbers with a comma between them, in 21 bytes at most each.
-fn add_parted(out: &mut Printed, regions: &[u32])
+fn add_parted(out: &mut Printed, regions: &[u8])
     requires { 21 * length regions.now ≤ out.old.room }
     ensures text { out.new.text ≡ out.old.text ++ text.parted regions.now }
     ensures room { out.old.room ≤ out.new.room + 21 * length regions.now }
@@ -97,7 +97,7 @@ fn from_lowest(cycle: &Cycle) -> Cycle
 }
 
 /// Adds regions at the end of a ring. There is room for them.
-fn append(cycle: &mut Cycle, regions: &[u32])
+fn append(cycle: &mut Cycle, regions: &[u8])
     requires { length cycle.old + length regions.now ≤ 8 }
     ensures { cycle.new ≡ cycle.old ++ regions.now }
 {
@@ -107,7 +107,7 @@ fn append(cycle: &mut Cycle, regions: &[u32])
 }
 
 /// The place of the lowest region.
-fn lowest_place(regions: &[u32]) -> usize
+fn lowest_place(regions: &[u8]) -> usize
     ensures value { result ≡ position_or_len (text.is_lowest regions.now) regions.now }
     ensures within { result ≤ length regions.now }
 {
@@ -119,7 +119,7 @@ fn lowest_place(regions: &[u32]) -> usize
     regions.len()
 }
 
-fn is_lowest(regions: &[u32], region: u32) -> bool
+fn is_lowest(regions: &[u8], region: u8) -> bool
     ensures { result ≡ text.is_lowest regions.now region }
 {
     regions.iter().all(|other| region <= *other)

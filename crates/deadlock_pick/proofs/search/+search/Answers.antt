@@ -13,8 +13,11 @@ pub loop-next-init : goal.loop-next-init
 loop-next-init t c m h =
     none_outside c.args.table.now c.args.region c.args.way c.args.last c.requires.way m (λ is. absurd (omega (arith, is.0)))
 
-pub longer-requires : goal.longer-requires
-longer-requires t c =
+pub longer-requires-clause-small : goal.longer-requires-clause-small
+longer-requires-clause-small t c = omega (arith, c.requires.few, c.regions-next-end.ensures.value)
+
+pub longer-requires-clause-room : goal.longer-requires-clause-room
+longer-requires-clause-room t c =
     fits c.args.table.now c.args.region c.args.way c.args.last c.requires.way c.requires.few c.loop-next.next
     (omega arith, omega (arith, c.regions-next-end.ensures.value)) (sym c.goes_on.ensures ∙ c.if-goes_on.true)
 
