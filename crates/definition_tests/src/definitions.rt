@@ -424,8 +424,8 @@ fn scratch_pads(rt: HostRuntime) -> Result<(), Fail> {
 fn formats(rt: HostRuntime) -> Result<(), Fail> {
     let table = [
         (
-            b"DFLD NAME=A,POS=(1,1),LTH=80\nDFLD NAME=B,POS=(24,80),LTH=1\n* any \x01\nMSG TYPE=INPUT\nSEG\nMFLD SRC=A,LTH=80,JUST=R,FILL=BLANK\nMFLD LIT=''\nMFLD LIT='a, b'\nMSG TYPE=OUTPUT\nSEG\nMFLD SRC=B,LTH=1,FILL='\nFMTEND".as_slice(),
-            Fault::Cross(15, 17),
+            b"DFLD NAME=A,POS=(1,1),LTH=80\nDFLD NAME=B,POS=(24,80),LTH=1\n* any \x01\nMSG TYPE=INPUT\nSEG\nMFLD SRC=A,LTH=80,JUST=R,FILL=BLANK\nMFLD FILL=(,SRC=A,LTH=1\nMFLD FILL=',SRC=A,LTH=1\nMFLD LIT=''\nMFLD LIT='a, b'\nMSG TYPE=OUTPUT\nSEG\nMFLD SRC=B,LTH=1,FILL='\nFMTEND".as_slice(),
+            Fault::Cross(17, 17),
         ),
         (b"FOO".as_slice(), Fault::Line(3, 1)),
         (b"ENDPROG".as_slice(), Fault::Line(3, 1)),

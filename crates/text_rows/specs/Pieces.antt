@@ -1,12 +1,18 @@
 -- How a line is cut into pieces.
 use Rattle.std.specs.Prelude.{ℕ, suc, Bool, true, false, List, [], ◌∷◌, ◌==◌, if◌then◌else◌}
 use Rattle.text_rows.specs.declared.pieces.Place.{Place}
-use Rattle.text_rows.specs.declared.pieces.Place.TheVariants.{Operand, InBrackets, InQuotes, Element, WordStart, InWord, InLiteral}
+use Rattle.text_rows.specs.declared.pieces.Place.TheVariants.{Operand, AfterF, AfterFi, AfterFil, AfterFill, Fill, InOperand, InBrackets, InQuotes, Element, WordStart, InWord, InLiteral}
 
 -- Operands of a macro and elements of a list are parted by commas, words of a script by blanks.
 -- No byte parts within brackets, within a text in quotes or within a literal.
 unfoldable pub parts : Place → ℕ → Bool
 parts Operand byte = byte == 44
+parts AfterF byte = byte == 44
+parts AfterFi byte = byte == 44
+parts AfterFil byte = byte == 44
+parts AfterFill byte = byte == 44
+parts Fill byte = byte == 44
+parts InOperand byte = byte == 44
 parts InBrackets byte = false
 parts InQuotes byte = false
 parts Element byte = byte == 44
@@ -14,12 +20,21 @@ parts WordStart byte = byte == 32
 parts InWord byte = byte == 32
 parts InLiteral byte = false
 
--- Brackets begin by ( and end by ), a text begins and ends by '. A word that begins by " is a
--- literal up to the next ".
+-- In an operand brackets begin by ( and end by ), and a text begins and ends by '.
+unfoldable pub within_operand : ℕ → Place
+within_operand byte = if byte == 40 then InBrackets else (if byte == 39 then InQuotes else InOperand)
+
+-- The byte behind FILL= stands for itself. A word that begins by " is a literal up to the next ".
 unfoldable pub place_after : Place → ℕ → Place
-place_after Operand byte = if byte == 40 then InBrackets else (if byte == 39 then InQuotes else Operand)
-place_after InBrackets byte = if byte == 41 then Operand else InBrackets
-place_after InQuotes byte = if byte == 39 then Operand else InQuotes
+place_after Operand byte = if byte == 70 then AfterF else within_operand byte
+place_after AfterF byte = if byte == 73 then AfterFi else within_operand byte
+place_after AfterFi byte = if byte == 76 then AfterFil else within_operand byte
+place_after AfterFil byte = if byte == 76 then AfterFill else within_operand byte
+place_after AfterFill byte = if byte == 61 then Fill else within_operand byte
+place_after Fill byte = InOperand
+place_after InOperand byte = within_operand byte
+place_after InBrackets byte = if byte == 41 then InOperand else InBrackets
+place_after InQuotes byte = if byte == 39 then InOperand else InQuotes
 place_after Element byte = Element
 place_after WordStart byte = if byte == 34 then InLiteral else InWord
 place_after InWord byte = InWord

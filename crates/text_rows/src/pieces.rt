@@ -8,8 +8,20 @@ use std::marker::Model;
 /// Where a cut stands.
 #[derive(Clone, Copy, Debug, PartialEq, Eq)]
 pub enum Place {
-    /// In an operand of a macro, outside brackets and quotes.
+    /// Before the first byte of an operand of a macro.
     Operand,
+    /// In an operand that is `F` so far.
+    AfterF,
+    /// In one that is `FI` so far.
+    AfterFi,
+    /// In one that is `FIL` so far.
+    AfterFil,
+    /// In one that is `FILL` so far.
+    AfterFill,
+    /// Behind `FILL=`.
+    Fill,
+    /// In an operand of a macro, outside brackets and quotes.
+    InOperand,
     /// In the brackets of an operand.
     InBrackets,
     /// In the quotes of an operand.
@@ -30,7 +42,14 @@ impl Place {
         ensures { result ≡ spec.parts self byte }
     {
         match self {
-            Place::Operand | Place::Element => byte == b',',
+            Place::Operand
+            | Place::AfterF
+            | Place::AfterFi
+            | Place::AfterFil
+            | Place::AfterFill
+            | Place::Fill
+            | Place::InOperand
+            | Place::Element => byte == b',',
             Place::WordStart | Place::InWord => byte == b' ',
             Place::InBrackets | Place::InQuotes | Place::InLiteral => false,
         }
@@ -41,13 +60,39 @@ impl Place {
         ensures { result ≡ spec.place_after self byte }
     {
         match (self, byte) {
-            (Place::Operand, b'(') => Place::InBrackets,
-            (Place::Operand, b'\'') => Place::InQuotes,
-            (Place::InBrackets, b')') | (Place::InQuotes, b'\'') => Place::Operand,
+            (Place::Operand, b'F') => Place::AfterF,
+            (Place::AfterF, b'I') => Place::AfterFi,
+            (Place::AfterFi, b'L') => Place::AfterFil,
+            (Place::AfterFil, b'L') => Place::AfterFill,
+            (Place::AfterFill, b'=') => Place::Fill,
+            (
+                Place::Operand
+                | Place::AfterF
+                | Place::AfterFi
+                | Place::AfterFil
+                | Place::AfterFill
+                | Place::InOperand,
+                _,
+            ) => within_operand(byte),
+            (Place::Fill, _) | (Place::InBrackets, b')') | (Place::InQuotes, b'\'') => {
+                Place::InOperand
+            }
             (Place::WordStart, b'"') => Place::InLiteral,
             (Place::WordStart, _) | (Place::InLiteral, b'"') => Place::InWord,
             (place, _) => place,
         }
+    }
+}
+
+/// The place behind a byte of an operand.
+#[tactic(auto, unfolding(crate::specs::Pieces::within_operand))]
+fn within_operand(byte: u8) -> Place
+    ensures { result ≡ spec.within_operand byte }
+{
+    match byte {
+        b'(' => Place::InBrackets,
+        b'\'' => Place::InQuotes,
+        _ => Place::InOperand,
     }
 }
 
