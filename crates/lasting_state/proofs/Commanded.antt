@@ -1,17 +1,12 @@
--- What a command that lasts does to the tables, and its record.
-use Rattle.std.proofs.Common.{◌≡◌, ℕ, List, refl, sym, ap, ◌∙◌}
-use Rattle.std.proofs.lemmas.List.{append-nil}
-use Rattle.tm_types.specs.Commands as command_text
+-- What a command that lasts does to the tables.
+use Rattle.std.proofs.Common.{◌≡◌, List, refl, ap, ◌∙◌}
 use Rattle.tm_types.specs.declared.command.LastingCommand.{LastingCommand}
 use Rattle.tm_types.specs.declared.command.LastingCommand.TheVariants.{StartTransaction, StopTransaction, StartTerminal, StopTerminal, DequeueFirst, DequeueAll, Exit}
 use Rattle.model_machine.specs.declared.lasting.CodeSetting.{CodeSetting}
 use Rattle.model_machine.specs.Lasting.{applied}
 use Rattle.model_machine.specs.Lasting.LastingStep.{Commands}
-use Rattle.log_records.specs.declared.record.Record.TheVariants.{Command}
-use Rattle.log_records.specs.Spelling.{spelling, IsRecord}
 use Rattle.lasting_state.specs.Commands.{AppliesCommand, command_done, command_set}
 use Rattle.lasting_state.specs.Tables.{TablesState, lasting_of}
-use Rattle.lasting_state.specs.Telling.{AreBytesOf}
 
 applies : (command : LastingCommand) (t : TablesState) (settings : List CodeSetting) → lasting_of (command_set command settings) (command_done command t) ≡ applied (Commands command) (lasting_of settings t)
 applies (StartTransaction code) t settings = refl
@@ -24,10 +19,3 @@ applies (Exit terminal) t settings = refl
 
 pub applies_command : (command : LastingCommand) (old new : TablesState) → new ≡ command_done command old → AppliesCommand command old new
 applies_command command old new is settings = ap (lasting_of (command_set command settings)) is ∙ applies command old settings
-
-pub command_told : (old : TablesState) (command : LastingCommand) (bytes : List ℕ) → bytes ≡ spelling (Command (command_text.spelling command)) → IsRecord (Command (command_text.spelling command))
-    → AreBytesOf 0 (Commands command) old bytes
-command_told old command bytes is valid = record {
-  are = λ settings. is ∙ sym (append-nil (spelling (Command (command_text.spelling command))));
-  valid = λ settings. (valid, tt);
-}

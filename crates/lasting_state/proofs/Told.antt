@@ -1,10 +1,8 @@
--- The records of a step, by the queues' own look-up.
-use Rattle.std.proofs.Common.{◌≡◌, ℕ, ◌+◌, ◌<◌, ◌≤◌, List, [], ◌∷◌, ◌++◌, length, take, refl, sym, ap, ◌∙◌, subst, Some, arith}
+-- What is told of a step: its records, by the queues' own look-up.
+use Rattle.std.proofs.Common.{◌≡◌, ℕ, ◌+◌, List, [], ◌∷◌, ◌++◌, length, take, refl, sym, ap, ◌∙◌, subst, Some, arith}
 use Rattle.std.specs.Prelude.{Bool, true, false, Option, None, Result, Ok, Err, IfErr, ◌==◌, ◌&&◌, nat_lt, if◌then◌else◌, slice_get}
 use Rattle.std.specs.Option.{option_map_or, is_some}
 use Rattle.std.proofs.lemmas.Bool.{false≢true, eqb-true, eq-eqb, le-ltb}
-use Rattle.std.specs.List.{flat_map, AllByRecursion}
-use Rattle.std.proofs.lemmas.List.{append-nil}
 use Rattle.std.proofs.Math.Seq.{take-append_seam}
 use Rattle.tm_types.specs.declared.message.Message.{Message}
 use Rattle.tm_types.specs.declared.abend.AbendCode.{AbendCode}
@@ -24,86 +22,60 @@ use Rattle.model_machine.specs.declared.entry.AckRefused.TheVariants.{Unknown, A
 use Rattle.model_machine.specs.declared.entry.ControlFault.{ControlFault}
 use Rattle.model_machine.specs.Machine.{LastingState, output_at}
 use Rattle.model_machine.specs.Steps.{ack_by}
-use Rattle.model_machine.specs.Lasting.{KeptInput, LastingStep}
-use Rattle.model_machine.specs.Lasting.LastingStep.{Accepts, Acknowledges, Completes, Discards}
+use Rattle.model_machine.specs.Lasting.{LastingStep}
+use Rattle.model_machine.specs.Lasting.LastingStep.{Acknowledges, Completes, Discards}
 use Rattle.log_records.specs.declared.record.Record.{Record}
-use Rattle.log_records.specs.declared.record.Record.TheVariants.{Input, Acknowledged, Discarded, SyncPoint}
-use Rattle.log_records.specs.Spelling.{spelling, IsRecord}
+use Rattle.log_records.specs.declared.record.Record.TheVariants.{Acknowledged, Discarded, SyncPoint}
+use Rattle.log_records.specs.Telling.{spelled, IsUntold, Tells as RecordsTell}
 use Rattle.log_records.specs.declared.untold.Untold.{Untold}
 use Rattle.log_records.specs.declared.untold.Untold.TheVariants.{Memory, Full}
-use Rattle.step_records.specs.Records.{acknowledged_record, completion_records, completed_by, discarded_by}
+use Rattle.step_records.specs.Records.{completion_records, completed_by, discarded_by, step_records}
 use Rattle.step_telling.specs.Untold.{WhereFull}
 use Rattle.lasting_state.specs.Tables.{TablesState, lasting_of}
-use Rattle.lasting_state.specs.Telling.{AreBytesOf, IsLonger, Tells, TellsAcknowledged, is_first_of, removes_by}
+use Rattle.lasting_state.specs.Telling.{IsLonger, Tells, TellsAcknowledged, is_first_of, removes_by}
 
-pub input_told : (old : TablesState) (terminal : List ℕ) (number : ℕ) (kept : KeptInput) (bytes : List ℕ)
-    → bytes ≡ spelling (Input 0 old.next_id terminal kept.code number kept.conversation kept.segments) → IsRecord (Input 0 old.next_id terminal kept.code number kept.conversation kept.segments)
-    → AreBytesOf 0 (Accepts terminal number kept) old bytes
-input_told old terminal number kept bytes is valid = record {
-  are = λ settings. is ∙ sym (append-nil (spelling (Input 0 old.next_id terminal kept.code number kept.conversation kept.segments)));
-  valid = λ settings. (valid, tt);
-}
-
-pub completion_told : (unit : ℕ) (old : TablesState) (id : ℕ) (outputs : List EndedMessage) (pad : PadChange) (message : Message) (bytes : List ℕ)
-    → Some message ≡ message_at id old.queues.queued
-    → ((lasting : LastingState) → lasting.outputs ≡ old.outputs → lasting.next_id ≡ old.next_id → bytes ≡ flat_map spelling (completion_records unit message.origin id outputs lasting ++ SyncPoint unit pad ∷ []))
-    → ((lasting : LastingState) → lasting.outputs ≡ old.outputs → lasting.next_id ≡ old.next_id → AllByRecursion IsRecord (completion_records unit message.origin id outputs lasting ++ SyncPoint unit pad ∷ []))
-    → (rows : List (List Row)) → AreBytesOf unit (Completes id rows outputs pad) old bytes
-completion_told unit old id outputs pad message bytes found h all rows = record {
-  are = λ settings.
-      let lasting : LastingState = lasting_of settings old in
-      h lasting refl refl ∙ ap (λ (rs : List Record). flat_map spelling rs) (records_are settings);
-  valid = λ settings. subst (λ (rs : List Record). AllByRecursion IsRecord rs) (records_are settings) (all (lasting_of settings old) refl refl);
-} where
-  records_are : (settings : List CodeSetting) → completion_records unit message.origin id outputs (lasting_of settings old) ++ SyncPoint unit pad ∷ []
-      ≡ completed_by unit (Rattle.model_machine.specs.Machine.message_at (lasting_of settings old).messages id) outputs pad (lasting_of settings old)
-  records_are settings =
-      let lasting : LastingState = lasting_of settings old in
-      ap (λ i. completion_records unit message.origin i outputs lasting ++ SyncPoint unit pad ∷ []) (sym (found_message id old.queues.queued message (sym found)))
-      ∙ ap (λ m. completed_by unit m outputs pad lasting) (found ∙ sym (message_found id old.queues.queued))
-
-pub discarding_told : (unit : ℕ) (old : TablesState) (id : ℕ) (abend : AbendCode) (message : Message) (bytes : List ℕ)
-    → Some message ≡ message_at id old.queues.queued → bytes ≡ spelling (Discarded unit id abend (next_of message.origin old.outputs)) → IsRecord (Discarded unit id abend (next_of message.origin old.outputs))
-    → AreBytesOf unit (Discards id abend) old bytes
-discarding_told unit old id abend message bytes found is valid = record {
-  are = λ settings.
-      is
-      ∙ sym (append-nil (spelling (Discarded unit id abend (next_of message.origin old.outputs))))
-      ∙ ap (λ (rs : List Record). flat_map spelling rs) (records_are settings);
-  valid = λ settings. subst (λ (rs : List Record). AllByRecursion IsRecord rs) (records_are settings) (valid, tt);
-} where
-  records_are : (settings : List CodeSetting) → Discarded unit id abend (next_of message.origin old.outputs) ∷ []
-      ≡ discarded_by unit (Rattle.model_machine.specs.Machine.message_at (lasting_of settings old).messages id) abend (lasting_of settings old)
-  records_are settings =
-      let lasting : LastingState = lasting_of settings old in
-      ap (λ i. Discarded unit i abend (next_of message.origin old.outputs) ∷ []) (sym (found_message id old.queues.queued message (sym found)))
-      ∙ ap (λ m. discarded_by unit m abend lasting) (found ∙ sym (message_found id old.queues.queued))
-
--- what was appended is told
-module _ (unit room : ℕ) (step : LastingStep) (old : TablesState) (bytes : List ℕ) (are : AreBytesOf unit step old bytes) where
-  pub tells : (before after : List ℕ) → after ≡ before ++ bytes → length bytes ≤ room → Tells unit room step old before after
-  tells before after is fits = record {
-    told = λ settings. is ∙ ap (λ bs. before ++ bs) (are.are settings);
-    valid = are.valid;
-    fits = λ settings. subst (λ bs. length bs ≤ room) (are.are settings) fits;
+-- what is told of a step's records, whatever the settings of the codes are
+module _ (unit room : ℕ) (step : LastingStep) (old : TablesState) where
+  pub tells : (before after : List ℕ) → ((settings : List CodeSetting) → RecordsTell (step_records unit step (lasting_of settings old)) room before after) → Tells unit room step old before after
+  tells before after h = record {
+    told = λ settings. (h settings).told;
+    valid = λ settings. (h settings).valid;
+    fits = λ settings. (h settings).fits;
   }
 
-  pub longer : room < length bytes → IsLonger unit room step old
-  longer less settings = subst (λ bs. room < length bs) (are.are settings) less
+  pub longer : (error : Untold) → ((settings : List CodeSetting) → IsUntold (step_records unit step (lasting_of settings old)) room error) → WhereFull (IsLonger unit room step old) error
+  longer Memory h = tt
+  longer Full h = h
 
--- and taken back by the length before
-pub untold : (before told after : List ℕ) (bytes : List ℕ) (start : ℕ) → told ≡ before ++ bytes → start ≡ length before → after ≡ take start told → after ≡ before
-untold before told after bytes start is from cut =
-    cut ∙ ap (λ n. take n told) from ∙ ap (take (length before)) is ∙ take-append_seam before bytes
+pub completion_are : (unit : ℕ) (old : TablesState) (id : ℕ) (outputs : List EndedMessage) (pad : PadChange) (message : Message) → Some message ≡ message_at id old.queues.queued
+    → (rows : List (List Row)) (settings : List CodeSetting)
+    → completion_records unit message.origin id outputs (lasting_of settings old) ++ SyncPoint unit pad ∷ [] ≡ step_records unit (Completes id rows outputs pad) (lasting_of settings old)
+completion_are unit old id outputs pad message found rows settings =
+    let lasting : LastingState = lasting_of settings old in
+    ap (λ i. completion_records unit message.origin i outputs lasting ++ SyncPoint unit pad ∷ []) (sym (found_message id old.queues.queued message (sym found)))
+    ∙ ap (λ m. completed_by unit m outputs pad lasting) (found ∙ sym (message_found id old.queues.queued))
+
+pub discarding_are : (unit : ℕ) (old : TablesState) (id : ℕ) (abend : AbendCode) (message : Message) (number : ℕ) → Some message ≡ message_at id old.queues.queued → number ≡ next_of message.origin old.outputs
+    → (settings : List CodeSetting) → Discarded unit id abend number ∷ [] ≡ step_records unit (Discards id abend) (lasting_of settings old)
+discarding_are unit old id abend message number found numbered settings =
+    let lasting : LastingState = lasting_of settings old in
+    ap (λ n. Discarded unit id abend n ∷ []) numbered
+    ∙ ap (λ i. Discarded unit i abend (next_of message.origin old.outputs) ∷ []) (sym (found_message id old.queues.queued message (sym found)))
+    ∙ ap (λ m. discarded_by unit m abend lasting) (found ∙ sym (message_found id old.queues.queued))
 
 -- what is so where there is no room
 pub where_full : {P Q : Type 0} (error : Untold) → (P → Q) → WhereFull P error → WhereFull Q error
 where_full Memory f h = tt
 where_full Full f h = f h
 
-pub err_where : {A P Q : Type 0} (result : Result A Untold) → (P → Q) → IfErr result (WhereFull P) → IfErr result (WhereFull Q)
-err_where (Ok value) f h = h
-err_where (Err error) f h = where_full error f h
+-- what is so of the error is so of a result that is this error
+pub err_is : {A : Type 0} (P : Untold → Type 0) (result : Result A Untold) (error : Untold) → result ≡ Err error → P error → IfErr result P
+err_is P result error is h = subst (λ r. IfErr r P) (sym is) h
+
+-- what is cut back to what was there
+pub cut_back : (records : List Record) (room start : ℕ) (before told after : List ℕ) → RecordsTell records room before told → start ≡ length before → after ≡ take start told → after ≡ before
+cut_back records room start before told after h at cut =
+    cut ∙ (ap (λ n. take n told) at ∙ (ap (take (length before)) h.told ∙ take-append_seam before (spelled records)))
 
 -- ---- acknowledgements
 
@@ -124,14 +96,9 @@ pub removes_so : (outputs : Option TerminalReplies) (number : ℕ) → removes_b
 removes_so None number f = let clash : false ≡ true = f in absurd (cc)
 removes_so (Some kept) number f = acked_by kept number (slice_get kept.replies 0) refl f
 
-pub acknowledged_told : (old : TablesState) (terminal : List ℕ) (number : ℕ) (bytes : List ℕ) → removes_by (output_at old.outputs terminal) number ≡ true
-    → bytes ≡ spelling (Acknowledged terminal number) → IsRecord (Acknowledged terminal number) → AreBytesOf 0 (Acknowledges terminal) old bytes
-acknowledged_told old terminal number bytes removes is valid = record {
-  are = λ settings.
-      is ∙ ap (λ n. spelling (Acknowledged terminal n)) (sym (removes_so (output_at old.outputs terminal) number removes).1)
-      ∙ sym (append-nil (spelling (acknowledged_record terminal (lasting_of settings old))));
-  valid = λ settings. (subst (λ n. IsRecord (Acknowledged terminal n)) (sym (removes_so (output_at old.outputs terminal) number removes).1) valid, tt);
-}
+pub acknowledged_are : (old : TablesState) (terminal : List ℕ) (number : ℕ) → removes_by (output_at old.outputs terminal) number ≡ true
+    → (settings : List CodeSetting) → Acknowledged terminal number ∷ [] ≡ step_records 0 (Acknowledges terminal) (lasting_of settings old)
+acknowledged_are old terminal number removes settings = ap (λ n. Acknowledged terminal n ∷ []) (sym (removes_so (output_at old.outputs terminal) number removes).1)
 
 -- an answer by which nothing is removed tells nothing
 not_removed : (outputs : Option TerminalReplies) (number : ℕ) → removes_by outputs number ≡ false → ack_by outputs number ≡ Ok Removed → ⊥

@@ -18,11 +18,6 @@ use Rattle.lasting_state.specs.declared.tables.Enqueued.{Enqueued}
 use Rattle.lasting_state.specs.declared.tables.Enqueued.TheVariants.{New, Full}
 use Rattle.lasting_state.specs.Tables.{TablesState, lasting_of, needs}
 
--- These bytes are those of the records of a step in this state, whatever the settings of the codes are.
-pub record AreBytesOf (unit : ℕ) (step : LastingStep) (old : TablesState) (bytes : List ℕ) : Type 0 where
-  pub are : (settings : List CodeSetting) → bytes ≡ step_bytes unit step (lasting_of settings old)
-  pub valid : (settings : List CodeSetting) → AllByRecursion IsRecord (step_records unit step (lasting_of settings old))
-
 -- The records of a step in this state were appended, whatever the settings of the codes are. Each is one by the ranges of its
 -- fields, and they fit the room.
 pub record Tells (unit room : ℕ) (step : LastingStep) (old : TablesState) (before after : List ℕ) : Type 0 where

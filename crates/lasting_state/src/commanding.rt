@@ -1,9 +1,9 @@
 //! Commands of an operator that last.
-ghost use Rattle.std.specs.Prelude.{◌≡◌, ◌<◌, ◌^◌, IfErr, IfOk, OnErr, OnOk};
+ghost use Rattle.std.specs.Prelude.{◌≡◌, ◌<◌, ◌^◌, IfErr, OnErr, OnOk};
 ghost use Rattle.model_machine.specs.Lasting.LastingStep.{Commands};
 ghost use Rattle.step_telling.specs.Untold.{WhereFull};
 ghost use Rattle.lasting_state.specs.Commands.{AppliesCommand, command_done, commanded};
-ghost use Rattle.lasting_state.specs.Telling.{AreBytesOf, IsLonger, Tells};
+ghost use Rattle.lasting_state.specs.Telling.{IsLonger, Tells};
 
 use crate::limits::COUNT_LIMIT;
 use crate::tables::Tables;
@@ -12,8 +12,8 @@ use log_records::Untold;
 use model_conversation::PadChange;
 use std::alloc::Global;
 use step_changes::change_pad;
-use step_telling::{command_bytes, tell};
-use tm_types::{LastingCommand, Memory};
+use step_telling::tell_command;
+use tm_types::LastingCommand;
 
 impl Tables {
     /// Does a command: it changes these tables, and what it changes in the settings of the codes is the caller's to do. Its
@@ -36,21 +36,9 @@ impl Tables {
         if self.steps >= COUNT_LIMIT {
             return Err(Untold::Memory);
         }
-        let Ok(spelled) = self.command_record(alloc, command) else {
-            return Err(Untold::Memory);
-        };
-        tell(told, &spelled, room)?;
+        tell_command(alloc, command, room, told)?;
         self.do_command(command);
         Ok(())
-    }
-
-    /// The record of a command, spelled.
-    fn command_record(&self, alloc: Global, command: &LastingCommand) -> Result<Vec<u8>, Memory>
-        ensures { IfOk result (λ bytes. AreBytesOf 0 (Commands command.now) self.now bytes.items) }
-    {
-        let _ = &self.steps;
-        let bytes = command_bytes(alloc, command)?;
-        Ok(bytes)
     }
 
     fn do_command(&mut self, command: &LastingCommand)

@@ -1,22 +1,22 @@
 //! Lasting steps that are told in records.
 //!
-//! What would be told is spelled before anything is changed, and so is looked at whether it fits.
-ghost use Rattle.std.specs.Prelude.{◌≡◌, ◌<◌, ◌≤◌, ◌^◌, ◌++◌, true, IfOk, IfErr, IfSome, OnOk, OnErr, IsSome, IsSomeAnd, Some, List, length, slice_get};
+//! What a step does is told before anything is changed, where it fits; a step that fails is told no more.
+ghost use Rattle.std.specs.Prelude.{◌≡◌, ◌<◌, ◌≤◌, ◌^◌, [], ◌∷◌, true, IfOk, IfErr, IfSome, OnOk, OnErr, IsSome, Some, length, slice_get};
 ghost use Rattle.std.specs.Option.{option_copied};
-ghost use Rattle.model_queues.specs.Queue.{IsNewId, message_at, queued_at};
+ghost use Rattle.model_queues.specs.Queue.{IsNewId, queued_at};
 ghost use Rattle.model_queues.specs.Outputs.{next_of};
-ghost use Rattle.model_machine.specs.declared.lasting.CodeSetting.{CodeSetting};
 ghost use Rattle.model_machine.specs.Machine.{output_at, terminal_place};
 ghost use Rattle.model_machine.specs.Lasting.{abend_outputs, discarded_pad};
-ghost use Rattle.model_machine.specs.Lasting.LastingStep.{Accepts, Completes, Discards};
+ghost use Rattle.model_machine.specs.Lasting.LastingStep.{Completes, Discards};
+ghost use Rattle.log_records.specs.declared.record.Record.TheVariants.{Input};
 ghost use Rattle.log_records.specs.Spelling.{IsAbend, IsCount};
+ghost use Rattle.log_records.specs.Telling.{IsUntold, Tells as RecordsTell};
 ghost use Rattle.program_rows.specs.State.{committed_rows, dbds_of, region_at, AreRowsOf, IsRegionOf};
 ghost use Rattle.program_rows.specs.Answering.{IsCommitted, IsGivenUp};
-ghost use Rattle.step_records.specs.Records.{step_bytes};
 ghost use Rattle.step_telling.specs.Ranges.{HaveCounts, HasShortPad};
 ghost use Rattle.step_telling.specs.Untold.{WhereFull};
-ghost use Rattle.lasting_state.specs.Tables.{lasting_of, needs, Applies, IsAcknowledged, IsEnqueued, IsClosed};
-ghost use Rattle.lasting_state.specs.Telling.{AreBytesOf, IsLonger, IsRefused, Tells, TellsAcknowledged, TellsInput, WouldAcknowledge, WouldTell, is_first_of, removes_by};
+ghost use Rattle.lasting_state.specs.Tables.{needs, Applies, IsAcknowledged, IsEnqueued, IsClosed};
+ghost use Rattle.lasting_state.specs.Telling.{IsLonger, IsRefused, Tells, TellsAcknowledged, TellsInput, WouldAcknowledge, WouldTell, is_first_of, removes_by};
 
 use crate::conversing::KeptInput;
 use crate::limits::COUNT_LIMIT;
@@ -31,7 +31,7 @@ use out_queues::Outputs;
 use std::alloc::Global;
 use std::collections::VecDeque;
 use step_changes::bytes_of;
-use step_telling::{acknowledged_bytes, completion_bytes, discarding_bytes, input_bytes, tell};
+use step_telling::{tell_acknowledged, tell_completion, tell_discarded, tell_input};
 use tm_types::{AbendCode, Memory, Name};
 
 impl Tables {
@@ -41,7 +41,6 @@ impl Tables {
     /// count would pass its limit.
     pub fn enqueue(
         &mut self,
-        alloc: Global,
         place: usize,
         terminal: &Name,
         number: u64,
@@ -69,7 +68,7 @@ impl Tables {
                 Err(_) => Err(Untold::Memory),
             };
         }
-        self.keep_told(alloc, place, terminal, number, kept, busy, room, told)
+        self.keep_told(place, terminal, number, kept, busy, room, told)
     }
 
     /// The bytes that an input needs beside so many busy regions, or None where they pass the limit of all counts.
@@ -107,7 +106,6 @@ impl Tables {
     /// Keeps an input for which the queues have the room, and tells it.
     fn keep_told(
         &mut self,
-        alloc: Global,
         place: usize,
         terminal: &Name,
         number: u64,
@@ -127,11 +125,8 @@ impl Tables {
         ensures full { IfErr result (WhereFull (WouldTell self.old terminal.now number kept busy room)) }
         ensures above { OnOk result (IsNewId self.old.next_id self.old.queues.queued) }
     {
-        let Ok(spelled) = self.input(alloc, terminal, number, &kept) else {
-            return Err(Untold::Memory);
-        };
         let start = told.len();
-        tell(told, &spelled, room)?;
+        tell_kept(self.next_id, terminal, number, &kept, room, told)?;
         match self.keep(place, terminal, number, kept, busy) {
             Ok(Enqueued::New(id)) => Ok(Enqueued::New(id)),
             Ok(Enqueued::Full(_needed, _limit)) => unreachable!(),
@@ -142,34 +137,10 @@ impl Tables {
         }
     }
 
-    /// The record of an input that is kept next, spelled.
-    fn input(
-        &self,
-        alloc: Global,
-        terminal: &Name,
-        number: u64,
-        kept: &KeptInput,
-    ) -> Result<Vec<u8>, Memory>
-        requires { IsCount kept.now.segments }
-        ensures { IfOk result (λ bytes. AreBytesOf 0 (Accepts terminal.now number kept.now) self.now bytes.items) }
-    {
-        let bytes = input_bytes(
-            alloc,
-            self.next_id,
-            terminal,
-            &kept.code,
-            number,
-            kept.conversation,
-            &kept.segments,
-        )?;
-        Ok(bytes)
-    }
-
     /// Takes an acknowledgement, or says why not. The record of a reply that is removed, of at most `room` bytes, is appended.
     /// After an Err nothing has changed; `Memory` is answered too where the count of steps would pass its limit.
     pub fn acknowledge(
         &mut self,
-        alloc: Global,
         terminal: &Name,
         number: u64,
         room: usize,
@@ -185,7 +156,7 @@ impl Tables {
             return Err(Untold::Memory);
         }
         if removes(self.outputs.terminal(terminal), number) {
-            return self.remove(alloc, terminal, number, room, told);
+            return self.remove(terminal, number, room, told);
         }
         Ok(self.take_acknowledgement(terminal, number))
     }
@@ -193,7 +164,6 @@ impl Tables {
     /// Takes the acknowledgement of the first reply that is kept, and tells it.
     fn remove(
         &mut self,
-        alloc: Global,
         terminal: &Name,
         number: u64,
         room: usize,
@@ -207,10 +177,7 @@ impl Tables {
         ensures untold { OnErr result (told.new.items ≡ told.old.items) }
         ensures full { IfErr result (WhereFull (WouldAcknowledge self.old terminal.now number room)) }
     {
-        let Ok(spelled) = acknowledged_bytes(alloc, terminal, number) else {
-            return Err(Untold::Memory);
-        };
-        tell(told, &spelled, room)?;
+        tell_acknowledged(terminal, number, room, told)?;
         Ok(self.take_acknowledgement(terminal, number))
     }
 
@@ -220,7 +187,6 @@ impl Tables {
     /// too where a count would pass its limit.
     pub fn complete(
         &mut self,
-        alloc: Global,
         region: u32,
         id: u64,
         outputs: VecDeque<EndedMessage>,
@@ -244,11 +210,21 @@ impl Tables {
         ensures full { IfErr result (WhereFull (IsLonger unit room (Completes id (region_at region self.old.databases).rows outputs.items pad) self.old)) }
         ensures above { OnOk result (IsNewId self.old.next_id self.old.queues.queued) }
     {
-        let Ok(spelled) = self.completion(alloc, region, unit, id, &outputs, &pad) else {
-            return Err(Untold::Memory);
+        let Some(message) = self.queues.find(id) else {
+            unreachable!()
         };
         let start = told.len();
-        tell(told, &spelled, room)?;
+        tell_completion(
+            unit,
+            &self.outputs,
+            self.next_id,
+            &message.origin,
+            id,
+            &outputs,
+            &pad,
+            room,
+            told,
+        )?;
         match self.commit(region, id, outputs, pad) {
             Ok(()) => Ok(()),
             Err(_) => {
@@ -256,37 +232,6 @@ impl Tables {
                 Err(Untold::Memory)
             }
         }
-    }
-
-    /// The records of a completion, spelled.
-    fn completion(
-        &self,
-        alloc: Global,
-        _region: u32,
-        unit: u64,
-        id: u64,
-        outputs: &VecDeque<EndedMessage>,
-        pad: &PadChange,
-    ) -> Result<Vec<u8>, Memory>
-        requires found { IsSome (queued_at id self.now.queues.queued) }
-        requires counts { HaveCounts outputs.now.items }
-        requires pad { HasShortPad pad.now }
-        ensures { IfOk result (λ bytes. AreBytesOf unit (Completes id (region_at _region self.now.databases).rows outputs.now.items pad.now) self.now bytes.items) }
-    {
-        let Some(message) = self.queues.find(id) else {
-            unreachable!()
-        };
-        let bytes = completion_bytes(
-            alloc,
-            unit,
-            &self.outputs,
-            self.next_id,
-            &message.origin,
-            id,
-            outputs,
-            pad,
-        )?;
-        Ok(bytes)
     }
 
     /// Discards the message of this id, the work on which ended abnormally in a region: it goes, its origin
@@ -316,11 +261,12 @@ impl Tables {
         ensures full { IfErr result (WhereFull (IsLonger unit room (Discards id abend) self.old)) }
         ensures above { OnOk result (IsNewId self.old.next_id self.old.queues.queued) }
     {
-        let Ok(spelled) = self.discarding(alloc, unit, id, abend) else {
-            return Err(Untold::Memory);
+        let Some(message) = self.queues.find(id) else {
+            unreachable!()
         };
+        let number = next_number(&self.outputs, &message.origin);
         let start = told.len();
-        tell(told, &spelled, room)?;
+        tell_discarded(unit, id, abend, number, room, told)?;
         match self.back_out(alloc, region, id, abend) {
             Ok(()) => Ok(()),
             Err(_) => {
@@ -329,26 +275,32 @@ impl Tables {
             }
         }
     }
+}
 
-    /// The record of a discarded message, spelled.
-    fn discarding(
-        &self,
-        alloc: Global,
-        unit: u64,
-        id: u64,
-        abend: AbendCode,
-    ) -> Result<Vec<u8>, Memory>
-        requires found { IsSome (queued_at id self.now.queues.queued) }
-        requires abend { IsAbend abend.number }
-        ensures { IfOk result (λ bytes. AreBytesOf unit (Discards id abend) self.now bytes.items) }
-    {
-        let Some(message) = self.queues.find(id) else {
-            unreachable!()
-        };
-        let number = next_number(&self.outputs, &message.origin);
-        let bytes = discarding_bytes(alloc, unit, id, abend, number)?;
-        Ok(bytes)
-    }
+/// Tells an input as it is kept under this id.
+fn tell_kept(
+    id: u64,
+    terminal: &Name,
+    number: u64,
+    kept: &KeptInput,
+    room: usize,
+    told: &mut Vec<u8>,
+) -> Result<(), Untold>
+    requires { IsCount kept.now.segments }
+    ensures told { OnOk result (RecordsTell (Input 0 id terminal.now kept.now.code number kept.now.conversation kept.now.segments ∷ []) room told.old.items told.new.items) }
+    ensures untold { OnErr result (told.new.items ≡ told.old.items) }
+    ensures full { IfErr result (IsUntold (Input 0 id terminal.now kept.now.code number kept.now.conversation kept.now.segments ∷ []) room) }
+{
+    tell_input(
+        id,
+        terminal,
+        &kept.code,
+        number,
+        kept.conversation,
+        &kept.segments,
+        room,
+        told,
+    )
 }
 
 /// The number that the next reply to this name gets, which is 1 where no terminal has it.

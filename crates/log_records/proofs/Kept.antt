@@ -1,7 +1,7 @@
 -- What stood in a vector before a part was added that found no memory still stands at its front.
 use Rattle.std.proofs.Common.{◌≡◌, ℕ, ◌≤◌, List, ◌++◌, length, take, Result, Ok, Err, ap, ◌∙◌, sym, arith}
 use Rattle.std.proofs.Math.Seq.{take-append_seam}
-use Rattle.std.proofs.lemmas.List.{length-append, take-take}
+use Rattle.std.proofs.lemmas.List.{length-append, length-take, take-take, take_all}
 use Rattle.std.specs.Result.{OnErr}
 
 abbrev pub Keeps : List ℕ → List ℕ → Type 0
@@ -10,6 +10,20 @@ Keeps old new = take (length old) new ≡ old
 pub failed : {T E P : Type 0} → (r : Result T E) → P → OnErr r P
 failed (Ok x) p = tt
 failed (Err e) p = p
+
+-- the same
+pub same : (old new : List ℕ) → new ≡ old → Keeps old new
+same old new is = ap (take (length old)) is ∙ take_all (length old) old (omega arith)
+
+-- one after the other
+pub both : (old mid new : List ℕ) → Keeps old mid → Keeps mid new → Keeps old new
+both old mid new first second =
+    let longer : length old ≤ length mid = omega (arith, ap (length {A = ℕ}) first, length-take (length old) mid) in
+    sym (take-take (length old) (length mid) new longer) ∙ ap (take (length old)) second ∙ first
+
+-- and a part is added
+pub more : (x old mid new : List ℕ) → Keeps old mid → new ≡ mid ++ x → Keeps old new
+more x old mid new first is = both old mid new first (ap (take (length mid)) is ∙ take-append_seam mid x)
 
 -- behind a part that was added
 pub behind : (x old mid new : List ℕ) → mid ≡ old ++ x → Keeps mid new → Keeps old new

@@ -8,3 +8,5 @@ pub mod PutTexts
 pub mod Lengths
 pub mod Wrong
 pub mod WithLength
+pub mod Told
+pub mod Rows

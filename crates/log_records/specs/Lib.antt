@@ -1,3 +1,4 @@
 pub mod Spelling
+pub mod Telling
 pub mod Reading
 pub mod Decoding

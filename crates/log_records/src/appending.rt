@@ -1,13 +1,16 @@
 //! Records, spelled from borrowed parts.
 ghost use Rattle.std.specs.Prelude.{◌≡◌, ◌<◌, ◌≤◌, ◌^◌, ◌+◌, ◌-◌, ◌++◌, length, take, drop, OnOk, OnErr};
-ghost use Rattle.log_records.specs.declared.record.Record.TheVariants.{Input, Reply, Discarded, Completed, Acknowledged, SyncPoint, Checkpoint, Terminal, Code, Change};
+ghost use Rattle.log_records.specs.declared.record.Record.TheVariants.{Input, Command, Reply, Discarded, Completed, Acknowledged, SyncPoint, Checkpoint, Terminal, Code, Change};
 ghost use Rattle.log_records.specs.Spelling.{number2, spelling, IsCount, IsAbend, IsPadChange, HasRoom, IsShort, IsRecord};
+ghost use Rattle.model_rows.specs.Record.{spelling as rows_spelling};
 
 use crate::encoding::{
-    put_acknowledged, put_change, put_checkpoint, put_code, put_completed, put_discarded,
+    put_acknowledged, put_checkpoint, put_code, put_command, put_completed, put_discarded,
     put_input, put_reply, put_sync_point, put_terminal,
 };
+use crate::images::put_row_change;
 use model_conversation::{Conversation, PadChange};
+use model_rows::Row;
 use tm_types::{AbendCode, Memory, Name, Segments};
 
 // The record that begins at `start` gets its length, for which it has two bytes; where there was no memory to write it
@@ -49,6 +52,19 @@ pub fn append_input(
     let start = out.len();
     out.extend_from_slice(&[0, 0])?;
     let written = put_input(out, unit, id, origin, code, number, conversation, segments);
+    end_record(out, start, written)
+}
+
+/// Appends the spelling of a command that lasts, whose text has at most 80 bytes. After `Memory` nothing of it is.
+pub fn append_command(out: &mut Vec<u8>, text: &[u8]) -> Result<(), Memory>
+    requires { length text.now ≤ 80 }
+    ensures ok { OnOk result (out.new.items ≡ out.old.items ++ spelling (Command text.now)) }
+    ensures valid { OnOk result (IsRecord (Command text.now)) }
+    ensures unwritten { OnErr result (out.new.items ≡ out.old.items) }
+{
+    let start = out.len();
+    out.extend_from_slice(&[0, 0])?;
+    let written = put_command(out, text);
     end_record(out, start, written)
 }
 
@@ -194,24 +210,24 @@ pub fn append_code(
     end_record(out, start, written)
 }
 
-/// Appends the spelling of a slot's change. Each image has at most 4,000 bytes; an empty one is no record. After `Memory`
-/// nothing of it is.
+/// Appends the spelling of a slot's change, with the rows of the record in it before and after. Each image has at most 4,000
+/// bytes; one without rows is no record. After `Memory` nothing of it is.
 pub fn append_change(
     out: &mut Vec<u8>,
     unit: u64,
     database: u8,
     slot: u16,
-    before: &[u8],
-    after: &[u8],
+    before: &[Row],
+    after: &[Row],
 ) -> Result<(), Memory>
-    requires before { length before.now ≤ 4000 }
-    requires after { length after.now ≤ 4000 }
-    ensures ok { OnOk result (out.new.items ≡ out.old.items ++ spelling (Change unit database slot before.now after.now)) }
-    ensures valid { OnOk result (IsRecord (Change unit database slot before.now after.now)) }
+    requires before { length (rows_spelling before.now) ≤ 4000 }
+    requires after { length (rows_spelling after.now) ≤ 4000 }
+    ensures ok { OnOk result (out.new.items ≡ out.old.items ++ spelling (Change unit database slot (rows_spelling before.now) (rows_spelling after.now))) }
+    ensures valid { OnOk result (IsRecord (Change unit database slot (rows_spelling before.now) (rows_spelling after.now))) }
     ensures unwritten { OnErr result (out.new.items ≡ out.old.items) }
 {
     let start = out.len();
     out.extend_from_slice(&[0, 0])?;
-    let written = put_change(out, unit, database, slot, before, after);
+    let written = put_row_change(out, unit, database, slot, before, after);
     end_record(out, start, written)
 }

@@ -1,6 +1,6 @@
 //! Records, spelled.
 ghost use Rattle.std.specs.Prelude.{◌≡◌, ◌<◌, ◌≤◌, ◌^◌, ◌++◌, ◌∷◌, [], length, take, OnOk, OnErr};
-ghost use Rattle.log_records.specs.declared.record.Record.TheVariants.{Input, Reply, Discarded, Completed, Acknowledged, SyncPoint, Checkpoint, Terminal, Code, Change};
+ghost use Rattle.log_records.specs.declared.record.Record.TheVariants.{Input, Command, Reply, Discarded, Completed, Acknowledged, SyncPoint, Checkpoint, Terminal, Code, Change};
 ghost use Rattle.std.specs.List.{AllByRecursion, flat_map};
 ghost use Rattle.tm_types.specs.Name.{IsName};
 ghost use Rattle.tm_types.specs.Segment.{IsSegmentText};
@@ -12,7 +12,7 @@ use std::alloc::Global;
 use tm_types::{AbendCode, Memory, Name, Segments};
 
 #[tactic(auto, unfolding(crate::specs::Spelling::number2))]
-fn put_number2(out: &mut Vec<u8>, number: u16) -> Result<(), Memory>
+pub(crate) fn put_number2(out: &mut Vec<u8>, number: u16) -> Result<(), Memory>
     ensures ok { OnOk result (out.new.items ≡ out.old.items ++ number2 number) }
     ensures kept { OnErr result (take (length out.old.items) out.new.items ≡ out.old.items) }
 {
@@ -159,6 +159,16 @@ pub(crate) fn put_input(
     put_segments(out, segments)
 }
 
+pub(crate) fn put_command(out: &mut Vec<u8>, text: &[u8]) -> Result<(), Memory>
+    requires { length text.now ≤ 80 }
+    ensures ok { OnOk result (out.new.items ≡ out.old.items ++ content (Command text.now)) }
+    ensures valid { OnOk result (AreInRange (Command text.now)) }
+    ensures kept { OnErr result (take (length out.old.items) out.new.items ≡ out.old.items) }
+{
+    out.push(0x02)?;
+    put_text(out, text)
+}
+
 pub(crate) fn put_reply(
     out: &mut Vec<u8>,
     unit: u64,
@@ -288,7 +298,18 @@ pub(crate) fn put_code(
     Ok(())
 }
 
-pub(crate) fn put_change(
+/// Appends the front of a slot's change, to which its images belong.
+pub(crate) fn put_slot(out: &mut Vec<u8>, unit: u64, database: u8, slot: u16) -> Result<(), Memory>
+    ensures ok { OnOk result (out.new.items ≡ out.old.items ++ 0x50 ∷ (number8 unit ++ database ∷ number2 slot)) }
+    ensures kept { OnErr result (take (length out.old.items) out.new.items ≡ out.old.items) }
+{
+    out.push(0x50)?;
+    put_number8(out, unit)?;
+    out.push(database)?;
+    put_number2(out, slot)
+}
+
+fn put_change(
     out: &mut Vec<u8>,
     unit: u64,
     database: u8,
@@ -302,10 +323,7 @@ pub(crate) fn put_change(
     ensures valid { OnOk result (AreInRange (Change unit database slot before.now after.now)) }
     ensures kept { OnErr result (take (length out.old.items) out.new.items ≡ out.old.items) }
 {
-    out.push(0x50)?;
-    put_number8(out, unit)?;
-    out.push(database)?;
-    put_number2(out, slot)?;
+    put_slot(out, unit, database, slot)?;
     put_text(out, before)?;
     put_text(out, after)
 }
@@ -335,10 +353,7 @@ fn put_content(out: &mut Vec<u8>, value: &Record) -> Result<(), Memory>
             *conversation,
             segments,
         ),
-        Record::Command { text } => {
-            out.push(0x02)?;
-            put_text(out, text.as_slice())
-        }
+        Record::Command { text } => put_command(out, text.as_slice()),
         Record::Reply {
             unit,
             terminal,

@@ -6,14 +6,16 @@
 #![tactic(auto)]
 
 pub use appending::{
-    append_acknowledged, append_change, append_checkpoint, append_code, append_completed,
-    append_discarded, append_input, append_reply, append_sync_point, append_terminal,
+    append_acknowledged, append_change, append_checkpoint, append_code, append_command,
+    append_completed, append_discarded, append_input, append_reply, append_sync_point,
+    append_terminal,
 };
 pub use decoding::{decode, one_spelling};
 pub use encoding::encode;
 pub use fault::DecodeFault;
 pub use model_conversation::{Conversation, PadChange};
 pub use record::Record;
+pub use telling::end_telling;
 pub use untold::Untold;
 
 mod appending;
@@ -21,7 +23,9 @@ mod decoding;
 mod encoding;
 mod fault;
 mod fields;
+mod images;
 mod layouts;
 mod record;
+mod telling;
 mod untold;
 mod wrong_bytes;

@@ -30,7 +30,8 @@ use Rattle.system_types.specs.Valid.{IsDatabase}
 use Rattle.log_records.specs.declared.record.Record.{Record}
 use Rattle.log_records.specs.declared.untold.Untold.{Untold}
 use Rattle.program_rows.specs.OnSlots.{slots_in, CallsSo}
-use Rattle.program_rows.specs.Telling.{call_told, Tells, IsUntold}
+use Rattle.log_records.specs.Telling.{Tells, IsUntold}
+use Rattle.program_rows.specs.Telling.{call_told}
 use Rattle.message_run.specs.Telling.{reach_told, TellsNext}
 use Rattle.message_run.proofs.Calls.{all_at}
 use Rattle.message_run.proofs.Regions.{set_region}

@@ -23,7 +23,8 @@ use Rattle.log_records.specs.declared.record.Record.{Record}
 use Rattle.log_records.specs.declared.untold.Untold.{Untold}
 use Rattle.program_rows.specs.State.{DatabasesState, data_of}
 use Rattle.program_rows.specs.Answering.{told_blocked}
-use Rattle.program_rows.specs.Telling.{spelled, unless_stopped, Tells, IsUntold}
+use Rattle.log_records.specs.Telling.{spelled, Tells, IsUntold}
+use Rattle.program_rows.specs.Telling.{unless_stopped}
 use Rattle.tm_types.specs.declared.abend.AbendCode.{AbendCode}
 use Rattle.tm_types.specs.declared.resource.Resource.{Resource}
 use Rattle.model_enqueue.specs.declared.request.Request.{Request}

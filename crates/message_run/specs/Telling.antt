@@ -13,7 +13,8 @@ use Rattle.log_records.specs.declared.record.Record.{Record}
 use Rattle.log_records.specs.declared.untold.Untold.{Untold}
 use Rattle.program_rows.specs.State.{DatabasesState}
 use Rattle.program_rows.specs.OnSlots.{slots_in, CallsSo}
-use Rattle.program_rows.specs.Telling.{back_told, call_told, Tells, IsUntold}
+use Rattle.log_records.specs.Telling.{Tells, IsUntold}
+use Rattle.program_rows.specs.Telling.{back_told, call_told}
 use Rattle.message_run.specs.declared.run.Advanced.{Advanced}
 use Rattle.message_run.specs.declared.run.Advanced.TheVariants.{Called, Ended, Waits}
 use Rattle.message_run.specs.RunState.{RunState}

@@ -1,36 +1,14 @@
 -- Records of slots that are appended, one after another.
-use Rattle.std.proofs.Common.{◌≡◌, ℕ, zero, suc, ◌+◌, ◌≤◌, List, [], ◌∷◌, ◌++◌, length, map, drop, sym, ◌∙◌, ap, subst, Some, append_assoc, append-nil, add-one}
+use Rattle.std.proofs.Common.{◌≡◌, ℕ, zero, suc, ◌+◌, List, [], ◌∷◌, ◌++◌, map, drop, sym, ap, subst, Some, add-one}
 use Rattle.std.specs.Prelude.{slice_get}
-use Rattle.std.specs.List.{flat_map, AllByRecursion}
 use Rattle.std.proofs.lemmas.Option.{same_Some, none-some}
-use Rattle.std.proofs.lemmas.List.Concat.{flat_map-cons, flat_map-append}
 use Rattle.seg_store.specs.Slots.{Stored}
 use Rattle.unit_work.specs.declared.change.Change.{Change}
 use Rattle.log_records.specs.declared.record.Record.{Record}
 use Rattle.log_records.specs.Spelling.{spelling, IsRecord}
-use Rattle.program_rows.specs.Telling.{slot_told, Adds, Tells}
-
-all_both : (some more : List Record) → AllByRecursion IsRecord some → AllByRecursion IsRecord more → AllByRecursion IsRecord (some ++ more)
-all_both [] more a b = b
-all_both (r ∷ some) more a b = (a.0, all_both some more a.1 b)
-
-adds_both : (some more : List Record) (before middle after : List ℕ) → Adds some before middle → Adds more middle after → Adds (some ++ more) before after
-adds_both some more before middle after a b = record {
-  bytes =
-      b.bytes ∙ ap (λ (l : List ℕ). l ++ flat_map spelling more) a.bytes
-      ∙ append_assoc before (flat_map spelling some) (flat_map spelling more)
-      ∙ ap (λ (l : List ℕ). before ++ l) (sym (flat_map-append spelling some more));
-  valid = all_both some more a.valid b.valid;
-}
-
-pub adds_one : (r : Record) (before after : List ℕ) → after ≡ before ++ spelling r → IsRecord r → Adds (r ∷ []) before after
-adds_one r before after is valid = record {
-  bytes = is ∙ ap (λ (l : List ℕ). before ++ l) (sym (flat_map-cons spelling r [] ∙ append-nil (spelling r)));
-  valid = (valid, tt);
-}
-
-pub adds_none : (before : List ℕ) → Adds [] before before
-adds_none before = record { bytes = sym (append-nil before); valid = tt }
+use Rattle.log_records.specs.Telling.{Adds}
+use Rattle.log_records.proofs.Told.{adds_both, adds_one}
+use Rattle.program_rows.specs.Telling.{slot_told}
 
 -- All that is to come comes to these records.
 abbrev pub Comes : List Record → List Record → List ℕ → List ℕ → Type 0
@@ -54,12 +32,3 @@ pub slots_more : (unit : ℕ) (stores : List Stored) (slots : List Change) (i : 
 slots_more unit stores slots i s before now next at one valid comes =
     comes_more (slot_told unit stores s) (map (slot_told unit stores) (drop (i + 1) slots)) (map (slot_told unit stores) (drop i slots)) (map (slot_told unit stores) slots) before now next
     (ap (map (slot_told unit stores)) (drop_more slots i s at)) one valid comes
-
--- what is told in one go
-pub adds_told : (records : List Record) (room : ℕ) (bytes old new : List ℕ) → Adds records [] bytes → new ≡ old ++ bytes → length bytes ≤ room → Tells records room old new
-adds_told records room bytes old new a e fits =
-    record {
-      told = e ∙ ap (λ (l : List ℕ). old ++ l) a.bytes;
-      valid = a.valid;
-      fits = subst (λ (l : List ℕ). length l ≤ room) a.bytes fits;
-    }

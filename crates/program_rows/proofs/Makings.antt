@@ -15,7 +15,7 @@ use Rattle.program_rows.specs.Open.{records_of, slots_of}
 use Rattle.tm_types.specs.declared.dbd.Dbd.{Dbd}
 use Rattle.log_records.specs.declared.untold.Untold.{Untold}
 use Rattle.log_records.specs.declared.untold.Untold.TheVariants as untold
-use Rattle.program_rows.specs.Telling.{IsUntold}
+use Rattle.log_records.specs.Telling.{IsUntold}
 use Rattle.program_rows.specs.Making.{IsPut, IsSame, IsSet, HasAskedIn, MarksEdit, TakesSlot, IsUntoldEdit, changed_in, edit_abend, edit_told, kept_of}
 use Rattle.program_rows.specs.declared.asked.Asked.{Asked}
 use Rattle.program_rows.specs.declared.opened.Opened.{Opened}

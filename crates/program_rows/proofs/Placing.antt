@@ -13,7 +13,8 @@ use Rattle.log_records.specs.declared.record.Record.{Record}
 use Rattle.log_records.specs.declared.record.Record.TheVariants as told
 use Rattle.change_records.specs.Images.{image_at}
 use Rattle.program_rows.specs.Making.{TakesSlot, edit_told}
-use Rattle.program_rows.specs.Telling.{set_told, spelled, Tells}
+use Rattle.log_records.specs.Telling.{spelled, Tells}
+use Rattle.program_rows.specs.Telling.{set_told}
 use Rattle.program_rows.proofs.Aside.{slots_there}
 use Rattle.program_rows.proofs.Setting.{taken, dbd_there}
 use Rattle.program_rows.proofs.Stepping.{has_slot}

@@ -38,7 +38,8 @@ use Rattle.program_rows.specs.OnSlots.{slots_in as slots_seen, all_stores, Slots
 use Rattle.program_rows.specs.Open.{records_of, slots_of, backed_all, AreUnits, AllTouch}
 use Rattle.program_rows.specs.Calling.{IsDone}
 use Rattle.program_rows.specs.Making.{seen, IsWhole, AreThere, HasTouched, IsSame, Reads, WaitsAt, IsEdited, LeadsTo, Makes, IsUntoldEdit, planned_abend, changed_in, edit_told, kept_of, made_told, slots_in}
-use Rattle.program_rows.specs.Telling.{call_told, set_told, slot_touched, touched_after, unless_stopped, Tells, IsUntold}
+use Rattle.log_records.specs.Telling.{Tells, IsUntold}
+use Rattle.program_rows.specs.Telling.{call_told, set_told, slot_touched, touched_after, unless_stopped}
 use Rattle.program_rows.specs.declared.answer.DataAnswer.{DataAnswer}
 use Rattle.program_rows.specs.declared.answer.DataAnswer.TheVariants.{Answered, Abend, Blocked}
 use Rattle.program_rows.specs.declared.asked.Asked.{Asked}

@@ -17,7 +17,8 @@ use Rattle.dli_calls.specs.declared.planned.Planned.{Planned}
 use Rattle.dli_calls.specs.Plans.{limit_of}
 use Rattle.program_rows.specs.State.{DatabasesState, roots_of, rows_of, rows_in}
 use Rattle.program_rows.specs.Answering.{told_blocked}
-use Rattle.program_rows.specs.Telling.{set_told, spelled}
+use Rattle.log_records.specs.Telling.{spelled}
+use Rattle.program_rows.specs.Telling.{set_told}
 use Rattle.log_records.specs.declared.record.Record.{Record}
 use Rattle.log_records.specs.declared.untold.Untold.{Untold}
 use Rattle.log_records.specs.declared.untold.Untold.TheVariants.{Memory, Full}

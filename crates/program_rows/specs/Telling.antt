@@ -1,6 +1,5 @@
 -- What a step on the databases tells of the slots that it changes, on the state before it.
-use Rattle.std.specs.Prelude.{◌≡◌, ◌<◌, ◌≤◌, ℕ, ◌-◌, List, [], ◌∷◌, ◌++◌, Option, None, Some, length, map, slice_set}
-use Rattle.std.specs.List.{AllByRecursion, flat_map}
+use Rattle.std.specs.Prelude.{◌≤◌, ℕ, ◌-◌, List, [], ◌∷◌, Option, None, Some, length, map, slice_set}
 use Rattle.tm_types.specs.declared.abend.AbendCode.{AbendCode}
 use Rattle.tm_types.specs.declared.dbd.Dbd.{Dbd}
 use Rattle.model_rows.specs.declared.row.Row.{Row}
@@ -14,9 +13,6 @@ use Rattle.model_enqueue.specs.declared.request.Request.{Request}
 use Rattle.model_enqueue.specs.Ask.{first_blocked}
 use Rattle.log_records.specs.declared.record.Record.{Record}
 use Rattle.log_records.specs.declared.record.Record.TheVariants as told
-use Rattle.log_records.specs.declared.untold.Untold.{Untold}
-use Rattle.log_records.specs.declared.untold.Untold.TheVariants.{Memory, Full}
-use Rattle.log_records.specs.Spelling.{spelling, IsRecord}
 use Rattle.seg_store.specs.Slots.{Stored, slot_for}
 use Rattle.unit_work.specs.declared.change.Change.{Change}
 use Rattle.unit_work.specs.Changes.{with_slot}
@@ -25,10 +21,6 @@ use Rattle.program_rows.specs.State.{DatabasesState, data_of, rows_numbered, tou
 use Rattle.program_rows.specs.Isolation.{requests_of_call}
 use Rattle.program_rows.specs.declared.answer.DataAnswer.{DataAnswer}
 use Rattle.program_rows.specs.declared.answer.DataAnswer.TheVariants.{Answered, Abend, Blocked}
-
--- the spelling of records, one after the other
-abbrev pub spelled : List Record → List ℕ
-spelled records = flat_map spelling records
 
 -- A record is set, in the slot that it has or takes: the bytes that stand there, and those of the image.
 abbrev pub set_told : ℕ → ℕ → List Row → List Stored → Option ℕ → List Record
@@ -59,27 +51,6 @@ slot_told unit stores s = told.Change unit s.db s.slot (bytes_at s.db s.slot sto
 
 abbrev pub back_told : ℕ → ℕ → DatabasesState → List Record
 back_told unit region old = map (slot_told unit old.stores) (touched_by region old)
-
--- The bytes have these records, one after the other, behind what was there.
-pub record Adds (records : List Record) (old new : List ℕ) : Type 0 where
-  pub bytes : new ≡ old ++ spelled records
-  pub valid : AllByRecursion IsRecord records
-
--- The records are told behind what was told before, and the room is enough for them.
-pub record Tells (records : List Record) (room : ℕ) (old new : List ℕ) : Type 0 where
-  pub told : new ≡ old ++ spelled records
-  pub valid : AllByRecursion IsRecord records
-  pub fits : length (spelled records) ≤ room
-
--- They are longer than the room for them, where that is the reason.
-abbrev pub IsUntold : List Record → ℕ → Untold → Type 0
-IsUntold records room Memory = Unit {0}
-IsUntold records room Full = room < length (spelled records)
-
--- the bytes of this length are longer, where that is the reason
-abbrev pub IsTooLong : ℕ → ℕ → Untold → Type 0
-IsTooLong length room Memory = Unit {0}
-IsTooLong length room Full = room < length
 
 -- A touched slot is there, and both of its images are short enough for a record.
 pub record IsToldable (stores : List Stored) (s : Change) : Type 0 where

@@ -6,7 +6,8 @@ ghost use Rattle.model_dli.specs.Dli.{dli};
 ghost use Rattle.program_rows.specs.OnSlots.{slots_in, CallsSo};
 ghost use Rattle.program_rows.specs.State.{rows_numbered};
 ghost use Rattle.program_rows.specs.Open.{slots_of};
-ghost use Rattle.program_rows.specs.Telling.{call_told, touched_after, Tells, IsUntold};
+ghost use Rattle.log_records.specs.Telling.{Tells, IsUntold};
+ghost use Rattle.program_rows.specs.Telling.{call_told, touched_after};
 ghost use Rattle.program_rows.specs.Making.{seen, IsOpen, HasTouched, IsSame};
 
 use crate::DataAnswer;

@@ -14,7 +14,8 @@ ghost use Rattle.program_rows.specs.Open.{records_of, slots_of};
 ghost use Rattle.change_records.specs.Images.{image_at};
 ghost use Rattle.change_records.specs.Marks.{AreMarked};
 ghost use Rattle.program_rows.specs.OnSlots.{slots_in, all_stores, AreOnSlots, CallsSo};
-ghost use Rattle.program_rows.specs.Telling.{back_told, call_told, touched_after, Tells, IsUntold};
+ghost use Rattle.log_records.specs.Telling.{Tells, IsUntold};
+ghost use Rattle.program_rows.specs.Telling.{back_told, call_told, touched_after};
 ghost use Rattle.program_rows.specs.Making.{changed_in, AreThere};
 ghost use Rattle.seg_store.specs.Stores.{empty_stores, no_changed};
 ghost use Rattle.program_rows.specs.State.{clean_region, committed_rows, data_of, dbds_of, region_at, rows_numbered, rows_of, settled, touched_by, with_marks, AreRowsOf, IsClean, IsRegionOf};
@@ -56,9 +57,11 @@ impl Model for Databases {
 }
 
 impl Databases {
-    /// These databases without rows, for so many regions. This takes all the room that their roots will need.
+    /// These databases without rows, for so many regions; no slot counts as changed. This takes all the room that
+    /// their roots will need.
     pub fn empty(alloc: Global, dbds: &[Dbd], regions: u32) -> Result<Databases, Memory>
         ensures stores { IfOk result (λ d. d.stores ≡ empty_stores dbds.now) }
+        ensures changed { IfOk result (λ d. d.changed ≡ no_changed dbds.now) }
         ensures committed { IfOk result (λ d. d.committed ≡ empty_stores dbds.now) }
         ensures regions { IfOk result (λ d. d.regions ≡ replicate regions (clean_region (rows_of (empty_stores dbds.now)))) }
         ensures touched { IfOk result (λ d. d.touched ≡ replicate regions []) }
@@ -225,7 +228,6 @@ impl Databases {
         ensures full { IfErr result (IsUntold (back_told unit region self.now) room) }
     {
         tell_slots(
-            self.alloc,
             unit,
             unit_of(&self.opened.units, region).touched(),
             &self.opened.stores,

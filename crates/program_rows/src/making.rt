@@ -10,7 +10,7 @@ ghost use Rattle.seg_store.specs.Slots.{AreSlots, rows_of_slots, slot_for};
 ghost use Rattle.unit_work.specs.Changes.{is_full, no_changes, with_touch, AreInOrder};
 ghost use Rattle.dli_calls.specs.Plans.{IsThere, limit_of};
 ghost use Rattle.program_rows.specs.State.{rows_in, rows_of};
-ghost use Rattle.program_rows.specs.Telling.{Tells, IsUntold};
+ghost use Rattle.log_records.specs.Telling.{Tells, IsUntold};
 ghost use Rattle.program_rows.specs.Making.{IsPut, IsSame, IsSet, EditMade, HasAskedIn, Makes, MarksEdit, TakesSlot, IsUntoldEdit, changed_in, edit_abend, edit_told, kept_of, made_told, told_unless};
 
 use crate::asked::{Asked, ask};
@@ -167,16 +167,7 @@ fn tell_and_set(
     let length = told.len();
     let store = opened.stores.store(asked.number);
     let before = image_in(store, slot);
-    match tell(
-        alloc,
-        unit,
-        asked.number,
-        slot,
-        before,
-        &edit.image,
-        room,
-        told,
-    ) {
+    match tell(unit, asked.number, slot, before, &edit.image, room, told) {
         Ok(()) => match set(alloc, asked, slot, edit, opened) {
             Ok(()) => Ok(()),
             Err(_) => {

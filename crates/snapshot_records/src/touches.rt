@@ -1,5 +1,5 @@
 //! The changes of open units in a snapshot.
-ghost use Rattle.std.specs.Prelude.{◌≡◌, ◌≤◌, ◌++◌, length, IfOk, OnOk};
+ghost use Rattle.std.specs.Prelude.{◌≡◌, ◌≤◌, ◌++◌, length, OnOk};
 ghost use Rattle.std.specs.List.{AllByRecursion};
 ghost use Rattle.model_rows.specs.Record.{spelling as rows_spelling};
 ghost use Rattle.log_records.specs.Spelling.{spelling, IsRecord};
@@ -10,7 +10,6 @@ ghost use Rattle.snapshot_records.specs.Touches.{image_in, touch_record, touch_r
 use log_records::append_change;
 use model_rows::Row;
 use seg_store::Stores;
-use std::alloc::Global;
 use tm_types::Memory;
 use unit_work::{Unit, UnitSlot};
 
@@ -21,35 +20,22 @@ pub struct OpenUnit<'a> {
     pub work: &'a Unit,
 }
 
-// The bytes of a record, or none where there are no rows.
-fn bytes_of(alloc: Global, rows: &[Row]) -> Result<Vec<u8>, Memory>
-    ensures { IfOk result (λ bytes. bytes.items ≡ rows_spelling rows.now) }
-{
-    let mut bytes = Vec::new(alloc);
-    for row in rows {
-        bytes.push(row.path.segment())?;
-        bytes.extend_from_slice(row.bytes.as_slice())?;
-    }
-    Ok(bytes)
-}
-
-// The bytes of what stands in a slot now.
-fn present_bytes(alloc: Global, stores: &Stores, db: u8, slot: u16) -> Result<Vec<u8>, Memory>
+// The rows of what stands in a slot now.
+fn present_rows(stores: &Stores, db: u8, slot: u16) -> &[Row]
     requires least { 1 ≤ db }
     requires most { db ≤ length stores.now.stores }
     requires one_sector { AllByRecursion HasOneSector stores.now.stores }
-    ensures value { IfOk result (λ bytes. bytes.items ≡ rows_spelling (image_in stores.now.stores db slot)) }
-    ensures short { OnOk result (length (rows_spelling (image_in stores.now.stores db slot)) ≤ 4000) }
+    ensures value { result.now ≡ image_in stores.now.stores db slot }
+    ensures short { length (rows_spelling (image_in stores.now.stores db slot)) ≤ 4000 }
 {
     match stores.store(db).image(slot) {
-        Some(image) => bytes_of(alloc, image.as_slice()),
-        None => Ok(Vec::new(alloc)),
+        Some(image) => image.as_slice(),
+        None => &[],
     }
 }
 
 // Appends the record of a slot that a unit touched: its first image, and what stands there now.
 fn append_touch(
-    alloc: Global,
     out: &mut Vec<u8>,
     number: u64,
     slot: &UnitSlot,
@@ -60,25 +46,26 @@ fn append_touch(
     ensures ok { OnOk result (out.new.items ≡ out.old.items ++ spelling (touch_record number stores.entry.now.stores (shown slot.entry.now))) }
     ensures valid { OnOk result (IsRecord (touch_record number stores.entry.now.stores (shown slot.entry.now))) }
 {
-    let before = bytes_of(alloc, slot.before.as_slice())?;
-    let after = present_bytes(alloc, stores, slot.db, slot.slot)?;
-    append_change(out, number, slot.db, slot.slot, &before, &after)
+    let after = present_rows(stores, slot.db, slot.slot);
+    append_change(
+        out,
+        number,
+        slot.db,
+        slot.slot,
+        slot.before.as_slice(),
+        after,
+    )
 }
 
 // Appends the records of a unit, by database and slot.
-fn append_unit(
-    alloc: Global,
-    out: &mut Vec<u8>,
-    unit: &OpenUnit,
-    stores: &Stores,
-) -> Result<(), Memory>
+fn append_unit(out: &mut Vec<u8>, unit: &OpenUnit, stores: &Stores) -> Result<(), Memory>
     requires spelled { AreSpelled stores.now.stores unit.now.work.now.slots }
     requires one_sector { AllByRecursion HasOneSector stores.now.stores }
     ensures { OnOk result (Adds (touch_records unit.entry.now.number stores.entry.now.stores unit.entry.now.work.now.slots) out.old.items out.new.items) }
 {
     let mut place = 0;
     while let Some(slot) = unit.work.slot(place) {
-        append_touch(alloc, out, unit.number, &slot, stores)?;
+        append_touch(out, unit.number, &slot, stores)?;
         place += 1;
     }
     Ok(())
@@ -88,7 +75,6 @@ fn append_unit(
 // the slot's first image before the unit, and the image that stands there now. A record has one sector. After `Memory` a
 // part of them may be appended.
 pub(crate) fn append_touches(
-    alloc: Global,
     out: &mut Vec<u8>,
     units: &[OpenUnit],
     stores: &Stores,
@@ -98,7 +84,7 @@ pub(crate) fn append_touches(
     ensures { OnOk result (Adds (changes_of stores.entry.now.stores units.entry.now) out.old.items out.new.items) }
 {
     for unit in units {
-        append_unit(alloc, out, unit, stores)?;
+        append_unit(out, unit, stores)?;
     }
     Ok(())
 }

@@ -49,7 +49,7 @@ pub struct SnapshotView<'a> {
 }
 
 // Appends the records of a snapshot. After `Memory` a part of them may be appended.
-fn append_snapshot(alloc: Global, out: &mut Vec<u8>, view: &SnapshotView) -> Result<(), Memory>
+fn append_snapshot(out: &mut Vec<u8>, view: &SnapshotView) -> Result<(), Memory>
     requires state { IsWritable (state_of view.now) }
     requires units { AreAllSpelled view.now.stores.now.stores view.now.units.now }
     requires one_sector { AllByRecursion HasOneSector view.now.stores.now.stores }
@@ -71,7 +71,7 @@ fn append_snapshot(alloc: Global, out: &mut Vec<u8>, view: &SnapshotView) -> Res
     append_codes(out, view.codes)?;
     append_messages(out, view.queues)?;
     append_replies(out, view.outputs.terminals())?;
-    append_touches(alloc, out, view.units, view.stores)
+    append_touches(out, view.units, view.stores)
 }
 
 /// The bytes of a snapshot: the counts, the terminals, the codes, the messages by their ids, the replies by terminal and
@@ -83,7 +83,7 @@ pub fn write(alloc: Global, view: &SnapshotView) -> Result<Vec<u8>, Memory>
     ensures { IfOk result (λ bytes. Adds (snapshot_records view.entry.now.checkpoint view.entry.now.next_unit (state_of view.entry.now) (changes_of view.entry.now.stores.now.stores view.entry.now.units.now)) [] bytes.items) }
 {
     let mut bytes = Vec::new(alloc);
-    append_snapshot(alloc, &mut bytes, view)?;
+    append_snapshot(&mut bytes, view)?;
     Ok(bytes)
 }
 

@@ -5,8 +5,7 @@ use Rattle.std.specs.List.{flat_map, AllByRecursion}
 use Rattle.std.specs.Option.{is_some, option_map_or}
 use Rattle.std.specs.Str.{bytes_eq}
 use Rattle.std.proofs.lemmas.Slice.Eq.{bytes_eq-Decides}
-use Rattle.std.proofs.lemmas.List.{append-nil, append_assoc, drop_more, take_more}
-use Rattle.std.proofs.lemmas.List.Concat.{flat_map-append}
+use Rattle.std.proofs.lemmas.List.{append_assoc, drop_more, take_more}
 use Rattle.std.proofs.lemmas.List.Sums.{sum_by_push}
 use Rattle.model_conversation.specs.declared.conversation.PadChange.{PadChange}
 use Rattle.model_queues.specs.declared.replies.TerminalReplies.{TerminalReplies}
@@ -19,7 +18,7 @@ use Rattle.log_records.specs.declared.record.Record.TheVariants.{Input, Reply, C
 use Rattle.log_records.specs.Spelling.{spelling, IsRecord}
 use Rattle.step_records.specs.Records.{output_records, completion_records}
 use Rattle.step_telling.specs.Ranges.{HaveCounts}
-use Rattle.step_telling.specs.Counted.{goes_to, counted_record, counted_records, id_after}
+use Rattle.step_telling.specs.Counted.{goes_to, counted_record, counted_records, counted_completion, id_after}
 
 -- ---- a terminal with one reply more
 
@@ -155,24 +154,18 @@ counted_is unit origin terminals done (output ∷ rest) next lasting a =
         ap (λ n. Input unit n origin output.to 0 false output.segments ∷ output_records unit origin rest (switched origin output lasting)) a.next_id
         ∙ ap (λ records. Input unit next origin output.to 0 false output.segments ∷ records) (switches e)
 
--- ---- the bytes of a completion
-pub completion_is : (unit : ℕ) (origin : List ℕ) (id : ℕ) (outputs : List EndedMessage) (pad : PadChange) (terminals : List TerminalReplies) (next : ℕ) (bytes : List ℕ)
-    → bytes ≡ flat_map spelling (counted_records unit origin [] outputs terminals next) ++ spelling (Completed unit id) ++ spelling (SyncPoint unit pad)
+-- ---- the records of a completion
+pub completion_counted : (unit : ℕ) (origin : List ℕ) (id : ℕ) (outputs : List EndedMessage) (pad : PadChange) (terminals : List TerminalReplies) (next : ℕ)
     → (lasting : LastingState) → lasting.outputs ≡ terminals → lasting.next_id ≡ next
-    → bytes ≡ flat_map spelling (completion_records unit origin id outputs lasting ++ SyncPoint unit pad ∷ [])
-completion_is unit origin id outputs pad terminals next bytes is lasting same_outputs same_next =
-    let records : List Record = output_records unit origin outputs lasting in
+    → counted_completion unit origin id outputs pad terminals next ≡ completion_records unit origin id outputs lasting ++ SyncPoint unit pad ∷ []
+completion_counted unit origin id outputs pad terminals next lasting same_outputs same_next =
     let agrees : Agrees terminals [] next lasting = record {
       there = λ name. ap (λ ts. is_some (replies_at name ts)) same_outputs;
       numbers = λ name there. ap (next_of name) same_outputs ∙ omega arith;
       next_id = same_next;
     } in
-    is
-    ∙ (ap (λ rs. flat_map spelling rs ++ spelling (Completed unit id) ++ spelling (SyncPoint unit pad)) (sym (counted_is unit origin terminals [] outputs next lasting agrees))
-    ∙ sym (flat_map-append spelling (records ++ Completed unit id ∷ []) (SyncPoint unit pad ∷ [])
-    ∙ (ap (λ bs. bs ++ (spelling (SyncPoint unit pad) ++ [])) (flat_map-append spelling records (Completed unit id ∷ []))
-    ∙ (ap (λ bs. (flat_map spelling records ++ bs) ++ (spelling (SyncPoint unit pad) ++ [])) (append-nil (spelling (Completed unit id)))
-    ∙ ap (λ bs. (flat_map spelling records ++ spelling (Completed unit id)) ++ bs) (append-nil (spelling (SyncPoint unit pad)))))))
+    ap (λ records. records ++ Completed unit id ∷ SyncPoint unit pad ∷ []) (sym (counted_is unit origin terminals [] outputs next lasting agrees))
+    ∙ sym (append_assoc (output_records unit origin outputs lasting) (Completed unit id ∷ []) (SyncPoint unit pad ∷ []))
 
 -- ---- one output more is put
 pub put_more : (unit : ℕ) (origin : List ℕ) (terminals : List TerminalReplies) (outputs : List EndedMessage) (place id next earlier : ℕ) (output : EndedMessage) (before after whole : List ℕ)
@@ -214,22 +207,3 @@ valid_more unit origin terminals outputs place id next earlier output whole belo
       subst (λ n. AllByRecursion IsRecord (counted_records unit origin (take place outputs ++ output ∷ []) (drop (place + 1) outputs) terminals n)) moved
           (subst (λ (os : List EndedMessage). AllByRecursion IsRecord (counted_records unit origin os (drop (place + 1) outputs) terminals next)) done later),
     ))
-
-all_then : (some more : List Record) → AllByRecursion IsRecord some → AllByRecursion IsRecord more → AllByRecursion IsRecord (some ++ more)
-all_then [] more a b = b
-all_then (r ∷ some) more a b = (a.0, all_then some more a.1 b)
-
--- the records of a completion are records
-pub completion_valid : (unit : ℕ) (origin : List ℕ) (id : ℕ) (outputs : List EndedMessage) (pad : PadChange) (terminals : List TerminalReplies) (next : ℕ)
-    → AllByRecursion IsRecord (counted_records unit origin [] outputs terminals next) → IsRecord (Completed unit id) → IsRecord (SyncPoint unit pad)
-    → (lasting : LastingState) → lasting.outputs ≡ terminals → lasting.next_id ≡ next → AllByRecursion IsRecord (completion_records unit origin id outputs lasting ++ SyncPoint unit pad ∷ [])
-completion_valid unit origin id outputs pad terminals next all completed synced lasting same_outputs same_next =
-    let records : List Record = output_records unit origin outputs lasting in
-    let agrees : Agrees terminals [] next lasting = record {
-      there = λ name. ap (λ ts. is_some (replies_at name ts)) same_outputs;
-      numbers = λ name there. ap (next_of name) same_outputs ∙ omega arith;
-      next_id = same_next;
-    } in
-    all_then (records ++ Completed unit id ∷ []) (SyncPoint unit pad ∷ [])
-    (all_then records (Completed unit id ∷ []) (subst (λ (rs : List Record). AllByRecursion IsRecord rs) (sym (counted_is unit origin terminals [] outputs next lasting agrees)) all) (completed, tt))
-    (synced, tt)

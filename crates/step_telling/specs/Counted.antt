@@ -2,11 +2,12 @@
 use Rattle.std.specs.Prelude.{ℕ, ◌+◌, Bool, false, List, [], ◌∷◌, ◌++◌, if◌then◌else◌, count_by}
 use Rattle.std.specs.Option.{is_some}
 use Rattle.std.specs.Str.{bytes_eq}
+use Rattle.model_conversation.specs.declared.conversation.PadChange.{PadChange}
 use Rattle.model_queues.specs.declared.replies.TerminalReplies.{TerminalReplies}
 use Rattle.model_queues.specs.Outputs.{next_of, replies_at}
 use Rattle.model_message.specs.declared.ended_message.EndedMessage.{EndedMessage}
 use Rattle.log_records.specs.declared.record.Record.{Record}
-use Rattle.log_records.specs.declared.record.Record.TheVariants.{Input, Reply}
+use Rattle.log_records.specs.declared.record.Record.TheVariants.{Input, Reply, Completed, SyncPoint}
 
 abbrev pub goes_to : List ℕ → EndedMessage → Bool
 goes_to name output = bytes_eq output.to name
@@ -28,3 +29,8 @@ counted_records unit origin done [] terminals next = []
 counted_records unit origin done (output ∷ outputs) terminals next =
     counted_record unit origin (count_by (goes_to output.to) done) output terminals next
     ∷ counted_records unit origin (done ++ output ∷ []) outputs terminals (id_after output terminals next)
+
+-- a completion: the outputs, that the message is completed, and the sync point
+abbrev pub counted_completion : ℕ → List ℕ → ℕ → List EndedMessage → PadChange → List TerminalReplies → ℕ → List Record
+counted_completion unit origin id outputs pad terminals next =
+    counted_records unit origin [] outputs terminals next ++ Completed unit id ∷ SyncPoint unit pad ∷ []

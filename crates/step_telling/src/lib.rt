@@ -1,13 +1,10 @@
 //! The records that tell of a lasting step, spelled from what the step is given, before anything is changed.
 //!
-//! Which records they are is said by `specs/Records` of step_records. `tell` appends them where they fit the room.
+//! Which records they are is said by `specs/Records` of step_records. They stand behind what was told where they fit the room;
+//! after an Err nothing of them is there.
 #![tactic(auto)]
 
-pub use appended::tell;
-pub use bytes::{
-    acknowledged_bytes, command_bytes, completion_bytes, discarding_bytes, input_bytes,
-};
+pub use telling::{tell_acknowledged, tell_command, tell_completion, tell_discarded, tell_input};
 
-mod appended;
-mod bytes;
 mod outputs;
+mod telling;

@@ -1,5 +1,5 @@
 //! The records of what a unit sends.
-ghost use Rattle.std.specs.Prelude.{◌≡◌, ◌≤◌, ◌++◌, ◌∷◌, [], take, length, count_by, IfOk, OnOk};
+ghost use Rattle.std.specs.Prelude.{◌≡◌, ◌≤◌, ◌++◌, ◌∷◌, [], take, length, count_by, IfOk, OnErr, OnOk};
 ghost use Rattle.std.specs.List.{flat_map, AllByRecursion};
 ghost use Rattle.log_records.specs.Spelling.{spelling, IsCount, IsRecord};
 ghost use Rattle.step_telling.specs.Counted.{goes_to, counted_record, counted_records, id_after};
@@ -47,6 +47,7 @@ fn put_output(
     ensures ok { OnOk result (bytes.new.items ≡ bytes.old.items ++ spelling (counted_record unit origin.now earlier output.now terminals.now id)) }
     ensures valid { OnOk result (IsRecord (counted_record unit origin.now earlier output.now terminals.now id)) }
     ensures next { IfOk result (λ next. next ≡ id_after output.now terminals.now id) }
+    ensures unwritten { OnErr result (bytes.new.items ≡ bytes.old.items) }
 {
     if terminals.has_terminal(&output.to) {
         let Some(number) = terminals.next(&output.to).checked_add(earlier) else {
@@ -72,7 +73,7 @@ fn put_output(
 }
 
 /// Appends the records of the outputs of a unit, in their order. `Memory` is answered too where a number would have more
-/// than 64 bits.
+/// than 64 bits; what stood there before still stands at the front then.
 pub fn put_outputs(
     bytes: &mut Vec<u8>,
     unit: u64,
@@ -84,6 +85,7 @@ pub fn put_outputs(
     requires { HaveCounts outputs.now.items }
     ensures ok { OnOk result (bytes.new.items ≡ bytes.old.items ++ flat_map spelling (counted_records unit origin.now [] outputs.now.items terminals.now next_id)) }
     ensures valid { OnOk result (AllByRecursion IsRecord (counted_records unit origin.now [] outputs.now.items terminals.now next_id)) }
+    ensures kept { OnErr result (take (length bytes.old.items) bytes.new.items ≡ bytes.old.items) }
 {
     let mut id = next_id;
     for place in 0..outputs.len() {

@@ -1,6 +1,6 @@
 use Rattle.std.proofs.Common.{Option, sym, subst}
 use Rattle.dli_calls.specs.declared.planned.Edit.{Edit}
-use Rattle.program_rows.specs.Telling.{Tells}
+use Rattle.log_records.specs.Telling.{Tells}
 use Rattle.program_rows.specs.Making.{IsUntoldEdit, edit_told}
 use Rattle.program_rows.proofs.making.make.Goals as goal
 

@@ -1,20 +1,23 @@
-use Rattle.std.proofs.Common.{◌<◌, ◌≤◌, ◌++◌, length, rules, ap, subst, ◌∙◌}
+use Rattle.std.proofs.Common.{[], ◌∷◌, rules}
+use Rattle.std.proofs.lemmas.Result.{IfErr-weaker}
+use Rattle.tm_types.specs.Commands as command_text
+use Rattle.log_records.specs.declared.record.Record.TheVariants.{Command}
+use Rattle.log_records.specs.Telling.{IsUntold}
 use Rattle.model_machine.specs.Lasting.LastingStep.{Commands}
+use Rattle.step_telling.specs.Untold.{WhereFull}
+use Rattle.lasting_state.specs.Telling.{IsLonger}
 use Rattle.lasting_state.proofs.Commanded.{applies_command}
-use Rattle.lasting_state.proofs.Told.{tells, longer, err_where}
+use Rattle.lasting_state.proofs.Told.{tells, longer}
 use Rattle.lasting_state.proofs.tables.Tables.command.Goals as goal
 
 pub returns-clause-applies : goal.returns-clause-applies
 returns-clause-applies c = applies_command c.args.command.now c.args.self.now c.do_command.new.self c.do_command.ensures
 
 pub returns-clause-told : goal.returns-clause-told
-returns-clause-told c =
-    tells 0 c.args.room (Commands c.args.command.now) c.args.self.now c.in-Ok.spelled.items c.in-Ok.ensures c.args.told.now.items c.tell.new.told.items
-    (c.in_ok-tell.ensures.told ∙ ap (λ bs. c.args.told.now.items ++ bs) c.deref.ensures.value)
-    (subst (λ bs. length bs ≤ c.args.room) c.deref.ensures.value c.in_ok-tell.ensures.fits)
+returns-clause-told c = tells 0 c.args.room (Commands c.args.command.now) c.args.self.now c.args.told.now.items c.tell_command.new.told.items (λ settings. c.in_ok-tell_command.ensures.told)
 
-pub returns-in_err-tell-clause-full : goal.returns-in_err-tell-clause-full
-returns-in_err-tell-clause-full c =
-    err_where {P = c.args.room < length c.deref.result.now} c.from_residual.result
-    (λ h. longer 0 c.args.room (Commands c.args.command.now) c.args.self.now c.in-Ok.spelled.items c.in-Ok.ensures (subst (λ bs. c.args.room < length bs) c.deref.ensures.value h))
+pub returns-in_err-tell_command-clause-full : goal.returns-in_err-tell_command-clause-full
+returns-in_err-tell_command-clause-full c =
+    IfErr-weaker c.from_residual.result (IsUntold (Command (command_text.spelling c.args.command.now) ∷ []) c.args.room) (WhereFull (IsLonger 0 c.args.room (Commands c.args.command.now) c.args.self.now))
+    (λ error h. longer 0 c.args.room (Commands c.args.command.now) c.args.self.now error (λ settings. h))
     (search rules)

@@ -1,7 +1,7 @@
 use Rattle.std.proofs.Common.{List, length, ap, arith, refl, subst}
 use Rattle.std.specs.Prelude.{IfErr, OnOk}
 use Rattle.log_records.specs.declared.record.Record.{Record}
-use Rattle.program_rows.specs.Telling.{Tells, IsUntold}
+use Rattle.log_records.specs.Telling.{Tells, IsUntold}
 use Rattle.program_rows.proofs.Ending.{has_unit, back_toldable, back_told_is}
 use Rattle.program_rows.proofs.databases.Databases.tell_back.Goals as goal
 

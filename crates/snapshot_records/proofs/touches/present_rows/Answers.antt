@@ -1,14 +1,11 @@
-use Rattle.std.proofs.Common.{◌∙◌, sym, ap, List, None}
-use Rattle.model_rows.specs.declared.row.Row.{Row}
-use Rattle.model_rows.specs.Record.{spelling}
+use Rattle.std.proofs.Common.{sym, None}
 use Rattle.seg_store.specs.Changed.{stored}
 use Rattle.snapshot_records.proofs.Present.{image_is, image_short}
-use Rattle.snapshot_records.proofs.touches.present_bytes.Goals as goal
+use Rattle.snapshot_records.proofs.touches.present_rows.Goals as goal
 
 pub returns-in-None-clause-value : goal.returns-in-None-clause-value
 returns-in-None-clause-value c =
-    c.new.ensures.items
-    ∙ sym (ap (λ (rows : List Row). spelling rows) (image_is c.args.stores.now.stores c.args.db c.args.slot (stored c.store.result.now) None c.store.ensures.stored_is (sym c.in-None.ensures.value)))
+    sym (image_is c.args.stores.now.stores c.args.db c.args.slot (stored c.store.result.now) None c.store.ensures.stored_is (sym c.in-None.ensures.value))
 
 pub returns-in-None-clause-short : goal.returns-in-None-clause-short
 returns-in-None-clause-short c =
