@@ -32,7 +32,7 @@ pub record IsJudged (system : System) (text : List ℕ) (found : Found) : Type 0
   pub least : found.restart.sequence ≤ found.looked.reread.next_sequence
   pub few : found.looked.reread.next_sequence ≤ found.restart.sequence + system.logs
   pub given : AreNamedBytes (length system.databases) found.looked.reread.replayed.slots found.looked.named.given.items
-  pub made : AreAllMade system.databases found.looked.named.loaded.stores found.looked.named.loaded.rows
+  pub made : AreAllMade system.databases found.looked.named.loaded.stores
   pub unspent : IsUnspent found.restart found.looked
 
 -- The image has this restart sector, the text is its definition's, and it comes to what was looked at.

@@ -10,11 +10,10 @@ ghost use Rattle.cold_start.specs.FirstImage.{sectors_needed};
 ghost use Rattle.opening_answers.specs.Opening.{counters, first_spent};
 ghost use Rattle.image_finding.specs.Found.{SizeKnown, TellsFound, TellsFind, FoundAlways, FindAlways, FoundCause};
 
-use crate::spending::{Counts, spent_counter};
 use image_areas::snapshot_area;
 use image_look::{Looked, look};
-use image_reading::{TextFault, text_difference};
-use opening_answers::{Counter, OpenError};
+use image_reading::text_difference;
+use opening_answers::{Counter, Counts, OpenError, spent_counter};
 use restart_data::{RestartFault, RestartSector, read_restart};
 use snapshot_reading::ReadFault;
 use std::alloc::Global;
@@ -104,11 +103,10 @@ fn find_behind<D: Disk>(
     ensures keeps { Keeps (D.state disk.old) (D.state disk.new) }
     ensures cause { FoundCause result (D.state disk.old) (D.state disk.new) }
 {
-    match text_difference(alloc, disk, text, restart.text) {
+    match text_difference(disk, text, restart.text) {
         Ok(None) => find_rest(alloc, disk, system, text, restart),
         Ok(Some(place)) => Err(OpenError::WrongDefinition(place_in(place, text.len()))),
-        Err(TextFault::Disk) => Err(OpenError::Disk),
-        Err(TextFault::Memory) => Err(OpenError::Memory),
+        Err(_) => Err(OpenError::Disk),
     }
 }
 

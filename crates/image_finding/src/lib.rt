@@ -4,7 +4,5 @@
 #![tactic(auto)]
 
 mod finding;
-mod spending;
 
 pub use finding::{Found, find};
-pub use spending::{Counts, spent_counter};

@@ -3,24 +3,21 @@ use Rattle.std.proofs.Common.{◌≡◌, ℕ, zero, suc, ◌+◌, List, [], ◌�
 use Rattle.std.specs.Prelude.{Option, Result, Ok, Err, OnOk, slice_get}
 use Rattle.tm_types.specs.declared.dbd.Dbd.{Dbd}
 use Rattle.model_disk.specs.Disk.{Image}
-use Rattle.model_rows.specs.Rows.{Database}
 use Rattle.model_system.specs.System.{System}
 use Rattle.model_image.specs.Areas.{data_first}
 use Rattle.model_image.specs.Faults.{Fault}
 use Rattle.model_image.specs.Slots.{Slot, slot_fault, rows_in}
 use Rattle.seg_store.specs.Changed.{Kept}
-use Rattle.slot_loading.specs.Loading.{AreMade, slots_in}
+use Rattle.slot_loading.specs.Loading.{IsMade, slots_in}
 use Rattle.image_loading.specs.Databases.{databases_in, lowest}
 use Rattle.image_loading.specs.Loading.{AreAllMade, AreSlotted}
 use Rattle.image_loading.proofs.Lowest.{fault_both, lowest_none, lowest_some}
 
-pub made_more : (dbds : List Dbd) (stores : List Kept) (rows : List Database) (dbd : Dbd) (store : Kept) (one : Database) → AreAllMade dbds stores rows → AreMade dbd store one → AreAllMade (dbds ++ dbd ∷ []) (stores ++ store ∷ []) (rows ++ one ∷ [])
-made_more [] [] [] dbd store one all is = (is, tt)
-made_more [] [] (r ∷ rows) dbd store one all is = absurd all
-made_more [] (s ∷ stores) rows dbd store one all is = absurd all
-made_more (d ∷ dbds) [] rows dbd store one all is = absurd all
-made_more (d ∷ dbds) (s ∷ stores) [] dbd store one all is = absurd all
-made_more (d ∷ dbds) (s ∷ stores) (r ∷ rows) dbd store one all is = (all.0, made_more dbds stores rows dbd store one all.1 is)
+pub made_more : (dbds : List Dbd) (stores : List Kept) (dbd : Dbd) (store : Kept) → AreAllMade dbds stores → IsMade dbd store → AreAllMade (dbds ++ dbd ∷ []) (stores ++ store ∷ [])
+made_more [] [] dbd store all is = (is, tt)
+made_more [] (s ∷ stores) dbd store all is = absurd all
+made_more (d ∷ dbds) [] dbd store all is = absurd all
+made_more (d ∷ dbds) (s ∷ stores) dbd store all is = (all.0, made_more dbds stores dbd store all.1 is)
 
 pub slotted_more : (databases : List (List Slot)) (stores : List Kept) (slots : List Slot) (store : Kept) → AreSlotted databases stores → store.slots ≡ map rows_in slots → AreSlotted (databases ++ slots ∷ []) (stores ++ store ∷ [])
 slotted_more [] [] slots store all is = (is, tt)
@@ -72,7 +69,7 @@ count_databases system image [] from (d ∷ dbds) same = absurd (omega (arith, s
 count_databases system image (g ∷ given) from [] same = refl
 count_databases system image (g ∷ given) from (d ∷ dbds) same = omega (arith, count_databases system image given (from + 1) dbds (omega (arith, same)))
 
--- what holds once all three are told
-pub with_ok : {A E : Type 0} (r : Result A E) (P Q R S : Type 0) → OnOk r P → OnOk r Q → OnOk r R → (P → Q → R → S) → OnOk r S
-with_ok (Ok x) P Q R S p q s f = f p q s
-with_ok (Err e) P Q R S p q s f = p
+-- what holds once it is told
+pub with_ok : {A E : Type 0} (r : Result A E) (P Q : Type 0) → OnOk r P → (P → Q) → OnOk r Q
+with_ok (Ok x) P Q p f = f p
+with_ok (Err e) P Q p f = p

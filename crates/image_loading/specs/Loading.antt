@@ -2,27 +2,25 @@
 use Rattle.std.specs.Prelude.{◌≡◌, List, [], ◌∷◌, map, Option, None, Some, Result, Ok, Err}
 use Rattle.tm_types.specs.declared.dbd.Dbd.{Dbd}
 use Rattle.model_disk.specs.Disk.{DiskState, FailedSince}
-use Rattle.model_rows.specs.Rows.{Database}
 use Rattle.image_loading.specs.declared.loading.Stopped.{Stopped}
 use Rattle.image_loading.specs.declared.loading.Stopped.TheVariants as stopped
 use Rattle.model_image.specs.Faults.{Fault}
 use Rattle.model_image.specs.Slots.{Slot, slot_fault, rows_in}
 use Rattle.seg_store.specs.Changed.{Kept}
-use Rattle.slot_loading.specs.Loading.{AreMade}
+use Rattle.slot_loading.specs.Loading.{IsMade}
 use Rattle.slot_loading.specs.declared.fault.LoadFault.{LoadFault}
 use Rattle.slot_loading.specs.declared.fault.LoadFault.TheVariants as faults
 
--- the stores that were loaded, the rows of each, and the lowest rule that is broken so far
+-- the stores that were loaded, and the lowest rule that is broken so far
 pub record LoadedState : Type 0 where
   pub stores : List Kept
-  pub rows : List Database
   pub broken : Option Fault
 
--- Each database has a store, of which no slot counts as changed, and its rows.
-abbrev pub AreAllMade : List Dbd → List Kept → List Database → Type 0
-AreAllMade [] [] [] = Unit {0}
-AreAllMade (dbd ∷ dbds) (store ∷ stores) (rows ∷ others) = AreMade dbd store rows × AreAllMade dbds stores others
-AreAllMade _ _ _ = ⊥
+-- Each database has a store, of which no slot counts as changed.
+abbrev pub AreAllMade : List Dbd → List Kept → Type 0
+AreAllMade [] [] = Unit {0}
+AreAllMade (dbd ∷ dbds) (store ∷ stores) = IsMade dbd store × AreAllMade dbds stores
+AreAllMade _ _ = ⊥
 
 -- Each store has the record of each of its slots.
 abbrev pub AreSlotted : List (List Slot) → List Kept → Type 0

@@ -10,9 +10,8 @@ ghost use Rattle.image_loading.specs.Databases.{databases_in, lowest, AreImages}
 ghost use Rattle.image_loading.specs.Loading.{AreAllMade, AreSlotted, TellsAll, StopCause};
 
 use image_areas::data_first;
-use seg_rows::PlainRows;
 use seg_store::Store;
-use slot_loading::{LoadFault, Slots, load};
+use slot_loading::{LoadFault, Slots, load_store};
 use std::alloc::Global;
 use std::marker::Model;
 use system_types::System;
@@ -24,8 +23,6 @@ use tm_types::Dbd;
 pub struct Loaded {
     /// The store of each.
     pub stores: Vec<Store>,
-    /// Their rows.
-    pub rows: Vec<PlainRows>,
     /// The lowest rule that is broken so far, with its sector.
     pub broken: Option<(u8, u32)>,
 }
@@ -35,7 +32,7 @@ impl Model for Loaded {
 
     ghost Value = { LoadedState };
 
-    ghost view = { λ l. record { stores = l.stores.items; rows = l.rows.items; broken = l.broken } };
+    ghost view = { λ l. record { stores = l.stores.items; broken = l.broken } };
 }
 
 // Why a database wasn't looked at.
@@ -45,17 +42,13 @@ pub(crate) enum Stopped {
     Memory,
 }
 
-// Adds a database that was loaded. After `Memory` a part of it may be added.
-fn push(loaded: &mut Loaded, store: Store, rows: PlainRows) -> Result<(), Stopped>
+// Adds a database that was loaded.
+fn push(loaded: &mut Loaded, store: Store) -> Result<(), Stopped>
     ensures stores { OnOk result (loaded.new.stores ≡ loaded.old.stores ++ store ∷ []) }
-    ensures rows { OnOk result (loaded.new.rows ≡ loaded.old.rows ++ rows ∷ []) }
-    ensures broken { OnOk result (loaded.new.broken ≡ loaded.old.broken) }
+    ensures broken { loaded.new.broken ≡ loaded.old.broken }
     ensures no_disk { IsErrOf result Stopped.Disk → ⊥ }
 {
     if loaded.stores.push(store).is_err() {
-        return Err(Stopped::Memory);
-    }
-    if loaded.rows.push(rows).is_err() {
         return Err(Stopped::Memory);
     }
     Ok(())
@@ -102,14 +95,14 @@ fn add<D: Disk>(
 ) -> Result<(), Stopped>
     requires area { first + dbd.now.roots ≤ (D.state disk.old).size }
     requires given { AllByRecursion (λ s. IsTrue (is_image dbd.now s.1)) given.now }
-    ensures made { OnOk result ((dbds : List OneDatabase) → (loaded.old.broken ≡ None → AreAllMade dbds loaded.old.stores loaded.old.rows) → loaded.new.broken ≡ None → AreAllMade (dbds ++ dbd.now ∷ []) loaded.new.stores loaded.new.rows) }
+    ensures made { OnOk result ((dbds : List OneDatabase) → (loaded.old.broken ≡ None → AreAllMade dbds loaded.old.stores) → loaded.new.broken ≡ None → AreAllMade (dbds ++ dbd.now ∷ []) loaded.new.stores) }
     ensures value { OnOk result (IsTrue (D.state disk.old).tells → (databases : List (List ImageSlot)) → loaded.old.broken ≡ slot_fault databases → loaded.new.broken ≡ slot_fault (databases ++ slots_in (D.state disk.old).shown dbd.now first given.now ∷ [])) }
     ensures slotted { OnOk result (IsTrue (D.state disk.old).tells → (databases : List (List ImageSlot)) → (loaded.old.broken ≡ None → AreSlotted databases loaded.old.stores) → loaded.new.broken ≡ None → AreSlotted (databases ++ slots_in (D.state disk.old).shown dbd.now first given.now ∷ []) loaded.new.stores) }
     ensures keeps { Keeps (D.state disk.old) (D.state disk.new) }
     ensures cause { StopCause result (D.state disk.old) (D.state disk.new) }
 {
-    match load(alloc, disk, dbd, first, given) {
-        Ok((store, rows)) => push(loaded, store, rows),
+    match load_store(alloc, disk, dbd, first, given) {
+        Ok(store) => push(loaded, store),
         Err(LoadFault::Bad(rule, sector)) => {
             breaks(loaded, rule, sector);
             Ok(())
@@ -130,14 +123,13 @@ pub fn load_all<D: Disk>(
     requires areas { data_first system.now (length system.now.databases) ≤ (D.state disk.old).size }
     requires count { length given.now ≡ length system.now.databases }
     requires images { AreImages system.now given.now }
-    ensures made { IfOk result (λ loaded. AreAllMade system.now.databases loaded.stores loaded.rows) }
+    ensures made { IfOk result (λ loaded. AreAllMade system.now.databases loaded.stores) }
     ensures value { IsTrue (D.state disk.old).tells → TellsAll result (databases_in system.now (D.state disk.old).shown given.now 0 system.now.databases) }
     ensures keeps { Keeps (D.state disk.old) (D.state disk.new) }
     ensures cause { LoadCause result (D.state disk.old) (D.state disk.new) }
 {
     let mut loaded = Loaded {
         stores: Vec::new(alloc),
-        rows: Vec::new(alloc),
         broken: None,
     };
     let databases = system.databases();

@@ -25,20 +25,20 @@ module _ (system : System) (image : Image) (r : RestartSector) (is : restart_in 
   decides : Decides true (IsCutOff (log_in system image r).rest)
   decides = (λ _. rp.cut_off, λ _. refl)
 
-  pub look_good : AreAllMade system.databases looked.named.loaded.stores looked.named.loaded.rows → AreSlotted (all_slots system image rp.snapshot (log_in system image r).records 0 system.databases) looked.named.loaded.stores
+  pub look_good : AreAllMade system.databases looked.named.loaded.stores → AreSlotted (all_slots system image rp.snapshot (log_in system image r).records 0 system.databases) looked.named.loaded.stores
       → slot_fault (all_slots system image rp.snapshot (log_in system image r).records 0 system.databases) ≡ None → first_later (2 * system.logs) image (log_first system 0) r.epoch ≡ None → IsLooked system image r looked
   look_good made slotted none later = record {
     replayed = rp;
-    loaded = stores_loaded system image rp.snapshot (log_in system image r).records looked.named.loaded.stores looked.named.loaded.rows made slotted;
+    loaded = stores_loaded system image rp.snapshot (log_in system image r).records looked.named.loaded.stores made slotted;
     recovers = good_image system image r is true decides rp.snapshot rp.has refl rp.lasting rp.replays (map (λ store. rows_of_slots store.slots) (map stored looked.named.loaded.stores))
-        (rows_found system image rp.snapshot (log_in system image r).records looked.named.loaded.stores looked.named.loaded.rows made slotted none) (ap (option_map (λ sector. (24, sector))) later);
+        (rows_found system image rp.snapshot (log_in system image r).records looked.named.loaded.stores made slotted none) (ap (option_map (λ sector. (24, sector))) later);
   }
 
-  pub look_later : (sector : ℕ) → AreAllMade system.databases looked.named.loaded.stores looked.named.loaded.rows → AreSlotted (all_slots system image rp.snapshot (log_in system image r).records 0 system.databases) looked.named.loaded.stores
+  pub look_later : (sector : ℕ) → AreAllMade system.databases looked.named.loaded.stores → AreSlotted (all_slots system image rp.snapshot (log_in system image r).records 0 system.databases) looked.named.loaded.stores
       → slot_fault (all_slots system image rp.snapshot (log_in system image r).records 0 system.databases) ≡ None → first_later (2 * system.logs) image (log_first system 0) r.epoch ≡ Some sector → Recovers system image (Err (24, sector))
   look_later sector made slotted none later =
       bad_later system image r is true decides rp.snapshot rp.has refl rp.lasting rp.replays (map (λ store. rows_of_slots store.slots) (map stored looked.named.loaded.stores))
-      (rows_found system image rp.snapshot (log_in system image r).records looked.named.loaded.stores looked.named.loaded.rows made slotted none) (24, sector) (ap (option_map (λ sector. (24, sector))) later)
+      (rows_found system image rp.snapshot (log_in system image r).records looked.named.loaded.stores made slotted none) (24, sector) (ap (option_map (λ sector. (24, sector))) later)
 
 pub look_bad : (system : System) (image : Image) (r : RestartSector) → restart_in (snapshot_area system) image ≡ Ok (Some r) → (reread : Reread) (rp : IsReplayed system image r reread) (fault : Fault) → slot_fault (all_slots system image rp.snapshot (log_in system image r).records 0 system.databases) ≡ Some fault → Recovers system image (Err fault)
 look_bad system image r is reread rp fault bad =

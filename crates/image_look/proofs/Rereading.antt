@@ -1,5 +1,5 @@
 -- The snapshot and the log of an image, by what reading them and doing the log again answer.
-use Rattle.std.proofs.Common.{◌≡◌, ◌⊎◌, ℕ, Bool, true, false, List, refl, sym, ◌∙◌, ap, subst, inl, inr, ⊎_elim, Some, None, Ok, Err}
+use Rattle.std.proofs.Common.{◌≡◌, ◌⊎◌, ℕ, Bool, true, false, List, refl, sym, subst, inl, inr, ⊎_elim, Some, None, Ok, Err}
 use Rattle.std.specs.Prelude.{Option, Result, IfOk, Decides, if◌then◌else◌}
 use Rattle.std.specs.List.{list_all, AllByRecursion}
 use Rattle.model_disk.specs.Disk.{Image}
@@ -9,14 +9,13 @@ use Rattle.log_records.specs.declared.record.Record.{Record}
 use Rattle.log_records.specs.Reading.{◌>>=◌}
 use Rattle.log_records.specs.Spelling.{IsRecord}
 use Rattle.log_records.proofs.Takes.{IsBytes}
-use Rattle.log_sectors.specs.Chain.{chain, joined}
 use Rattle.restart_data.specs.declared.restart.RestartSector.{RestartSector}
 use Rattle.restart_data.specs.Restart.{restart_in}
 use Rattle.restart_data.specs.Rules.{first_broken, unless_broken}
 use Rattle.restart_data.specs.Snapshot.{snapshot_in}
 use Rattle.model_image.specs.Areas.{snapshot_area, snapshot_first, log_first}
 use Rattle.model_image.specs.Counters.{next_sequence}
-use Rattle.model_image.specs.Cut.{Cut, cut_of, records_of, IsCutOff}
+use Rattle.model_image.specs.Cut.{cut_of, records_of, IsCutOff}
 use Rattle.model_image.specs.Faults.{Fault, in_sector, unless_any, or_fault}
 use Rattle.model_image.specs.Slots.{is_image_of}
 use Rattle.model_image.specs.Recovered.{snapshot_from, log_in, first_later, Recovers}
@@ -33,6 +32,7 @@ use Rattle.snapshot_reading.specs.declared.fault.ReadFault.{ReadFault}
 use Rattle.snapshot_reading.specs.declared.fault.ReadFault.TheVariants as faults
 use Rattle.snapshot_reading.specs.Reading.{TellsSnapshotOf, IsRead}
 use Rattle.snapshot_reading.proofs.Told.{images_kept}
+use Rattle.log_reading.specs.Reading.{log_bytes, IsCutInto, ComesFromBytes}
 use Rattle.image_look.specs.declared.replaying.Reread.{Reread}
 use Rattle.image_look.specs.Replayed.{ComesBehind, IsReplayed, TellsReplay}
 use Rattle.image_look.proofs.Judged.{bad_snapshot, bad_rest, bad_log}
@@ -51,42 +51,34 @@ bad_by true (Some found) rule e = absurd cc
 bad_by true None rule e = let same : 19 ≡ rule = cc in record { which = inr (refl, refl, sym same) }
 bad_by false o rule e = let same : 18 ≡ rule = cc in record { which = inl (refl, sym same) }
 
-module _ (system : System) (image : Image) (r : RestartSector) (bytes : List ℕ) (payload : bytes ≡ joined (chain system.logs image (log_first system r.log) r.sequence r.epoch)) where
-  log_is : cut_of bytes ≡ log_in system image r
-  log_is = ap cut_of payload
-
-  pub reread_good : (snapshot : List Record) → snapshot_from system image r ≡ Ok snapshot → (replayed : ReplayedState) (read : Reread) → read.replayed ≡ replayed → read.next_sequence ≡ next_sequence system image r → read.later ≡ first_later system.logs image (log_first system r.log) r.epoch → TellsLog system snapshot bytes (Ok replayed) → IsReplayed system image r read
+module _ (system : System) (image : Image) (r : RestartSector) where
+  pub reread_good : (snapshot : List Record) → snapshot_from system image r ≡ Ok snapshot → (replayed : ReplayedState) (read : Reread) → read.replayed ≡ replayed → read.next_sequence ≡ next_sequence system image r → read.later ≡ first_later system.logs image (log_first system r.log) r.epoch → TellsLog system snapshot (log_bytes system image r) (Ok replayed) → IsReplayed system image r read
   reread_good snapshot has replayed read same sequence later told =
       let lasting = told.comes.0 in
-      let both = good_by told.is_cut_off (replay_of system (cut_of bytes).records (snapshot_state system snapshot)) lasting told.comes.1 in
+      let both = good_by told.is_cut_off (replay_of system (log_in system image r).records (snapshot_state system snapshot)) lasting told.comes.1 in
       record {
         snapshot = snapshot;
         has = has;
-        cut_off = subst (λ (c : Cut). IsCutOff c.rest) log_is (told.decides.0 both.0);
+        cut_off = told.decides.0 both.0;
         lasting = lasting;
-        replays = ap (λ (c : Cut). replay_of system c.records (snapshot_state system snapshot)) (sym log_is) ∙ both.1;
-        behind = subst (λ (state : ReplayedState). IsBehind system snapshot (log_in system image r).records lasting state) (sym same)
-            (subst (λ (c : Cut). IsBehind system snapshot c.records lasting replayed) log_is told.comes.2);
+        replays = both.1;
+        behind = subst (λ (state : ReplayedState). IsBehind system snapshot (log_in system image r).records lasting state) (sym same) told.comes.2;
         sequence = sequence;
         later = later;
       }
 
   module _ (is : restart_in (snapshot_area system) image ≡ Ok (Some r)) where
-    decided : (cut : Bool) → Decides cut (IsCutOff (cut_of bytes).rest) → Decides cut (IsCutOff (log_in system image r).rest)
-    decided cut decides = subst (λ (c : Cut). Decides cut (IsCutOff c.rest)) log_is decides
-
-    pub reread_bad : (snapshot : List Record) (rule : ℕ) → snapshot_from system image r ≡ Ok snapshot → TellsLog system snapshot bytes (Err (Bad rule)) → Recovers system image (Err (rule, log_first system r.log))
+    pub reread_bad : (snapshot : List Record) (rule : ℕ) → snapshot_from system image r ≡ Ok snapshot → TellsLog system snapshot (log_bytes system image r) (Err (Bad rule)) → Recovers system image (Err (rule, log_first system r.log))
     reread_bad snapshot rule has told =
         let cut = told.is_cut_off in
-        let o = replay_of system (cut_of bytes).records (snapshot_state system snapshot) in
+        let o = replay_of system (log_in system image r).records (snapshot_state system snapshot) in
         ⊎_elim
-        (λ rest. subst (λ (n : ℕ). Recovers system image (Err (n, log_first system r.log))) (sym rest.1) (bad_rest system image r is cut (decided cut told.decides) snapshot has rest.0))
-        (λ none. subst (λ (n : ℕ). Recovers system image (Err (n, log_first system r.log))) (sym none.2)
-        (bad_log system image r is cut (decided cut told.decides) snapshot has none.0 (ap (λ (c : Cut). replay_of system c.records (snapshot_state system snapshot)) (sym log_is) ∙ none.1)))
+        (λ rest. subst (λ (n : ℕ). Recovers system image (Err (n, log_first system r.log))) (sym rest.1) (bad_rest system image r is cut told.decides snapshot has rest.0))
+        (λ none. subst (λ (n : ℕ). Recovers system image (Err (n, log_first system r.log))) (sym none.2) (bad_log system image r is cut told.decides snapshot has none.0 none.1))
         (bad_by cut o rule told.comes).which
 
-    pub told_fault : (cut : Bool) → Decides cut (IsCutOff (cut_of bytes).rest) → (fault : ReadFault) → TellsSnapshotOf system r image (Err fault) → TellsReplay system r image (Err fault)
-    told_fault cut decides (faults.Bad rule sector) told = bad_snapshot system image r is cut (decided cut decides) (rule, sector) told
+    pub told_fault : (cut : Bool) → Decides cut (IsCutOff (log_in system image r).rest) → (fault : ReadFault) → TellsSnapshotOf system r image (Err fault) → TellsReplay system r image (Err fault)
+    told_fault cut decides (faults.Bad rule sector) told = bad_snapshot system image r is cut decides (rule, sector) told
     told_fault cut decides faults.Disk told = tt
     told_fault cut decides faults.Memory told = tt
 
@@ -126,6 +118,6 @@ comes_behind system bytes snapshot replayed are valid told =
       named = record { terminals = named.terminals; outputs = named.outputs; conversations = named.conversations; codes = named.codes };
     }
 
-pub behind_of : (system : System) (bytes : List ℕ) (snapshot : List Record) (result : Result ReplayedState RecordsFault) → IsBytes bytes → AllByRecursion IsRecord snapshot → TellsLog system snapshot bytes result → IfOk result (ComesBehind system)
-behind_of system bytes snapshot (Ok replayed) are valid told = comes_behind system bytes snapshot replayed are valid told
-behind_of system bytes snapshot (Err fault) are valid told = tt
+pub behind_of : (system : System) (log : List Record) (is_cut_off : Bool) (snapshot : List Record) (result : Result ReplayedState RecordsFault) → (from : ComesFromBytes log is_cut_off) → AllByRecursion IsRecord snapshot → ((bytes : List ℕ) → IsCutInto bytes log is_cut_off → TellsLog system snapshot bytes result) → IfOk result (ComesBehind system)
+behind_of system log is_cut_off snapshot (Ok replayed) from valid told = comes_behind system from.bytes snapshot replayed from.are valid (told from.bytes from.cut)
+behind_of system log is_cut_off snapshot (Err fault) from valid told = tt

@@ -37,7 +37,7 @@ pub fn load_named<D: Disk>(
     requires ascending { Ascend named.now }
     requires images { list_all (is_slot_of system.now) named.now ≡ true }
     ensures given { IfOk result (λ found. AreNamedBytes (length system.now.databases) named.now found.given.items) }
-    ensures made { IfOk result (λ found. AreAllMade system.now.databases found.loaded.stores found.loaded.rows) }
+    ensures made { IfOk result (λ found. AreAllMade system.now.databases found.loaded.stores) }
     // They are those of the image, for all records that name these slots.
     ensures value { IsTrue (D.state disk.old).tells → (snapshot log : List OneRecord) → AreNamed snapshot log named.now → TellsNamed result (all_slots system.now (D.state disk.old).shown snapshot log 0 system.now.databases) }
     ensures keeps { Keeps (D.state disk.old) (D.state disk.new) }

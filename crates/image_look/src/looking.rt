@@ -41,7 +41,7 @@ pub fn look<D: Disk>(
     ensures least { IfOk result (λ looked. restart.now.sequence ≤ looked.reread.next_sequence) }
     ensures few { IfOk result (λ looked. looked.reread.next_sequence ≤ restart.now.sequence + system.now.logs) }
     ensures given { IfOk result (λ looked. AreNamedBytes (length system.now.databases) looked.reread.replayed.slots looked.named.given.items) }
-    ensures made { IfOk result (λ looked. AreAllMade system.now.databases looked.named.loaded.stores looked.named.loaded.rows) }
+    ensures made { IfOk result (λ looked. AreAllMade system.now.databases looked.named.loaded.stores) }
     ensures value { IsTrue (D.state disk.old).tells → TellsLook system.now restart.now (D.state disk.old).shown result }
     ensures keeps { Keeps (D.state disk.old) (D.state disk.new) }
     ensures cause { LookCause result (D.state disk.old) (D.state disk.new) }

@@ -1,5 +1,5 @@
 //! The snapshot and the log of an image, read and done again.
-ghost use Rattle.std.specs.Prelude.{◌≡◌, ◌+◌, ◌≤◌, true, List, Some, Ok, IsTrue, IfOk, length};
+ghost use Rattle.std.specs.Prelude.{◌≡◌, ℕ, ◌+◌, ◌≤◌, true, List, Some, Ok, IsTrue, IfOk, length};
 ghost use Rattle.std.specs.List.{list_all};
 ghost use Rattle.log_records.specs.declared.record.Record.{Record as OneRecord};
 ghost use Rattle.model_disk.specs.Disk.{Keeps};
@@ -8,11 +8,12 @@ ghost use Rattle.restart_data.specs.Images.{IsValid};
 ghost use Rattle.model_image.specs.Areas.{snapshot_area, data_first};
 ghost use Rattle.model_image.specs.Slots.{is_image_of};
 ghost use Rattle.image_records.specs.Answers.{IsOf, TellsLog};
+ghost use Rattle.log_reading.specs.Reading.{IsCutInto, ComesFromBytes};
 ghost use Rattle.snapshot_reading.specs.Reading.{ComesFromRecords};
 ghost use Rattle.image_look.specs.Replayed.{ComesBehind, TellsReplay, ReplayCause};
 
 use image_areas::log_first;
-use image_records::{RecordsFault, Replayed, Snapshot};
+use image_records::{Record, RecordsFault, Replayed, Snapshot};
 use log_reading::{LogFault, read_log};
 use log_replay::replay_log;
 use restart_data::RestartSector;
@@ -31,18 +32,20 @@ pub struct Reread {
     pub later: Option<u32>,
 }
 
-// Does the log of these bytes again behind a snapshot that was read.
+// Does the log with these records again behind a snapshot that was read.
 fn replay(
     alloc: Global,
     system: &System,
     snapshot: Snapshot,
-    bytes: &[u8],
+    log: Vec<Record>,
+    is_cut_off: bool,
 ) -> Result<Replayed, RecordsFault>
-    requires { ComesFromRecords system.now snapshot }
-    ensures value { (records : List OneRecord) → list_all (is_image_of system.now) records ≡ true → IsOf system.now records snapshot → TellsLog system.now records bytes.now result }
+    requires snapshot { ComesFromRecords system.now snapshot }
+    requires log { ComesFromBytes log.items is_cut_off }
+    ensures value { (bytes : List ℕ) → IsCutInto bytes log.items is_cut_off → (records : List OneRecord) → list_all (is_image_of system.now) records ≡ true → IsOf system.now records snapshot → TellsLog system.now records bytes result }
     ensures behind { IfOk result (ComesBehind system.now) }
 {
-    replay_log(alloc, system, snapshot, bytes)
+    replay_log(alloc, system, snapshot, log, is_cut_off)
 }
 
 /// Reads the snapshot and the log that this restart sector names, and does the log again. Nothing is written.
@@ -71,7 +74,7 @@ pub fn read_replayed<D: Disk>(
         Ok(snapshot) => snapshot,
         Err(fault) => return Err(fault),
     };
-    match replay(alloc, system, snapshot, log.payload.as_slice()) {
+    match replay(alloc, system, snapshot, log.records, log.is_cut_off) {
         Ok(replayed) => Ok(Reread {
             replayed,
             next_sequence: log.next_sequence,

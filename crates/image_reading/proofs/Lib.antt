@@ -1,2 +1,3 @@
 mod Differing
+mod Pieces
 pub mod Sectors

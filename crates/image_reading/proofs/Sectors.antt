@@ -1,9 +1,7 @@
 -- Sectors that are read one after another.
-use Rattle.std.proofs.Common.{◌≡◌, ℕ, zero, suc, ◌+◌, ◌-◌, ◌<◌, ◌≤◌, Bool, true, false, List, ◌++◌, refl, sym, ◌∙◌, ap, arith, Some, None, append_assoc}
+use Rattle.std.proofs.Common.{◌≡◌, ℕ, zero, suc, ◌+◌, ◌-◌, ◌<◌, ◌≤◌, Bool, true, false, refl, sym, ◌∙◌, ap, arith, Some, None}
 use Rattle.std.specs.Prelude.{Option, if◌then◌else◌}
-use Rattle.std.proofs.lemmas.List.{append-nil}
 use Rattle.model_disk.specs.Disk.{Image, sector_at}
-use Rattle.model_image.specs.Text.{bytes_from}
 use Rattle.model_image.specs.Recovered.{is_later, first_later}
 
 -- ---- later epochs
@@ -66,26 +64,3 @@ later_in_both (suc one) two image at epoch =
     ∙ ap (λ (rest : Option ℕ). if is_later epoch (sector_at image at) then Some at else rest)
     (later_in_both one two image (at + 1) epoch ∙ ap (λ k. in_both (first_later one image (at + 1) epoch) (first_later two image k epoch)) place)
     ∙ sym (later_or (is_later epoch (sector_at image at)) at (first_later one image (at + 1) epoch) (first_later two image (at + suc one) epoch))
-
--- ---- bytes
-
-bytes_more : (n count place : ℕ) (image : Image) (first : ℕ) → count - place ≡ suc n → bytes_from (count - place) image (first + place) ≡ sector_at image (first + place) ++ bytes_from (count - (place + 1)) image (first + (place + 1))
-bytes_more n count place image first is =
-    ap (λ k. bytes_from k image (first + place)) is
-    ∙ ap (λ k. sector_at image (first + place) ++ bytes_from k image (first + place + 1)) (omega (arith, is))
-    ∙ ap (λ k. sector_at image (first + place) ++ bytes_from (count - (place + 1)) image k) (omega arith)
-
-pub bytes_next : (count place : ℕ) (image : Image) (first : ℕ) (whole bytes next : List ℕ) → place < count → whole ≡ bytes ++ bytes_from (count - place) image (first + place) → next ≡ bytes ++ sector_at image (first + place) → whole ≡ next ++ bytes_from (count - (place + 1)) image (first + (place + 1))
-bytes_next count place image first whole bytes next lt so_far is =
-    so_far ∙ ap (λ (l : List ℕ). bytes ++ l) (bytes_more (count - place - 1) count place image first (omega (arith, lt)))
-    ∙ sym (append_assoc bytes (sector_at image (first + place)) (bytes_from (count - (place + 1)) image (first + (place + 1))))
-    ∙ ap (λ (l : List ℕ). l ++ bytes_from (count - (place + 1)) image (first + (place + 1))) (sym is)
-
-pub bytes_end : (count place : ℕ) (image : Image) (first : ℕ) (whole bytes : List ℕ) → count ≤ place → whole ≡ bytes ++ bytes_from (count - place) image (first + place) → bytes ≡ whole
-bytes_end count place image first whole bytes le so_far =
-    let none : count - place ≡ 0 = omega (arith, le) in
-    sym (so_far ∙ ap (λ k. bytes ++ bytes_from k image (first + place)) none ∙ append-nil bytes)
-
--- a sector that was read now is that of the disk before
-pub sector_is : (into shown_sector old_sector : List ℕ) → into ≡ shown_sector → shown_sector ≡ old_sector → into ≡ old_sector
-sector_is into shown_sector old_sector a b = a ∙ b

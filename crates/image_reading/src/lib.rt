@@ -7,4 +7,4 @@ mod later;
 mod text;
 
 pub use later::{first_later, first_later_from};
-pub use text::{TextFault, first_difference, text_difference};
+pub use text::text_difference;

@@ -1,10 +1,7 @@
 -- Lists of names and of records that are compared from the front.
-use Rattle.std.proofs.Common.{◌≡◌, Bool, true, false, List, [], ◌∷◌, ℕ, zero, suc, ◌≤◌, ◌<◌, ◌+◌, length, drop, get_or, slice_get, cond, refl, sym, ◌∙◌, ap, arith, Some, None}
-use Rattle.std.specs.Prelude.{◌&&◌, ◌||◌, not, nat_lt, position}
-use Rattle.std.specs.List.{prefix_len}
-use Rattle.std.proofs.lemmas.Bool.{lt-ltb, ltb-true}
-use Rattle.std.specs.List.{list_any}
-use Rattle.std.specs.Option.{is_some, option_map_or}
+use Rattle.std.proofs.Common.{◌≡◌, Bool, true, false, List, [], ◌∷◌, ℕ, zero, suc, ◌≤◌, ◌<◌, ◌+◌, length, drop, get_or, slice_get, refl, sym, ◌∙◌, ap, arith, Some}
+use Rattle.std.specs.Prelude.{◌&&◌, nat_lt}
+use Rattle.std.specs.Option.{option_map_or}
 use Rattle.std.proofs.Math.Bool.{and-true}
 use Rattle.std.proofs.lemmas.Option.{slice_get-get_or}
 use Rattle.tm_types.specs.declared.message.Message.{Message}
@@ -26,33 +23,6 @@ lengths_apart (name ∷ names) (other ∷ others) apart = by_first (bytes_eq nam
   by_first : (b : Bool) → are_same names others ≡ false → b && are_same names others ≡ false
   by_first true later = later
   by_first false later = refl
-
--- a place is found where one passes
-same_where : (a b : Bool) → (a ≡ true → b ≡ true) → (b ≡ true → a ≡ true) → a ≡ b
-same_where true b x y = sym (x refl)
-same_where false true x y = y refl
-same_where false false x y = refl
-
-some_where : (b : Bool) (n : ℕ) → is_some (cond b (Some n) None) ≡ b
-some_where true n = refl
-some_where false n = refl
-
-short_where : {X : Type 0} (p : X → Bool) (xs : List X) → nat_lt (prefix_len (λ x. not (p x)) xs) (length xs) ≡ list_any p xs
-short_where p [] = refl
-short_where p (x ∷ xs) = by_first (p x) (short_where p xs) where
-  by_first : (b : Bool) → nat_lt (prefix_len (λ x. not (p x)) xs) (length xs) ≡ list_any p xs →
-      nat_lt (cond (not b) (1 + prefix_len (λ x. not (p x)) xs) 0) (length (x ∷ xs)) ≡ b || list_any p xs
-  by_first true later = lt-ltb 0 (length (x ∷ xs)) (omega arith)
-  by_first false later =
-      let n = prefix_len (λ x. not (p x)) xs in
-      same_where (nat_lt (1 + n) (length (x ∷ xs))) (nat_lt n (length xs))
-      (λ e. lt-ltb n (length xs) (omega (arith, ltb-true (1 + n) (length (x ∷ xs)) e)))
-      (λ e. lt-ltb (1 + n) (length (x ∷ xs)) (omega (arith, ltb-true n (length xs) e)))
-      ∙ later
-
-pub place_is_there : {X : Type 0} (p : X → Bool) (xs : List X) → is_some (position p xs) ≡ list_any p xs
-place_is_there p xs =
-    some_where (nat_lt (prefix_len (λ x. not (p x)) xs) (length xs)) (prefix_len (λ x. not (p x)) xs) ∙ short_where p xs
 
 -- ---- ids that ascend
 

@@ -1,9 +1,7 @@
 //! The rules on what lasts.
-ghost use Rattle.std.specs.Prelude.{◌≡◌, ◌==◌, ◌&&◌, ◌+◌, ◌<◌, false, nat_lt, not, length, slice_get, take, drop};
+ghost use Rattle.std.specs.Prelude.{◌≡◌, ◌==◌, ◌&&◌, ◌+◌, ◌<◌, false, nat_lt, not, length, slice_get, drop, bytes_eq};
 ghost use Rattle.std.specs.List.{list_all, list_any};
 ghost use Rattle.std.specs.Option.{option_map_or, option_copied};
-ghost use Rattle.std.specs.Str.{bytes_eq};
-ghost use Rattle.model_conversation.specs.Pads.{code_field};
 ghost use Rattle.model_conversation.specs.Input.{is_conversing};
 ghost use Rattle.model_conversation.specs.Terminals.{conversation_at, terminal_at, is_of};
 ghost use Rattle.model_image.specs.States.{is_small, is_next, is_setting, is_printable, is_pad_of, is_conversation, has_right_pad, wrong_values, ascend_below, wrong_ids, is_of_conversation, has_no_pad, is_known, are_alone, unknown_messages, run_up_to, wrong_replies};
@@ -11,7 +9,7 @@ ghost use Rattle.model_image.specs.States.{is_small, is_next, is_setting, is_pri
 use crate::order::{is_next, is_small};
 use crate::rules::{is_code, is_terminal};
 use conversation::is_conversing;
-use model_conversation::{Conversation, TerminalConversation};
+use model_conversation::{Conversation, TerminalConversation, has_code};
 use model_machine::{CodeSetting, Lasting, TerminalState};
 use model_queues::{Replies, TerminalReplies};
 use system_types::System;
@@ -88,25 +86,6 @@ fn is_pad_of(size: u16, conversation: &Conversation) -> bool
         && bytes.len() + 6 == size as usize
         && has_code(bytes, &conversation.code)
         && has_printable_work(bytes)
-}
-
-#[tactic(auto, using(crate::proofs::Pads::front_is))]
-fn has_code(bytes: &[u8], code: &Name) -> bool
-    ensures { result ≡ bytes_eq (take 8 bytes.now) (code_field code.now) }
-{
-    let field = code_field(code);
-    let front = &bytes[..bytes.len().min(8)];
-    front == field.as_slice()
-}
-
-#[tactic(auto, using(crate::proofs::Pads::field_is))]
-fn code_field(code: &Name) -> [u8; 8]
-    ensures { result ≡ code_field code.now }
-{
-    let bytes = code.as_bytes();
-    let mut field = [b' '; 8];
-    field[..bytes.len()].copy_from_slice(bytes);
-    field
 }
 
 #[tactic(auto, using(crate::proofs::Pads::back_is))]

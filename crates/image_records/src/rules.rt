@@ -63,7 +63,7 @@ fn are_terminals(system: &System, names: &[Name]) -> bool
 }
 
 /// Whether the system has a terminal of this name.
-#[tactic(auto, using(crate::proofs::Fronts::place_is_there))]
+#[tactic(auto, using(system_types::proofs::Indexed::place_is_there))]
 pub fn is_terminal(system: &System, name: &Name) -> bool
     ensures { result ≡ is_terminal system.now name.now }
 {

@@ -1,5 +1,5 @@
-//! The log of an image is read: the bytes of its chain, the sequence behind it, whether its rest is cut off, and the first
-//! sector of a later epoch in its area. Each sector of the area is read once.
+//! The log of an image is read: its records, whether its rest is cut off, the sequence behind it, and the first sector of a
+//! later epoch in its area. Each sector of the area is read once, and its bytes are cut into records once.
 //!
 //! Nothing is written. That the rest is decided holds on every disk, and it is needed where a rule on the snapshot is broken,
 //! too: what an image recovers to says it of each image.

@@ -21,12 +21,9 @@ use Rattle.log_replay.proofs.Tables.{lasting_is}
 use Rattle.log_replay.proofs.NamedBy.{are_named, are_slots}
 use Rattle.log_replay.proofs.Done.{images_of, unit_is}
 
-module _ (system : System) (records : List Record) (snapshot : SnapshotState) (bytes : List ℕ) (of : IsOf system records snapshot) (b : Bool) (rest : List ℕ) (rest_is : rest ≡ (cut_of bytes).rest) (decides : Decides b (IsCutOff rest)) where
-  decides_rest : Decides b (IsCutOff (cut_of bytes).rest)
-  decides_rest = subst (λ (r : List ℕ). Decides b (IsCutOff r)) rest_is decides
-
+module _ (system : System) (records : List Record) (snapshot : SnapshotState) (bytes : List ℕ) (of : IsOf system records snapshot) (b : Bool) (decides : Decides b (IsCutOff (cut_of bytes).rest)) where
   pub not_cut_off : b ≡ false → TellsLog system records bytes (Err (Bad 18))
-  not_cut_off is = record { is_cut_off = b; decides = decides_rest; comes = ap (λ b. log_of system b bytes (snapshot_state system records)) is }
+  not_cut_off is = record { is_cut_off = b; decides = decides; comes = ap (λ b. log_of system b bytes (snapshot_state system records)) is }
 
   module _ (is : b ≡ true) (cut : List Record) (cut_is : cut ≡ (cut_of bytes).records) where
     answer_is : (answer : Option LastingState) → replay_of system cut (lasting_in system snapshot.kept) ≡ answer → log_of system b bytes (snapshot_state system records) ≡ replayed_to answer
@@ -37,7 +34,7 @@ module _ (system : System) (records : List Record) (snapshot : SnapshotState) (b
         ∙ ap replayed_to done
 
     pub breaks : replay_of system cut (lasting_in system snapshot.kept) ≡ None → TellsLog system records bytes (Err (Bad 19))
-    breaks none = record { is_cut_off = b; decides = decides_rest; comes = answer_is None none }
+    breaks none = record { is_cut_off = b; decides = decides; comes = answer_is None none }
 
     pub comes_to : (kept : KeptState) (slots : List NamedSlot) (last : ℕ) → list_all (is_image_of system) records ≡ true → Ends system (replay_of system cut (lasting_in system snapshot.kept)) (Some kept) →
         AreNamed snapshot.changes cut slots → last ≡ max (snapshot.next_unit - 1) (greatest_unit cut) → TellsLog system records bytes (Ok (record { kept = kept; slots = slots; last_unit = last }))
@@ -45,7 +42,7 @@ module _ (system : System) (records : List Record) (snapshot : SnapshotState) (b
         let all : AreNamed records cut slots = are_named records snapshot.changes cut slots of.changes named in
         record {
           is_cut_off = b;
-          decides = decides_rest;
+          decides = decides;
           comes = (
             ended.0,
             answer_is (Some ended.0) ended.1,

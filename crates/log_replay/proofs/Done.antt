@@ -1,9 +1,8 @@
 -- The records of a log, one after another.
-use Rattle.std.proofs.Common.{◌≡◌, Bool, true, false, List, [], ◌∷◌, ℕ, zero, suc, ◌+◌, ◌-◌, ◌≤◌, length, take, drop, refl, sym, ◌∙◌, ap, subst, arith, Some, None}
+use Rattle.std.proofs.Common.{◌≡◌, Bool, true, false, List, [], ◌∷◌, ℕ, ◌+◌, ◌-◌, length, refl, sym, ◌∙◌, ap, subst, arith, Some, None}
 use Rattle.std.specs.Prelude.{if◌then◌else◌, Option, max}
 use Rattle.std.specs.List.{list_all}
 use Rattle.std.specs.Option.{option_map, option_and_then}
-use Rattle.std.proofs.lemmas.List.{length-drop}
 use Rattle.model_system.specs.System.{System}
 use Rattle.model_machine.specs.Machine.{LastingState}
 use Rattle.log_records.specs.declared.record.Record.{Record}
@@ -111,13 +110,3 @@ unit_is last next greatest is = omega (arith, is)
 pub nothing_left : {X : Type 0} (xs : List X) → length xs ≡ 0 → xs ≡ []
 nothing_left [] none = refl
 nothing_left (x ∷ xs) none = absurd (omega arith)
-
--- as many as there are, or more
-pub take_whole : (xs : List ℕ) (n : ℕ) → length xs ≤ n → take n xs ≡ xs
-take_whole [] zero enough = refl
-take_whole [] (suc n) enough = refl
-take_whole (x ∷ xs) zero enough = absurd (omega (arith, enough))
-take_whole (x ∷ xs) (suc n) enough = ap (λ (ys : List ℕ). x ∷ ys) (take_whole xs n (omega (arith, enough)))
-
-pub rest_whole : (bytes : List ℕ) (n : ℕ) → take (length bytes - n) (drop n bytes) ≡ drop n bytes
-rest_whole bytes n = take_whole (drop n bytes) (length bytes - n) (omega (arith, length-drop n bytes))

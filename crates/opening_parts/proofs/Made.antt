@@ -4,7 +4,6 @@ use Rattle.std.specs.Prelude.{slice_get}
 use Rattle.tm_types.specs.declared.dbd.Dbd.{Dbd}
 use Rattle.tm_types.specs.declared.message.Message.{Message}
 use Rattle.model_rows.specs.declared.row.Row.{Row}
-use Rattle.model_rows.specs.Rows.{Database}
 use Rattle.model_queues.specs.Queue.{messages_of}
 use Rattle.model_system.specs.System.{System}
 use Rattle.model_machine.specs.Machine.{LastingState}
@@ -16,22 +15,18 @@ use Rattle.image_records.specs.Kept.{KeptState, Keeps, kept_of, free_message}
 use Rattle.opening_parts.specs.Shown.{shown}
 
 -- the databases of the stores are those that were loaded
-pub dbds_made : (dbds : List Dbd) (stores : List Kept) (rows : List Database) → AreAllMade dbds stores rows → map (λ store. store.dbd) stores ≡ dbds
-dbds_made [] [] [] all = refl
-dbds_made [] [] (r ∷ rows) all = absurd all
-dbds_made [] (s ∷ stores) rows all = absurd all
-dbds_made (d ∷ dbds) [] rows all = absurd all
-dbds_made (d ∷ dbds) (s ∷ stores) [] all = absurd all
-dbds_made (d ∷ dbds) (s ∷ stores) (r ∷ rows) all = λ i. all.0.database i ∷ dbds_made dbds stores rows all.1 i
+pub dbds_made : (dbds : List Dbd) (stores : List Kept) → AreAllMade dbds stores → map (λ store. store.dbd) stores ≡ dbds
+dbds_made [] [] all = refl
+dbds_made [] (s ∷ stores) all = absurd all
+dbds_made (d ∷ dbds) [] all = absurd all
+dbds_made (d ∷ dbds) (s ∷ stores) all = λ i. all.0.database i ∷ dbds_made dbds stores all.1 i
 
 -- no slot counts as changed
-pub none_changed_made : (dbds : List Dbd) (stores : List Kept) (rows : List Database) → AreAllMade dbds stores rows → map (λ store. store.changed) stores ≡ no_changed dbds
-none_changed_made [] [] [] all = refl
-none_changed_made [] [] (r ∷ rows) all = absurd all
-none_changed_made [] (s ∷ stores) rows all = absurd all
-none_changed_made (d ∷ dbds) [] rows all = absurd all
-none_changed_made (d ∷ dbds) (s ∷ stores) [] all = absurd all
-none_changed_made (d ∷ dbds) (s ∷ stores) (r ∷ rows) all = λ i. all.0.none_changed i ∷ none_changed_made dbds stores rows all.1 i
+pub none_changed_made : (dbds : List Dbd) (stores : List Kept) → AreAllMade dbds stores → map (λ store. store.changed) stores ≡ no_changed dbds
+none_changed_made [] [] all = refl
+none_changed_made [] (s ∷ stores) all = absurd all
+none_changed_made (d ∷ dbds) [] all = absurd all
+none_changed_made (d ∷ dbds) (s ∷ stores) all = λ i. all.0.none_changed i ∷ none_changed_made dbds stores all.1 i
 
 -- messages that no region has, without their holders
 pub free_back : (messages : List Message) → messages_of (map free_message messages) ≡ messages

@@ -9,6 +9,5 @@ pub mod Units
 pub mod Placed
 pub mod Stepped
 pub mod Talks
-pub mod Counting
 pub mod Right
 pub mod Commands

@@ -150,14 +150,9 @@ fn counts_of(alloc: Global, queues: &Queues) -> Result<BTreeMap<Name, u64>, Memo
     ensures { IfOk result (λ counts. Counts (messages_of queues.now.queued) counts.entries) }
 {
     let mut counts = BTreeMap::new(alloc);
-    let Some(first) = queues.message(0) else {
-        return Ok(counts);
-    };
-    let _ascending = queues.first_free(&first.code);
-    let mut next = Some(first);
-    while let Some(message) = next {
+    for queued in queues.by_id().values() {
+        let message = &queued.message;
         count_more(&mut counts, &message.origin, message.conversation)?;
-        next = queues.message_after(message.id);
     }
     Ok(counts)
 }

@@ -4,3 +4,4 @@ mod SlotsRead
 mod Built
 mod Loaded
 pub mod Held
+mod Copying

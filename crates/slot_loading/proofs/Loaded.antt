@@ -7,7 +7,6 @@ use Rattle.std.specs.Result.{IfOk, IfErr, OnOk}
 use Rattle.tm_types.specs.declared.dbd.Dbd.{Dbd}
 use Rattle.model_disk.specs.Disk.{Image}
 use Rattle.model_rows.specs.declared.row.Row.{Row}
-use Rattle.model_rows.specs.Rows.{Database}
 use Rattle.model_image.specs.Slots.{Slot, slots_by, first_shared, have_one_root, has_wrong_length, has_no_record, slot_fault, fault_of, rows_in}
 use Rattle.seg_store.specs.Changed.{Kept}
 use Rattle.slot_loading.specs.declared.fault.LoadFault.{LoadFault}
@@ -66,9 +65,9 @@ slot_fault_is slots p a b s =
     (λ i. option_or (fault_of 20 (option_or (a i) None)) (option_or (fault_of 21 (option_or (b i) None)) (fault_of 22 (option_or (first_shared slots) None))))
     ∙ fault_is 22 (first_shared slots) p s
 
-pub load_value : (result : Result (Kept × Database) LoadFault) (slots : List Slot) (images : List (List Row)) (first : ℕ) → find has_wrong_length slots ≡ None → None ≡ place_of (find has_no_record slots) → images ≡ map rows_in slots
-    → place_of (first_shared slots) ≡ shared_at first (map rows_in slots) → IfOk result (λ loaded. loaded.0.slots ≡ images) → OnOk result (shared_at first images ≡ None) → IfErr result (SharesRoot first images) → TellsSlots result slots
-load_value (Ok loaded) slots images first a b e s each alone shared = record {
+pub load_value : (result : Result Kept LoadFault) (slots : List Slot) (images : List (List Row)) (first : ℕ) → find has_wrong_length slots ≡ None → None ≡ place_of (find has_no_record slots) → images ≡ map rows_in slots
+    → place_of (first_shared slots) ≡ shared_at first (map rows_in slots) → IfOk result (λ store. store.slots ≡ images) → OnOk result (shared_at first images ≡ None) → IfErr result (SharesRoot first images) → TellsSlots result slots
+load_value (Ok store) slots images first a b e s each alone shared = record {
   good = slot_fault_is slots None a (none_there _ (sym b)) (s ∙ (ap (shared_at first) (sym e) ∙ alone));
   each = each ∙ e;
 }

@@ -5,7 +5,7 @@ use Rattle.tm_types.specs.declared.dbd.Dbd.{Dbd}
 use Rattle.model_disk.specs.Disk.{Image, DiskState, FailedSince, sector_at}
 use Rattle.model_rows.specs.Rows.{Database}
 use Rattle.model_image.specs.Slots.{Slot, source_of, slots_by, slot_fault, rows_in}
-use Rattle.seg_store.specs.Slots.{AreSlots, rows_of_slots}
+use Rattle.seg_store.specs.Slots.{AreSlots}
 use Rattle.seg_store.specs.Changed.{Kept}
 use Rattle.slot_loading.specs.declared.fault.LoadFault.{LoadFault}
 use Rattle.slot_loading.specs.declared.fault.LoadFault.TheVariants as faults
@@ -26,13 +26,11 @@ slot_from image dbd first given number = record {
 unfoldable pub slots_in : Image → Dbd → ℕ → List (ℕ × List ℕ) → List Slot
 slots_in image dbd first given = slots_by (slot_from image dbd first given) dbd.roots 0
 
--- a store of a database, of which no slot counts as changed, and all its rows
-pub record AreMade (dbd : Dbd) (store : Kept) (rows : Database) : Type 0 where
+-- a store of a database, of which no slot counts as changed
+pub record IsMade (dbd : Dbd) (store : Kept) : Type 0 where
   pub database : store.dbd ≡ dbd
   pub valid : AreSlots store.dbd store.slots
   pub none_changed : store.changed ≡ []
-  pub rows_database : rows.dbd ≡ dbd
-  pub all_rows : rows.rows ≡ rows_of_slots store.slots
 
 -- these slots break no rule, and the store has the record of each
 pub record AreLoaded (slots : List Slot) (store : Kept) : Type 0 where
@@ -40,11 +38,16 @@ pub record AreLoaded (slots : List Slot) (store : Kept) : Type 0 where
   pub each : store.slots ≡ map rows_in slots
 
 -- what loading these slots answers, where there is memory and the disk doesn't fail
-abbrev pub TellsSlots : Result (Kept × Database) LoadFault → List Slot → Type 0
-TellsSlots (Ok loaded) slots = AreLoaded slots loaded.0
+abbrev pub TellsSlots : Result Kept LoadFault → List Slot → Type 0
+TellsSlots (Ok store) slots = AreLoaded slots store
 TellsSlots (Err (faults.Bad rule sector)) slots = slot_fault (slots ∷ []) ≡ Some (rule, sector)
 TellsSlots (Err faults.Disk) slots = Unit {0}
 TellsSlots (Err faults.Memory) slots = Unit {0}
+
+-- the store of an answer that has its rows beside it
+abbrev pub store_in : Result (Kept × Database) LoadFault → Result Kept LoadFault
+store_in (Ok loaded) = Ok loaded.0
+store_in (Err fault) = Err fault
 
 -- The disk failed in the call exactly where that is told.
 abbrev pub FaultCause : LoadFault → DiskState → DiskState → Type 0

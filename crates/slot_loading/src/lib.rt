@@ -6,7 +6,7 @@
 
 pub use fault::LoadFault;
 pub use judging::{bytes_in, image_of};
-pub use loading::load;
+pub use loading::{load, load_store};
 pub use slots::Slots;
 pub use writing::write_slots;
 
@@ -15,5 +15,6 @@ mod fault;
 mod judging;
 mod loading;
 mod reading;
+mod rows;
 mod slots;
 mod writing;

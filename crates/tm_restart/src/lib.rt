@@ -10,7 +10,6 @@ mod reopening;
 mod restarting;
 mod starting;
 
-pub use image_finding::{Counts, spent_counter};
 pub use model_machine::Lasting;
 pub use opening_answers::{Counter, OpenError};
 pub use opening_parts::Parts;

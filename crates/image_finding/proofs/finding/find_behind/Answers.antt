@@ -37,7 +37,7 @@ returns-in-Ok-None-clause-keeps g c =
 
 pub returns-in-Ok-None-clause-cause : goal.returns-in-Ok-None-clause-cause
 returns-in-Ok-None-clause-cause g c =
-    found_cause (g.D.Disk.state c.args.disk.now) (g.D.Disk.state c.text_difference.new.disk) (g.D.Disk.state c.find_rest.new.disk) c.find_rest.result (g.met.D.Disk.is_disk c.args.disk.now) c.in-Ok-None.ensures.keeps c.in-Ok-None.ensures.cause c.find_rest.ensures.cause
+    found_cause (g.D.Disk.state c.args.disk.now) (g.D.Disk.state c.text_difference.new.disk) (g.D.Disk.state c.find_rest.new.disk) c.find_rest.result (g.met.D.Disk.is_disk c.args.disk.now) c.in-Ok-None.ensures.keeps c.in-Ok-None.ensures.no_fault c.find_rest.ensures.cause
 
 pub returns-in-Ok-Some-clause-value : goal.returns-in-Ok-Some-clause-value
 returns-in-Ok-Some-clause-value g c tells =

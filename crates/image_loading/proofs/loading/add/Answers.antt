@@ -10,13 +10,12 @@ pub returns-in-Ok-clause-made : goal.returns-in-Ok-clause-made
 returns-in-Ok-clause-made g c =
     let old = c.args.loaded.now in
     let new = c.push.new.loaded in
-    with_ok c.push.result (new.stores ≡ old.stores ++ c.in-Ok.store ∷ []) (new.rows ≡ old.rows ++ c.in-Ok.rows ∷ []) (new.broken ≡ old.broken)
-    ((dbds : List Dbd) → (old.broken ≡ None → AreAllMade dbds old.stores old.rows) → new.broken ≡ None → AreAllMade (dbds ++ c.args.dbd.now ∷ []) new.stores new.rows)
-    c.push.ensures.stores c.push.ensures.rows c.push.ensures.broken
-    (λ stores rows broken dbds made none.
-    subst (λ l. AreAllMade (dbds ++ c.args.dbd.now ∷ []) l new.rows) (sym stores)
-    (subst (λ l. AreAllMade (dbds ++ c.args.dbd.now ∷ []) (old.stores ++ c.in-Ok.store ∷ []) l) (sym rows)
-    (made_more dbds old.stores old.rows c.args.dbd.now c.in-Ok.store c.in-Ok.rows (made (sym broken ∙ none)) c.in-Ok.ensures.made)))
+    with_ok c.push.result (new.stores ≡ old.stores ++ c.in-Ok.store ∷ [])
+    ((dbds : List Dbd) → (old.broken ≡ None → AreAllMade dbds old.stores) → new.broken ≡ None → AreAllMade (dbds ++ c.args.dbd.now ∷ []) new.stores)
+    c.push.ensures.stores
+    (λ stores dbds made none.
+    subst (λ l. AreAllMade (dbds ++ c.args.dbd.now ∷ []) l) (sym stores)
+    (made_more dbds old.stores c.args.dbd.now c.in-Ok.store (made (sym c.push.ensures.broken ∙ none)) c.in-Ok.ensures.made))
 
 pub returns-in-Ok-clause-value : goal.returns-in-Ok-clause-value
 returns-in-Ok-clause-value g c =
@@ -24,10 +23,10 @@ returns-in-Ok-clause-value g c =
     let new = c.push.new.loaded in
     let disk = g.D.Disk.state c.args.disk.now in
     let slots = slots_in disk.shown c.args.dbd.now c.args.first c.args.given.now in
-    with_ok c.push.result (new.stores ≡ old.stores ++ c.in-Ok.store ∷ []) (new.rows ≡ old.rows ++ c.in-Ok.rows ∷ []) (new.broken ≡ old.broken)
+    with_ok c.push.result (new.stores ≡ old.stores ++ c.in-Ok.store ∷ [])
     (IsTrue disk.tells → (databases : List (List Slot)) → old.broken ≡ slot_fault databases → new.broken ≡ slot_fault (databases ++ slots ∷ []))
-    c.push.ensures.stores c.push.ensures.rows c.push.ensures.broken
-    (λ stores rows broken tells databases is. good_more databases slots old.broken new.broken broken is (c.in-Ok.ensures.value tells).good)
+    c.push.ensures.stores
+    (λ stores tells databases is. good_more databases slots old.broken new.broken c.push.ensures.broken is (c.in-Ok.ensures.value tells).good)
 
 pub returns-in-Ok-clause-slotted : goal.returns-in-Ok-clause-slotted
 returns-in-Ok-clause-slotted g c =
@@ -35,12 +34,12 @@ returns-in-Ok-clause-slotted g c =
     let new = c.push.new.loaded in
     let disk = g.D.Disk.state c.args.disk.now in
     let slots = slots_in disk.shown c.args.dbd.now c.args.first c.args.given.now in
-    with_ok c.push.result (new.stores ≡ old.stores ++ c.in-Ok.store ∷ []) (new.rows ≡ old.rows ++ c.in-Ok.rows ∷ []) (new.broken ≡ old.broken)
+    with_ok c.push.result (new.stores ≡ old.stores ++ c.in-Ok.store ∷ [])
     (IsTrue disk.tells → (databases : List (List Slot)) → (old.broken ≡ None → AreSlotted databases old.stores) → new.broken ≡ None → AreSlotted (databases ++ slots ∷ []) new.stores)
-    c.push.ensures.stores c.push.ensures.rows c.push.ensures.broken
-    (λ stores rows broken tells databases are none.
+    c.push.ensures.stores
+    (λ stores tells databases are none.
     subst (λ l. AreSlotted (databases ++ slots ∷ []) l) (sym stores)
-    (slotted_more databases old.stores slots c.in-Ok.store (are (sym broken ∙ none)) (c.in-Ok.ensures.value tells).each))
+    (slotted_more databases old.stores slots c.in-Ok.store (are (sym c.push.ensures.broken ∙ none)) (c.in-Ok.ensures.value tells).each))
 
 pub returns-in-Err-Bad-clause-value : goal.returns-in-Err-Bad-clause-value
 returns-in-Err-Bad-clause-value g c tells databases is =

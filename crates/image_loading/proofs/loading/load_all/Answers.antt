@@ -51,7 +51,7 @@ loop-place-preserved g c =
       faults = c.in-Ok.ensures.cause ∙ c.loop-place.invariant.faults;
       first = omega (arith, c.from-first.ensures, c.loop-place.invariant.first, next_first system place dbd found);
       made = λ none.
-          subst (λ l. AreAllMade l c.add.new.loaded.stores c.add.new.loaded.rows) (sym (take_next system.databases place dbd found))
+          subst (λ l. AreAllMade l c.add.new.loaded.stores) (sym (take_next system.databases place dbd found))
           (c.in-Ok.ensures.made (take place system.databases) c.loop-place.invariant.made none);
       fault = λ tells.
           c.in-Ok.ensures.value (subst IsTrue (sym keeps.stays.tells) tells) (take place all) (c.loop-place.invariant.fault tells)

@@ -12,7 +12,7 @@ invariant-loop-place g l =
       keeps : Keeps (g.D.Disk.state l.initial.disk) (g.D.Disk.state l.disk);
       faults : (g.D.Disk.state l.disk).faults ≡ (g.D.Disk.state l.initial.disk).faults;
       first : l.first ≡ data_first l.system l.place;
-      made : l.loaded.broken ≡ None → AreAllMade (take l.place l.system.databases) l.loaded.stores l.loaded.rows;
+      made : l.loaded.broken ≡ None → AreAllMade (take l.place l.system.databases) l.loaded.stores;
       fault : IsTrue (g.D.Disk.state l.initial.disk).tells → l.loaded.broken ≡ slot_fault (take l.place (databases_in l.system (g.D.Disk.state l.initial.disk).shown l.given 0 l.system.databases));
       slotted : IsTrue (g.D.Disk.state l.initial.disk).tells → l.loaded.broken ≡ None → AreSlotted (take l.place (databases_in l.system (g.D.Disk.state l.initial.disk).shown l.given 0 l.system.databases)) l.loaded.stores;
     }

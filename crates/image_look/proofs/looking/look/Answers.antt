@@ -86,3 +86,15 @@ later_sector-requires-clause-held g c tells =
     let both = keeps_on old (g.D.Disk.state c.read_replayed.new.disk) (g.D.Disk.state c.load_named.new.disk) (g.met.D.Disk.is_disk c.args.disk.now) c.in-Ok.ensures.keeps c.in-Ok-load_named.ensures.keeps in
     let held = (c.in-Ok.ensures.value (subst IsTrue both.stays.tells tells)).later in
     ap (λ (x : Reread). x.later) c.reread.view_is ∙ held ∙ ap (λ (i : Image). first_later system.logs i (log_first system r.log) r.epoch) (sym both.shown)
+
+pub returns-in-Err-Bad-clause-keeps : goal.returns-in-Err-Bad-clause-keeps
+returns-in-Err-Bad-clause-keeps g c =
+    keeps_on (g.D.Disk.state c.args.disk.now) (g.D.Disk.state c.read_replayed.new.disk) (g.D.Disk.state c.load_named.new.disk) (g.met.D.Disk.is_disk c.args.disk.now) c.in-Ok.ensures.keeps c.in-Err-Bad.ensures.keeps
+
+pub returns-in-Err-Disk-clause-keeps : goal.returns-in-Err-Disk-clause-keeps
+returns-in-Err-Disk-clause-keeps g c =
+    keeps_on (g.D.Disk.state c.args.disk.now) (g.D.Disk.state c.read_replayed.new.disk) (g.D.Disk.state c.load_named.new.disk) (g.met.D.Disk.is_disk c.args.disk.now) c.in-Ok.ensures.keeps c.in-Err-Disk.ensures.keeps
+
+pub returns-in-Err-Memory-clause-keeps : goal.returns-in-Err-Memory-clause-keeps
+returns-in-Err-Memory-clause-keeps g c =
+    keeps_on (g.D.Disk.state c.args.disk.now) (g.D.Disk.state c.read_replayed.new.disk) (g.D.Disk.state c.load_named.new.disk) (g.met.D.Disk.is_disk c.args.disk.now) c.in-Ok.ensures.keeps c.in-Err-Memory.ensures.keeps

@@ -1,10 +1,14 @@
-use Rattle.std.proofs.Common.{arith}
 use Rattle.image_look.proofs.Rereading.{behind_of}
 use Rattle.image_look.proofs.replaying.replay.Goals as goal
 
 pub replay_log-requires : goal.replay_log-requires
-replay_log-requires c = (c.requires.records, c.requires.is_of)
+replay_log-requires c = (c.requires.snapshot.records, c.requires.snapshot.is_of)
+
+pub returns-clause-value : goal.returns-clause-value
+returns-clause-value c bytes cut = c.replay_log.ensures bytes cut.all cut.decided
 
 pub returns-clause-behind : goal.returns-clause-behind
 returns-clause-behind c =
-    behind_of c.args.system.now c.args.bytes.now c.requires.records c.replay_log.result (λ i. omega (arith, c.type_inv.bytes i)) c.requires.valid (c.replay_log.ensures c.requires.records c.requires.images c.requires.is_of)
+    let read = c.requires.snapshot in
+    behind_of c.args.system.now c.args.log.items c.args.is_cut_off read.records c.replay_log.result c.requires.log read.valid
+    (λ bytes cut. c.replay_log.ensures bytes cut.all cut.decided read.records read.images read.is_of)

@@ -8,7 +8,6 @@ use Rattle.model_image.specs.Replay.{replay_of}
 use Rattle.record_replay.specs.Judged.{AreSound, lasting_in}
 use Rattle.log_replay.specs.Replaying.{Ends}
 use Rattle.log_replay.proofs.Tables.{sound_tables}
-use Rattle.log_replay.proofs.Done.{rest_whole}
 use Rattle.log_replay.proofs.Answered.{comes_to, breaks}
 use Rattle.log_replay.proofs.replaying.replay_log.Goals as goal
 
@@ -17,20 +16,20 @@ replay_all-requires c =
     subst (λ (s : SnapshotState). AreSound c.args.system.now s.kept) (sym c.snapshot.view_is) (sound_tables c.args.system.now c.requires.0 c.args.snapshot.kept c.requires.1.kept)
 
 pub returns-in-Ok-Some : goal.returns-in-Ok-Some
-returns-in-Ok-Some c records images of =
+returns-in-Ok-Some c bytes cut_is decides records images of =
     let s : SnapshotState = record { kept = c.snapshot.inside.kept; changes = c.snapshot.inside.changes.items; next_unit = c.snapshot.inside.next_unit } in
-    let cut = c.in-Ok.cut.records.items in
-    let slots = c.in-Ok-named_slots.slots.items in
-    comes_to c.args.system.now records s c.args.bytes.now (subst (IsOf c.args.system.now records) (sym c.snapshot.view_is) of)
-    c.is_cut_off.result _ (rest_whole c.args.bytes.now c.in-Ok.cut.length ∙ c.in-Ok.ensures.rest) c.is_cut_off.ensures c.if-not-is_cut_off.false cut c.in-Ok.ensures.records
+    let cut = c.args.log.items in
+    let slots = c.in-Ok.slots.items in
+    comes_to c.args.system.now records s bytes (subst (IsOf c.args.system.now records) (sym c.snapshot.view_is) of)
+    c.args.is_cut_off decides c.if-not-is_cut_off.false cut cut_is
     c.in-Ok-Some.kept slots c.last_unit-last_unit.result images
     (subst (Ends c.args.system.now (replay_of c.args.system.now cut (lasting_in c.args.system.now s.kept))) c.in-Ok-Some.field-0-is c.in-Ok-Some.ensures)
-    (subst (λ (cs : List Record). AreNamed cs cut slots) c.deref.ensures.value (subst (λ (ls : List Record). AreNamed c.deref.result.now ls slots) c.deref-2.ensures.value c.in-Ok-named_slots.ensures))
+    (subst (λ (cs : List Record). AreNamed cs cut slots) c.deref.ensures.value (subst (λ (ls : List Record). AreNamed c.deref.result.now ls slots) c.deref-2.ensures.value c.in-Ok.ensures))
     (c.last_unit-last_unit.ensures ∙ ap (λ (rs : List Record). max (s.next_unit - 1) (greatest_unit rs)) c.deref-3.ensures.value)
 
 pub returns-in-Ok-None : goal.returns-in-Ok-None
-returns-in-Ok-None c records images of =
+returns-in-Ok-None c bytes cut_is decides records images of =
     let s : SnapshotState = record { kept = c.snapshot.inside.kept; changes = c.snapshot.inside.changes.items; next_unit = c.snapshot.inside.next_unit } in
-    breaks c.args.system.now records s c.args.bytes.now (subst (IsOf c.args.system.now records) (sym c.snapshot.view_is) of)
-    c.is_cut_off.result _ (rest_whole c.args.bytes.now c.in-Ok.cut.length ∙ c.in-Ok.ensures.rest) c.is_cut_off.ensures c.if-not-is_cut_off.false c.in-Ok.cut.records.items c.in-Ok.ensures.records
-    (subst (Ends c.args.system.now (replay_of c.args.system.now c.in-Ok.cut.records.items (lasting_in c.args.system.now s.kept))) c.in-Ok-None.field-0-is c.in-Ok-None.ensures)
+    breaks c.args.system.now records s bytes (subst (IsOf c.args.system.now records) (sym c.snapshot.view_is) of)
+    c.args.is_cut_off decides c.if-not-is_cut_off.false c.args.log.items cut_is
+    (subst (Ends c.args.system.now (replay_of c.args.system.now c.args.log.items (lasting_in c.args.system.now s.kept))) c.in-Ok-None.field-0-is c.in-Ok-None.ensures)

@@ -1,12 +1,9 @@
--- the messages up to the next one are counted
-use Rattle.std.specs.Option.{option_copied}
+-- the messages so far are counted
+use Rattle.std.proofs.Common.{◌≡◌, ◌+◌, ℕ, List}
 use Rattle.model_queues.specs.Queue.{messages_of}
-use Rattle.conversation.proofs.Walking.{left}
-use Rattle.record_replay.proofs.Counting.{HasCounted}
+use Rattle.record_replay.specs.Tallied.{count_at, talks_of}
 use Rattle.record_replay.proofs.tally.counts_of.Given as goal
 
-abbrev pub invariant-loop-next : goal.invariant-loop-next
-invariant-loop-next l = HasCounted (messages_of l.queues.queued) l.counts.entries (option_copied l.next)
-
-abbrev pub decreases-loop-next : goal.decreases-loop-next
-decreases-loop-next l = left (option_copied l.next) (messages_of l.queues.queued)
+abbrev pub invariant-loop-queued : goal.invariant-loop-queued
+invariant-loop-queued l =
+    (name : List ℕ) → count_at name l.counts.entries + talks_of name (messages_of l.queued-iterator) ≡ talks_of name (messages_of l.queues.queued)

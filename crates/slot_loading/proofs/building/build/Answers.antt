@@ -8,14 +8,14 @@ use Rattle.slot_loading.specs.Building.{shared_at, apart, is_there, with_new}
 use Rattle.slot_loading.proofs.Built.{slot_free, slots_more, found_more, all_apart, popped}
 use Rattle.slot_loading.proofs.building.build.Goals as goal
 
-pub add-requires-clause-slot : goal.add-requires-clause-slot
-add-requires-clause-slot c =
+pub add-found-requires-clause-slot : goal.add-found-requires-clause-slot
+add-found-requires-clause-slot c =
     let dbd = c.args.dbd.now in
     subst (λ d. IsSlot d c.in-Some.image) (sym c.loop-image.invariant.database)
     (all_back (IsSlot dbd) c.pop.new.self.items (c.in-Some.image ∷ []) (subst (AllByRecursion (IsSlot dbd)) c.in-Some.ensures.items c.loop-image.invariant.each)).0
 
-pub add-requires-clause-free : goal.add-requires-clause-free
-add-requires-clause-free c =
+pub add-found-requires-clause-free : goal.add-found-requires-clause-free
+add-found-requires-clause-free c =
     let k = length c.pop.new.self.items in
     let count : length c.loop-image.images.items ≡ suc k = omega (arith, ap length c.in-Some.ensures.items, length-append c.pop.new.self.items (c.in-Some.image ∷ [])) in
     let number : c.len-number.result ≡ k = omega (arith, c.len-number.ensures, c.pop.new.self.ok) in
@@ -39,15 +39,13 @@ loop-image-preserved c =
     record {
       whole = ap (λ xs. items ++ xs) next ∙ (sym (append_assoc items (image ∷ []) later) ∙ (ap (λ xs. xs ++ later) (sym split) ∙ inv.whole));
       each = all_front (IsSlot dbd) items (image ∷ []) (subst (AllByRecursion (IsSlot dbd)) split inv.each);
-      slots = c.in-Ok-add.ensures.slots
+      slots = c.add-found.ensures.slots
           ∙ ((λ i. with_new (number i) image (slots_are i)) ∙ (slots_more k image later ∙ ap (λ xs. free_slots k ++ apart xs) (sym next)));
-      found = c.in-Ok-add.ensures.found
+      found = c.add-found.ensures.found
           ∙ ((λ i. cond (is_there image (slots_are i)) (Some (c.args.first + number i)) ((inv.found ∙ ap (λ n. shared_at (c.args.first + n) later) count) i))
           ∙ (found_more c.args.first k image later ∙ ap (shared_at (c.args.first + k)) (sym next)));
-      rows = c.in-Ok-add.ensures.rows;
-      valid = c.in-Ok-add.ensures.valid;
-      database = c.add.ensures.database ∙ inv.database;
-      rows_database = c.add.ensures.rows_database ∙ inv.rows_database;
+      valid = c.add-found.ensures.valid;
+      database = c.add-found.ensures.database ∙ inv.database;
     }
 
 pub returns-in-None-clause-slots : goal.returns-in-None-clause-slots

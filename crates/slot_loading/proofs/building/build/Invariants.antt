@@ -1,6 +1,6 @@
 use Rattle.std.proofs.Common.{◌≡◌, ◌+◌, ◌++◌, length, drop}
 use Rattle.std.specs.List.{AllByRecursion}
-use Rattle.seg_store.specs.Slots.{AreSlots, IsSlot, free_slots, rows_of_slots}
+use Rattle.seg_store.specs.Slots.{AreSlots, IsSlot, free_slots}
 use Rattle.slot_loading.specs.Building.{shared_at, apart}
 use Rattle.slot_loading.proofs.building.build.Given as goal
 
@@ -12,10 +12,8 @@ invariant-loop-image l =
       each : AllByRecursion (IsSlot l.dbd) l.images.items;
       slots : l.store.slots ≡ free_slots (length l.images.items) ++ apart later;
       found : l.found ≡ shared_at (l.first + length l.images.items) later;
-      rows : l.rows.rows ≡ rows_of_slots l.store.slots;
       valid : AreSlots l.store.dbd l.store.slots;
       database : l.store.dbd ≡ l.dbd;
-      rows_database : l.rows.dbd ≡ l.dbd;
     }
 
 abbrev pub decreases-loop-image : goal.decreases-loop-image

@@ -19,12 +19,12 @@ behind-checkpoint-requires c = omega (arith, checkpoint_below c.args.system.now 
 pub tables-requires-clause-databases : goal.tables-requires-clause-databases
 tables-requires-clause-databases c =
     ap (λ (l : List Kept). map (λ (s : Kept). s.dbd) l) c.stores_in-stores.ensures
-    ∙ dbds_made c.args.system.now.databases c.args.found.looked.named.loaded.stores c.args.found.looked.named.loaded.rows c.requires.judged.made
+    ∙ dbds_made c.args.system.now.databases c.args.found.looked.named.loaded.stores c.requires.judged.made
 
 pub tables-requires-clause-unchanged : goal.tables-requires-clause-unchanged
 tables-requires-clause-unchanged c =
     ap (λ (l : List Kept). map (λ (s : Kept). s.changed) l) c.stores_in-stores.ensures
-    ∙ none_changed_made c.args.system.now.databases c.args.found.looked.named.loaded.stores c.args.found.looked.named.loaded.rows c.requires.judged.made
+    ∙ none_changed_made c.args.system.now.databases c.args.found.looked.named.loaded.stores c.requires.judged.made
 
 pub snapshot_bytes-requires-clause-state : goal.snapshot_bytes-requires-clause-state
 snapshot_bytes-requires-clause-state c =

@@ -2,7 +2,7 @@ use Rattle.std.proofs.Common.{sym, ◌∙◌, subst}
 use Rattle.slot_loading.specs.Loading.{slots_in}
 use Rattle.slot_loading.specs.Reading.{AreRead}
 use Rattle.slot_loading.proofs.Loaded.{shared_is, load_value}
-use Rattle.slot_loading.proofs.loading.load.Goals as goal
+use Rattle.slot_loading.proofs.loading.load_store.Goals as goal
 
 pub returns-in-None-clause-value : goal.returns-in-None-clause-value
 returns-in-None-clause-value g c tells =
