@@ -1,3 +1,1 @@
 pub mod Terminals
-pub mod Padded
-pub mod Walking

@@ -9,7 +9,7 @@ ghost use Rattle.conversation.specs.Refusals.{RefusesPad, input_answer, update_f
 ghost use Rattle.model_conversation.specs.Input.{busy_id};
 
 use crate::pads::PadRefused;
-use crate::{pads, table, walk};
+use crate::{pads, table};
 use model_conversation::{Conversation, TerminalConversation};
 use msg_queues::Queues;
 use std::alloc::Global;
@@ -88,7 +88,7 @@ impl Conversations {
         ensures { result ≡ input_answer (conversation_at terminal.now self.now) (busy_id terminal.now (messages_of queues.now.queued)) }
     {
         match table::conversation_of(&self.terminals, terminal) {
-            Some(conversation) => answer(conversation, walk::busy_id(queues, terminal)),
+            Some(conversation) => answer(conversation, queues.busy_id(terminal)),
             None => Ok(None),
         }
     }

@@ -7,12 +7,12 @@
 #![tactic(auto)]
 
 pub use conversations::{Busy, Conversations};
+pub use messages::is_conversing;
 pub use model_conversation::{Conversation, TerminalConversation};
 pub use pads::{PadRefused, begun};
 pub use table::without_conversations;
-pub use walk::is_conversing;
 
 mod conversations;
+mod messages;
 mod pads;
 mod table;
-mod walk;

@@ -1,16 +1,12 @@
 //! Scratch pads.
-ghost use Rattle.std.specs.Prelude.{◌≡◌, ◌≤◌, length, None, IfOk, IfErr, OnOk};
-ghost use Rattle.std.specs.Str.{bytes_eq};
-ghost use Rattle.model_conversation.specs.Pads.{fitted, code_field, begun, with_pad, ends, is_pad};
+ghost use Rattle.std.specs.Prelude.{◌≡◌, None, IfOk, IfErr, OnOk};
+ghost use Rattle.model_conversation.specs.Pads.{begun, with_pad};
 ghost use Rattle.conversation.specs.Refusals.{RefusesPad, update_fault, updated};
 
-use model_conversation::Conversation;
+use model_conversation::{CODE_BYTES, Conversation, code_field, ends, fitted, is_pad};
 use std::alloc::Global;
 use thiserror::Error;
 use tm_types::{Bytes, Memory, Name};
-
-/// How many bytes of a pad are the code.
-const CODE_BYTES: usize = 8;
 
 /// Why a text doesn't become the pad of a conversation.
 #[derive(Clone, Copy, Debug, Error)]
@@ -74,53 +70,4 @@ fn update_fault(code: &Name, text: &[u8]) -> Option<u8>
         return Some(1);
     }
     if is_pad(code, text) { None } else { Some(2) }
-}
-
-/// Whether the text begins with the code or with blanks in its place.
-fn is_pad(code: &Name, text: &[u8]) -> bool
-    requires { 8 ≤ length text.now }
-    ensures { result ≡ is_pad code.now text.now }
-{
-    if ends(text) {
-        return true;
-    }
-    is_field(&text[..CODE_BYTES], code)
-}
-
-/// Whether the text begins with blanks in the place of a code.
-fn ends(text: &[u8]) -> bool
-    requires { 8 ≤ length text.now }
-    ensures { result ≡ ends text.now }
-{
-    &text[..CODE_BYTES] == b"        ".as_slice()
-}
-
-fn is_field(bytes: &[u8], code: &Name) -> bool
-    ensures { result ≡ bytes_eq bytes.now (code_field code.now) }
-{
-    let field = code_field(code);
-    bytes == field.as_slice()
-}
-
-/// The text with blanks behind up to this length, or cut to it.
-#[tactic(auto, using(crate::proofs::Padded::fits))]
-fn fitted(alloc: Global, length: usize, text: &[u8]) -> Result<Bytes, Memory>
-    ensures { IfOk result (λ whole. whole ≡ fitted length text.now) }
-{
-    let size = text.len().min(length);
-    let mut whole = Bytes::copied(alloc, &text[..size])?;
-    let blanks = vec![in alloc; b' '; length - size]?;
-    whole.append(&blanks)?;
-    Ok(whole)
-}
-
-/// The bytes of the code with blanks behind.
-#[tactic(auto, using(crate::proofs::Padded::field_is))]
-fn code_field(code: &Name) -> [u8; CODE_BYTES]
-    ensures { result ≡ code_field code.now }
-{
-    let bytes = code.as_bytes();
-    let mut field = [b' '; CODE_BYTES];
-    field[..bytes.len()].copy_from_slice(bytes);
-    field
 }

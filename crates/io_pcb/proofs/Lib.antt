@@ -1,4 +1,3 @@
 pub mod Trimmed
 pub mod Changed
-pub mod Padded
 pub mod Kept

@@ -1,9 +1,7 @@
 //! The terminals and the codes of a system as destinations.
-ghost use Rattle.std.specs.Prelude.{◌≡◌, ◌+◌, ◌==◌, find, length};
+ghost use Rattle.std.specs.Prelude.{◌≡◌, ◌+◌, ◌==◌, length, slice_get};
 ghost use Rattle.std.specs.List.{suffix_len};
-ghost use Rattle.std.specs.Option.{option_and_then, option_copied};
-ghost use Rattle.std.specs.Str.{bytes_eq};
-ghost use Rattle.model_system.specs.Codes.{code_at};
+ghost use Rattle.std.specs.Option.{option_and_then};
 ghost use Rattle.model_message.specs.Calls.{destination_named, switched_to, without_blanks};
 
 use model_system::Code;
@@ -29,30 +27,26 @@ fn text_end(text: &[u8]) -> usize
 }
 
 /// The terminal of this name, or else the code, if it has no scratch pad.
+#[tactic(auto, using(system_types::proofs::Indexed::found_at))]
 pub fn destination_named(system: &System, name: &[u8]) -> Option<Name>
     ensures { result ≡ destination_named system.now name.now }
 {
-    match terminal_named(system.terminals(), name) {
-        Some(terminal) => Some(*terminal),
-        None => code_named(system.codes(), name),
+    match terminal_at(system.terminals(), system.terminal_named(name)) {
+        Some(terminal) => Some(terminal),
+        None => switched_at(system.codes(), system.code_named(name)),
     }
 }
 
-fn terminal_named<'a>(terminals: &'a [Name], name: &[u8]) -> Option<&'a Name>
-    ensures { option_copied result ≡ find (λ terminal. bytes_eq terminal name.now) terminals.now }
+fn terminal_at(terminals: &[Name], place: Option<usize>) -> Option<Name>
+    ensures { result ≡ option_and_then (slice_get terminals.now) place }
 {
-    terminals
-        .iter()
-        .find(|terminal| terminal.as_bytes() == name)
+    terminals.get(place?).copied()
 }
 
-fn code_named(codes: &[Code], name: &[u8]) -> Option<Name>
-    ensures { result ≡ option_and_then switched_to (code_at codes.now name.now) }
+fn switched_at(codes: &[Code], place: Option<usize>) -> Option<Name>
+    ensures { result ≡ option_and_then switched_to (option_and_then (slice_get codes.now) place) }
 {
-    match find_code(codes, name) {
-        Some(code) => switched_to(code),
-        None => None,
-    }
+    switched_to(codes.get(place?)?)
 }
 
 fn switched_to(code: &Code) -> Option<Name>
@@ -62,12 +56,4 @@ fn switched_to(code: &Code) -> Option<Name>
         return None;
     }
     Some(code.transaction.code)
-}
-
-fn find_code<'a>(codes: &'a [Code], name: &[u8]) -> Option<&'a Code>
-    ensures { option_copied result ≡ code_at codes.now name.now }
-{
-    codes
-        .iter()
-        .find(|code| code.transaction.code.as_bytes() == name)
 }

@@ -14,6 +14,7 @@ ghost use Rattle.io_pcb.specs.Pads.{IsPadText, Suits, conversation_by, gives_wro
 
 use crate::destinations::{destination_named, without_blanks};
 use crate::{LentPad, Output, outputs, pads, pcbs};
+use model_conversation::{fitted, is_pad};
 use model_message::{EndedMessage, OpenPcb};
 use model_system::{Pcbs, Transaction};
 use std::alloc::Global;
@@ -204,7 +205,7 @@ impl Work {
     pub fn is_wrong_pad(&self, pcb: u8, text: &[u8]) -> bool
         ensures { result ≡ gives_wrong self.now pcb text.now }
     {
-        self.gives_back(pcb) && !pads::is_pad(&self.code, text)
+        self.gives_back(pcb) && !is_pad(&self.code, text)
     }
 
     /// Takes the pad back, padded or cut; or puts a segment behind the others of the PCB's message under
@@ -233,7 +234,7 @@ impl Work {
     {
         let Some(pad) = &self.pad else { unreachable!() };
         let length = pad.text().len();
-        let returned = pads::fitted(self.alloc, length, text)?;
+        let returned = fitted(self.alloc, length, text)?;
         self.returned = Some(returned);
         Ok(Status::Blank)
     }

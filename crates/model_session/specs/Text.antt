@@ -193,7 +193,7 @@ abbrev pub turn_text : List Dbd → ℕ → Result Turned ControlFault → List 
 turn_text databases region (Ok turned) = turned_text databases region turned
 turn_text databases region (Err fault) = []
 
--- What is printed for an entry at the moment before it. A fault has no text yet, since no call meets one.
+-- What is printed for an entry at the moment before it. A fault has no text: what is printed for it is its block's.
 abbrev pub command_line : Answer → List ℕ
 command_line answer = answer_text answer ++ line_end
 

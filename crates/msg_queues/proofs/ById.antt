@@ -1,10 +1,10 @@
 -- Messages that are kept by their ids, as the list of them.
-use Rattle.std.proofs.Common.{◌≡◌, ℕ, ◌+◌, ◌<◌, ◌++◌, ◌∷◌, [], List, refl, sym, ◌∙◌, ap, subst, Bool, true, false, cond, not, ◌&&◌, Option, Some, None, eqb, ltb}
-use Rattle.std.specs.Prelude.{find, filter, sum_by, slice_get}
+use Rattle.std.proofs.Common.{◌≡◌, ℕ, ◌+◌, ◌<◌, ◌++◌, ◌∷◌, [], List, refl, sym, ◌∙◌, ap, subst, Bool, true, false, cond, not, Option, Some, None, eqb}
+use Rattle.std.specs.Prelude.{sum_by}
 use Rattle.std.specs.List.{AllByRecursion}
 use Rattle.std.specs.List.Sorted.{IsStrictlySortedBy}
 use Rattle.std.specs.Option.{option_map, unwrap_or}
-use Rattle.std.specs.Ordering.{nat_cmp, is_eq, is_lt, match_ordering}
+use Rattle.std.specs.Ordering.{nat_cmp, is_eq, match_ordering}
 use Rattle.std.specs.declared.cmp.Ordering.TheVariants.{Less}
 use Rattle.std.specs.BTreeMap.{insert_entry, is_at}
 use Rattle.std.specs.Map.{keys_of, values_of, lookup, remove_entry, set_value}
@@ -17,7 +17,7 @@ use Rattle.model_queues.specs.declared.queued.Queued.{Queued}
 use Rattle.model_queues.specs.Room.{message_bytes, messages_bytes}
 use Rattle.model_queues.specs.Queue.{AreInOrder, ids_of, IsNewId, messages_of, has_id, queued_at, with_message, with_holder, without}
 use Rattle.msg_queues.specs.Kept.{AreKeyed}
-use Rattle.msg_queues.proofs.Keys.{at_key, key_is, greater_from, first_below, others_ascend, later_than}
+use Rattle.msg_queues.proofs.Keys.{at_key, key_is, greater_from, first_below, others_ascend}
 
 -- each message is kept under its id
 abbrev pub AreOwn : List (ℕ × Queued) → Type 0
@@ -163,38 +163,6 @@ keyed_inserted message es fs h new e ordered =
       each = subst AreOwn (sym (e ∙ appended message.id q es h.each new)) (own_appended message.id q es h.each refl);
       ascending = ordered;
     }
-
--- ---- what stands behind an id
-find_first : {X : Type 0} (p : X → Bool) (xs : List X) → find p xs ≡ slice_get (filter p xs) 0
-find_first p [] = refl
-find_first p (x ∷ xs) =
-    elim (p x) as (λ b. cond b (Some x) (find p xs) ≡ slice_get (cond b (x ∷ filter p xs) (filter p xs)) 0) [
-      | true ↦ refl
-      | false ↦ find_first p xs
-    ]
-
-pub later_is : (id : ℕ) (es : List (ℕ × Queued)) → AreOwn es
-    → find (λ message. ltb id message.id) (messages_of (values_of es)) ≡ option_map (λ e. e.1.message) (find (λ e. is_lt (nat_cmp id e.0) && not false) es)
-later_is id [] h = refl
-later_is id (e ∷ es) h = by (ltb id e.0) refl (later_is id es h.1)
-  where
-    rest : List Message
-    rest = messages_of (values_of es)
-
-    by : (b : Bool) → ltb id e.0 ≡ b → find (λ message. ltb id message.id) rest ≡ option_map (λ f. f.1.message) (find (λ f. is_lt (nat_cmp id f.0) && not false) es)
-        → cond (ltb id e.1.message.id) (Some e.1.message) (find (λ message. ltb id message.id) rest) ≡ option_map (λ f. f.1.message) (cond (is_lt (nat_cmp id e.0) && not false) (Some e) (find (λ f. is_lt (nat_cmp id f.0) && not false) es))
-    by true q rec = ap (λ t. cond t (Some e.1.message) (find (λ message. ltb id message.id) rest)) (ap (ltb id) h.0 ∙ q) ∙ ap (λ t. option_map (λ f. f.1.message) (cond (t && not false) (Some e) (find (λ f. is_lt (nat_cmp id f.0) && not false) es))) (sym (later_than id e.0 ∙ q))
-    by false q rec = ap (λ t. cond t (Some e.1.message) (find (λ message. ltb id message.id) rest)) (ap (ltb id) h.0 ∙ q) ∙ (rec ∙ ap (λ t. option_map (λ f. f.1.message) (cond (t && not false) (Some e) (find (λ f. is_lt (nat_cmp id f.0) && not false) es))) (sym (later_than id e.0 ∙ q)))
-
-module _ (id : ℕ) (es found : List (ℕ × Queued)) (h : AreOwn es) (between : found ≡ filter (λ e. is_lt (nat_cmp id e.0) && not false) es) where
-  pub later_first : (key : ℕ) (q : Queued) (rest : List (ℕ × Queued)) → found ≡ (key, q) ∷ rest
-      → Some q.message ≡ find (λ message. ltb id message.id) (messages_of (values_of es))
-  later_first key q rest e =
-      sym (later_is id es h ∙ ap (option_map (λ f. f.1.message)) (find_first (λ f. is_lt (nat_cmp id f.0) && not false) es ∙ ap (λ fs. slice_get fs 0) (sym between ∙ e)))
-
-  pub later_none : found ≡ [] → None ≡ find (λ message. ltb id message.id) (messages_of (values_of es))
-  later_none e =
-      sym (later_is id es h ∙ ap (option_map (λ f. f.1.message)) (find_first (λ f. is_lt (nat_cmp id f.0) && not false) es ∙ ap (λ fs. slice_get fs 0) (sym between ∙ e)))
 
 -- ---- the bytes
 pub bytes_sum : (qs : List Queued) → messages_bytes (messages_of qs) ≡ sum_by (λ q. message_bytes q.message) qs

@@ -1,8 +1,8 @@
 -- Ids as keys.
-use Rattle.std.proofs.Common.{◌≡◌, ℕ, ◌<◌, ◌∷◌, List, sym, ◌∙◌, ap, arith, true, cond, eqb, ltb, ⊎_elim}
+use Rattle.std.proofs.Common.{◌≡◌, ℕ, ◌<◌, ◌∷◌, List, sym, ◌∙◌, ap, arith, true, cond, eqb, ⊎_elim}
 use Rattle.std.specs.List.{AllByRecursion}
 use Rattle.std.specs.List.Sorted.{IsStrictlySortedBy}
-use Rattle.std.specs.Ordering.{nat_cmp, is_eq, is_lt}
+use Rattle.std.specs.Ordering.{nat_cmp, is_eq}
 use Rattle.std.specs.declared.cmp.Ordering.TheVariants.{Less, Equal, Greater}
 use Rattle.std.specs.BTreeMap.{is_at}
 use Rattle.std.specs.Map.{keys_of}
@@ -31,13 +31,6 @@ at_key id k =
 
 pub key_is : (id k : ℕ) → is_at (nat_cmp id) k ≡ true → k ≡ id
 key_is id k h = eqb-true k id (sym (at_key id k) ∙ h)
-
-pub later_than : (id k : ℕ) → is_lt (nat_cmp id k) ≡ ltb id k
-later_than id k =
-    ⊎_elim (λ e. ap is_lt (equal_from id k e) ∙ sym (le-ltb id k (omega arith)))
-    (⊎_elim (λ h. ap is_lt (less_from id k h) ∙ sym (lt-ltb id k h))
-    (λ h. ap is_lt (greater_from id k h) ∙ sym (le-ltb id k (omega arith))))
-    (cases_order id k)
 
 -- the keys of the other entries are above the first one
 pub first_below : {X : Type 0} (e : ℕ × X) (es : List (ℕ × X)) → IsStrictlySortedBy nat_cmp (keys_of (e ∷ es)) → AllByRecursion (λ k. nat_cmp e.0 k ≡ Less) (keys_of es)

@@ -1,5 +1,5 @@
 pub mod Keys
 pub mod ById
 pub mod Places
-pub mod Codes
+pub mod Names
 pub mod Indexed

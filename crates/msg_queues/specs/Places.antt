@@ -1,20 +1,34 @@
--- The ids of a code's messages in order, each with whether a region has it.
-use Rattle.std.specs.Prelude.{◌≡◌, ℕ, ◌<◌, ◌==◌, Bool, not, if◌then◌else◌, List, Option, map, filter, find, count_by}
+-- The ids of messages in order, each with whether it is held.
+use Rattle.std.specs.Prelude.{◌≡◌, ℕ, ◌<◌, ◌==◌, Bool, false, not, if◌then◌else◌, List, [], ◌∷◌, ◌++◌, Option, map, filter, find, count_by}
 use Rattle.std.specs.List.{AllByRecursion}
 use Rattle.std.specs.List.Sorted.{IsStrictlySortedBy}
 use Rattle.std.specs.Map.{keys_of, values_of}
 use Rattle.std.specs.Option.{option_map, is_some}
 use Rattle.std.specs.Ordering.{nat_cmp}
 use Rattle.std.specs.Str.{bytes_eq}
+use Rattle.tm_types.specs.declared.message.Message.{Message}
+use Rattle.model_conversation.specs.Input.{is_conversing}
 use Rattle.model_queues.specs.declared.queued.Queued.{Queued}
 
--- what is kept of a code's messages
+-- the ids of the messages that pass the test, each with this flag
+abbrev pub ids_of : (Message → Bool) → (Queued → Bool) → List Queued → List (ℕ × Bool)
+ids_of test flag queued = map (λ q. (q.message.id, flag q)) (filter (λ q. test q.message) queued)
+
+-- what is kept of a code's messages: those that a region has are held
 abbrev pub places : List ℕ → List Queued → List (ℕ × Bool)
-places code queued = map (λ q. (q.message.id, is_some q.holder)) (filter (λ q. bytes_eq q.message.code code) queued)
+places code queued = ids_of (λ message. bytes_eq message.code code) (λ q. is_some q.holder) queued
+
+-- what is kept of the messages of a terminal's conversation: none is held, whether a region has it or not
+abbrev pub conversing : List ℕ → List Queued → List (ℕ × Bool)
+conversing terminal queued = ids_of (is_conversing terminal) (λ _. false) queued
 
 -- an id above all others
 abbrev pub IsBehind : ℕ → List (ℕ × Bool) → Type 0
 IsBehind id places = AllByRecursion (λ place. place.0 < id) places
+
+-- an id that isn't held, behind all others
+abbrev pub with_id : ℕ → List (ℕ × Bool) → List (ℕ × Bool)
+with_id id places = places ++ (id, false) ∷ []
 
 abbrev pub with_flag : ℕ → Bool → List (ℕ × Bool) → List (ℕ × Bool)
 with_flag id held places = map (λ place. if place.0 == id then (place.0, held) else place) places
@@ -22,11 +36,11 @@ with_flag id held places = map (λ place. if place.0 == id then (place.0, held) 
 abbrev pub without_id : ℕ → List (ℕ × Bool) → List (ℕ × Bool)
 without_id id places = filter (λ place. not (place.0 == id)) places
 
--- the first id that no region has
+-- the first id that isn't held
 abbrev pub first_open : List (ℕ × Bool) → Option ℕ
 first_open places = option_map (λ place. place.0) (find (λ place. not place.1) places)
 
--- how many ids no region has
+-- how many ids aren't held
 abbrev pub open_count : List (ℕ × Bool) → ℕ
 open_count places = count_by (λ held. not held) (values_of places)
 
@@ -34,7 +48,7 @@ open_count places = count_by (λ held. not held) (values_of places)
 abbrev pub weight : Bool → ℕ
 weight held = if not held then 1 else 0
 
--- the ids ascend, and those that no region has are counted
+-- the ids ascend, and those that aren't held are counted
 pub record AreCounted (places : List (ℕ × Bool)) (free : ℕ) : Type 0 where
   pub ascending : IsStrictlySortedBy nat_cmp (keys_of places)
   pub counted : free ≡ open_count places

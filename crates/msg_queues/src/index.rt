@@ -1,85 +1,147 @@
-//! The codes' queues by their codes.
-ghost use Rattle.std.specs.Prelude.{◌≡◌, ◌∷◌, [], ◌++◌, false, None, OnOk, OnErr};
+//! Ids of messages by names: by the messages' codes, and those of conversations by their terminals.
+ghost use Rattle.std.specs.Prelude.{◌≡◌, None, OnOk, OnErr};
 ghost use Rattle.std.specs.Ordering.{nat_cmp};
 ghost use Rattle.std.specs.Cmp.Lexicographic.{slice_cmp};
 ghost use Rattle.std.specs.BTreeMap.{get};
-ghost use Rattle.msg_queues.specs.Places.{IsBehind, with_flag, without_id, first_open, open_count};
-ghost use Rattle.msg_queues.specs.Index.{of_code, ChangesCode, KeepsCodes};
+ghost use Rattle.msg_queues.specs.Places.{IsBehind, with_id, with_flag, without_id, first_open, open_count};
+ghost use Rattle.msg_queues.specs.Index.{of_name, when, ChangesName, KeepsNames};
 
-use crate::code_queue::CodeQueue;
+use crate::id_queue::IdQueue;
 use std::alloc::Global;
 use std::collections::BTreeMap;
-use tm_types::{Memory, Name};
+use tm_types::{Memory, Message, Name};
 
-/// Adds an id, which no region has, behind all others of the code.
-pub fn push(
-    by_code: &mut BTreeMap<Name, CodeQueue>,
+/// Adds a message, which no region has, behind all others of its code, and where it belongs to a conversation behind those of its
+/// terminal's. After `Memory` all is as it was.
+pub fn put(
+    by_code: &mut BTreeMap<Name, IdQueue>,
+    by_terminal: &mut BTreeMap<Name, IdQueue>,
     alloc: Global,
-    code: &Name,
-    id: u64,
+    message: &Message,
 ) -> Result<(), Memory>
-    requires { IsBehind id (of_code code.now by_code.old.entries) }
-    ensures ok { OnOk result (ChangesCode code.now (λ ids. ids ++ (id, false) ∷ []) by_code.old.entries by_code.new.entries) }
-    ensures err { OnErr result (KeepsCodes by_code.old.entries by_code.new.entries) }
+    requires code { IsBehind message.now.id (of_name message.now.code by_code.old.entries) }
+    requires terminal { IsBehind message.now.id (of_name message.now.origin by_terminal.old.entries) }
+    ensures code { OnOk result (ChangesName message.now.code (with_id message.now.id) by_code.old.entries by_code.new.entries) }
+    ensures terminal { OnOk result (ChangesName message.now.origin (when message.now.conversation (with_id message.now.id)) by_terminal.old.entries by_terminal.new.entries) }
+    ensures code_err { OnErr result (KeepsNames by_code.old.entries by_code.new.entries) }
+    ensures terminal_err { OnErr result (KeepsNames by_terminal.old.entries by_terminal.new.entries) }
 {
-    match by_code.get_mut(code) {
-        Some(queue) => queue.push(id),
-        None => add_code(by_code, alloc, *code, id),
+    push(by_code, alloc, &message.code, message.id)?;
+    match push_conversing(by_terminal, alloc, message) {
+        Ok(()) => Ok(()),
+        Err(_) => {
+            remove(by_code, &message.code, message.id);
+            Err(Memory)
+        }
     }
 }
 
-// Adds a code with one id.
-fn add_code(
-    by_code: &mut BTreeMap<Name, CodeQueue>,
+/// Removes a message.
+pub fn take(
+    by_code: &mut BTreeMap<Name, IdQueue>,
+    by_terminal: &mut BTreeMap<Name, IdQueue>,
+    message: &Message,
+)
+    ensures code { ChangesName message.now.code (without_id message.now.id) by_code.old.entries by_code.new.entries }
+    ensures terminal { ChangesName message.now.origin (when message.now.conversation (without_id message.now.id)) by_terminal.old.entries by_terminal.new.entries }
+{
+    remove(by_code, &message.code, message.id);
+    remove_conversing(by_terminal, message);
+}
+
+fn push_conversing(
+    by_terminal: &mut BTreeMap<Name, IdQueue>,
     alloc: Global,
-    code: Name,
+    message: &Message,
+) -> Result<(), Memory>
+    requires { IsBehind message.now.id (of_name message.now.origin by_terminal.old.entries) }
+    ensures ok { OnOk result (ChangesName message.now.origin (when message.now.conversation (with_id message.now.id)) by_terminal.old.entries by_terminal.new.entries) }
+    ensures err { OnErr result (KeepsNames by_terminal.old.entries by_terminal.new.entries) }
+{
+    if !message.conversation {
+        return Ok(());
+    }
+    push(by_terminal, alloc, &message.origin, message.id)
+}
+
+fn remove_conversing(by_terminal: &mut BTreeMap<Name, IdQueue>, message: &Message)
+    ensures { ChangesName message.now.origin (when message.now.conversation (without_id message.now.id)) by_terminal.old.entries by_terminal.new.entries }
+{
+    if !message.conversation {
+        return;
+    }
+    remove(by_terminal, &message.origin, message.id);
+}
+
+// Adds an id, which isn't held, behind all others of the name.
+fn push(
+    by_name: &mut BTreeMap<Name, IdQueue>,
+    alloc: Global,
+    name: &Name,
     id: u64,
 ) -> Result<(), Memory>
-    requires { get (slice_cmp nat_cmp) by_code.old code ≡ None }
-    ensures ok { OnOk result (ChangesCode code (λ ids. ids ++ (id, false) ∷ []) by_code.old.entries by_code.new.entries) }
-    ensures err { OnErr result (KeepsCodes by_code.old.entries by_code.new.entries) }
+    requires { IsBehind id (of_name name.now by_name.old.entries) }
+    ensures ok { OnOk result (ChangesName name.now (with_id id) by_name.old.entries by_name.new.entries) }
+    ensures err { OnErr result (KeepsNames by_name.old.entries by_name.new.entries) }
 {
-    let mut queue = CodeQueue::new(alloc);
+    match by_name.get_mut(name) {
+        Some(queue) => queue.push(id),
+        None => add_name(by_name, alloc, *name, id),
+    }
+}
+
+// Adds a name with one id.
+fn add_name(
+    by_name: &mut BTreeMap<Name, IdQueue>,
+    alloc: Global,
+    name: Name,
+    id: u64,
+) -> Result<(), Memory>
+    requires { get (slice_cmp nat_cmp) by_name.old name ≡ None }
+    ensures ok { OnOk result (ChangesName name (with_id id) by_name.old.entries by_name.new.entries) }
+    ensures err { OnErr result (KeepsNames by_name.old.entries by_name.new.entries) }
+{
+    let mut queue = IdQueue::new(alloc);
     queue.push(id)?;
-    match by_code.insert(code, queue) {
+    match by_name.insert(name, queue) {
         Ok(_) => Ok(()),
         Err(_) => Err(Memory),
     }
 }
 
-/// Notes whether a region has this id of the code.
-pub fn set_held(by_code: &mut BTreeMap<Name, CodeQueue>, code: &Name, id: u64, held: bool)
-    ensures { ChangesCode code.now (with_flag id held) by_code.old.entries by_code.new.entries }
+/// Notes whether this id of the name is held.
+pub fn set_held(by_name: &mut BTreeMap<Name, IdQueue>, name: &Name, id: u64, held: bool)
+    ensures { ChangesName name.now (with_flag id held) by_name.old.entries by_name.new.entries }
 {
-    if let Some(queue) = by_code.get_mut(code) {
+    if let Some(queue) = by_name.get_mut(name) {
         queue.set_held(id, held);
     }
 }
 
-/// Removes this id of the code.
-pub fn remove(by_code: &mut BTreeMap<Name, CodeQueue>, code: &Name, id: u64)
-    ensures { ChangesCode code.now (without_id id) by_code.old.entries by_code.new.entries }
+// Removes this id of the name.
+fn remove(by_name: &mut BTreeMap<Name, IdQueue>, name: &Name, id: u64)
+    ensures { ChangesName name.now (without_id id) by_name.old.entries by_name.new.entries }
 {
-    if let Some(queue) = by_code.get_mut(code) {
+    if let Some(queue) = by_name.get_mut(name) {
         queue.remove(id);
     }
 }
 
-/// The first id of the code that no region has.
-pub fn first_free(by_code: &BTreeMap<Name, CodeQueue>, code: &Name) -> Option<u64>
-    ensures { result ≡ first_open (of_code code.now by_code.now.entries) }
+/// The first id of the name that isn't held.
+pub fn first_free(by_name: &BTreeMap<Name, IdQueue>, name: &Name) -> Option<u64>
+    ensures { result ≡ first_open (of_name name.now by_name.now.entries) }
 {
-    match by_code.get(code) {
+    match by_name.get(name) {
         Some(queue) => queue.first_free(),
         None => None,
     }
 }
 
-/// How many ids of the code no region has.
-pub fn free_count(by_code: &BTreeMap<Name, CodeQueue>, code: &Name) -> usize
-    ensures { result ≡ open_count (of_code code.now by_code.now.entries) }
+/// How many ids of the name aren't held.
+pub fn free_count(by_name: &BTreeMap<Name, IdQueue>, name: &Name) -> usize
+    ensures { result ≡ open_count (of_name name.now by_name.now.entries) }
 {
-    match by_code.get(code) {
+    match by_name.get(name) {
         Some(queue) => queue.free(),
         None => 0,
     }

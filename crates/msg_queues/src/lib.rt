@@ -8,7 +8,7 @@
 pub use model_queues::Queued;
 pub use queues::{QueueRefused, Queues, SLOT_ROOM};
 
-mod code_queue;
 mod entries;
+mod id_queue;
 mod index;
 mod queues;

@@ -1,12 +1,13 @@
 //! The queues of all messages.
-ghost use Rattle.std.specs.Prelude.{◌≡◌, ◌+◌, ◌<◌, ◌≤◌, ◌^◌, [], Some, None, OnOk, OnErr, IfErr, IfOk, slice_get, find, nat_lt, IsSomeAnd, IsSome};
+ghost use Rattle.std.specs.Prelude.{◌≡◌, ◌+◌, ◌<◌, ◌≤◌, ◌^◌, [], Some, None, OnOk, OnErr, IfErr, IsSomeAnd, IsSome, slice_get};
 ghost use Rattle.std.specs.Option.{option_copied, option_and_then};
 ghost use Rattle.std.specs.Map.{values_of};
 ghost use Rattle.model_queues.specs.Room.{message_bytes, messages_bytes, input_needs};
 ghost use Rattle.model_queues.specs.Queue.{IsNewId, AreInOrder, messages_of, queued_at, message_at, with_message, with_holder, without, first_free, free_count};
+ghost use Rattle.model_conversation.specs.Input.{busy_id};
 ghost use Rattle.msg_queues.specs.Refused.{RefusesInput};
 
-use crate::code_queue::CodeQueue;
+use crate::id_queue::IdQueue;
 use crate::{entries, index};
 use model_queues::Queued;
 use std::alloc::{AllocFailed, Global};
@@ -36,7 +37,8 @@ pub struct Queues {
     limit: u32,
     content: u64,
     messages: BTreeMap<u64, Queued>,
-    by_code: BTreeMap<Name, CodeQueue>,
+    by_code: BTreeMap<Name, IdQueue>,
+    by_terminal: BTreeMap<Name, IdQueue>,
     alloc: Global,
 }
 
@@ -49,7 +51,7 @@ impl Model for Queues {
 
     ghost view = { λ q. record { limit = q.limit; queued = values_of q.messages.entries } };
 
-    ghost invariant = { λ q. AreKept q.messages.entries q.content q.by_code.entries };
+    ghost invariant = { λ q. AreKept q.messages.entries q.content q.by_code.entries q.by_terminal.entries };
 }
 
 impl Queues {
@@ -63,6 +65,7 @@ impl Queues {
             content: 0,
             messages: BTreeMap::new(alloc),
             by_code: BTreeMap::new(alloc),
+            by_terminal: BTreeMap::new(alloc),
             alloc,
         }
     }
@@ -102,9 +105,12 @@ impl Queues {
         ensures err { OnErr result (self.new ≡ self.old) }
     {
         let bytes = message.segments.counted_bytes();
-        let id = message.id;
-        let code = message.code;
-        let Ok(()) = index::push(&mut self.by_code, self.alloc, &code, id) else {
+        let Ok(()) = index::put(
+            &mut self.by_code,
+            &mut self.by_terminal,
+            self.alloc,
+            &message,
+        ) else {
             return Err(AllocFailed { value: message });
         };
         match entries::add(&mut self.messages, message) {
@@ -113,7 +119,7 @@ impl Queues {
                 Ok(())
             }
             Err(failed) => {
-                index::remove(&mut self.by_code, &code, id);
+                index::take(&mut self.by_code, &mut self.by_terminal, &failed.value);
                 Err(failed)
             }
         }
@@ -132,6 +138,13 @@ impl Queues {
         ensures { result ≡ free_count code.now self.now.queued }
     {
         index::free_count(&self.by_code, code) as u64
+    }
+
+    /// The id of the first message of the terminal's conversation, whether a region has it or none.
+    pub fn busy_id(&self, terminal: &Name) -> Option<u64>
+        ensures { result ≡ busy_id terminal.now (messages_of self.now.queued) }
+    {
+        index::first_free(&self.by_terminal, terminal)
     }
 
     /// The bytes of all messages.
@@ -177,11 +190,11 @@ impl Queues {
         requires { IsSome (queued_at id self.old.queued) }
         ensures { self.new ≡ record self.old { queued = without id self.old.queued } }
     {
-        let Some(removed) = entries::remove(&mut self.messages, id) else {
+        let Some(message) = entries::remove(&mut self.messages, id) else {
             unreachable!()
         };
-        index::remove(&mut self.by_code, &removed.code, id);
-        self.content -= removed.bytes;
+        index::take(&mut self.by_code, &mut self.by_terminal, &message);
+        self.content -= message.segments.counted_bytes();
     }
 
     /// The message of this id.
@@ -219,12 +232,5 @@ impl Queues {
         ensures { values_of result.now.entries ≡ self.now.queued }
     {
         &self.messages
-    }
-
-    /// The first message whose id is above this one. To go over all messages, begin with 0.
-    pub fn message_after(&self, id: u64) -> Option<&Message>
-        ensures { option_copied result ≡ find (λ message. nat_lt id message.id) (messages_of self.now.queued) }
-    {
-        entries::after(&self.messages, id)
     }
 }

@@ -1,7 +1,6 @@
 //! What a block asks for.
 ghost use Rattle.std.specs.Prelude.{◌≡◌, ℕ, ◌+◌, ◌<◌, ◌≤◌, ◌++◌, ◌∷◌, [], true, false, Some, None, Err, List, Result, IsTrue, IfOk, IfSome, IfErr, OnOk, OnErr, length, map, replicate};
-ghost use Rattle.std.specs.List.{list_all, list_any};
-ghost use Rattle.std.specs.Str.{bytes_eq};
+ghost use Rattle.std.specs.List.{list_all};
 ghost use Rattle.model_format.specs.Breaks.{KeepsRule};
 ghost use Rattle.model_system.specs.Formats.{format_of};
 ghost use Rattle.tm_types.specs.Segment.{are_printable};
@@ -151,26 +150,15 @@ fn is_text(line: &Line) -> bool
 }
 
 /// An input that is refused for this, or for its terminal where that is none.
+#[tactic(auto, using(system_types::proofs::Indexed::place_is_there))]
 fn stopped(system: &System, terminal: Name, number: u64, reason: InputStopped) -> Asked
     ensures { result ≡ spec.stopped system.now terminal number reason }
 {
-    if is_terminal(system, &terminal) {
+    if system.terminal_place(&terminal).is_some() {
         Asked::Stopped(terminal, number, reason)
     } else {
         Asked::Stopped(terminal, number, InputStopped::Terminal)
     }
-}
-
-fn is_terminal(system: &System, name: &Name) -> bool
-    ensures { result ≡ spec.is_terminal system.now name.now }
-{
-    has_name(system.terminals(), name)
-}
-
-fn has_name(names: &[Name], name: &Name) -> bool
-    ensures { result ≡ list_any (λ other. bytes_eq other name.now) names.now }
-{
-    names.iter().any(|other| other == name)
 }
 
 /// Why no input was made.

@@ -1,13 +1,13 @@
 -- Indexes by name, item by item.
-use Rattle.std.proofs.Common.{◌≡◌, ◌<◌, ◌≤◌, ◌+◌, ℕ, suc, Bool, true, false, cond, nat_lt, List, [], ◌∷◌, ◌++◌, length, take, get_or, slice_get, Option, Some, None, refl, sym, ap, ◌∙◌, arith, add-zero, zero-add}
-use Rattle.std.specs.Prelude.{is_some, not, find, position}
-use Rattle.std.specs.List.{position_from, position_or_len}
+use Rattle.std.proofs.Common.{◌≡◌, ◌<◌, ◌≤◌, ◌+◌, ℕ, suc, Bool, true, false, cond, nat_lt, List, [], ◌∷◌, ◌++◌, length, take, get_or, slice_get, Option, Some, None, refl, sym, ap, subst, ◌∙◌, arith, add-zero, zero-add}
+use Rattle.std.specs.Prelude.{◌||◌, is_some, not, find, position}
+use Rattle.std.specs.List.{list_any, position_from, position_or_len, prefix_len}
 use Rattle.std.specs.Option.{option_or, option_and_then, option_map_or}
 use Rattle.std.specs.Ordering.{nat_cmp, is_eq}
 use Rattle.std.specs.Cmp.Lexicographic.{slice_cmp}
 use Rattle.std.specs.Str.{bytes_eq}
 use Rattle.std.specs.BTreeMap.{BTreeMap}
-use Rattle.std.proofs.lemmas.Bool.{ltb-false}
+use Rattle.std.proofs.lemmas.Bool.{lt-ltb, ltb-true, ltb-false}
 use Rattle.std.proofs.lemmas.Iterator.Adapters.{position_from-zero}
 use Rattle.std.proofs.lemmas.List.{take_more, length-take}
 use Rattle.std.proofs.lemmas.List.Folds.{find_at}
@@ -15,7 +15,8 @@ use Rattle.std.proofs.lemmas.List.Sums.{prefix_len-le-length}
 use Rattle.std.proofs.lemmas.Map.Text.{is_eq-slice_cmp}
 use Rattle.std.proofs.lemmas.Option.{slice_get_past}
 use Rattle.std.proofs.lemmas.Slice.Eq.{bytes_eq-Decides}
-use Rattle.system_types.specs.Indexes.{IsIndex, place_in}
+use Rattle.tm_types.specs.Name.{IsName}
+use Rattle.system_types.specs.Indexes.{AreNamed, IsIndex, place_in}
 
 pub first_none : (found : Option ℕ) → found ≡ option_or found None
 first_none (Some place) = refl
@@ -89,3 +90,56 @@ or_len_by p xs false e h = let past = ltb-false (position_or_len p xs) (length x
 -- the place of the first that passes, or else the length
 pub place_or_len : {X : Type 0} (p : X → Bool) (xs : List X) → option_map_or (λ place. place) (position p xs) (length xs) ≡ position_or_len p xs
 place_or_len p xs = or_len_by p xs (nat_lt (position_or_len p xs) (length xs)) refl (prefix_len-le-length (λ x. not (p x)) xs)
+
+-- ---- names
+
+named_push : {X : Type 0} (name_of : X → List ℕ) (xs : List X) (x : X) → AreNamed name_of xs → IsName (name_of x) → AreNamed name_of (xs ++ x ∷ [])
+named_push name_of [] x h is = (is, tt)
+named_push name_of (first ∷ xs) x h is = (h.0, named_push name_of xs x h.1 is)
+
+pub named_more : {X : Type 0} (name_of : X → List ℕ) (items : List X) (place : ℕ) (item : X) → place < length items → item ≡ get_or items place item
+    → AreNamed name_of (take place items) → IsName (name_of item) → AreNamed name_of (take (place + 1) items)
+named_more {X} name_of items place item h e before is =
+    let whole : take (place + 1) items ≡ take place items ++ item ∷ [] = take_more items place item h ∙ ap (λ (x : X). take place items ++ x ∷ []) (sym e) in
+    subst (AreNamed name_of) (sym whole) (named_push name_of (take place items) item before is)
+
+unnamed_from : {X : Type 0} (name_of : X → List ℕ) (word : List ℕ) (place : ℕ) (xs : List X) → AreNamed name_of xs → (IsName word → ⊥) → position_from (λ x. bytes_eq (name_of x) word) place xs ≡ None
+unnamed_from name_of word place [] h isnt = refl
+unnamed_from name_of word place (x ∷ xs) h isnt = by (bytes_eq (name_of x) word) refl (unnamed_from name_of word (place + 1) xs h.1 isnt)
+  where
+    by : (b : Bool) → bytes_eq (name_of x) word ≡ b → position_from (λ x. bytes_eq (name_of x) word) (place + 1) xs ≡ None
+        → cond b (Some place) (position_from (λ x. bytes_eq (name_of x) word) (place + 1) xs) ≡ None
+    by true e rest = absurd (isnt (subst IsName ((bytes_eq-Decides (name_of x) word).0 e) h.0))
+    by false e rest = rest
+
+-- nothing has a word that is no name
+pub unnamed : {X : Type 0} (name_of : X → List ℕ) (word : List ℕ) (xs : List X) → AreNamed name_of xs → (IsName word → ⊥) → None ≡ position (λ x. bytes_eq (name_of x) word) xs
+unnamed name_of word xs h isnt = sym (position_from-zero (λ x. bytes_eq (name_of x) word) xs ∙ unnamed_from name_of word 0 xs h isnt)
+
+-- ---- a place is found where one passes
+
+same_where : (a b : Bool) → (a ≡ true → b ≡ true) → (b ≡ true → a ≡ true) → a ≡ b
+same_where true b x y = sym (x refl)
+same_where false true x y = y refl
+same_where false false x y = refl
+
+some_where : (b : Bool) (n : ℕ) → is_some (cond b (Some n) None) ≡ b
+some_where true n = refl
+some_where false n = refl
+
+short_where : {X : Type 0} (p : X → Bool) (xs : List X) → nat_lt (prefix_len (λ x. not (p x)) xs) (length xs) ≡ list_any p xs
+short_where p [] = refl
+short_where p (x ∷ xs) = by_first (p x) (short_where p xs) where
+  by_first : (b : Bool) → nat_lt (prefix_len (λ x. not (p x)) xs) (length xs) ≡ list_any p xs →
+      nat_lt (cond (not b) (1 + prefix_len (λ x. not (p x)) xs) 0) (length (x ∷ xs)) ≡ b || list_any p xs
+  by_first true later = lt-ltb 0 (length (x ∷ xs)) (omega arith)
+  by_first false later =
+      let n = prefix_len (λ x. not (p x)) xs in
+      same_where (nat_lt (1 + n) (length (x ∷ xs))) (nat_lt n (length xs))
+      (λ e. lt-ltb n (length xs) (omega (arith, ltb-true (1 + n) (length (x ∷ xs)) e)))
+      (λ e. lt-ltb (1 + n) (length (x ∷ xs)) (omega (arith, ltb-true n (length xs) e)))
+      ∙ later
+
+pub place_is_there : {X : Type 0} (p : X → Bool) (xs : List X) → is_some (position p xs) ≡ list_any p xs
+place_is_there p xs =
+    some_where (nat_lt (prefix_len (λ x. not (p x)) xs) (length xs)) (prefix_len (λ x. not (p x)) xs) ∙ short_where p xs

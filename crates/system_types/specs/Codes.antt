@@ -15,5 +15,9 @@ first_state code = record {
   raised = false;
 }
 
+-- a state that is stopped, or started
+abbrev pub stopped_state : Bool → CodeState → CodeState
+stopped_state stopped state = record state { stopped = stopped }
+
 abbrev pub is_state_of : List ℕ → CodeState → Bool
 is_state_of code state = bytes_eq state.code code

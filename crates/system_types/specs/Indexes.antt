@@ -3,9 +3,10 @@ use Rattle.std.specs.Prelude.{◌≡◌, ℕ, Bool, List, Option, position}
 use Rattle.std.specs.declared.cmp.Ordering.{Ordering}
 use Rattle.std.specs.Ordering.{nat_cmp}
 use Rattle.std.specs.Cmp.Lexicographic.{slice_cmp}
-use Rattle.std.specs.List.{position_or_len}
+use Rattle.std.specs.List.{AllByRecursion, position_or_len}
 use Rattle.std.specs.Str.{bytes_eq}
 use Rattle.std.specs.BTreeMap.{BTreeMap, get}
+use Rattle.tm_types.specs.Name.{IsName}
 use Rattle.model_system.specs.declared.code.Code.{Code}
 use Rattle.model_system.specs.declared.system_program.SystemProgram.{SystemProgram}
 
@@ -29,6 +30,10 @@ has_terminal_name name terminal = bytes_eq terminal name
 
 abbrev pub has_program_name : List ℕ → SystemProgram → Bool
 has_program_name name program = bytes_eq program.psb name
+
+-- each item's name is one
+abbrev pub AreNamed : {X : Type 0} → (X → List ℕ) → List X → Type 0
+AreNamed name_of items = AllByRecursion (λ item. IsName (name_of item)) items
 
 -- the place of a code's program, or how many there are where it has none
 abbrev pub program_place : List SystemProgram → Code → ℕ

@@ -1,6 +1,7 @@
 //! The states of a system's codes.
 ghost use Rattle.std.specs.Prelude.{◌≡◌, ◌<◌, IfOk, IfSome, length, slice_set, slice_get, Some, position, map};
 ghost use Rattle.std.specs.Str.{bytes_eq};
+ghost use Rattle.model_system.specs.Lists.{change_at};
 ghost use Rattle.system_types.specs.Codes as spec;
 
 use crate::System;
@@ -63,6 +64,16 @@ impl Codes {
     {
         set_raised(&mut self.items, place, raised)
     }
+
+    /// Stops the code of this name, or starts it; where it isn't one, nothing changes.
+    pub fn set_stopped(&mut self, code: &Name, stopped: bool)
+        ensures { self.new ≡ change_at self.old (position (spec.is_state_of code.now) self.old) (spec.stopped_state stopped) }
+    {
+        match place_of(&self.items, code) {
+            Some(place) => stop_at(&mut self.items, place, stopped),
+            None => {}
+        }
+    }
 }
 
 fn first_states(alloc: Global, codes: &[Code]) -> Result<Vec<CodeState>, AllocError>
@@ -103,4 +114,17 @@ fn set_raised(states: &mut [CodeState], place: usize, raised: bool)
 {
     let state = states[place];
     states[place] = CodeState { raised, ..state };
+}
+
+fn stop_at(states: &mut Vec<CodeState>, place: usize, stopped: bool)
+    requires { place < length states.old.items }
+    ensures { states.new.items ≡ change_at states.old.items (Some place) (spec.stopped_state stopped) }
+{
+    note_stopped(&mut states[place], stopped);
+}
+
+fn note_stopped(state: &mut CodeState, stopped: bool)
+    ensures { state.new ≡ spec.stopped_state stopped state.old }
+{
+    state.stopped = stopped;
 }

@@ -2,7 +2,8 @@
 ghost use Rattle.std.specs.Prelude.{◌≡◌, ◌<◌, ℕ, List, Some, None, IfOk, OnOk, OnErr, cond, length, map, slice_get};
 ghost use Rattle.std.specs.Option.{option_and_then, option_copied, option_map_or, option_or};
 ghost use Rattle.std.specs.Str.{bytes_eq};
-ghost use Rattle.system_types.specs.Indexes.{IsIndex, has_code_name, has_program_name, has_terminal_name, place_in, program_place};
+ghost use Rattle.tm_types.specs.Name.{IsName};
+ghost use Rattle.system_types.specs.Indexes.{AreNamed, IsIndex, has_code_name, has_program_name, has_terminal_name, place_in, program_place};
 
 use model_system::{Code, SystemProgram};
 use std::alloc::{AllocError, Global};
@@ -14,7 +15,8 @@ pub(crate) fn codes_by_name(
     alloc: Global,
     codes: &[Code],
 ) -> Result<BTreeMap<Name, usize>, AllocError>
-    ensures { IfOk result (λ index. IsIndex has_code_name index codes.now) }
+    ensures index { IfOk result (λ index. IsIndex has_code_name index codes.now) }
+    ensures named { OnOk result (AreNamed (λ code. code.transaction.code) codes.now) }
 {
     let mut index = BTreeMap::new(alloc);
     for (place, code) in codes.iter().enumerate() {
@@ -28,7 +30,8 @@ pub(crate) fn terminals_by_name(
     alloc: Global,
     terminals: &[Name],
 ) -> Result<BTreeMap<Name, usize>, AllocError>
-    ensures { IfOk result (λ index. IsIndex has_terminal_name index terminals.now) }
+    ensures index { IfOk result (λ index. IsIndex has_terminal_name index terminals.now) }
+    ensures named { OnOk result (AreNamed (λ name. name) terminals.now) }
 {
     let mut index = BTreeMap::new(alloc);
     for (place, terminal) in terminals.iter().enumerate() {
@@ -60,7 +63,9 @@ pub fn add_name(
 ) -> Result<(), AllocError>
     ensures ok { OnOk result ((other : List ℕ) → place_in index.new other ≡ option_or (place_in index.old other) (cond (bytes_eq name.now other) (Some place) None)) }
     ensures err { OnErr result (index.new.entries ≡ index.old.entries) }
+    ensures named { IsName name.now }
 {
+    let _bytes = name.as_bytes();
     if !index.contains_key(name) {
         index.insert(*name, place)?;
     }

@@ -1,7 +1,8 @@
 //! A system as its definition gives it, and the states of its codes.
 //!
 //! `System` keeps the facts that the rules on a definition give, so that no layer above tests them
-//! again: they stand in `specs/Valid.antt`. It finds a code, a terminal, its format, and what serves a code by name.
+//! again: they stand in `specs/Valid.antt`. It finds a code, a terminal, its format, and what serves a code by name,
+//! and a code and a terminal by any word.
 #![tactic(auto)]
 
 pub use codes::Codes;

@@ -1,7 +1,9 @@
 //! A system, with the facts that hold of it.
 ghost use Rattle.std.specs.Prelude.{◌≡◌, ◌<◌, ℕ, List, All, IfOk, IfSome, IsSome, length, position};
+ghost use Rattle.std.specs.List.{AllByRecursion};
 ghost use Rattle.std.specs.Option.{option_copied, option_map};
 ghost use Rattle.std.specs.Str.{bytes_eq};
+ghost use Rattle.tm_types.specs.Name.{IsName};
 ghost use Rattle.model_system.specs.Codes.{code_at, code_place};
 ghost use Rattle.model_format.specs.Breaks.{KeepsRule};
 ghost use Rattle.model_system.specs.Formats.{format_of};
@@ -51,7 +53,7 @@ pub struct System {
 impl Model for System {
     ghost use Rattle.std.specs.Prelude.{◌≡◌, map};
     ghost use Rattle.model_system.specs.System as model;
-    ghost use Rattle.system_types.specs.Indexes.{IsIndex, has_code_name, has_terminal_name, program_place};
+    ghost use Rattle.system_types.specs.Indexes.{AreNamed, IsIndex, has_code_name, has_terminal_name, program_place};
     ghost use Rattle.system_types.specs.Parts.{parts_of};
     ghost use Rattle.system_types.specs.Valid.{IsSystem};
 
@@ -59,7 +61,7 @@ impl Model for System {
 
     ghost view = { λ s. parts_of s.parts };
 
-    ghost invariant = { λ s. IsSystem (parts_of s.parts) × IsIndex has_code_name s.codes_by_name s.parts.codes.items × IsIndex has_terminal_name s.terminals_by_name s.parts.terminals.items × (s.program_places.items ≡ map (program_place s.parts.programs.items) s.parts.codes.items) };
+    ghost invariant = { λ s. IsSystem (parts_of s.parts) × IsIndex has_code_name s.codes_by_name s.parts.codes.items × IsIndex has_terminal_name s.terminals_by_name s.parts.terminals.items × (s.program_places.items ≡ map (program_place s.parts.programs.items) s.parts.codes.items) × AreNamed (λ code. code.transaction.code) s.parts.codes.items × AreNamed (λ name. name) s.parts.terminals.items };
 }
 
 impl System {
@@ -114,6 +116,7 @@ impl System {
     /// The transaction codes.
     pub fn codes(&self) -> &[Code]
         ensures value { result.now ≡ self.now.codes }
+        ensures named { AllByRecursion (λ code. IsName code.transaction.code) self.now.codes }
         ensures valid { IsSystem self.now }
     {
         &self.parts.codes
@@ -136,6 +139,19 @@ impl System {
         ensures valid { IsSystem self.now }
     {
         self.codes_by_name.get(name).copied()
+    }
+
+    /// The place of the code that a word names, which may be no name.
+    pub fn code_named(&self, word: &[u8]) -> Option<usize>
+        ensures value { result ≡ code_place self.now.codes word.now }
+        ensures within { IfSome result (λ place. place < length self.now.codes) }
+        ensures valid { IsSystem self.now }
+    {
+        let index = &self.codes_by_name;
+        match Name::read(word) {
+            Some(name) => index.get(&name).copied(),
+            None => None,
+        }
     }
 
     /// What serves the messages of the code of this name: None exactly where there is no such code.
@@ -169,6 +185,19 @@ impl System {
         ensures valid { IsSystem self.now }
     {
         self.terminals_by_name.get(name).copied()
+    }
+
+    /// The place of the terminal that a word names, which may be no name.
+    pub fn terminal_named(&self, word: &[u8]) -> Option<usize>
+        ensures value { result ≡ position (λ terminal. bytes_eq terminal word.now) self.now.terminals }
+        ensures within { IfSome result (λ place. place < length self.now.terminals) }
+        ensures valid { IsSystem self.now }
+    {
+        let index = &self.terminals_by_name;
+        match Name::read(word) {
+            Some(name) => index.get(&name).copied(),
+            None => None,
+        }
     }
 
     /// The format of the terminal of this name: None where it has none, or is no terminal.

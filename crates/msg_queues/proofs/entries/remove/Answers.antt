@@ -1,52 +1,47 @@
-use Rattle.std.proofs.Common.{◌≡◌, Some, None, ◌+◌, sym, ap, ◌∙◌, arith}
+use Rattle.std.proofs.Common.{◌≡◌, Some, None, ◌+◌, sym, ap, ◌∙◌}
 use Rattle.std.specs.Option.{option_map, unwrap_or}
 use Rattle.model_queues.specs.Room.{message_bytes, messages_bytes}
 use Rattle.model_queues.specs.Queue.{queued_at, messages_of}
 use Rattle.std.specs.Map.{values_of}
 use Rattle.msg_queues.proofs.ById.{found_is, removed, keyed_removed, bytes_removed}
-use Rattle.msg_queues.proofs.Indexed.{has_code}
 use Rattle.msg_queues.proofs.entries.remove.Goals as goal
-
-pub what_goes-requires : goal.what_goes-requires
-what_goes-requires c =
-    let es = c.args.messages.now.entries in
-    let e : queued_at c.args.id (values_of es) ≡ Some c.in-Some.queued = found_is c.args.id es c.requires.keyed.each ∙ sym c.in-Some.ensures.value in
-    omega (arith, bytes_removed c.args.id es c.requires.keyed, ap (λ o. unwrap_or (option_map (λ q. message_bytes q.message) o) 0) e, c.requires.fits)
 
 pub returns-in-Some-clause-value : goal.returns-in-Some-clause-value
 returns-in-Some-clause-value c =
-    ap values_of c.remove.ensures.entries ∙ removed c.args.id c.args.messages.now.entries c.requires.keyed.each c.requires.keyed.ascending
+    ap values_of c.remove.ensures.entries ∙ removed c.args.id c.args.messages.now.entries c.requires.each c.requires.ascending
+
+pub returns-in-Some-clause-message : goal.returns-in-Some-clause-message
+returns-in-Some-clause-message c =
+    sym (ap (option_map (λ q. q.message)) (found_is c.args.id c.args.messages.now.entries c.requires.each ∙ sym c.in-Some.ensures.value))
 
 pub returns-in-Some-clause-bytes : goal.returns-in-Some-clause-bytes
 returns-in-Some-clause-bytes c =
     let es = c.args.messages.now.entries in
-    let e : queued_at c.args.id (values_of es) ≡ Some c.in-Some.queued = found_is c.args.id es c.requires.keyed.each ∙ sym c.in-Some.ensures.value in
-    (λ i. messages_bytes (messages_of ((ap values_of c.remove.ensures.entries ∙ removed c.args.id es c.requires.keyed.each c.requires.keyed.ascending) i))
-    + (c.what_goes.ensures.bytes ∙ sym (ap (λ o. unwrap_or (option_map (λ q. message_bytes q.message) o) 0) e)) i)
-    ∙ bytes_removed c.args.id es c.requires.keyed
-
-pub returns-in-Some-clause-code : goal.returns-in-Some-clause-code
-returns-in-Some-clause-code c = rw c.what_goes.ensures.code (has_code c.args.id c.args.messages.now.entries c.in-Some.queued c.requires.keyed (sym c.in-Some.ensures.value))
+    let e : queued_at c.args.id (values_of es) ≡ Some c.in-Some.queued = found_is c.args.id es c.requires.each ∙ sym c.in-Some.ensures.value in
+    (λ i. messages_bytes (messages_of ((ap values_of c.remove.ensures.entries ∙ removed c.args.id es c.requires.each c.requires.ascending) i))
+    + unwrap_or (option_map (λ q. message_bytes q.message) (sym e i)) 0)
+    ∙ bytes_removed c.args.id es c.requires
 
 pub returns-in-Some-clause-keyed : goal.returns-in-Some-clause-keyed
 returns-in-Some-clause-keyed c =
-    keyed_removed c.args.id c.args.messages.now.entries c.remove.new.self.entries c.requires.keyed c.remove.ensures.entries c.remove.ensures.ordered
+    keyed_removed c.args.id c.args.messages.now.entries c.remove.new.self.entries c.requires c.remove.ensures.entries c.remove.ensures.ordered
 
 pub returns-in-None-clause-value : goal.returns-in-None-clause-value
 returns-in-None-clause-value c =
-    ap values_of c.remove.ensures.entries ∙ removed c.args.id c.args.messages.now.entries c.requires.keyed.each c.requires.keyed.ascending
+    ap values_of c.remove.ensures.entries ∙ removed c.args.id c.args.messages.now.entries c.requires.each c.requires.ascending
+
+pub returns-in-None-clause-message : goal.returns-in-None-clause-message
+returns-in-None-clause-message c =
+    sym (ap (option_map (λ q. q.message)) (found_is c.args.id c.args.messages.now.entries c.requires.each ∙ sym c.in-None.ensures.value))
 
 pub returns-in-None-clause-bytes : goal.returns-in-None-clause-bytes
 returns-in-None-clause-bytes c =
     let es = c.args.messages.now.entries in
-    let e : queued_at c.args.id (values_of es) ≡ None = found_is c.args.id es c.requires.keyed.each ∙ sym c.in-None.ensures.value in
-    (λ i. messages_bytes (messages_of ((ap values_of c.remove.ensures.entries ∙ removed c.args.id es c.requires.keyed.each c.requires.keyed.ascending) i))
+    let e : queued_at c.args.id (values_of es) ≡ None = found_is c.args.id es c.requires.each ∙ sym c.in-None.ensures.value in
+    (λ i. messages_bytes (messages_of ((ap values_of c.remove.ensures.entries ∙ removed c.args.id es c.requires.each c.requires.ascending) i))
     + unwrap_or (option_map (λ q. message_bytes q.message) (sym e i)) 0)
-    ∙ bytes_removed c.args.id es c.requires.keyed
+    ∙ bytes_removed c.args.id es c.requires
 
 pub returns-in-None-clause-keyed : goal.returns-in-None-clause-keyed
 returns-in-None-clause-keyed c =
-    keyed_removed c.args.id c.args.messages.now.entries c.remove.new.self.entries c.requires.keyed c.remove.ensures.entries c.remove.ensures.ordered
-
-pub returns-in-None-clause-absent : goal.returns-in-None-clause-absent
-returns-in-None-clause-absent c = found_is c.args.id c.args.messages.now.entries c.requires.keyed.each ∙ sym c.in-None.ensures.value
+    keyed_removed c.args.id c.args.messages.now.entries c.remove.new.self.entries c.requires c.remove.ensures.entries c.remove.ensures.ordered
