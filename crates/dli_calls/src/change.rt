@@ -41,7 +41,6 @@ pub fn insert<R: Rows>(
     ensures no_data { IfOk result (λ p. p.area ≡ None) }
     ensures there { IfOk result (λ p. IsThere (R.rows rows.now) p.edit) }
 {
-    let _hierarchy = dbd.types.as_slice();
     let ssas = call.ssas.as_slice();
     let area = call.area.as_slice();
     if let Some(status) = insert_fault(&dbd.types, area, ssas, rows) {
@@ -74,7 +73,6 @@ pub fn replace<R: Rows>(
     ensures no_data { IfOk result (λ p. p.area ≡ None) }
     ensures there { IfOk result (λ p. IsThere (R.rows rows.now) p.edit) }
 {
-    let _hierarchy = dbd.types.as_slice();
     let area = call.area.as_slice();
     let Some(held) = &at.hold else {
         return Ok(answer_at(Status::DJ, at));
@@ -185,7 +183,6 @@ fn with_row<R: Rows>(
     ensures edit { IfOk result (IsEdit dbd.now root.now (R.rows rows.now) (with_row row.now (R.rows rows.now))) }
     ensures some { IfOk result (λ image. image ≢ []) }
 {
-    let _hierarchy = dbd.types.as_slice();
     edit::with_row(alloc, row, record_rows(root, rows))
 }
 
@@ -203,7 +200,6 @@ fn with_data<R: Rows>(
     requires root { root_of held.now ≡ root.now }
     ensures { IfOk result (IsEdit dbd.now root.now (R.rows rows.now) (with_data held.now (fitted (data_length dbd.now.types (end_type held.now)) area.now) (R.rows rows.now))) }
 {
-    let _hierarchy = dbd.types.as_slice();
     let length = data_length(&dbd.types, held.segment());
     let bytes = fitted_bytes(alloc, length, area)?;
     edit::with_data(alloc, held, &bytes, record_rows(root, rows))
@@ -222,6 +218,5 @@ fn without<R: Rows>(
     requires root { root_of held.now ≡ root.now }
     ensures { IfOk result (IsEdit dbd.now root.now (R.rows rows.now) (without held.now (R.rows rows.now))) }
 {
-    let _hierarchy = dbd.types.as_slice();
     edit::without(alloc, held, record_rows(root, rows))
 }

@@ -2,7 +2,7 @@
 ghost use Rattle.std.specs.Prelude.{◌≡◌, ◌≤◌, [], ◌++◌, length, IfOk, IfSome, OnOk, is_some};
 ghost use Rattle.std.specs.Option.{option_copied, option_map_or};
 ghost use Rattle.model_rows.specs.Path.{IsPath};
-ghost use Rattle.model_rows.specs.Rows.{record_of, roots, AreRows};
+ghost use Rattle.model_rows.specs.Rows.{roots, AreRows};
 ghost use Rattle.model_dli.specs.Search.{first_after};
 ghost use Rattle.model_dli.specs.Change.{insert_path};
 ghost use Rattle.model_dli.specs.Conditions.{AreInsertSsas, IsDbCall, IsPosition};
@@ -15,10 +15,10 @@ use crate::inserting::insert_root;
 use crate::need_list::{Needs, record_need, sequence_need};
 use model_dli::{DbCall, Position};
 use model_rows::{Path, Row};
-use row_search::{asked_root, first_in_record};
+use row_search::{Asked, asked_root, first_after, first_in_record, next_record};
 use seg_rows::Rows;
 use std::alloc::Global;
-use tm_types::{Dbd, Function, Key, Memory, Mode, Ssa};
+use tm_types::{Dbd, Function, Key, Memory, Mode};
 
 /// What a call needs before it is made on the rows of a database, by a PCB that stands at `position`, in
 /// the order in which it asks: the records that it looks at or changes, and where it looks for a root, or
@@ -97,44 +97,41 @@ pub fn needed_row<'a, R: Rows>(
     ensures valid { OnOk result (AreRows dbd.now (R.rows rows.now)) }
 {
     let ssas = call.ssas.as_slice();
-    let _hierarchy = dbd.types.as_slice();
+    let asked = Asked::of(dbd, ssas);
     match asked_root(&dbd.types, ssas) {
         Some(root) => {
             needs.push(record_need(mode, root))?;
-            Ok(first_in_record(&dbd.types, ssas, place, rows, &root))
+            Ok(first_in_record(&asked, place, rows, &root))
         }
-        None => onward(mode, dbd, ssas, place, rows, needs),
+        None => onward(mode, &asked, place, rows, needs),
     }
 }
 
 /// A search: the record of the place, and where that doesn't have the row, those behind it.
 fn onward<'a, R: Rows>(
     mode: Mode,
-    dbd: &Dbd,
-    ssas: &[Ssa],
+    asked: &Asked,
     place: Option<&Path>,
     rows: &'a R,
     needs: &mut Needs,
 ) -> Result<Option<&'a Row>, Memory>
-    requires types { length dbd.now.types ≤ 255 }
-    requires rows { R.database rows.now ≡ dbd.now }
-    requires place { IfSome (option_copied place) (IsPath dbd.now.types) }
+    requires rows { R.database rows.now ≡ asked.now.dbd }
+    requires place { IfSome (option_copied place) (IsPath asked.now.dbd.types) }
     requires empty { needs.old ≡ [] }
-    ensures needs { OnOk result (needs.new ≡ onward mode (option_copied place.entry) (first_after dbd.now.types ssas.now (option_copied place.entry) (R.rows rows.now)) (roots (R.rows rows.now))) }
-    ensures found { IfOk result (λ row. option_copied row ≡ first_after dbd.now.types ssas.now (option_copied place.entry) (R.rows rows.now)) }
-    ensures valid { OnOk result (AreRows dbd.now (R.rows rows.now)) }
+    ensures needs { OnOk result (needs.new ≡ onward mode (option_copied place.entry) (first_after asked.now.dbd.types asked.now.ssas (option_copied place.entry) (R.rows rows.now)) (roots (R.rows rows.now))) }
+    ensures found { IfOk result (λ row. option_copied row ≡ first_after asked.now.dbd.types asked.now.ssas (option_copied place.entry) (R.rows rows.now)) }
+    ensures valid { OnOk result (AreRows asked.now.dbd (R.rows rows.now)) }
 {
-    let _hierarchy = dbd.types.as_slice();
     let Some(path) = place else {
-        return along(mode, dbd, ssas, place, None, rows, needs);
+        return along(mode, asked, place, None, rows, needs);
     };
     let Some(root) = path.root() else {
         unreachable!()
     };
     needs.push(record_need(mode, root))?;
-    match first_in_record(&dbd.types, ssas, place, rows, &root) {
+    match first_in_record(asked, place, rows, &root) {
         Some(row) => Ok(Some(row)),
-        None => along(mode, dbd, ssas, place, Some(&root), rows, needs),
+        None => along(mode, asked, place, Some(&root), rows, needs),
     }
 }
 
@@ -142,28 +139,25 @@ fn onward<'a, R: Rows>(
 /// sequence, and those records up to the one that has the row.
 fn along<'a, R: Rows>(
     mode: Mode,
-    dbd: &Dbd,
-    ssas: &[Ssa],
+    asked: &Asked,
     place: Option<&Path>,
     after: Option<&Key>,
     rows: &'a R,
     needs: &mut Needs,
 ) -> Result<Option<&'a Row>, Memory>
-    requires types { length dbd.now.types ≤ 255 }
-    requires rows { R.database rows.now ≡ dbd.now }
-    ensures named { OnOk result (needs.new ≡ needs.old ++ along mode (first_after dbd.now.types ssas.now (option_copied place.entry) (records_of (keys_behind (option_copied after.entry) (roots (R.rows rows.now))) (R.rows rows.now))) (keys_behind (option_copied after.entry) (roots (R.rows rows.now)))) }
-    ensures found { IfOk result (λ row. option_copied row ≡ first_after dbd.now.types ssas.now (option_copied place.entry) (records_of (keys_behind (option_copied after.entry) (roots (R.rows rows.now))) (R.rows rows.now))) }
-    ensures valid { OnOk result (AreRows dbd.now (R.rows rows.now)) }
+    requires { R.database rows.now ≡ asked.now.dbd }
+    ensures named { OnOk result (needs.new ≡ needs.old ++ along mode (first_after asked.now.dbd.types asked.now.ssas (option_copied place.entry) (records_of (keys_behind (option_copied after.entry) (roots (R.rows rows.now))) (R.rows rows.now))) (keys_behind (option_copied after.entry) (roots (R.rows rows.now)))) }
+    ensures found { IfOk result (λ row. option_copied row ≡ first_after asked.now.dbd.types asked.now.ssas (option_copied place.entry) (records_of (keys_behind (option_copied after.entry) (roots (R.rows rows.now))) (R.rows rows.now))) }
+    ensures valid { OnOk result (AreRows asked.now.dbd (R.rows rows.now)) }
 {
-    let _hierarchy = dbd.types.as_slice();
     needs.push(sequence_need(Mode::Shared))?;
-    let mut next = rows.next_root(after);
-    while let Some(root) = next {
-        needs.push(record_need(mode, root))?;
-        if let Some(row) = first_in_record(&dbd.types, ssas, place, rows, &root) {
+    let mut next = next_record(after, rows);
+    while let Some(lent) = next {
+        needs.push(record_need(mode, lent.root))?;
+        if let Some(row) = first_after(asked, place, lent.rows) {
             return Ok(Some(row));
         }
-        next = rows.next_root(Some(&root));
+        next = next_record(Some(&lent.root), rows);
     }
     Ok(None)
 }

@@ -1,7 +1,8 @@
 //! `log_records`: records as they are laid out, and faults by their rules and places.
 use log_records::{
-    DecodeFault, PadChange, Record, append_acknowledged, append_change, append_completed,
-    append_discarded, append_input, append_reply, append_sync_point, decode, encode,
+    DecodeFault, PadChange, Record, append_acknowledged, append_change, append_command,
+    append_completed, append_discarded, append_input, append_reply, append_sync_point, decode,
+    encode,
 };
 use std::alloc::Global;
 use std::process::Abort;
@@ -131,8 +132,9 @@ fn borrowed_parts_are_spelled_as_records_are(rt: HostRuntime) -> Result<(), Fail
     append_completed(&mut out, 1, 2)?;
     append_acknowledged(&mut out, &terminal, 1)?;
     append_sync_point(&mut out, 1, &PadChange::Stays)?;
-    append_change(&mut out, 1, 1, 2, b"", b"")?;
-    let parts: [&[u8]; 7] = [
+    append_change(&mut out, 1, 1, 2, &[], &[])?;
+    append_command(&mut out, b"/STOP LTERM T2")?;
+    let parts: [&[u8]; 8] = [
         b"\0\x29\x01\0\0\0\0\0\0\0\0\0\0\0\0\0\0\0\x01\x02T1\x04ECHO\0\0\0\0\0\0\0\x01\0\x01\0\x02HI",
         b"\0\x1b\x03\0\0\0\0\0\0\0\x07\x02T1\0\0\0\0\0\0\0\x01\x01\0\x02HI",
         b"\0\x1d\x07\0\0\0\0\0\0\0\x01\0\0\0\0\0\0\0\x02\x0f\xff\0\0\0\0\0\0\0\x03",
@@ -140,6 +142,7 @@ fn borrowed_parts_are_spelled_as_records_are(rt: HostRuntime) -> Result<(), Fail
         b"\0\x0f\x36\x01\x02T1\0\0\0\0\0\0\0\x01",
         b"\0\x0e\x37\0\0\0\0\0\0\0\x01\0\0\0",
         b"\0\x12\x50\0\0\0\0\0\0\0\x01\x01\0\x02\0\0\0\0",
+        b"\0\x13\x02\0\x0e/STOP LTERM T2",
     ];
     let mut expected = Vec::new(rt.alloc());
     for part in &parts {

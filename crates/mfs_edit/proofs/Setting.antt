@@ -321,3 +321,20 @@ blank_row fields row = map_same_value 32 (byte_at fields [] row) (range_with_len
 pub blank_page : (fields : List DeviceField) → replicate 24 (replicate 80 32) ≡ page_of fields []
 unfolding page_of
 blank_page fields = map_same_value (replicate 80 32) (row_of fields []) (range_with_len 1 24) (λ row. sym (blank_row fields row))
+
+pub blank_is_page : (rows : List (List ℕ)) → rows ≡ replicate 24 (replicate 80 32) → IsPage rows
+blank_is_page rows e = subst IsPage (sym e) (record { count = refl; widths = refl })
+
+-- ---- texts that grow by blanks
+
+-- a text that grows has the blanks behind it
+pub resized : (old : List ℕ) (w n fill : ℕ) → n ≡ length old + w → take n old ++ replicate (n - length old) fill ≡ old ++ replicate w fill
+resized old w n fill e =
+    let count : n - length old ≡ w = omega (arith, e) in
+    λ i. take_long old n (omega (arith, e)) i ++ replicate (count i) fill
+  where
+    take_long : (xs : List ℕ) (m : ℕ) → length xs ≤ m → take m xs ≡ xs
+    take_long [] zero h = refl
+    take_long [] (suc m) h = refl
+    take_long (x ∷ xs) zero h = absurd (omega arith)
+    take_long (x ∷ xs) (suc m) h = λ i. x ∷ take_long xs m (omega arith) i

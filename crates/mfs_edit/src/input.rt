@@ -153,13 +153,12 @@ fn value_of<'a>(places: &BTreeMap<Name, usize>, values: &'a [FieldValue], name: 
     }
 }
 
+#[tactic(auto, using(crate::proofs::Setting::resized))]
 fn add_fitted(text: &mut Vec<u8>, source: &Source, value: &[u8]) -> Result<(), Memory>
     ensures { OnOk result (text.new.items ≡ text.old.items ++ fitted source.now.justify source.now.fill source.now.width value.now) }
 {
     let at = text.len();
-    for _ in 0..source.width {
-        text.push(source.fill)?;
-    }
+    text.resize(at + source.width as usize, source.fill)?;
     set_fitted(&mut text[at..], source.justify, source.fill, value);
     Ok(())
 }

@@ -50,11 +50,7 @@ fn blank_rows(alloc: Global) -> Result<Vec<[u8; 80]>, Memory>
     ensures page { IfOk result (λ rows. IsPage rows.items) }
     ensures blank { IfOk result (λ rows. (fields : List DeviceField) → rows.items ≡ spec.page_of fields []) }
 {
-    let mut rows = Vec::new(alloc);
-    for _ in 0..24u8 {
-        rows.push([b' '; 80])?;
-    }
-    Ok(rows)
+    Ok(Vec::from_array(alloc, [[b' '; 80]; 24])?)
 }
 
 /// Shows a segment by the MFLDs of its SEG, on a page that shows some pieces.

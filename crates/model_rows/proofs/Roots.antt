@@ -121,6 +121,7 @@ module _ (dbd : Dbd) (all : IsHierarchy dbd.types) where
   pub entries_rows : (es : List (List ℕ × List Row)) → IsStrictlySortedBy key_cmp (keys_of es) → AreRecords dbd es → length es ≤ dbd.roots → AreRows dbd (rows_of es)
   entries_rows es s h few =
       record {
+        types = all;
         ascending = entries_ascending es s h;
         each = entries_each es h;
         within_roots = omega (arith, ap length (entries_roots es h), length_keys es);

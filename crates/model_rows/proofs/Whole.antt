@@ -134,6 +134,7 @@ pub with_record_are_rows : (dbd : Dbd) → IsHierarchy dbd.types → (root : Lis
 with_record_are_rows dbd all root image rows h under fits few =
     let both = with_record_rows dbd.types all root image rows h.each h.ascending under in
     record {
+      types = all;
       ascending = both.0;
       each = both.1;
       within_roots = few;

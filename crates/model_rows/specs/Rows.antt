@@ -4,6 +4,7 @@ use Rattle.std.specs.List.{AllByRecursion, flat_map}
 use Rattle.std.specs.List.Sorted.{IsStrictlySortedBy}
 use Rattle.std.specs.Ordering.{is_lt, is_eq, is_gt}
 use Rattle.tm_types.specs.declared.dbd.Dbd.{Dbd}
+use Rattle.tm_types.specs.SegTypes.{IsHierarchy}
 use Rattle.model_rows.specs.declared.row.Row.{Row}
 use Rattle.model_rows.specs.Path.{key_cmp, root_of}
 use Rattle.model_rows.specs.Row.{IsRow, row_cmp}
@@ -46,9 +47,10 @@ passes_roots dbd root image rows =
 abbrev pub passes_length : Dbd → List Row → Bool
 passes_length dbd image = nat_lt (record_limit dbd) (length (spelling image))
 
--- the rows of a database: in hierarchic order, each a row among these, with at most as many roots
--- and bytes a record as the database allows
+-- the rows of a database, whose types are a hierarchy: in hierarchic order, each a row among these, with
+-- at most as many roots and bytes a record as the database allows
 pub record AreRows (dbd : Dbd) (rows : List Row) : Type 0 where
+  pub types : IsHierarchy dbd.types
   pub ascending : IsStrictlySortedBy row_cmp rows
   pub each : AllByRecursion (IsRow dbd.types rows) rows
   pub within_roots : length (roots rows) ≤ dbd.roots

@@ -1,8 +1,10 @@
 pub mod Finding
 pub mod Fitting
+pub mod LookedUp
 pub mod Within
 pub mod Places
 pub mod Rising
 pub mod Walking
 pub mod Keys
+pub mod Nexts
 pub mod Needing

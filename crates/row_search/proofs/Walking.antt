@@ -17,10 +17,16 @@ use Rattle.model_rows.proofs.Filters.{filter_within}
 use Rattle.model_rows.proofs.Records.{is_lt-true}
 use Rattle.model_dli.specs.Search.{is_after, fits, first_after}
 use Rattle.model_dli.specs.Get.{asked_root}
+use Rattle.row_search.specs.Arguments.{Arguments}
 use Rattle.row_search.specs.Walk.{first_root, rows_from, roots_left}
 use Rattle.row_search.proofs.Finding.{find_front, find_back, find_head, find_passes}
 use Rattle.row_search.proofs.Rising.{rows_rising, from_root, after_root, all_from, next_is_first}
 use Rattle.row_search.proofs.Places.{after_in_later, asked_in_record}
+
+-- what the arguments ask for, by their database and by themselves
+pub as_asked : (asked : Arguments) (dbd : Dbd) (ssas : List Ssa) → asked.dbd ≡ dbd → asked.ssas ≡ ssas → (place : Option (List (ℕ × List ℕ))) (xs ys : List Row) → xs ≡ ys
+    → first_after asked.dbd.types asked.ssas place xs ≡ first_after dbd.types ssas place ys
+as_asked asked dbd ssas d s place xs ys e = λ i. first_after (d i).types (s i) place (e i)
 
 module _ (dbd : Dbd) (all : IsHierarchy dbd.types) (rows : List Row) (valid : AreRows dbd rows) where
   pub row_paths : AllByRecursion (λ row. IsPath dbd.types row.path) rows

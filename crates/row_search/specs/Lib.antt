@@ -1,1 +1,4 @@
 pub mod Walk
+pub mod Lent
+pub mod Arguments
+pub mod Asked

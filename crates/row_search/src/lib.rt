@@ -5,9 +5,13 @@
 #![tactic(auto)]
 
 pub use asked::{
-    asked_number, asked_root, data_length, fits, fitted_bytes, fitted_key, key_length, number_named,
+    Asked, asked_number, asked_root, data_length, fitted_bytes, fitted_key, key_length,
+    number_named,
 };
-pub use search::{first_in_record, first_row, first_row_below, is_there, is_within, record_rows};
+pub use search::{
+    LentRecord, first_after, first_in_record, first_row, first_row_below, is_there, is_within,
+    next_record, record_rows,
+};
 
 mod asked;
 mod search;

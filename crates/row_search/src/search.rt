@@ -1,16 +1,16 @@
 //! Looking for rows, record by record.
-ghost use Rattle.std.specs.Prelude.{◌≡◌, ◌≤◌, ◌&&◌, Some, length, IfSome, IfNone, OnSome};
+ghost use Rattle.std.specs.Prelude.{◌≡◌, ◌≤◌, ◌&&◌, Some, length, IfSome, OnSome};
 ghost use Rattle.std.specs.Option.{option_copied};
-ghost use Rattle.tm_types.specs.SegTypes.{IsHierarchy};
 ghost use Rattle.model_rows.specs.Path.{IsPath};
-ghost use Rattle.model_rows.specs.Rows.{record_of, AreRows};
+ghost use Rattle.model_rows.specs.Rows.{record_of, next_root, AreRows};
+ghost use Rattle.row_search.specs.Lent.{lent_root, IsLentOf};
 ghost use Rattle.row_search.specs.Walk.{first_root};
 ghost use Rattle.model_dli.specs.Search.{is_after, is_within, is_below, is_there, first_after, first_below};
 
-use crate::asked::{asked_root, fits};
+use crate::asked::{Asked, asked_root};
 use model_rows::{Path, Row};
 use seg_rows::Rows;
-use tm_types::{Dbd, Key, SegTypes, Ssa};
+use tm_types::{Dbd, Key, Ssa};
 
 /// Whether a segment stands after a place; without a place each one does.
 fn is_after(place: Option<&Path>, path: &Path) -> bool
@@ -41,18 +41,19 @@ fn is_next_below(place: Option<&Path>, parent: &Path, path: &Path) -> bool
     is_after(place, path) && is_after(Some(parent), path) && is_below(parent, path)
 }
 
+/// A record as it is lent: the key of its root, and its rows from the root on.
+#[derive(Clone, Copy, Debug)]
+pub struct LentRecord<'a> {
+    pub root: Key,
+    pub rows: &'a [Row],
+}
+
 /// The first of these rows after the place that fits.
-fn first_after<'a>(
-    types: &SegTypes,
-    ssas: &[Ssa],
-    place: Option<&Path>,
-    rows: &'a [Row],
-) -> Option<&'a Row>
-    requires { length types.now ≤ 255 }
-    ensures { option_copied result ≡ first_after types.now ssas.now (option_copied place.entry) rows.now }
+pub fn first_after<'a>(asked: &Asked, place: Option<&Path>, rows: &'a [Row]) -> Option<&'a Row>
+    ensures { option_copied result ≡ first_after asked.now.dbd.types asked.now.ssas (option_copied place.entry) rows.now }
 {
     for row in rows {
-        if is_after(place, &row.path) && fits(types, ssas, &row.path) {
+        if is_after(place, &row.path) && asked.fits(&row.path) {
             return Some(row);
         }
     }
@@ -61,20 +62,15 @@ fn first_after<'a>(
 
 /// The first row of the record of this root after the place that fits.
 pub fn first_in_record<'a, R: Rows>(
-    types: &SegTypes,
-    ssas: &[Ssa],
+    asked: &Asked,
     place: Option<&Path>,
     rows: &'a R,
     root: &Key,
 ) -> Option<&'a Row>
-    requires { length types.now ≤ 255 }
-    ensures value { option_copied result ≡ first_after types.now ssas.now (option_copied place.entry) (record_of root.now (R.rows rows.now)) }
+    ensures value { option_copied result ≡ first_after asked.now.dbd.types asked.now.ssas (option_copied place.entry) (record_of root.now (R.rows rows.now)) }
     ensures valid { AreRows (R.database rows.now) (R.rows rows.now) }
 {
-    match rows.record(root) {
-        Some(image) => first_after(types, ssas, place, image.as_slice()),
-        None => None,
-    }
+    first_after(asked, place, record_rows(root, rows))
 }
 
 /// The first row of the database after the place that fits. Where the first argument asks for one
@@ -93,30 +89,53 @@ pub fn first_row<'a, R: Rows>(
     ensures valid { OnSome result (AreRows (R.database rows.now) (R.rows rows.now)) }
 {
     let types = &dbd.types;
-    let _hierarchy = types.as_slice();
+    let asked = Asked::of(dbd, ssas);
     if let Some(root) = asked_root(types, ssas) {
-        return first_in_record(types, ssas, place, rows, &root);
+        return first_in_record(&asked, place, rows, &root);
     }
-    let mut next = first_root(place, rows);
-    while let Some(root) = next {
-        if let Some(row) = first_in_record(types, ssas, place, rows, &root) {
+    let mut next = first_record(place, rows);
+    while let Some(lent) = next {
+        if let Some(row) = first_after(&asked, place, lent.rows) {
             return Some(row);
         }
-        next = rows.next_root(Some(&root));
+        next = next_record(Some(&lent.root), rows);
     }
     None
 }
 
-/// The root of the record at which a search from this place begins.
-fn first_root<R: Rows>(place: Option<&Path>, rows: &R) -> Option<Key>
+/// The record at which a search from this place begins. It has no rows where the place is in none.
+fn first_record<'a, R: Rows>(place: Option<&Path>, rows: &'a R) -> Option<LentRecord<'a>>
     requires { IfSome (option_copied place) (λ path. 1 ≤ length path) }
-    ensures value { result ≡ first_root (option_copied place.entry) (R.rows rows.now) }
-    ensures valid { IfNone result (AreRows (R.database rows.now) (R.rows rows.now)) }
+    ensures root { lent_root result ≡ first_root (option_copied place.entry) (R.rows rows.now) }
+    ensures rows { IfSome result (IsLentOf (R.rows rows.now)) }
+    ensures valid { AreRows (R.database rows.now) (R.rows rows.now) }
 {
-    match place {
-        None => rows.next_root(None),
-        Some(path) => path.root(),
-    }
+    let Some(path) = place else {
+        return next_record(None, rows);
+    };
+    let Some(root) = path.root() else {
+        unreachable!()
+    };
+    Some(LentRecord {
+        root,
+        rows: record_rows(&root, rows),
+    })
+}
+
+/// The record of the first root after this key, or of all.
+pub fn next_record<'a, R: Rows>(after: Option<&Key>, rows: &'a R) -> Option<LentRecord<'a>>
+    ensures root { lent_root result ≡ next_root (R.rows rows.now) (option_copied after.entry) }
+    ensures rows { IfSome result (IsLentOf (R.rows rows.now)) }
+    ensures valid { AreRows (R.database rows.now) (R.rows rows.now) }
+{
+    let image = rows.next_record(after)?;
+    let Some(root) = image.root() else {
+        unreachable!()
+    };
+    Some(LentRecord {
+        root,
+        rows: image.as_slice(),
+    })
 }
 
 /// Whether there is a row with this path.
@@ -161,24 +180,20 @@ pub fn first_row_below<'a, R: Rows>(
     ensures valid { OnSome result (AreRows (R.database rows.now) (R.rows rows.now)) }
 {
     let root = parent.root()?;
-    match rows.record(&root) {
-        Some(image) => first_below(&dbd.types, ssas, place, parent, image.as_slice()),
-        None => None,
-    }
+    let asked = Asked::of(dbd, ssas);
+    first_below(&asked, place, parent, record_rows(&root, rows))
 }
 
 fn first_below<'a>(
-    types: &SegTypes,
-    ssas: &[Ssa],
+    asked: &Asked,
     place: Option<&Path>,
     parent: &Path,
     rows: &'a [Row],
 ) -> Option<&'a Row>
-    requires { length types.now ≤ 255 }
-    ensures { option_copied result ≡ first_below types.now ssas.now (option_copied place.entry) parent.now rows.now }
+    ensures { option_copied result ≡ first_below asked.now.dbd.types asked.now.ssas (option_copied place.entry) parent.now rows.now }
 {
     for row in rows {
-        if is_next_below(place, parent, &row.path) && fits(types, ssas, &row.path) {
+        if is_next_below(place, parent, &row.path) && asked.fits(&row.path) {
             return Some(row);
         }
     }

@@ -59,7 +59,7 @@ pub trait Rows {
     fn set(&mut self, root: &Key, image: RecordImage) -> Result<(), StoreRefused>
         requires { IsImage (database self.old) root.now image }
         ensures replaced { OnOk result (rows self.new ≡ with_record root.now image (rows self.old)) }
-        ensures kept { OnErr result (rows self.new ≡ rows self.old) }
+        ensures kept { OnErr result (self.new ≡ self.old) }
         ensures accepted { OnOk result (set_refusal (database self.old) root.now image (rows self.old) ≡ None) }
         ensures refused { IfErr result (RefusesToSet (set_refusal (database self.old) root.now image (rows self.old))) }
         ensures database { database self.new ≡ database self.old }

@@ -120,35 +120,6 @@ impl Store {
     }
 
     /// Writes the records of the changed slots into their sectors, in ascending order, where slot 0 has the sector
-    /// `first`; the answer is how many they are, and none is changed then. Nothing is synced. `Disk` comes exactly where
-    /// the disk failed in the call; then all of them still count as changed. The records and slots stay in any case.
-    pub fn write_back<D: Disk>(&mut self, disk: &mut D, first: u32) -> Result<u32, DiskFault>
-        requires area { first + self.old.dbd.roots ≤ (D.state disk.old).size }
-        requires sectors { self.old.dbd.sectors ≤ 1 }
-        ensures stays { Stays (D.state disk.old) (D.state disk.new) }
-        // Whenever a crash comes, each sector is as it was or has the record of its changed slot.
-        ensures any_moment { Within (MayPut first (bytes_of self.old.slots self.old.changed)) (D.state disk.old) (D.state disk.new) }
-        ensures follows { Follows (MayPut first (bytes_of self.old.slots self.old.changed)) (D.state disk.old) (D.state disk.new) }
-        // Then each of them is read, and a sync makes it last.
-        ensures shown { OnOk result (IsTrue (D.state disk.old).tells → HasPut first (bytes_of self.old.slots self.old.changed) (D.state disk.old).shown (D.state disk.new).shown) }
-        ensures count { IfOk result (λ n. n ≡ length self.old.changed) }
-        ensures few { length self.old.changed ≤ self.old.dbd.roots }
-        ensures written { OnOk result (self.new ≡ record self.old { changed = [] }) }
-        ensures kept { OnErr result (self.new ≡ self.old) }
-        ensures writes { WritesAtMost (length self.old.changed) (D.state disk.old) (D.state disk.new) }
-        ensures no_fault { OnOk result ((D.state disk.new).faults ≡ (D.state disk.old).faults) }
-        ensures cause { OnErr result (FailedSince (D.state disk.old) (D.state disk.new)) }
-    {
-        match self.write_changed(disk, first) {
-            Ok(count) => {
-                self.settle();
-                Ok(count)
-            }
-            Err(_) => Err(DiskFault::Disk),
-        }
-    }
-
-    /// Writes the records of the changed slots into their sectors, in ascending order, where slot 0 has the sector
     /// `first`; the answer is how many they are. They still count as changed, until `settle`. Nothing is synced. `Disk` comes
     /// exactly where the disk failed in the call.
     pub fn write_changed<D: Disk>(&self, disk: &mut D, first: u32) -> Result<u32, DiskFault>

@@ -2,6 +2,7 @@ use Rattle.std.proofs.Common.{◌≡◌, None, subst, sym, ap, ◌∙◌}
 use Rattle.model_rows.specs.declared.row.Row.{Row}
 use Rattle.model_rows.specs.Path.{IsPath}
 use Rattle.model_rows.specs.Row.{IsRow}
+use Rattle.model_rows.specs.Rows.{AreRows}
 use Rattle.model_dli.specs.Change.{insert_path, insert_row, insert_fault}
 use Rattle.model_dli.specs.Conditions.{IsPosition}
 use Rattle.dli_calls.specs.declared.planned.Planned.{Planned}
@@ -18,7 +19,8 @@ with_row-requires-clause-row g c =
     let none : insert_fault (insert_path types ssas area) rows ≡ None =
     sym (c.in_default.ensures.value ∙ (λ i. insert_fault (insert_path types (c.as_slice-ssas.ensures i) (c.as_slice-area.ensures i)) rows)) in
     let row : c.in_ok-row.row ≡ insert_row types ssas area = c.in_ok-row.ensures ∙ (λ i. insert_row types (c.as_slice-ssas.ensures i) (c.as_slice-area.ensures i)) in
-    subst (IsRow types rows) (sym row) (insert_is_row types c.as_slice-hierarchy.ensures.valid ssas area rows c.requires.ssas c.requires.area none)
+    let valid : AreRows c.args.dbd.now rows = subst (λ d. AreRows d rows) c.requires.rows c.in_default.ensures.valid in
+    subst (IsRow types rows) (sym row) (insert_is_row types valid.types ssas area rows c.requires.ssas c.requires.area none)
 
 pub returns-clause-planned : goal.returns-clause-planned
 returns-clause-planned g c =
@@ -36,10 +38,12 @@ returns-clause-position g c =
     let types = c.args.dbd.now.types in
     let ssas = c.args.call.now.ssas in
     let area = c.args.call.now.area in
+    let rows = g.R.Rows.rows c.args.rows.now in
+    let valid : AreRows c.args.dbd.now rows = subst (λ d. AreRows d rows) c.requires.rows c.in_default.ensures.valid in
     let row : c.in_ok-row.row ≡ insert_row types ssas area = c.in_ok-row.ensures ∙ (λ i. insert_row types (c.as_slice-ssas.ensures i) (c.as_slice-area.ensures i)) in
     subst (λ (p : Planned). IsPosition types p.position) (sym c.set_record.ensures)
     (record {
-      position = subst (IsPath types) (sym (ap (λ (r : Row). r.path) row)) (insert_is_path types c.as_slice-hierarchy.ensures.valid ssas area c.requires.ssas);
+      position = subst (IsPath types) (sym (ap (λ (r : Row). r.path) row)) (insert_is_path types valid.types ssas area c.requires.ssas);
       parentage = c.requires.position.parentage;
       hold = tt;
     })

@@ -12,7 +12,7 @@ with_data-requires-clause-row g c =
     let rows = g.R.Rows.rows c.args.rows.now in
     let valid : AreRows c.args.dbd.now rows = subst (λ d. AreRows d rows) c.requires.rows c.in_default-replace_fault.ensures.valid in
     let printable : list_all is_printable c.as_slice-area.result.now ≡ true = ap (list_all is_printable) c.as_slice-area.ensures ∙ c.requires.area in
-    replace_is_row c.args.dbd.now.types c.as_slice-hierarchy.ensures.valid c.in-Some.held c.as_slice-area.result.now rows valid.each printable (sym c.in_default-replace_fault.ensures.value)
+    replace_is_row c.args.dbd.now.types valid.types c.in-Some.held c.as_slice-area.result.now rows valid.each printable (sym c.in_default-replace_fault.ensures.value)
 
 pub returns-clause-there : goal.returns-clause-there
 returns-clause-there g c =

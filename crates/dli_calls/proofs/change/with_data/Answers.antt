@@ -15,7 +15,7 @@ returns g c =
     let held = c.args.held.now in
     let bytes : List ℕ = fitted (data_length dbd.types (end_type held)) c.args.area.now in
     let valid : AreRows dbd rows = subst (λ d. AreRows d rows) c.requires.rows c.record_rows.ensures.valid in
-    let types = c.as_slice-hierarchy.ensures.valid in
+    let types = valid.types in
     let count : c.data_length-length.result ≡ data_length dbd.types (end_type held) = c.data_length-length.ensures ∙ ap (data_length dbd.types) c.segment.ensures in
     edits c.with_data.result dbd root rows (with_data held bytes rows) _ (with_data held bytes (record_of root rows)) c.with_data.ensures
     (ap (λ b. with_data held b c.record_rows.result.now) (c.in_ok-bytes.ensures ∙ ap (λ n. fitted n c.args.area.now) count)

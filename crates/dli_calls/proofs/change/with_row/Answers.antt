@@ -13,7 +13,7 @@ returns-clause-edit g c =
     let root = c.args.root.now in
     let row = c.args.row.now in
     let valid : AreRows dbd rows = subst (λ d. AreRows d rows) c.requires.rows c.record_rows.ensures.valid in
-    let types = c.as_slice-hierarchy.ensures.valid in
+    let types = valid.types in
     edits c.with_row.result dbd root rows (with_row row rows) _ (with_row row (record_of root rows)) c.with_row.ensures (ap (with_row row) c.record_rows.ensures.value)
     (image_with_row dbd types rows valid root row c.requires.root c.requires.row)
     (row_added dbd types rows valid root row c.requires.root c.requires.row)

@@ -12,7 +12,7 @@ returns g c =
     let root = c.args.root.now in
     let held = c.args.held.now in
     let valid : AreRows dbd rows = subst (λ d. AreRows d rows) c.requires.rows c.record_rows.ensures.valid in
-    let types = c.as_slice-hierarchy.ensures.valid in
+    let types = valid.types in
     edits c.without.result dbd root rows (without held rows) _ (without held (record_of root rows)) c.without.ensures (ap (without held) c.record_rows.ensures.value)
     (image_removed dbd types rows valid root held c.requires.root c.requires.held)
     (rows_removed dbd types rows valid root held c.requires.root c.requires.held)

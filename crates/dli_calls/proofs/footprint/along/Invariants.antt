@@ -1,8 +1,9 @@
--- while a root is left, the records from it on are still to be named
+-- while a record is left, the records from it on are still to be named
 use Rattle.std.proofs.Common.{◌≡◌, ◌++◌}
-use Rattle.std.specs.Option.{option_copied}
+use Rattle.std.specs.Option.{option_copied, IfSome}
 use Rattle.model_rows.specs.Rows.{roots, AreRows}
 use Rattle.model_dli.specs.Search.{first_after}
+use Rattle.row_search.specs.Lent.{lent_root, IsLentOf}
 use Rattle.row_search.specs.Walk.{roots_left}
 use Rattle.row_search.proofs.Needing.{walk, next_fits}
 use Rattle.dli_calls.specs.Along.{keys_behind, keys_from, records_of}
@@ -11,12 +12,14 @@ use Rattle.dli_calls.proofs.footprint.along.Given as goal
 abbrev pub invariant-loop-next : goal.invariant-loop-next
 invariant-loop-next g l =
     record {
-      valid : AreRows l.dbd (g.R.Rows.rows l.rows);
-      named : l.needs ++ walk (next_fits l.dbd l.ssas (option_copied l.place)) l.mode (g.R.Rows.rows l.rows) (keys_from l.next (roots (g.R.Rows.rows l.rows)))
-          ≡ l.initial.needs ++ walk (next_fits l.dbd l.ssas (option_copied l.place)) l.mode (g.R.Rows.rows l.rows) (keys_behind (option_copied l.after) (roots (g.R.Rows.rows l.rows)));
-      found : first_after l.dbd.types l.ssas (option_copied l.place) (records_of (keys_from l.next (roots (g.R.Rows.rows l.rows))) (g.R.Rows.rows l.rows))
-          ≡ first_after l.dbd.types l.ssas (option_copied l.place) (records_of (keys_behind (option_copied l.after) (roots (g.R.Rows.rows l.rows))) (g.R.Rows.rows l.rows));
+      valid : AreRows l.asked.dbd (g.R.Rows.rows l.rows);
+      lent : IfSome l.next (IsLentOf (g.R.Rows.rows l.rows));
+      named : l.needs ++ walk (next_fits l.asked.dbd l.asked.ssas (option_copied l.place)) l.mode (g.R.Rows.rows l.rows) (keys_from (lent_root l.next) (roots (g.R.Rows.rows l.rows)))
+          ≡ l.initial.needs
+          ++ walk (next_fits l.asked.dbd l.asked.ssas (option_copied l.place)) l.mode (g.R.Rows.rows l.rows) (keys_behind (option_copied l.after) (roots (g.R.Rows.rows l.rows)));
+      found : first_after l.asked.dbd.types l.asked.ssas (option_copied l.place) (records_of (keys_from (lent_root l.next) (roots (g.R.Rows.rows l.rows))) (g.R.Rows.rows l.rows))
+          ≡ first_after l.asked.dbd.types l.asked.ssas (option_copied l.place) (records_of (keys_behind (option_copied l.after) (roots (g.R.Rows.rows l.rows))) (g.R.Rows.rows l.rows));
     }
 
 abbrev pub decreases-loop-next : goal.decreases-loop-next
-decreases-loop-next g l = roots_left l.next (g.R.Rows.rows l.rows)
+decreases-loop-next g l = roots_left (lent_root l.next) (g.R.Rows.rows l.rows)

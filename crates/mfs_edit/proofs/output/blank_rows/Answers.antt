@@ -1,8 +1,9 @@
-use Rattle.std.proofs.Common.{◌≡◌, ap, ◌∙◌, replicate, arith}
-use Rattle.mfs_edit.proofs.Setting.{blank_page}
+use Rattle.std.proofs.Common.{◌∙◌}
+use Rattle.mfs_edit.proofs.Setting.{blank_is_page, blank_page}
 use Rattle.mfs_edit.proofs.output.blank_rows.Goals as goal
 
+pub returns-clause-page : goal.returns-clause-page
+returns-clause-page c = blank_is_page _ c.in_ok-from_array.ensures.items
+
 pub returns-clause-blank : goal.returns-clause-blank
-returns-clause-blank c = λ fields.
-    let all : c.loop.counter ≡ 24 = omega (arith, c.loop-test.false, c.loop.auto.counter-end) in
-    c.loop.invariant ∙ ap (λ n. replicate n (replicate 80 32)) all ∙ blank_page fields
+returns-clause-blank c = λ fields. c.in_ok-from_array.ensures.items ∙ blank_page fields

@@ -1,9 +1,11 @@
-use Rattle.std.proofs.Common.{◌+◌, ◌-◌, ◌++◌, ap, ◌∙◌}
-use Rattle.std.specs.Prelude.{replicate}
-use Rattle.row_search.proofs.Fitting.{blank_more}
+use Rattle.std.proofs.Common.{◌≡◌, take, ◌∙◌, rules, arith}
+use Rattle.std.specs.Prelude.{vec_len}
+use Rattle.row_search.proofs.Fitting.{blanks_behind}
 use Rattle.row_search.proofs.asked.fitted_bytes.Goals as goal
 
-pub loop-place-preserved : goal.loop-place-preserved
-loop-place-preserved c =
-    ap (λ bytes. bytes ++ replicate (c.args.length - (c.loop-place._place + 1)) 32) c.in_ok-push.ensures.ok
-    ∙ blank_more c.loop-place.whole _ c.args.length c.loop-place._place c.loop-place-test.true c.loop-place.invariant
+pub returns : goal.returns
+returns c =
+    let front : c.extend_from_slice.new.self.items ≡ take c.min-size.result c.args.bytes.now = search rules in
+    c.from_vec.ensures
+    ∙ blanks_behind c.args.length c.min-size.result (vec_len c.extend_from_slice.new.self) c.args.bytes.now c.extend_from_slice.new.self.items c.resize.new.self.items
+    c.min-size.ensures front (omega arith) c.in_ok-resize.ensures.items

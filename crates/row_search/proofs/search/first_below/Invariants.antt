@@ -5,4 +5,4 @@ use Rattle.row_search.proofs.search.first_below.Given as goal
 
 abbrev pub invariant-loop-row : goal.invariant-loop-row
 invariant-loop-row l =
-    first_below l.types l.ssas (option_copied l.place) l.parent (drop l.row-index l.rows) ≡ first_below l.types l.ssas (option_copied l.place) l.parent l.rows
+    first_below l.asked.dbd.types l.asked.ssas (option_copied l.place) l.parent (drop l.row-index l.rows) ≡ first_below l.asked.dbd.types l.asked.ssas (option_copied l.place) l.parent l.rows
