@@ -18,11 +18,9 @@ ghost use Rattle.step_law.specs.Steps.{StepOnDisk, after_step};
 ghost use Rattle.log_records.specs.declared.record.Record.{Record};
 ghost use Rattle.slot_law.specs.Committed.{Touches};
 ghost use Rattle.checkpoint_law.specs.Checkpointing.{after_checkpoint};
-ghost use Rattle.journal.specs.Counters.{first_spent};
 ghost use Rattle.journal.specs.State.{TellsRoom, TellsAllRoom, holding, forced, IsStepOf, RecoverEither};
 ghost use Rattle.journal.specs.Checkpoints.{parts_for, IsOf, CanCheckpoint};
 
-use crate::counter::JournalCounter;
 use checkpointing::{PartsView, take};
 use image_areas::{log_first, snapshot_area, snapshot_first};
 use log_writer::LogWriter;
@@ -35,9 +33,6 @@ use tm_disk::{Disk, DiskFault};
 
 // 32 sectors of the log.
 const KEPT_BYTES: u64 = 130_048;
-
-// Where a counter is spent.
-const SPENT: u64 = 1_000_000_000_000_000_000;
 
 /// What a control region keeps of its disk.
 #[derive(Drop)]
@@ -93,22 +88,12 @@ impl Journal {
         self.log.room()
     }
 
-    /// The first counter that stands at 1,000,000,000,000,000,000 or above: the epoch, the sequence of the next sector, the
-    /// checkpoint.
-    pub fn spent(&self) -> Option<JournalCounter>
+    /// The sequence of the next sector.
+    pub fn next_sequence(&self) -> u64
         requires { self.now.log.sequence + self.now.log.count < 2 ^ 64 }
-        ensures { result ≡ first_spent self.now }
+        ensures { result ≡ self.now.log.sequence + self.now.log.place }
     {
-        if SPENT <= self.restart.epoch {
-            return Some(JournalCounter::Epoch);
-        }
-        if SPENT <= self.log.next_sequence() {
-            return Some(JournalCounter::Sequence);
-        }
-        if SPENT <= self.restart.checkpoint {
-            return Some(JournalCounter::Checkpoint);
-        }
-        None
+        self.log.next_sequence()
     }
 
     /// Exchanges what was appended for these bytes, for which the log area has room. This takes no memory: the records of a

@@ -4,8 +4,6 @@
 //! stop kept, the image recovers to the state before the step or to the one with it.
 #![tactic(auto)]
 
-mod counter;
 mod journal;
 
-pub use counter::JournalCounter;
 pub use journal::Journal;

@@ -55,6 +55,7 @@ use Rattle.checkpoint_law.specs.Counted.{TellUnits}
 use Rattle.parts_life.proofs.Counts.{force_up_to, forced_tell, quiet_tells}
 use Rattle.parts_life.proofs.OwnUnits.{records_most, turn_most, unit_below}
 use Rattle.parts_life.specs.Logged.{IsLogged}
+use Rattle.logged_machine.specs.Goes.{NumbersBy, DoesTo}
 use Rattle.logged_machine.specs.Logged.{LoggedState}
 use Rattle.control_life.specs.Faults.{fault_in}
 use Rattle.logged_machine.specs.Leaving.{Leaves}
@@ -64,7 +65,11 @@ use Rattle.logged_machine.specs.Frugal.{AppendsAlone, ForceFails, ForcesAll, Wri
 use Rattle.logged_machine.proofs.Frugality.{area_is, writes_log}
 use Rattle.logged_machine.proofs.Answered.{ack_unfaulted, command_unfaulted, input_unfaulted}
 use Rattle.logged_machine.proofs.Logging.{area}
-use Rattle.logged_machine.proofs.Once.{Forces, failed, is, is_broken, is_still, quiet, quiet_logged, was, wrote, wrote_logged}
+use Rattle.logged_machine.specs.Forcing.{Forces, IsForced, MayForce}
+use Rattle.logged_machine.proofs.Once.{failed, is, is_broken, is_still, quiet, quiet_logged, was, wrote, wrote_logged}
+
+apart : false ≡ true → ⊥
+apart e = cc
 
 -- A call was answered by this entry, and what it told was appended; it has a lasting step, or none.
 pub record Attempt {D : Type 0} (state : D → DiskState) (parts parts' : PartsState) (text : List ℕ) (journal mid : JournalState) (units units' : List ℕ) (next next' : ℕ) (disk : D) (entry : Entry) (has_step : Bool) : Type 0 where
@@ -72,6 +77,8 @@ pub record Attempt {D : Type 0} (state : D → DiskState) (parts parts' : PartsS
   pub as_many : length units' ≡ length units
   pub answered : IsAnswered parts parts' entry
   pub no_fault : fault_in entry ≡ None
+  pub numbers : NumbersBy entry units units' next next'
+  pub does : DoesTo units entry parts parts'
   pub records : List Record
   pub told : Appends records journal mid
   pub step : Option LastingStep
@@ -111,7 +118,7 @@ module _ {D : Type 0} (state : D → DiskState) (parts parts' : PartsState) (tex
   did_quiet served none =
       subst (λ (f : Option ControlFault). Did state f (was state parts parts' text journal mid units units' next next' disk up a.logged a.as_many entry a.answered a.records a.told a.step a.goes)
       (is_still state parts parts' text journal mid units units' next next' disk up a.logged a.as_many entry a.answered a.records a.told a.step a.goes) entry) (sym a.no_fault)
-      (quiet state parts parts' text journal mid units units' next next' disk up a.logged a.as_many entry a.answered a.records a.told a.step a.goes served (a.steps ∙ none))
+      (quiet state parts parts' text journal mid units units' next next' disk up a.logged a.as_many entry a.answered a.records a.told a.step a.goes a.numbers a.does served (a.steps ∙ none))
 
   tell_quiet : TellUnits parts.system mid next' (state disk)
   tell_quiet = quiet_tells parts units next journal text (state disk) a.logged a.records mid a.told.log a.told.restart a.told.valid a.told.bytes a.told.fits next' a.later a.fresh
@@ -127,17 +134,17 @@ module _ {D : Type 0} (state : D → DiskState) (parts parts' : PartsState) (tex
       (omega (arith, a.unit_up, stands.unit, a.some_logs)) before after left front)
       within)
 
-  pub tried_quiet : up ≡ true → has_step ≡ false → Tried state (fault_in entry) (record { machine = parts; text = text; served = up; journal = journal; units = units; next_unit = next; disk = disk }) (record { machine = parts'; text = text; served = up; journal = mid; units = units'; next_unit = next'; disk = disk }) entry
+  tried_quiet : up ≡ true → has_step ≡ false → Tried state (fault_in entry) (record { machine = parts; text = text; served = up; journal = journal; units = units; next_unit = next; disk = disk }) (record { machine = parts'; text = text; served = up; journal = mid; units = units'; next_unit = next'; disk = disk }) entry
   tried_quiet served none = record { did = did_quiet served none; writes = writes_quiet none; on = λ now. on_quiet up; counts = λ high stands. leaves_same (CountsUpTo parts.system (high + parts.system.logs)) (state disk) }
 
-  pub logged_quiet : has_step ≡ false → IsLogged parts' units' next' mid text (state disk)
+  logged_quiet : has_step ≡ false → IsLogged parts' units' next' mid text (state disk)
   logged_quiet none = quiet_logged state parts parts' text journal mid units units' next next' disk up a.logged a.as_many entry a.answered a.records a.told a.step a.goes (a.steps ∙ none) tell_quiet
 
   -- ---- what a force asks for
-  pub force_area : mid.log.first + mid.log.count ≤ (state disk).size
+  force_area : mid.log.first + mid.log.count ≤ (state disk).size
   force_area = subst (λ (w : Writer). w.first + w.count ≤ (state disk).size) (sym a.told.log) (area parts units next journal text (state disk) a.logged)
 
-  pub force_sequences : IsCounted 4294967296 parts.moment.lasting next journal → mid.log.sequence + mid.log.count < 2 ^ 64
+  force_sequences : IsCounted 4294967296 parts.moment.lasting next journal → mid.log.sequence + mid.log.count < 2 ^ 64
   force_sequences counted =
       let life = a.logged.carried.is.is_life in
       let few : journal.log.count < 2 ^ 32 = subst (λ (w : Writer). w.count < 2 ^ 32) a.logged.writer (subst (λ (n : ℕ). n < 2 ^ 32) (sym life.writer.count) life.few) in
@@ -146,7 +153,7 @@ module _ {D : Type 0} (state : D → DiskState) (parts parts' : PartsState) (tex
       below : (s p c : ℕ) → s + p < 1000000000000000000 + 4294967296 → c < 2 ^ 32 → s + c < 2 ^ 64
       below s p c h k = omega (arith, h, k)
 
-  pub force_ready : IsReady mid.log (state disk)
+  force_ready : IsReady mid.log (state disk)
   force_ready = subst (λ (w : Writer). IsReady w (state disk)) (sym a.told.log) (λ image left. let end = a.logged.ready image left in record { written = end.written; free = end.free })
 
   -- ---- with a step
@@ -156,7 +163,7 @@ module _ {D : Type 0} (state : D → DiskState) (parts parts' : PartsState) (tex
     did_forced served f restart =
         subst (λ (x : Option ControlFault). Did state x (was state parts parts' text journal mid units units' next next' disk up a.logged a.as_many entry a.answered a.records a.told a.step a.goes)
         (is state parts parts' text journal mid units units' next next' disk up a.logged a.as_many entry a.answered a.records a.told a.step a.goes (a.steps ∙ some) journal' disk') entry) (sym a.no_fault)
-        (wrote state parts parts' text journal mid units units' next next' disk up a.logged a.as_many entry a.answered a.records a.told a.step a.goes (a.steps ∙ some) journal' disk' served f restart)
+        (wrote state parts parts' text journal mid units units' next next' disk up a.logged a.as_many entry a.answered a.records a.told a.step a.goes (a.steps ∙ some) journal' disk' a.numbers a.does served f restart)
 
     on_forced : Forces mid.log journal'.log (state disk) (state disk') → journal'.restart ≡ mid.restart → GoesOnIn (record { machine = parts; text = text; served = up; journal = journal; units = units; next_unit = next; disk = disk }) (record { machine = parts'; text = text; served = up; journal = journal'; units = units'; next_unit = next'; disk = disk' })
     on_forced f restart =
@@ -184,11 +191,11 @@ module _ {D : Type 0} (state : D → DiskState) (parts parts' : PartsState) (tex
         subst (λ (x : Option ControlFault). WritesBy state x (has_lasting_step parts (call_of entry)) (own_bytes parts units (call_of entry)) journal journal' disk disk') (sym a.no_fault)
         (subst (λ (b : Bool). WritesBy state None b (own_bytes parts units (call_of entry)) journal journal' disk disk') (sym (step_has ∙ some)) w)
 
-    pub tried_forced : up ≡ true → Forces mid.log journal'.log (state disk) (state disk') → journal'.restart ≡ mid.restart → WritesAtMost (sectors_of (length mid.log.appended)) (state disk) (state disk')
+    tried_forced : up ≡ true → Forces mid.log journal'.log (state disk) (state disk') → journal'.restart ≡ mid.restart → WritesAtMost (sectors_of (length mid.log.appended)) (state disk) (state disk')
         → Tried state (fault_in entry) (record { machine = parts; text = text; served = up; journal = journal; units = units; next_unit = next; disk = disk }) (record { machine = parts'; text = text; served = up; journal = journal'; units = units'; next_unit = next'; disk = disk' }) entry
     tried_forced served f restart most = record { did = did_forced served f restart; writes = writes_forced f restart most; on = λ now. on_forced f restart; counts = counts_within disk' (record { machine = parts'; text = text; served = up; journal = journal'; units = units'; next_unit = next'; disk = disk' }) refl f.within }
 
-    pub logged_forced : Forces mid.log journal'.log (state disk) (state disk') → journal'.restart ≡ mid.restart → IsLogged parts' units' next' journal' text (state disk')
+    logged_forced : Forces mid.log journal'.log (state disk) (state disk') → journal'.restart ≡ mid.restart → IsLogged parts' units' next' journal' text (state disk')
     logged_forced f restart = wrote_logged state parts parts' text journal mid units units' next next' disk up a.logged a.as_many entry a.answered a.records a.told a.step a.goes (a.steps ∙ some) journal' disk' f restart
         (forced_tell parts units next journal text (state disk) a.logged a.records mid a.told.log a.told.restart a.told.valid a.told.bytes a.told.fits next' a.later a.fresh journal' f.log_is restart (state disk') f.follows)
 
@@ -213,17 +220,72 @@ module _ {D : Type 0} (state : D → DiskState) (parts parts' : PartsState) (tex
         (subst (λ (x : Option ControlFault). WritesBy state x (has_lasting_step parts (call_of entry)) (own_bytes parts units (call_of entry)) journal journal' disk disk') (sym fault)
         (subst (λ (b : Bool). WritesBy state (Some Disk) b (own_bytes parts units (call_of entry)) journal journal' disk disk') (sym (step_has ∙ some)) w))
 
-    pub tried_failed : (broken : Entry) → fault_in broken ≡ Some Disk → after_entry parts.system parts.moment broken ≡ after_entry parts.system parts.moment entry → call_of broken ≡ call_of entry
+    tried_failed : (broken : Entry) → fault_in broken ≡ Some Disk → after_entry parts.system parts.moment broken ≡ after_entry parts.system parts.moment entry → call_of broken ≡ call_of entry
         → Within (AddsFront mid.log) (state disk) (state disk') → Stays (state disk) (state disk') → FailedSince (state disk) (state disk') → journal'.restart ≡ mid.restart
         → WritesAtMost (sectors_of (length mid.log.appended)) (state disk) (state disk') → Tried state (fault_in broken) (record { machine = parts; text = text; served = up; journal = journal; units = units; next_unit = next; disk = disk }) (record { machine = parts'; text = text; served = false; journal = journal'; units = units'; next_unit = next'; disk = disk' }) broken
     tried_failed broken fault same call within stays cause restart most = record {
       did = did_failed broken fault same within stays cause;
       writes = writes_failed broken fault call restart within most;
-      on = λ now. absurd (down now);
+      on = λ now. absurd (apart now);
       counts = counts_within disk' (record { machine = parts'; text = text; served = false; journal = journal'; units = units'; next_unit = next'; disk = disk' }) refl within;
-    } where
-      down : false ≡ true → ⊥
-      down e = cc
+    }
+
+-- ---- what was told is forced where it lasts
+
+module _ {D : Type 0} (state : D → DiskState) {parts parts' : PartsState} {text : List ℕ} {journal mid : JournalState} {units units' : List ℕ} {next next' : ℕ} {disk : D} {entry : Entry} {has_step : Bool}
+    (a : Attempt state parts parts' text journal mid units units' next next' disk entry has_step) where
+  pub may_force : IsCounted 4294967296 parts.moment.lasting next journal → MayForce mid.log (state disk)
+  may_force counted = record {
+    area = force_area state parts parts' text journal mid units units' next next' disk entry has_step true a;
+    sequences = force_sequences state parts parts' text journal mid units units' next next' disk entry has_step true a counted;
+    ready = force_ready state parts parts' text journal mid units units' next next' disk entry has_step true a;
+  }
+
+  module _ (journal' : JournalState) (disk' : D) (served : Bool) (f : IsForced state has_step served mid journal' disk disk') where
+    pub logged_on : served ≡ true → IsLogged parts' units' next' journal' text (state disk')
+    logged_on on = by has_step refl served f on
+      where
+        by : (lasts : Bool) → has_step ≡ lasts → (served : Bool) → IsForced state lasts served mid journal' disk disk' → served ≡ true → IsLogged parts' units' next' journal' text (state disk')
+        by true some true f on = logged_forced state parts parts' text journal mid units units' next next' disk entry has_step true a some journal' disk' f.forces f.restart
+        by false none true f on =
+            subst (λ (j : JournalState). IsLogged parts' units' next' j text (state disk')) (sym f.0)
+            (subst (λ (d : D). IsLogged parts' units' next' mid text (state d)) (sym f.1) (logged_quiet state parts parts' text journal mid units units' next next' disk entry has_step true a none))
+        by true some false f on = absurd (apart on)
+        by false none false f on = absurd (apart on)
+
+    abbrev was_at : Bool → LoggedState D
+    was_at up = record { machine = parts; text = text; served = up; journal = journal; units = units; next_unit = next; disk = disk }
+
+    abbrev is_at : JournalState → D → Bool → LoggedState D
+    is_at j d up = record { machine = parts'; text = text; served = up; journal = j; units = units'; next_unit = next'; disk = d }
+
+    -- the call was answered
+    pub tried_on : {up up' : Bool} → up ≡ true → served ≡ true → up' ≡ served → Tried state (fault_in entry) (was_at up) (is_at journal' disk' up') entry
+    tried_on {up = up} was_up on is_up =
+        subst (λ (b : Bool). Tried state (fault_in entry) (was_at up) (is_at journal' disk' b) entry) (was_up ∙ sym (is_up ∙ on)) (by has_step refl served f on)
+      where
+        by : (lasts : Bool) → has_step ≡ lasts → (served : Bool) → IsForced state lasts served mid journal' disk disk' → served ≡ true → Tried state (fault_in entry) (was_at up) (is_at journal' disk' up) entry
+        by true some true f on = tried_forced state parts parts' text journal mid units units' next next' disk entry has_step up a some journal' disk' was_up f.forces f.restart f.most
+        by false none true f on =
+            subst (λ (j : JournalState). Tried state (fault_in entry) (was_at up) (is_at j disk' up) entry) (sym f.0)
+            (subst (λ (d : D). Tried state (fault_in entry) (was_at up) (is_at mid d up) entry) (sym f.1)
+            (tried_quiet state parts parts' text journal mid units units' next next' disk entry has_step up a was_up none))
+        by true some false f on = absurd (apart on)
+        by false none false f on = absurd (apart on)
+
+    -- the disk failed in the force
+    pub tried_off : {up up' : Bool} → served ≡ false → up' ≡ served → (broken : Entry) → fault_in broken ≡ Some Disk
+        → (has_step ≡ true → after_entry parts.system parts.moment broken ≡ after_entry parts.system parts.moment entry) → call_of broken ≡ call_of entry
+        → Tried state (fault_in broken) (was_at up) (is_at journal' disk' up') broken
+    tried_off {up = up} off is_up broken fault same call =
+        subst (λ (b : Bool). Tried state (fault_in broken) (was_at up) (is_at journal' disk' b) broken) (sym (is_up ∙ off)) (by has_step refl served f off)
+      where
+        by : (lasts : Bool) → has_step ≡ lasts → (served : Bool) → IsForced state lasts served mid journal' disk disk' → served ≡ false → Tried state (fault_in broken) (was_at up) (is_at journal' disk' false) broken
+        by true some false f off =
+            tried_failed state parts parts' text journal mid units units' next next' disk entry has_step up a some journal' disk' broken fault (same some) call f.within f.stays f.cause f.restart f.most
+        by false none false f off = absurd f
+        by true some true f off = absurd (apart (sym off))
+        by false none true f off = absurd (apart (sym off))
 
 -- ---- the calls
 
@@ -253,7 +315,7 @@ next_up (Held need limit) next = omega arith
 next_up (Waits resource by) next = omega arith
 next_up (Backed victims) next = omega arith
 
-module _ {D : Type 0} (state : D → DiskState) (parts parts' : PartsState) (text : List ℕ) (journal mid : JournalState) (units : List ℕ) (next : ℕ) (disk : D)
+module _ {D : Type 0} (state : D → DiskState) {parts parts' : PartsState} {text : List ℕ} {journal mid : JournalState} {units : List ℕ} {next : ℕ} {disk : D}
     (h : IsLogged parts units next journal text (state disk)) (counted : IsCounted 4294967296 parts.moment.lasting next journal) (had : HasSlots parts) (has : HasSlots parts') where
   pub input_attempt : (terminal : List ℕ) (number : ℕ) (segments : List (List ℕ)) (answer : Result Taken InputRefused) → IsAnswered parts parts' (Accept terminal number segments answer) → is_input_fault answer ≡ false
       → Appends (records_of parts.system parts.moment 0 (Input terminal number segments)) journal mid → parts'.databases ≡ parts.databases → number < 2000000000000000000
@@ -263,6 +325,8 @@ module _ {D : Type 0} (state : D → DiskState) (parts parts' : PartsState) (tex
     as_many = refl;
     answered = answered;
     no_fault = input_unfaulted terminal number segments answer none;
+    numbers = (refl, refl);
+    does = databases;
     records = records_of parts.system parts.moment 0 (Input terminal number segments);
     told = told;
     step = lasting_step parts.system parts.moment (Input terminal number segments);
@@ -286,6 +350,8 @@ module _ {D : Type 0} (state : D → DiskState) (parts parts' : PartsState) (tex
     as_many = refl;
     answered = answered;
     no_fault = ack_unfaulted parts.system parts.moment terminal number answer answered.may;
+    numbers = (refl, refl);
+    does = databases;
     records = records_of parts.system parts.moment 0 (Acknowledge terminal number);
     told = told;
     step = lasting_step parts.system parts.moment (Acknowledge terminal number);
@@ -309,6 +375,8 @@ module _ {D : Type 0} (state : D → DiskState) (parts parts' : PartsState) (tex
     as_many = refl;
     answered = answered;
     no_fault = command_unfaulted parts.system parts.moment command answer answered.may;
+    numbers = (refl, refl);
+    does = databases;
     records = records_of parts.system parts.moment 0 (CommandCall command);
     told = told;
     step = lasting_step parts.system parts.moment (CommandCall command);
@@ -332,6 +400,8 @@ module _ {D : Type 0} (state : D → DiskState) (parts parts' : PartsState) (tex
     as_many = units_stay turned region next units;
     answered = answered;
     no_fault = refl;
+    numbers = (refl, refl);
+    does = turns;
     records = turn_records parts (unit_of units region) region;
     told = told;
     step = lasting_step parts.system parts.moment (Turn region);
@@ -369,6 +439,3 @@ ended_same system moment region Idle fault e = refl
 ended_same system moment region (Held need limit) fault e = refl
 ended_same system moment region (Waits resource by) fault e = refl
 ended_same system moment region (Backed victims) fault e = absurd (apart e)
-  where
-    apart : false ≡ true → ⊥
-    apart e = cc

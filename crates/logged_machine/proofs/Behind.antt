@@ -1,7 +1,7 @@
 -- What a due call has at hand once it was answered, and what follows of it.
-use Rattle.std.proofs.Common.{◌≡◌, ◌≤◌, ◌+◌, ◌<◌, ◌^◌, ℕ, Bool, true, false, List, length, ap}
+use Rattle.std.proofs.Common.{◌≡◌, ◌<◌, ℕ, Bool, true, false, List, ap}
 use Rattle.std.specs.Prelude.{IfSome, Some, Result, Ok}
-use Rattle.model_disk.specs.Disk.{DiskState, Stays, Within, WritesAtMost, FailedSince}
+use Rattle.model_disk.specs.Disk.{DiskState, WritesAtMost}
 use Rattle.model_command.specs.declared.answer.Answer.{Answer}
 use Rattle.model_command.specs.declared.command.Command.{Command}
 use Rattle.model_machine.specs.Commands.{lasting_command}
@@ -19,7 +19,6 @@ use Rattle.model_machine.specs.declared.entry.Turned.{Turned}
 use Rattle.tm_types.specs.Commands.{name_in}
 use Rattle.tm_types.specs.Name.{IsName}
 use Rattle.log_records.specs.declared.record.Record.{Record}
-use Rattle.log_writer.specs.Log.{IsReady, AddsFront, sectors_of}
 use Rattle.disk_law.specs.Journal.{JournalState}
 use Rattle.program_rows.specs.State.{settled}
 use Rattle.tm_machine.specs.Answers.{IsAnswered}
@@ -35,9 +34,10 @@ use Rattle.machine_checkpoint.specs.Taking.{checkpoint_sectors, settled_parts}
 use Rattle.tm_machine.specs.Inputs.{is_input_fault}
 use Rattle.machine_due.specs.Due.{Behind, CountsWithin, KeepsOnDisk}
 use Rattle.logged_machine.specs.Doing.{Done}
-use Rattle.logged_machine.proofs.Attempts.{Attempt, ack_attempt, command_attempt, force_area, force_ready, force_sequences, input_attempt, logged_forced, logged_quiet, turn_attempt}
-use Rattle.logged_machine.proofs.Due.{behind_of, done_failed, done_forced, done_quiet, mid_counted, mid_logged}
-use Rattle.logged_machine.proofs.Once.{Forces}
+use Rattle.logged_machine.specs.Forcing.{IsForced, MayForce}
+use Rattle.logged_machine.specs.Logged.{LoggedState}
+use Rattle.logged_machine.proofs.Attempts.{Attempt, ack_attempt, command_attempt, input_attempt, logged_on, may_force, tried_off, tried_on, turn_attempt}
+use Rattle.logged_machine.proofs.Due.{behind_of, done_by, found_disk, found_none, mid_counted, mid_logged}
 
 -- A checkpoint was taken, and the call was told behind it: it was answered by this entry.
 pub record IsBehind {D : Type 0} (state : D → DiskState) (parts parts' : PartsState) (text : List ℕ) (journal told : JournalState) (units units' : List ℕ) (next next' : ℕ) (disk disk' : D) (up : Bool) (entry : Entry) (has_step : Bool) : Type 0 where
@@ -72,7 +72,7 @@ module _ {D : Type 0} (state : D → DiskState) {parts parts' : PartsState} {tex
         records = records_of parts.system parts.moment 0 (Input terminal number segments);
         behind = b;
         attempt =
-            input_attempt state (settled_parts parts) parts' text b.middle told units next disk' (mid_logged state parts text journal told units next disk disk' up h served counted keeps counts most _ b)
+            input_attempt state (mid_logged state parts text journal told units next disk disk' up h served counted keeps counts most _ b)
             (mid_counted state parts text journal told units next disk disk' up h served counted keeps counts most _ b) before slots terminal number segments answer answered none b.appends databases small;
       }
 
@@ -91,7 +91,7 @@ module _ {D : Type 0} (state : D → DiskState) {parts parts' : PartsState} {tex
         records = records_of parts.system parts.moment 0 (Acknowledge terminal number);
         behind = b;
         attempt =
-            ack_attempt state (settled_parts parts) parts' text b.middle told units next disk' (mid_logged state parts text journal told units next disk disk' up h served counted keeps counts most _ b)
+            ack_attempt state (mid_logged state parts text journal told units next disk disk' up h served counted keeps counts most _ b)
             (mid_counted state parts text journal told units next disk disk' up h served counted keeps counts most _ b) before slots terminal number answer answered b.appends databases;
       }
 
@@ -110,7 +110,7 @@ module _ {D : Type 0} (state : D → DiskState) {parts parts' : PartsState} {tex
         records = records_of parts.system parts.moment 0 (CommandCall command);
         behind = b;
         attempt =
-            command_attempt state (settled_parts parts) parts' text b.middle told units next disk' (mid_logged state parts text journal told units next disk disk' up h served counted keeps counts most _ b)
+            command_attempt state (mid_logged state parts text journal told units next disk disk' up h served counted keeps counts most _ b)
             (mid_counted state parts text journal told units next disk disk' up h served counted keeps counts most _ b) before slots command answer answered named b.appends databases;
       }
 
@@ -131,7 +131,7 @@ module _ {D : Type 0} (state : D → DiskState) {parts parts' : PartsState} {tex
         records = turn_records (settled_parts parts) (unit_of given region) region;
         behind = b;
         attempt =
-            turn_attempt state (settled_parts parts) parts' text b.middle told units next disk' (mid_logged state parts text journal told units next disk disk' up h served counted keeps counts most _ b)
+            turn_attempt state (mid_logged state parts text journal told units next disk disk' up h served counted keeps counts most _ b)
             (mid_counted state parts text journal told units next disk disk' up h served counted keeps counts most _ b) before slots region turned (unit_of given region) units' next'
             (ap (λ (us : List ℕ). unit_of us region) same) units_are next_is answered b.appends turns calls;
       }
@@ -141,45 +141,28 @@ module _ {D : Type 0} (state : D → DiskState) {parts parts' : PartsState} {tex
 module _ {D : Type 0} (state : D → DiskState) {parts parts' : PartsState} {text : List ℕ} {journal told : JournalState} {units units' : List ℕ} {next next' : ℕ} {disk disk' : D} {up : Bool} {entry : Entry} {has_step : Bool}
     (b : IsBehind state parts parts' text journal told units units' next next' disk disk' up entry has_step) where
   -- what the force asks for
-  pub area : told.log.first + told.log.count ≤ (state disk').size
-  area = force_area state (settled_parts parts) parts' text b.behind.middle told units units' next next' disk' entry has_step up b.attempt
+  pub may_force_behind : MayForce told.log (state disk')
+  may_force_behind =
+      may_force state b.attempt (mid_counted state parts text journal told units next disk disk' up b.logged b.served b.counted b.keeps b.counts b.most b.records b.behind)
 
-  pub sequences : told.log.sequence + told.log.count < 2 ^ 64
-  sequences =
-      force_sequences state (settled_parts parts) parts' text b.behind.middle told units units' next next' disk' entry has_step up b.attempt
-      (mid_counted state parts text journal told units next disk disk' up b.logged b.served b.counted b.keeps b.counts b.most b.records b.behind)
+  module _ (journal' : JournalState) (disk'' : D) (served : Bool) (f : IsForced state has_step served told journal' disk' disk'') where
+    abbrev was_at : LoggedState D
+    was_at = record { machine = parts; text = text; served = up; journal = journal; units = units; next_unit = next; disk = disk }
 
-  pub ready : IsReady told.log (state disk')
-  ready = force_ready state (settled_parts parts) parts' text b.behind.middle told units units' next next' disk' entry has_step up b.attempt
+    abbrev is_at : Bool → LoggedState D
+    is_at up' = record { machine = parts'; text = text; served = up'; journal = journal'; units = units'; next_unit = next'; disk = disk'' }
 
-  -- without a step
-  pub quiet_logged : has_step ≡ false → IsLogged parts' units' next' told text (state disk')
-  quiet_logged none = logged_quiet state (settled_parts parts) parts' text b.behind.middle told units units' next next' disk' entry has_step up b.attempt none
+    pub logged_behind : served ≡ true → IsLogged parts' units' next' journal' text (state disk'')
+    logged_behind on = logged_on state b.attempt journal' disk'' served f on
 
-  pub quiet_done : has_step ≡ false
-      → Done state (fault_in entry) (record { machine = parts; text = text; served = up; journal = journal; units = units; next_unit = next; disk = disk })
-      (record { machine = parts'; text = text; served = up; journal = told; units = units'; next_unit = next'; disk = disk' }) entry
-  quiet_done none =
-      done_quiet state parts text journal told units next disk disk' up b.logged b.served b.counted b.keeps b.counts b.most b.records b.behind parts' units' next' entry has_step b.attempt none
-
-  -- with one that was forced
-  module _ (some : has_step ≡ true) (journal' : JournalState) (disk'' : D) where
-    pub forced_logged : Forces told.log journal'.log (state disk') (state disk'') → journal'.restart ≡ told.restart → IsLogged parts' units' next' journal' text (state disk'')
-    forced_logged f restart = logged_forced state (settled_parts parts) parts' text b.behind.middle told units units' next next' disk' entry has_step up b.attempt some journal' disk'' f restart
-
-    pub forced_done : Forces told.log journal'.log (state disk') (state disk'') → journal'.restart ≡ told.restart → WritesAtMost (sectors_of (length told.log.appended)) (state disk') (state disk'')
-        → Done state (fault_in entry) (record { machine = parts; text = text; served = up; journal = journal; units = units; next_unit = next; disk = disk })
-        (record { machine = parts'; text = text; served = up; journal = journal'; units = units'; next_unit = next'; disk = disk'' }) entry
-    forced_done f restart most =
-        done_forced state parts text journal told units next disk disk' up b.logged b.served b.counted b.keeps b.counts b.most b.records b.behind parts' units' next' entry has_step b.attempt some journal' disk'' f
-        restart most
+    pub done_on : {up' : Bool} → served ≡ true → up' ≡ served → Done state (fault_in entry) was_at (is_at up') entry
+    done_on {up' = up'} on is_up =
+        done_by state parts text journal told units next disk disk' up b.logged b.served b.counted b.keeps b.counts b.most b.records b.behind (fault_in entry) (is_at up') entry (found_none (fault_in entry) b.attempt.no_fault)
+        (tried_on state b.attempt journal' disk'' served f b.served on is_up)
 
     -- and where the disk failed in that
-    pub failed_done : (broken : Entry) → fault_in broken ≡ Some Disk → after_entry parts.system parts.moment broken ≡ after_entry parts.system parts.moment entry → call_of broken ≡ call_of entry
-        → Within (AddsFront told.log) (state disk') (state disk'') → Stays (state disk') (state disk'') → FailedSince (state disk') (state disk'') → journal'.restart ≡ told.restart
-        → WritesAtMost (sectors_of (length told.log.appended)) (state disk') (state disk'')
-        → Done state (fault_in broken) (record { machine = parts; text = text; served = up; journal = journal; units = units; next_unit = next; disk = disk })
-        (record { machine = parts'; text = text; served = false; journal = journal'; units = units'; next_unit = next'; disk = disk'' }) broken
-    failed_done broken fault same call within stays cause restart most =
-        done_failed state parts text journal told units next disk disk' up b.logged b.served b.counted b.keeps b.counts b.most b.records b.behind parts' units' next' entry has_step b.attempt some journal' disk''
-        broken fault same call within stays cause restart most
+    pub done_off : {up' : Bool} → served ≡ false → up' ≡ served → (broken : Entry) → fault_in broken ≡ Some Disk
+        → (has_step ≡ true → after_entry parts.system parts.moment broken ≡ after_entry parts.system parts.moment entry) → call_of broken ≡ call_of entry → Done state (fault_in broken) was_at (is_at up') broken
+    done_off {up' = up'} off is_up broken fault same call =
+        done_by state parts text journal told units next disk disk' up b.logged b.served b.counted b.keeps b.counts b.most b.records b.behind (fault_in broken) (is_at up') broken (found_disk (fault_in broken) fault)
+        (tried_off state b.attempt journal' disk'' served f off is_up broken fault same call)

@@ -1,5 +1,5 @@
 -- A checkpoint as a call: what it is answered, and the number that each image has behind it.
-use Rattle.std.proofs.Common.{◌≡◌, ℕ, ◌+◌, ◌≤◌, Bool, List, [], Some, None, Result, Ok, Err, refl, sym, ◌∙◌, ap, subst, arith}
+use Rattle.std.proofs.Common.{◌≡◌, ℕ, ◌+◌, ◌≤◌, Bool, List, [], Some, None, Result, Ok, Err, refl, sym, ◌∙◌, ap, subst, arith, inr}
 use Rattle.model_disk.specs.Disk.{DiskState, Image, sector_at}
 use Rattle.model_system.specs.System.{System}
 use Rattle.model_machine.specs.Commands.{checkpoint_answer, unless_busy}
@@ -80,7 +80,7 @@ pub taken_did : {D : Type 0} (state : D → DiskState) (old new : LoggedState D)
     → Refreshed state old new → Did state None old new (Checked freeze (Ok number))
 taken_did state old new freeze number stays free r = record {
   did = (
-    record { answered = taken_answer old.machine new.machine freeze number stays free r.keeps.system r.stood.moment; served = r.stood.served; no_fault = r.stood.no_fault },
+    record { answered = taken_answer old.machine new.machine freeze number stays free r.keeps.system r.stood.moment; numbers = (r.units, r.unit); acts = inr (ap (λ (p : PartsState). p.databases) r.machine); served = r.stood.served; no_fault = r.stood.no_fault },
     r.leaves,
   );
   keeps = r.keeps;

@@ -24,6 +24,7 @@ use Rattle.machine_life.specs.Counted.{IsCounted}
 use Rattle.parts_life.specs.Logged.{IsLogged}
 use Rattle.machine_checkpoint.specs.Taking.{SameAll, TakesNext, Untaken, checkpoint_sectors, settled_parts}
 use Rattle.logged_machine.specs.Logged.{LoggedState}
+use Rattle.logged_machine.specs.Goes.{NumbersBy, ActsOn}
 use Rattle.logged_machine.specs.Leaving.{Brings, Leaves}
 use Rattle.logged_machine.specs.Doing.{Did, FailsIn, LeavesCounts, Refreshed, Unrefreshed, is_memory, lasting_with}
 use Rattle.logged_machine.proofs.Leaving.{leaves_same, leaves_within}
@@ -139,10 +140,11 @@ nothing state l entry served = record {
 }
 
 -- a call was answered by an entry that leaves the machine as it was
-pub answered_still : {D : Type 0} (state : D → DiskState) (l : LoggedState D) (entry : Entry) → IsAnswered l.machine l.machine entry → l.served ≡ true → Did state None l l entry
-answered_still state l entry answered served = record {
+pub answered_still : {D : Type 0} (state : D → DiskState) (l : LoggedState D) (entry : Entry) → NumbersBy entry l.units l.units l.next_unit l.next_unit → ActsOn l.units entry l.machine l.machine → IsAnswered l.machine l.machine entry → l.served ≡ true
+    → Did state None l l entry
+answered_still state l entry numbers acts answered served = record {
   did = (
-    record { answered = answered; served = served; no_fault = refl },
+    record { answered = answered; numbers = numbers; acts = acts; served = served; no_fault = refl },
     leaves_same (Brings l.machine.system l.text l.machine.moment.lasting (lasting_with l entry)) (state l.disk),
   );
   keeps = (nothing state l entry served).keeps;

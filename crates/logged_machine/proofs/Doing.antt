@@ -1,5 +1,5 @@
 -- A call behind a checkpoint, and a call as its callers see it.
-use Rattle.std.proofs.Common.{true, ◌≡◌, ◌⊎◌, ◌≤◌, ◌+◌, ℕ, List, inl, ⊎_elim, refl, ◌∙◌, ap, subst, arith}
+use Rattle.std.proofs.Common.{true, ◌≡◌, ◌⊎◌, ◌≤◌, ◌+◌, ℕ, List, [], ◌∷◌, map, inl, inr, ⊎_elim, refl, ◌∙◌, ap, subst, arith}
 use Rattle.std.specs.Prelude.{Option, Some, None, Ok}
 use Rattle.model_disk.specs.Disk.{Image, DiskState, IsDisk, FailedSince, Rose}
 use Rattle.model_disk.proofs.Words.{stays_on}
@@ -13,7 +13,9 @@ use Rattle.model_image.specs.Recovered.{Recovers}
 use Rattle.checkpointing.specs.Texts.{HasText}
 use Rattle.disk_law.specs.Kept.{RecoversEither}
 use Rattle.logged_machine.specs.Logged.{LoggedState, AreLasting}
-use Rattle.logged_machine.specs.Goes.{Keeps, WentOn, GoesBy, CrashesBy}
+use Rattle.logged_machine.specs.Goes.{Keeps, WentOn, GoesBy, CrashesBy, NumbersBy, DoesTo, ActsOn}
+use Rattle.machine_checkpoint.specs.Taking.{settled_parts}
+use Rattle.tm_machine.specs.Parts.{PartsState}
 use Rattle.logged_machine.specs.Leaving.{Brings}
 use Rattle.checkpointing.specs.Counts.{CountsUpTo}
 use Rattle.checkpointing.proofs.Counted.{up_to_more}
@@ -28,6 +30,21 @@ IsNoMemory fault = fault ≡ Some Memory → ⊥
 
 failed_later : (a b c : DiskState) → b.faults ≡ a.faults → FailedSince b c → FailedSince a c
 failed_later a b c same failed = subst (λ (n : ℕ). Rose n c.faults) same failed
+
+-- ---- the databases
+
+abbrev unmarked : List (List ℕ) → List (List ℕ)
+unmarked marks = map {A = List ℕ} {B = List ℕ} (λ numbers. []) marks
+
+unmarked_twice : (marks : List (List ℕ)) → unmarked (unmarked marks) ≡ unmarked marks
+unmarked_twice [] = refl
+unmarked_twice (m ∷ marks) = ap (λ (rest : List (List ℕ)). [] ∷ rest) (unmarked_twice marks)
+
+-- where no slot counts as changed, none does behind one more checkpoint
+acts_behind : (units : List ℕ) (entry : Entry) (old new : PartsState) → ActsOn units entry (settled_parts old) new → ActsOn units entry old new
+acts_behind units entry old new (inl does) = inr does
+acts_behind units entry old new (inr does) =
+    inr (subst (λ (marks : List (List ℕ)). DoesTo units entry (record old { databases = record old.databases { changed = marks } }) new) (unmarked_twice old.databases.changed) does)
 
 module _ {D : Type 0} (state : D → DiskState) where
   pub keeps_then : (a b c : LoggedState D) → b.served ≡ true → Keeps state a b → Keeps state b c → Keeps state a c
@@ -67,6 +84,11 @@ module _ {D : Type 0} (state : D → DiskState) where
             ∙ ap (λ (m : Moment). after_entry old.machine.system m entry) fresh.stood.moment;
         system = w.answered.system ∙ fresh.keeps.system;
       };
+      numbers = subst (λ (n : ℕ). NumbersBy entry old.units new.units n new.next_unit) fresh.unit
+          (subst (λ (us : List ℕ). NumbersBy entry us new.units mid.next_unit new.next_unit) fresh.units w.numbers);
+      acts = acts_behind old.units entry old.machine new.machine
+          (subst (λ (us : List ℕ). ActsOn us entry (settled_parts old.machine) new.machine) fresh.units
+          (subst (λ (p : PartsState). ActsOn mid.units entry p new.machine) fresh.machine w.acts));
       served = w.served;
       no_fault = w.no_fault ∙ fresh.stood.no_fault;
     }

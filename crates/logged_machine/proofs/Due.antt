@@ -1,32 +1,27 @@
 -- A call behind a checkpoint that was due before it.
-use Rattle.std.proofs.Common.{◌≡◌, ℕ, Bool, true, false, List, length, refl, sym, ◌∙◌, ap, subst}
+use Rattle.std.proofs.Common.{◌≡◌, ℕ, Bool, true, false, List, refl, sym, ◌∙◌, ap, subst}
 use Rattle.std.specs.Prelude.{Option, Some, None}
-use Rattle.model_disk.specs.Disk.{DiskState, Stays, Within, WritesAtMost, FailedSince}
-use Rattle.model_machine.specs.History.{after_entry, call_of}
+use Rattle.model_disk.specs.Disk.{DiskState, WritesAtMost}
 use Rattle.model_machine.specs.declared.entry.Entry.{Entry}
 use Rattle.model_machine.specs.declared.entry.ControlFault.{ControlFault}
 use Rattle.model_machine.specs.declared.entry.ControlFault.TheVariants.{Memory, Disk, Spent}
 use Rattle.log_records.specs.declared.record.Record.{Record}
-use Rattle.log_writer.specs.Log.{AddsFront, sectors_of}
 use Rattle.disk_law.specs.Journal.{JournalState}
 use Rattle.tm_machine.specs.Parts.{PartsState}
 use Rattle.machine_life.specs.Counted.{IsCounted}
 use Rattle.parts_life.specs.Logged.{IsLogged}
-use Rattle.control_life.specs.Faults.{fault_in}
 use Rattle.machine_checkpoint.specs.Taking.{Untaken, checkpoint_sectors, settled_parts}
 use Rattle.machine_due.specs.Due.{Behind, CountsWithin, KeepsOnDisk}
 use Rattle.logged_machine.specs.Logged.{LoggedState}
-use Rattle.logged_machine.specs.Doing.{Done, Refreshed, Unrefreshed, is_memory}
-use Rattle.logged_machine.proofs.Attempts.{Attempt, tried_failed, tried_forced, tried_quiet}
+use Rattle.logged_machine.specs.Doing.{Done, Tried, Refreshed, Unrefreshed, is_memory}
 use Rattle.logged_machine.proofs.Checkpointed.{broke, refreshed, same_all, same_logged}
 use Rattle.logged_machine.proofs.Doing.{IsNoMemory}
 use Rattle.logged_machine.proofs.Frugality.{done_behind, done_untaken}
-use Rattle.logged_machine.proofs.Once.{Forces}
 
-found_none : (fault : Option ControlFault) → fault ≡ None → IsNoMemory fault
+pub found_none : (fault : Option ControlFault) → fault ≡ None → IsNoMemory fault
 found_none fault is memory = let clash : None ≡ Some Memory = sym is ∙ memory in absurd (cc)
 
-found_disk : (fault : Option ControlFault) → fault ≡ Some Disk → IsNoMemory fault
+pub found_disk : (fault : Option ControlFault) → fault ≡ Some Disk → IsNoMemory fault
 found_disk fault is memory = let clash : Some Disk ≡ Some Memory = sym is ∙ memory in absurd (cc)
 
 -- by the numbers of the units that were given
@@ -56,29 +51,9 @@ module _ {D : Type 0} (state : D → DiskState) (parts : PartsState) (text : Lis
   pub mid_counted : IsCounted 4294967296 parts.moment.lasting next b.middle
   mid_counted = fresh.counted
 
-  module _ (parts' : PartsState) (units' : List ℕ) (next' : ℕ) (entry : Entry) (has_step : Bool) (a : Attempt state (settled_parts parts) parts' text b.middle told units units' next next' disk' entry has_step) where
-    pub done_quiet : has_step ≡ false → Done state (fault_in entry) old (record { machine = parts'; text = text; served = up; journal = told; units = units'; next_unit = next'; disk = disk' }) entry
-    done_quiet none =
-        done_behind state (fault_in entry) old mid (record { machine = parts'; text = text; served = up; journal = told; units = units'; next_unit = next'; disk = disk' }) entry
-        (found_none (fault_in entry) a.no_fault) fresh
-        (tried_quiet state (settled_parts parts) parts' text b.middle told units units' next next' disk' entry has_step up a served none)
-
-    pub done_forced : has_step ≡ true → (journal' : JournalState) (disk'' : D) → Forces told.log journal'.log (state disk') (state disk'') → journal'.restart ≡ told.restart
-        → WritesAtMost (sectors_of (length told.log.appended)) (state disk') (state disk'')
-        → Done state (fault_in entry) old (record { machine = parts'; text = text; served = up; journal = journal'; units = units'; next_unit = next'; disk = disk'' }) entry
-    done_forced some journal' disk'' f restart most =
-        done_behind state (fault_in entry) old mid (record { machine = parts'; text = text; served = up; journal = journal'; units = units'; next_unit = next'; disk = disk'' }) entry
-        (found_none (fault_in entry) a.no_fault) fresh
-        (tried_forced state (settled_parts parts) parts' text b.middle told units units' next next' disk' entry has_step up a some journal' disk'' served f restart most)
-
-    pub done_failed : has_step ≡ true → (journal' : JournalState) (disk'' : D) (broken : Entry) → fault_in broken ≡ Some Disk → after_entry parts.system parts.moment broken ≡ after_entry parts.system parts.moment entry
-        → call_of broken ≡ call_of entry → Within (AddsFront told.log) (state disk') (state disk'') → Stays (state disk') (state disk'') → FailedSince (state disk') (state disk'') → journal'.restart ≡ told.restart
-        → WritesAtMost (sectors_of (length told.log.appended)) (state disk') (state disk'')
-        → Done state (fault_in broken) old (record { machine = parts'; text = text; served = false; journal = journal'; units = units'; next_unit = next'; disk = disk'' }) broken
-    done_failed some journal' disk'' broken fault same call within stays cause restart most =
-        done_behind state (fault_in broken) old mid (record { machine = parts'; text = text; served = false; journal = journal'; units = units'; next_unit = next'; disk = disk'' }) broken
-        (found_disk (fault_in broken) fault) fresh
-        (tried_failed state (settled_parts parts) parts' text b.middle told units units' next next' disk' entry has_step up a some journal' disk'' broken fault same call within stays cause restart most)
+  -- a call that was tried from there on
+  pub done_by : (fault : Option ControlFault) (new : LoggedState D) (entry : Entry) → IsNoMemory fault → Tried state fault mid new entry → Done state fault old new entry
+  done_by fault new entry none tried = done_behind state fault old mid new entry none fresh tried
 
 -- ---- where none was taken
 

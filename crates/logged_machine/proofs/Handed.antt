@@ -1,19 +1,14 @@
 -- What opening a machine with its log answers, by what opening its parts does.
-use Rattle.std.proofs.Common.{◌≡◌, ℕ, ◌<◌, ◌≤◌, true, List, Err, refl}
+use Rattle.std.proofs.Common.{◌≡◌, ℕ, ◌<◌, ◌≤◌, List, Err, refl}
 use Rattle.model_disk.specs.Disk.{DiskState, Stays, Within}
 use Rattle.model_disk.proofs.Words.{keeps_same, stays_same, within_same}
 use Rattle.model_system.specs.System.{System}
-use Rattle.model_machine.specs.Machine.{LastingState}
 use Rattle.cold_start.specs.FirstImage.{sectors_needed}
 use Rattle.opening_answers.specs.declared.refusals.OpenError.{OpenError}
 use Rattle.opening_answers.specs.declared.refusals.OpenError.TheVariants.{TooSmall, Memory}
 use Rattle.opening_answers.specs.Opening.{OpeningCause, WroteNothing}
-use Rattle.disk_law.specs.Journal.{JournalState}
-use Rattle.tm_machine.specs.Parts.{PartsState}
 use Rattle.control_life.specs.declared.how.How.{How}
-use Rattle.machine_opening.specs.Opened.{OpensOn}
 use Rattle.control_life.specs.Opened.{KeepsBy, Refuses}
-use Rattle.logged_machine.specs.Opened.{Opens}
 use Rattle.control_life.specs.Opened.{HandsBack}
 
 module _ {D : Type 0} (state : D → DiskState) (how : How) (system : System) (text : List ℕ) where
@@ -41,21 +36,6 @@ module _ {D : Type 0} (state : D → DiskState) (how : How) (system : System) (t
     stays = stays_same (state disk);
     cause = wrote_nothing (state disk);
     any_moment = within_same (KeepsBy how system text) (state disk);
-  }
-
-  -- The parts were opened.
-  pub opens_so : (old new : D) (parts : PartsState) (journal : JournalState) (units : List ℕ) (next : ℕ) (opening : LastingState) → parts.system ≡ system → OpensOn how system text (state old) (state new) parts journal next opening → Stays (state old) (state new)
-      → Within (KeepsBy how system text) (state old) (state new) → Opens state how system text old (record { machine = parts; text = text; served = true; journal = journal; units = units; next_unit = next; disk = new }) opening
-  opens_so old new parts journal units next opening same opens stays any = record {
-    system_is = same;
-    moment = opens.moment;
-    text_is = refl;
-    served = refl;
-    no_fault = opens.no_fault;
-    stays = stays;
-    size = opens.size;
-    begins = opens.begins;
-    any_moment = any;
   }
 
   -- They were not.

@@ -1,9 +1,9 @@
 -- One attempt of a call: it appends what it tells, and forces that where a lasting step is among it.
-use Rattle.std.proofs.Common.{◌≡◌, ◌≤◌, ℕ, Bool, true, false, List, refl, sym, ◌∙◌, ap, subst, arith, length}
+use Rattle.std.proofs.Common.{◌≡◌, ◌≤◌, ℕ, Bool, true, false, List, refl, sym, ◌∙◌, ap, subst, arith, length, inl}
 use Rattle.std.specs.Prelude.{Option, Some, None}
 use Rattle.std.specs.List.{flat_map}
 use Rattle.std.specs.Option.{is_some}
-use Rattle.model_disk.specs.Disk.{DiskState, Stays, Within, Follows, FailedSince}
+use Rattle.model_disk.specs.Disk.{DiskState, Stays, Within, FailedSince}
 use Rattle.model_disk.proofs.Words.{stays_same}
 use Rattle.model_machine.specs.Machine.{LastingState, Moment}
 use Rattle.model_machine.specs.Lasting.{LastingStep}
@@ -12,14 +12,9 @@ use Rattle.model_machine.specs.declared.entry.Entry.{Entry}
 use Rattle.model_machine.specs.declared.entry.ControlFault.TheVariants.{Disk}
 use Rattle.log_records.specs.declared.record.Record.{Record}
 use Rattle.log_records.specs.Spelling.{spelling}
-use Rattle.log_writer.specs.Writer.{Writer}
-use Rattle.log_writer.specs.Log.{IsReady, AddsFront, AddsAll}
-use Rattle.disk_law.specs.Life.{LifeOnDisk}
-use Rattle.disk_law.specs.Kept.{AreKept}
-use Rattle.step_law.specs.Steps.{StepOnDisk, after_step}
+use Rattle.log_writer.specs.Log.{AddsFront}
 use Rattle.checkpoint_law.specs.Counted.{TellUnits}
 use Rattle.disk_law.specs.Journal.{JournalState}
-use Rattle.journal.specs.State.{IsStepOf, forced}
 use Rattle.tm_machine.specs.Answers.{IsAnswered}
 use Rattle.tm_machine.specs.OnSlots.{slots_now}
 use Rattle.tm_machine.specs.Parts.{PartsState}
@@ -30,19 +25,11 @@ use Rattle.machine_telling.specs.Telling.{Appends}
 use Rattle.logged_machine.specs.Logged.{LoggedState}
 use Rattle.parts_life.specs.Logged.{IsLogged}
 use Rattle.logged_machine.specs.Leaving.{Brings, Leaves}
+use Rattle.logged_machine.specs.Goes.{NumbersBy, DoesTo}
+use Rattle.logged_machine.specs.Forcing.{Forces}
 use Rattle.logged_machine.specs.Doing.{Did, lasting_with}
 use Rattle.logged_machine.proofs.Leaving.{leaves_same}
 use Rattle.logged_machine.proofs.Logging.{force_leaves, step_of, stepped, continued}
-
--- what a force leaves
-pub record Forces (log log' : Writer) (old new : DiskState) : Type 0 where
-  pub within : Within (AddsFront log) old new
-  pub stays : Stays old new
-  pub kept : (life : LifeOnDisk) → (step : StepOnDisk) → IsStepOf log life step → AreKept life old → AreKept (after_step step life) new
-  pub log_is : log' ≡ forced log
-  pub ready : IsReady log' new
-  pub no_fault : new.faults ≡ old.faults
-  pub follows : Follows (AddsAll log) old new
 
 module _ {D : Type 0} (state : D → DiskState) (parts parts' : PartsState) (text : List ℕ) (journal mid : JournalState) (units units' : List ℕ) (next next' : ℕ) (disk : D) (up : Bool)
     (h : IsLogged parts units next journal text (state disk)) (as_many : length units' ≡ length units) (entry : Entry) (answered : IsAnswered parts parts' entry) (records : List Record) (told : Appends records journal mid)
@@ -57,9 +44,9 @@ module _ {D : Type 0} (state : D → DiskState) (parts parts' : PartsState) (tex
   same_lasting = ap (λ (m : Moment). m.lasting) (sym answered.after)
 
   -- without a step nothing is written
-  pub quiet : up ≡ true → is_some step ≡ false → Did state None was is_still entry
-  quiet served none = record {
-    did = (record { answered = answered; served = served; no_fault = refl }, leaves_same (Brings parts.system text parts.moment.lasting (lasting_with was entry)) (state disk));
+  pub quiet : NumbersBy entry units units' next next' → DoesTo units entry parts parts' → up ≡ true → is_some step ≡ false → Did state None was is_still entry
+  quiet numbers does served none = record {
+    did = (record { answered = answered; numbers = numbers; acts = inl does; served = served; no_fault = refl }, leaves_same (Brings parts.system text parts.moment.lasting (lasting_with was entry)) (state disk));
     keeps = record {
       system = answered.system;
       text = refl;
@@ -85,10 +72,10 @@ module _ {D : Type 0} (state : D → DiskState) (parts parts' : PartsState) (tex
     is = record { machine = parts'; text = text; served = up; journal = journal'; units = units'; next_unit = next'; disk = disk' }
 
     -- the step was forced
-    pub wrote : up ≡ true → Forces mid.log journal'.log (state disk) (state disk') → journal'.restart ≡ mid.restart → Did state None was is entry
-    wrote served f restart = record {
+    pub wrote : NumbersBy entry units units' next next' → DoesTo units entry parts parts' → up ≡ true → Forces mid.log journal'.log (state disk) (state disk') → journal'.restart ≡ mid.restart → Did state None was is entry
+    wrote numbers does served f restart = record {
       did = (
-        record { answered = answered; served = served; no_fault = f.no_fault },
+        record { answered = answered; numbers = numbers; acts = inl does; served = served; no_fault = f.no_fault },
         subst (λ (l : LastingState). Leaves (Brings parts.system text parts.moment.lasting l) (state disk) (state disk')) (sym same_lasting) (leaves f.within),
       );
       keeps = record {

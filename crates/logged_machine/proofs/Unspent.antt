@@ -1,6 +1,6 @@
 -- What is known where no counter is spent.
-use Rattle.std.proofs.Common.{◌≡◌, ◌<◌, ◌+◌, arith, ℕ, Bool, true, false, List, [], ◌∷◌, refl, sym, ap, ◌∙◌, lt-ltb, leb-false}
-use Rattle.std.specs.Prelude.{Option, Some, None, cond, find, if◌then◌else◌, nat_le, nat_lt, ◌&&◌}
+use Rattle.std.proofs.Common.{◌≡◌, ◌<◌, ◌+◌, arith, ℕ, Bool, true, false, List, [], ◌∷◌, refl, ap, ◌∙◌, lt-ltb, leb-false}
+use Rattle.std.specs.Prelude.{Option, Some, None, cond, find, nat_le, nat_lt, ◌&&◌}
 use Rattle.std.specs.List.{list_all}
 use Rattle.std.specs.Option.{option_map}
 use Rattle.model_queues.specs.declared.replies.TerminalReplies.{TerminalReplies}
@@ -8,11 +8,8 @@ use Rattle.model_machine.specs.Machine.{LastingState}
 use Rattle.model_machine.specs.declared.counts.Counter.{Counter}
 use Rattle.opening_answers.specs.Opening.{counters, output_counters, first_spent}
 use Rattle.model_machine.specs.declared.counts.Counter.TheVariants as counter
-use Rattle.journal.specs.Counters as journals
-use Rattle.journal.specs.declared.counter.JournalCounter.{JournalCounter}
-use Rattle.journal.specs.declared.counter.JournalCounter.TheVariants.{Epoch, Sequence, Checkpoint}
+use Rattle.restart_data.specs.declared.restart.RestartSector.{RestartSector}
 use Rattle.disk_law.specs.Journal.{JournalState}
-use Rattle.logged_machine.specs.Spending.{counter_of, counters_beside, first_of}
 use Rattle.machine_life.specs.Counts.{AreUnspent}
 use Rattle.machine_life.specs.Counted.{IsCounted}
 
@@ -59,27 +56,11 @@ counted_now lasting next journal e =
     let n = none_spent journal.restart.epoch (journal.log.sequence + journal.log.place) journal.restart.checkpoint next lasting e in
     record { counts = n.counts; unit = n.unit_low; epoch = n.epoch_low; sequence = omega (arith, n.sequence_low); checkpoint = omega (arith, n.checkpoint_low) }
 
--- ---- the first of all counters
-
--- The first that is spent is the journal's, where one of these is, and else one beside them.
-pub spent_is : (journal : JournalState) (unit : ℕ) (lasting : LastingState)
-    → first_spent (counters journal.restart.epoch (journal.log.sequence + journal.log.place) journal.restart.checkpoint unit lasting) ≡ first_of (journals.first_spent journal) (first_spent (counters_beside unit lasting))
-spent_is journal unit lasting = by (nat_le 1000000000000000000 journal.restart.epoch) (nat_le 1000000000000000000 (journal.log.sequence + journal.log.place)) (nat_le 1000000000000000000 journal.restart.checkpoint)
-  where
-    by : (a b c : Bool)
-        → option_map (λ (x : Counter × ℕ). x.0) (cond a (Some (counter.Epoch, journal.restart.epoch)) (cond b (Some (counter.Sequence, journal.log.sequence + journal.log.place)) (cond c (Some (counter.Checkpoint, journal.restart.checkpoint)) (find (λ (x : Counter × ℕ). nat_le 1000000000000000000 x.1) (counters_beside unit lasting)))))
-        ≡ first_of (if a then Some Epoch else if b then Some Sequence else if c then Some Checkpoint else None) (first_spent (counters_beside unit lasting))
-    by true b c = refl
-    by false true c = refl
-    by false false true = refl
-    by false false false = refl
-
--- ---- as the code looks at them
-
-pub journal_spent : (journal : JournalState) (unit : ℕ) (lasting : LastingState) (c : JournalCounter) → Some c ≡ journals.first_spent journal
-    → Some (counter_of c) ≡ first_spent (counters journal.restart.epoch (journal.log.sequence + journal.log.place) journal.restart.checkpoint unit lasting)
-journal_spent journal unit lasting c is = ap (λ (o : Option JournalCounter). first_of o (first_spent (counters_beside unit lasting))) is ∙ sym (spent_is journal unit lasting)
-
-pub other_spent : (journal : JournalState) (unit : ℕ) (lasting : LastingState) (o : Option Counter) → None ≡ journals.first_spent journal → o ≡ first_spent (counters_beside unit lasting)
-    → o ≡ first_spent (counters journal.restart.epoch (journal.log.sequence + journal.log.place) journal.restart.checkpoint unit lasting)
-other_spent journal unit lasting o none is = is ∙ ap (λ (j : Option JournalCounter). first_of j (first_spent (counters_beside unit lasting))) none ∙ sym (spent_is journal unit lasting)
+-- as the code looks at them
+pub spent_is : (journal : JournalState) (unit : ℕ) (lasting : LastingState) (restart : RestartSector) (sequence last : ℕ) (answer : Option Counter) → restart ≡ journal.restart
+    → sequence ≡ journal.log.sequence + journal.log.place → last + 1 ≡ unit → answer ≡ first_spent (counters restart.epoch sequence restart.checkpoint (last + 1) lasting)
+    → answer ≡ first_spent (counters journal.restart.epoch (journal.log.sequence + journal.log.place) journal.restart.checkpoint unit lasting)
+spent_is journal unit lasting restart sequence last answer same next is_last is =
+    is ∙ ap (λ (r : RestartSector). first_spent (counters r.epoch sequence r.checkpoint (last + 1) lasting)) same
+    ∙ ap (λ (n : ℕ). first_spent (counters journal.restart.epoch n journal.restart.checkpoint (last + 1) lasting)) next
+    ∙ ap (λ (n : ℕ). first_spent (counters journal.restart.epoch (journal.log.sequence + journal.log.place) journal.restart.checkpoint n lasting)) is_last

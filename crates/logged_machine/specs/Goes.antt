@@ -1,12 +1,17 @@
 -- What a call leaves of a machine with its log.
-use Rattle.std.specs.Prelude.{◌≡◌, ◌≤◌, true, false, Option, Some, None, Ok}
+use Rattle.std.specs.Prelude.{◌≡◌, ◌⊎◌, ◌≤◌, ℕ, true, false, List, Option, Some, None, Ok}
 use Rattle.model_disk.specs.Disk.{Image, DiskState, Stays, FailedSince}
 use Rattle.model_machine.specs.History.{after_entry}
 use Rattle.model_machine.specs.declared.entry.Entry.{Entry}
+use Rattle.model_machine.specs.declared.entry.Entry.TheVariants.{Turn}
 use Rattle.model_machine.specs.declared.entry.ControlFault.{ControlFault}
 use Rattle.model_machine.specs.declared.entry.ControlFault.TheVariants.{Memory, Disk, Spent}
 use Rattle.checkpointing.specs.Texts.{HasText}
 use Rattle.tm_machine.specs.Answers.{IsAnswered}
+use Rattle.tm_machine.specs.OnSlots.{TurnsSo}
+use Rattle.tm_machine.specs.Parts.{PartsState}
+use Rattle.machine_life.specs.Turning.{next_after, unit_of, units_after}
+use Rattle.machine_checkpoint.specs.Taking.{settled_parts}
 use Rattle.model_image.specs.Recovered.{Recovers}
 use Rattle.disk_law.specs.Kept.{RecoversEither}
 use Rattle.logged_machine.specs.Logged.{LoggedState}
@@ -21,9 +26,26 @@ pub record Keeps {D : Type 0} (state : D → DiskState) (old new : LoggedState D
 
 -- ---- what it leaves of the machine; that no counter is spent was looked at before
 
+-- The numbers of the regions' units behind a call that was answered, and the next one. A turn gives and takes them by its answer: a
+-- region takes the next number with a message, and with another one that it goes on with. No other call touches them.
+abbrev pub NumbersBy : Entry → List ℕ → List ℕ → ℕ → ℕ → Type 0
+NumbersBy (Turn region (Ok turned)) old new next next' = (new ≡ units_after turned region next old) × (next' ≡ next_after turned next)
+NumbersBy _ old new next next' = (new ≡ old) × (next' ≡ next)
+
+-- What it does to the databases: a turn what its answer says, in its region's unit, and any other call nothing.
+abbrev pub DoesTo : List ℕ → Entry → PartsState → PartsState → Type 0
+DoesTo units (Turn region (Ok turned)) old new = TurnsSo old new (unit_of units region) region turned
+DoesTo units _ old new = new.databases ≡ old.databases
+
+-- So it does to the databases as they stood; or, behind a checkpoint, to those of which no slot counts as changed.
+abbrev pub ActsOn : List ℕ → Entry → PartsState → PartsState → Type 0
+ActsOn units entry old new = DoesTo units entry old new ⊎ DoesTo units entry (settled_parts old) new
+
 -- It was answered, and the machine went on.
 pub record WentOn {D : Type 0} (state : D → DiskState) (old new : LoggedState D) (entry : Entry) : Type 0 where
   pub answered : IsAnswered old.machine new.machine entry
+  pub numbers : NumbersBy entry old.units new.units old.next_unit new.next_unit
+  pub acts : ActsOn old.units entry old.machine new.machine
   pub served : new.served ≡ true
   pub no_fault : (state new.disk).faults ≡ (state old.disk).faults
 

@@ -4,5 +4,5 @@ pub mod Opened
 pub mod Taken
 pub mod Leaving
 pub mod Doing
-pub mod Spending
 pub mod Frugal
+pub mod Forcing

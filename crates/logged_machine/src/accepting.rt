@@ -12,6 +12,7 @@ ghost use Rattle.step_telling.specs.Untold.{WhereFull};
 ghost use Rattle.machine_telling.specs.Telling.{HasRoom};
 ghost use Rattle.machine_life.specs.Counted.{IsCounted};
 
+use crate::forcing::force;
 use crate::logged::LoggedMachine;
 use crate::refreshing::is_memory;
 use machine_due::input_due;
@@ -102,16 +103,11 @@ impl<D: Disk> LoggedMachine<D> {
                 return Err(InputRefused::Fault(fault));
             }
         };
-        if !is_new(&answer) {
+        let lasts = is_new(&answer);
+        if force(lasts, &mut self.journal, &mut self.disk, &mut self.served) {
             return answer;
         }
-        match self.journal.force(&mut self.disk) {
-            Ok(()) => answer,
-            Err(_) => {
-                self.served = false;
-                Err(InputRefused::Fault(ControlFault::Disk))
-            }
-        }
+        Err(InputRefused::Fault(ControlFault::Disk))
     }
 
     /// One attempt, with so much room for records.
@@ -132,7 +128,7 @@ impl<D: Disk> LoggedMachine<D> {
         ensures fits { OnOk result (length (own_bytes self.old.machine self.old.units (Input terminal.now number segments.now)) ≤ room) }
         ensures full { IfErr result (WhereFull (room < length (own_bytes self.old.machine self.old.units (Input terminal.now number segments.now)))) }
     {
-        let told = tell_input(
+        let answer = tell_input(
             self.alloc,
             &mut self.parts,
             &mut self.journal,
@@ -140,21 +136,12 @@ impl<D: Disk> LoggedMachine<D> {
             number,
             segments,
             room,
-        );
-        let answer = match told {
-            Ok(answer) => answer,
-            Err(untold) => return Err(untold),
-        };
-        if !is_new(&answer) {
+        )?;
+        let lasts = is_new(&answer);
+        if force(lasts, &mut self.journal, &mut self.disk, &mut self.served) {
             return Ok(answer);
         }
-        match self.journal.force(&mut self.disk) {
-            Ok(()) => Ok(answer),
-            Err(_) => {
-                self.served = false;
-                Ok(Err(InputRefused::Fault(ControlFault::Disk)))
-            }
-        }
+        Ok(Err(InputRefused::Fault(ControlFault::Disk)))
     }
 }
 

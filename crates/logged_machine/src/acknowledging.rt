@@ -12,6 +12,7 @@ ghost use Rattle.machine_telling.specs.Telling.{HasRoom};
 ghost use Rattle.machine_life.specs.Counted.{IsCounted};
 ghost use Rattle.parts_life.specs.Steps.{is_removed};
 
+use crate::forcing::force;
 use crate::logged::LoggedMachine;
 use crate::refreshing::is_memory;
 use machine_due::acknowledgement_due;
@@ -76,16 +77,11 @@ impl<D: Disk> LoggedMachine<D> {
                 return Err(AckRefused::Fault(fault));
             }
         };
-        if !is_removed(&answer) {
+        let lasts = is_removed(&answer);
+        if force(lasts, &mut self.journal, &mut self.disk, &mut self.served) {
             return answer;
         }
-        match self.journal.force(&mut self.disk) {
-            Ok(()) => answer,
-            Err(_) => {
-                self.served = false;
-                Err(AckRefused::Fault(ControlFault::Disk))
-            }
-        }
+        Err(AckRefused::Fault(ControlFault::Disk))
     }
 
     /// One attempt, with so much room for records.
@@ -103,28 +99,19 @@ impl<D: Disk> LoggedMachine<D> {
         ensures fits { OnOk result (length (own_bytes self.old.machine self.old.units (Acknowledge terminal.now number)) ≤ room) }
         ensures full { IfErr result (WhereFull (room < length (own_bytes self.old.machine self.old.units (Acknowledge terminal.now number)))) }
     {
-        let told = tell_acknowledgement(
+        let answer = tell_acknowledgement(
             self.alloc,
             &mut self.parts,
             &mut self.journal,
             terminal,
             number,
             room,
-        );
-        let answer = match told {
-            Ok(answer) => answer,
-            Err(untold) => return Err(untold),
-        };
-        if !is_removed(&answer) {
+        )?;
+        let lasts = is_removed(&answer);
+        if force(lasts, &mut self.journal, &mut self.disk, &mut self.served) {
             return Ok(answer);
         }
-        match self.journal.force(&mut self.disk) {
-            Ok(()) => Ok(answer),
-            Err(_) => {
-                self.served = false;
-                Ok(Err(AckRefused::Fault(ControlFault::Disk)))
-            }
-        }
+        Ok(Err(AckRefused::Fault(ControlFault::Disk)))
     }
 }
 

@@ -14,6 +14,7 @@ ghost use Rattle.machine_telling.specs.Telling.{HasRoom};
 ghost use Rattle.machine_life.specs.Counted.{IsCounted};
 ghost use Rattle.parts_life.specs.Steps.{is_lasting};
 
+use crate::forcing::force;
 use crate::logged::LoggedMachine;
 use crate::refreshing::is_memory;
 use command_answers::answer_to;
@@ -89,17 +90,11 @@ impl<D: Disk> LoggedMachine<D> {
                 return Err(CommandRefused::Fault(fault));
             }
         };
-        if !is_lasting(command, &answer) {
+        let lasts = is_lasting(command, &answer);
+        if force(lasts, &mut self.journal, &mut self.disk, &mut self.served) {
             return answer;
         }
-        match self.journal.force(&mut self.disk) {
-            Ok(()) => answer,
-            Err(_) => {
-                drop(answer);
-                self.served = false;
-                Err(CommandRefused::Fault(ControlFault::Disk))
-            }
-        }
+        Err(CommandRefused::Fault(ControlFault::Disk))
     }
 
     /// One attempt, with so much room for records.
@@ -117,28 +112,18 @@ impl<D: Disk> LoggedMachine<D> {
         ensures fits { OnOk result (length (own_bytes self.old.machine self.old.units (CommandCall command.now)) ≤ room) }
         ensures full { IfErr result (WhereFull (room < length (own_bytes self.old.machine self.old.units (CommandCall command.now)))) }
     {
-        let told = tell_command(
+        let answer = tell_command(
             self.alloc,
             &mut self.parts,
             &mut self.journal,
             command,
             room,
-        );
-        let answer = match told {
-            Ok(answer) => answer,
-            Err(untold) => return Err(untold),
-        };
-        if !is_lasting(command, &answer) {
+        )?;
+        let lasts = is_lasting(command, &answer);
+        if force(lasts, &mut self.journal, &mut self.disk, &mut self.served) {
             return Ok(answer);
         }
-        match self.journal.force(&mut self.disk) {
-            Ok(()) => Ok(answer),
-            Err(_) => {
-                drop(answer);
-                self.served = false;
-                Ok(Err(CommandRefused::Fault(ControlFault::Disk)))
-            }
-        }
+        Ok(Err(CommandRefused::Fault(ControlFault::Disk)))
     }
 }
 

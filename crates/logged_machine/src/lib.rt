@@ -13,6 +13,7 @@ mod accepting;
 mod acknowledging;
 mod checking;
 mod commanding;
+mod forcing;
 mod logged;
 mod opening;
 mod refreshing;

@@ -64,13 +64,6 @@ impl<D: Disk> LoggedMachine<D> {
         self.parts.system()
     }
 
-    /// The disk.
-    pub fn disk(&self) -> &D
-        ensures { result.now ≡ self.now.disk }
-    {
-        &self.disk
-    }
-
     /// The disk, the system and the text.
     pub fn into_parts(self) -> (D, System, Bytes)
         ensures disk { result.0 ≡ self.disk }

@@ -13,6 +13,7 @@ ghost use Rattle.step_telling.specs.Untold.{WhereFull};
 ghost use Rattle.machine_telling.specs.Telling.{HasRoom};
 ghost use Rattle.machine_life.specs.Counted.{IsCounted};
 
+use crate::forcing::force;
 use crate::logged::LoggedMachine;
 use crate::refreshing::is_memory;
 use machine_due::turn_due;
@@ -79,16 +80,11 @@ impl<D: Disk> LoggedMachine<D> {
             }
         };
         note_units(&mut self.units, &mut self.next_unit, region, &turned);
-        if !ends_work(&turned) {
+        let lasts = ends_work(&turned);
+        if force(lasts, &mut self.journal, &mut self.disk, &mut self.served) {
             return Ok(turned);
         }
-        match self.journal.force(&mut self.disk) {
-            Ok(()) => Ok(turned),
-            Err(_) => {
-                self.served = false;
-                Err(ControlFault::Disk)
-            }
-        }
+        Err(ControlFault::Disk)
     }
 
     /// One attempt, with so much room for records.
@@ -107,29 +103,20 @@ impl<D: Disk> LoggedMachine<D> {
         ensures full { IfErr result (WhereFull (room < length (own_bytes self.old.machine self.old.units (TurnCall region)))) }
     {
         let unit = unit_of(self.units.as_slice(), region);
-        let told = tell_turn(
+        let turned = tell_turn(
             self.alloc,
             &mut self.parts,
             &mut self.journal,
             region,
             unit,
             room,
-        );
-        let turned = match told {
-            Ok(turned) => turned,
-            Err(untold) => return Err(untold),
-        };
+        )?;
         note_units(&mut self.units, &mut self.next_unit, region, &turned);
-        if !ends_work(&turned) {
+        let lasts = ends_work(&turned);
+        if force(lasts, &mut self.journal, &mut self.disk, &mut self.served) {
             return Ok(Ok(turned));
         }
-        match self.journal.force(&mut self.disk) {
-            Ok(()) => Ok(Ok(turned)),
-            Err(_) => {
-                self.served = false;
-                Ok(Err(ControlFault::Disk))
-            }
-        }
+        Ok(Err(ControlFault::Disk))
     }
 }
 

@@ -1,5 +1,5 @@
 -- A checkpoint with the records of a call behind it, by what was written.
-use Rattle.std.proofs.Common.{◌≡◌, ℕ, ◌+◌, ◌≤◌, List, [], ◌++◌, length, refl, sym, ◌∙◌, ap, subst, arith}
+use Rattle.std.proofs.Common.{◌≡◌, ℕ, ◌+◌, ◌≤◌, List, ◌++◌, length, refl, sym, ◌∙◌, ap, subst, arith}
 use Rattle.std.specs.List.{flat_map}
 use Rattle.model_disk.specs.Disk.{DiskState, Within, WritesAtMost}
 use Rattle.model_system.specs.System.{System}
@@ -25,7 +25,7 @@ use Rattle.parts_life.proofs.Storing.{have_written}
 use Rattle.machine_checkpoint.specs.Taking.{IsSnapshot, checkpoint_sectors, settled_parts}
 use Rattle.machine_checkpoint.proofs.Taken.{can, goes_on, raised, within_up_to}
 use Rattle.machine_telling.specs.Telling.{Appends}
-use Rattle.machine_due.specs.Due.{Behind, Checkpointed, CountsWithin, WroteTold}
+use Rattle.machine_due.specs.Due.{Behind, Checkpointed, CountsWithin, IsEmptyLog, WroteTold}
 
 -- ---- parts where no slot counts as changed
 
@@ -51,12 +51,6 @@ databases_settled parts made parts' is same = ap (λ (p : PartsState). p.databas
 
 -- ---- the records that were told in a log of its own
 
--- an empty log
-pub record IsEmptyLog (count : ℕ) (log : Writer) : Type 0 where
-  pub count_is : log.count ≡ count
-  pub place_is : log.place ≡ 0
-  pub appended_is : log.appended ≡ []
-
 module _ (begun told : JournalState) (records : List Record) (count : ℕ) (empty : IsEmptyLog count begun.log) (a : Appends records begun told) where
   pub told_place : told.log.place ≡ 0
   told_place = ap (λ (w : Writer). w.place) a.log ∙ empty.place_is
@@ -76,31 +70,34 @@ module _ (begun told : JournalState) (records : List Record) (count : ℕ) (empt
 -- ---- the checkpoint
 
 -- so much is written with the system and the stores that the parts had
-pub written : (parts : PartsState) (journal : JournalState) (old new : DiskState) (system : System) → system ≡ parts.system → (stores : AllStores) → stores ≡ all_stores (slots_now parts)
+pub written : (parts : PartsState) (journal : JournalState) (old new : DiskState) {system : System} → system ≡ parts.system → {stores : AllStores} → stores ≡ all_stores (slots_now parts)
     → WritesAtMost (checkpoint_sectors system stores.changed journal) old new → WritesAtMost (checkpoint_sectors parts.system parts.databases.changed journal) old new
-written parts journal old new system same stores are writes =
+written parts journal old new {system = system} same {stores = stores} are writes =
     subst (λ (a : AllStores). WritesAtMost (checkpoint_sectors parts.system a.changed journal) old new) are
     (subst (λ (y : System). WritesAtMost (checkpoint_sectors y stores.changed journal) old new) same writes)
 
-module _ {D : Type 0} (state : D → DiskState) (parts : PartsState) (units : List ℕ) (next : ℕ) (journal : JournalState) (disk : D) (logged : (text : List ℕ) × IsLogged parts units next journal text (state disk))
-    (has : HasSlots parts) (counted : IsCounted 0 parts.moment.lasting next journal) (bytes : List ℕ) (s : IsSnapshot parts units next (journal.restart.checkpoint + 1) bytes) where
-  -- it may be taken with the system and the stores that the parts had
-  pub may : (system : System) → system ≡ parts.system → (stores : AllStores) → stores ≡ all_stores (slots_now parts) → CanCheckpoint system journal stores bytes (state disk)
-  may system same stores are =
-      subst (λ (a : AllStores). CanCheckpoint system journal a bytes (state disk)) (sym are)
+-- With the system and the stores that the parts had, and the bytes of their snapshot.
+module _ {D : Type 0} (state : D → DiskState) {parts : PartsState} {units : List ℕ} {next : ℕ} {journal : JournalState} {disk : D} (logged : (text : List ℕ) × IsLogged parts units next journal text (state disk))
+    (has : HasSlots parts) (counted : IsCounted 0 parts.moment.lasting next journal) {bytes : List ℕ} (s : IsSnapshot parts units next (journal.restart.checkpoint + 1) bytes)
+    {lent : List ℕ} (lent_is : lent ≡ bytes) {system : System} (same : system ≡ parts.system) {stores : AllStores} (are : stores ≡ all_stores (slots_now parts)) where
+  -- it may be taken
+  pub may : CanCheckpoint system journal stores lent (state disk)
+  may =
+      subst (λ (b : List ℕ). CanCheckpoint system journal stores b (state disk)) (sym lent_is)
+      (subst (λ (a : AllStores). CanCheckpoint system journal a bytes (state disk)) (sym are)
       (subst (λ (y : System). CanCheckpoint y journal (all_stores (slots_now parts)) bytes (state disk)) (sym same)
-      (can parts units next journal logged.0 (state disk) logged.1 has counted bytes s))
+      (can parts units next journal logged.0 (state disk) logged.1 has counted bytes s)))
 
   some_logs : 1 ≤ parts.system.logs
   some_logs = omega (arith, has.defined.least_logs)
 
   -- whenever a crash comes in it, the image counts up to this
-  pub counts : (disk' : D) (system : System) → system ≡ parts.system → (stores : AllStores) → stores ≡ all_stores (slots_now parts)
-      → Within (Takes (parts_for system journal.restart bytes) journal.log stores) (state disk) (state disk') → CountsWithin parts.system journal next (state disk) (state disk')
-  counts disk' system same stores are within =
+  pub counts : {disk' : D} → Within (Takes (parts_for system journal.restart lent) journal.log stores) (state disk) (state disk') → CountsWithin parts.system journal next (state disk) (state disk')
+  counts {disk' = disk'} within =
       within_up_to parts units next journal logged.0 (state disk) logged.1 has counted bytes s some_logs (state disk')
       (subst (λ (a : AllStores). Within (Takes (parts_for parts.system journal.restart bytes) journal.log a) (state disk) (state disk')) are
-      (subst (λ (y : System). Within (Takes (parts_for y journal.restart bytes) journal.log stores) (state disk) (state disk')) same within))
+      (subst (λ (y : System). Within (Takes (parts_for y journal.restart bytes) journal.log stores) (state disk) (state disk')) same
+      (subst (λ (b : List ℕ). Within (Takes (parts_for system journal.restart b) journal.log stores) (state disk) (state disk')) lent_is within)))
 
   -- the journal behind it
   abbrev middle : JournalState
@@ -109,7 +106,7 @@ module _ {D : Type 0} (state : D → DiskState) (parts : PartsState) (units : Li
     restart = next_restart (parts_for parts.system journal.restart bytes) journal.log;
   }
 
-  module _ (journal' : JournalState) (disk' : D) (size : (state disk').size ≡ (state disk).size) where
+  module _ {journal' : JournalState} {disk' : D} (size : (state disk').size ≡ (state disk).size) where
     checkpointed : (told : List ℕ) → WroteTold parts.system (all_stores (slots_now parts)) bytes told journal journal' (state disk) (state disk') → Checkpointed state parts units next journal middle disk disk'
     checkpointed told w = record {
       takes = record { bytes = bytes; restart = refl; log = refl };
@@ -121,9 +118,9 @@ module _ {D : Type 0} (state : D → DiskState) (parts : PartsState) (units : Li
       no_fault = w.no_fault;
     }
 
-    own : (begun told : JournalState) (records : List Record) → IsEmptyLog parts.system.logs begun.log → Appends records begun told
+    own : {begun told : JournalState} {records : List Record} → IsEmptyLog parts.system.logs begun.log → Appends records begun told
         → WroteTold parts.system (all_stores (slots_now parts)) bytes told.log.appended journal journal' (state disk) (state disk') → Behind state parts units next records journal journal' disk disk'
-    own begun told records empty a w = record {
+    own {begun = begun} {told = told} {records = records} empty a w = record {
       middle = middle;
       checkpointed = checkpointed told.log.appended w;
       appends = record {
@@ -135,11 +132,11 @@ module _ {D : Type 0} (state : D → DiskState) (parts : PartsState) (units : Li
       };
     }
 
-    -- by the system and the stores that were given
-    pub behind : (system : System) → system ≡ parts.system → (stores : AllStores) → stores ≡ all_stores (slots_now parts) → (begun told : JournalState) (records : List Record)
-        → IsEmptyLog parts.system.logs begun.log → Appends records begun told
-        → WroteTold system stores bytes told.log.appended journal journal' (state disk) (state disk') → Behind state parts units next records journal journal' disk disk'
-    behind system same stores are begun told records empty a w =
-        own begun told records empty a
+    -- and these records are appended behind it
+    pub behind : {begun told : JournalState} {records : List Record} → IsEmptyLog parts.system.logs begun.log → Appends records begun told
+        → WroteTold system stores lent told.log.appended journal journal' (state disk) (state disk') → Behind state parts units next records journal journal' disk disk'
+    behind {told = told} empty a w =
+        own empty a
         (subst (λ (l : AllStores). WroteTold parts.system l bytes told.log.appended journal journal' (state disk) (state disk')) are
-        (subst (λ (y : System). WroteTold y stores bytes told.log.appended journal journal' (state disk) (state disk')) same w))
+        (subst (λ (y : System). WroteTold y stores bytes told.log.appended journal journal' (state disk) (state disk')) same
+        (subst (λ (b : List ℕ). WroteTold system stores b told.log.appended journal journal' (state disk) (state disk')) lent_is w)))

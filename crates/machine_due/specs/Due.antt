@@ -1,8 +1,9 @@
 -- A checkpoint with the records of a call behind it.
-use Rattle.std.specs.Prelude.{◌≡◌, ℕ, ◌+◌, List}
+use Rattle.std.specs.Prelude.{◌≡◌, ℕ, ◌+◌, List, []}
 use Rattle.model_disk.specs.Disk.{DiskState, Stays, Within, Follows, Only}
 use Rattle.model_system.specs.System.{System}
 use Rattle.log_records.specs.declared.record.Record.{Record}
+use Rattle.log_writer.specs.Writer.{Writer}
 use Rattle.log_writer.specs.Log.{IsReady}
 use Rattle.seg_store.specs.Changed.{AllStores}
 use Rattle.slot_law.specs.Committed.{Touches}
@@ -38,6 +39,12 @@ pub record WroteTold (system : System) (stores : AllStores) (bytes told : List �
   pub follows : Follows (IsCheckpointed (parts_for system old.restart bytes) old.log stores) disk disk'
   pub synced : Only disk'.shown disk'
   pub no_fault : disk'.faults ≡ disk.faults
+
+-- nothing was appended, in an area of so many sectors
+pub record IsEmptyLog (count : ℕ) (log : Writer) : Type 0 where
+  pub count_is : log.count ≡ count
+  pub place_is : log.place ≡ 0
+  pub appended_is : log.appended ≡ []
 
 -- Where what is counted on stands up to a bound, each image counts further by the sectors of a log area at most.
 abbrev pub CountsWithin : System → JournalState → ℕ → DiskState → DiskState → Type 0

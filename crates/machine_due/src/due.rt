@@ -1,5 +1,5 @@
 //! The calls.
-ghost use Rattle.std.specs.Prelude.{◌≡◌, ◌<◌, ℕ, List, false, length, IfErr, IfOk, IfSome, OnOk, Ok};
+ghost use Rattle.std.specs.Prelude.{◌≡◌, ◌<◌, ◌+◌, ℕ, List, false, length, IfErr, IfOk, IfSome, OnOk, Ok};
 ghost use Rattle.model_disk.specs.Disk.{WritesAtMost};
 ghost use Rattle.model_machine.specs.Machine.{IsRegion};
 ghost use Rattle.model_machine.specs.declared.entry.Entry.TheVariants.{Accept, Acked as AckedEntry, Commanded, Turn as TurnEntry};
@@ -13,10 +13,13 @@ ghost use Rattle.tm_machine.specs.OnSlots.{HasSlots, TellByCall, TurnsSo, change
 ghost use Rattle.tm_machine.specs.Told.{records_of};
 ghost use Rattle.machine_life.specs.Counted.{IsCounted};
 ghost use Rattle.machine_life.specs.Turning.{unit_of};
+ghost use Rattle.parts_life.specs.Carried.{IsCarried};
 ghost use Rattle.parts_life.specs.Logged.{IsLogged};
-ghost use Rattle.machine_checkpoint.specs.Taking.{Untaken, checkpoint_sectors, settled_parts};
+ghost use Rattle.disk_law.specs.Life.{LifeOnDisk};
+ghost use Rattle.model_machine.specs.declared.entry.ControlFault.TheVariants as faults;
+ghost use Rattle.machine_checkpoint.specs.Taking.{IsSnapshot, Untaken, checkpoint_sectors, settled_parts};
 ghost use Rattle.tm_machine.specs.Inputs.{is_input_fault};
-ghost use Rattle.machine_due.specs.Due.{Behind, CountsWithin, KeepsOnDisk};
+ghost use Rattle.machine_due.specs.Due.{Behind, CountsWithin, IsEmptyLog, KeepsOnDisk};
 
 use crate::writing::{write_parts, write_told};
 use journal::Journal;
@@ -58,24 +61,14 @@ pub fn input_due<D: Disk>(
     ensures writes { WritesAtMost (checkpoint_sectors parts.old.system parts.old.databases.changed journal.old) (D.state disk.old) (D.state disk.new) }
     ensures cause { IfErr result (Untaken D.state parts.old parts.new journal.old journal.new disk.old disk.new) }
 {
-    let _before = parts.stores();
-    let next = journal.restart().checkpoint + 1;
-    let Ok(bytes) = snapshot(alloc, parts, units, next_unit, next) else {
+    let bytes = next_snapshot(alloc, parts, journal, units, next_unit)?;
+    let mut told = journal_apart(alloc, parts, journal);
+    let room = all_room(&told);
+    let Ok(answer) = tell_input(alloc, parts, &mut told, terminal, number, segments, room) else {
         return Err(ControlFault::Memory);
     };
-    let mut told = Journal::begin(alloc, 0, parts.system().logs(), journal.restart());
-    let room = all_room(&told);
-    let answer = match tell_input(alloc, parts, &mut told, terminal, number, segments, room) {
-        Ok(answer) => answer,
-        Err(_) => return Err(ControlFault::Memory),
-    };
-    match write_parts(alloc, parts, journal, disk, bytes.as_slice(), &mut told) {
-        Ok(()) => {
-            let _behind = parts.stores();
-            Ok(answer)
-        }
-        Err(_) => Err(ControlFault::Disk),
-    }
+    write_parts(alloc, parts, journal, disk, bytes.as_slice(), &mut told)?;
+    Ok(answer)
 }
 
 /// The same for an acknowledgement.
@@ -102,24 +95,14 @@ pub fn acknowledgement_due<D: Disk>(
     ensures writes { WritesAtMost (checkpoint_sectors parts.old.system parts.old.databases.changed journal.old) (D.state disk.old) (D.state disk.new) }
     ensures cause { IfErr result (Untaken D.state parts.old parts.new journal.old journal.new disk.old disk.new) }
 {
-    let _before = parts.stores();
-    let next = journal.restart().checkpoint + 1;
-    let Ok(bytes) = snapshot(alloc, parts, units, next_unit, next) else {
+    let bytes = next_snapshot(alloc, parts, journal, units, next_unit)?;
+    let mut told = journal_apart(alloc, parts, journal);
+    let room = all_room(&told);
+    let Ok(answer) = tell_acknowledgement(alloc, parts, &mut told, terminal, number, room) else {
         return Err(ControlFault::Memory);
     };
-    let mut told = Journal::begin(alloc, 0, parts.system().logs(), journal.restart());
-    let room = all_room(&told);
-    let answer = match tell_acknowledgement(alloc, parts, &mut told, terminal, number, room) {
-        Ok(answer) => answer,
-        Err(_) => return Err(ControlFault::Memory),
-    };
-    match write_parts(alloc, parts, journal, disk, bytes.as_slice(), &mut told) {
-        Ok(()) => {
-            let _behind = parts.stores();
-            Ok(answer)
-        }
-        Err(_) => Err(ControlFault::Disk),
-    }
+    write_parts(alloc, parts, journal, disk, bytes.as_slice(), &mut told)?;
+    Ok(answer)
 }
 
 /// The same for an operator's command.
@@ -147,27 +130,14 @@ pub fn command_due<D: Disk>(
     ensures writes { WritesAtMost (checkpoint_sectors parts.old.system parts.old.databases.changed journal.old) (D.state disk.old) (D.state disk.new) }
     ensures cause { IfErr result (Untaken D.state parts.old parts.new journal.old journal.new disk.old disk.new) }
 {
-    let _before = parts.stores();
-    let next = journal.restart().checkpoint + 1;
-    let Ok(bytes) = snapshot(alloc, parts, units, next_unit, next) else {
+    let bytes = next_snapshot(alloc, parts, journal, units, next_unit)?;
+    let mut told = journal_apart(alloc, parts, journal);
+    let room = all_room(&told);
+    let Ok(answer) = tell_command(alloc, parts, &mut told, command, room) else {
         return Err(ControlFault::Memory);
     };
-    let mut told = Journal::begin(alloc, 0, parts.system().logs(), journal.restart());
-    let room = all_room(&told);
-    let answer = match tell_command(alloc, parts, &mut told, command, room) {
-        Ok(answer) => answer,
-        Err(_) => return Err(ControlFault::Memory),
-    };
-    match write_parts(alloc, parts, journal, disk, bytes.as_slice(), &mut told) {
-        Ok(()) => {
-            let _behind = parts.stores();
-            Ok(answer)
-        }
-        Err(_) => {
-            drop(answer);
-            Err(ControlFault::Disk)
-        }
-    }
+    write_parts(alloc, parts, journal, disk, bytes.as_slice(), &mut told)?;
+    Ok(answer)
 }
 
 /// The same for a region's next step. It changes the stores, so the checkpoint is written from a copy, and where there is no memory
@@ -196,26 +166,19 @@ pub fn turn_due<D: Disk>(
     ensures writes { WritesAtMost (checkpoint_sectors parts.old.system parts.old.databases.changed journal.old) (D.state disk.old) (D.state disk.new) }
     ensures cause { IfErr result (Untaken D.state parts.old parts.new journal.old journal.new disk.old disk.new) }
 {
-    let _before = parts.stores();
-    let next = journal.restart().checkpoint + 1;
-    let Ok(bytes) = snapshot(alloc, parts, units, next_unit, next) else {
-        return Err(ControlFault::Memory);
-    };
+    let bytes = next_snapshot(alloc, parts, journal, units, next_unit)?;
     let Ok(stores) = parts.stores().copy(alloc) else {
         return Err(ControlFault::Memory);
     };
-    let unit = unit_of(units, region);
-    let mut told = Journal::begin(alloc, 0, parts.system().logs(), journal.restart());
+    let mut told = journal_apart(alloc, parts, journal);
     let room = all_room(&told);
+    let unit = unit_of(units, region);
     parts.settle();
-    let turned = match tell_turn(alloc, parts, &mut told, region, unit, room) {
-        Ok(turned) => turned,
-        Err(_) => {
-            parts.put_stores(stores);
-            return Err(ControlFault::Memory);
-        }
+    let Ok(turned) = tell_turn(alloc, parts, &mut told, region, unit, room) else {
+        parts.put_stores(stores);
+        return Err(ControlFault::Memory);
     };
-    match write_told(
+    write_told(
         alloc,
         parts.system(),
         &stores,
@@ -223,8 +186,36 @@ pub fn turn_due<D: Disk>(
         disk,
         bytes.as_slice(),
         &mut told,
-    ) {
-        Ok(()) => Ok(turned),
-        Err(_) => Err(ControlFault::Disk),
+    )?;
+    Ok(turned)
+}
+
+/// The bytes of the next checkpoint's snapshot.
+fn next_snapshot(
+    alloc: Global,
+    parts: &Parts,
+    journal: &Journal,
+    units: &[u64],
+    next_unit: u64,
+) -> Result<Vec<u8>, ControlFault>
+    requires carried { (life : LifeOnDisk) × IsCarried parts.now units.now next_unit life }
+    requires numbered { length units.now ≡ length parts.now.system.regions }
+    requires counted { IsCounted 0 parts.now.moment.lasting next_unit journal.now }
+    ensures snapshot { IfOk result (λ bytes. IsSnapshot parts.entry.now units.entry.now next_unit (journal.entry.now.restart.checkpoint + 1) bytes.items) }
+    ensures memory { IfErr result (λ fault. fault ≡ faults.Memory) }
+    ensures slots { HasSlots parts.now }
+{
+    let _slots = parts.stores();
+    let next = journal.restart().checkpoint + 1;
+    match snapshot(alloc, parts, units, next_unit, next) {
+        Ok(bytes) => Ok(bytes),
+        Err(_) => Err(ControlFault::Memory),
     }
+}
+
+/// A journal of its own for the records of a call, with as much room as the log's area has.
+fn journal_apart(alloc: Global, parts: &Parts, journal: &Journal) -> Journal
+    ensures { IsEmptyLog parts.now.system.logs result.log }
+{
+    Journal::begin(alloc, 0, parts.system().logs(), journal.restart())
 }

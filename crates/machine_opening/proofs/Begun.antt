@@ -1,5 +1,5 @@
 -- A machine that is opened goes with a life.
-use Rattle.std.proofs.Common.{◌≡◌, ℕ, zero, suc, ◌≤◌, List, length, Result, Ok, Err, refl, sym, ◌∙◌, ap, subst}
+use Rattle.std.proofs.Common.{◌≡◌, ℕ, zero, suc, ◌≤◌, List, [], map, length, Result, Ok, Err, refl, sym, ◌∙◌, ap, subst}
 use Rattle.std.specs.Prelude.{IfOk, IsTrue}
 use Rattle.model_disk.specs.Disk.{DiskState, Image}
 use Rattle.model_system.specs.System.{System}
@@ -93,9 +93,11 @@ module _ (system : System) (parts : PartsState) (text : List ℕ) (opening : Ope
 pub opens_on : (how : How) (seen system : System) (text : List ℕ) (old new : DiskState) (machine : PartsState) (opening : OpeningParts) (state : LastingState) (journal : JournalState) (next : ℕ)
     → journal.log ≡ first_writer system opening.now → journal.restart ≡ opening.now → next ≡ opening.next_unit → seen ≡ system → BeginsOn seen text opening state new
     → SizeFirst seen old.size (Ok (opening, state)) → OpeningCause (Ok (opening, state)) old new → (how ≡ Found → IsTrue old.tells → TellsOpening seen text old.shown (Ok (opening, state)))
-    → (how ≡ Cold → TellsCold seen (Ok (opening, state))) → ((some : LastingState) → IsOpenedWith system some opening → machine.moment ≡ start_of system some) → OpensOn how system text old new machine journal next state
-opens_on how seen system text old new machine opening state journal next log restart unit same b size cause by_found by_cold moment = record {
+    → (how ≡ Cold → TellsCold seen (Ok (opening, state))) → ((some : LastingState) → IsOpenedWith system some opening → machine.moment ≡ start_of system some)
+    → slots_now machine ≡ slots_of_opening opening (length system.regions) → OpensOn how system text old new machine journal next state
+opens_on how seen system text old new machine opening state journal next log restart unit same b size cause by_found by_cold moment slots_are = record {
   moment = moment state (opened_with system text opening state new (subst (λ (y : System). BeginsOn y text opening state new) same b));
+  unchanged = (λ i. (slots_are i).changed) ∙ b.are.written ∙ (λ i. map (λ dbd. []) (same i).databases);
   no_fault = cause;
   size = subst (λ (y : System). sectors_needed y ≤ old.size) same size;
   begins = record {

@@ -1,5 +1,5 @@
 -- What a machine with its log is opened with.
-use Rattle.std.specs.Prelude.{◌≡◌, ℕ, ◌≤◌, List}
+use Rattle.std.specs.Prelude.{◌≡◌, ℕ, ◌≤◌, List, [], map}
 use Rattle.model_disk.specs.Disk.{Image, DiskState}
 use Rattle.model_system.specs.System.{System}
 use Rattle.model_machine.specs.Machine.{LastingState, start_of}
@@ -13,9 +13,11 @@ use Rattle.tm_machine.specs.Parts.{PartsState}
 use Rattle.control_life.specs.declared.how.How.{How}
 use Rattle.control_life.specs.Opened.{Begins}
 
--- The machine stands where that begins, and so do its journal and the number of the next unit.
+-- The machine stands where that begins, and so do its journal and the number of the next unit. No slot of its databases
+-- counts as changed.
 pub record OpensOn (how : How) (system : System) (text : List ℕ) (old new : DiskState) (machine : PartsState) (journal : JournalState) (next_unit : ℕ) (opening : LastingState) : Type 0 where
   pub moment : machine.moment ≡ start_of system opening
+  pub unchanged : machine.databases.changed ≡ map (λ dbd. []) system.databases
   pub no_fault : new.faults ≡ old.faults
   pub size : sectors_needed system ≤ old.size
   pub begins : Begins how system text old opening journal.restart journal.log next_unit

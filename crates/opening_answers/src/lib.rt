@@ -4,6 +4,8 @@
 #![tactic(auto)]
 
 mod refusals;
+mod spending;
 
 pub use model_machine::Counter;
 pub use refusals::OpenError;
+pub use spending::{Counts, spent_counter};

@@ -16,7 +16,7 @@ use Rattle.model_message.specs.declared.ended_message.EndedMessage.{EndedMessage
 use Rattle.model_message.specs.Calls.{finish_work, pad_change}
 use Rattle.model_system.specs.Jobs.{Job, job_of}
 use Rattle.program_rows.specs.State.{DatabasesState, IsClean, committed_rows}
-use Rattle.program_rows.specs.Telling.{spelled}
+use Rattle.log_records.specs.Telling.{spelled}
 use Rattle.message_run.specs.declared.run.Advanced.{Advanced}
 use Rattle.message_run.specs.Ahead.{IsAhead, Advances, given_with}
 use Rattle.message_run.specs.Telling.{next_told, TellsNext}
@@ -64,16 +64,20 @@ abbrev pub IsQueuedWork : System → TablesState → ℕ → Busy → Type 0
 IsQueuedWork system tables region busy =
     IsSomeAnd (message_at busy.id tables.queues.queued) (λ message. IsWork system tables.databases region (given_in tables.conversations message) busy)
 
--- the work taken out of a region, which was started at the latest now
-pub record IsTakenOn (system : System) (databases : DatabasesState) (region : ℕ) (given : Given) (busy : Busy) (unit : RunState) : Type 0 where
+-- the work in a region, which was started at the latest now
+pub record IsStartedOn (system : System) (databases : DatabasesState) (region : ℕ) (given : Given) (busy : Busy) (unit : RunState) : Type 0 where
   pub job : Job
   pub serves : job_of system busy.code ≡ Some job
   pub calls : unit.calls ≡ calls_made busy.unit
   pub ahead : IsAhead job given region databases unit
 
-abbrev pub IsTaken : System → TablesState → ℕ → Busy → RunState → Type 0
-IsTaken system tables region busy unit =
-    IsSomeAnd (message_at busy.id tables.queues.queued) (λ message. IsTakenOn system tables.databases region (given_in tables.conversations message) busy unit)
+abbrev pub IsStartedIn : System → TablesState → ℕ → Busy → RunState → Type 0
+IsStartedIn system tables region busy unit =
+    IsSomeAnd (message_at busy.id tables.queues.queued) (λ message. IsStartedOn system tables.databases region (given_in tables.conversations message) busy unit)
+
+-- so it is in whichever region has the work
+abbrev pub IsStarted : System → TablesState → Busy → RunState → Type 0
+IsStarted system tables busy unit = (region : ℕ) → IsQueuedWork system tables region busy → IsStartedIn system tables region busy unit
 
 -- the same message, code and count
 pub record SameMessage (old new : Busy) : Type 0 where

@@ -39,7 +39,6 @@ pub fn names_moved(
 /// Completes the message of this id, and empties its region; this becomes of the pad of its origin. The records of
 /// this unit, of at most `room` bytes, are appended. A refusal changes nothing.
 pub fn complete(
-    alloc: Global,
     regions: &mut Vec<Option<Busy>>,
     region: u32,
     tables: &mut Tables,
@@ -69,13 +68,9 @@ pub fn complete(
     ensures err { OnErr result (tables.new ≡ tables.old) }
     ensures above { OnOk result (IsNewId tables.old.next_id tables.old.queues.queued) }
 {
-    match tables.complete(alloc, region, id, outputs, pad, unit, room, told) {
-        Ok(()) => {
-            empty(&mut regions[region as usize - 1]);
-            Ok(())
-        }
-        Err(error) => Err(error),
-    }
+    tables.complete(region, id, outputs, pad, unit, room, told)?;
+    empty(&mut regions[region as usize - 1]);
+    Ok(())
 }
 
 /// Discards the message of this id, the work on which ended abnormally, and empties its region. The record of this
@@ -108,13 +103,9 @@ pub fn discard(
     ensures err { OnErr result (tables.new ≡ tables.old) }
     ensures above { OnOk result (IsNewId tables.old.next_id tables.old.queues.queued) }
 {
-    match tables.discard(alloc, region, id, abend, unit, room, told) {
-        Ok(()) => {
-            empty(&mut regions[region as usize - 1]);
-            Ok(())
-        }
-        Err(error) => Err(error),
-    }
+    tables.discard(alloc, region, id, abend, unit, room, told)?;
+    empty(&mut regions[region as usize - 1]);
+    Ok(())
 }
 
 /// Takes the message of this id back from its region, which gives way. This takes no memory.

@@ -1,8 +1,8 @@
 //! Which priorities count.
-ghost use Rattle.std.specs.Prelude.{◌≡◌, length};
+ghost use Rattle.std.specs.Prelude.{◌≡◌, ◌<◌, length, slice_get};
 ghost use Rattle.model_queues.specs.Queue.{free_count};
 ghost use Rattle.model_machine.specs.Machine.{raised_by};
-ghost use Rattle.model_machine.specs.Flags.{followed, all_followed};
+ghost use Rattle.model_machine.specs.Flags.{followed, followed_by, all_followed};
 
 use model_system::Transaction;
 use msg_queues::Queues;
@@ -28,13 +28,22 @@ pub fn follow(codes: &mut Codes, system: &System, name: &Name, waiting: u64)
     ensures { codes.new ≡ followed system.now.codes name.now waiting codes.old }
 {
     if let Some(place) = system.code_place(name) {
-        let raised = raised_by(
-            &system.codes()[place].transaction,
-            waiting,
-            codes.states()[place].raised,
-        );
-        codes.set_raised(place, raised);
+        follow_at(codes, system, place, waiting);
     }
+}
+
+/// The same for the code at this place.
+pub fn follow_at(codes: &mut Codes, system: &System, place: usize, waiting: u64)
+    requires count { length codes.old ≡ length system.now.codes }
+    requires within { place < length system.now.codes }
+    ensures { codes.new ≡ followed_by waiting (slice_get system.now.codes place) codes.old place }
+{
+    let raised = raised_by(
+        &system.codes()[place].transaction,
+        waiting,
+        codes.states()[place].raised,
+    );
+    codes.set_raised(place, raised);
 }
 
 /// Makes the flags of these codes follow how many of their messages wait in the queues.

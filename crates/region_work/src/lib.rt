@@ -6,8 +6,8 @@
 #![tactic(auto)]
 
 pub use close::{busy_at, code_of, complete, discard, give_up, names_moved};
-pub use flags::{follow, follow_all};
-pub use next::{SLOT_ROOM, next_message};
+pub use flags::{follow, follow_all, follow_at};
+pub use next::next_message;
 pub use region::{Busy, advance, count_busy, outputs_by, pad_by, take};
 
 mod close;

@@ -11,12 +11,9 @@ ghost use Rattle.region_work.specs.Ends.{goes_on_with};
 
 use lasting_state::Tables;
 use model_system::{CodeState, Transaction};
-use msg_queues::Queues;
+use msg_queues::{Queues, SLOT_ROOM};
 use system_types::{Codes, System};
 use tm_types::Name;
-
-/// The room that the queues keep for each region at work.
-pub const SLOT_ROOM: u64 = 65_536;
 
 /// Whether a region that has taken so many messages of a code may take another.
 fn may_go_on(transaction: &Transaction, state: &CodeState, taken: u64) -> bool
@@ -43,6 +40,7 @@ fn first_free(queues: &Queues, code: &Name) -> Option<u64>
 }
 
 /// The message that a region goes on with behind a completion; so many regions were busy with it.
+#[tactic(auto, using(system_types::proofs::Indexed::found_at))]
 pub fn next_message(
     system: &System,
     codes: &Codes,
@@ -55,13 +53,11 @@ pub fn next_message(
     ensures value { result ≡ goes_on_with system.now.qbytes tables.now code.now taken busy (code_at system.now.codes code.now) (option_and_then (slice_get codes.now) (code_place system.now.codes code.now)) }
     ensures free { IfSome result (λ id. IsFirstFree tables.now.queues.queued code.now id) }
 {
-    let Some(found) = system.code(code) else {
-        return None;
-    };
     let Some(place) = system.code_place(code) else {
         return None;
     };
-    if !may_go_on(&found.transaction, &codes.states()[place], taken) {
+    let transaction = &system.codes()[place].transaction;
+    if !may_go_on(transaction, &codes.states()[place], taken) {
         return None;
     }
     if !has_room(tables, system.qbytes(), busy) {

@@ -1,5 +1,5 @@
 //! What a region works on.
-ghost use Rattle.std.specs.Prelude.{◌≡◌, ◌≤◌, ◌-◌, None, slice_set, ◌<◌, ◌^◌, length, count_by, is_some, IfOk, IfErr, OnErr, OnOk, IfSome, Some, IsSome, IsSomeAnd};
+ghost use Rattle.std.specs.Prelude.{◌≡◌, ◌≤◌, ◌-◌, ℕ, None, slice_set, ◌<◌, ◌^◌, length, count_by, is_some, IfOk, IfErr, OnErr, OnOk, IfSome, Some, IsSome, IsSomeAnd};
 ghost use Rattle.std.specs.Option.{option_copied};
 ghost use Rattle.io_pcb.specs.Pads.{lent_pad};
 ghost use Rattle.model_queues.specs.Queue.{messages_of, queued_at};
@@ -11,9 +11,9 @@ ghost use Rattle.program_rows.specs.State.{dbds_of, IsRegionOf};
 ghost use Rattle.message_run.specs.RunState.{AreStanding};
 ghost use Rattle.message_run.specs.Ahead.{IsStart, StaysUnlessCalled, StayOthers};
 ghost use Rattle.message_run.specs.Telling.{TellsNext, IsQuietUnlessCalled};
-ghost use Rattle.program_rows.specs.Telling.{spelled};
+ghost use Rattle.log_records.specs.Telling.{spelled};
 ghost use Rattle.step_telling.specs.Untold.{WhereFull};
-ghost use Rattle.region_work.specs.Region.{given_in, HasPad, HavePads, IsQueuedWork, IsTaken, GoesSo, TellsSo, IsLongerSo, NextTells, Steps, SameWork, SuitsUnit, outputs_by, pad_by, pad_in};
+ghost use Rattle.region_work.specs.Region.{given_in, HasPad, HavePads, IsQueuedWork, IsStarted, GoesSo, TellsSo, IsLongerSo, NextTells, Steps, SameWork, SuitsUnit, outputs_by, pad_by, pad_in};
 
 use io_pcb::LentPad;
 use lasting_state::{Tables, Untold};
@@ -78,31 +78,23 @@ fn pad_of<'a>(tables: &'a Tables, message: &Message) -> Option<&'a [u8]>
     }
 }
 
-/// The work of a region as it has come so far, taken out of it; it is started where it wasn't. Want of
-/// memory leaves it there.
-fn take_unit(
-    alloc: Global,
-    system: &System,
-    _region: u32,
-    tables: &Tables,
-    busy: &mut Busy,
-) -> Result<Run, Memory>
-    requires work { IsQueuedWork system.now tables.now _region busy.old }
+/// Starts the work of a region on its message, where it wasn't started. Want of memory leaves it so.
+fn start(alloc: Global, system: &System, tables: &Tables, busy: &mut Busy) -> Result<(), Memory>
+    requires work { (region : ℕ) × IsQueuedWork system.now tables.now region busy.old }
     requires pads { HavePads tables.now.conversations (messages_of tables.now.queues.queued) }
     requires databases { dbds_of tables.now.databases ≡ system.now.databases }
-    ensures ahead { IfOk result (IsTaken system.now tables.now _region busy.old) }
-    ensures taken { OnOk result (busy.new ≡ record busy.old { unit = None }) }
+    ensures started { OnOk result (IsSomeAnd busy.new.unit (IsStarted system.now tables.now busy.old)) }
+    ensures same { busy.new ≡ record busy.old { unit = busy.new.unit } }
     ensures err { OnErr result (busy.new ≡ busy.old) }
 {
-    match busy.unit.take() {
-        Some(unit) => Ok(unit),
-        None => {
-            let Some(message) = tables.queues().find(busy.id) else {
-                unreachable!()
-            };
-            start_unit(alloc, system, tables, &busy.code, message)
-        }
+    if busy.unit.is_some() {
+        return Ok(());
     }
+    let Some(message) = tables.queues().find(busy.id) else {
+        unreachable!()
+    };
+    busy.unit = Some(start_unit(alloc, system, tables, &busy.code, message)?);
+    Ok(())
 }
 
 /// Lets the script of a code go on to its next call, and answers that. An Err changes nothing. What the call changes in the
@@ -163,22 +155,20 @@ fn advance_busy(
     ensures untold { OnErr result (told.new.items ≡ told.old.items) }
     ensures full { IfErr result (WhereFull (NextTells system.now region unit tables.old (λ records. room < length (spelled records)) (Some busy.old))) }
 {
-    let mut run = match take_unit(alloc, system, region, tables, busy) {
-        Ok(run) => run,
-        Err(_) => return Err(Untold::Memory),
-    };
-    let advanced = advance_unit(
-        system,
-        region,
-        &busy.code,
-        tables.databases_mut(),
-        &mut run,
-        unit,
-        room,
-        told,
-    );
-    busy.unit = Some(run);
-    advanced
+    start(alloc, system, tables, busy)?;
+    match &mut busy.unit {
+        Some(run) => advance_unit(
+            system,
+            region,
+            &busy.code,
+            tables.databases_mut(),
+            run,
+            unit,
+            room,
+            told,
+        ),
+        None => unreachable!(),
+    }
 }
 
 /// Lets the script of a region go on to its next call, and answers that; nothing where the region

@@ -23,7 +23,7 @@ use Rattle.checkpointing.specs.Texts.{HasText}
 use Rattle.checkpointing.proofs.Counted.{up_to_more}
 use Rattle.disk_law.specs.Journal.{JournalState}
 use Rattle.logged_machine.specs.Logged.{LoggedState, LastsNow}
-use Rattle.logged_machine.specs.Goes.{Keeps, Failed, GoesBy, CrashesBy}
+use Rattle.logged_machine.specs.Goes.{Keeps, Failed, GoesBy, CrashesBy, ActsOn}
 use Rattle.control_life.specs.Faults.{fault_in}
 use Rattle.tm_control.specs.OnDisk.{ControlOnDisk, IsDown, Lasts, LastsBy, lasting_after}
 use Rattle.model_machine.specs.declared.entry.ControlCall.{ControlCall}
@@ -211,6 +211,9 @@ module _ {D : Type 0} (state : D → DiskState) (old new : LoggedState D) (openi
         record {
           adds = record {
             adds = record { system = went.keeps.system; opening = refl; history = longer; may = subst (λ m. May old.machine.system m entry) (sym went.holds.moment) goes.answered.may };
+            numbers = goes.numbers;
+            acts = subst (λ (m : Moment). ActsOn old.units entry (record { system = old.machine.system; moment = m; databases = old.machine.databases }) (parts_now is)) (sym went.holds.moment)
+                (subst (λ (m : Moment). ActsOn old.units entry old.machine (record { system = new.machine.system; moment = m; databases = new.machine.databases })) (sym here.moment) goes.acts);
             up = goes.served;
             no_fault = goes.no_fault;
           };

@@ -13,6 +13,7 @@ use Rattle.checkpointing.specs.Counts.{CountsUpTo}
 use Rattle.checkpoint_law.specs.Counted.{StandsUpTo}
 use Rattle.disk_law.specs.Kept.{RecoversEither}
 use Rattle.tm_machine.specs.Parts.{PartsState}
+use Rattle.logged_machine.specs.Goes.{NumbersBy, ActsOn}
 use Rattle.logged_machine.specs.Frugal.{IsFrugal, Raises}
 use Rattle.tm_control.specs.OnDisk.{ControlOnDisk, lasting_after}
 
@@ -42,9 +43,16 @@ pub record StaysSo {D : Type 0} (state : D → DiskState) (old new : ControlOnDi
 
 -- ---- entries
 
--- A call was answered: its entry, with the machine's answer at its place, stands at the end.
+-- the parts of its machine, where its history has come to
+abbrev pub parts_now : {D : Type 0} → ControlOnDisk D → PartsState
+parts_now c = record { system = c.control.system; moment = now_of c.control; databases = c.databases }
+
+-- A call was answered: its entry, with the machine's answer at its place, stands at the end. The numbers of units and the databases
+-- are what the answer says.
 pub record Answered {D : Type 0} (state : D → DiskState) (old new : ControlOnDisk D) (entry : Entry) : Type 0 where
   pub adds : AddsEntry old.control new.control entry
+  pub numbers : NumbersBy entry old.units new.units old.next_unit new.next_unit
+  pub acts : ActsOn old.units entry (parts_now old) (parts_now new)
   pub up : new.up ≡ true
   pub no_fault : (state new.disk).faults ≡ (state old.disk).faults
 
@@ -117,10 +125,6 @@ CrashesSo state (Some Memory) old new entry = CrashesAlone state old new
 CrashesSo state (Some (Spent counter)) old new entry = CrashesAlone state old new
 
 -- ---- writes
-
--- the parts of its machine, where its history has come to
-abbrev pub parts_now : {D : Type 0} → ControlOnDisk D → PartsState
-parts_now c = record { system = c.control.system; moment = now_of c.control; databases = c.databases }
 
 -- A call that appends no bytes of its own, or leaves 32 sectors of the log's area free with them, takes no checkpoint, and writes
 -- to the log alone: no more sectors than what was appended takes, and none where no step lasts of it. Before any other a

@@ -1,5 +1,5 @@
 -- What a control region opens with, and what is handed back at the end of a life.
-use Rattle.std.specs.Prelude.{◌≡◌, ℕ, ◌+◌, ◌≤◌, true, List, []}
+use Rattle.std.specs.Prelude.{◌≡◌, ℕ, ◌+◌, ◌≤◌, true, List, [], length, map, replicate}
 use Rattle.model_disk.specs.Disk.{DiskState, Stays, Within}
 use Rattle.model_system.specs.System.{System}
 use Rattle.model_machine.specs.Machine.{start_of}
@@ -11,11 +11,14 @@ use Rattle.control_life.specs.Opened.{KeepsBy, Begins}
 use Rattle.control_life.specs.declared.life.Life.{Life}
 use Rattle.tm_control.specs.OnDisk.{ControlOnDisk, lasting_after}
 
--- A control region was opened: it is up, and has no entry yet. What it counts on stands where it begins.
+-- A control region was opened: it is up, and has no entry yet. What it counts on stands where it begins. No region has a unit, and no slot
+-- counts as changed.
 pub record Opens {D : Type 0} (state : D → DiskState) (how : How) (system : System) (text : List ℕ) (disk : D) (new : ControlOnDisk D) : Type 0 where
   pub system_is : new.control.system ≡ system
   pub text_is : new.text ≡ text
   pub history : new.control.history ≡ []
+  pub unchanged : new.databases.changed ≡ map (λ dbd. []) system.databases
+  pub units : new.units ≡ replicate (length system.regions) 0
   pub up : new.up ≡ true
   pub began : new.began ≡ (state disk).faults
   pub no_fault : (state new.disk).faults ≡ (state disk).faults

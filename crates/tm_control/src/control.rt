@@ -143,13 +143,6 @@ impl<D: Disk> Control<D> {
         self.machine.system()
     }
 
-    /// The disk.
-    pub fn disk(&self) -> &D
-        ensures { result.now ≡ self.now.disk }
-    {
-        self.machine.disk()
-    }
-
     /// Whether nothing is left to do: all regions are empty, and none has a message to take, or the room for it.
     pub fn quiet(&self) -> bool
         requires up { self.now.up ≡ true }

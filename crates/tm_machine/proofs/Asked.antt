@@ -49,6 +49,7 @@ use Rattle.tm_machine.specs.declared.input.Way.TheVariants.{Alone, Begins}
 use Rattle.tm_machine.specs.Parts.{PartsState, slots_of, settings_of, flags_of, AreParts}
 use Rattle.tm_machine.proofs.Conversing.{no_both}
 use Rattle.tm_machine.proofs.Leaving.{moment_is, moment_stays}
+use Rattle.tm_machine.proofs.Named.{code_named, code_there, unplaced_code}
 use Rattle.tm_machine.proofs.Raising.{followed_none}
 use Rattle.tm_machine.proofs.Started.{moment_refused}
 
@@ -498,52 +499,60 @@ module _ (system : System) (tables : TablesState) (states : List CodeState) (reg
         goes : kept_here.code ≡ code_for conversation segments
         goes = kept_goes system conversation_here segments ∙ ap (λ o. code_for o segments) (sym code_is)
 
-        pub uncoded_input : None ≡ code_at system.codes (code_for conversation segments) → Err NoCode ≡ input_answer system moment_here terminal number segments
+        pub uncoded_input : None ≡ code_place system.codes (code_for conversation segments) → Err NoCode ≡ input_answer system moment_here terminal number segments
         uncoded_input none =
             no_code terminal_here last number (busy_by conversation_here busy_here) (code_at system.codes kept_here.code) halted_here (length kept_here.segments) room_here tables.next_id there next idle
-            (ap (code_at system.codes) goes ∙ sym none)
+            (ap (code_at system.codes) goes ∙ sym (unplaced_code system.codes (code_for conversation segments) none))
 
-        -- the code that was found is stopped
-        module _ (found : Code) (coded : Some found ≡ code_at system.codes (code_for conversation segments)) (name : List ℕ) (named_so : name ≡ found.transaction.code)
-            (goes_to : found.transaction.code ≡ code_for conversation segments) (halted : Bool) (told : halted ≡ option_map_or (λ s. s.stopped) (option_and_then (slice_get states) (code_place system.codes name)) false) where
-          is_named : name ≡ kept_here.code
-          is_named = named_so ∙ goes_to ∙ sym goes
+        -- the code is found at this place
+        module _ (spot : ℕ) (at_spot : Some spot ≡ code_place system.codes (code_for conversation segments)) (found : Code) (is_there : slice_get system.codes spot ≡ Some found)
+            (name : List ℕ) (named_so : name ≡ found.transaction.code) (halted : Bool) (told : halted ≡ option_map_or (λ s. s.stopped) (slice_get states spot) false) where
+          is_found : Some found ≡ code_at system.codes (code_for conversation segments)
+          is_found = code_there system.codes (code_for conversation segments) spot found at_spot is_there
 
-          pub halts : halted_here ≡ (if halted then Some (Err (StoppedCode name)) else None)
+          goes_to : name ≡ code_for conversation segments
+          goes_to = named_so ∙ code_named system.codes (code_for conversation segments) found (sym is_found)
+
+          placed_so : Some spot ≡ code_place system.codes name
+          placed_so = at_spot ∙ ap (code_place system.codes) (sym goes_to)
+
+          halts : halted_here ≡ (if halted then Some (Err (StoppedCode name)) else None)
           halts =
-              ap (λ k. stopped_code system moment_here k) (sym is_named)
+              ap (λ k. stopped_code system moment_here k) (sym (goes_to ∙ sym goes))
               ∙ ap (λ ss. stopped_by name (option_and_then (slice_get ss) (code_place system.codes name))) (states_again states)
+              ∙ ap (λ p. stopped_by name (option_and_then (slice_get states) p)) (sym placed_so)
               ∙ ap (λ b. if b then Some (Err (StoppedCode name)) else None) (sym told)
 
           pub halted_input : halted ≡ true → Err (StoppedCode name) ≡ input_answer system moment_here terminal number segments
           halted_input stops =
               stopped_code_is terminal_here last number (busy_by conversation_here busy_here) (code_at system.codes kept_here.code) found halted_here (length kept_here.segments) room_here tables.next_id name there next idle
-              (ap (code_at system.codes) goes ∙ sym coded) (halts ∙ ap (λ b. if b then Some (Err (StoppedCode name)) else None) stops)
+              (ap (code_at system.codes) goes ∙ sym is_found) (halts ∙ ap (λ b. if b then Some (Err (StoppedCode name)) else None) stops)
 
-          pub not_halted : halted ≡ false → halted_here ≡ None
-          not_halted starts = halts ∙ ap (λ b. if b then Some (Err (StoppedCode name)) else None) starts
+          module _ (starts : halted ≡ false) (most size : ℕ) (limit : most ≡ most_segments found.transaction.segment_kind) (count : size ≡ length segments) where
+            free_code : halted_here ≡ None
+            free_code = halts ∙ ap (λ b. if b then Some (Err (StoppedCode name)) else None) starts
 
-        module _ (found : Code) (coded : Some found ≡ code_at system.codes (code_for conversation segments)) (free_code : halted_here ≡ None) (most size : ℕ) (limit : most ≡ most_segments found.transaction.segment_kind)
-            (count : size ≡ length segments) where
-          pub many_input : most < size → Err (SegmentsOver size most) ≡ input_answer system moment_here terminal number segments
-          many_input over =
-              many terminal_here last number (busy_by conversation_here busy_here) (code_at system.codes kept_here.code) found halted_here (length kept_here.segments) room_here tables.next_id most size there next idle
-              (ap (code_at system.codes) goes ∙ sym coded) free_code limit (count ∙ sym (kept_count system conversation_here segments)) over
+            pub many_input : most < size → Err (SegmentsOver size most) ≡ input_answer system moment_here terminal number segments
+            many_input over =
+                many terminal_here last number (busy_by conversation_here busy_here) (code_at system.codes kept_here.code) found halted_here (length kept_here.segments) room_here tables.next_id most size there next idle
+                (ap (code_at system.codes) goes ∙ sym is_found) free_code limit (count ∙ sym (kept_count system conversation_here segments)) over
 
-          pub new_input : size ≤ most → (input : NewInput) → input.place ≡ place → place < length system.terminals → input.way ≡ way_by conversation found.transaction.scratch_pad
-              → input.code ≡ found.transaction.code → found.transaction.code ≡ code_for conversation segments → IsName input.code
-              → IsNewInput (record { system = system; moment = moment_here; databases = tables.databases }) terminal number segments input
-          new_input fits input placed within way code named name = record {
-            answer = room_left terminal_here last number (busy_by conversation_here busy_here) (code_at system.codes kept_here.code) found halted_here (length kept_here.segments) room_here tables.next_id most size there next idle
-                (ap (code_at system.codes) goes ∙ sym coded) free_code limit (count ∙ sym (kept_count system conversation_here segments)) fits;
-            place = sym (place_is tables.terminals system.terminals terminal parts.names) ∙ sym at ∙ ap (λ p. Some p) (sym placed);
-            within = subst (λ p. p < length tables.terminals) (sym placed) (subst (λ n. place < n) (ap length (sym parts.names) ∙ length_map (λ (t : TerminalState). t.name) tables.terminals) within);
-            kept =
-                ap (λ w. kept_so w input.code segments) way
-                ∙ ap (λ k. kept_so (way_by conversation found.transaction.scratch_pad) k segments) (code ∙ named)
-                ∙ ap (λ o. kept_so (way_by o found.transaction.scratch_pad) (code_for o segments) segments) code_is
-                ∙ kept_is system conversation_here segments found (ap (λ o. code_at system.codes (code_for o segments)) (sym code_is) ∙ sym coded);
-            named = name;
-            free = idle;
-            few = let most_is = most_few found.transaction.segment_kind in omega (arith, most_is, limit, count, fits);
-          }
+            pub new_input : size ≤ most → (input : NewInput) → input.place ≡ place → place < length system.terminals → input.code_index ≡ spot → spot < length system.codes
+                → input.way ≡ way_by conversation found.transaction.scratch_pad → input.code ≡ name → IsName input.code
+                → IsNewInput (record { system = system; moment = moment_here; databases = tables.databases }) terminal number segments input
+            new_input fits input placed within spotted code_within way code is_name = record {
+              answer = room_left terminal_here last number (busy_by conversation_here busy_here) (code_at system.codes kept_here.code) found halted_here (length kept_here.segments) room_here tables.next_id most size there next idle
+                  (ap (code_at system.codes) goes ∙ sym is_found) free_code limit (count ∙ sym (kept_count system conversation_here segments)) fits;
+              place = sym (place_is tables.terminals system.terminals terminal parts.names) ∙ sym at ∙ ap (λ p. Some p) (sym placed);
+              within = subst (λ p. p < length tables.terminals) (sym placed) (subst (λ n. place < n) (ap length (sym parts.names) ∙ length_map (λ (t : TerminalState). t.name) tables.terminals) within);
+              kept =
+                  ap (λ w. kept_so w input.code segments) way
+                  ∙ ap (λ k. kept_so (way_by conversation found.transaction.scratch_pad) k segments) (code ∙ goes_to)
+                  ∙ ap (λ o. kept_so (way_by o found.transaction.scratch_pad) (code_for o segments) segments) code_is
+                  ∙ kept_is system conversation_here segments found (ap (λ o. code_at system.codes (code_for o segments)) (sym code_is) ∙ sym is_found);
+              named = is_name;
+              coded = ap (λ p. Some p) spotted ∙ placed_so ∙ ap (code_place system.codes) (sym code);
+              code_within = subst (λ p. p < length system.codes) (sym spotted) code_within;
+              free = idle;
+              few = let most_is = most_few found.transaction.segment_kind in omega (arith, most_is, limit, count, fits);
+            }

@@ -17,7 +17,7 @@ use Rattle.model_queues.specs.Queue.{free_count, messages_of}
 use Rattle.model_system.specs.declared.code_state.CodeState.{CodeState}
 use Rattle.model_system.specs.Lists.{change_at}
 use Rattle.model_system.specs.System.{System}
-use Rattle.system_types.specs.Codes.{is_state_of}
+use Rattle.system_types.specs.Codes.{is_state_of, stopped_state}
 use Rattle.model_machine.specs.Machine.{Moment, moment_with, setting_of, setting_place, terminal_place}
 use Rattle.model_machine.specs.Lasting.{applied, conversing, stopped_code, stopped_terminal}
 use Rattle.model_machine.specs.Lasting.LastingStep.{Commands}
@@ -26,7 +26,7 @@ use Rattle.program_rows.specs.State.{DatabasesState}
 use Rattle.lasting_state.specs.Tables.{TablesState, lasting_of}
 use Rattle.lasting_state.specs.Commands.{AppliesCommand, command_done, command_set}
 use Rattle.region_work.specs.declared.region.Busy.{Busy}
-use Rattle.tm_machine.specs.Commands.{EndsNoneBusy, IsCommanded, states_set, stopped_state}
+use Rattle.tm_machine.specs.Commands.{EndsNoneBusy, IsCommanded, states_set}
 use Rattle.tm_machine.specs.Parts.{PartsState, AreAtWork, AreConversations, AreParts, IsConversation, IsOfConversation, flags_of, settings_of, slots_of}
 use Rattle.region_work.specs.Region.{IsWork, given_in}
 use Rattle.tm_machine.proofs.Asked.{length_map}

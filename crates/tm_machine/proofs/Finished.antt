@@ -40,13 +40,14 @@ use Rattle.model_machine.proofs.Flags.{states_again}
 use Rattle.tran_pick.specs.Picked.{IsFirstFree}
 use Rattle.tran_pick.proofs.Found.{first_codes}
 use Rattle.program_rows.specs.State.{DatabasesState, AreRowsOf, IsRegionOf, committed_rows, dbds_of, region_at}
-use Rattle.program_rows.specs.Answering.{IsCommitted, IsGivenUp}
+use Rattle.program_rows.specs.Answering.{IsGivenUp}
 use Rattle.lasting_state.specs.Sending.{switches, switched_messages, with_messages}
 use Rattle.lasting_state.specs.Tables.{TablesState, lasting_of, closed, held, Applies, IsClosed}
 use Rattle.region_work.specs.declared.region.Busy.{Busy}
 use Rattle.region_work.specs.Ends.{destinations, goes_on_with}
-use Rattle.tm_machine.specs.Ends.{EndsSo, SlotEnds}
-use Rattle.region_work.specs.Region.{given_in, IsUnit, SuitsUnit, calls_made, outputs_by, pad_by}
+use Rattle.tm_machine.specs.Ends.{EndsSo, IsCompleted, MayComplete, SlotEnds, completion_of}
+use Rattle.tm_machine.proofs.Abends.{outputs_right}
+use Rattle.region_work.specs.Region.{given_in, IsUnit, calls_made, outputs_by, pad_by}
 use Rattle.tm_machine.specs.Turns.{IsTurned}
 use Rattle.tm_machine.specs.Parts.{PartsState, slot_of, slots_of, settings_of, flags_of, IsTold, AreAtWork, AreConversations, AreParts, IsIdle, IsOfConversation}
 use Rattle.tm_machine.proofs.Conversing.{IsPlain, conversations_closed, discarded_fits, given_left}
@@ -164,6 +165,17 @@ module _ (system : System) (tables : TablesState) (states : List CodeState) (reg
       by (Some code) h = cc
       by None h = cc
 
+  -- it may be completed
+  pub may_complete : MayComplete tables regions region
+  may_complete = record {
+    busy = busy;
+    works_on = e;
+    defined = omega (arith, there.1, parts.regions_are);
+    works = works_there;
+    found = id_there;
+    counts = outputs_right system tables states regions parts region busy e;
+  }
+
   -- what the work has come to
   abbrev given_here : Given
   given_here = given_in tables.conversations message_now
@@ -216,7 +228,7 @@ module _ (system : System) (tables : TablesState) (states : List CodeState) (reg
   gone_here end h = released_asks region (slot_requests system moment_now.lasting region slot_now) tables.databases.table own_here (free_here end h)
 
   abbrev completes : LastingStep
-  completes = Completes busy.id (region_at region tables.databases).rows (outputs_by busy.unit) (pad_by busy.unit)
+  completes = completion_of region tables busy
 
   completes_is : Completes busy.id tried.trial.databases.rows (outputs_of tried.trial) (pad_of tried.trial) ≡ completes
   completes_is =
@@ -229,23 +241,12 @@ module _ (system : System) (tables : TablesState) (states : List CodeState) (reg
   ends_step end h = ap (option_and_then (step_in_turn system moment_now region)) slot_here ∙ step_here end h
 
   -- a completion is told, and that it doesn't fit
-  module _ (unit room : ℕ) (sends : List EndedMessage) (sent_so : sends ≡ outputs_by busy.unit) (pad : PadChange) (pad_so : pad ≡ pad_by busy.unit) where
-    completed_step : lasting_step system moment_now (Turn region) ≡ Some (ending_step slot_now tried.trial Ends)
-        → lasting_step system moment_now (Turn region) ≡ Some (Completes busy.id (region_at region tables.databases).rows sends pad)
-    completed_step does =
-        does ∙ ap (λ s. Some s) (completes_is
-        ∙ ap (λ os. Completes busy.id (region_at region tables.databases).rows os (pad_by busy.unit)) (sym sent_so)
-        ∙ ap (Completes busy.id (region_at region tables.databases).rows sends) (sym pad_so))
+  module _ (unit room : ℕ) (does : lasting_step system moment_now (Turn region) ≡ Some (ending_step slot_now tried.trial Ends)) where
+    pub completed_tells : (before after : List ℕ) → TablesTell unit room completes tables before after → Tells system moment_now unit room (Turn region) before after
+    completed_tells before after h = tells_step system moment_now unit room (Turn region) completes tables (settings_of states) refl (does ∙ ap (λ s. Some s) completes_is) before after h
 
-    pub completed_tells : (does : lasting_step system moment_now (Turn region) ≡ Some (ending_step slot_now tried.trial Ends)) (before after : List ℕ)
-        → TablesTell unit room (Completes busy.id (region_at region tables.databases).rows sends pad) tables before after → Tells system moment_now unit room (Turn region) before after
-    completed_tells does before after h =
-        tells_step system moment_now unit room (Turn region) (Completes busy.id (region_at region tables.databases).rows sends pad) tables (settings_of states) refl (completed_step does) before after h
-
-    pub completed_longer : (does : lasting_step system moment_now (Turn region) ≡ Some (ending_step slot_now tried.trial Ends))
-        → IsLongerStep unit room (Completes busy.id (region_at region tables.databases).rows sends pad) tables → IsLonger system moment_now unit room (Turn region)
-    completed_longer does h =
-        longer_step system moment_now unit room (Turn region) (Completes busy.id (region_at region tables.databases).rows sends pad) tables (settings_of states) refl (completed_step does) h
+    pub completed_longer : IsLongerStep unit room completes tables → IsLonger system moment_now unit room (Turn region)
+    completed_longer h = longer_step system moment_now unit room (Turn region) completes tables (settings_of states) refl (does ∙ ap (λ s. Some s) completes_is) h
 
   pub abended_tells : (unit room : ℕ) (abend : AbendCode) → EndsSo (state_with moment_now) region (Abends abend) → (before after : List ℕ)
       → TablesTell unit room (Discards busy.id abend) tables before after → Tells system moment_now unit room (Turn region) before after
@@ -373,38 +374,28 @@ module _ (system : System) (tables : TablesState) (states : List CodeState) (reg
       by None f g = absurd g
 
   -- The message is completed.
-  module _ (tables' : TablesState) (above : IsNewId tables.next_id tables.queues.queued) (sends : List EndedMessage) (sent_is : sends ≡ outputs_by busy.unit)
-      (pad : PadChange) (pad_is : pad ≡ pad_by busy.unit) (suits : SuitsUnit busy.unit (pad_by busy.unit))
-      (done : IsClosed tables'.databases (λ _. pad) (λ _. sends) tables tables' busy.id)
-      (applies : Applies (Completes busy.id (region_at region tables.databases).rows sends pad) tables tables')
-      (stays : IsCommitted region tables.databases tables'.databases) (dbds : dbds_of tables'.databases ≡ dbds_of tables.databases)
-      (rows : AreRowsOf (dbds_of tables'.databases) (committed_rows tables'.databases)) where
-    done_is : (message_now.id ≡ busy.id) × (tables' ≡ closed tables'.databases pad tables message_now sends)
-    done_is = closed_here tables'.databases (λ _. pad) (λ _. sends) tables' done
+  module _ (tables' : TablesState) (d : IsCompleted region busy tables tables') where
+    done_is : (message_now.id ≡ busy.id) × (tables' ≡ closed tables'.databases (pad_by busy.unit) tables message_now (outputs_by busy.unit))
+    done_is = closed_here tables'.databases (λ _. pad_by busy.unit) (λ _. outputs_by busy.unit) tables' d.closed
 
-    fits_here : Suits given_here.conversation pad
-    fits_here = subst (Suits given_here.conversation) (sym pad_is) (tried.fits suits)
+    fits_here : Suits given_here.conversation (pad_by busy.unit)
+    fits_here = tried.fits d.suits
 
     beside_here : IsKeptBeside region tables.databases tables'.databases
-    beside_here = beside_committed region tables.databases tables'.databases there.0 stays dbds parts.databases.rows rows
+    beside_here = beside_committed region tables.databases tables'.databases there.0 d.committed d.dbds parts.databases.rows d.rows
 
     own_idle : IsIdle region tables'.databases
-    own_idle = idle_committed region tables.databases tables'.databases stays
+    own_idle = idle_committed region tables.databases tables'.databases d.committed
 
-    applies_here : Applies completes tables tables'
-    applies_here =
-        subst (λ p. Applies (Completes busy.id (region_at region tables.databases).rows (outputs_by busy.unit) p) tables tables') pad_is
-        (subst (λ os. Applies (Completes busy.id (region_at region tables.databases).rows os pad) tables tables') sent_is applies)
-
-    pub follows_completed : (states' : List CodeState) → states' ≡ all_followed system.codes (λ name. free_count name tables'.queues.queued) (busy.code ∷ destinations sends) states
+    pub follows_completed : (states' : List CodeState) → states' ≡ all_followed system.codes (λ name. free_count name tables'.queues.queued) (busy.code ∷ destinations (outputs_by busy.unit)) states
         → IsFollowed system (λ name. free_count name tables'.queues.queued) states states'
     follows_completed states' follow =
-        follows_closed tables' sends pad above done_is.1 done_is.0 fits_here beside_here own_idle dbds stays.table rows (busy.code ∷ destinations sends) states'
-        (λ name none. (or_none (bytes_eq name busy.code) (list_any (λ n. bytes_eq name n) (destinations sends)) none).1) follow
+        follows_closed tables' (outputs_by busy.unit) (pad_by busy.unit) d.above done_is.1 done_is.0 fits_here beside_here own_idle d.dbds d.committed.table d.rows (busy.code ∷ destinations (outputs_by busy.unit)) states'
+        (λ name none. (or_none (bytes_eq name busy.code) (list_any (λ n. bytes_eq name n) (destinations (outputs_by busy.unit))) none).1) follow
 
     pub parts_completed : (states' : List CodeState) → IsFollowed system (λ name. free_count name tables'.queues.queued) states states' → AreParts system tables' states' left
     parts_completed states' follows =
-        parts_closed tables' sends pad above done_is.1 done_is.0 fits_here beside_here own_idle dbds stays.table rows states' follows.size
+        parts_closed tables' (outputs_by busy.unit) (pad_by busy.unit) d.above done_is.1 done_is.0 fits_here beside_here own_idle d.dbds d.committed.table d.rows states' follows.size
         (followed_settled system (λ name. free_count name tables'.queues.queued) states states' follows)
 
     pub done_turned : (states' : List CodeState) → IsFollowed system (λ name. free_count name tables'.queues.queued) states states'
@@ -413,8 +404,8 @@ module _ (system : System) (tables : TablesState) (states : List CodeState) (reg
     done_turned states' follows h = record {
       victims = nobody_breaks system moment_now region slot_now slot_here (free_here Ends h);
       answer = sym (answer_here Ends h);
-      after = turned_closed tables' sends pad above done_is.1 done_is.0 fits_here beside_here own_idle dbds stays.table rows states' (Done busy.code busy.id) completes Ends h follows
-          (answer_here Ends h) refl (step_here Ends h ∙ ap (λ s. Some s) completes_is) (λ table. refl) applies_here;
+      after = turned_closed tables' (outputs_by busy.unit) (pad_by busy.unit) d.above done_is.1 done_is.0 fits_here beside_here own_idle d.dbds d.committed.table d.rows states' (Done busy.code busy.id) completes Ends h follows
+          (answer_here Ends h) refl (step_here Ends h ∙ ap (λ s. Some s) completes_is) (λ table. refl) d.applies;
       system = refl;
     }
 
@@ -422,7 +413,7 @@ module _ (system : System) (tables : TablesState) (states : List CodeState) (reg
     next_is : next_message system moment_now (applied completes moment_now.lasting) slot_now
         ≡ goes_on_with system.qbytes tables' busy.code busy.taken (count_by is_some regions) (code_at system.codes busy.code) (option_and_then (slice_get states) (code_place system.codes busy.code))
     next_is =
-        ap (λ l. next_message system moment_now l slot_now) (sym (applies_here (settings_of states)))
+        ap (λ l. next_message system moment_now l slot_now) (sym (d.applies (settings_of states)))
         ∙ ap (λ ss. next_among system moment_now (lasting_of (settings_of states) tables') slot_now (code_at system.codes busy.code) (option_and_then (slice_get ss) (code_place system.codes busy.code))) (states_again states)
         ∙ by (code_at system.codes busy.code) (option_and_then (slice_get states) (code_place system.codes busy.code))
       where
@@ -433,7 +424,7 @@ module _ (system : System) (tables : TablesState) (states : List CodeState) (reg
             then first_waiting (is_held (slots_of regions)) busy.code (lasting_of (settings_of states) tables').messages else None) (busy_is regions)
             ∙ ap (λ f. if may_go_on code.transaction state busy.taken && nat_le (content (lasting_of (settings_of states) tables') + slot_room * count_by is_some regions) system.qbytes
             then f else None) (first_free_is busy.code (slots_of regions) tables'.queues.queued
-            (told_before tables' sends pad above done_is.1 done_is.0 fits_here beside_here own_idle dbds stays.table rows))
+            (told_before tables' (outputs_by busy.unit) (pad_by busy.unit) d.above done_is.1 done_is.0 fits_here beside_here own_idle d.dbds d.committed.table d.rows))
         by (Some code) None = refl
         by None state = refl
 
@@ -455,8 +446,8 @@ module _ (system : System) (tables : TablesState) (states : List CodeState) (reg
     none_turned states' follows says h = record {
       victims = nobody_breaks system moment_now region slot_now slot_here (free_here Syncs h);
       answer = sym says;
-      after = turned_closed tables' sends pad above done_is.1 done_is.0 fits_here beside_here own_idle dbds stays.table rows states' (QC busy.code busy.id) completes Syncs h follows
-          says refl (step_here Syncs h ∙ ap (λ s. Some s) completes_is) (λ table. refl) applies_here;
+      after = turned_closed tables' (outputs_by busy.unit) (pad_by busy.unit) d.above done_is.1 done_is.0 fits_here beside_here own_idle d.dbds d.committed.table d.rows states' (QC busy.code busy.id) completes Syncs h follows
+          says refl (step_here Syncs h ∙ ap (λ s. Some s) completes_is) (λ table. refl) d.applies;
       system = refl;
     }
 
@@ -480,15 +471,15 @@ module _ (system : System) (tables : TablesState) (states : List CodeState) (reg
         parts_next states' size settled =
             parts_taken system tables' middle left region between new empty there.0 tables'' states' holds free.free (rw code code_there) fresh (size ∙ sym follows.size) settled
 
-      pub follows_next : (states' : List CodeState) → states' ≡ all_followed system.codes (λ name. free_count name tables''.queues.queued) (busy.code ∷ destinations sends) states
+      pub follows_next : (states' : List CodeState) → states' ≡ all_followed system.codes (λ name. free_count name tables''.queues.queued) (busy.code ∷ destinations (outputs_by busy.unit)) states
           → IsFollowed system (λ name. free_count name tables''.queues.queued) states states'
       follows_next states' follow =
-          followed_all system (λ name. free_count name tables.queues.queued) (λ name. free_count name tables''.queues.queued) (busy.code ∷ destinations sends) states states' parts.valid parts.states_are parts.settled
+          followed_all system (λ name. free_count name tables.queues.queued) (λ name. free_count name tables''.queues.queued) (busy.code ∷ destinations (outputs_by busy.unit)) states states' parts.valid parts.states_are parts.settled
           (λ name none.
-          let both = or_none (bytes_eq name busy.code) (list_any (λ n. bytes_eq name n) (destinations sends)) none in
+          let both = or_none (bytes_eq name busy.code) (list_any (λ n. bytes_eq name n) (destinations (outputs_by busy.unit))) none in
           ap (λ t. free_count name t.queues.queued) holds
           ∙ count_held name busy.code new.id (Some region) tables'.queues.queued both.0 (first_codes busy.code tables'.queues.queued new.id free.ordered free.first)
-          ∙ waits tables' sends pad above done_is.1 done_is.0 fits_here beside_here own_idle dbds stays.table rows name both.1) follow
+          ∙ waits tables' (outputs_by busy.unit) (pad_by busy.unit) d.above done_is.1 done_is.0 fits_here beside_here own_idle d.dbds d.committed.table d.rows name both.1) follow
 
       pub next_turned : (middle states' : List CodeState) → IsFollowed system (λ name. free_count name tables'.queues.queued) states middle
           → IsFollowed system (λ name. free_count name tables''.queues.queued) states states' → new.taken ≡ busy.taken + 1
@@ -502,12 +493,12 @@ module _ (system : System) (tables : TablesState) (states : List CodeState) (reg
             (told_next middle before)
             (ap (lasting_of (settings_of states)) holds
             ∙ ap {A = List Message} (λ ms. record (lasting_of (settings_of states) tables') { messages = ms }) (messages_held new.id (Some region) tables'.queues.queued)
-            ∙ applies_here (settings_of states))
+            ∙ d.applies (settings_of states))
             (ap slots_of (set_set regions (region - 1) None (Some new)) ∙ set_slots regions (region - 1) (Some new)
             ∙ ap (λ c. slice_set (slots_of regions) (region - 1) (Some (record { code = c; taken = new.taken; id = new.id; calls = calls_made new.unit }))) code
             ∙ ap (λ n. slice_set (slots_of regions) (region - 1) (Some (record { code = busy.code; taken = n; id = new.id; calls = calls_made new.unit }))) taken
             ∙ ap (λ u. slice_set (slots_of regions) (region - 1) (Some (record { code = busy.code; taken = busy.taken + 1; id = new.id; calls = calls_made u }))) fresh)
-            (ap (λ t. t.databases.table) holds ∙ stays.table)
+            (ap (λ t. t.databases.table) holds ∙ d.committed.table)
             ∙ ap (λ t. moment_with system (applied completes moment_now.lasting) (slice_set (slots_of regions) (region - 1) (Some next)) t (flags_of states)) (sym (gone_here Syncs h))
             ∙ sym (turn_leaves system moment_now region [] (Some slot_now) (Next busy.code busy.id new.id) (Some completes) (table_by system moment_now region (Some slot_now)) slot_here says
             (step_here Syncs h ∙ ap (λ s. Some s) completes_is) refl);

@@ -1,5 +1,6 @@
 pub mod Conversing
 pub mod Joining
+mod Full
 mod Linked
 mod Tabled
 mod Others
@@ -18,6 +19,7 @@ pub mod ShownTo
 mod Roomed
 mod Commanded
 mod Finished
+mod Ended
 mod Giving
 mod Breaking
 pub mod Telling

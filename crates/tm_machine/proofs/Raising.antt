@@ -1,14 +1,16 @@
 -- The flags of the codes that moved follow.
-use Rattle.std.proofs.Common.{◌≡◌, ℕ, false, List, [], ◌∷◌, length, sym, ap, ◌∙◌, refl}
+use Rattle.std.proofs.Common.{◌≡◌, ℕ, false, List, [], ◌∷◌, length, sym, ap, ◌∙◌, refl, Some, slice_get}
 use Rattle.std.specs.List.{list_any}
+use Rattle.std.specs.Option.{option_map_or}
 use Rattle.std.specs.Str.{bytes_eq}
 use Rattle.model_queues.specs.Queue.{QueuesState, free_count}
 use Rattle.model_message.specs.declared.ended_message.EndedMessage.{EndedMessage}
 use Rattle.model_system.specs.declared.code.Code.{Code}
 use Rattle.model_system.specs.declared.code_state.CodeState.{CodeState}
+use Rattle.model_system.specs.Codes.{code_place}
 use Rattle.model_system.specs.System.{System}
 use Rattle.model_machine.specs.Machine.{raised_now}
-use Rattle.model_machine.specs.Flags.{followed, all_followed}
+use Rattle.model_machine.specs.Flags.{followed, followed_by, all_followed}
 use Rattle.model_machine.proofs.Flags.{flags_follow, settings_stay, all_followed_length, now_twice, now_same}
 use Rattle.system_types.specs.Valid.{IsSystem}
 use Rattle.region_work.specs.Ends.{destinations}
@@ -57,3 +59,8 @@ pub follow_one : (codes : List Code) (name : List ℕ) (waiting : ℕ) (states s
     → states' ≡ all_followed codes (λ n. free_count n queues.queued) (name ∷ []) states
 follow_one codes name waiting states states' lent queues is counted same =
     is ∙ ap (λ n. followed codes name n states) (counted ∙ ap (λ q. free_count name q.queued) same)
+
+-- a code followed at its place
+pub followed_at : (codes : List Code) (name : List ℕ) (place waiting : ℕ) (states states' : List CodeState) → Some place ≡ code_place codes name
+    → states' ≡ followed_by waiting (slice_get codes place) states place → states' ≡ followed codes name waiting states
+followed_at codes name place waiting states states' at is = is ∙ ap (λ p. option_map_or (λ q. followed_by waiting (slice_get codes q) states q) p states) at

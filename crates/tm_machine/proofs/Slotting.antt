@@ -22,7 +22,7 @@ use Rattle.log_records.specs.declared.record.Record.{Record}
 use Rattle.log_records.specs.Spelling.{number2, content, record_length, spelling, IsRecord}
 use Rattle.log_records.proofs.FieldLaws.{number2_length}
 use Rattle.program_rows.specs.State.{DatabasesState}
-use Rattle.program_rows.specs.Telling.{spelled, Tells as RowsTell}
+use Rattle.log_records.specs.Telling.{spelled, Tells as RowsTell}
 use Rattle.program_rows.specs.OnSlots.{SlotsState, slots_in, GivesUpSo, HaveSlots, AreOnSlots}
 use Rattle.message_run.proofs.Calls.{all_at}
 use Rattle.message_run.specs.Telling.{next_told}

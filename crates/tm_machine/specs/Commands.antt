@@ -1,12 +1,12 @@
 -- What a command that lasts leaves of the parts, and what it tells.
-use Rattle.std.specs.Prelude.{◌≡◌, ⊤, ℕ, ◌<◌, ◌≤◌, Bool, true, false, None, List, ◌++◌, length, position}
+use Rattle.std.specs.Prelude.{◌≡◌, ⊤, ℕ, ◌<◌, ◌≤◌, true, false, None, List, ◌++◌, length, position}
 use Rattle.std.specs.List.{AllByRecursion}
 use Rattle.tm_types.specs.declared.command.LastingCommand.{LastingCommand}
 use Rattle.tm_types.specs.declared.command.LastingCommand.TheVariants.{StartTransaction, StopTransaction, Exit}
 use Rattle.model_conversation.specs.Input.{busy_id}
 use Rattle.model_system.specs.declared.code_state.CodeState.{CodeState}
 use Rattle.model_system.specs.Lists.{change_at}
-use Rattle.system_types.specs.Codes.{is_state_of}
+use Rattle.system_types.specs.Codes.{is_state_of, stopped_state}
 use Rattle.model_machine.specs.Machine.{LastingState, Moment, moment_with}
 use Rattle.model_machine.specs.Lasting.{applied}
 use Rattle.model_machine.specs.Lasting.LastingStep.{Commands}
@@ -18,10 +18,6 @@ use Rattle.tm_machine.specs.Parts.{PartsState}
 abbrev pub EndsNoneBusy : LastingCommand → LastingState → Type 0
 EndsNoneBusy (Exit terminal) lasting = busy_id terminal lasting.messages ≡ None
 EndsNoneBusy _ lasting = ⊤
-
--- a state that is stopped, or started
-abbrev pub stopped_state : Bool → CodeState → CodeState
-stopped_state stopped state = record state { stopped = stopped }
 
 -- the states of the codes behind it
 abbrev pub states_set : LastingCommand → List CodeState → List CodeState

@@ -7,6 +7,7 @@ use Rattle.model_machine.specs.declared.entry.InputRefused.{InputRefused}
 use Rattle.model_machine.specs.declared.entry.InputRefused.TheVariants.{Terminal, StoppedTerminal, Expected, Conversation, Code, StoppedCode, SegmentsOver, QueueFull, Fault}
 use Rattle.model_machine.specs.Machine.{terminal_place}
 use Rattle.tm_types.specs.Name.{IsName}
+use Rattle.model_system.specs.Codes.{code_place}
 use Rattle.model_conversation.specs.Pads.{begun}
 use Rattle.model_machine.specs.Lasting.{KeptInput, code_word, kept_input, without_word}
 use Rattle.lasting_state.specs.Kept.{kept_as}
@@ -32,7 +33,7 @@ kept_so Alone code segments = kept_as code false segments None
 kept_so GoesOn code segments = kept_as code true segments None
 kept_so (Begins pad) code segments = kept_as code true (without_word segments) (Some (begun code (pad - 14)))
 
--- The input is new if there is room for it: its terminal has this place, and it is kept so.
+-- The input is new if there is room for it: its terminal and its code have these places, and it is kept so.
 pub record IsNewInput (parts : PartsState) (terminal : List ℕ) (number : ℕ) (segments : List (List ℕ)) (input : NewInput) : Type 0 where
   pub answer : input_answer parts.system parts.moment terminal number segments
       ≡ unwrap_or (no_room parts.system parts.moment (kept_input parts.system parts.moment.lasting terminal segments).segments) (Ok (New parts.moment.lasting.next_id))
@@ -40,6 +41,8 @@ pub record IsNewInput (parts : PartsState) (terminal : List ℕ) (number : ℕ) 
   pub within : input.place < length parts.moment.lasting.terminals
   pub kept : kept_so input.way input.code segments ≡ kept_input parts.system parts.moment.lasting terminal segments
   pub named : IsName input.code
+  pub coded : Some input.code_index ≡ code_place parts.system.codes input.code
+  pub code_within : input.code_index < length parts.system.codes
   pub free : busy_conversation parts.moment.lasting terminal ≡ None
   pub few : length segments ≤ 16
 

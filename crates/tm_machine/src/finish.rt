@@ -1,5 +1,5 @@
 //! How a region's work on a message ends.
-ghost use Rattle.std.specs.Prelude.{◌≡◌, IfOk, IfErr, IfSome, OnOk, OnErr, IsSome, IsSomeAnd, IsTrue};
+ghost use Rattle.std.specs.Prelude.{◌≡◌, ◌≤◌, ◌-◌, ◌∷◌, None, IfOk, IfErr, IfSome, OnOk, OnErr, IsSome, IsSomeAnd, IsTrue, slice_set};
 ghost use Rattle.std.specs.List.{list_all};
 ghost use Rattle.model_script.specs.Programs.{is_statement};
 ghost use Rattle.model_system.specs.Jobs.{job_of};
@@ -8,7 +8,10 @@ ghost use Rattle.model_machine.specs.declared.entry.ControlCall.TheVariants.{Tur
 ghost use Rattle.model_machine.specs.Machine.{IsRegion};
 ghost use Rattle.model_machine.specs.Trial.WorkEnd.{Ends, Syncs, Abends};
 ghost use Rattle.message_run.specs.Ahead.{end_of};
-ghost use Rattle.tm_machine.specs.Ends.{EndsSo};
+ghost use Rattle.lasting_state.specs.Telling.{IsLonger as IsLongerStep, Tells as TablesTell};
+ghost use Rattle.region_work.specs.Ends.{destinations};
+ghost use Rattle.region_work.specs.Region.{outputs_by};
+ghost use Rattle.tm_machine.specs.Ends.{EndsSo, IsCompleted, MayComplete, OfWork, completion_of};
 ghost use Rattle.step_telling.specs.Untold.{WhereFull};
 ghost use Rattle.tm_machine.specs.OnSlots.{TurnsSo};
 ghost use Rattle.tm_machine.specs.Told.{IsLonger, Tells};
@@ -22,6 +25,7 @@ use region_work::{
     Busy, busy_at, complete, count_busy, discard, follow, follow_all, names_moved, next_message,
     outputs_by, pad_by, take,
 };
+use std::alloc::Global;
 use system_types::System;
 use tm_types::{AbendCode, Name};
 
@@ -72,23 +76,11 @@ impl Parts {
         let busy = busy_at(&self.regions, region);
         let code = busy.code;
         let id = busy.id;
-        let Ok(outputs) = outputs_by(self.alloc, busy) else {
-            return Err(Untold::Memory);
-        };
-        let Ok(pad) = pad_by(self.alloc, busy) else {
-            return Err(Untold::Memory);
-        };
-        let Ok(names) = names_moved(self.alloc, &code, &outputs) else {
-            return Err(Untold::Memory);
-        };
-        complete(
+        let names = end_work(
             self.alloc,
             &mut self.regions,
             region,
             &mut self.tables,
-            id,
-            outputs,
-            pad,
             unit,
             room,
             told,
@@ -122,24 +114,12 @@ impl Parts {
         if taken >= COUNT_LIMIT {
             return Err(Untold::Memory);
         }
-        let Ok(outputs) = outputs_by(self.alloc, busy) else {
-            return Err(Untold::Memory);
-        };
-        let Ok(pad) = pad_by(self.alloc, busy) else {
-            return Err(Untold::Memory);
-        };
-        let Ok(names) = names_moved(self.alloc, &code, &outputs) else {
-            return Err(Untold::Memory);
-        };
         let count = count_busy(&self.regions);
-        complete(
+        let names = end_work(
             self.alloc,
             &mut self.regions,
             region,
             &mut self.tables,
-            id,
-            outputs,
-            pad,
             unit,
             room,
             told,
@@ -199,6 +179,37 @@ impl Parts {
         follow(&mut self.codes, &self.system, &origin, waiting);
         Ok(Turned::Abended(code, id, abend))
     }
+}
+
+/// Completes a region's work, and empties the region. The names are answered whose flags are to follow: that of the code, and those
+/// to which outputs go.
+fn end_work(
+    alloc: Global,
+    regions: &mut Vec<Option<Busy>>,
+    region: u32,
+    tables: &mut Tables,
+    unit: u64,
+    room: usize,
+    told: &mut Vec<u8>,
+) -> Result<Vec<Name>, Untold>
+    requires positive { 1 ≤ region }
+    requires may { MayComplete tables.old regions.old.items region }
+    ensures names { IfOk result (λ names. OfWork regions.old.items region (λ busy. names.items ≡ busy.code ∷ destinations (outputs_by busy.unit))) }
+    ensures completed { OnOk result (OfWork regions.old.items region (λ busy. IsCompleted region busy tables.old tables.new)) }
+    ensures told { OnOk result (OfWork regions.old.items region (λ busy. TablesTell unit room (completion_of region tables.old busy) tables.old told.old.items told.new.items)) }
+    ensures full { IfErr result (WhereFull (OfWork regions.old.items region (λ busy. IsLongerStep unit room (completion_of region tables.old busy) tables.old))) }
+    ensures regions { OnOk result (regions.new.items ≡ slice_set regions.old.items (region - 1) None) }
+    ensures same { OnErr result (regions.new ≡ regions.old) }
+    ensures err { OnErr result (tables.new ≡ tables.old) }
+    ensures untold { OnErr result (told.new.items ≡ told.old.items) }
+{
+    let busy = busy_at(regions.as_slice(), region);
+    let id = busy.id;
+    let outputs = outputs_by(alloc, busy)?;
+    let pad = pad_by(alloc, busy)?;
+    let names = names_moved(alloc, &busy.code, &outputs)?;
+    complete(regions, region, tables, id, outputs, pad, unit, room, told)?;
+    Ok(names)
 }
 
 /// The terminal from which the message of this id comes.

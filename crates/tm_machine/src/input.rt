@@ -1,8 +1,8 @@
 //! Inputs of terminals.
 ghost use Rattle.std.specs.Prelude.{◌≡◌, ◌<◌, false, length, slice_get, IfOk, IfErr, IfSome, OnErr, OnOk, Some};
-ghost use Rattle.std.specs.Option.{option_and_then, option_copied, option_map_or};
+ghost use Rattle.std.specs.Option.{option_map_or};
 ghost use Rattle.tm_types.specs.Name.{IsName};
-ghost use Rattle.model_system.specs.Codes.{code_at, code_place};
+ghost use Rattle.model_system.specs.Codes.{code_place};
 ghost use Rattle.model_machine.specs.declared.entry.Entry.TheVariants.{Accept};
 ghost use Rattle.model_machine.specs.declared.entry.ControlCall.TheVariants.{Input};
 ghost use Rattle.model_machine.specs.Steps.{by_number, most_segments, input_answer};
@@ -11,13 +11,13 @@ ghost use Rattle.tm_machine.specs.Answers.{IsAnswered};
 ghost use Rattle.tm_machine.specs.Inputs.{IsNewInput, IsRefusal, code_for, is_input_fault, way_by, kept_so};
 ghost use Rattle.tm_machine.specs.Told.{IsLonger, Tells};
 
-use crate::lookup::{code_word, find_code};
+use crate::lookup::code_word;
 use crate::parts::Parts;
 use conversation::Busy;
 use lasting_state::{Enqueued, KeptInput, Untold, kept_first};
 use model_machine::{InputRefused, Taken};
 use model_system::{Code, SegmentKind};
-use region_work::{count_busy, follow};
+use region_work::{count_busy, follow_at};
 use std::alloc::Global;
 use system_types::{Codes, System};
 use tm_types::{Memory, Name, Segments};
@@ -39,24 +39,28 @@ pub struct NewInput {
     /// The place of its terminal.
     pub place: usize,
     pub code: Name,
+    pub code_index: usize,
     pub way: Way,
 }
 
-/// The code that an input goes to: that of the terminal's conversation, or else the one that its first
-/// word names.
-fn code_for<'a>(
-    codes: &'a [Code],
-    conversation: &Option<Name>,
-    segments: &Segments,
-) -> Option<&'a Code>
+/// The place of the code that an input goes to: that of the terminal's conversation, or else the one that
+/// its first word names.
+fn code_for(system: &System, conversation: &Option<Name>, segments: &Segments) -> Option<usize>
     requires { 0 < length segments.now }
-    ensures value { option_copied result ≡ code_at codes.now (code_for conversation.now segments.now) }
-    ensures named { IfSome result (λ code. code.now.transaction.code ≡ code_for conversation.now segments.now) }
+    ensures value { result ≡ code_place system.now.codes (code_for conversation.now segments.now) }
+    ensures within { IfSome result (λ place. place < length system.now.codes) }
 {
     match conversation {
-        Some(code) => find_code(codes, code.as_bytes()),
-        None => find_code(codes, code_word(segments)),
+        Some(code) => system.code_place(code),
+        None => system.code_named(code_word(segments)),
     }
+}
+
+fn code_at(codes: &[Code], place: usize) -> &Code
+    requires { place < length codes.now }
+    ensures { slice_get codes.now place ≡ Some result.now }
+{
+    &codes[place]
 }
 
 /// How an input to a code with a pad of this length is kept; the length is 0 where it has none.
@@ -96,15 +100,12 @@ fn kept_so(alloc: Global, input: &NewInput, segments: &Segments) -> Result<KeptI
     }
 }
 
-/// Whether the code of this name is stopped.
-fn is_code_stopped(system: &System, codes: &Codes, code: &Name) -> bool
-    requires { length codes.now ≡ length system.now.codes }
-    ensures { result ≡ option_map_or (λ s. s.stopped) (option_and_then (slice_get codes.now) (code_place system.now.codes code.now)) false }
+/// Whether the code at this place is stopped.
+fn is_code_stopped(codes: &Codes, place: usize) -> bool
+    requires { place < length codes.now }
+    ensures { result ≡ option_map_or (λ s. s.stopped) (slice_get codes.now place) false }
 {
-    match system.code_place(code) {
-        Some(place) => codes.states()[place].stopped,
-        None => false,
-    }
+    codes.states()[place].stopped
 }
 
 pub(crate) fn named(code: &Code) -> Name
@@ -199,11 +200,12 @@ impl Parts {
             Ok(conversation) => conversation,
             Err(Busy { id }) => return Err(Err(InputRefused::Conversation(id))),
         };
-        let Some(code) = code_for(self.system.codes(), &conversation, segments) else {
+        let Some(code_index) = code_for(&self.system, &conversation, segments) else {
             return Err(Err(InputRefused::Code));
         };
+        let code = code_at(self.system.codes(), code_index);
         let name = named(code);
-        if is_code_stopped(&self.system, &self.codes, &name) {
+        if is_code_stopped(&self.codes, code_index) {
             return Err(Err(InputRefused::StoppedCode(name)));
         }
         let most = most_segments(code.transaction.segment_kind);
@@ -214,6 +216,7 @@ impl Parts {
         Ok(NewInput {
             place,
             code: name,
+            code_index,
             way,
         })
     }
@@ -243,19 +246,13 @@ impl Parts {
         };
         let busy = count_busy(&self.regions);
         let code = input.code;
-        match self.tables.enqueue(
-            self.alloc,
-            input.place,
-            terminal,
-            number,
-            kept,
-            busy,
-            room,
-            told,
-        ) {
+        match self
+            .tables
+            .enqueue(input.place, terminal, number, kept, busy, room, told)
+        {
             Ok(Enqueued::New(id)) => {
                 let waiting = self.tables.queues().waiting(&code);
-                follow(&mut self.codes, &self.system, &code, waiting);
+                follow_at(&mut self.codes, &self.system, input.code_index, waiting);
                 Ok(Ok(Taken::New(id)))
             }
             Ok(Enqueued::Full(need, limit)) => Ok(Err(InputRefused::QueueFull(need, limit))),

@@ -1,7 +1,7 @@
 //! What lasts of a control region, lent.
 ghost use Rattle.std.specs.Prelude.{◌≡◌};
 ghost use Rattle.model_queues.specs.Queue.{messages_of};
-ghost use Rattle.tm_machine.specs.Parts.{settings_of};
+ghost use Rattle.tm_machine.specs.Parts.{flags_of, settings_of};
 
 use crate::parts::Parts;
 use conversation::Conversations;
@@ -46,9 +46,10 @@ impl Parts {
         self.tables.conversations()
     }
 
-    /// The states of the codes, in the order of the definition.
+    /// The states of the codes, in the order of the definition: what lasts of them, and their flags.
     pub fn codes(&self) -> &[CodeState]
-        ensures { settings_of result.now ≡ self.now.moment.lasting.codes }
+        ensures settings { settings_of result.now ≡ self.now.moment.lasting.codes }
+        ensures flags { flags_of result.now ≡ self.now.moment.raised }
     {
         self.codes.states()
     }

@@ -1,14 +1,10 @@
 //! A control region that goes on with what lasts.
 ghost use Rattle.std.specs.Prelude.{◌≡◌, [], length, replicate};
-ghost use Rattle.std.specs.List.{AllByRecursion};
-ghost use Rattle.tm_types.specs.Name.{IsName};
 ghost use Rattle.model_machine.specs.Machine.{LastingState, empty_state, start_of};
 ghost use Rattle.tm_machine.specs.OnSlots.{slots_now};
 ghost use Rattle.tm_machine.specs.Opening.{IsOpenedWith};
 
-use crate::input::named;
 use crate::parts::Parts;
-use model_system::Code;
 
 impl Parts {
     /// What lasts is what these parts are of; no region has a message. The parts were new. This takes no memory.
@@ -19,7 +15,7 @@ impl Parts {
         ensures moment { (state : LastingState) → IsOpenedWith self.old.system state parts → self.new.moment ≡ start_of self.old.system state }
         ensures slots { slots_now self.new ≡ record { stores = parts.stores.stores; changed = parts.stores.changed; committed = parts.stores.stores; touched = replicate (length self.old.system.regions) [] } }
     {
-        valid_names(self.system.codes());
+        let _codes = self.system.codes();
         self.tables.open(
             parts.stores,
             parts.queues,
@@ -31,19 +27,4 @@ impl Parts {
         );
         self.codes = parts.codes;
     }
-}
-
-// The codes have names.
-fn valid_names(codes: &[Code])
-    ensures { AllByRecursion (λ code. IsName code.transaction.code) codes.now }
-{
-    for code in codes {
-        valid_name(code);
-    }
-}
-
-fn valid_name(code: &Code)
-    ensures { IsName code.now.transaction.code }
-{
-    let _name = named(code);
 }

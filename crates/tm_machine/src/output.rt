@@ -72,7 +72,6 @@ impl Parts {
         ensures untold { OnErr result (told.new.items ≡ told.old.items) }
         ensures full { IfErr result (WhereFull (IsLonger self.old.system self.old.moment 0 room (Acknowledge terminal.now number))) }
     {
-        self.tables
-            .acknowledge(self.alloc, terminal, number, room, told)
+        self.tables.acknowledge(terminal, number, room, told)
     }
 }

@@ -6,7 +6,7 @@ ghost use Rattle.model_machine.specs.Steps.{need_now};
 ghost use Rattle.step_telling.specs.Untold.{WhereFull};
 ghost use Rattle.tm_machine.specs.Answers.{Answers};
 ghost use Rattle.message_run.specs.Telling.{TellsNext, IsQuietUnlessCalled};
-ghost use Rattle.program_rows.specs.Telling.{spelled};
+ghost use Rattle.log_records.specs.Telling.{spelled};
 ghost use Rattle.tm_machine.specs.OnSlots.{changes_told, IsTurnLonger, TellByCall, TurnTells, TurnsSo};
 ghost use Rattle.tm_machine.specs.Told.{ends_work};
 ghost use Rattle.tm_machine.specs.Turns.{Goes, IsTurned, waited};
@@ -16,7 +16,8 @@ use lasting_state::Untold;
 use message_run::Advanced;
 use model_enqueue::Victims;
 use model_machine::Turned;
-use region_work::{Busy, SLOT_ROOM, advance, count_busy, follow, take};
+use msg_queues::SLOT_ROOM;
+use region_work::{Busy, advance, count_busy, follow, take};
 use tm_types::Resource;
 use tran_pick::pick;
 

@@ -17,7 +17,7 @@ begin-journal-requires-clause-restart g c = c.in-Ok.ensures.begins.may.restart
 pub returns-in-Ok-clause-opens : goal.returns-in-Ok-clause-opens
 returns-in-Ok-clause-opens g c =
     opens_on c.args.how c.system.result.now c.args.parts.now.system c.args.text.now (g.D.Disk.state c.args.disk.now) (g.D.Disk.state c.look.new.disk) c.begin-journal.new.parts c.in-Ok.opening c.in-Ok.lasting c.begin-journal.result.0 c.begin-journal.result.1
-    c.begin-journal.ensures.log c.begin-journal.ensures.restart c.begin-journal.ensures.unit c.system.ensures c.in-Ok.ensures.begins c.in-Ok.ensures.size c.in-Ok.ensures.cause c.in-Ok.ensures.found c.in-Ok.ensures.cold c.begin-journal.ensures.moment
+    c.begin-journal.ensures.log c.begin-journal.ensures.restart c.begin-journal.ensures.unit c.system.ensures c.in-Ok.ensures.begins c.in-Ok.ensures.size c.in-Ok.ensures.cause c.in-Ok.ensures.found c.in-Ok.ensures.cold c.begin-journal.ensures.moment c.begin-journal.ensures.slots
 
 pub returns-in-Ok-clause-logged : goal.returns-in-Ok-clause-logged
 returns-in-Ok-clause-logged g c =

@@ -1,6 +1,6 @@
 use Rattle.std.proofs.Common.{Ok}
 use Rattle.log_records.specs.declared.untold.Untold.{Untold}
-use Rattle.region_work.proofs.Taken.{goes_so, tells_so, longer_so}
+use Rattle.region_work.proofs.Going.{goes_so, tells_so, longer_so}
 use Rattle.region_work.proofs.region.advance_unit.Goals as goal
 
 pub returns-in-Ok-clause-advances : goal.returns-in-Ok-clause-advances

@@ -6,7 +6,7 @@ use Rattle.system_types.specs.Jobs.{lent_job}
 use Rattle.io_pcb.specs.Pads.{IsPadText}
 use Rattle.message_run.specs.Ahead.{IsStart, given_with}
 use Rattle.region_work.specs.Region.{given_in}
-use Rattle.region_work.proofs.Taken.{starts}
+use Rattle.region_work.proofs.Going.{starts}
 use Rattle.region_work.proofs.region.start_unit.Goals as goal
 
 pub start-requires : goal.start-requires

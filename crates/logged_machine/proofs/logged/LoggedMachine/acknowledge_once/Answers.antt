@@ -1,58 +1,48 @@
 -- an attempt, by what it told
-use Rattle.std.proofs.Common.{◌∙◌, sym, ap, subst, refl, Err}
+use Rattle.std.proofs.Common.{◌∙◌, sym, ap, subst, refl, Err, true, false}
 use Rattle.model_machine.specs.declared.entry.AckRefused.TheVariants.{Fault}
 use Rattle.model_machine.specs.declared.entry.ControlFault.TheVariants.{Disk}
 use Rattle.model_machine.specs.declared.entry.Entry.TheVariants.{Acked}
-use Rattle.parts_life.specs.Steps.{is_removed}
 use Rattle.machine_life.specs.Counted.{IsCounted}
+use Rattle.logged_machine.specs.Forcing.{IsForced}
 use Rattle.logged_machine.specs.Logged.{LoggedState}
-use Rattle.logged_machine.proofs.Attempts.{ack_attempt, tried_failed, tried_forced, tried_quiet, force_area, force_ready, force_sequences, logged_forced, logged_quiet}
+use Rattle.logged_machine.proofs.Attempts.{ack_attempt, logged_on, may_force, tried_off, tried_on}
 use Rattle.logged_machine.proofs.logged.LoggedMachine.acknowledge_once.Goals as goal
 
-pub invariant_of-self-then-not-is_removed : goal.invariant_of-self-then-not-is_removed
-invariant_of-self-then-not-is_removed g c =
-    λ up. logged_quiet g.D.Disk.state c.self.inside.parts c.tell_acknowledgement-told.new.parts c.self.inside.text c.self.inside.journal c.tell_acknowledgement-told.new.journal c.self.inside.units.items c.self.inside.units.items c.self.inside.next_unit c.self.inside.next_unit c.self.inside.disk (Acked c.args.terminal.now c.args.number c.in-Ok.answer) (is_removed c.in-Ok.answer) c.self.inside.served
-    (ack_attempt g.D.Disk.state c.self.inside.parts c.tell_acknowledgement-told.new.parts c.self.inside.text c.self.inside.journal c.tell_acknowledgement-told.new.journal c.self.inside.units.items c.self.inside.next_unit c.self.inside.disk (c.self.invariant (ap (λ (v : LoggedState _). v.served) c.self.view_is ∙ c.requires.served)) (subst (λ (v : LoggedState _). IsCounted 4294967296 v.machine.moment.lasting v.next_unit v.journal) (sym c.self.view_is) c.requires.counted) c.in-Ok.ensures.before c.in-Ok.ensures.behind
-    c.args.terminal.now c.args.number c.in-Ok.answer c.in-Ok.ensures.answer c.in-Ok.ensures.told c.tell_acknowledgement-told.ensures.databases) (sym c.if-not-is_removed.ensures)
+pub force-requires-clause-up : goal.force-requires-clause-up
+force-requires-clause-up g c = ap (λ (v : LoggedState _). v.served) c.self.view_is ∙ c.requires.served
 
-pub force-requires-clause-area : goal.force-requires-clause-area
-force-requires-clause-area g c =
-    force_area g.D.Disk.state c.self.inside.parts c.tell_acknowledgement-told.new.parts c.self.inside.text c.self.inside.journal c.tell_acknowledgement-told.new.journal c.self.inside.units.items c.self.inside.units.items c.self.inside.next_unit c.self.inside.next_unit c.self.inside.disk (Acked c.args.terminal.now c.args.number c.in-Ok.answer) (is_removed c.in-Ok.answer) c.self.inside.served
-    (ack_attempt g.D.Disk.state c.self.inside.parts c.tell_acknowledgement-told.new.parts c.self.inside.text c.self.inside.journal c.tell_acknowledgement-told.new.journal c.self.inside.units.items c.self.inside.next_unit c.self.inside.disk (c.self.invariant (ap (λ (v : LoggedState _). v.served) c.self.view_is ∙ c.requires.served)) (subst (λ (v : LoggedState _). IsCounted 4294967296 v.machine.moment.lasting v.next_unit v.journal) (sym c.self.view_is) c.requires.counted) c.in-Ok.ensures.before c.in-Ok.ensures.behind
-    c.args.terminal.now c.args.number c.in-Ok.answer c.in-Ok.ensures.answer c.in-Ok.ensures.told c.tell_acknowledgement-told.ensures.databases)
+pub force-requires-clause-may : goal.force-requires-clause-may
+force-requires-clause-may g c =
+    may_force g.D.Disk.state
+    (ack_attempt g.D.Disk.state (c.self.invariant (ap (λ (v : LoggedState _). v.served) c.self.view_is ∙ c.requires.served)) (subst (λ (v : LoggedState _). IsCounted 4294967296 v.machine.moment.lasting v.next_unit v.journal) (sym c.self.view_is) c.requires.counted) c.in_ok-answer.ensures.before c.in_ok-answer.ensures.behind
+    c.args.terminal.now c.args.number c.in_ok-answer.answer c.in_ok-answer.ensures.answer c.in_ok-answer.ensures.told c.tell_acknowledgement.ensures.databases)
+    (subst (λ (v : LoggedState _). IsCounted 4294967296 v.machine.moment.lasting v.next_unit v.journal) (sym c.self.view_is) c.requires.counted)
 
-pub force-requires-clause-sequences : goal.force-requires-clause-sequences
-force-requires-clause-sequences g c =
-    force_sequences g.D.Disk.state c.self.inside.parts c.tell_acknowledgement-told.new.parts c.self.inside.text c.self.inside.journal c.tell_acknowledgement-told.new.journal c.self.inside.units.items c.self.inside.units.items c.self.inside.next_unit c.self.inside.next_unit c.self.inside.disk (Acked c.args.terminal.now c.args.number c.in-Ok.answer) (is_removed c.in-Ok.answer) c.self.inside.served
-    (ack_attempt g.D.Disk.state c.self.inside.parts c.tell_acknowledgement-told.new.parts c.self.inside.text c.self.inside.journal c.tell_acknowledgement-told.new.journal c.self.inside.units.items c.self.inside.next_unit c.self.inside.disk (c.self.invariant (ap (λ (v : LoggedState _). v.served) c.self.view_is ∙ c.requires.served)) (subst (λ (v : LoggedState _). IsCounted 4294967296 v.machine.moment.lasting v.next_unit v.journal) (sym c.self.view_is) c.requires.counted) c.in-Ok.ensures.before c.in-Ok.ensures.behind
-    c.args.terminal.now c.args.number c.in-Ok.answer c.in-Ok.ensures.answer c.in-Ok.ensures.told c.tell_acknowledgement-told.ensures.databases) (subst (λ (v : LoggedState _). IsCounted 4294967296 v.machine.moment.lasting v.next_unit v.journal) (sym c.self.view_is) c.requires.counted)
+pub invariant_of-self-then-force : goal.invariant_of-self-then-force
+invariant_of-self-then-force g c =
+    λ up. logged_on g.D.Disk.state
+    (ack_attempt g.D.Disk.state (c.self.invariant (ap (λ (v : LoggedState _). v.served) c.self.view_is ∙ c.requires.served)) (subst (λ (v : LoggedState _). IsCounted 4294967296 v.machine.moment.lasting v.next_unit v.journal) (sym c.self.view_is) c.requires.counted) c.in_ok-answer.ensures.before c.in_ok-answer.ensures.behind
+    c.args.terminal.now c.args.number c.in_ok-answer.answer c.in_ok-answer.ensures.answer c.in_ok-answer.ensures.told c.tell_acknowledgement.ensures.databases)
+    c.force.new.journal c.force.new.disk true
+    (subst (λ b. IsForced g.D.Disk.state b true c.tell_acknowledgement.new.journal c.force.new.journal c.self.inside.disk c.force.new.disk) c.is_removed-lasts.ensures c.if-force.ensures.forced)
+    refl
 
-pub force-requires-clause-ready : goal.force-requires-clause-ready
-force-requires-clause-ready g c =
-    force_ready g.D.Disk.state c.self.inside.parts c.tell_acknowledgement-told.new.parts c.self.inside.text c.self.inside.journal c.tell_acknowledgement-told.new.journal c.self.inside.units.items c.self.inside.units.items c.self.inside.next_unit c.self.inside.next_unit c.self.inside.disk (Acked c.args.terminal.now c.args.number c.in-Ok.answer) (is_removed c.in-Ok.answer) c.self.inside.served
-    (ack_attempt g.D.Disk.state c.self.inside.parts c.tell_acknowledgement-told.new.parts c.self.inside.text c.self.inside.journal c.tell_acknowledgement-told.new.journal c.self.inside.units.items c.self.inside.next_unit c.self.inside.disk (c.self.invariant (ap (λ (v : LoggedState _). v.served) c.self.view_is ∙ c.requires.served)) (subst (λ (v : LoggedState _). IsCounted 4294967296 v.machine.moment.lasting v.next_unit v.journal) (sym c.self.view_is) c.requires.counted) c.in-Ok.ensures.before c.in-Ok.ensures.behind
-    c.args.terminal.now c.args.number c.in-Ok.answer c.in-Ok.ensures.answer c.in-Ok.ensures.told c.tell_acknowledgement-told.ensures.databases)
+pub returns-then-force-clause-did : goal.returns-then-force-clause-did
+returns-then-force-clause-did g c =
+    rw (sym c.self.view_is) (tried_on g.D.Disk.state
+    (ack_attempt g.D.Disk.state (c.self.invariant (ap (λ (v : LoggedState _). v.served) c.self.view_is ∙ c.requires.served)) (subst (λ (v : LoggedState _). IsCounted 4294967296 v.machine.moment.lasting v.next_unit v.journal) (sym c.self.view_is) c.requires.counted) c.in_ok-answer.ensures.before c.in_ok-answer.ensures.behind
+    c.args.terminal.now c.args.number c.in_ok-answer.answer c.in_ok-answer.ensures.answer c.in_ok-answer.ensures.told c.tell_acknowledgement.ensures.databases)
+    c.force.new.journal c.force.new.disk true
+    (subst (λ b. IsForced g.D.Disk.state b true c.tell_acknowledgement.new.journal c.force.new.journal c.self.inside.disk c.force.new.disk) c.is_removed-lasts.ensures c.if-force.ensures.forced)
+    (ap (λ (v : LoggedState _). v.served) c.self.view_is ∙ c.requires.served)
+    refl c.if-force.ensures.served)
 
-pub invariant_of-self-in-Ok-force : goal.invariant_of-self-in-Ok-force
-invariant_of-self-in-Ok-force g c =
-    λ up. logged_forced g.D.Disk.state c.self.inside.parts c.tell_acknowledgement-told.new.parts c.self.inside.text c.self.inside.journal c.tell_acknowledgement-told.new.journal c.self.inside.units.items c.self.inside.units.items c.self.inside.next_unit c.self.inside.next_unit c.self.inside.disk (Acked c.args.terminal.now c.args.number c.in-Ok.answer) (is_removed c.in-Ok.answer) c.self.inside.served
-    (ack_attempt g.D.Disk.state c.self.inside.parts c.tell_acknowledgement-told.new.parts c.self.inside.text c.self.inside.journal c.tell_acknowledgement-told.new.journal c.self.inside.units.items c.self.inside.next_unit c.self.inside.disk (c.self.invariant (ap (λ (v : LoggedState _). v.served) c.self.view_is ∙ c.requires.served)) (subst (λ (v : LoggedState _). IsCounted 4294967296 v.machine.moment.lasting v.next_unit v.journal) (sym c.self.view_is) c.requires.counted) c.in-Ok.ensures.before c.in-Ok.ensures.behind
-    c.args.terminal.now c.args.number c.in-Ok.answer c.in-Ok.ensures.answer c.in-Ok.ensures.told c.tell_acknowledgement-told.ensures.databases) (sym c.if-not-is_removed.ensures) c.force.new.self c.force.new.disk (record { within = c.force.ensures.any_moment; stays = c.force.ensures.stays; kept = c.in-Ok-force.ensures.kept; log_is = c.in-Ok-force.ensures.log; ready = c.in-Ok-force.ensures.ready; no_fault = c.in-Ok-force.ensures.no_fault; follows = c.in-Ok-force.ensures.done }) c.force.ensures.restart
-
-pub returns-then-not-is_removed-clause-did : goal.returns-then-not-is_removed-clause-did
-returns-then-not-is_removed-clause-did g c =
-    rw (sym c.self.view_is) (tried_quiet g.D.Disk.state c.self.inside.parts c.tell_acknowledgement-told.new.parts c.self.inside.text c.self.inside.journal c.tell_acknowledgement-told.new.journal c.self.inside.units.items c.self.inside.units.items c.self.inside.next_unit c.self.inside.next_unit c.self.inside.disk (Acked c.args.terminal.now c.args.number c.in-Ok.answer) (is_removed c.in-Ok.answer) c.self.inside.served
-    (ack_attempt g.D.Disk.state c.self.inside.parts c.tell_acknowledgement-told.new.parts c.self.inside.text c.self.inside.journal c.tell_acknowledgement-told.new.journal c.self.inside.units.items c.self.inside.next_unit c.self.inside.disk (c.self.invariant (ap (λ (v : LoggedState _). v.served) c.self.view_is ∙ c.requires.served)) (subst (λ (v : LoggedState _). IsCounted 4294967296 v.machine.moment.lasting v.next_unit v.journal) (sym c.self.view_is) c.requires.counted) c.in-Ok.ensures.before c.in-Ok.ensures.behind
-    c.args.terminal.now c.args.number c.in-Ok.answer c.in-Ok.ensures.answer c.in-Ok.ensures.told c.tell_acknowledgement-told.ensures.databases) (ap (λ (v : LoggedState _). v.served) c.self.view_is ∙ c.requires.served) (sym c.if-not-is_removed.ensures))
-
-pub returns-in-Ok-force-clause-did : goal.returns-in-Ok-force-clause-did
-returns-in-Ok-force-clause-did g c =
-    rw (sym c.self.view_is) (tried_forced g.D.Disk.state c.self.inside.parts c.tell_acknowledgement-told.new.parts c.self.inside.text c.self.inside.journal c.tell_acknowledgement-told.new.journal c.self.inside.units.items c.self.inside.units.items c.self.inside.next_unit c.self.inside.next_unit c.self.inside.disk (Acked c.args.terminal.now c.args.number c.in-Ok.answer) (is_removed c.in-Ok.answer) c.self.inside.served
-    (ack_attempt g.D.Disk.state c.self.inside.parts c.tell_acknowledgement-told.new.parts c.self.inside.text c.self.inside.journal c.tell_acknowledgement-told.new.journal c.self.inside.units.items c.self.inside.next_unit c.self.inside.disk (c.self.invariant (ap (λ (v : LoggedState _). v.served) c.self.view_is ∙ c.requires.served)) (subst (λ (v : LoggedState _). IsCounted 4294967296 v.machine.moment.lasting v.next_unit v.journal) (sym c.self.view_is) c.requires.counted) c.in-Ok.ensures.before c.in-Ok.ensures.behind
-    c.args.terminal.now c.args.number c.in-Ok.answer c.in-Ok.ensures.answer c.in-Ok.ensures.told c.tell_acknowledgement-told.ensures.databases) (sym c.if-not-is_removed.ensures) c.force.new.self c.force.new.disk (ap (λ (v : LoggedState _). v.served) c.self.view_is ∙ c.requires.served) (record { within = c.force.ensures.any_moment; stays = c.force.ensures.stays; kept = c.in-Ok-force.ensures.kept; log_is = c.in-Ok-force.ensures.log; ready = c.in-Ok-force.ensures.ready; no_fault = c.in-Ok-force.ensures.no_fault; follows = c.in-Ok-force.ensures.done }) c.force.ensures.restart c.force.ensures.writes)
-
-pub returns-in-Err-force-clause-did : goal.returns-in-Err-force-clause-did
-returns-in-Err-force-clause-did g c =
-    rw (sym c.self.view_is) (tried_failed g.D.Disk.state c.self.inside.parts c.tell_acknowledgement-told.new.parts c.self.inside.text c.self.inside.journal c.tell_acknowledgement-told.new.journal c.self.inside.units.items c.self.inside.units.items c.self.inside.next_unit c.self.inside.next_unit c.self.inside.disk (Acked c.args.terminal.now c.args.number c.in-Ok.answer) (is_removed c.in-Ok.answer) c.self.inside.served
-    (ack_attempt g.D.Disk.state c.self.inside.parts c.tell_acknowledgement-told.new.parts c.self.inside.text c.self.inside.journal c.tell_acknowledgement-told.new.journal c.self.inside.units.items c.self.inside.next_unit c.self.inside.disk (c.self.invariant (ap (λ (v : LoggedState _). v.served) c.self.view_is ∙ c.requires.served)) (subst (λ (v : LoggedState _). IsCounted 4294967296 v.machine.moment.lasting v.next_unit v.journal) (sym c.self.view_is) c.requires.counted) c.in-Ok.ensures.before c.in-Ok.ensures.behind
-    c.args.terminal.now c.args.number c.in-Ok.answer c.in-Ok.ensures.answer c.in-Ok.ensures.told c.tell_acknowledgement-told.ensures.databases) (sym c.if-not-is_removed.ensures) c.force.new.self c.force.new.disk (Acked c.args.terminal.now c.args.number (Err (Fault Disk))) refl refl refl c.force.ensures.any_moment c.force.ensures.stays c.in-Err-force.ensures.cause c.force.ensures.restart c.force.ensures.writes)
+pub returns-clause-did : goal.returns-clause-did
+returns-clause-did g c =
+    rw (sym c.self.view_is) (tried_off g.D.Disk.state
+    (ack_attempt g.D.Disk.state (c.self.invariant (ap (λ (v : LoggedState _). v.served) c.self.view_is ∙ c.requires.served)) (subst (λ (v : LoggedState _). IsCounted 4294967296 v.machine.moment.lasting v.next_unit v.journal) (sym c.self.view_is) c.requires.counted) c.in_ok-answer.ensures.before c.in_ok-answer.ensures.behind
+    c.args.terminal.now c.args.number c.in_ok-answer.answer c.in_ok-answer.ensures.answer c.in_ok-answer.ensures.told c.tell_acknowledgement.ensures.databases)
+    c.force.new.journal c.force.new.disk false
+    (subst (λ b. IsForced g.D.Disk.state b false c.tell_acknowledgement.new.journal c.force.new.journal c.self.inside.disk c.force.new.disk) c.is_removed-lasts.ensures c.if-force.ensures.forced)
+    refl c.if-force.ensures.served (Acked c.args.terminal.now c.args.number (Err (Fault Disk))) refl (λ e. refl) refl)

@@ -1,5 +1,5 @@
 -- where a region's work forbids it
-use Rattle.std.proofs.Common.{◌*◌, Err, refl, arith, ◌∙◌, ap, sym}
+use Rattle.std.proofs.Common.{◌*◌, Err, refl, arith, ◌∙◌, ap, sym, inl}
 use Rattle.model_machine.specs.declared.entry.CheckpointRefused.TheVariants.{BusyRegion}
 use Rattle.model_machine.specs.declared.entry.Entry.TheVariants.{Checked}
 use Rattle.logged_machine.specs.Logged.{LoggedState}
@@ -10,7 +10,7 @@ use Rattle.logged_machine.proofs.logged.LoggedMachine.checkpoint_any.Goals as go
 
 pub returns-in-Some-clause-did : goal.returns-in-Some-clause-did
 returns-in-Some-clause-did g c =
-    rw (sym c.self.view_is) (answered_still g.D.Disk.state (record { machine = c.self.inside.parts; text = c.self.inside.text; served = c.self.inside.served; journal = c.self.inside.journal; units = c.self.inside.units.items; next_unit = c.self.inside.next_unit; disk = c.self.inside.disk }) (Checked c.args.freeze (Err (BusyRegion c.in-Some.region c.in-Some.id)))
+    rw (sym c.self.view_is) (answered_still g.D.Disk.state (record { machine = c.self.inside.parts; text = c.self.inside.text; served = c.self.inside.served; journal = c.self.inside.journal; units = c.self.inside.units.items; next_unit = c.self.inside.next_unit; disk = c.self.inside.disk }) (Checked c.args.freeze (Err (BusyRegion c.in-Some.region c.in-Some.id))) (refl, refl) (inl refl)
     (busy_answer c.self.inside.parts c.args.freeze c.in-Some.region c.in-Some.id c.region_count-regions.ensures.stays c.in-Some.ensures) (ap (λ (v : LoggedState _). v.served) c.self.view_is ∙ c.requires.served))
 
 pub checkpoint_free-requires-clause-stays : goal.checkpoint_free-requires-clause-stays

@@ -1,12 +1,13 @@
 -- behind a checkpoint
-use Rattle.std.proofs.Common.{◌∙◌, sym, ap, subst, refl, Err, List, ℕ}
+use Rattle.std.proofs.Common.{◌∙◌, sym, ap, subst, refl, Err, List, ℕ, true, false}
 use Rattle.model_machine.specs.declared.entry.ControlFault.TheVariants.{Disk}
 use Rattle.model_machine.specs.declared.entry.CommandRefused.TheVariants.{Fault}
 use Rattle.model_machine.specs.declared.entry.Entry.TheVariants.{Commanded}
 use Rattle.machine_life.specs.Counted.{IsCounted}
 use Rattle.parts_life.specs.Logged.{IsLogged}
+use Rattle.logged_machine.specs.Forcing.{IsForced}
 use Rattle.logged_machine.specs.Logged.{LoggedState}
-use Rattle.logged_machine.proofs.Behind.{area, behind_command, failed_done, forced_done, forced_logged, quiet_done, quiet_logged, ready, sequences}
+use Rattle.logged_machine.proofs.Behind.{behind_command, done_off, done_on, logged_behind, may_force_behind}
 use Rattle.logged_machine.proofs.Due.{done_refused}
 use Rattle.logged_machine.proofs.logged.LoggedMachine.command_behind.Goals as goal
 
@@ -16,80 +17,52 @@ command_due-done-requires-clause-logged g c = (
   subst (λ (us : List ℕ). IsLogged c.self.inside.parts us c.self.inside.next_unit c.self.inside.journal c.self.inside.text (g.D.Disk.state c.self.inside.disk)) (sym c.as_slice.ensures.value) (c.self.invariant (ap (λ (v : LoggedState _). v.served) c.self.view_is ∙ c.requires.served)),
 )
 
-pub invariant_of-self-then-not-is_lasting : goal.invariant_of-self-then-not-is_lasting
-invariant_of-self-then-not-is_lasting g c =
-    λ up. quiet_logged g.D.Disk.state
-    (behind_command g.D.Disk.state (ap (λ (v : LoggedState _). v.served) c.self.view_is ∙ c.requires.served) (c.self.invariant (ap (λ (v : LoggedState _). v.served) c.self.view_is ∙ c.requires.served))
-    (subst (λ (v : LoggedState _). IsCounted 0 v.machine.moment.lasting v.next_unit v.journal) (sym c.self.view_is) c.requires.counted)
-    c.command_due-done.ensures.keeps c.command_due-done.ensures.counts c.command_due-done.ensures.writes c.as_slice.ensures.value c.in-Ok.ensures.before c.in-Ok.ensures.slots
-    c.args.command.now c.in-Ok.answer c.in-Ok.ensures.behind c.in-Ok.ensures.answer c.in-Ok.ensures.named c.in-Ok.ensures.databases) (sym c.if-not-is_lasting.ensures)
+pub force-requires-clause-up : goal.force-requires-clause-up
+force-requires-clause-up g c = ap (λ (v : LoggedState _). v.served) c.self.view_is ∙ c.requires.served
 
-pub force-requires-clause-area : goal.force-requires-clause-area
-force-requires-clause-area g c =
-    area g.D.Disk.state
+pub force-requires-clause-may : goal.force-requires-clause-may
+force-requires-clause-may g c =
+    may_force_behind g.D.Disk.state
     (behind_command g.D.Disk.state (ap (λ (v : LoggedState _). v.served) c.self.view_is ∙ c.requires.served) (c.self.invariant (ap (λ (v : LoggedState _). v.served) c.self.view_is ∙ c.requires.served))
     (subst (λ (v : LoggedState _). IsCounted 0 v.machine.moment.lasting v.next_unit v.journal) (sym c.self.view_is) c.requires.counted)
     c.command_due-done.ensures.keeps c.command_due-done.ensures.counts c.command_due-done.ensures.writes c.as_slice.ensures.value c.in-Ok.ensures.before c.in-Ok.ensures.slots
     c.args.command.now c.in-Ok.answer c.in-Ok.ensures.behind c.in-Ok.ensures.answer c.in-Ok.ensures.named c.in-Ok.ensures.databases)
 
-pub force-requires-clause-sequences : goal.force-requires-clause-sequences
-force-requires-clause-sequences g c =
-    sequences g.D.Disk.state
+pub invariant_of-self-then-force : goal.invariant_of-self-then-force
+invariant_of-self-then-force g c =
+    λ up. logged_behind g.D.Disk.state
     (behind_command g.D.Disk.state (ap (λ (v : LoggedState _). v.served) c.self.view_is ∙ c.requires.served) (c.self.invariant (ap (λ (v : LoggedState _). v.served) c.self.view_is ∙ c.requires.served))
     (subst (λ (v : LoggedState _). IsCounted 0 v.machine.moment.lasting v.next_unit v.journal) (sym c.self.view_is) c.requires.counted)
     c.command_due-done.ensures.keeps c.command_due-done.ensures.counts c.command_due-done.ensures.writes c.as_slice.ensures.value c.in-Ok.ensures.before c.in-Ok.ensures.slots
     c.args.command.now c.in-Ok.answer c.in-Ok.ensures.behind c.in-Ok.ensures.answer c.in-Ok.ensures.named c.in-Ok.ensures.databases)
+    c.force.new.journal c.force.new.disk true
+    (subst (λ b. IsForced g.D.Disk.state b true c.command_due-done.new.journal c.force.new.journal c.command_due-done.new.disk c.force.new.disk) c.is_lasting-lasts.ensures c.if-force.ensures.forced)
+    refl
 
-pub force-requires-clause-ready : goal.force-requires-clause-ready
-force-requires-clause-ready g c =
-    ready g.D.Disk.state
-    (behind_command g.D.Disk.state (ap (λ (v : LoggedState _). v.served) c.self.view_is ∙ c.requires.served) (c.self.invariant (ap (λ (v : LoggedState _). v.served) c.self.view_is ∙ c.requires.served))
-    (subst (λ (v : LoggedState _). IsCounted 0 v.machine.moment.lasting v.next_unit v.journal) (sym c.self.view_is) c.requires.counted)
-    c.command_due-done.ensures.keeps c.command_due-done.ensures.counts c.command_due-done.ensures.writes c.as_slice.ensures.value c.in-Ok.ensures.before c.in-Ok.ensures.slots
-    c.args.command.now c.in-Ok.answer c.in-Ok.ensures.behind c.in-Ok.ensures.answer c.in-Ok.ensures.named c.in-Ok.ensures.databases)
-
-pub invariant_of-self-in-Ok-force : goal.invariant_of-self-in-Ok-force
-invariant_of-self-in-Ok-force g c =
-    λ up. forced_logged g.D.Disk.state
-    (behind_command g.D.Disk.state (ap (λ (v : LoggedState _). v.served) c.self.view_is ∙ c.requires.served) (c.self.invariant (ap (λ (v : LoggedState _). v.served) c.self.view_is ∙ c.requires.served))
-    (subst (λ (v : LoggedState _). IsCounted 0 v.machine.moment.lasting v.next_unit v.journal) (sym c.self.view_is) c.requires.counted)
-    c.command_due-done.ensures.keeps c.command_due-done.ensures.counts c.command_due-done.ensures.writes c.as_slice.ensures.value c.in-Ok.ensures.before c.in-Ok.ensures.slots
-    c.args.command.now c.in-Ok.answer c.in-Ok.ensures.behind c.in-Ok.ensures.answer c.in-Ok.ensures.named c.in-Ok.ensures.databases)
-    (sym c.if-not-is_lasting.ensures) c.force.new.self c.force.new.disk (record { within = c.force.ensures.any_moment; stays = c.force.ensures.stays; kept = c.in-Ok-force.ensures.kept; log_is = c.in-Ok-force.ensures.log; ready = c.in-Ok-force.ensures.ready; no_fault = c.in-Ok-force.ensures.no_fault; follows = c.in-Ok-force.ensures.done }) c.force.ensures.restart
-
-pub returns-then-not-is_lasting : goal.returns-then-not-is_lasting
-returns-then-not-is_lasting g c =
+pub returns-then-force : goal.returns-then-force
+returns-then-force g c =
     rw (sym c.self.view_is) (record {
-      did =
-          quiet_done g.D.Disk.state
-          (behind_command g.D.Disk.state (ap (λ (v : LoggedState _). v.served) c.self.view_is ∙ c.requires.served) (c.self.invariant (ap (λ (v : LoggedState _). v.served) c.self.view_is ∙ c.requires.served))
-          (subst (λ (v : LoggedState _). IsCounted 0 v.machine.moment.lasting v.next_unit v.journal) (sym c.self.view_is) c.requires.counted)
-          c.command_due-done.ensures.keeps c.command_due-done.ensures.counts c.command_due-done.ensures.writes c.as_slice.ensures.value c.in-Ok.ensures.before c.in-Ok.ensures.slots
-          c.args.command.now c.in-Ok.answer c.in-Ok.ensures.behind c.in-Ok.ensures.answer c.in-Ok.ensures.named c.in-Ok.ensures.databases) (sym c.if-not-is_lasting.ensures);
-    })
-
-pub returns-in-Ok-force : goal.returns-in-Ok-force
-returns-in-Ok-force g c =
-    rw (sym c.self.view_is) (record {
-      did =
-          forced_done g.D.Disk.state
+      did = done_on g.D.Disk.state
           (behind_command g.D.Disk.state (ap (λ (v : LoggedState _). v.served) c.self.view_is ∙ c.requires.served) (c.self.invariant (ap (λ (v : LoggedState _). v.served) c.self.view_is ∙ c.requires.served))
           (subst (λ (v : LoggedState _). IsCounted 0 v.machine.moment.lasting v.next_unit v.journal) (sym c.self.view_is) c.requires.counted)
           c.command_due-done.ensures.keeps c.command_due-done.ensures.counts c.command_due-done.ensures.writes c.as_slice.ensures.value c.in-Ok.ensures.before c.in-Ok.ensures.slots
           c.args.command.now c.in-Ok.answer c.in-Ok.ensures.behind c.in-Ok.ensures.answer c.in-Ok.ensures.named c.in-Ok.ensures.databases)
-          (sym c.if-not-is_lasting.ensures) c.force.new.self c.force.new.disk (record { within = c.force.ensures.any_moment; stays = c.force.ensures.stays; kept = c.in-Ok-force.ensures.kept; log_is = c.in-Ok-force.ensures.log; ready = c.in-Ok-force.ensures.ready; no_fault = c.in-Ok-force.ensures.no_fault; follows = c.in-Ok-force.ensures.done }) c.force.ensures.restart c.force.ensures.writes;
+          c.force.new.journal c.force.new.disk true
+          (subst (λ b. IsForced g.D.Disk.state b true c.command_due-done.new.journal c.force.new.journal c.command_due-done.new.disk c.force.new.disk) c.is_lasting-lasts.ensures c.if-force.ensures.forced)
+          refl c.if-force.ensures.served;
     })
 
-pub returns-in-Err-force : goal.returns-in-Err-force
-returns-in-Err-force g c =
+pub returns : goal.returns
+returns g c =
     rw (sym c.self.view_is) (record {
-      did =
-          failed_done g.D.Disk.state
+      did = done_off g.D.Disk.state
           (behind_command g.D.Disk.state (ap (λ (v : LoggedState _). v.served) c.self.view_is ∙ c.requires.served) (c.self.invariant (ap (λ (v : LoggedState _). v.served) c.self.view_is ∙ c.requires.served))
           (subst (λ (v : LoggedState _). IsCounted 0 v.machine.moment.lasting v.next_unit v.journal) (sym c.self.view_is) c.requires.counted)
           c.command_due-done.ensures.keeps c.command_due-done.ensures.counts c.command_due-done.ensures.writes c.as_slice.ensures.value c.in-Ok.ensures.before c.in-Ok.ensures.slots
           c.args.command.now c.in-Ok.answer c.in-Ok.ensures.behind c.in-Ok.ensures.answer c.in-Ok.ensures.named c.in-Ok.ensures.databases)
-          (sym c.if-not-is_lasting.ensures) c.force.new.self c.force.new.disk (Commanded c.args.command.now (Err (Fault Disk))) refl refl refl c.force.ensures.any_moment c.force.ensures.stays c.in-Err-force.ensures.cause c.force.ensures.restart c.force.ensures.writes;
+          c.force.new.journal c.force.new.disk false
+          (subst (λ b. IsForced g.D.Disk.state b false c.command_due-done.new.journal c.force.new.journal c.command_due-done.new.disk c.force.new.disk) c.is_lasting-lasts.ensures c.if-force.ensures.forced)
+          refl c.if-force.ensures.served (Commanded c.args.command.now (Err (Fault Disk))) refl (λ e. refl) refl;
     })
 
 pub returns-in-Err : goal.returns-in-Err

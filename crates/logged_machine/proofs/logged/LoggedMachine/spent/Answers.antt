@@ -1,20 +1,20 @@
--- the journal's counters, and then the others
-use Rattle.std.proofs.Common.{◌∙◌, ap, sym, Some}
-use Rattle.model_machine.specs.declared.counts.Counter.{Counter}
+use Rattle.std.proofs.Common.{◌-◌, ◌∙◌, ap, sym, arith}
 use Rattle.logged_machine.specs.Logged.{LoggedState}
 use Rattle.logged_machine.proofs.Serving.{sequences}
-use Rattle.logged_machine.proofs.Unspent.{journal_spent, other_spent}
+use Rattle.logged_machine.proofs.Unspent.{spent_is}
 use Rattle.logged_machine.proofs.logged.LoggedMachine.spent.Goals as goal
 
-pub spent-requires : goal.spent-requires
-spent-requires g c =
+pub next_sequence-requires : goal.next_sequence-requires
+next_sequence-requires g c =
     sequences c.self.inside.parts c.self.inside.units.items c.self.inside.next_unit c.self.inside.journal c.self.inside.text (g.D.Disk.state c.self.inside.disk)
     (c.self.invariant (ap (λ (v : LoggedState _). v.served) c.self.view_is ∙ c.requires.served))
 
-pub returns-in-Some-clause-value : goal.returns-in-Some-clause-value
-returns-in-Some-clause-value g c =
-    rw (sym c.self.view_is) (ap (λ (x : Counter). Some x) c.counter_of.ensures ∙ journal_spent c.self.inside.journal c.self.inside.next_unit c.self.inside.parts.moment.lasting c.in-Some.counter c.in-Some.ensures)
+pub overflow_sub-counts : goal.overflow_sub-counts
+overflow_sub-counts g c = omega (arith, (c.self.invariant (ap (λ (v : LoggedState _). v.served) c.self.view_is ∙ c.requires.served)).carried.is.numbers.some)
 
-pub returns-in-None-clause-value : goal.returns-in-None-clause-value
-returns-in-None-clause-value g c =
-    rw (sym c.self.view_is) (other_spent c.self.inside.journal c.self.inside.next_unit c.self.inside.parts.moment.lasting c.spent_beside.result c.in-None.ensures c.spent_beside.ensures)
+pub returns-clause-value : goal.returns-clause-value
+returns-clause-value g c =
+    let some = (c.self.invariant (ap (λ (v : LoggedState _). v.served) c.self.view_is ∙ c.requires.served)).carried.is.numbers.some in
+    rw (sym c.self.view_is)
+    (spent_is c.self.inside.journal c.self.inside.next_unit c.self.inside.parts.moment.lasting c.restart-restart.result.now c.next_sequence.result (c.self.inside.next_unit - 1) c.spent_counter.result c.restart-restart.ensures c.next_sequence.ensures
+    (omega (arith, some)) (c.spent_counter.ensures c.self.inside.parts.moment.lasting (sym c.next_id.ensures) (sym c.steps.ensures) (sym (c.terminals.ensures ∙ ap (λ o. o) c.outputs.ensures))))

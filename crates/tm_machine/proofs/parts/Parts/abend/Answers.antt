@@ -1,7 +1,7 @@
 use Rattle.std.proofs.Common.{rules, ◌≡◌, ◌-◌, sym, ap, ◌∙◌}
 use Rattle.std.specs.Prelude.{Some, slice_get}
 use Rattle.tm_machine.proofs.Raising.{follow_one}
-use Rattle.lasting_state.proofs.Told.{err_where}
+use Rattle.tm_machine.proofs.Full.{err_where}
 use Rattle.tm_machine.proofs.Finished.{abended_tells, abended_longer, found_here, id_there, works_there, follows_abended, parts_abended, abended_turned}
 use Rattle.region_work.specs.Region.{calls_made}
 use Rattle.tm_machine.proofs.Abends.{ends_right}

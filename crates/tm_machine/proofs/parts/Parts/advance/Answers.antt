@@ -7,7 +7,7 @@ use Rattle.model_queues.specs.Queue.{messages_of}
 use Rattle.tm_machine.proofs.Conversing.{have_pads}
 use Rattle.tm_machine.proofs.Stepped.{queued_work, parts_step}
 use Rattle.message_run.specs.Telling.{TellsNext}
-use Rattle.program_rows.specs.Telling.{spelled}
+use Rattle.log_records.specs.Telling.{spelled}
 use Rattle.tm_machine.proofs.Going.{goes_is, same_moment, ok_both, keeps_by, err_map_2}
 use Rattle.region_work.proofs.Results.{on_map, if_err_map}
 use Rattle.tm_machine.proofs.Slotting.{next_of}

@@ -1,52 +1,42 @@
-use Rattle.std.proofs.Common.{rules, ◌≡◌, ◌-◌, refl, sym, ap, ◌∙◌, subst}
+use Rattle.std.proofs.Common.{rules, ◌≡◌, ◌-◌, refl, sym, ap, ◌∙◌}
 use Rattle.std.specs.Prelude.{Some, slice_get}
 use Rattle.tm_machine.proofs.Raising.{follow_is}
 use Rattle.model_machine.specs.Trial.WorkEnd.{Ends}
-use Rattle.lasting_state.proofs.Told.{err_where}
-use Rattle.tm_machine.proofs.Telling.{short_pad}
-use Rattle.tm_machine.proofs.Finished.{ends_step, completed_tells, completed_longer, id_there, works_there, follows_completed, parts_completed, done_turned}
-use Rattle.step_telling.specs.Ranges.{HaveCounts}
-use Rattle.tm_machine.proofs.Abends.{outputs_right}
+use Rattle.tm_machine.proofs.Full.{err_where}
+use Rattle.tm_machine.proofs.Finished.{ends_step, completed_tells, completed_longer, may_complete, follows_completed, parts_completed, done_turned}
+use Rattle.region_work.specs.Region.{outputs_by}
+use Rattle.lasting_state.specs.Telling.{IsLonger}
+use Rattle.tm_machine.specs.Ends.{OfWork, completion_of}
 use Rattle.tm_machine.proofs.parts.Parts.complete.Goals as goal
 
-pub complete-requires-clause-found : goal.complete-requires-clause-found
-complete-requires-clause-found c =
+pub end_work-requires-clause-may : goal.end_work-requires-clause-may
+end_work-requires-clause-may c =
     let e : slice_get c.self.inside.regions.items (c.args.region - 1) ≡ Some (Some c.busy_at-busy.result.now) =
     ap (λ rs. slice_get rs (c.args.region - 1)) (sym c.deref.ensures.value) ∙ c.busy_at-busy.ensures in
     let region = (rw (← c.self.view_is) at c.requires.region) in
-    id_there c.self.inside.system c.self.inside.tables c.self.inside.codes c.self.inside.regions.items c.args.region c.self.invariant c.busy_at-busy.result.now e region
-
-pub complete-requires-clause-works : goal.complete-requires-clause-works
-complete-requires-clause-works c =
-    let e : slice_get c.self.inside.regions.items (c.args.region - 1) ≡ Some (Some c.busy_at-busy.result.now) =
-    ap (λ rs. slice_get rs (c.args.region - 1)) (sym c.deref.ensures.value) ∙ c.busy_at-busy.ensures in
-    let region = (rw (← c.self.view_is) at c.requires.region) in
-    works_there c.self.inside.system c.self.inside.tables c.self.inside.codes c.self.inside.regions.items c.args.region c.self.invariant c.busy_at-busy.result.now e region
+    may_complete c.self.inside.system c.self.inside.tables c.self.inside.codes c.self.inside.regions.items c.args.region c.self.invariant c.busy_at-busy.result.now e region
 
 pub invariant_of-self-2 : goal.invariant_of-self-2
 invariant_of-self-2 c =
     let e : slice_get c.self.inside.regions.items (c.args.region - 1) ≡ Some (Some c.busy_at-busy.result.now) =
     ap (λ rs. slice_get rs (c.args.region - 1)) (sym c.deref.ensures.value) ∙ c.busy_at-busy.ensures in
     let region = (rw (← c.self.view_is) at c.requires.region) in
-    let follow = follow_is c.self.inside.system.codes c.busy_at-busy.result.now.code c.self.inside.codes c.follow_all.new.codes c.queues.result.now c.complete.new.tables.queues c.deref-2.result.now
-    c.in-Ok-names_moved.names.items c.in-Ok.outputs.items c.in-Ok.outputs.items
-    c.follow_all.ensures c.queues.ensures c.deref-2.ensures.value c.in-Ok-names_moved.ensures refl in
-    rw c.in_ok-complete.ensures.regions
-    (parts_completed c.self.inside.system c.self.inside.tables c.self.inside.codes c.self.inside.regions.items c.args.region c.self.invariant c.busy_at-busy.result.now e region c.complete.new.tables c.in_ok-complete.ensures.above c.in-Ok.outputs.items c.in-Ok.ensures c.in-Ok-pad_by.pad c.in-Ok-pad_by.ensures.value c.in-Ok-pad_by.ensures.suits c.in_ok-complete.ensures.closed c.in_ok-complete.ensures.step c.in_ok-complete.ensures.databases c.in_ok-complete.ensures.dbds c.in_ok-complete.ensures.rows c.follow_all.new.codes (follows_completed c.self.inside.system c.self.inside.tables c.self.inside.codes c.self.inside.regions.items c.args.region c.self.invariant c.busy_at-busy.result.now e region c.complete.new.tables c.in_ok-complete.ensures.above c.in-Ok.outputs.items c.in-Ok.ensures c.in-Ok-pad_by.pad c.in-Ok-pad_by.ensures.value c.in-Ok-pad_by.ensures.suits c.in_ok-complete.ensures.closed c.in_ok-complete.ensures.step c.in_ok-complete.ensures.databases c.in_ok-complete.ensures.dbds c.in_ok-complete.ensures.rows c.follow_all.new.codes follow))
+    let follow = follow_is c.self.inside.system.codes c.busy_at-busy.result.now.code c.self.inside.codes c.follow_all.new.codes c.queues.result.now c.end_work.new.tables.queues c.deref-2.result.now
+    c.in_ok-names.names.items (outputs_by c.busy_at-busy.result.now.unit) (outputs_by c.busy_at-busy.result.now.unit)
+    c.follow_all.ensures c.queues.ensures c.deref-2.ensures.value (c.in_ok-names.ensures.names c.busy_at-busy.result.now e) refl in
+    rw c.in_ok-names.ensures.regions
+    (parts_completed c.self.inside.system c.self.inside.tables c.self.inside.codes c.self.inside.regions.items c.args.region c.self.invariant c.busy_at-busy.result.now e region c.end_work.new.tables (c.in_ok-names.ensures.completed c.busy_at-busy.result.now e) c.follow_all.new.codes (follows_completed c.self.inside.system c.self.inside.tables c.self.inside.codes c.self.inside.regions.items c.args.region c.self.invariant c.busy_at-busy.result.now e region c.end_work.new.tables (c.in_ok-names.ensures.completed c.busy_at-busy.result.now e) c.follow_all.new.codes follow))
 
 pub returns-clause-turned : goal.returns-clause-turned
 returns-clause-turned c =
     let e : slice_get c.self.inside.regions.items (c.args.region - 1) ≡ Some (Some c.busy_at-busy.result.now) =
     ap (λ rs. slice_get rs (c.args.region - 1)) (sym c.deref.ensures.value) ∙ c.busy_at-busy.ensures in
     let region = (rw (← c.self.view_is) at c.requires.region) in
-    let follow = follow_is c.self.inside.system.codes c.busy_at-busy.result.now.code c.self.inside.codes c.follow_all.new.codes c.queues.result.now c.complete.new.tables.queues c.deref-2.result.now
-    c.in-Ok-names_moved.names.items c.in-Ok.outputs.items c.in-Ok.outputs.items
-    c.follow_all.ensures c.queues.ensures c.deref-2.ensures.value c.in-Ok-names_moved.ensures refl in
-    let turned = done_turned c.self.inside.system c.self.inside.tables c.self.inside.codes c.self.inside.regions.items c.args.region c.self.invariant c.busy_at-busy.result.now e region c.complete.new.tables c.in_ok-complete.ensures.above c.in-Ok.outputs.items c.in-Ok.ensures c.in-Ok-pad_by.pad c.in-Ok-pad_by.ensures.value c.in-Ok-pad_by.ensures.suits c.in_ok-complete.ensures.closed c.in_ok-complete.ensures.step c.in_ok-complete.ensures.databases c.in_ok-complete.ensures.dbds c.in_ok-complete.ensures.rows c.follow_all.new.codes (follows_completed c.self.inside.system c.self.inside.tables c.self.inside.codes c.self.inside.regions.items c.args.region c.self.invariant c.busy_at-busy.result.now e region c.complete.new.tables c.in_ok-complete.ensures.above c.in-Ok.outputs.items c.in-Ok.ensures c.in-Ok-pad_by.pad c.in-Ok-pad_by.ensures.value c.in-Ok-pad_by.ensures.suits c.in_ok-complete.ensures.closed c.in_ok-complete.ensures.step c.in_ok-complete.ensures.databases c.in_ok-complete.ensures.dbds c.in_ok-complete.ensures.rows c.follow_all.new.codes follow) (rw (← c.self.view_is) at c.requires.ends) in
-    rw (sym c.self.view_is) (rw c.in_ok-complete.ensures.regions turned)
-
-pub complete-requires-clause-pad : goal.complete-requires-clause-pad
-complete-requires-clause-pad c = short_pad c.busy_at-busy.result.now.unit c.in-Ok-pad_by.pad c.in-Ok-pad_by.ensures.value c.in-Ok-pad_by.ensures.suits
+    let follow = follow_is c.self.inside.system.codes c.busy_at-busy.result.now.code c.self.inside.codes c.follow_all.new.codes c.queues.result.now c.end_work.new.tables.queues c.deref-2.result.now
+    c.in_ok-names.names.items (outputs_by c.busy_at-busy.result.now.unit) (outputs_by c.busy_at-busy.result.now.unit)
+    c.follow_all.ensures c.queues.ensures c.deref-2.ensures.value (c.in_ok-names.ensures.names c.busy_at-busy.result.now e) refl in
+    let turned = done_turned c.self.inside.system c.self.inside.tables c.self.inside.codes c.self.inside.regions.items c.args.region c.self.invariant c.busy_at-busy.result.now e region c.end_work.new.tables (c.in_ok-names.ensures.completed c.busy_at-busy.result.now e) c.follow_all.new.codes (follows_completed c.self.inside.system c.self.inside.tables c.self.inside.codes c.self.inside.regions.items c.args.region c.self.invariant c.busy_at-busy.result.now e region c.end_work.new.tables (c.in_ok-names.ensures.completed c.busy_at-busy.result.now e) c.follow_all.new.codes follow) (rw (← c.self.view_is) at c.requires.ends) in
+    rw (sym c.self.view_is) (rw c.in_ok-names.ensures.regions turned)
 
 pub returns-clause-told : goal.returns-clause-told
 returns-clause-told c =
@@ -54,21 +44,18 @@ returns-clause-told c =
     ap (λ rs. slice_get rs (c.args.region - 1)) (sym c.deref.ensures.value) ∙ c.busy_at-busy.ensures in
     let region = (rw (← c.self.view_is) at c.requires.region) in
     let ends = (rw (← c.self.view_is) at c.requires.ends) in
-    rw (sym c.self.view_is) (completed_tells c.self.inside.system c.self.inside.tables c.self.inside.codes c.self.inside.regions.items c.args.region c.self.invariant c.busy_at-busy.result.now e region c.args.unit c.args.room c.in-Ok.outputs.items c.in-Ok.ensures c.in-Ok-pad_by.pad c.in-Ok-pad_by.ensures.value (ends_step c.self.inside.system c.self.inside.tables c.self.inside.codes c.self.inside.regions.items c.args.region c.self.invariant c.busy_at-busy.result.now e region Ends ends) c.args.told.now.items c.complete.new.told.items c.in_ok-complete.ensures.told)
+    rw (sym c.self.view_is) (completed_tells c.self.inside.system c.self.inside.tables c.self.inside.codes c.self.inside.regions.items c.args.region c.self.invariant c.busy_at-busy.result.now e region c.args.unit c.args.room (ends_step c.self.inside.system c.self.inside.tables c.self.inside.codes c.self.inside.regions.items c.args.region c.self.invariant c.busy_at-busy.result.now e region Ends ends) c.args.told.now.items c.end_work.new.told.items (c.in_ok-names.ensures.told c.busy_at-busy.result.now e))
 
-pub returns-in_err-complete-clause-full : goal.returns-in_err-complete-clause-full
-returns-in_err-complete-clause-full c =
+pub returns-in_err-names-clause-full : goal.returns-in_err-names-clause-full
+returns-in_err-names-clause-full c =
     let e : slice_get c.self.inside.regions.items (c.args.region - 1) ≡ Some (Some c.busy_at-busy.result.now) =
     ap (λ rs. slice_get rs (c.args.region - 1)) (sym c.deref.ensures.value) ∙ c.busy_at-busy.ensures in
     let region = (rw (← c.self.view_is) at c.requires.region) in
     let ends = (rw (← c.self.view_is) at c.requires.ends) in
-    rw (sym c.self.view_is) (err_where c.from_residual.result (completed_longer c.self.inside.system c.self.inside.tables c.self.inside.codes c.self.inside.regions.items c.args.region c.self.invariant c.busy_at-busy.result.now e region c.args.unit c.args.room c.in-Ok.outputs.items c.in-Ok.ensures c.in-Ok-pad_by.pad c.in-Ok-pad_by.ensures.value (ends_step c.self.inside.system c.self.inside.tables c.self.inside.codes c.self.inside.regions.items c.args.region c.self.invariant c.busy_at-busy.result.now e region Ends ends)) (search rules))
+    rw (sym c.self.view_is) (err_where c.from_residual.result (λ (longer : OfWork c.self.inside.regions.items c.args.region (λ busy. IsLonger c.args.unit c.args.room (completion_of c.args.region c.self.inside.tables busy) c.self.inside.tables)). completed_longer c.self.inside.system c.self.inside.tables c.self.inside.codes c.self.inside.regions.items c.args.region c.self.invariant c.busy_at-busy.result.now e region c.args.unit c.args.room (ends_step c.self.inside.system c.self.inside.tables c.self.inside.codes c.self.inside.regions.items c.args.region c.self.invariant c.busy_at-busy.result.now e region Ends ends) (longer c.busy_at-busy.result.now e)) (search rules))
 
 pub returns-clause-slots : goal.returns-clause-slots
-returns-clause-slots c = rw (sym c.self.view_is) c.in_ok-complete.ensures.databases.slots
-
-pub complete-requires-clause-counts : goal.complete-requires-clause-counts
-complete-requires-clause-counts c =
+returns-clause-slots c =
     let e : slice_get c.self.inside.regions.items (c.args.region - 1) ≡ Some (Some c.busy_at-busy.result.now) =
     ap (λ rs. slice_get rs (c.args.region - 1)) (sym c.deref.ensures.value) ∙ c.busy_at-busy.ensures in
-    subst HaveCounts (sym c.in-Ok.ensures) (outputs_right c.self.inside.system c.self.inside.tables c.self.inside.codes c.self.inside.regions.items c.self.invariant c.args.region c.busy_at-busy.result.now e)
+    rw (sym c.self.view_is) (c.in_ok-names.ensures.completed c.busy_at-busy.result.now e).committed.slots

@@ -4,21 +4,21 @@ use Rattle.tm_machine.specs.Parts.{PartsState, settings_of}
 use Rattle.tm_machine.proofs.Commanded.{parts_commanded, commanded_is, same_databases}
 use Rattle.model_machine.specs.Lasting.LastingStep.{Commands}
 use Rattle.lasting_state.specs.Telling.{IsLonger}
-use Rattle.lasting_state.proofs.Told.{err_where}
+use Rattle.tm_machine.proofs.Full.{err_where}
 use Rattle.tm_machine.proofs.parts.Parts.do_command.Goals as goal
 
 pub invariant_of-self-2 : goal.invariant_of-self-2
 invariant_of-self-2 c =
     let free = subst (λ (p : PartsState). EndsNoneBusy c.args.command.now p.moment.lasting) (sym c.self.view_is) c.requires in
     parts_commanded c.self.inside.system c.self.inside.tables c.self.inside.codes c.self.inside.regions.items c.self.invariant c.args.command.now free
-    c.command.new.self c.in-Ok.codes c.in_ok-command.ensures.done c.in_ok-command.ensures.applies c.in-Ok.ensures
+    c.command.new.self c.set_states.new.codes c.in_ok-command.ensures.done c.in_ok-command.ensures.applies c.set_states.ensures
 
 pub returns-clause-done : goal.returns-clause-done
 returns-clause-done c =
     let free = subst (λ (p : PartsState). EndsNoneBusy c.args.command.now p.moment.lasting) (sym c.self.view_is) c.requires in
     rw (sym c.self.view_is)
     (commanded_is c.self.inside.system c.self.inside.tables c.self.inside.codes c.self.inside.regions.items c.self.invariant c.args.command.now free
-    c.command.new.self c.in-Ok.codes c.in_ok-command.ensures.done c.in_ok-command.ensures.applies c.in-Ok.ensures)
+    c.command.new.self c.set_states.new.codes c.in_ok-command.ensures.done c.in_ok-command.ensures.applies c.set_states.ensures)
 
 pub returns-clause-told : goal.returns-clause-told
 returns-clause-told c =

@@ -1,12 +1,10 @@
 use Rattle.std.proofs.Common.{◌≡◌, sym, ap, ◌∙◌, refl}
-use Rattle.std.specs.Prelude.{Ok}
+use Rattle.std.specs.Prelude.{Ok, slice_get}
 use Rattle.model_queues.specs.Queue.{messages_of}
 use Rattle.model_conversation.specs.Input.{busy_id}
 use Rattle.model_conversation.specs.Terminals.{conversation_at}
 use Rattle.conversation.specs.Refusals.{input_answer as conversation_answer}
-use Rattle.model_system.specs.Codes.{code_at}
-use Rattle.tm_machine.specs.Inputs.{code_for}
-use Rattle.tm_machine.proofs.Asked.{unknown_input, stopped_input, halted_input, not_halted, numbered_input, busy_input, uncoded_input, many_input, new_input}
+use Rattle.tm_machine.proofs.Asked.{unknown_input, stopped_input, halted_input, numbered_input, busy_input, uncoded_input, many_input, new_input}
 use Rattle.tm_machine.proofs.parts.Parts.new_input.Goals as goal
 
 pub returns-in_default-clause-refused : goal.returns-in_default-clause-refused
@@ -37,7 +35,7 @@ returns-in_default-code_for-clause-refused c =
     ∙ ap (λ q. conversation_answer (conversation_at c.args.terminal.now c.self.inside.tables.conversations) (busy_id c.args.terminal.now (messages_of q.queued))) c.queues.ensures in
     rw (sym c.self.view_is) (uncoded_input c.self.inside.system c.self.inside.tables c.self.inside.codes c.self.inside.regions.items c.self.invariant c.args.terminal.now c.args.number c.args.segments.now
     c.in-Some.place c.in-Some.ensures.value c.is_stopped.result c.is_stopped.ensures c.if-is_stopped.false c.last_input.result c.last_input.ensures c.in_default-by_number.ensures c.in-Ok.conversation says
-    (c.in_default-code_for.ensures.value ∙ ap (λ k. code_at k (code_for c.in-Ok.conversation c.args.segments.now)) c.codes.ensures.value))
+    c.in_default-code_for.ensures.value)
 
 pub returns-then-is_code_stopped-clause-refused : goal.returns-then-is_code_stopped-clause-refused
 returns-then-is_code_stopped-clause-refused c =
@@ -45,9 +43,9 @@ returns-then-is_code_stopped-clause-refused c =
     c.in-Ok.ensures ∙ ap (λ cs. conversation_answer (conversation_at c.args.terminal.now cs) (busy_id c.args.terminal.now (messages_of c.queues.result.now.queued))) c.conversations.ensures
     ∙ ap (λ q. conversation_answer (conversation_at c.args.terminal.now c.self.inside.tables.conversations) (busy_id c.args.terminal.now (messages_of q.queued))) c.queues.ensures in
     rw (sym c.self.view_is) (halted_input c.self.inside.system c.self.inside.tables c.self.inside.codes c.self.inside.regions.items c.self.invariant c.args.terminal.now c.args.number c.args.segments.now
-    c.in-Some.place c.in-Some.ensures.value c.is_stopped.result c.is_stopped.ensures c.if-is_stopped.false c.last_input.result c.last_input.ensures c.in_default-by_number.ensures c.in-Ok.conversation says c.in-Some-code_for.code.now
-    (c.in-Some-code_for.ensures.value ∙ ap (λ k. code_at k (code_for c.in-Ok.conversation c.args.segments.now)) c.codes.ensures.value) c.named-name.result c.named-name.ensures.value c.in-Some-code_for.ensures.named
-    c.is_code_stopped.result c.is_code_stopped.ensures c.if-is_code_stopped.true)
+    c.in-Some.place c.in-Some.ensures.value c.is_stopped.result c.is_stopped.ensures c.if-is_stopped.false c.last_input.result c.last_input.ensures c.in_default-by_number.ensures c.in-Ok.conversation says
+    c.in-Some-code_for.code_index c.in-Some-code_for.ensures.value c.code_at-code.result.now (ap (λ k. slice_get k c.in-Some-code_for.code_index) (sym c.codes.ensures.value) ∙ c.code_at-code.ensures)
+    c.named-name.result c.named-name.ensures.value c.is_code_stopped.result c.is_code_stopped.ensures c.if-is_code_stopped.true)
 
 pub returns-then-count-most-clause-refused : goal.returns-then-count-most-clause-refused
 returns-then-count-most-clause-refused c =
@@ -55,12 +53,10 @@ returns-then-count-most-clause-refused c =
     c.in-Ok.ensures ∙ ap (λ cs. conversation_answer (conversation_at c.args.terminal.now cs) (busy_id c.args.terminal.now (messages_of c.queues.result.now.queued))) c.conversations.ensures
     ∙ ap (λ q. conversation_answer (conversation_at c.args.terminal.now c.self.inside.tables.conversations) (busy_id c.args.terminal.now (messages_of q.queued))) c.queues.ensures in
     rw (sym c.self.view_is) (many_input c.self.inside.system c.self.inside.tables c.self.inside.codes c.self.inside.regions.items c.self.invariant c.args.terminal.now c.args.number c.args.segments.now
-    c.in-Some.place c.in-Some.ensures.value c.is_stopped.result c.is_stopped.ensures c.if-is_stopped.false c.last_input.result c.last_input.ensures c.in_default-by_number.ensures c.in-Ok.conversation says c.in-Some-code_for.code.now
-    (c.in-Some-code_for.ensures.value ∙ ap (λ k. code_at k (code_for c.in-Ok.conversation c.args.segments.now)) c.codes.ensures.value) (not_halted c.self.inside.system c.self.inside.tables c.self.inside.codes c.self.inside.regions.items c.self.invariant c.args.terminal.now c.args.number c.args.segments.now
-    c.in-Some.place c.in-Some.ensures.value c.is_stopped.result c.is_stopped.ensures c.if-is_stopped.false c.last_input.result c.last_input.ensures c.in_default-by_number.ensures c.in-Ok.conversation says c.in-Some-code_for.code.now
-    (c.in-Some-code_for.ensures.value ∙ ap (λ k. code_at k (code_for c.in-Ok.conversation c.args.segments.now)) c.codes.ensures.value) c.named-name.result c.named-name.ensures.value c.in-Some-code_for.ensures.named
-    c.is_code_stopped.result c.is_code_stopped.ensures c.if-is_code_stopped.false) c.most_segments-most.result c.args.count c.most_segments-most.ensures c.requires.count
-    c.if-count-most.true)
+    c.in-Some.place c.in-Some.ensures.value c.is_stopped.result c.is_stopped.ensures c.if-is_stopped.false c.last_input.result c.last_input.ensures c.in_default-by_number.ensures c.in-Ok.conversation says
+    c.in-Some-code_for.code_index c.in-Some-code_for.ensures.value c.code_at-code.result.now (ap (λ k. slice_get k c.in-Some-code_for.code_index) (sym c.codes.ensures.value) ∙ c.code_at-code.ensures)
+    c.named-name.result c.named-name.ensures.value c.is_code_stopped.result c.is_code_stopped.ensures c.if-is_code_stopped.false
+    c.most_segments-most.result c.args.count c.most_segments-most.ensures c.requires.count c.if-count-most.true)
 
 pub returns-clause-new : goal.returns-clause-new
 returns-clause-new c =
@@ -68,10 +64,9 @@ returns-clause-new c =
     c.in-Ok.ensures ∙ ap (λ cs. conversation_answer (conversation_at c.args.terminal.now cs) (busy_id c.args.terminal.now (messages_of c.queues.result.now.queued))) c.conversations.ensures
     ∙ ap (λ q. conversation_answer (conversation_at c.args.terminal.now c.self.inside.tables.conversations) (busy_id c.args.terminal.now (messages_of q.queued))) c.queues.ensures in
     rw (sym c.self.view_is) (new_input c.self.inside.system c.self.inside.tables c.self.inside.codes c.self.inside.regions.items c.self.invariant c.args.terminal.now c.args.number c.args.segments.now
-    c.in-Some.place c.in-Some.ensures.value c.is_stopped.result c.is_stopped.ensures c.if-is_stopped.false c.last_input.result c.last_input.ensures c.in_default-by_number.ensures c.in-Ok.conversation says c.in-Some-code_for.code.now
-    (c.in-Some-code_for.ensures.value ∙ ap (λ k. code_at k (code_for c.in-Ok.conversation c.args.segments.now)) c.codes.ensures.value) (not_halted c.self.inside.system c.self.inside.tables c.self.inside.codes c.self.inside.regions.items c.self.invariant c.args.terminal.now c.args.number c.args.segments.now
-    c.in-Some.place c.in-Some.ensures.value c.is_stopped.result c.is_stopped.ensures c.if-is_stopped.false c.last_input.result c.last_input.ensures c.in_default-by_number.ensures c.in-Ok.conversation says c.in-Some-code_for.code.now
-    (c.in-Some-code_for.ensures.value ∙ ap (λ k. code_at k (code_for c.in-Ok.conversation c.args.segments.now)) c.codes.ensures.value) c.named-name.result c.named-name.ensures.value c.in-Some-code_for.ensures.named
-    c.is_code_stopped.result c.is_code_stopped.ensures c.if-is_code_stopped.false) c.most_segments-most.result c.args.count c.most_segments-most.ensures c.requires.count
-    c.if-count-most.false (record { place = c.in-Some.place; code = c.named-name.result; way = c.way_by-way.result }) refl c.in-Some.ensures.within c.way_by-way.ensures c.named-name.ensures.value
-    c.in-Some-code_for.ensures.named c.named-name.ensures.name)
+    c.in-Some.place c.in-Some.ensures.value c.is_stopped.result c.is_stopped.ensures c.if-is_stopped.false c.last_input.result c.last_input.ensures c.in_default-by_number.ensures c.in-Ok.conversation says
+    c.in-Some-code_for.code_index c.in-Some-code_for.ensures.value c.code_at-code.result.now (ap (λ k. slice_get k c.in-Some-code_for.code_index) (sym c.codes.ensures.value) ∙ c.code_at-code.ensures)
+    c.named-name.result c.named-name.ensures.value c.is_code_stopped.result c.is_code_stopped.ensures c.if-is_code_stopped.false
+    c.most_segments-most.result c.args.count c.most_segments-most.ensures c.requires.count
+    c.if-count-most.false (record { place = c.in-Some.place; code = c.named-name.result; code_index = c.in-Some-code_for.code_index; way = c.way_by-way.result }) refl c.in-Some.ensures.within
+    refl c.in-Some-code_for.ensures.within c.way_by-way.ensures refl c.named-name.ensures.name)

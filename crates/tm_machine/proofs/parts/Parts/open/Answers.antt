@@ -1,7 +1,4 @@
 use Rattle.std.proofs.Common.{◌≡◌, ◌∙◌, [], ap, sym, subst, length, replicate}
-use Rattle.std.specs.List.{AllByRecursion}
-use Rattle.tm_types.specs.Name.{IsName}
-use Rattle.model_system.specs.declared.code.Code.{Code}
 use Rattle.model_machine.specs.Machine.{Moment, empty_state, start_of}
 use Rattle.seg_store.specs.Stores.{no_changed}
 use Rattle.opening_parts.specs.Parts.{OpeningParts}
@@ -32,7 +29,7 @@ invariant_of-self c =
     let opening : OpeningParts = record { queues = c.parts.inside.queues; outputs = c.parts.inside.outputs; codes = c.parts.inside.codes; terminals = c.parts.inside.terminals.items; conversations = c.parts.inside.conversations; stores = c.parts.inside.stores; now = c.parts.inside.now; next_id = c.parts.inside.next_id; next_unit = c.parts.inside.next_unit; steps = c.parts.inside.steps } in
     let fresh = subst (λ (p : PartsState). p.moment ≡ start_of p.system (empty_state p.system)) (sym c.self.view_is) c.requires.fresh in
     let with = subst (λ (p : PartsState). IsOpenedWith p.system state opening) (sym c.self.view_is) (subst (λ (q : OpeningParts). IsOpenedWith c.args.self.now.system state q) (sym c.parts.view_is) c.requires.some.1) in
-    let names = subst (AllByRecursion (λ (code : Code). IsName code.transaction.code)) c.codes.ensures.value c.valid_names.ensures in
+    let names = c.codes-codes.ensures.named in
     subst (λ (t : TablesState). AreParts inside.system t opening.codes inside.regions.items) (sym c.open.ensures.tables)
     (parts_opened inside.system state opening c.open.new.self.databases inside.regions.items with.opening with.rules with.of_system c.self.invariant.valid names
     (all_empty (length inside.system.regions) inside.regions.items (ap (λ (m : Moment). m.slots) fresh))
@@ -46,7 +43,7 @@ returns-clause-moment c = λ state opened.
     let opening : OpeningParts = record { queues = c.parts.inside.queues; outputs = c.parts.inside.outputs; codes = c.parts.inside.codes; terminals = c.parts.inside.terminals.items; conversations = c.parts.inside.conversations; stores = c.parts.inside.stores; now = c.parts.inside.now; next_id = c.parts.inside.next_id; next_unit = c.parts.inside.next_unit; steps = c.parts.inside.steps } in
     let fresh = subst (λ (p : PartsState). p.moment ≡ start_of p.system (empty_state p.system)) (sym c.self.view_is) c.requires.fresh in
     let with = subst (λ (p : PartsState). IsOpenedWith p.system state opening) (sym c.self.view_is) (subst (λ (q : OpeningParts). IsOpenedWith c.args.self.now.system state q) (sym c.parts.view_is) opened) in
-    let names = subst (AllByRecursion (λ (code : Code). IsName code.transaction.code)) c.codes.ensures.value c.valid_names.ensures in
+    let names = c.codes-codes.ensures.named in
     rw c.open.ensures.tables
     (moment_opened inside.system state opening c.open.new.self.databases inside.regions.items with.opening with.rules with.of_system c.self.invariant.valid names
     (all_empty (length inside.system.regions) inside.regions.items (ap (λ (m : Moment). m.slots) fresh))

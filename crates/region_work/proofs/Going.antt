@@ -1,4 +1,4 @@
--- A region's work that is taken out of it, and goes on.
+-- A region's work is started, and goes on.
 use Rattle.std.proofs.Common.{◌≡◌, sym, ap, ◌∙◌, subst, List, ℕ}
 use Rattle.std.specs.Prelude.{Option, Some, None, IsSomeAnd, Result, Ok, Err, IfOk}
 use Rattle.tm_types.specs.declared.message.Message.{Message}
@@ -23,7 +23,7 @@ use Rattle.message_run.specs.RunState.{RunState}
 use Rattle.lasting_state.specs.Tables.{TablesState}
 use Rattle.region_work.specs.declared.region.Busy.{Busy}
 use Rattle.region_work.proofs.Kept.{all_found}
-use Rattle.region_work.specs.Region.{given_in, HasPad, HavePads, GoesSo, TellsSo, IsLongerSo, HasNext, NextTells, IsTakenOn, IsTaken, StepsOn, Steps}
+use Rattle.region_work.specs.Region.{given_in, HasPad, HavePads, GoesSo, TellsSo, IsLongerSo, HasNext, IsStartedIn, IsStartedOn, NextTells, StepsOn, Steps}
 
 -- a work that is started serves the code's job
 pub starts : {E : Type 0} (system : System) (code : List ℕ) (given : Given) (lent : Lent) (made : Result RunState E) → job_of system code ≡ Some (lent_job system lent)
@@ -57,30 +57,35 @@ longer_so system region code lent before old unit room Memory e h = tt
 longer_so system region code lent before old unit room Full e h = λ given job serves ahead.
     subst (λ j. IsUntoldOn unit room j region before old Full) (some_same (lent_job system lent) job (sym e ∙ serves)) h given ahead
 
--- of a work that was taken out what its next call tells is so
-pub next_from : (system : System) (region unit : ℕ) (tables : TablesState) (old middle : Busy) (before : RunState) (holds : List Record → Type 0) → IsTaken system tables region old before
-    → middle ≡ record old { unit = None }
+-- the work that was started is the one that is there
+pub started_one : (here : Option RunState) (unit : RunState) (holds : RunState → Type 0) → here ≡ Some unit → IsSomeAnd here holds → holds unit
+started_one (Some other) unit holds is h = let same : other ≡ unit = cc in subst holds same h
+started_one None unit holds is h = absurd h
+
+-- of a work that was started what its next call tells is so
+pub next_from : (system : System) (region unit : ℕ) (tables : TablesState) (old middle : Busy) (before : RunState) (holds : List Record → Type 0) → IsStartedIn system tables region old before
+    → middle.code ≡ old.code
     → ((given : Given) (job : Job) → job_of system middle.code ≡ Some job → (ahead : IsAhead job given region tables.databases before) → holds (next_told unit region tables.databases job ahead.trial))
     → NextTells system region unit tables holds (Some old)
 next_from system region unit tables old middle before holds taken out all = by (message_at old.id tables.queues.queued) taken
   where
-    one : (given : Given) → IsTakenOn system tables.databases region given old before → HasNext system region unit tables.databases given old holds
+    one : (given : Given) → IsStartedOn system tables.databases region given old before → HasNext system region unit tables.databases given old holds
     one given t = record {
       job = t.job;
       serves = t.serves;
       trial = t.ahead.trial;
       made = subst (λ n. trial_of t.job (committed_rows tables.databases) given n ≡ Some t.ahead.trial) t.calls t.ahead.made;
-      is = all given t.job (ap (λ (b : Busy). job_of system b.code) out ∙ t.serves) t.ahead;
+      is = all given t.job (ap (job_of system) out ∙ t.serves) t.ahead;
     }
 
-    by : (found : Option Message) → IsSomeAnd found (λ message. IsTakenOn system tables.databases region (given_in tables.conversations message) old before)
+    by : (found : Option Message) → IsSomeAnd found (λ message. IsStartedOn system tables.databases region (given_in tables.conversations message) old before)
         → IsSomeAnd found (λ message. HasNext system region unit tables.databases (given_in tables.conversations message) old holds)
     by (Some message) t = one (given_in tables.conversations message) t
     by None t = absurd t
 
--- a work that was taken out made a step
-pub steps_from : (system : System) (region : ℕ) (tables : TablesState) (left databases : DatabasesState) (old middle new : Busy) (before after : RunState) (advanced : Advanced) → IsTaken system tables region old before
-    → middle ≡ record old { unit = None } → databases ≡ tables.databases → GoesSo system region middle.code databases left before after advanced → new ≡ record middle { unit = Some after }
+-- a work that was started made a step
+pub steps_from : (system : System) (region : ℕ) (tables : TablesState) (left databases : DatabasesState) (old middle new : Busy) (before after : RunState) (advanced : Advanced) → IsStartedIn system tables region old before
+    → middle ≡ record old { unit = middle.unit } → databases ≡ tables.databases → GoesSo system region middle.code databases left before after advanced → new ≡ record middle { unit = Some after }
     → Steps system region tables left (Some old) (Some new) (Some advanced)
 steps_from system region tables left databases old middle new before after advanced taken out same goes is =
     by (message_at old.id tables.queues.queued) taken
@@ -88,7 +93,7 @@ steps_from system region tables left databases old middle new before after advan
     new_is : new ≡ record old { unit = Some after }
     new_is = is ∙ ap (λ (b : Busy). record b { unit = Some after }) out
 
-    one : (given : Given) → IsTakenOn system tables.databases region given old before → StepsOn system region tables.databases left given old new advanced
+    one : (given : Given) → IsStartedOn system tables.databases region given old before → StepsOn system region tables.databases left given old new advanced
     one given t = record {
       same = record { code = ap (λ b. b.code) new_is; taken = ap (λ b. b.taken) new_is; id = ap (λ b. b.id) new_is };
       before = before;
@@ -99,7 +104,7 @@ steps_from system region tables left databases old middle new before after advan
           given t.job t.serves t.ahead;
     }
 
-    by : (found : Option Message) → IsSomeAnd found (λ message. IsTakenOn system tables.databases region (given_in tables.conversations message) old before)
+    by : (found : Option Message) → IsSomeAnd found (λ message. IsStartedOn system tables.databases region (given_in tables.conversations message) old before)
         → IsSomeAnd found (λ message. StepsOn system region tables.databases left (given_in tables.conversations message) old new advanced)
     by (Some message) t = one (given_in tables.conversations message) t
     by None t = absurd t

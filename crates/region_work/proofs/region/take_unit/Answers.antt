@@ -1,9 +1,0 @@
-use Rattle.std.proofs.Common.{ap, ◌∙◌}
-use Rattle.model_queues.specs.Queue.{message_at}
-use Rattle.region_work.proofs.Taken.{pad_found}
-use Rattle.region_work.proofs.region.take_unit.Goals as goal
-
-pub start_unit-requires-clause-pad : goal.start_unit-requires-clause-pad
-start_unit-requires-clause-pad c =
-    pad_found c.args.tables.now.conversations c.args.tables.now.queues.queued c.args.busy.now.id c.in-Some-find.message.now c.requires.pads
-    (c.in-Some-find.ensures ∙ ap (λ q. message_at c.args.busy.now.id q.queued) c.queues.ensures)
