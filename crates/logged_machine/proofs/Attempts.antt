@@ -1,5 +1,5 @@
 -- An attempt of a call, by what it told.
-use Rattle.std.proofs.Common.{◌≡◌, ◌≤◌, ◌<◌, ◌+◌, ◌^◌, ℕ, Bool, true, false, List, length, refl, sym, ◌∙◌, ap, subst, arith}
+use Rattle.std.proofs.Common.{◌≡◌, ◌≤◌, ◌<◌, ◌+◌, ◌^◌, ℕ, Bool, true, false, List, [], length, refl, sym, ◌∙◌, ap, subst, arith}
 use Rattle.std.specs.Prelude.{IfSome, Option, Some, None, Result, Ok, Err, ◌++◌}
 use Rattle.std.specs.List.{flat_map}
 use Rattle.std.specs.Option.{is_some}
@@ -11,7 +11,7 @@ use Rattle.model_command.specs.declared.command.Command.{Command}
 use Rattle.model_machine.specs.Commands.{lasting_command}
 use Rattle.model_machine.specs.Lasting.{LastingStep}
 use Rattle.model_machine.specs.Steps.{lasting_step}
-use Rattle.model_machine.specs.History.{after_entry, call_of}
+use Rattle.model_machine.specs.History.{after_entry, call_of, victims_in}
 use Rattle.model_machine.specs.declared.entry.Acked.{Acked}
 use Rattle.model_machine.specs.declared.entry.AckRefused.{AckRefused}
 use Rattle.model_machine.specs.declared.entry.CommandRefused.{CommandRefused}
@@ -20,7 +20,7 @@ use Rattle.model_machine.specs.declared.entry.ControlCall.TheVariants.{Input, Ac
 use Rattle.model_machine.specs.declared.entry.ControlFault.{ControlFault}
 use Rattle.model_machine.specs.declared.entry.ControlFault.TheVariants.{Disk}
 use Rattle.model_machine.specs.declared.entry.Entry.{Entry}
-use Rattle.model_machine.specs.declared.entry.Entry.TheVariants.{Accept, Acked as AckedEntry, Commanded, Turn as TurnEntry}
+use Rattle.model_machine.specs.declared.entry.Entry.TheVariants.{Accept, Show, Acked as AckedEntry, Commanded, Checked, Turn as TurnEntry}
 use Rattle.model_machine.specs.declared.entry.InputRefused.{InputRefused}
 use Rattle.model_machine.specs.declared.entry.Taken.{Taken}
 use Rattle.model_machine.specs.declared.entry.Turned.{Turned}
@@ -47,7 +47,6 @@ use Rattle.parts_life.proofs.Answering.{ack_of_parts, command_of_parts, input_of
 use Rattle.parts_life.proofs.Turning.{turn_of_parts}
 use Rattle.parts_life.proofs.Closing.{ack_steps, command_steps, input_steps, room_in_log, turn_steps}
 use Rattle.machine_telling.specs.Telling.{Appends}
-use Rattle.tm_machine.specs.Inputs.{is_input_fault}
 use Rattle.machine_life.specs.Counted.{IsCounted}
 use Rattle.model_image.specs.Counters.{greatest_unit}
 use Rattle.checkpointing.specs.Counts.{CountsUpTo}
@@ -55,15 +54,14 @@ use Rattle.checkpoint_law.specs.Counted.{TellUnits}
 use Rattle.parts_life.proofs.Counts.{force_up_to, forced_tell, quiet_tells}
 use Rattle.parts_life.proofs.OwnUnits.{records_most, turn_most, unit_below}
 use Rattle.parts_life.specs.Logged.{IsLogged}
-use Rattle.logged_machine.specs.Goes.{NumbersBy, DoesTo}
+use Rattle.machine_telling.specs.Calls.{Does, DoesTo, IsWithin, NumbersBy, lasts_by, may_last, own_bytes, own_records}
 use Rattle.logged_machine.specs.Logged.{LoggedState}
 use Rattle.control_life.specs.Faults.{fault_in}
 use Rattle.logged_machine.specs.Leaving.{Leaves}
 use Rattle.logged_machine.specs.Doing.{Did, GoesOnIn, LeavesCounts, Tried}
 use Rattle.logged_machine.proofs.Leaving.{leaves_same, leaves_within}
-use Rattle.logged_machine.specs.Frugal.{AppendsAlone, ForceFails, ForcesAll, WritesBy, has_lasting_step, own_bytes, own_records}
+use Rattle.logged_machine.specs.Frugal.{AppendsAlone, ForceFails, ForcesAll, WritesBy, has_lasting_step}
 use Rattle.logged_machine.proofs.Frugality.{area_is, writes_log}
-use Rattle.logged_machine.proofs.Answered.{ack_unfaulted, command_unfaulted, input_unfaulted}
 use Rattle.logged_machine.proofs.Logging.{area}
 use Rattle.logged_machine.specs.Forcing.{Forces, IsForced, MayForce}
 use Rattle.logged_machine.proofs.Once.{failed, is, is_broken, is_still, quiet, quiet_logged, was, wrote, wrote_logged}
@@ -317,14 +315,14 @@ next_up (Backed victims) next = omega arith
 
 module _ {D : Type 0} (state : D → DiskState) {parts parts' : PartsState} {text : List ℕ} {journal mid : JournalState} {units : List ℕ} {next : ℕ} {disk : D}
     (h : IsLogged parts units next journal text (state disk)) (counted : IsCounted 4294967296 parts.moment.lasting next journal) (had : HasSlots parts) (has : HasSlots parts') where
-  pub input_attempt : (terminal : List ℕ) (number : ℕ) (segments : List (List ℕ)) (answer : Result Taken InputRefused) → IsAnswered parts parts' (Accept terminal number segments answer) → is_input_fault answer ≡ false
-      → Appends (records_of parts.system parts.moment 0 (Input terminal number segments)) journal mid → parts'.databases ≡ parts.databases → number < 2000000000000000000
+  input_attempt : (terminal : List ℕ) (number : ℕ) (segments : List (List ℕ)) (answer : Result Taken InputRefused) → IsAnswered parts parts' (Accept terminal number segments answer)
+      → fault_in (Accept terminal number segments answer) ≡ None → Appends (records_of parts.system parts.moment 0 (Input terminal number segments)) journal mid → parts'.databases ≡ parts.databases → number < 2000000000000000000
       → Attempt state parts parts' text journal mid units units next next disk (Accept terminal number segments answer) (is_new answer)
   input_attempt terminal number segments answer answered none told databases small = record {
     logged = h;
     as_many = refl;
     answered = answered;
-    no_fault = input_unfaulted terminal number segments answer none;
+    no_fault = none;
     numbers = (refl, refl);
     does = databases;
     records = records_of parts.system parts.moment 0 (Input terminal number segments);
@@ -342,14 +340,14 @@ module _ {D : Type 0} (state : D → DiskState) {parts parts' : PartsState} {tex
         (room_in_log (records_of parts.system parts.moment 0 (Input terminal number segments)) journal.log h.life h.writer told.valid told.bytes told.fits);
   }
 
-  pub ack_attempt : (terminal : List ℕ) (number : ℕ) (answer : Result Acked AckRefused) → IsAnswered parts parts' (AckedEntry terminal number answer)
+  ack_attempt : (terminal : List ℕ) (number : ℕ) (answer : Result Acked AckRefused) → IsAnswered parts parts' (AckedEntry terminal number answer) → fault_in (AckedEntry terminal number answer) ≡ None
       → Appends (records_of parts.system parts.moment 0 (Acknowledge terminal number)) journal mid → parts'.databases ≡ parts.databases
       → Attempt state parts parts' text journal mid units units next next disk (AckedEntry terminal number answer) (is_removed answer)
-  ack_attempt terminal number answer answered told databases = record {
+  ack_attempt terminal number answer answered none told databases = record {
     logged = h;
     as_many = refl;
     answered = answered;
-    no_fault = ack_unfaulted parts.system parts.moment terminal number answer answered.may;
+    no_fault = none;
     numbers = (refl, refl);
     does = databases;
     records = records_of parts.system parts.moment 0 (Acknowledge terminal number);
@@ -367,14 +365,14 @@ module _ {D : Type 0} (state : D → DiskState) {parts parts' : PartsState} {tex
         (room_in_log (records_of parts.system parts.moment 0 (Acknowledge terminal number)) journal.log h.life h.writer told.valid told.bytes told.fits);
   }
 
-  pub command_attempt : (command : Command) (answer : Result Answer CommandRefused) → IsAnswered parts parts' (Commanded command answer) → IfSome (lasting_command command) (λ does. IsName (name_in does))
+  command_attempt : (command : Command) (answer : Result Answer CommandRefused) → IsAnswered parts parts' (Commanded command answer) → fault_in (Commanded command answer) ≡ None → IfSome (lasting_command command) (λ does. IsName (name_in does))
       → Appends (records_of parts.system parts.moment 0 (CommandCall command)) journal mid → parts'.databases ≡ parts.databases
       → Attempt state parts parts' text journal mid units units next next disk (Commanded command answer) (is_lasting command answer)
-  command_attempt command answer answered named told databases = record {
+  command_attempt command answer answered none named told databases = record {
     logged = h;
     as_many = refl;
     answered = answered;
-    no_fault = command_unfaulted parts.system parts.moment command answer answered.may;
+    no_fault = none;
     numbers = (refl, refl);
     does = databases;
     records = records_of parts.system parts.moment 0 (CommandCall command);
@@ -392,10 +390,10 @@ module _ {D : Type 0} (state : D → DiskState) {parts parts' : PartsState} {tex
         (room_in_log (records_of parts.system parts.moment 0 (CommandCall command)) journal.log h.life h.writer told.valid told.bytes told.fits);
   }
 
-  turn_own : (region : ℕ) (turned : Turned) → IsAnswered parts parts' (TurnEntry region (Ok turned)) → Appends (turn_records parts (unit_of units region) region) journal mid
+  turn_attempt : (region : ℕ) (turned : Turned) → IsAnswered parts parts' (TurnEntry region (Ok turned)) → Appends (turn_records parts (unit_of units region) region) journal mid
       → TurnsSo parts parts' (unit_of units region) region turned → TellByCall (changes_told parts (unit_of units region) region) turned
       → Attempt state parts parts' text journal mid units (units_after turned region next units) next (next_after turned next) disk (TurnEntry region (Ok turned)) (ends_work turned)
-  turn_own region turned answered told turns quiet = record {
+  turn_attempt region turned answered told turns quiet = record {
     logged = h;
     as_many = units_stay turned region next units;
     answered = answered;
@@ -417,25 +415,66 @@ module _ {D : Type 0} (state : D → DiskState) {parts parts' : PartsState} {tex
         (room_in_log (turn_records parts (unit_of units region) region) journal.log h.life h.writer told.valid told.bytes told.fits);
   }
 
-  pub turn_attempt : (region : ℕ) (turned : Turned) (unit : ℕ) (units' : List ℕ) (next' : ℕ) → unit ≡ unit_of units region → units' ≡ units_after turned region next units → next' ≡ next_after turned next
-      → IsAnswered parts parts' (TurnEntry region (Ok turned)) → Appends (turn_records parts unit region) journal mid → TurnsSo parts parts' unit region turned → TellByCall (changes_told parts unit region) turned
-      → Attempt state parts parts' text journal mid units units' next next' disk (TurnEntry region (Ok turned)) (ends_work turned)
-  turn_attempt region turned unit units' next' unit_is units_are next_is answered told turns quiet =
-      subst (λ (us : List ℕ). Attempt state parts parts' text journal mid units us next next' disk (TurnEntry region (Ok turned)) (ends_work turned)) (sym units_are)
-      (subst (λ (n : ℕ). Attempt state parts parts' text journal mid units (units_after turned region next units) next n disk (TurnEntry region (Ok turned)) (ends_work turned)) (sym next_is)
-      (turn_own region turned answered (subst (λ (u : ℕ). Appends (turn_records parts u region) journal mid) unit_is told) (subst (λ (u : ℕ). TurnsSo parts parts' u region turned) unit_is turns)
-      (subst (λ (u : ℕ). TellByCall (changes_told parts u region) turned) unit_is quiet)))
+  -- with the numbers of the units and the next one as they then are
+  numbered : (entry : Entry) (has_step : Bool) {us units' : List ℕ} {n next' : ℕ} → units' ≡ us → next' ≡ n → Attempt state parts parts' text journal mid units us next n disk entry has_step
+      → Attempt state parts parts' text journal mid units units' next next' disk entry has_step
+  numbered entry has_step {us = us} {units' = units'} {n = n} {next' = next'} units_are next_is a =
+      subst (λ (u : List ℕ). Attempt state parts parts' text journal mid units u next next' disk entry has_step) (sym units_are)
+      (subst (λ (m : ℕ). Attempt state parts parts' text journal mid units us next m disk entry has_step) (sym next_is) a)
 
--- a turn that ends the work has no victims, as one that the disk broke off
-pub ended_same : (system : System) (moment : Moment) (region : ℕ) (turned : Turned) (fault : ControlFault) → ends_work turned ≡ true
-    → after_entry system moment (TurnEntry region (Err fault)) ≡ after_entry system moment (TurnEntry region (Ok turned))
-ended_same system moment region (Next code id further) fault e = refl
-ended_same system moment region (QC code id) fault e = refl
-ended_same system moment region (Done code id) fault e = refl
-ended_same system moment region (Abended code id abend) fault e = refl
-ended_same system moment region (Scheduled code id) fault e = refl
-ended_same system moment region (Called function pcb status) fault e = refl
-ended_same system moment region Idle fault e = refl
-ended_same system moment region (Held need limit) fault e = refl
-ended_same system moment region (Waits resource by) fault e = refl
-ended_same system moment region (Backed victims) fault e = absurd (apart e)
+  by_entry : (entry : Entry) (units' : List ℕ) (next' : ℕ) → may_last (call_of entry) ≡ true → IsWithin (call_of entry) → Does units entry parts parts' → NumbersBy entry units units' next next'
+      → Appends (own_records parts units (call_of entry)) journal mid → Attempt state parts parts' text journal mid units units' next next' disk entry (lasts_by entry)
+  by_entry (Accept terminal number segments answer) units' next' last within d numbers told =
+      numbered (Accept terminal number segments answer) (is_new answer) numbers.0 numbers.1 (input_attempt terminal number segments answer d.answered d.no_fault told d.does within)
+  by_entry (AckedEntry terminal number answer) units' next' last within d numbers told =
+      numbered (AckedEntry terminal number answer) (is_removed answer) numbers.0 numbers.1 (ack_attempt terminal number answer d.answered d.no_fault told d.does)
+  by_entry (Commanded command answer) units' next' last within d numbers told =
+      numbered (Commanded command answer) (is_lasting command answer) numbers.0 numbers.1 (command_attempt command answer d.answered d.no_fault d.has_name told d.does)
+  by_entry (TurnEntry region (Ok turned)) units' next' last within d numbers told =
+      numbered (TurnEntry region (Ok turned)) (ends_work turned) numbers.0 numbers.1 (turn_attempt region turned d.answered told d.does d.changes)
+  by_entry (TurnEntry region (Err fault)) units' next' last within d numbers told = let clash : Some fault ≡ None = d.no_fault in absurd (cc)
+  by_entry (Show terminal answer) units' next' last within d numbers told = absurd (apart last)
+  by_entry (Checked freeze answer) units' next' last within d numbers told = absurd (apart last)
+
+  -- The attempt of a call, by what it told with the numbers of the units as they were given.
+  pub attempt : {given : List ℕ} {call : ControlCall} (entry : Entry) (units' : List ℕ) (next' : ℕ) → given ≡ units → call_of entry ≡ call → may_last call ≡ true → IsWithin call → Does given entry parts parts'
+      → NumbersBy entry units units' next next' → Appends (own_records parts given call) journal mid → Attempt state parts parts' text journal mid units units' next next' disk entry (lasts_by entry)
+  attempt {given = given} entry units' next' same of_call last within d numbers told =
+      by_entry entry units' next' (ap may_last of_call ∙ last) (subst IsWithin (sym of_call) within) (subst (λ (us : List ℕ). Does us entry parts parts') same d) numbers
+      (subst (λ (us : List ℕ). Appends (own_records parts us (call_of entry)) journal mid) same (subst (λ (c : ControlCall). Appends (own_records parts given c) journal mid) (sym of_call) told))
+
+-- ---- where the disk breaks it off
+
+-- a turn that ends the work has no victims
+none_lasting : (entry : Entry) → lasts_by entry ≡ true → victims_in entry ≡ []
+none_lasting (Accept terminal number segments answer) e = refl
+none_lasting (Show terminal answer) e = refl
+none_lasting (AckedEntry terminal number answer) e = refl
+none_lasting (Commanded command answer) e = refl
+none_lasting (Checked freeze answer) e = refl
+none_lasting (TurnEntry region (Err fault)) e = refl
+none_lasting (TurnEntry region (Ok (Next code id further))) e = refl
+none_lasting (TurnEntry region (Ok (QC code id))) e = refl
+none_lasting (TurnEntry region (Ok (Done code id))) e = refl
+none_lasting (TurnEntry region (Ok (Abended code id abend))) e = refl
+none_lasting (TurnEntry region (Ok (Scheduled code id))) e = refl
+none_lasting (TurnEntry region (Ok (Called function pcb status))) e = refl
+none_lasting (TurnEntry region (Ok Idle)) e = refl
+none_lasting (TurnEntry region (Ok (Held need limit))) e = refl
+none_lasting (TurnEntry region (Ok (Waits resource by))) e = refl
+none_lasting (TurnEntry region (Ok (Backed victims))) e = absurd (apart e)
+
+-- nor has a call with a fault
+none_faulted : (entry : Entry) (fault : ControlFault) → fault_in entry ≡ Some fault → victims_in entry ≡ []
+none_faulted (Accept terminal number segments answer) fault e = refl
+none_faulted (Show terminal answer) fault e = refl
+none_faulted (AckedEntry terminal number answer) fault e = refl
+none_faulted (Commanded command answer) fault e = refl
+none_faulted (Checked freeze answer) fault e = refl
+none_faulted (TurnEntry region (Err f)) fault e = refl
+none_faulted (TurnEntry region (Ok turned)) fault e = let clash : None ≡ Some fault = e in absurd (cc)
+
+-- so a call that lasts leaves the same where it is broken off
+pub after_broken : (system : System) (moment : Moment) (entry broken : Entry) (fault : ControlFault) → call_of broken ≡ call_of entry → fault_in broken ≡ Some fault → lasts_by entry ≡ true
+    → after_entry system moment broken ≡ after_entry system moment entry
+after_broken system moment entry broken fault same faulted lasts = rw (same, none_faulted broken fault faulted, none_lasting entry lasts) refl

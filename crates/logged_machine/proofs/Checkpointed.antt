@@ -24,7 +24,8 @@ use Rattle.machine_life.specs.Counted.{IsCounted}
 use Rattle.parts_life.specs.Logged.{IsLogged}
 use Rattle.machine_checkpoint.specs.Taking.{SameAll, TakesNext, Untaken, checkpoint_sectors, settled_parts}
 use Rattle.logged_machine.specs.Logged.{LoggedState}
-use Rattle.logged_machine.specs.Goes.{NumbersBy, ActsOn}
+use Rattle.machine_telling.specs.Calls.{NumbersBy}
+use Rattle.logged_machine.specs.Goes.{ActsOn}
 use Rattle.logged_machine.specs.Leaving.{Brings, Leaves}
 use Rattle.logged_machine.specs.Doing.{Did, FailsIn, LeavesCounts, Refreshed, Unrefreshed, is_memory, lasting_with}
 use Rattle.logged_machine.proofs.Leaving.{leaves_same, leaves_within}

@@ -13,7 +13,8 @@ use Rattle.model_image.specs.Recovered.{Recovers}
 use Rattle.checkpointing.specs.Texts.{HasText}
 use Rattle.disk_law.specs.Kept.{RecoversEither}
 use Rattle.logged_machine.specs.Logged.{LoggedState, AreLasting}
-use Rattle.logged_machine.specs.Goes.{Keeps, WentOn, GoesBy, CrashesBy, NumbersBy, DoesTo, ActsOn}
+use Rattle.logged_machine.specs.Goes.{Keeps, WentOn, GoesBy, CrashesBy, ActsOn}
+use Rattle.machine_telling.specs.Calls.{DoesTo, NumbersBy}
 use Rattle.machine_checkpoint.specs.Taking.{settled_parts}
 use Rattle.tm_machine.specs.Parts.{PartsState}
 use Rattle.logged_machine.specs.Leaving.{Brings}

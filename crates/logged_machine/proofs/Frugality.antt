@@ -20,10 +20,11 @@ use Rattle.checkpointing.proofs.Counted.{up_to_more}
 use Rattle.checkpoint_law.specs.Counted.{StandsUpTo}
 use Rattle.parts_life.specs.Logged.{IsLogged}
 use Rattle.machine_checkpoint.specs.Taking.{checkpoint_sectors, settled_parts}
+use Rattle.machine_telling.specs.Calls.{own_bytes}
 use Rattle.machine_telling.specs.Telling.{IsAllBut, StayFree}
 use Rattle.logged_machine.specs.Logged.{LoggedState}
 use Rattle.logged_machine.specs.Doing.{Done, DoneFrugally, GoesOnIn, IsDue, LeavesCounts, Refreshed, Tried, Unrefreshed}
-use Rattle.logged_machine.specs.Frugal.{DoesNothing, NoneIsDue, Raises, WritesBehind, WritesBy, WritesLog, has_lasting_step, own_bytes}
+use Rattle.logged_machine.specs.Frugal.{DoesNothing, NoneIsDue, Raises, WritesBehind, WritesBy, WritesLog, has_lasting_step}
 use Rattle.logged_machine.proofs.Checkpointed.{nothing, unrefreshed}
 use Rattle.logged_machine.proofs.Doing.{IsNoMemory, did_behind}
 use Rattle.logged_machine.proofs.Settled.{same_bytes}

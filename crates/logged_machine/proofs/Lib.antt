@@ -3,7 +3,6 @@ pub mod Doing
 pub mod Logging
 pub mod Once
 pub mod Unspent
-pub mod Answered
 pub mod Attempts
 pub mod Checkpointed
 pub mod Serving

@@ -25,7 +25,7 @@ use Rattle.machine_telling.specs.Telling.{Appends}
 use Rattle.logged_machine.specs.Logged.{LoggedState}
 use Rattle.parts_life.specs.Logged.{IsLogged}
 use Rattle.logged_machine.specs.Leaving.{Brings, Leaves}
-use Rattle.logged_machine.specs.Goes.{NumbersBy, DoesTo}
+use Rattle.machine_telling.specs.Calls.{DoesTo, NumbersBy}
 use Rattle.logged_machine.specs.Forcing.{Forces}
 use Rattle.logged_machine.specs.Doing.{Did, lasting_with}
 use Rattle.logged_machine.proofs.Leaving.{leaves_same}

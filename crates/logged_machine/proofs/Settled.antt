@@ -25,7 +25,7 @@ use Rattle.tm_machine.specs.Parts.{PartsState}
 use Rattle.tm_machine.specs.Told.{records_of}
 use Rattle.machine_life.specs.Turning.{unit_of}
 use Rattle.machine_checkpoint.specs.Taking.{settled_parts}
-use Rattle.logged_machine.specs.Frugal.{own_bytes}
+use Rattle.machine_telling.specs.Calls.{own_bytes}
 
 same_map : {A B : Type 0} (f g : A → B) (none : B) → ((a : A) → f a ≡ g a) → (o : Option A) → option_map_or f o none ≡ option_map_or g o none
 same_map f g none same None = refl

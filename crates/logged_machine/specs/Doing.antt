@@ -13,7 +13,8 @@ use Rattle.logged_machine.specs.Logged.{LoggedState}
 use Rattle.machine_checkpoint.specs.Taking.{TakesNext, checkpoint_sectors, settled_parts}
 use Rattle.logged_machine.specs.Goes.{Keeps, WentOn}
 use Rattle.logged_machine.specs.Leaving.{Brings, Leaves}
-use Rattle.logged_machine.specs.Frugal.{IsFrugal, Raises, WritesBy, WritesDue, has_lasting_step, own_bytes}
+use Rattle.machine_telling.specs.Calls.{own_bytes}
+use Rattle.logged_machine.specs.Frugal.{IsFrugal, Raises, WritesBy, WritesDue, has_lasting_step}
 
 -- what lasts with the call of an entry
 abbrev pub lasting_with : {D : Type 0} → LoggedState D → Entry → LastingState

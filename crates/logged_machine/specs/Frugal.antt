@@ -1,41 +1,20 @@
 -- What a call other than a checkpoint writes, and how far a call raises what is counted on.
 use Rattle.std.specs.Prelude.{◌≡◌, ◌⊎◌, ℕ, ◌+◌, ◌≤◌, Bool, true, false, List, [], length, Option, Some, None}
-use Rattle.std.specs.List.{flat_map}
 use Rattle.std.specs.Option.{is_some}
 use Rattle.model_disk.specs.Disk.{DiskState, Within, WritesAtMost}
 use Rattle.model_system.specs.System.{System}
 use Rattle.model_machine.specs.Steps.{lasting_step}
 use Rattle.model_machine.specs.declared.entry.ControlCall.{ControlCall}
-use Rattle.model_machine.specs.declared.entry.ControlCall.TheVariants.{Input, Receive, Acknowledge, Turn, Command, Checkpoint}
 use Rattle.model_machine.specs.declared.entry.ControlFault.{ControlFault}
 use Rattle.model_machine.specs.declared.entry.ControlFault.TheVariants.{Memory, Disk, Spent}
-use Rattle.log_records.specs.declared.record.Record.{Record}
-use Rattle.log_records.specs.Spelling.{spelling}
 use Rattle.log_writer.specs.Writer.{Writer}
 use Rattle.log_writer.specs.Log.{ChangesOnly, sectors_of}
 use Rattle.disk_law.specs.Changes.{with_bytes}
 use Rattle.disk_law.specs.Journal.{JournalState}
 use Rattle.journal.specs.State.{LeavesSectors, forced}
-use Rattle.tm_machine.specs.OnSlots.{turn_records}
 use Rattle.tm_machine.specs.Parts.{PartsState}
-use Rattle.tm_machine.specs.Told.{records_of}
-use Rattle.machine_life.specs.Turning.{unit_of}
+use Rattle.machine_telling.specs.Calls.{own_bytes}
 use Rattle.machine_checkpoint.specs.Taking.{TakesNext, checkpoint_sectors}
-
--- ---- what a call appends
-
--- The records of a call of its own, by the machine and the numbers of the regions' units: those of the step that lasts of it,
--- and of a turn also what its call changes in the databases.
-abbrev pub own_records : PartsState → List ℕ → ControlCall → List Record
-own_records parts units (Turn region) = turn_records parts (unit_of units region) region
-own_records parts units (Input terminal number segments) = records_of parts.system parts.moment 0 (Input terminal number segments)
-own_records parts units (Receive terminal) = records_of parts.system parts.moment 0 (Receive terminal)
-own_records parts units (Acknowledge terminal number) = records_of parts.system parts.moment 0 (Acknowledge terminal number)
-own_records parts units (Command command) = records_of parts.system parts.moment 0 (Command command)
-own_records parts units (Checkpoint freeze) = records_of parts.system parts.moment 0 (Checkpoint freeze)
-
-abbrev pub own_bytes : PartsState → List ℕ → ControlCall → List ℕ
-own_bytes parts units call = flat_map spelling (own_records parts units call)
 
 -- whether a step lasts of it
 abbrev pub has_lasting_step : PartsState → ControlCall → Bool

@@ -3,14 +3,13 @@ use Rattle.std.specs.Prelude.{◌≡◌, ◌⊎◌, ◌≤◌, ℕ, true, false,
 use Rattle.model_disk.specs.Disk.{Image, DiskState, Stays, FailedSince}
 use Rattle.model_machine.specs.History.{after_entry}
 use Rattle.model_machine.specs.declared.entry.Entry.{Entry}
-use Rattle.model_machine.specs.declared.entry.Entry.TheVariants.{Turn}
 use Rattle.model_machine.specs.declared.entry.ControlFault.{ControlFault}
 use Rattle.model_machine.specs.declared.entry.ControlFault.TheVariants.{Memory, Disk, Spent}
 use Rattle.checkpointing.specs.Texts.{HasText}
 use Rattle.tm_machine.specs.Answers.{IsAnswered}
-use Rattle.tm_machine.specs.OnSlots.{TurnsSo}
 use Rattle.tm_machine.specs.Parts.{PartsState}
-use Rattle.machine_life.specs.Turning.{next_after, unit_of, units_after}
+use Rattle.machine_telling.specs.Calls.{DoesTo}
+pub use Rattle.machine_telling.specs.Calls.{NumbersBy}
 use Rattle.machine_checkpoint.specs.Taking.{settled_parts}
 use Rattle.model_image.specs.Recovered.{Recovers}
 use Rattle.disk_law.specs.Kept.{RecoversEither}
@@ -25,17 +24,6 @@ pub record Keeps {D : Type 0} (state : D → DiskState) (old new : LoggedState D
   pub numbers : new.served ≡ true → old.journal.restart.checkpoint ≤ new.journal.restart.checkpoint
 
 -- ---- what it leaves of the machine; that no counter is spent was looked at before
-
--- The numbers of the regions' units behind a call that was answered, and the next one. A turn gives and takes them by its answer: a
--- region takes the next number with a message, and with another one that it goes on with. No other call touches them.
-abbrev pub NumbersBy : Entry → List ℕ → List ℕ → ℕ → ℕ → Type 0
-NumbersBy (Turn region (Ok turned)) old new next next' = (new ≡ units_after turned region next old) × (next' ≡ next_after turned next)
-NumbersBy _ old new next next' = (new ≡ old) × (next' ≡ next)
-
--- What it does to the databases: a turn what its answer says, in its region's unit, and any other call nothing.
-abbrev pub DoesTo : List ℕ → Entry → PartsState → PartsState → Type 0
-DoesTo units (Turn region (Ok turned)) old new = TurnsSo old new (unit_of units region) region turned
-DoesTo units _ old new = new.databases ≡ old.databases
 
 -- So it does to the databases as they stood; or, behind a checkpoint, to those of which no slot counts as changed.
 abbrev pub ActsOn : List ℕ → Entry → PartsState → PartsState → Type 0

@@ -7,16 +7,14 @@
 
 pub use control_life::How;
 pub use logged::LoggedMachine;
+pub use machine_telling::{Acknowledgement, Input, Turn};
 pub use refused::OpenRefused;
 
-mod accepting;
-mod acknowledging;
 mod checking;
-mod commanding;
 mod forcing;
 mod logged;
 mod opening;
 mod refreshing;
 mod refused;
 mod spending;
-mod turning;
+mod step;

@@ -1,6 +1,7 @@
 //! A machine with its log.
-ghost use Rattle.std.specs.Prelude.{◌≡◌, ◌<◌, ◌↔◌, IsTrue, IsFalse};
+ghost use Rattle.std.specs.Prelude.{◌≡◌, ◌<◌, ◌↔◌, IfOk, IsTrue, IsFalse};
 ghost use Rattle.model_disk.specs.Disk.{IsToldToStop, armed};
+ghost use Rattle.model_machine.specs.Commands.{command_answer};
 ghost use Rattle.model_machine.specs.declared.entry.Entry.TheVariants.{Show as ShowEntry};
 ghost use Rattle.model_machine.specs.Machine.{output_at, terminal_at};
 ghost use Rattle.model_machine.specs.Steps.{is_quiet, show_answer};
@@ -9,15 +10,17 @@ ghost use Rattle.tm_machine.specs.Answers.{Answers};
 ghost use Rattle.tm_machine.specs.OnSlots.{HasSlots};
 ghost use Rattle.logged_machine.specs.Logged.{LastsNow};
 
+use command_answers::answer_to;
 use journal::Journal;
 use lasting_state::Shown;
-use model_machine::ShowAnswer;
+use model_command::{Answer, Command};
+use model_machine::{CommandRefused, ShowAnswer};
 use std::alloc::Global;
 use std::marker::Model;
 use system_types::System;
 use tm_disk::Disk;
 use tm_machine::Parts;
-use tm_types::{Bytes, Name};
+use tm_types::{Bytes, Memory, Name};
 
 /// A machine with its log on a disk.
 #[derive(Drop)]
@@ -105,6 +108,13 @@ impl<D: Disk> LoggedMachine<D> {
         ensures lasts { LastsNow D.state self.new }
     {
         self.disk.arm(n)
+    }
+
+    /// What a command is answered now.
+    pub fn answer_to(&self, command: &Command) -> Result<Result<Answer, CommandRefused>, Memory>
+        ensures { IfOk result (λ answer. answer ≡ command_answer self.now.machine.system self.now.machine.moment command.now) }
+    {
+        answer_to(self.alloc, &self.parts, command)
     }
 
     /// What the terminal is to be shown.

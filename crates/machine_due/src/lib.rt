@@ -5,7 +5,7 @@
 //! behind it. So want of memory has changed nothing and written nothing.
 #![tactic(auto)]
 
-pub use due::{acknowledgement_due, command_due, input_due, turn_due};
+pub use due::DueCall;
 
 mod due;
 mod writing;

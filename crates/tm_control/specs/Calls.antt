@@ -13,7 +13,7 @@ use Rattle.checkpointing.specs.Counts.{CountsUpTo}
 use Rattle.checkpoint_law.specs.Counted.{StandsUpTo}
 use Rattle.disk_law.specs.Kept.{RecoversEither}
 use Rattle.tm_machine.specs.Parts.{PartsState}
-use Rattle.logged_machine.specs.Goes.{NumbersBy, ActsOn}
+use Rattle.logged_machine.specs.Goes.{ActsOn, NumbersBy}
 use Rattle.logged_machine.specs.Frugal.{IsFrugal, Raises}
 use Rattle.tm_control.specs.OnDisk.{ControlOnDisk, lasting_after}
 

@@ -26,7 +26,7 @@ use crate::closed::Closed;
 use crate::noting::{acked_entry, checked_entry, command_entry, input_entry, note, turn_entry};
 use control_life::{History, How, Life};
 use lasting_state::Shown;
-use logged_machine::{LoggedMachine, OpenRefused};
+use logged_machine::{Acknowledgement, Input, LoggedMachine, OpenRefused, Turn};
 use model_command::{Answer, Command};
 use model_machine::{
     AckRefused, Acked, CheckpointRefused, CommandRefused, ControlFault, Entry, InputRefused,
@@ -220,7 +220,12 @@ impl<D: Disk> Control<D> {
         if self.history.reserve(1).is_err() {
             return Err(InputRefused::Fault(ControlFault::Memory));
         }
-        let answer = self.machine.accept(terminal, number, &segments);
+        let input = Input {
+            terminal: *terminal,
+            number,
+            segments: &segments,
+        };
+        let answer = self.machine.serve(&input);
         self.steps = steps_of(self.steps, &self.machine);
         note(
             &mut self.history,
@@ -279,7 +284,11 @@ impl<D: Disk> Control<D> {
         if self.history.reserve(1).is_err() {
             return Err(AckRefused::Fault(ControlFault::Memory));
         }
-        let answer = self.machine.acknowledge(terminal, number);
+        let acknowledgement = Acknowledgement {
+            terminal: *terminal,
+            number,
+        };
+        let answer = self.machine.serve(&acknowledgement);
         self.steps = steps_of(self.steps, &self.machine);
         note(&mut self.history, acked_entry(terminal, number, &answer));
         answer
@@ -307,7 +316,7 @@ impl<D: Disk> Control<D> {
         if self.history.reserve(1).is_err() {
             return Err(ControlFault::Memory);
         }
-        let turned = self.machine.turn(region);
+        let turned = self.machine.serve(&Turn { region });
         self.steps = steps_of(self.steps, &self.machine);
         note(&mut self.history, turn_entry(region, &turned));
         turned
@@ -338,7 +347,7 @@ impl<D: Disk> Control<D> {
         if self.history.reserve(1).is_err() {
             return Err(CommandRefused::Fault(ControlFault::Memory));
         }
-        let answer = self.machine.command(command);
+        let answer = self.machine.serve(command);
         self.steps = steps_of(self.steps, &self.machine);
         note(&mut self.history, command_entry(command, kept, &answer));
         answer

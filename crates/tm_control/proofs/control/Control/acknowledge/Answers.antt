@@ -12,75 +12,75 @@ use Rattle.tm_control.proofs.control.Control.acknowledge.Goals as goal
 
 pub invariant_of-self-2 : goal.invariant_of-self-2
 invariant_of-self-2 g c =
-    (called g.D.Disk.state c.self.inside.machine c.acknowledge-answer.new.self c.self.inside.opening c.self.inside.history.items c.note.new.history.items (Acked c.args.terminal.now c.args.number c.acknowledge-answer.result) 0 0 c.self.inside.began c.self.inside.steps c.steps_of-self-inside.result
+    (called g.D.Disk.state c.self.inside.machine c.serve-answer.new.self c.self.inside.opening c.self.inside.history.items c.note.new.history.items (Acked c.args.terminal.now c.args.number c.serve-answer.result) 0 0 c.self.inside.began c.self.inside.steps c.steps_of-self-inside.result
     (record {
       served = ap (λ (v : ControlOnDisk _). v.up) c.self.view_is ∙ c.requires.up;
       holds = is_served g.D.Disk.state c.self.inside.machine c.self.inside.opening c.self.inside.history.items c.self.inside.steps (ap (λ (v : ControlOnDisk _). v.up) c.self.view_is ∙ c.requires.up) c.self.invariant;
       call = tt;
-      keeps = c.acknowledge-answer.ensures.keeps;
-      lasts = c.acknowledge-answer.ensures.lasts;
-      disk = g.met.D.Disk.is_disk c.acknowledge-answer.new.self.disk;
+      keeps = c.serve-answer.ensures.keeps;
+      lasts = c.serve-answer.ensures.lasts;
+      disk = g.met.D.Disk.is_disk c.serve-answer.new.self.disk;
       numbers = λ served. tt;
     })
-    c.steps_of-self-inside.ensures c.acknowledge-answer.ensures.goes c.acknowledge-answer.ensures.crash
+    c.steps_of-self-inside.ensures c.serve-answer.ensures.goes c.serve-answer.ensures.crash
     (subst (λ (e : Entry). c.note.new.history.items ≡ noted (is_noted (fault_in e)) c.self.inside.history.items e) c.acked_entry.ensures
     (c.note.ensures.items ∙ ap (λ (es : List Entry). noted (is_noted (fault_in c.acked_entry.result)) es c.acked_entry.result) c.reserve.ensures.items))).1
 
 pub returns-clause-crash : goal.returns-clause-crash
 returns-clause-crash g c = rw (sym c.self.view_is)
-    (called g.D.Disk.state c.self.inside.machine c.acknowledge-answer.new.self c.self.inside.opening c.self.inside.history.items c.note.new.history.items (Acked c.args.terminal.now c.args.number c.acknowledge-answer.result) _ _ c.self.inside.began c.self.inside.steps c.steps_of-self-inside.result
+    (called g.D.Disk.state c.self.inside.machine c.serve-answer.new.self c.self.inside.opening c.self.inside.history.items c.note.new.history.items (Acked c.args.terminal.now c.args.number c.serve-answer.result) _ _ c.self.inside.began c.self.inside.steps c.steps_of-self-inside.result
     (record {
       served = ap (λ (v : ControlOnDisk _). v.up) c.self.view_is ∙ c.requires.up;
       holds = is_served g.D.Disk.state c.self.inside.machine c.self.inside.opening c.self.inside.history.items c.self.inside.steps (ap (λ (v : ControlOnDisk _). v.up) c.self.view_is ∙ c.requires.up) c.self.invariant;
       call = tt;
-      keeps = c.acknowledge-answer.ensures.keeps;
-      lasts = c.acknowledge-answer.ensures.lasts;
-      disk = g.met.D.Disk.is_disk c.acknowledge-answer.new.self.disk;
+      keeps = c.serve-answer.ensures.keeps;
+      lasts = c.serve-answer.ensures.lasts;
+      disk = g.met.D.Disk.is_disk c.serve-answer.new.self.disk;
       numbers = λ served. tt;
     })
-    c.steps_of-self-inside.ensures c.acknowledge-answer.ensures.goes c.acknowledge-answer.ensures.crash
+    c.steps_of-self-inside.ensures c.serve-answer.ensures.goes c.serve-answer.ensures.crash
     (subst (λ (e : Entry). c.note.new.history.items ≡ noted (is_noted (fault_in e)) c.self.inside.history.items e) c.acked_entry.ensures
     (c.note.ensures.items ∙ ap (λ (es : List Entry). noted (is_noted (fault_in c.acked_entry.result)) es c.acked_entry.result) c.reserve.ensures.items))).0.crash
 
 pub returns-clause-undone : goal.returns-clause-undone
 returns-clause-undone g c = rw (sym c.self.view_is)
-    (called g.D.Disk.state c.self.inside.machine c.acknowledge-answer.new.self c.self.inside.opening c.self.inside.history.items c.note.new.history.items (Acked c.args.terminal.now c.args.number c.acknowledge-answer.result) _ _ c.self.inside.began c.self.inside.steps c.steps_of-self-inside.result
+    (called g.D.Disk.state c.self.inside.machine c.serve-answer.new.self c.self.inside.opening c.self.inside.history.items c.note.new.history.items (Acked c.args.terminal.now c.args.number c.serve-answer.result) _ _ c.self.inside.began c.self.inside.steps c.steps_of-self-inside.result
     (record {
       served = ap (λ (v : ControlOnDisk _). v.up) c.self.view_is ∙ c.requires.up;
       holds = is_served g.D.Disk.state c.self.inside.machine c.self.inside.opening c.self.inside.history.items c.self.inside.steps (ap (λ (v : ControlOnDisk _). v.up) c.self.view_is ∙ c.requires.up) c.self.invariant;
       call = tt;
-      keeps = c.acknowledge-answer.ensures.keeps;
-      lasts = c.acknowledge-answer.ensures.lasts;
-      disk = g.met.D.Disk.is_disk c.acknowledge-answer.new.self.disk;
+      keeps = c.serve-answer.ensures.keeps;
+      lasts = c.serve-answer.ensures.lasts;
+      disk = g.met.D.Disk.is_disk c.serve-answer.new.self.disk;
       numbers = λ served. tt;
     })
-    c.steps_of-self-inside.ensures c.acknowledge-answer.ensures.goes c.acknowledge-answer.ensures.crash
+    c.steps_of-self-inside.ensures c.serve-answer.ensures.goes c.serve-answer.ensures.crash
     (subst (λ (e : Entry). c.note.new.history.items ≡ noted (is_noted (fault_in e)) c.self.inside.history.items e) c.acked_entry.ensures
     (c.note.ensures.items ∙ ap (λ (es : List Entry). noted (is_noted (fault_in c.acked_entry.result)) es c.acked_entry.result) c.reserve.ensures.items))).0.undone
 
 pub returns-clause-room : goal.returns-clause-room
 returns-clause-room g c = rw (sym c.self.view_is)
     (room_saved (seen c.self.inside.machine c.self.inside.opening c.self.inside.history.items (c.self.inside.history.cap - c.self.inside.history.len) c.self.inside.began)
-    (seen c.acknowledge-answer.new.self c.self.inside.opening c.note.new.history.items (c.note.new.history.cap - c.note.new.history.len) c.self.inside.began)
+    (seen c.serve-answer.new.self c.self.inside.opening c.note.new.history.items (c.note.new.history.cap - c.note.new.history.len) c.self.inside.began)
     c.self.inside.history.items c.note.new.history.items c.self.inside.history.len c.note.new.history.len c.self.inside.history.cap c.note.new.history.cap
     refl refl c.self.inside.history.ok.0 c.note.new.history.ok.0 (omega (arith, c.reserve.ensures.capacity, c.note.ensures.capacity))
-    (fault_in (Acked c.args.terminal.now c.args.number c.acknowledge-answer.result)) (Acked c.args.terminal.now c.args.number c.acknowledge-answer.result)
+    (fault_in (Acked c.args.terminal.now c.args.number c.serve-answer.result)) (Acked c.args.terminal.now c.args.number c.serve-answer.result)
     (subst (λ (e : Entry). c.note.new.history.items ≡ noted (is_noted (fault_in e)) c.self.inside.history.items e) c.acked_entry.ensures
     (c.note.ensures.items ∙ ap (λ (es : List Entry). noted (is_noted (fault_in c.acked_entry.result)) es c.acked_entry.result) c.reserve.ensures.items)))
 
 pub returns-clause-lasts : goal.returns-clause-lasts
 returns-clause-lasts g c =
-    (called g.D.Disk.state c.self.inside.machine c.acknowledge-answer.new.self c.self.inside.opening c.self.inside.history.items c.note.new.history.items (Acked c.args.terminal.now c.args.number c.acknowledge-answer.result) 0 _ c.self.inside.began c.self.inside.steps c.steps_of-self-inside.result
+    (called g.D.Disk.state c.self.inside.machine c.serve-answer.new.self c.self.inside.opening c.self.inside.history.items c.note.new.history.items (Acked c.args.terminal.now c.args.number c.serve-answer.result) 0 _ c.self.inside.began c.self.inside.steps c.steps_of-self-inside.result
     (record {
       served = ap (λ (v : ControlOnDisk _). v.up) c.self.view_is ∙ c.requires.up;
       holds = is_served g.D.Disk.state c.self.inside.machine c.self.inside.opening c.self.inside.history.items c.self.inside.steps (ap (λ (v : ControlOnDisk _). v.up) c.self.view_is ∙ c.requires.up) c.self.invariant;
       call = tt;
-      keeps = c.acknowledge-answer.ensures.keeps;
-      lasts = c.acknowledge-answer.ensures.lasts;
-      disk = g.met.D.Disk.is_disk c.acknowledge-answer.new.self.disk;
+      keeps = c.serve-answer.ensures.keeps;
+      lasts = c.serve-answer.ensures.lasts;
+      disk = g.met.D.Disk.is_disk c.serve-answer.new.self.disk;
       numbers = λ served. tt;
     })
-    c.steps_of-self-inside.ensures c.acknowledge-answer.ensures.goes c.acknowledge-answer.ensures.crash
+    c.steps_of-self-inside.ensures c.serve-answer.ensures.goes c.serve-answer.ensures.crash
     (subst (λ (e : Entry). c.note.new.history.items ≡ noted (is_noted (fault_in e)) c.self.inside.history.items e) c.acked_entry.ensures
     (c.note.ensures.items ∙ ap (λ (es : List Entry). noted (is_noted (fault_in c.acked_entry.result)) es c.acked_entry.result) c.reserve.ensures.items))).0.lasts
 
@@ -88,13 +88,13 @@ pub returns-clause-frugal : goal.returns-clause-frugal
 returns-clause-frugal g c = rw (sym c.self.view_is)
     (frugal_too g.D.Disk.state c.self.inside.machine c.self.inside.opening c.self.inside.history.items 0 c.self.inside.began c.self.inside.steps
     (is_served g.D.Disk.state c.self.inside.machine c.self.inside.opening c.self.inside.history.items c.self.inside.steps (ap (λ (v : ControlOnDisk _). v.up) c.self.view_is ∙ c.requires.up) c.self.invariant)
-    (fault_in (Acked c.args.terminal.now c.args.number c.acknowledge-answer.result)) (Acknowledge c.args.terminal.now c.args.number) c.acknowledge-answer.new.self.journal c.acknowledge-answer.new.self.disk c.acknowledge-answer.ensures.frugal)
+    (fault_in (Acked c.args.terminal.now c.args.number c.serve-answer.result)) (Acknowledge c.args.terminal.now c.args.number) c.serve-answer.new.self.journal c.serve-answer.new.self.disk c.serve-answer.ensures.frugal)
 
 pub returns-clause-raises : goal.returns-clause-raises
-returns-clause-raises g c = rw (sym c.self.view_is) c.acknowledge-answer.ensures.raises
+returns-clause-raises g c = rw (sym c.self.view_is) c.serve-answer.ensures.raises
 
 pub returns-clause-counts : goal.returns-clause-counts
-returns-clause-counts g c = rw (sym c.self.view_is) c.acknowledge-answer.ensures.counts
+returns-clause-counts g c = rw (sym c.self.view_is) c.serve-answer.ensures.counts
 
 pub returns-in-Some-clause-counts : goal.returns-in-Some-clause-counts
 returns-in-Some-clause-counts g c = rw (sym c.self.view_is)

@@ -12,75 +12,75 @@ use Rattle.tm_control.proofs.control.Control.input.Goals as goal
 
 pub invariant_of-self-2 : goal.invariant_of-self-2
 invariant_of-self-2 g c =
-    (called g.D.Disk.state c.self.inside.machine c.accept-answer.new.self c.self.inside.opening c.self.inside.history.items c.note.new.history.items (Accept c.args.terminal.now c.args.number c.args.segments c.accept-answer.result) 0 0 c.self.inside.began c.self.inside.steps c.steps_of-self-inside.result
+    (called g.D.Disk.state c.self.inside.machine c.serve-answer.new.self c.self.inside.opening c.self.inside.history.items c.note.new.history.items (Accept c.args.terminal.now c.args.number c.args.segments c.serve-answer.result) 0 0 c.self.inside.began c.self.inside.steps c.steps_of-self-inside.result
     (record {
       served = ap (λ (v : ControlOnDisk _). v.up) c.self.view_is ∙ c.requires.up;
       holds = is_served g.D.Disk.state c.self.inside.machine c.self.inside.opening c.self.inside.history.items c.self.inside.steps (ap (λ (v : ControlOnDisk _). v.up) c.self.view_is ∙ c.requires.up) c.self.invariant;
       call = c.requires.some;
-      keeps = c.accept-answer.ensures.keeps;
-      lasts = c.accept-answer.ensures.lasts;
-      disk = g.met.D.Disk.is_disk c.accept-answer.new.self.disk;
+      keeps = c.serve-answer.ensures.keeps;
+      lasts = c.serve-answer.ensures.lasts;
+      disk = g.met.D.Disk.is_disk c.serve-answer.new.self.disk;
       numbers = λ served. tt;
     })
-    c.steps_of-self-inside.ensures c.accept-answer.ensures.goes c.accept-answer.ensures.crash
+    c.steps_of-self-inside.ensures c.serve-answer.ensures.goes c.serve-answer.ensures.crash
     (subst (λ (e : Entry). c.note.new.history.items ≡ noted (is_noted (fault_in e)) c.self.inside.history.items e) c.input_entry.ensures
     (c.note.ensures.items ∙ ap (λ (es : List Entry). noted (is_noted (fault_in c.input_entry.result)) es c.input_entry.result) c.reserve.ensures.items))).1
 
 pub returns-clause-crash : goal.returns-clause-crash
 returns-clause-crash g c = rw (sym c.self.view_is)
-    (called g.D.Disk.state c.self.inside.machine c.accept-answer.new.self c.self.inside.opening c.self.inside.history.items c.note.new.history.items (Accept c.args.terminal.now c.args.number c.args.segments c.accept-answer.result) _ _ c.self.inside.began c.self.inside.steps c.steps_of-self-inside.result
+    (called g.D.Disk.state c.self.inside.machine c.serve-answer.new.self c.self.inside.opening c.self.inside.history.items c.note.new.history.items (Accept c.args.terminal.now c.args.number c.args.segments c.serve-answer.result) _ _ c.self.inside.began c.self.inside.steps c.steps_of-self-inside.result
     (record {
       served = ap (λ (v : ControlOnDisk _). v.up) c.self.view_is ∙ c.requires.up;
       holds = is_served g.D.Disk.state c.self.inside.machine c.self.inside.opening c.self.inside.history.items c.self.inside.steps (ap (λ (v : ControlOnDisk _). v.up) c.self.view_is ∙ c.requires.up) c.self.invariant;
       call = c.requires.some;
-      keeps = c.accept-answer.ensures.keeps;
-      lasts = c.accept-answer.ensures.lasts;
-      disk = g.met.D.Disk.is_disk c.accept-answer.new.self.disk;
+      keeps = c.serve-answer.ensures.keeps;
+      lasts = c.serve-answer.ensures.lasts;
+      disk = g.met.D.Disk.is_disk c.serve-answer.new.self.disk;
       numbers = λ served. tt;
     })
-    c.steps_of-self-inside.ensures c.accept-answer.ensures.goes c.accept-answer.ensures.crash
+    c.steps_of-self-inside.ensures c.serve-answer.ensures.goes c.serve-answer.ensures.crash
     (subst (λ (e : Entry). c.note.new.history.items ≡ noted (is_noted (fault_in e)) c.self.inside.history.items e) c.input_entry.ensures
     (c.note.ensures.items ∙ ap (λ (es : List Entry). noted (is_noted (fault_in c.input_entry.result)) es c.input_entry.result) c.reserve.ensures.items))).0.crash
 
 pub returns-clause-undone : goal.returns-clause-undone
 returns-clause-undone g c = rw (sym c.self.view_is)
-    (called g.D.Disk.state c.self.inside.machine c.accept-answer.new.self c.self.inside.opening c.self.inside.history.items c.note.new.history.items (Accept c.args.terminal.now c.args.number c.args.segments c.accept-answer.result) _ _ c.self.inside.began c.self.inside.steps c.steps_of-self-inside.result
+    (called g.D.Disk.state c.self.inside.machine c.serve-answer.new.self c.self.inside.opening c.self.inside.history.items c.note.new.history.items (Accept c.args.terminal.now c.args.number c.args.segments c.serve-answer.result) _ _ c.self.inside.began c.self.inside.steps c.steps_of-self-inside.result
     (record {
       served = ap (λ (v : ControlOnDisk _). v.up) c.self.view_is ∙ c.requires.up;
       holds = is_served g.D.Disk.state c.self.inside.machine c.self.inside.opening c.self.inside.history.items c.self.inside.steps (ap (λ (v : ControlOnDisk _). v.up) c.self.view_is ∙ c.requires.up) c.self.invariant;
       call = c.requires.some;
-      keeps = c.accept-answer.ensures.keeps;
-      lasts = c.accept-answer.ensures.lasts;
-      disk = g.met.D.Disk.is_disk c.accept-answer.new.self.disk;
+      keeps = c.serve-answer.ensures.keeps;
+      lasts = c.serve-answer.ensures.lasts;
+      disk = g.met.D.Disk.is_disk c.serve-answer.new.self.disk;
       numbers = λ served. tt;
     })
-    c.steps_of-self-inside.ensures c.accept-answer.ensures.goes c.accept-answer.ensures.crash
+    c.steps_of-self-inside.ensures c.serve-answer.ensures.goes c.serve-answer.ensures.crash
     (subst (λ (e : Entry). c.note.new.history.items ≡ noted (is_noted (fault_in e)) c.self.inside.history.items e) c.input_entry.ensures
     (c.note.ensures.items ∙ ap (λ (es : List Entry). noted (is_noted (fault_in c.input_entry.result)) es c.input_entry.result) c.reserve.ensures.items))).0.undone
 
 pub returns-clause-room : goal.returns-clause-room
 returns-clause-room g c = rw (sym c.self.view_is)
     (room_saved (seen c.self.inside.machine c.self.inside.opening c.self.inside.history.items (c.self.inside.history.cap - c.self.inside.history.len) c.self.inside.began)
-    (seen c.accept-answer.new.self c.self.inside.opening c.note.new.history.items (c.note.new.history.cap - c.note.new.history.len) c.self.inside.began)
+    (seen c.serve-answer.new.self c.self.inside.opening c.note.new.history.items (c.note.new.history.cap - c.note.new.history.len) c.self.inside.began)
     c.self.inside.history.items c.note.new.history.items c.self.inside.history.len c.note.new.history.len c.self.inside.history.cap c.note.new.history.cap
     refl refl c.self.inside.history.ok.0 c.note.new.history.ok.0 (omega (arith, c.reserve.ensures.capacity, c.note.ensures.capacity))
-    (fault_in (Accept c.args.terminal.now c.args.number c.args.segments c.accept-answer.result)) (Accept c.args.terminal.now c.args.number c.args.segments c.accept-answer.result)
+    (fault_in (Accept c.args.terminal.now c.args.number c.args.segments c.serve-answer.result)) (Accept c.args.terminal.now c.args.number c.args.segments c.serve-answer.result)
     (subst (λ (e : Entry). c.note.new.history.items ≡ noted (is_noted (fault_in e)) c.self.inside.history.items e) c.input_entry.ensures
     (c.note.ensures.items ∙ ap (λ (es : List Entry). noted (is_noted (fault_in c.input_entry.result)) es c.input_entry.result) c.reserve.ensures.items)))
 
 pub returns-clause-lasts : goal.returns-clause-lasts
 returns-clause-lasts g c =
-    (called g.D.Disk.state c.self.inside.machine c.accept-answer.new.self c.self.inside.opening c.self.inside.history.items c.note.new.history.items (Accept c.args.terminal.now c.args.number c.args.segments c.accept-answer.result) 0 _ c.self.inside.began c.self.inside.steps c.steps_of-self-inside.result
+    (called g.D.Disk.state c.self.inside.machine c.serve-answer.new.self c.self.inside.opening c.self.inside.history.items c.note.new.history.items (Accept c.args.terminal.now c.args.number c.args.segments c.serve-answer.result) 0 _ c.self.inside.began c.self.inside.steps c.steps_of-self-inside.result
     (record {
       served = ap (λ (v : ControlOnDisk _). v.up) c.self.view_is ∙ c.requires.up;
       holds = is_served g.D.Disk.state c.self.inside.machine c.self.inside.opening c.self.inside.history.items c.self.inside.steps (ap (λ (v : ControlOnDisk _). v.up) c.self.view_is ∙ c.requires.up) c.self.invariant;
       call = c.requires.some;
-      keeps = c.accept-answer.ensures.keeps;
-      lasts = c.accept-answer.ensures.lasts;
-      disk = g.met.D.Disk.is_disk c.accept-answer.new.self.disk;
+      keeps = c.serve-answer.ensures.keeps;
+      lasts = c.serve-answer.ensures.lasts;
+      disk = g.met.D.Disk.is_disk c.serve-answer.new.self.disk;
       numbers = λ served. tt;
     })
-    c.steps_of-self-inside.ensures c.accept-answer.ensures.goes c.accept-answer.ensures.crash
+    c.steps_of-self-inside.ensures c.serve-answer.ensures.goes c.serve-answer.ensures.crash
     (subst (λ (e : Entry). c.note.new.history.items ≡ noted (is_noted (fault_in e)) c.self.inside.history.items e) c.input_entry.ensures
     (c.note.ensures.items ∙ ap (λ (es : List Entry). noted (is_noted (fault_in c.input_entry.result)) es c.input_entry.result) c.reserve.ensures.items))).0.lasts
 
@@ -88,13 +88,13 @@ pub returns-clause-frugal : goal.returns-clause-frugal
 returns-clause-frugal g c = rw (sym c.self.view_is)
     (frugal_too g.D.Disk.state c.self.inside.machine c.self.inside.opening c.self.inside.history.items 0 c.self.inside.began c.self.inside.steps
     (is_served g.D.Disk.state c.self.inside.machine c.self.inside.opening c.self.inside.history.items c.self.inside.steps (ap (λ (v : ControlOnDisk _). v.up) c.self.view_is ∙ c.requires.up) c.self.invariant)
-    (fault_in (Accept c.args.terminal.now c.args.number c.args.segments c.accept-answer.result)) (Input c.args.terminal.now c.args.number c.args.segments) c.accept-answer.new.self.journal c.accept-answer.new.self.disk c.accept-answer.ensures.frugal)
+    (fault_in (Accept c.args.terminal.now c.args.number c.args.segments c.serve-answer.result)) (Input c.args.terminal.now c.args.number c.args.segments) c.serve-answer.new.self.journal c.serve-answer.new.self.disk c.serve-answer.ensures.frugal)
 
 pub returns-clause-raises : goal.returns-clause-raises
-returns-clause-raises g c = rw (sym c.self.view_is) c.accept-answer.ensures.raises
+returns-clause-raises g c = rw (sym c.self.view_is) c.serve-answer.ensures.raises
 
 pub returns-clause-counts : goal.returns-clause-counts
-returns-clause-counts g c = rw (sym c.self.view_is) c.accept-answer.ensures.counts
+returns-clause-counts g c = rw (sym c.self.view_is) c.serve-answer.ensures.counts
 
 pub returns-in-Some-clause-counts : goal.returns-in-Some-clause-counts
 returns-in-Some-clause-counts g c = rw (sym c.self.view_is)

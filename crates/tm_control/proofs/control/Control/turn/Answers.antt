@@ -13,75 +13,75 @@ use Rattle.tm_control.proofs.control.Control.turn.Goals as goal
 
 pub invariant_of-self-2 : goal.invariant_of-self-2
 invariant_of-self-2 g c =
-    (called g.D.Disk.state c.self.inside.machine c.turn-turned.new.self c.self.inside.opening c.self.inside.history.items c.note.new.history.items (Turn c.args.region c.turn-turned.result) 0 0 c.self.inside.began c.self.inside.steps c.steps_of-self-inside.result
+    (called g.D.Disk.state c.self.inside.machine c.serve-turned.new.self c.self.inside.opening c.self.inside.history.items c.note.new.history.items (Turn c.args.region c.serve-turned.result) 0 0 c.self.inside.began c.self.inside.steps c.steps_of-self-inside.result
     (record {
       served = ap (λ (v : ControlOnDisk _). v.up) c.self.view_is ∙ c.requires.up;
       holds = is_served g.D.Disk.state c.self.inside.machine c.self.inside.opening c.self.inside.history.items c.self.inside.steps (ap (λ (v : ControlOnDisk _). v.up) c.self.view_is ∙ c.requires.up) c.self.invariant;
       call = subst (λ (v : ControlOnDisk _). IsRegion v.control.system c.args.region) (sym c.self.view_is) c.requires.region;
-      keeps = c.turn-turned.ensures.keeps;
-      lasts = c.turn-turned.ensures.lasts;
-      disk = g.met.D.Disk.is_disk c.turn-turned.new.self.disk;
+      keeps = c.serve-turned.ensures.keeps;
+      lasts = c.serve-turned.ensures.lasts;
+      disk = g.met.D.Disk.is_disk c.serve-turned.new.self.disk;
       numbers = λ served. tt;
     })
-    c.steps_of-self-inside.ensures c.turn-turned.ensures.goes c.turn-turned.ensures.crash
+    c.steps_of-self-inside.ensures c.serve-turned.ensures.goes c.serve-turned.ensures.crash
     (subst (λ (e : Entry). c.note.new.history.items ≡ noted (is_noted (fault_in e)) c.self.inside.history.items e) c.turn_entry.ensures
     (c.note.ensures.items ∙ ap (λ (es : List Entry). noted (is_noted (fault_in c.turn_entry.result)) es c.turn_entry.result) c.reserve.ensures.items))).1
 
 pub returns-clause-crash : goal.returns-clause-crash
 returns-clause-crash g c = rw (sym c.self.view_is)
-    (called g.D.Disk.state c.self.inside.machine c.turn-turned.new.self c.self.inside.opening c.self.inside.history.items c.note.new.history.items (Turn c.args.region c.turn-turned.result) _ _ c.self.inside.began c.self.inside.steps c.steps_of-self-inside.result
+    (called g.D.Disk.state c.self.inside.machine c.serve-turned.new.self c.self.inside.opening c.self.inside.history.items c.note.new.history.items (Turn c.args.region c.serve-turned.result) _ _ c.self.inside.began c.self.inside.steps c.steps_of-self-inside.result
     (record {
       served = ap (λ (v : ControlOnDisk _). v.up) c.self.view_is ∙ c.requires.up;
       holds = is_served g.D.Disk.state c.self.inside.machine c.self.inside.opening c.self.inside.history.items c.self.inside.steps (ap (λ (v : ControlOnDisk _). v.up) c.self.view_is ∙ c.requires.up) c.self.invariant;
       call = subst (λ (v : ControlOnDisk _). IsRegion v.control.system c.args.region) (sym c.self.view_is) c.requires.region;
-      keeps = c.turn-turned.ensures.keeps;
-      lasts = c.turn-turned.ensures.lasts;
-      disk = g.met.D.Disk.is_disk c.turn-turned.new.self.disk;
+      keeps = c.serve-turned.ensures.keeps;
+      lasts = c.serve-turned.ensures.lasts;
+      disk = g.met.D.Disk.is_disk c.serve-turned.new.self.disk;
       numbers = λ served. tt;
     })
-    c.steps_of-self-inside.ensures c.turn-turned.ensures.goes c.turn-turned.ensures.crash
+    c.steps_of-self-inside.ensures c.serve-turned.ensures.goes c.serve-turned.ensures.crash
     (subst (λ (e : Entry). c.note.new.history.items ≡ noted (is_noted (fault_in e)) c.self.inside.history.items e) c.turn_entry.ensures
     (c.note.ensures.items ∙ ap (λ (es : List Entry). noted (is_noted (fault_in c.turn_entry.result)) es c.turn_entry.result) c.reserve.ensures.items))).0.crash
 
 pub returns-clause-undone : goal.returns-clause-undone
 returns-clause-undone g c = rw (sym c.self.view_is)
-    (called g.D.Disk.state c.self.inside.machine c.turn-turned.new.self c.self.inside.opening c.self.inside.history.items c.note.new.history.items (Turn c.args.region c.turn-turned.result) _ _ c.self.inside.began c.self.inside.steps c.steps_of-self-inside.result
+    (called g.D.Disk.state c.self.inside.machine c.serve-turned.new.self c.self.inside.opening c.self.inside.history.items c.note.new.history.items (Turn c.args.region c.serve-turned.result) _ _ c.self.inside.began c.self.inside.steps c.steps_of-self-inside.result
     (record {
       served = ap (λ (v : ControlOnDisk _). v.up) c.self.view_is ∙ c.requires.up;
       holds = is_served g.D.Disk.state c.self.inside.machine c.self.inside.opening c.self.inside.history.items c.self.inside.steps (ap (λ (v : ControlOnDisk _). v.up) c.self.view_is ∙ c.requires.up) c.self.invariant;
       call = subst (λ (v : ControlOnDisk _). IsRegion v.control.system c.args.region) (sym c.self.view_is) c.requires.region;
-      keeps = c.turn-turned.ensures.keeps;
-      lasts = c.turn-turned.ensures.lasts;
-      disk = g.met.D.Disk.is_disk c.turn-turned.new.self.disk;
+      keeps = c.serve-turned.ensures.keeps;
+      lasts = c.serve-turned.ensures.lasts;
+      disk = g.met.D.Disk.is_disk c.serve-turned.new.self.disk;
       numbers = λ served. tt;
     })
-    c.steps_of-self-inside.ensures c.turn-turned.ensures.goes c.turn-turned.ensures.crash
+    c.steps_of-self-inside.ensures c.serve-turned.ensures.goes c.serve-turned.ensures.crash
     (subst (λ (e : Entry). c.note.new.history.items ≡ noted (is_noted (fault_in e)) c.self.inside.history.items e) c.turn_entry.ensures
     (c.note.ensures.items ∙ ap (λ (es : List Entry). noted (is_noted (fault_in c.turn_entry.result)) es c.turn_entry.result) c.reserve.ensures.items))).0.undone
 
 pub returns-clause-room : goal.returns-clause-room
 returns-clause-room g c = rw (sym c.self.view_is)
     (room_saved (seen c.self.inside.machine c.self.inside.opening c.self.inside.history.items (c.self.inside.history.cap - c.self.inside.history.len) c.self.inside.began)
-    (seen c.turn-turned.new.self c.self.inside.opening c.note.new.history.items (c.note.new.history.cap - c.note.new.history.len) c.self.inside.began)
+    (seen c.serve-turned.new.self c.self.inside.opening c.note.new.history.items (c.note.new.history.cap - c.note.new.history.len) c.self.inside.began)
     c.self.inside.history.items c.note.new.history.items c.self.inside.history.len c.note.new.history.len c.self.inside.history.cap c.note.new.history.cap
     refl refl c.self.inside.history.ok.0 c.note.new.history.ok.0 (omega (arith, c.reserve.ensures.capacity, c.note.ensures.capacity))
-    (fault_in (Turn c.args.region c.turn-turned.result)) (Turn c.args.region c.turn-turned.result)
+    (fault_in (Turn c.args.region c.serve-turned.result)) (Turn c.args.region c.serve-turned.result)
     (subst (λ (e : Entry). c.note.new.history.items ≡ noted (is_noted (fault_in e)) c.self.inside.history.items e) c.turn_entry.ensures
     (c.note.ensures.items ∙ ap (λ (es : List Entry). noted (is_noted (fault_in c.turn_entry.result)) es c.turn_entry.result) c.reserve.ensures.items)))
 
 pub returns-clause-lasts : goal.returns-clause-lasts
 returns-clause-lasts g c =
-    (called g.D.Disk.state c.self.inside.machine c.turn-turned.new.self c.self.inside.opening c.self.inside.history.items c.note.new.history.items (Turn c.args.region c.turn-turned.result) 0 _ c.self.inside.began c.self.inside.steps c.steps_of-self-inside.result
+    (called g.D.Disk.state c.self.inside.machine c.serve-turned.new.self c.self.inside.opening c.self.inside.history.items c.note.new.history.items (Turn c.args.region c.serve-turned.result) 0 _ c.self.inside.began c.self.inside.steps c.steps_of-self-inside.result
     (record {
       served = ap (λ (v : ControlOnDisk _). v.up) c.self.view_is ∙ c.requires.up;
       holds = is_served g.D.Disk.state c.self.inside.machine c.self.inside.opening c.self.inside.history.items c.self.inside.steps (ap (λ (v : ControlOnDisk _). v.up) c.self.view_is ∙ c.requires.up) c.self.invariant;
       call = subst (λ (v : ControlOnDisk _). IsRegion v.control.system c.args.region) (sym c.self.view_is) c.requires.region;
-      keeps = c.turn-turned.ensures.keeps;
-      lasts = c.turn-turned.ensures.lasts;
-      disk = g.met.D.Disk.is_disk c.turn-turned.new.self.disk;
+      keeps = c.serve-turned.ensures.keeps;
+      lasts = c.serve-turned.ensures.lasts;
+      disk = g.met.D.Disk.is_disk c.serve-turned.new.self.disk;
       numbers = λ served. tt;
     })
-    c.steps_of-self-inside.ensures c.turn-turned.ensures.goes c.turn-turned.ensures.crash
+    c.steps_of-self-inside.ensures c.serve-turned.ensures.goes c.serve-turned.ensures.crash
     (subst (λ (e : Entry). c.note.new.history.items ≡ noted (is_noted (fault_in e)) c.self.inside.history.items e) c.turn_entry.ensures
     (c.note.ensures.items ∙ ap (λ (es : List Entry). noted (is_noted (fault_in c.turn_entry.result)) es c.turn_entry.result) c.reserve.ensures.items))).0.lasts
 
@@ -89,13 +89,13 @@ pub returns-clause-frugal : goal.returns-clause-frugal
 returns-clause-frugal g c = rw (sym c.self.view_is)
     (frugal_too g.D.Disk.state c.self.inside.machine c.self.inside.opening c.self.inside.history.items 0 c.self.inside.began c.self.inside.steps
     (is_served g.D.Disk.state c.self.inside.machine c.self.inside.opening c.self.inside.history.items c.self.inside.steps (ap (λ (v : ControlOnDisk _). v.up) c.self.view_is ∙ c.requires.up) c.self.invariant)
-    (fault_in (Turn c.args.region c.turn-turned.result)) (TurnCall c.args.region) c.turn-turned.new.self.journal c.turn-turned.new.self.disk c.turn-turned.ensures.frugal)
+    (fault_in (Turn c.args.region c.serve-turned.result)) (TurnCall c.args.region) c.serve-turned.new.self.journal c.serve-turned.new.self.disk c.serve-turned.ensures.frugal)
 
 pub returns-clause-raises : goal.returns-clause-raises
-returns-clause-raises g c = rw (sym c.self.view_is) c.turn-turned.ensures.raises
+returns-clause-raises g c = rw (sym c.self.view_is) c.serve-turned.ensures.raises
 
 pub returns-clause-counts : goal.returns-clause-counts
-returns-clause-counts g c = rw (sym c.self.view_is) c.turn-turned.ensures.counts
+returns-clause-counts g c = rw (sym c.self.view_is) c.serve-turned.ensures.counts
 
 pub returns-in-Some-clause-counts : goal.returns-in-Some-clause-counts
 returns-in-Some-clause-counts g c = rw (sym c.self.view_is)

@@ -1,0 +1,129 @@
+//! A call of which a step may last, done and forced.
+ghost use Rattle.std.specs.Prelude.{◌≡◌, ◌<◌, ◌≤◌, ◌*◌, length, true, None, IfErr, IfOk, OnErr, OnOk};
+ghost use Rattle.model_machine.specs.History.{IsCall};
+ghost use Rattle.control_life.specs.Faults.{fault_in};
+ghost use Rattle.step_telling.specs.Untold.{WhereFull};
+ghost use Rattle.machine_life.specs.Counted.{IsCounted};
+ghost use Rattle.machine_telling.specs.Calls.{IsWithin, own_bytes};
+ghost use Rattle.machine_telling.specs.Telling.{HasRoom};
+ghost use Rattle.logged_machine.specs.Logged.{LastsNow, spent_now};
+ghost use Rattle.logged_machine.specs.Goes.{Keeps, GoesBy, CrashesBy};
+ghost use Rattle.logged_machine.specs.Doing.{CountsSince, Done, DoneFrugally, Tried};
+ghost use Rattle.logged_machine.specs.Frugal.{IsFrugal, Raises};
+
+use crate::forcing::force;
+use crate::logged::LoggedMachine;
+use crate::refreshing::is_memory;
+use machine_due::DueCall;
+use machine_telling::{Untold, room_left, tell};
+use model_machine::ControlFault;
+use tm_disk::Disk;
+
+impl<D: Disk> LoggedMachine<D> {
+    /// Does a call, and forces what lasts of it before it is answered. A checkpoint is taken before it where one is due. A fault in
+    /// the answer's place is the disk's, or want of memory, which has changed nothing and written nothing.
+    pub fn serve<C: DueCall>(&mut self, call: &C) -> C::Answer
+        requires call { IsCall self.old.machine.system (C.call call.now) }
+        requires served { self.old.served ≡ true }
+        requires unspent { spent_now self.old ≡ None }
+        ensures goes { GoesBy D.state (fault_in (C.entry call.now result)) self.old self.new (C.entry call.now result) }
+        ensures crash { CrashesBy D.state (fault_in (C.entry call.now result)) self.old self.new (C.entry call.now result) }
+        ensures lasts { LastsNow D.state self.new }
+        ensures keeps { Keeps D.state self.old self.new }
+        ensures counts { CountsSince D.state (2 * self.old.machine.system.logs) self.old self.new }
+        ensures frugal { IsFrugal D.state (fault_in (C.entry call.now result)) self.old.machine self.old.units (C.call call.now) self.old.journal self.new.journal self.old.disk self.new.disk }
+        ensures raises { self.new.served ≡ true → Raises (2 * self.old.machine.system.logs) self.old.journal self.new.journal self.old.next_unit self.new.next_unit }
+    {
+        let _before = self.is_served();
+        let answer = self.serve_any(call);
+        let _behind = self.is_served();
+        answer
+    }
+
+    /// The same, by what it does.
+    fn serve_any<C: DueCall>(&mut self, call: &C) -> C::Answer
+        requires call { IsCall self.old.machine.system (C.call call.now) }
+        requires served { self.old.served ≡ true }
+        requires counted { IsCounted 0 self.old.machine.moment.lasting self.old.next_unit self.old.journal }
+        ensures did { DoneFrugally D.state (fault_in (C.entry call.now result)) self.old self.new (C.entry call.now result) }
+    {
+        if !call.is_within() {
+            return call.fault(ControlFault::Memory);
+        }
+        let room = room_left(&self.journal);
+        match self.serve_once(call, room) {
+            Ok(answer) => answer,
+            Err(Untold::Memory) => call.fault(ControlFault::Memory),
+            Err(Untold::Full) => self.serve_behind(call),
+        }
+    }
+
+    /// The same behind a checkpoint.
+    fn serve_behind<C: DueCall>(&mut self, call: &C) -> C::Answer
+        requires call { IsCall self.old.machine.system (C.call call.now) }
+        requires within { IsWithin (C.call call.now) }
+        requires served { self.old.served ≡ true }
+        requires counted { IsCounted 0 self.old.machine.moment.lasting self.old.next_unit self.old.journal }
+        ensures did { Done D.state (fault_in (C.entry call.now result)) self.old self.new (C.entry call.now result) }
+    {
+        let done = call.due(
+            self.alloc,
+            &mut self.parts,
+            &mut self.journal,
+            &mut self.disk,
+            self.units.as_slice(),
+            self.next_unit,
+        );
+        let answer = match done {
+            Ok(answer) => answer,
+            Err(fault) => {
+                self.served = is_memory(&fault);
+                return call.fault(fault);
+            }
+        };
+        call.note(&mut self.units, &mut self.next_unit, &answer);
+        let is_lasting = call.lasts(&answer);
+        if force(
+            is_lasting,
+            &mut self.journal,
+            &mut self.disk,
+            &mut self.served,
+        ) {
+            return answer;
+        }
+        call.fault(ControlFault::Disk)
+    }
+
+    /// One attempt, with so much room for records.
+    fn serve_once<C: DueCall>(&mut self, call: &C, room: usize) -> Result<C::Answer, Untold>
+        requires call { IsCall self.old.machine.system (C.call call.now) }
+        requires within { IsWithin (C.call call.now) }
+        requires served { self.old.served ≡ true }
+        requires counted { IsCounted 4294967296 self.old.machine.moment.lasting self.old.next_unit self.old.journal }
+        requires room { HasRoom room self.old.journal.log }
+        ensures did { IfOk result (λ answer. Tried D.state (fault_in (C.entry call.now answer)) self.old self.new (C.entry call.now answer)) }
+        ensures same { OnErr result (self.new ≡ self.old) }
+        ensures fits { OnOk result (length (own_bytes self.old.machine self.old.units (C.call call.now)) ≤ room) }
+        ensures full { IfErr result (WhereFull (room < length (own_bytes self.old.machine self.old.units (C.call call.now)))) }
+    {
+        let answer = tell(
+            self.alloc,
+            &mut self.parts,
+            &mut self.journal,
+            self.units.as_slice(),
+            call,
+            room,
+        )?;
+        call.note(&mut self.units, &mut self.next_unit, &answer);
+        let is_lasting = call.lasts(&answer);
+        if force(
+            is_lasting,
+            &mut self.journal,
+            &mut self.disk,
+            &mut self.served,
+        ) {
+            return Ok(answer);
+        }
+        Ok(call.fault(ControlFault::Disk))
+    }
+}
