@@ -15,8 +15,7 @@ use Rattle.model_disk.specs.Disk.{DiskState, FailedSince}
 use Rattle.sysdef_text.specs.Ends.{definition_lines, lines_behind}
 use Rattle.tm_session.specs.Source.{judged, definition_text}
 use Rattle.tm_session.specs.Outcome.{HasCause}
-use Rattle.session_lives.specs.Running.{CountsDisk}
-use Rattle.tm_session.specs.Headline.{IsSession, IsValidDisk, IsOpenedDisk, IsFoundDisk, AskNoColdStart, Defines}
+use Rattle.tm_session.specs.Headline.{IsSession, CountsDisk, IsValidDisk, IsOpenedDisk, IsFoundDisk, AskNoColdStart, Defines}
 use Rattle.tm_prog.specs.declared.words.Workload.{Workload}
 use Rattle.tm_prog.specs.Words.{WordFault, word_fault, workload_of}
 use Rattle.tm_prog.specs.Workload.{IsWorkload}

@@ -30,6 +30,7 @@ use Rattle.tm_session.specs.Sources.{HasReadTold}
 use Rattle.tm_session.specs.Outcome.Ending.{NotBegun}
 use Rattle.session_lives.specs.Running.{life_of, setting_of, Holds, error_of, IsFoundAs, IsOfDefinition, IsValidDisk as IsValid, IsOpenedDisk as IsOpened}
 use Rattle.session_lives.specs.Closing.{HasSectors}
+pub use Rattle.session_lives.specs.Running.{CountsDisk}
 
 -- the disk has sectors enough, and could be opened where it tells its contents
 abbrev pub IsOpenedDisk : System → List ℕ → DiskState → Type 0
