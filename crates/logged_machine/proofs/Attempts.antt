@@ -42,7 +42,7 @@ use Rattle.tm_machine.specs.Told.{ends_work, records_of}
 use Rattle.machine_life.specs.Turning.{next_after, unit_of, units_after}
 use Rattle.machine_life.proofs.Numbers.{units_stay}
 use Rattle.machine_life.proofs.Turns.{GoesBy}
-use Rattle.parts_life.specs.Steps.{is_lasting, is_new, is_removed}
+use Rattle.machine_life.specs.Steps.{is_lasting, is_new, is_removed}
 use Rattle.parts_life.proofs.Answering.{ack_of_parts, command_of_parts, input_of_parts}
 use Rattle.parts_life.proofs.Turning.{turn_of_parts}
 use Rattle.parts_life.proofs.Closing.{ack_steps, command_steps, input_steps, room_in_log, turn_steps}

@@ -5,3 +5,4 @@ pub mod Carried
 pub mod Going
 pub mod Opens
 pub mod Counted
+pub mod Steps

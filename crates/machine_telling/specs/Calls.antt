@@ -17,7 +17,7 @@ use Rattle.tm_machine.specs.OnSlots.{TellByCall, TurnsSo, changes_told, turn_rec
 use Rattle.tm_machine.specs.Parts.{PartsState}
 use Rattle.tm_machine.specs.Told.{ends_work, records_of}
 use Rattle.machine_life.specs.Turning.{next_after, unit_of, units_after}
-use Rattle.parts_life.specs.Steps.{is_lasting, is_new, is_removed}
+use Rattle.machine_life.specs.Steps.{is_lasting, is_new, is_removed}
 
 -- ---- which calls
 

@@ -1,5 +1,5 @@
 //! What every call of the machine promises of which a step may last.
-ghost use Rattle.std.specs.Prelude.{◌≡◌, ◌<◌, ◌^◌, length, true, Some, IfErr, IfOk, IsTrue, OnErr, OnOk};
+ghost use Rattle.std.specs.Prelude.{◌≡◌, ◌<◌, ◌↔◌, ◌^◌, length, true, Some, IfErr, IfOk, IsTrue, OnErr, OnOk};
 ghost use Rattle.model_machine.specs.History.{IsCall, call_of};
 ghost use Rattle.model_machine.specs.declared.entry.ControlCall.{ControlCall};
 ghost use Rattle.model_machine.specs.declared.entry.Entry.{Entry};
@@ -25,7 +25,7 @@ pub trait Call {
 
     /// Whether an input's number is one that an image may have: below 2,000,000,000,000,000,000. It is true of other calls.
     fn is_within(&self) -> bool
-        ensures { IsTrue result → IsWithin (call self.now) };
+        ensures { IsTrue result ↔ IsWithin (call self.now) };
 
     /// Lets the machine do it. Its records, of at most `room` bytes, are appended; those of a turn are of its region's unit, which
     /// has its number among these. A refusal changes nothing, and is `Full` only where the records are longer.

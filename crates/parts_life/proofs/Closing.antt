@@ -43,7 +43,7 @@ use Rattle.tm_machine.specs.Told.{ends_work}
 use Rattle.machine_life.specs.Going.{GoesOn, StepsOn}
 use Rattle.machine_life.proofs.Inputs.{HasRoom}
 use Rattle.machine_life.proofs.Turns.{GoesBy}
-use Rattle.parts_life.specs.Steps.{is_lasting, is_new, is_removed}
+use Rattle.machine_life.specs.Steps.{is_lasting, is_new, is_removed}
 
 -- Records that a journal's writer has room for have it in its life's log.
 pub room_in_log : (records : List Record) (log : Writer) (life : LifeOnDisk) → life.log ≡ log → AllByRecursion IsRecord records → IsBytes (flat_map spelling records)
