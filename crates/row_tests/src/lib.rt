@@ -8,8 +8,12 @@ mod database_calls;
 #[cfg(test)]
 mod databases;
 #[cfg(test)]
+mod hierarchic_paths;
+#[cfg(test)]
 mod record_bytes;
 #[cfg(test)]
 mod slots_of_records;
 #[cfg(test)]
 mod units;
+#[cfg(test)]
+mod values;

@@ -39,6 +39,4 @@ mod resource;
 mod segment;
 mod ssa;
 mod status;
-#[cfg(test)]
-mod tests;
 mod words;

@@ -1,6 +1,8 @@
-//! Calls that want memory, once each, and orders through a bound.
-use super::*;
+//! `tm_types`: calls that want memory, once each, and orders through a bound.
 use std::test::Fail;
+use tm_types::{
+    Bytes, Dbd, Key, KeyTest, Name, SEGMENT_LIMIT, SegType, SegTypes, Segment, Segments, Ssa, Ssas,
+};
 
 #[test]
 fn gets_memory(rt: HostRuntime) -> Result<(), Fail> {
