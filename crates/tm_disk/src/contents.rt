@@ -8,6 +8,7 @@ use crate::Sector;
 use crate::images::{choose, take_over};
 use crate::record::{Before, Written};
 use std::alloc::{AllocError, Global};
+use std::slice;
 
 /// How many writes the record holds.
 pub const RECORD: usize = 262_144;
@@ -92,12 +93,12 @@ impl Contents {
         ensures same_count { OnErr result (length self.new.writes.items ≡ length self.old.writes.items) }
         ensures growth { OnErr result (vec_capacity self.old.writes ≤ length self.old.writes.items) }
     {
-        self.writes.reserve(1)?;
-        self.writes.push_reserved(Written {
+        let written = Written {
             at,
             content: *content,
             before: self.pending,
-        });
+        };
+        self.writes.extend_from_slice(slice::from_ref(&written))?;
         self.shown[at as usize] = self.writes.len() as u32;
         self.pending = Before::Nothing;
         Ok(())

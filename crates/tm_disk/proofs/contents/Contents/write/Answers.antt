@@ -17,9 +17,9 @@ invariant_of-self-2 c =
     let m = c.args.self.now in
     let write : Written = record { at = c.args.at; content = c.args.content.now; before = m.pending } in
     let grown : List Written = m.writes.items ++ write ∷ [] in
-    let items : c.push_reserved.new.self.items ≡ grown = c.push_reserved.ensures.items ∙ ap (λ (l : List Written). l ++ write ∷ []) c.in_ok-reserve.ensures.items in
+    let items : c.extend_from_slice.new.self.items ≡ grown = c.in_ok-extend_from_slice.ensures.items ∙ ap (λ (l : List Written). m.writes.items ++ l) c.from_ref.ensures.value in
     let number : c.len.result ≡ length m.writes.items + 1 =
-    omega (arith, c.len.ensures, c.push_reserved.ensures.len, c.in_ok-reserve.ensures.len, m.writes.ok) in
+    omega (arith, c.len.ensures, c.in_ok-extend_from_slice.ensures.len, c.from_ref.ensures.len, m.writes.ok) in
     record {
       counts_size = m.counts_size;
       numbers = subst (λ l. AreNumbers (set m.shown.items c.args.at c.len.result) m.synced.items l m.settled) (sym items) (numbers-write m.shown.items m.synced.items m.writes.items m.settled c.args.at c.len.result write m.numbers m.sound.settled_in refl number);
@@ -32,7 +32,7 @@ returns-clause-ok c =
     let m = c.args.self.now in
     let write : Written = record { at = c.args.at; content = c.args.content.now; before = m.pending } in
     let grown : List Written = m.writes.items ++ write ∷ [] in
-    let items : c.push_reserved.new.self.items ≡ grown = c.push_reserved.ensures.items ∙ ap (λ (l : List Written). l ++ write ∷ []) c.in_ok-reserve.ensures.items in
+    let items : c.extend_from_slice.new.self.items ≡ grown = c.in_ok-extend_from_slice.ensures.items ∙ ap (λ (l : List Written). m.writes.items ++ l) c.from_ref.ensures.value in
     record {
       now = ap (λ (l : List Written). moment_of (image_by l m.synced.items) l m.settled) items ∙ numbered-now m.synced.items m.writes.items m.settled write m.numbers.synced_in m.sound.settled_in;
       past = ap (λ (l : List Written). moments_past (zero_disk (length m.synced.items)) l Nothing) items
