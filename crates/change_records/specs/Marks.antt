@@ -15,3 +15,7 @@ pub record AreMarked (passes : ℕ → ℕ → Bool) (old new : AllStores) : Typ
       → (is_marked old.changed database slot ≡ true) ⊎ (passes database slot ≡ true)
   pub same : (database slot : ℕ) → 1 ≤ database → is_marked new.changed database slot ≡ false
       → (is_marked old.changed database slot ≡ false) × (image_at database slot new.stores ≡ image_at database slot old.stores)
+
+-- Each slot that passes is marked, also one whose bytes are the same again.
+pub record AreAllMarked (passes : ℕ → ℕ → Bool) (all : AllStores) : Type 0 where
+  pub each : (database slot : ℕ) → 1 ≤ database → passes database slot ≡ true → is_marked all.changed database slot ≡ true

@@ -1,5 +1,5 @@
 -- The databases at their beginning, and when a region's changes are taken back or stay.
-use Rattle.std.proofs.Common.{◌≡◌, ◌≢◌, ℕ, ◌-◌, ◌≤◌, ◌<◌, List, [], ◌∷◌, length, map, refl, sym, ◌∙◌, ap, subst, Option, None, Some, set, get_or, zero, suc, inr, arith, eqb, true, false, ⊎_elim}
+use Rattle.std.proofs.Common.{◌≡◌, ◌≢◌, ℕ, ◌-◌, ◌≤◌, ◌<◌, List, [], ◌∷◌, length, map, refl, sym, ◌∙◌, ap, subst, Option, None, Some, set, get_or, zero, suc, inl, inr, arith, eqb, ◌||◌, Bool, true, false, ⊎_elim}
 use Rattle.std.specs.List.{AllByRecursion, slice_get, list_any, IsDistinct}
 use Rattle.std.specs.List.Sorted.{IsStrictlySortedBy}
 use Rattle.std.specs.Prelude.{replicate}
@@ -18,17 +18,17 @@ use Rattle.seg_store.specs.Stores.{empty_store, empty_stores, no_changed}
 use Rattle.seg_store.proofs.SlotRows.{free_slots_valid}
 use Rattle.unit_work.specs.declared.change.Change.{Change}
 use Rattle.unit_work.specs.Changes.{Changes, no_changes, is_seen}
-use Rattle.unit_work.specs.BackOut.{backed_out, backs, CanBackOut}
+use Rattle.unit_work.specs.BackOut.{is_touched, backed_out, backs, CanBackOut}
 use Rattle.program_rows.specs.State.{DatabasesState, RegionRows, no_rows, roots_of, rows_of, rows_in, dbds_of, committed_rows, region_at, clean_region, AreRowsOf, IsRegionOf, IsClean}
 use Rattle.program_rows.specs.Isolation.{AgreeOnHeld}
 use Rattle.program_rows.specs.Answering.{regions_backed, IsBeside, IsCommitted}
-use Rattle.program_rows.specs.Open.{records_of, slots_of, backed_all, seen_by, regions_from, IsUnit, AreUnits, IsTouched, AreTouched, AllTouch}
+use Rattle.program_rows.specs.Open.{records_of, slots_of, backed_all, seen_by, regions_from, IsUnit, AreUnits, IsTouched, AreTouched, AllTouch, was_there}
 use Rattle.program_rows.specs.Telling.{slot_told, back_told, IsToldable}
 use Rattle.change_records.specs.Images.{slots_at, image_at}
-use Rattle.change_records.specs.Marks.{is_marked, AreMarked}
+use Rattle.change_records.specs.Marks.{is_marked, AreMarked, AreAllMarked}
 use Rattle.change_records.specs.Told.{ChangesTold, is_told_of}
 use Rattle.unit_work.proofs.Marking.{marks_more}
-use Rattle.program_rows.specs.OnSlots.{slots_in as slots_seen, CallsSo, CommitsSo, GivesUpSo}
+use Rattle.program_rows.specs.OnSlots.{slots_in as slots_seen, CallsSo, CommitsSo, GivesUpSo, IsMarkedBack}
 use Rattle.program_rows.specs.Making.{seen, IsOpen, IsWhole, AreThere, HasTouched, changed_in, slots_in}
 use Rattle.program_rows.specs.declared.opened.Opened.{Opened}
 use Rattle.program_rows.proofs.Together.{backed_none, get_set, get_set_else, set_twice}
@@ -310,11 +310,35 @@ back_told_changes unit o new d touched view region u stores =
     (subst (λ ss. ChangesTold unit o.stores.stores ss (back_told unit region (seen o))) (sym stores)
     (back_changes unit o.stores.stores o.table (suc (region - 1)) (changed_in region o) (slots_in region o) (touched (region - 1) u.within)))
 
+-- each touched slot is marked behind it, or had no record
+each_marked : (table : EnqueueTable) (region : ℕ) (records : List Change) (old new : AllStores) → new.stores ≡ backed_out records old.stores
+    → AreMarked (λ db slot. backs records db slot (image_at db slot old.stores)) old new → AreAllMarked (λ db slot. backs records db slot (image_at db slot old.stores)) new
+    → (slots : List Change) → AllByRecursion (IsTouched table old.stores region records) slots → AllByRecursion (IsMarkedBack old new) slots
+each_marked table region records old new stores marks all slots h = each slots h
+  where
+    by : (c : Change) → IsTouched table old.stores region records c → (b : Bool) → is_marked new.changed c.db c.slot ≡ b → IsMarkedBack old new c
+    by c t true q = inl q
+    by c t false q =
+        ⊎_elim
+        (λ (was : was_there records c.db c.slot ≡ true).
+        inl (all.each c.db c.slot t.there.least (ap (λ b. is_touched records c.db (image_at c.db c.slot old.stores) || b) was ∙ or_last (is_touched records c.db (image_at c.db c.slot old.stores)))))
+        (λ free. inr (free.0, sym (marks.same c.db c.slot t.there.least q).1 ∙ (ap (image_at c.db c.slot) stores ∙ (t.first ∙ free.0))))
+        t.sits
+      where
+        or_last : (b : Bool) → (b || true) ≡ true
+        or_last true = refl
+        or_last false = refl
+
+    each : (slots : List Change) → AllByRecursion (IsTouched table old.stores region records) slots → AllByRecursion (IsMarkedBack old new) slots
+    each [] h = tt
+    each (c ∷ slots) h = (by c h.0 (is_marked new.changed c.db c.slot) refl, each slots h.1)
+
 -- what a back out makes of the slots, with the marks
 pub back_slots : (unit : ℕ) (o new : Opened) (d : DatabasesState) → HasTouched o → seen o ≡ d → (region : ℕ) → HasUnit o region → new.stores.stores ≡ backed_out (changed_in region o) o.stores.stores
-    → AreMarked (λ db slot. backs (changed_in region o) db slot (image_at db slot o.stores.stores)) o.stores new.stores → slots_of new.units.items ≡ set (slots_of o.units.items) (region - 1) []
+    → AreMarked (λ db slot. backs (changed_in region o) db slot (image_at db slot o.stores.stores)) o.stores new.stores
+    → AreAllMarked (λ db slot. backs (changed_in region o) db slot (image_at db slot o.stores.stores)) new.stores → slots_of new.units.items ≡ set (slots_of o.units.items) (region - 1) []
     → (seen new).committed ≡ (seen o).committed → CallsSo unit region (slots_seen d) (slots_seen (seen new)) (back_told unit region d)
-back_slots unit o new d touched view region u stores marks slots committed =
+back_slots unit o new d touched view region u stores marks all_marked slots committed =
     subst (λ (e : DatabasesState). CallsSo unit region (slots_seen e) (slots_seen (seen new)) (back_told unit region e)) view
     (record {
       told = back_told_changes unit o new (seen o) touched refl region u stores;
@@ -323,6 +347,7 @@ back_slots unit o new d touched view region u stores marks slots committed =
         each = subst (λ ss. AllByRecursion (λ c. image_at c.db c.slot ss ≡ c.before) (slots_in region o)) (sym stores)
             (each_back unit o.stores.stores o.table (suc (region - 1)) (changed_in region o) (slots_in region o) (touched (region - 1) u.within).each);
         touched = slots;
+        marked = each_marked o.table (suc (region - 1)) (changed_in region o) o.stores new.stores stores marks all_marked (slots_in region o) (touched (region - 1) u.within).each;
       }));
       marks = marks_more (λ db slot. backs (changed_in region o) db slot (image_at db slot o.stores.stores)) (λ db slot. list_any (is_told_of db slot) (back_told unit region (seen o)))
           (back_told_of unit o.stores.stores o.table (suc (region - 1)) (changed_in region o) (slots_in region o) (touched (region - 1) u.within)) o.stores new.stores marks;
@@ -330,9 +355,10 @@ back_slots unit o new d touched view region u stores marks slots committed =
     })
 
 pub back_gives_up : (o new : Opened) (d : DatabasesState) → HasTouched o → seen o ≡ d → (region : ℕ) → HasUnit o region → new.stores.stores ≡ backed_out (changed_in region o) o.stores.stores
-    → AreMarked (λ db slot. backs (changed_in region o) db slot (image_at db slot o.stores.stores)) o.stores new.stores → slots_of new.units.items ≡ set (slots_of o.units.items) (region - 1) []
+    → AreMarked (λ db slot. backs (changed_in region o) db slot (image_at db slot o.stores.stores)) o.stores new.stores
+    → AreAllMarked (λ db slot. backs (changed_in region o) db slot (image_at db slot o.stores.stores)) new.stores → slots_of new.units.items ≡ set (slots_of o.units.items) (region - 1) []
     → (seen new).committed ≡ (seen o).committed → GivesUpSo region (slots_seen d) (slots_seen (seen new))
-back_gives_up o new d touched view region u stores marks slots committed =
+back_gives_up o new d touched view region u stores marks all_marked slots committed =
     subst (λ (e : DatabasesState). GivesUpSo region (slots_seen e) (slots_seen (seen new))) view
     (record {
       committed = committed;
@@ -343,6 +369,7 @@ back_gives_up o new d touched view region u stores marks slots committed =
       others = λ db slot least e. ap (image_at db slot) stores ∙ (touched (region - 1) u.within).others db slot least e;
       marks = marks_more (λ db slot. backs (changed_in region o) db slot (image_at db slot o.stores.stores)) (λ db slot. is_seen db slot (slots_in region o))
           (back_seen 0 o.stores.stores o.table (suc (region - 1)) (changed_in region o) (slots_in region o) (touched (region - 1) u.within)) o.stores new.stores marks;
+      marked = each_marked o.table (suc (region - 1)) (changed_in region o) o.stores new.stores stores marks all_marked (slots_in region o) (touched (region - 1) u.within).each;
     })
 
 -- marked slots are there still

@@ -48,7 +48,7 @@ use Rattle.program_rows.proofs.Called.{same_asks, none_told, none_touched, led_t
 use Rattle.program_rows.proofs.Followed.{follows}
 use Rattle.program_rows.proofs.OneSlot.{OneSlot}
 use Rattle.program_rows.proofs.SetUnits.{one, set_committed}
-use Rattle.program_rows.proofs.Slotted.{calls_none}
+use Rattle.program_rows.proofs.Slotted.{calls_none, edit_marked}
 use Rattle.program_rows.proofs.Setting.{rows_at_is}
 use Rattle.program_rows.proofs.Touching.{follows_touched, set_touched}
 use Rattle.program_rows.proofs.Backed.{AreValid}
@@ -196,8 +196,10 @@ module _ (o : Opened) (h : AreUnits (records_of o.units.items) o.stores.stores o
                   touched = edited.1.slots
                       ∙ sym (ap (set (slots_of o.units.items) (region - 1))
                       (ap (λ (before : List Row). with_slot (record { db = number; slot = edited.1.slot; root = e.root; before = before }) (touched_by region (seen o))) is_one.before));
+                  marked = edit_marked number e o.stores new.stores edited.1.put.s edited.1.slot edited.1.marks slots_are edited.1.takes.valid
+                      (subst (λ rs. IsThere rs (Some e)) (rows_at_is number o.stores.stores edited.1.put.s edited.1.put.at) ex) edited.1.takes.place;
                 }));
-                marks = subst (λ (rs : List Record). AreMarked (λ database slot. list_any (is_told_of database slot) rs) o.stores new.stores) (sym is_told) (edited.1.marks unit);
+                marks = subst (λ (rs : List Record). AreMarked (λ database slot. list_any (is_told_of database slot) rs) o.stores new.stores) (sym is_told) (edited.1.marks.told unit);
                 committed = (λ i. backed_all (edited.1.units i) (edited.1.put.stores i))
                     ∙ set_committed (records_of o.units.items) o.stores.stores o.table new.table h follow (region - 1) inside (kept_of number edited.1.slot e edited.1.put.s) edited.1.put.s
                     edited.1.put.t e.image sets_in edited.1.room;

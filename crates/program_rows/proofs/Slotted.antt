@@ -1,19 +1,24 @@
 -- What calls do to slots and to the marks of those that were changed.
 use Rattle.std.proofs.Common.{◌≡◌, ℕ, ◌-◌, ◌≤◌, ◌∷◌, [], List, refl, sym, ◌∙◌, ap, subst, Bool, true, false, Option, None, Some, ◌&&◌, ◌||◌, inl}
 use Rattle.std.specs.List.{list_any}
+use Rattle.std.specs.Prelude.{IfSome}
 use Rattle.std.specs.Option.{option_map_or}
 use Rattle.std.proofs.lemmas.Bool.{eq-eqb}
 use Rattle.model_rows.specs.declared.row.Row.{Row}
 use Rattle.model_rows.specs.Record as rows
 use Rattle.log_records.specs.declared.record.Record.{Record}
-use Rattle.seg_store.specs.Slots.{Stored, slot_of, slot_for, lowest_free, first_of, with_root, with_image}
+use Rattle.tm_types.specs.declared.dbd.Dbd.{Dbd}
+use Rattle.seg_store.specs.Slots.{Stored, AreSlots, rows_of_slots, slot_of, slot_for, lowest_free, first_of, with_root, with_image}
 use Rattle.seg_store.specs.Changed.{Kept, AllStores, with_changed, slot_changed}
 use Rattle.seg_store.specs.Stores.{IsStoreOf, with_store}
-use Rattle.seg_store.proofs.SlotRows.{free_at, set_itself}
+use Rattle.seg_store.proofs.SlotRows.{free_at, set_itself, record_none}
+use Rattle.dli_calls.specs.declared.planned.Edit.{Edit}
+use Rattle.dli_calls.specs.Plans.{IsThere}
+use Rattle.program_rows.specs.Making.{MarksEdit}
 use Rattle.change_records.specs.Images.{slots_at}
-use Rattle.change_records.specs.Marks.{AreMarked}
+use Rattle.change_records.specs.Marks.{is_marked, AreMarked}
 use Rattle.change_records.specs.Told.{is_told_of, ChangesTold}
-use Rattle.unit_work.proofs.Marking.{marks_none, marks_same, marks_one}
+use Rattle.unit_work.proofs.Marking.{marks_none, marks_same, marks_one, set_marked}
 use Rattle.program_rows.specs.OnSlots.{SlotsState, all_stores, CallsSo}
 use Rattle.program_rows.specs.Telling.{set_told}
 use Rattle.program_rows.proofs.ToldBack.{stays_told}
@@ -58,6 +63,15 @@ module _ (unit : ℕ) (all : AllStores) (number : ℕ) (s t : Kept) (least : 1 �
   none_changed : slot_changed root image s.slots ≡ None → with_root root image s.slots ≡ s.slots → AreMarked passing all (with_store all number t)
   none_changed c same = marks_same passing all number s t least of (changed ∙ ap (λ o. with_changed o s.changed) c) (slots ∙ same)
 
+  -- the slot that is set is marked
+  pub own_marked : IfSome (slot_changed root image (slots_at number all.stores)) (λ slot. is_marked (with_store all number t).changed number slot ≡ true)
+  own_marked =
+      subst (λ o. IfSome o (λ slot. is_marked (with_store all number t).changed number slot ≡ true)) (sym (ap (slot_changed root image) slots_are)) (by (slot_changed root image s.slots) refl)
+    where
+      by : (o : Option ℕ) → slot_changed root image s.slots ≡ o → IfSome o (λ slot. is_marked (with_store all number t).changed number slot ≡ true)
+      by None e = tt
+      by (Some n) e = set_marked passing all number s t least of n (changed ∙ ap (λ o. with_changed o s.changed) e)
+
   pub marks_set : AreMarked passing all (with_store all number t)
   marks_set = by image refl (slot_of root s.slots) refl (slot_for root s.slots) refl
     where
@@ -69,3 +83,20 @@ module _ (unit : ℕ) (all : AllStores) (number : ℕ) (s t : Kept) (least : 1 �
           (ap (λ o. with_image (first_of o (lowest_free s.slots)) image s.slots) e ∙ (ap (λ im. with_image (lowest_free s.slots) im s.slots) i ∙ none_set root s.slots (lowest_free s.slots) refl))
       by (row ∷ rows) i o e (Some n) f = one_set n f (ap (λ im. slot_changed root im s.slots) i ∙ f)
       by (row ∷ rows) i o e None f = none_changed (ap (λ im. slot_changed root im s.slots) i ∙ f) (ap (λ o. with_image o image s.slots) f)
+
+-- the slot that an edit sets, which removes a record only where there is one
+pub slot_is_changed : (dbd : Dbd) (slots : List (List Row)) (e : Edit) (slot : ℕ) → AreSlots dbd slots → IsThere (rows_of_slots slots) (Some e) → slot_for e.root slots ≡ Some slot
+    → slot_changed e.root e.image slots ≡ Some slot
+slot_is_changed dbd slots e slot valid there place = by e.image refl (slot_of e.root slots) refl
+  where
+    by : (image : List Row) → e.image ≡ image → (o : Option ℕ) → slot_of e.root slots ≡ o → slot_changed e.root e.image slots ≡ Some slot
+    by (row ∷ rows) i o q = ap (λ im. slot_changed e.root im slots) i ∙ place
+    by [] i None q = absurd (there i (record_none dbd slots e.root valid q))
+    by [] i (Some n) q = ap (λ im. slot_changed e.root im slots) i ∙ (q ∙ (sym (ap (λ o. first_of o (lowest_free slots)) q) ∙ place))
+
+-- so it is marked
+pub edit_marked : (number : ℕ) (e : Edit) (old new : AllStores) (s : Stored) (slot : ℕ) → MarksEdit number e old new → slots_at number old.stores ≡ s.slots → AreSlots s.dbd s.slots
+    → IsThere (rows_of_slots s.slots) (Some e) → slot_for e.root s.slots ≡ Some slot → is_marked new.changed number slot ≡ true
+edit_marked number e old new s slot marks at valid there place =
+    subst (λ o. IfSome o (λ slot. is_marked new.changed number slot ≡ true))
+    (ap (slot_changed e.root e.image) at ∙ slot_is_changed s.dbd s.slots e slot valid there place) marks.own

@@ -1,5 +1,5 @@
 -- What is made of the plan of a call that nothing blocks.
-use Rattle.std.specs.Prelude.{◌≡◌, ◌<◌, ◌≤◌, ℕ, ◌-◌, true, false, List, Option, None, Some, [], length, slice_get, slice_index_or, slice_set}
+use Rattle.std.specs.Prelude.{◌≡◌, ◌<◌, ◌≤◌, ℕ, ◌-◌, true, false, List, Option, None, Some, IfSome, [], length, slice_get, slice_index_or, slice_set}
 use Rattle.tm_types.specs.declared.abend.AbendCode.{AbendCode}
 use Rattle.tm_types.specs.declared.dbd.Dbd.{Dbd}
 use Rattle.model_rows.specs.Rows.{record_of, IsImage}
@@ -25,7 +25,7 @@ use Rattle.log_records.specs.declared.untold.Untold.TheVariants.{Memory, Full}
 use Rattle.change_records.specs.Images.{slots_at}
 use Rattle.change_records.specs.Marks.{is_marked, AreMarked}
 use Rattle.change_records.specs.Told.{is_told_of}
-use Rattle.seg_store.specs.Changed.{AllStores}
+use Rattle.seg_store.specs.Changed.{AllStores, slot_changed}
 use Rattle.std.specs.List.{list_any}
 use Rattle.program_rows.specs.Open.{records_of, slots_of, opened, AreUnits, AllTouch}
 use Rattle.program_rows.specs.declared.answer.Answered as answer
@@ -120,10 +120,11 @@ abbrev pub edit_told : ℕ → ℕ → Option Edit → List Stored → List Reco
 edit_told unit number (Some e) stores = set_told unit number e.image stores (slot_for e.root (slots_at number stores))
 edit_told unit number None stores = []
 
--- the slot that is told of counts as changed then, whatever the unit's number
-abbrev pub MarksEdit : ℕ → Edit → AllStores → AllStores → Type 0
-MarksEdit number e old new =
-    (unit : ℕ) → AreMarked (λ database slot. list_any (is_told_of database slot) (edit_told unit number (Some e) old.stores)) old new
+-- No slot counts as changed then but the one that is told of, whatever the unit's number; and the slot that is set does, also where
+-- it has the same again.
+pub record MarksEdit (number : ℕ) (e : Edit) (old new : AllStores) : Type 0 where
+  pub told : (unit : ℕ) → AreMarked (λ database slot. list_any (is_told_of database slot) (edit_told unit number (Some e) old.stores)) old new
+  pub own : IfSome (slot_changed e.root e.image (slots_at number old.stores)) (λ slot. is_marked new.changed number slot ≡ true)
 
 -- a record is set, and its image before kept; the region has asked for what that needs
 pub record IsSet (asked : Asked) (e : Edit) (old new : Opened) : Type 0 where

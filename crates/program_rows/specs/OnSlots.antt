@@ -53,18 +53,25 @@ pub record ChangesNone (old new : SlotsState) (records : List Record) : Type 0 w
   pub none : records ≡ []
   pub same : new ≡ old
 
--- It changes one slot, which its region has touched then; what stood there is the first image where it hadn't before.
+-- It changes one slot, which its region has touched then; what stood there is the first image where it hadn't before. The slot is
+-- marked, also where it has the same again.
 pub record ChangesOne (unit region : ℕ) (old new : SlotsState) (records : List Record) : Type 0 where
   pub slot : Change
   pub stood : slot.before ≡ image_at slot.db slot.slot old.stores
   pub one : records ≡ told.Change unit slot.db slot.slot (rows.spelling slot.before) (bytes_at slot.db slot.slot new.stores) ∷ []
   pub touched : new.touched ≡ with_touched region (with_slot slot (touched_in region old)) old
+  pub marked : is_marked new.changed slot.db slot.slot ≡ true
 
--- It takes back all that the region has changed: each touched slot has its first image, and the region has touched none.
+-- The slot is marked, also where it has the same again; but for one that had no record, neither at first nor until then.
+abbrev pub IsMarkedBack : AllStores → AllStores → Change → Type 0
+IsMarkedBack old new c = (is_marked new.changed c.db c.slot ≡ true) ⊎ ((c.before ≡ []) × (image_at c.db c.slot old.stores ≡ []))
+
+-- It takes back all that the region has changed: each touched slot has its first image and is marked, and the region has touched none.
 pub record TakesBack (unit region : ℕ) (old new : SlotsState) (records : List Record) : Type 0 where
   pub all : records ≡ map (slot_told unit old.stores) (touched_in region old)
   pub each : AllByRecursion (λ c. image_at c.db c.slot new.stores ≡ c.before) (touched_in region old)
   pub touched : new.touched ≡ with_touched region [] old
+  pub marked : AllByRecursion (IsMarkedBack (all_stores old) (all_stores new)) (touched_in region old)
 
 -- What a call does that tells these records. A slot that none tells of stands as before, and what is committed stays.
 pub record CallsSo (unit region : ℕ) (old new : SlotsState) (records : List Record) : Type 0 where
@@ -85,8 +92,8 @@ pub record CommitsSo (region : ℕ) (old new : SlotsState) : Type 0 where
   pub others : (database slot : ℕ) → 1 ≤ database → is_seen database slot (touched_in region old) ≡ false
       → image_at database slot new.committed ≡ image_at database slot old.committed
 
--- What a region has changed is taken back: the slots that it touched have their first images, all others stand as before,
--- and it has touched none. What is committed stays.
+-- What a region has changed is taken back: the slots that it touched have their first images and are marked, all others stand as
+-- before, and it has touched none. What is committed stays.
 pub record GivesUpSo (region : ℕ) (old new : SlotsState) : Type 0 where
   pub committed : new.committed ≡ old.committed
   pub databases : map (λ s. s.dbd) new.stores ≡ map (λ s. s.dbd) old.stores
@@ -95,6 +102,7 @@ pub record GivesUpSo (region : ℕ) (old new : SlotsState) : Type 0 where
   pub others : (database slot : ℕ) → 1 ≤ database → is_seen database slot (touched_in region old) ≡ false
       → image_at database slot new.stores ≡ image_at database slot old.stores
   pub marks : AreMarked (λ database slot. is_seen database slot (touched_in region old)) (all_stores old) (all_stores new)
+  pub marked : AllByRecursion (IsMarkedBack (all_stores old) (all_stores new)) (touched_in region old)
 
 -- ---- what always holds
 

@@ -12,7 +12,7 @@ ghost use Rattle.pi_enqueue.specs.Kept.{IsKept};
 ghost use Rattle.unit_work.specs.BackOut.{CanBackOut, backed_out, backs};
 ghost use Rattle.program_rows.specs.Open.{records_of, slots_of};
 ghost use Rattle.change_records.specs.Images.{image_at};
-ghost use Rattle.change_records.specs.Marks.{AreMarked};
+ghost use Rattle.change_records.specs.Marks.{AreMarked, AreAllMarked};
 ghost use Rattle.program_rows.specs.OnSlots.{slots_in, all_stores, AreOnSlots, CallsSo};
 ghost use Rattle.log_records.specs.Telling.{Tells, IsUntold};
 ghost use Rattle.program_rows.specs.Telling.{back_told, call_told, touched_after};
@@ -294,6 +294,7 @@ fn take_back(alloc: Global, region: u32, opened: &mut Opened)
     ensures slots { slots_of opened.new.units.items ≡ slice_set (slots_of opened.old.units.items) (region - 1) [] }
     ensures stores { opened.new.stores.stores ≡ backed_out (changed_in region opened.old) opened.old.stores.stores }
     ensures marks { AreMarked (λ db slot. backs (changed_in region opened.old) db slot (image_at db slot opened.old.stores.stores)) opened.old.stores opened.new.stores }
+    ensures all_marked { AreAllMarked (λ db slot. backs (changed_in region opened.old) db slot (image_at db slot opened.old.stores.stores)) opened.new.stores }
     ensures table { opened.new.table ≡ opened.old.table }
 {
     let mut unit = take_unit(alloc, &mut opened.units, region);

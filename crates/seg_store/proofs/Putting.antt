@@ -1,16 +1,16 @@
 -- Sectors are written one by one, each with what a list of slots gives it.
-use Rattle.std.proofs.Common.{◌≡◌, ◌⊎◌, ℕ, ◌+◌, ◌<◌, ◌≤◌, zero, suc, Bool, true, false, cond, List, [], ◌∷◌, ◌++◌, length, get_or, take, refl, sym, ◌∙◌, ap, subst, inl, inr, ⊎_elim, arith, None, Some, eqb}
+use Rattle.std.proofs.Common.{◌≡◌, ◌⊎◌, ℕ, ◌+◌, ◌<◌, ◌≤◌, zero, suc, Bool, true, false, cond, List, [], ◌∷◌, ◌++◌, length, get_or, take, drop, refl, sym, ◌∙◌, ap, subst, inl, inr, ⊎_elim, arith, None, Some, eqb}
 use Rattle.std.specs.Prelude.{Result, Ok, Err, is_err, OnOk}
 use Rattle.std.specs.List.{slice_get, AllByRecursion}
 use Rattle.std.specs.Option.{option_or, unwrap_or, option_map}
 use Rattle.std.proofs.lemmas.Bool.{cases_lt, cases_eq, eq-eqb, ne_eqb}
-use Rattle.std.proofs.lemmas.List.{get_or-set_same, get_or-set_other, length-set, set_past, take_more, map-append, get_or_default}
+use Rattle.std.proofs.lemmas.List.{get_or-set_same, get_or-set_other, length-set, set_past, take_more, map-append, get_or_default, take-append-drop}
 use Rattle.std.proofs.lemmas.Option.{slice_get-map, slice_get-get_or}
 use Rattle.model_rows.specs.declared.row.Row.{Row}
 use Rattle.model_rows.specs.Record.{spelling}
 use Rattle.model_disk.specs.Disk.{Image, DiskState, sector_at, with_sector, MayWrite, Elapses, Follows, Within}
 use Rattle.model_disk.proofs.Words.{within_on, follows_on}
-use Rattle.seg_store.specs.DataSectors.{data_sector, IsGivenAt, given_at, MayPut, HasPut, bytes_of}
+use Rattle.seg_store.specs.DataSectors.{data_sector, IsGivenAt, given_at, MayPut, HasPut, PutsFront, bytes_of}
 
 -- a slot of a list is given to its place
 pub given_there : (first : ℕ) (slots : List (ℕ × List ℕ)) (i at : ℕ) (slot : ℕ × List ℕ) (sector : List ℕ) → slice_get slots i ≡ Some slot → first + slot.0 ≡ at → sector ≡ data_sector slot.1
@@ -131,3 +131,20 @@ module _ (first : ℕ) (images : List (List Row)) (numbers : List ℕ) (i : ℕ)
       next =
           ap (bytes_of images) (take_more numbers i 0 lt)
           ∙ map-append (λ number. (number, spelling (get_or images number []))) (take i numbers) (get_or numbers i 0 ∷ [])
+
+  -- those up to a place, and those behind
+  front_is : (n : ℕ) (before after : Image) → HasPut first (bytes_of images (take n numbers)) before after → PutsFront first (bytes_of images numbers) before after
+  front_is n before after has = record {
+    front = bytes_of images (take n numbers);
+    rest = bytes_of images (drop n numbers);
+    all = ap (bytes_of images) (sym (take-append-drop n numbers)) ∙ map-append (λ number. (number, spelling (get_or images number []))) (take n numbers) (drop n numbers);
+    put = has;
+  }
+
+  pub front_step : (sector : List ℕ) (before mid after : Image) → sector ≡ data_sector (spelling image) → first + get_or numbers i 0 < length mid
+      → HasPut first (bytes_of images (take i numbers)) before mid → MayWrite (first + get_or numbers i 0) sector mid after → PutsFront first (bytes_of images numbers) before after
+  front_step sector before mid after sealed inside has wrote =
+      ⊎_elim
+      (λ same. front_is i before after (subst (λ (a : Image). HasPut first (bytes_of images (take i numbers)) before a) (sym same) has))
+      (λ new. front_is (i + 1) before after (has_number sector before mid after sealed inside has new))
+      wrote

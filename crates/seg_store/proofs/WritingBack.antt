@@ -4,14 +4,14 @@ use Rattle.std.specs.Prelude.{Option, Result, Ok, Err, OnOk, map, sum_by, slice_
 use Rattle.std.specs.List.{slice_get, AllByRecursion}
 use Rattle.std.specs.Option.{option_or, unwrap_or}
 use Rattle.std.proofs.lemmas.List.Sums.{sum_by-cons, sum_by-take-le}
-use Rattle.std.proofs.lemmas.List.{append-nil}
+use Rattle.std.proofs.lemmas.List.{append-nil, map-append}
 use Rattle.model_rows.specs.declared.row.Row.{Row}
 use Rattle.model_rows.specs.Record.{spelling}
 use Rattle.model_disk.specs.Disk.{Image, DiskState, sector_at, Follows, Within}
 use Rattle.model_disk.proofs.Words.{follows_on, follows_more, within_more, within_within}
 use Rattle.seg_store.specs.Slots.{Stored, AreSlots}
 use Rattle.seg_store.specs.Changed.{Kept, stored, all_stores}
-use Rattle.seg_store.specs.DataSectors.{data_sector, IsGivenAt, given_at, MayPut, HasPut, bytes_of}
+use Rattle.seg_store.specs.DataSectors.{data_sector, IsGivenAt, given_at, MayPut, HasPut, PutsFront, bytes_of}
 use Rattle.seg_store.specs.WriteBack.{slot_count, changed_count, bytes_behind, all_bytes, all_written, kept_bytes, kept_slots, kept_count, written_kept}
 
 -- ---- lists of slots, one behind another
@@ -82,6 +82,44 @@ has_both first xs ys a b c one two = record {
 pub has_behind : (first others : ℕ) (images : List (List Row)) (numbers : List ℕ) (a b : Image) → HasPut (first + others) (bytes_of images numbers) a b → HasPut first (bytes_behind others images numbers) a b
 has_behind first others images numbers a b has = record { size = has.size; each = λ at. has.each at ∙ ap (λ o. unwrap_or o (sector_at a at)) (given_behind first others images numbers at) }
 
+-- the same of any slots
+abbrev behind : ℕ → List (ℕ × List ℕ) → List (ℕ × List ℕ)
+behind others slots = map (λ slot. (others + slot.0, slot.1)) slots
+
+bytes_are_behind : (others : ℕ) (images : List (List Row)) (numbers : List ℕ) → bytes_behind others images numbers ≡ behind others (bytes_of images numbers)
+bytes_are_behind others images [] = refl
+bytes_are_behind others images (n ∷ numbers) = ap (λ (l : List (ℕ × List ℕ)). (others + n, spelling (slice_index_or images n [])) ∷ l) (bytes_are_behind others images numbers)
+
+any_behind : (first others : ℕ) (slots : List (ℕ × List ℕ)) (at : ℕ) → given_at (first + others) slots at ≡ given_at first (behind others slots) at
+any_behind first others [] at = refl
+any_behind first others (x ∷ slots) at =
+    let place : (first + others) + x.0 ≡ first + (others + x.0) = omega arith in
+    ap (λ o. option_or o (if eqb ((first + others) + x.0) at then Some (data_sector x.1) else None)) (any_behind first others slots at)
+    ∙ ap (λ k. option_or (given_at first (behind others slots) at) (if eqb k at then Some (data_sector x.1) else None)) place
+
+has_any_behind : (first others : ℕ) (slots : List (ℕ × List ℕ)) (a b : Image) → HasPut (first + others) slots a b → HasPut first (behind others slots) a b
+has_any_behind first others slots a b has = record { size = has.size; each = λ at. has.each at ∙ ap (λ o. unwrap_or o (sector_at a at)) (any_behind first others slots at) }
+
+-- those of a database behind others, up to one of them
+front_behind : (first others : ℕ) (images : List (List Row)) (numbers : List ℕ) (a b : Image) → PutsFront (first + others) (bytes_of images numbers) a b → PutsFront first (bytes_behind others images numbers) a b
+front_behind first others images numbers a b puts = record {
+  front = behind others puts.front;
+  rest = behind others puts.rest;
+  all = bytes_are_behind others images numbers ∙ (ap (behind others) puts.all ∙ map-append (λ slot. (others + slot.0, slot.1)) puts.front puts.rest);
+  put = has_any_behind first others puts.front a b puts.put;
+}
+
+-- all of these, and then some of others in front of further ones
+front_both : (first : ℕ) (xs ys more : List (ℕ × List ℕ)) (a b c : Image) → HasPut first xs a b → PutsFront first ys b c → PutsFront first ((xs ++ ys) ++ more) a c
+front_both first xs ys more a b c has puts = record {
+  front = xs ++ puts.front;
+  rest = puts.rest ++ more;
+  all = ap (λ (l : List (ℕ × List ℕ)). (xs ++ l) ++ more) puts.all
+      ∙ (ap (λ (l : List (ℕ × List ℕ)). l ++ more) (sym (append_assoc xs puts.front puts.rest))
+      ∙ append_assoc (xs ++ puts.front) puts.rest more);
+  put = has_both first xs puts.front a b c has puts.put;
+}
+
 -- ---- the stores up to a place
 
 one_more : (others : ℕ) (kept : List Kept) (i : ℕ) (one : Kept) → slice_get kept i ≡ Some one → kept_bytes others (take (i + 1) kept) ≡ kept_bytes others (take i kept) ++ bytes_behind (others + kept_slots (take i kept)) one.slots one.changed
@@ -115,6 +153,19 @@ in_front first others (k ∷ kept) zero at sector given = absurd given
 in_front first others (k ∷ kept) (suc i) at sector given =
     behind_all first (bytes_behind others k.slots k.changed) (kept_bytes (others + k.dbd.roots) (take i kept)) (kept_bytes (others + k.dbd.roots) kept) at sector (λ e. in_front first (others + k.dbd.roots) kept i at sector e) given
 
+-- the slots of the stores up to a place, and then the others
+up_to : (others : ℕ) (kept : List Kept) (i : ℕ) → kept_bytes others kept ≡ kept_bytes others (take i kept) ++ kept_bytes (others + kept_slots (take i kept)) (drop i kept)
+up_to others [] zero = refl
+up_to others [] (suc i) = refl
+up_to others (k ∷ kept) zero =
+    let none : others ≡ others + kept_slots (take zero (k ∷ kept)) = omega arith in
+    ap (λ n. kept_bytes n (k ∷ kept)) none
+up_to others (k ∷ kept) (suc i) =
+    let sum : (others + k.dbd.roots) + kept_slots (take i kept) ≡ others + kept_slots (take (suc i) (k ∷ kept)) = omega (arith, sum_by-cons (λ (x : Kept). x.dbd.roots) k (take i kept)) in
+    ap (λ (l : List (ℕ × List ℕ)). bytes_behind others k.slots k.changed ++ l) (up_to (others + k.dbd.roots) kept i)
+    ∙ (ap (λ n. bytes_behind others k.slots k.changed ++ (kept_bytes (others + k.dbd.roots) (take i kept) ++ kept_bytes n (drop i kept))) sum
+    ∙ sym (append_assoc (bytes_behind others k.slots k.changed) (kept_bytes (others + k.dbd.roots) (take i kept)) (kept_bytes (others + kept_slots (take (suc i) (k ∷ kept))) (drop i kept))))
+
 -- the slots of one store are among those of all
 pub one_is_given : (first : ℕ) (kept : List Kept) (i : ℕ) (one : Kept) → slice_get kept i ≡ Some one → (at : ℕ) (sector : List ℕ) → IsGivenAt (first + kept_slots (take i kept)) (bytes_of one.slots one.changed) at sector → IsGivenAt first (kept_bytes 0 kept) at sector
 one_is_given first kept i one found at sector given =
@@ -137,6 +188,16 @@ module _ (first : ℕ) (kept : List Kept) (i : ℕ) (one : Kept) (found : slice_
   next_follows old mid new before after =
       follows_on (MayPut first (kept_bytes 0 kept)) (MayPut first (kept_bytes 0 kept)) (MayPut first (kept_bytes 0 kept)) old mid new (may_both first (kept_bytes 0 kept)) before
       (follows_more (MayPut at (bytes_of one.slots one.changed)) (MayPut first (kept_bytes 0 kept)) mid new may_one after)
+
+  pub next_front : (a b c : Image) → HasPut first (kept_bytes 0 (take i kept)) a b → PutsFront at (bytes_of one.slots one.changed) b c → PutsFront first (kept_bytes 0 kept) a c
+  next_front a b c before puts =
+      let here : PutsFront (first + kept_slots (take i kept)) (bytes_of one.slots one.changed) b c = subst (λ n. PutsFront n (bytes_of one.slots one.changed) b c) is puts in
+      let later : PutsFront first (bytes_behind (0 + kept_slots (take i kept)) one.slots one.changed) b c =
+      subst (λ n. PutsFront first (bytes_behind n one.slots one.changed) b c) (omega arith) (front_behind first (kept_slots (take i kept)) one.slots one.changed b c here) in
+      let more = kept_bytes (0 + kept_slots (take (i + 1) kept)) (drop (i + 1) kept) in
+      subst (λ (l : List (ℕ × List ℕ)). PutsFront first l a c)
+      (sym (up_to 0 kept (i + 1) ∙ ap (λ (l : List (ℕ × List ℕ)). l ++ more) (one_more 0 kept i one found)))
+      (front_both first (kept_bytes 0 (take i kept)) (bytes_behind (0 + kept_slots (take i kept)) one.slots one.changed) more a b c before later)
 
   pub next_has : (a b c : Image) → HasPut first (kept_bytes 0 (take i kept)) a b → HasPut at (bytes_of one.slots one.changed) b c → HasPut first (kept_bytes 0 (take (i + 1) kept)) a c
   next_has a b c before after =

@@ -33,6 +33,13 @@ pub record HasPut (first : ℕ) (slots : List (ℕ × List ℕ)) (before after :
   pub size : length after ≡ length before
   pub each : (at : ℕ) → sector_at after at ≡ unwrap_or (given_at first slots at) (sector_at before at)
 
+-- The slots in front have theirs, up to one of them, and from there on each sector is as it was. So they are written in their order.
+pub record PutsFront (first : ℕ) (slots : List (ℕ × List ℕ)) (before after : Image) : Type 0 where
+  pub front : List (ℕ × List ℕ)
+  pub rest : List (ℕ × List ℕ)
+  pub all : slots ≡ front ++ rest
+  pub put : HasPut first front before after
+
 -- these slots of a database, with the bytes of their records
 abbrev pub bytes_of : List (List Row) → List ℕ → List (ℕ × List ℕ)
 bytes_of images numbers = map (λ number. (number, spelling (slice_index_or images number []))) numbers

@@ -4,7 +4,7 @@ ghost use Rattle.std.specs.List.{AllByRecursion};
 ghost use Rattle.std.specs.Int.{w16, to_be_bytes};
 ghost use Rattle.model_disk.specs.Disk.{Stays, Within, Follows, WritesAtMost, FailedSince};
 ghost use Rattle.model_rows.specs.Record.{spelling};
-ghost use Rattle.seg_store.specs.DataSectors.{data_sector, MayPut, HasPut, bytes_of};
+ghost use Rattle.seg_store.specs.DataSectors.{data_sector, MayPut, HasPut, PutsFront, bytes_of};
 
 use model_rows::Row;
 use seg_rows::RecordImage;
@@ -59,6 +59,8 @@ pub fn put_slots<D: Disk>(
     ensures any_moment { Within (MayPut first (bytes_of slots.now numbers.now)) (D.state disk.old) (D.state disk.new) }
     ensures follows { Follows (MayPut first (bytes_of slots.now numbers.now)) (D.state disk.old) (D.state disk.new) }
     ensures shown { OnOk result (IsTrue (D.state disk.old).tells → HasPut first (bytes_of slots.now numbers.now) (D.state disk.old).shown (D.state disk.new).shown) }
+    // Where the disk fails, the slots in front are written, and none behind.
+    ensures ascending { OnErr result (IsTrue (D.state disk.old).tells → PutsFront first (bytes_of slots.now numbers.now) (D.state disk.old).shown (D.state disk.new).shown) }
     ensures writes { WritesAtMost (length numbers.now) (D.state disk.old) (D.state disk.new) }
     ensures no_fault { OnOk result ((D.state disk.new).faults ≡ (D.state disk.old).faults) }
     ensures cause { OnErr result (FailedSince (D.state disk.old) (D.state disk.new)) }

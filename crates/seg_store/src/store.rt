@@ -7,7 +7,7 @@ ghost use Rattle.model_rows.specs.Rows.{record_of, with_record, IsImage, AreRows
 ghost use Rattle.seg_rows.specs.StoreRefused.{set_refusal};
 ghost use Rattle.model_disk.specs.Disk.{Stays, Within, Follows, WritesAtMost, FailedSince};
 ghost use Rattle.seg_store.specs.Changed.{stored, with_number, with_changed, slot_changed, AreChanged};
-ghost use Rattle.seg_store.specs.DataSectors.{bytes_of, MayPut, HasPut};
+ghost use Rattle.seg_store.specs.DataSectors.{bytes_of, MayPut, HasPut, PutsFront};
 ghost use Rattle.seg_store.specs.Slots.{image_root, slot_of, lowest_free, slot_for, with_root, rows_of_slots, AreSlots, free_slots, without_root};
 
 use crate::changed::add_changed;
@@ -120,6 +120,33 @@ impl Store {
     }
 
     /// Writes the records of the changed slots into their sectors, in ascending order, where slot 0 has the sector
+    /// `first`; the answer is how many they are, and none is changed then. Nothing is synced. `Disk` comes exactly where
+    /// the disk failed in the call; then all of them still count as changed. The records and slots stay in any case.
+    pub fn write_back<D: Disk>(&mut self, disk: &mut D, first: u32) -> Result<u32, DiskFault>
+        requires area { first + self.old.dbd.roots ≤ (D.state disk.old).size }
+        requires sectors { self.old.dbd.sectors ≤ 1 }
+        ensures stays { Stays (D.state disk.old) (D.state disk.new) }
+        // Whenever a crash comes, each sector is as it was or has the record of its changed slot.
+        ensures any_moment { Within (MayPut first (bytes_of self.old.slots self.old.changed)) (D.state disk.old) (D.state disk.new) }
+        ensures follows { Follows (MayPut first (bytes_of self.old.slots self.old.changed)) (D.state disk.old) (D.state disk.new) }
+        // Then each of them is read, and a sync makes it last.
+        ensures shown { OnOk result (IsTrue (D.state disk.old).tells → HasPut first (bytes_of self.old.slots self.old.changed) (D.state disk.old).shown (D.state disk.new).shown) }
+        // Where the disk fails, the slots in front are written, and none behind: so they are written in ascending order.
+        ensures ascending { OnErr result (IsTrue (D.state disk.old).tells → PutsFront first (bytes_of self.old.slots self.old.changed) (D.state disk.old).shown (D.state disk.new).shown) }
+        ensures count { IfOk result (λ n. n ≡ length self.old.changed) }
+        ensures few { length self.old.changed ≤ self.old.dbd.roots }
+        ensures written { OnOk result (self.new ≡ record self.old { changed = [] }) }
+        ensures kept { OnErr result (self.new ≡ self.old) }
+        ensures writes { WritesAtMost (length self.old.changed) (D.state disk.old) (D.state disk.new) }
+        ensures no_fault { OnOk result ((D.state disk.new).faults ≡ (D.state disk.old).faults) }
+        ensures cause { OnErr result (FailedSince (D.state disk.old) (D.state disk.new)) }
+    {
+        let count = self.write_changed(disk, first)?;
+        self.settle();
+        Ok(count)
+    }
+
+    /// Writes the records of the changed slots into their sectors, in ascending order, where slot 0 has the sector
     /// `first`; the answer is how many they are. They still count as changed, until `settle`. Nothing is synced. `Disk` comes
     /// exactly where the disk failed in the call.
     pub fn write_changed<D: Disk>(&self, disk: &mut D, first: u32) -> Result<u32, DiskFault>
@@ -131,6 +158,8 @@ impl Store {
         ensures follows { Follows (MayPut first (bytes_of self.now.slots self.now.changed)) (D.state disk.old) (D.state disk.new) }
         // Then each of them is read, and a sync makes it last.
         ensures shown { OnOk result (IsTrue (D.state disk.old).tells → HasPut first (bytes_of self.now.slots self.now.changed) (D.state disk.old).shown (D.state disk.new).shown) }
+        // Where the disk fails, the slots in front are written, and none behind: so they are written in ascending order.
+        ensures ascending { OnErr result (IsTrue (D.state disk.old).tells → PutsFront first (bytes_of self.now.slots self.now.changed) (D.state disk.old).shown (D.state disk.new).shown) }
         ensures count { IfOk result (λ n. n ≡ length self.now.changed) }
         ensures few { length self.now.changed ≤ self.now.dbd.roots }
         ensures writes { WritesAtMost (length self.now.changed) (D.state disk.old) (D.state disk.new) }

@@ -3,7 +3,7 @@ ghost use Rattle.std.specs.Prelude.{◌≡◌, ◌+◌, ◌<◌, ◌≤◌, [], 
 ghost use Rattle.std.specs.List.{AllByRecursion};
 ghost use Rattle.model_disk.specs.Disk.{Stays, Within, Follows, WritesAtMost, FailedSince};
 ghost use Rattle.seg_store.specs.Changed.{Kept};
-ghost use Rattle.seg_store.specs.DataSectors.{MayPut, HasPut, bytes_of};
+ghost use Rattle.seg_store.specs.DataSectors.{MayPut, HasPut, PutsFront, bytes_of};
 ghost use Rattle.seg_store.specs.WriteBack.{kept_slots, kept_bytes, kept_count, written_kept};
 
 use crate::Store;
@@ -23,6 +23,7 @@ fn write_one<D: Disk>(
     ensures any_moment { (one : Kept) → slice_get stores.now.items place ≡ Some one → Within (MayPut first (bytes_of one.slots one.changed)) (D.state disk.old) (D.state disk.new) }
     ensures follows { (one : Kept) → slice_get stores.now.items place ≡ Some one → Follows (MayPut first (bytes_of one.slots one.changed)) (D.state disk.old) (D.state disk.new) }
     ensures shown { (one : Kept) → slice_get stores.now.items place ≡ Some one → OnOk result (IsTrue (D.state disk.old).tells → HasPut first (bytes_of one.slots one.changed) (D.state disk.old).shown (D.state disk.new).shown) }
+    ensures ascending { (one : Kept) → slice_get stores.now.items place ≡ Some one → OnErr result (IsTrue (D.state disk.old).tells → PutsFront first (bytes_of one.slots one.changed) (D.state disk.old).shown (D.state disk.new).shown) }
     ensures count { (one : Kept) → slice_get stores.now.items place ≡ Some one → IfOk result (λ n. n ≡ length one.changed) }
     ensures few { (one : Kept) → slice_get stores.now.items place ≡ Some one → length one.changed ≤ one.dbd.roots }
     ensures writes { (one : Kept) → slice_get stores.now.items place ≡ Some one → WritesAtMost (length one.changed) (D.state disk.old) (D.state disk.new) }
@@ -58,6 +59,7 @@ pub fn write_all<D: Disk>(disk: &mut D, first: u32, stores: &Vec<Store>) -> Resu
     ensures any_moment { Within (MayPut first (kept_bytes 0 stores.now.items)) (D.state disk.old) (D.state disk.new) }
     ensures follows { Follows (MayPut first (kept_bytes 0 stores.now.items)) (D.state disk.old) (D.state disk.new) }
     ensures shown { OnOk result (IsTrue (D.state disk.old).tells → HasPut first (kept_bytes 0 stores.now.items) (D.state disk.old).shown (D.state disk.new).shown) }
+    ensures ascending { OnErr result (IsTrue (D.state disk.old).tells → PutsFront first (kept_bytes 0 stores.now.items) (D.state disk.old).shown (D.state disk.new).shown) }
     ensures count { IfOk result (λ n. n ≡ kept_count stores.now.items) }
     ensures writes { WritesAtMost (kept_count stores.now.items) (D.state disk.old) (D.state disk.new) }
     ensures no_fault { OnOk result ((D.state disk.new).faults ≡ (D.state disk.old).faults) }

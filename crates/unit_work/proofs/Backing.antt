@@ -53,7 +53,7 @@ later_stores c rest n (s ∷ stores) lt =
     λ t. record { dbd = s.dbd; slots = other_slots c rest n s.slots (λ e. absurd (omega arith)) t } ∷ later_stores c rest (suc n) stores (omega arith) t
 
 -- in the database of the change its record goes first
-nothing_touched : (rest : List Change) (db : ℕ) → is_touched rest db [] ≡ false
+pub nothing_touched : (rest : List Change) (db : ℕ) → is_touched rest db [] ≡ false
 nothing_touched [] db = refl
 nothing_touched (c ∷ rest) db = by (eqb c.db db) (nothing_touched rest db)
   where
@@ -109,7 +109,7 @@ was_other_slot c db m other = ap (λ b. eqb c.db db && (b && not (is_free c.befo
     by true = refl
     by false = refl
 
-was_not_there : (c : Change) (db m : ℕ) → is_free c.before ≡ true → was_in db m c ≡ false
+pub was_not_there : (c : Change) (db m : ℕ) → is_free c.before ≡ true → was_in db m c ≡ false
 was_not_there c db m free = ap (λ b. eqb c.db db && (eqb c.slot m && not b)) free ∙ by (eqb c.db db) (eqb c.slot m)
   where
     by : (a b : Bool) → (a && (b && false)) ≡ false

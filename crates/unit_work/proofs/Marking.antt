@@ -1,5 +1,5 @@
 -- The slots that count as changed once one of them is set, and once a unit is backed out.
-use Rattle.std.proofs.Common.{◌≡◌, ◌≢◌, ℕ, ◌-◌, ◌<◌, ◌≤◌, ◌++◌, ◌∷◌, [], List, length, zero, suc, refl, sym, ◌∙◌, ap, subst, Bool, true, false, cond, Option, None, Some, arith, get_or, set, ltb, eqb, ◌||◌, ◌&&◌, ◌⊎◌, inl, inr, ⊎_elim}
+use Rattle.std.proofs.Common.{◌≡◌, ◌≢◌, ℕ, ◌-◌, ◌<◌, ◌≤◌, ◌++◌, ◌∷◌, [], List, length, zero, suc, refl, sym, ◌∙◌, ap, subst, Bool, true, false, cond, Option, None, Some, arith, get_or, set, ltb, eqb, not, ◌+◌, ◌||◌, ◌&&◌, ◌⊎◌, inl, inr, ⊎_elim}
 use Rattle.std.specs.Prelude.{IsTrue}
 use Rattle.std.specs.List.{slice_get, list_any}
 use Rattle.std.specs.Option.{option_map_or}
@@ -13,10 +13,10 @@ use Rattle.seg_store.specs.Stores.{IsStoreOf, with_store}
 use Rattle.seg_store.proofs.Places.{place_passes}
 use Rattle.seg_store.proofs.SlotRows.{root_there, root_absent}
 use Rattle.change_records.specs.Images.{image_at}
-use Rattle.change_records.specs.Marks.{is_marked, AreMarked}
+use Rattle.change_records.specs.Marks.{is_marked, AreMarked, AreAllMarked}
 use Rattle.unit_work.specs.declared.change.Change.{Change}
-use Rattle.unit_work.specs.BackOut.{is_touched, was_in, backs}
-use Rattle.unit_work.proofs.Backing.{get_set_other, get_set_same}
+use Rattle.unit_work.specs.BackOut.{is_touched, was_in, backs, cleared_slots, cleared_from, cleared}
+use Rattle.unit_work.proofs.Backing.{get_set_other, get_set_same, nothing_touched, was_not_there}
 
 -- a number among numbers with one more
 pub marked_more : (n slot : ℕ) (xs : List ℕ) → list_any (λ m. eqb m slot) (with_number n xs) ≡ (eqb n slot || list_any (λ m. eqb m slot) xs)
@@ -84,6 +84,14 @@ module _ (passes : ℕ → ℕ → Bool) where
   pub marks_more : (wider : ℕ → ℕ → Bool) → ((d s : ℕ) → 1 ≤ d → passes d s ≡ true → wider d s ≡ true) → (a b : AllStores) → AreMarked passes a b → AreMarked wider a b
   marks_more wider all a b h = record { only = λ d s least e. ⊎_elim (λ m. inl m) (λ p. inr (all d s least p)) (h.only d s least e); same = h.same }
 
+  -- a slot that is marked stays so
+  pub marked_stays : (a b : AllStores) → AreMarked passes a b → (d s : ℕ) → 1 ≤ d → is_marked a.changed d s ≡ true → is_marked b.changed d s ≡ true
+  marked_stays a b h d s least e = by (is_marked b.changed d s) refl
+    where
+      by : (m : Bool) → is_marked b.changed d s ≡ m → is_marked b.changed d s ≡ true
+      by true q = q
+      by false q = absurd (false≢true (sym (h.same d s least q).0 ∙ e))
+
   -- a store is changed
   module _ (all : AllStores) (db : ℕ) (s t : Kept) (least : 1 ≤ db) (of : IsStoreOf all db s) where
     -- the others stay
@@ -129,6 +137,12 @@ module _ (passes : ℕ → ℕ → Bool) where
             ⊎_elim
             (λ (e : d ≡ db). subst (λ n. image_at n k (with_store all db t).stores ≡ image_at n k all.stores) (sym e) (image_new k ∙ (ap (λ xs. get_or xs k []) slots ∙ sym (image_old k))))
             (λ other. else_image d k positive other) (cases_eq d db)
+
+    -- a slot that is set counts as changed
+    pub set_marked : (slot : ℕ) → t.changed ≡ with_number slot s.changed → is_marked (with_store all db t).changed db slot ≡ true
+    set_marked slot changed =
+        own_new slot
+        ∙ (ap (list_any (λ m. eqb m slot)) changed ∙ (marked_more slot slot s.changed ∙ ap (λ b. b || list_any (λ m. eqb m slot) s.changed) (eq-eqb slot slot refl)))
 
     -- a slot is set that passes
     module _ (slot : ℕ) (changed : t.changed ≡ with_number slot s.changed) (image : List Row) (slots : t.slots ≡ set s.slots slot image) where
@@ -227,7 +241,89 @@ marks_first first mid last records h g =
     or_last true = refl
     or_last false = refl
 
+-- the images without the changed records
+cleared_image : (records : List Change) (db : ℕ) (slots : List (List Row)) (k : ℕ) → is_touched records db (get_or slots k []) ≡ true → get_or (cleared_slots records db slots) k [] ≡ []
+cleared_image records db [] k e = absurd (false≢true (sym (nothing_touched records db) ∙ e))
+cleared_image records db (image ∷ slots) zero e = ap (λ b. cond b [] image) e
+cleared_image records db (image ∷ slots) (suc k) e = cleared_image records db slots k e
+
+cleared_at : (records : List Change) (n i : ℕ) (stores : List Stored) (k d : ℕ) → d ≡ n + i
+    → is_touched records d (get_or (option_map_or (λ (x : Stored). x.slots) (slice_get stores i) []) k []) ≡ true
+    → get_or (option_map_or (λ (x : Stored). x.slots) (slice_get (cleared_from records n stores) i) []) k [] ≡ []
+cleared_at records n i [] k d at e = absurd (false≢true (sym (nothing_touched records d) ∙ e))
+cleared_at records n zero (s ∷ stores) k d at e =
+    let here : d ≡ n = omega (arith, at) in
+    cleared_image records n s.slots k (subst (λ m. is_touched records m (get_or s.slots k []) ≡ true) here e)
+cleared_at records n (suc i) (s ∷ stores) k d at e = cleared_at records (suc n) i stores k d (omega (arith, at)) e
+
+-- The changed records are removed: where one was, none is, so its slot is marked.
+pub all_removed : (first last : AllStores) (records : List Change) → last.stores ≡ cleared records first.stores → AreMarked (λ d k. is_touched records d (image_at d k first.stores)) first last
+    → AreAllMarked (λ d k. is_touched records d (image_at d k first.stores)) last
+all_removed first last records gone h = record { each = λ d k least e. by d k least e (is_marked last.changed d k) refl }
+  where
+    by : (d k : ℕ) → 1 ≤ d → is_touched records d (image_at d k first.stores) ≡ true → (b : Bool) → is_marked last.changed d k ≡ b → is_marked last.changed d k ≡ true
+    by d k least e true q = q
+    by d k least e false q =
+        let none : image_at d k last.stores ≡ [] = ap (image_at d k) gone ∙ cleared_at records 1 (d - 1) first.stores k d (omega (arith, least)) e in
+        absurd (false≢true (sym (nothing_touched records d) ∙ (ap (is_touched records d) (sym none ∙ (h.same d k least q).1) ∙ e)))
+
+-- so are the slots of all that are put back behind that
+pub all_first : (first mid last : AllStores) (records : List Change) → AreAllMarked (λ d k. is_touched records d (image_at d k first.stores)) mid
+    → AreMarked (λ d k. list_any (was_in d k) records) mid last → AreAllMarked (λ d k. list_any (was_in d k) records) last
+    → AreAllMarked (λ d k. backs records d k (image_at d k first.stores)) last
+all_first first mid last records h g all = record {
+  each = λ d k least e. ⊎_elim
+      (λ removed. marked_stays (λ d k. list_any (was_in d k) records) mid last g d k least (h.each d k least removed))
+      (λ back. all.each d k least back)
+      (or_true (is_touched records d (image_at d k first.stores)) (list_any (was_in d k) records) e);
+}
+
 -- ---- a record is put back
+
+-- its slot is marked
+pub back_marked : (all : AllStores) (c : Change) (s t : Kept) → 1 ≤ c.db → IsStoreOf all c.db s → t.changed ≡ with_number c.slot s.changed
+    → AreAllMarked (λ d k. was_in d k c) (with_store all c.db t)
+back_marked all c s t least of changed = record { each = λ d k positive e. by d k (eqb c.db d) refl (eqb c.slot k) refl e }
+  where
+    by : (d k : ℕ) (a : Bool) → eqb c.db d ≡ a → (b : Bool) → eqb c.slot k ≡ b → was_in d k c ≡ true → is_marked (with_store all c.db t).changed d k ≡ true
+    by d k true p true q e =
+        subst (λ n. is_marked (with_store all c.db t).changed n k ≡ true) (eqb-true c.db d p)
+        (subst (λ n. is_marked (with_store all c.db t).changed c.db n ≡ true) (eqb-true c.slot k q) (set_marked (λ d k. true) all c.db s t least of c.slot changed))
+    by d k true p false q e = absurd (false≢true (sym (λ i. p i && (q i && not (is_free c.before))) ∙ e))
+    by d k false p b q e = absurd (false≢true (sym (ap (λ x. x && (eqb c.slot k && not (is_free c.before))) p) ∙ e))
+
+-- one that wasn't there has none
+pub back_no_mark : (all : AllStores) (c : Change) → c.before ≡ [] → AreAllMarked (λ d k. was_in d k c) all
+back_no_mark all c none = record { each = λ d k least e. absurd (false≢true (sym (was_not_there c d k (ap is_free none)) ∙ e)) }
+
+-- each slot in which one of these was is marked, or its record is still to be put back
+abbrev pub AreToMark : List Change → List Change → AllStores → Type 0
+AreToMark records left all = (d k : ℕ) → 1 ≤ d → list_any (was_in d k) records ≡ true → (list_any (was_in d k) left ≡ true) ⊎ (is_marked all.changed d k ≡ true)
+
+any_split : (test : Change → Bool) (front : List Change) (c : Change) → list_any test (front ++ c ∷ []) ≡ true → (list_any test front ≡ true) ⊎ (test c ≡ true)
+any_split test [] c e = ⊎_elim (λ own. inr own) (λ none. absurd (false≢true none)) (or_true (test c) false e)
+any_split test (x ∷ front) c e =
+    ⊎_elim
+    (λ own. inl (ap (λ b. b || list_any test front) own))
+    (λ later. ⊎_elim (λ f. inl (ap (λ b. test x || b) f ∙ or_last (test x))) (λ own. inr own) (any_split test front c later))
+    (or_true (test x) (list_any test (front ++ c ∷ [])) e)
+  where
+    or_last : (b : Bool) → (b || true) ≡ true
+    or_last true = refl
+    or_last false = refl
+
+pub next_to_mark : (records left front : List Change) (c : Change) (mid last : AllStores) → left ≡ front ++ c ∷ [] → AreToMark records left mid
+    → AreMarked (λ d k. was_in d k c) mid last → AreAllMarked (λ d k. was_in d k c) last → AreToMark records front last
+next_to_mark records left front c mid last is h g all d k least e =
+    ⊎_elim
+    (λ still. ⊎_elim (λ f. inl f) (λ own. inr (all.each d k least own)) (any_split (was_in d k) front c (subst (λ xs. list_any (was_in d k) xs ≡ true) is still)))
+    (λ m. inr (marked_stays (λ d k. was_in d k c) mid last g d k least m))
+    (h d k least e)
+
+pub none_to_mark : (records left : List Change) (all : AllStores) → left ≡ [] → AreToMark records left all → AreAllMarked (λ d k. list_any (was_in d k) records) all
+none_to_mark records left all none h = record {
+  each = λ d k least e. ⊎_elim (λ still. absurd (false≢true (subst (λ xs. list_any (was_in d k) xs ≡ true) none still))) (λ m. m) (h d k least e);
+}
 
 pub not_free : (image : List Row) (b : Bool) → (image ≡ [] → IsTrue b) → b ≡ false → is_free image ≡ false
 not_free [] b h e = absurd (false≢true (sym e ∙ h refl))

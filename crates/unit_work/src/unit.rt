@@ -3,7 +3,7 @@ ghost use Rattle.std.specs.Prelude.{◌≡◌, false, [], length, slice_get, IfO
 ghost use Rattle.std.specs.Option.{option_map};
 ghost use Rattle.std.specs.List.{AllByRecursion, list_any};
 ghost use Rattle.change_records.specs.Images.{image_at};
-ghost use Rattle.change_records.specs.Marks.{AreMarked};
+ghost use Rattle.change_records.specs.Marks.{AreMarked, AreAllMarked};
 ghost use Rattle.unit_work.specs.Changes.{is_full, AreInOrder, AreOnce, Pairs};
 ghost use Rattle.unit_work.specs.BackOut.{IsStored, CanGoBack, AreApart, CanBackOut, is_touched, was_in, backs, cleared, backed_from, backed_out, with_record_back};
 ghost use Rattle.unit_work.specs.TouchRefused.{RefusesTouch};
@@ -229,6 +229,7 @@ impl Unit {
         ensures stores { stores.new.stores ≡ backed_out self.old.records stores.old.stores }
         // The slots that it sets count as changed then.
         ensures marks { AreMarked (λ db slot. backs self.old.records db slot (image_at db slot stores.old.stores)) stores.old stores.new }
+        ensures all_marked { AreAllMarked (λ db slot. backs self.old.records db slot (image_at db slot stores.old.stores)) stores.new }
     {
         remove_all(&self.records, stores);
         put_all(&mut self.records, stores);
@@ -250,6 +251,7 @@ fn remove_all(records: &[Change], stores: &mut Stores)
     requires { AllByRecursion (IsStored stores.old.stores) records.now }
     ensures stores { stores.new.stores ≡ cleared records.now stores.old.stores }
     ensures marks { AreMarked (λ db slot. is_touched records.now db (image_at db slot stores.old.stores)) stores.old stores.new }
+    ensures all_marked { AreAllMarked (λ db slot. is_touched records.now db (image_at db slot stores.old.stores)) stores.new }
 {
     for change in records {
         stores.store_mut(change.db).remove(&change.root);
@@ -265,6 +267,7 @@ fn put_all(records: &mut Vec<Change>, stores: &mut Stores)
     ensures records { records.new.items ≡ [] }
     ensures stores { stores.new.stores ≡ backed_from records.old.items 1 stores.old.stores }
     ensures marks { AreMarked (λ db slot. list_any (was_in db slot) records.old.items) stores.old stores.new }
+    ensures all_marked { AreAllMarked (λ db slot. list_any (was_in db slot) records.old.items) stores.new }
 {
     while let Some(change) = records.pop() {
         put_one(change, stores);
@@ -276,6 +279,7 @@ fn put_one(change: Change, stores: &mut Stores)
     requires fits { CanGoBack stores.old.stores change }
     ensures stores { stores.new.stores ≡ with_record_back change stores.old.stores }
     ensures marks { AreMarked (λ db slot. was_in db slot change) stores.old stores.new }
+    ensures all_marked { AreAllMarked (λ db slot. was_in db slot change) stores.new }
 {
     if change.before.is_empty() {
         return;

@@ -1,6 +1,6 @@
 use Rattle.std.proofs.Common.{◌-◌, List, sym, ap, subst, ◌∙◌}
 use Rattle.change_records.specs.Images.{image_at}
-use Rattle.change_records.specs.Marks.{AreMarked}
+use Rattle.change_records.specs.Marks.{AreMarked, AreAllMarked}
 use Rattle.unit_work.specs.declared.change.Change.{Change}
 use Rattle.unit_work.specs.Changes.{no_changes}
 use Rattle.unit_work.specs.BackOut.{backed_out, backs}
@@ -25,3 +25,8 @@ pub returns-clause-marks : goal.returns-clause-marks
 returns-clause-marks c =
     subst (λ (rs : List Change). AreMarked (λ db slot. backs rs db slot (image_at db slot c.args.opened.now.stores.stores)) c.args.opened.now.stores c.back_out.new.stores)
     (sym (unit_records c.args.opened.now.units.items (c.args.region - 1) c.take_unit-unit.result c.take_unit-unit.ensures.taken)) c.back_out.ensures.marks
+
+pub returns-clause-all_marked : goal.returns-clause-all_marked
+returns-clause-all_marked c =
+    subst (λ (rs : List Change). AreAllMarked (λ db slot. backs rs db slot (image_at db slot c.args.opened.now.stores.stores)) c.back_out.new.stores)
+    (sym (unit_records c.args.opened.now.units.items (c.args.region - 1) c.take_unit-unit.result c.take_unit-unit.ensures.taken)) c.back_out.ensures.all_marked

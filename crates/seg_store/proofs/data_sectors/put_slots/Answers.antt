@@ -3,7 +3,7 @@ use Rattle.model_disk.specs.Disk.{HasWritten}
 use Rattle.model_disk.proofs.Words.{stays_on}
 use Rattle.model_rows.specs.Record.{spelling}
 use Rattle.seg_store.specs.DataSectors.{data_sector, bytes_of}
-use Rattle.seg_store.proofs.Putting.{at_ok, number_within, given_number, has_number, put_follows, put_within}
+use Rattle.seg_store.proofs.Putting.{at_ok, number_within, given_number, has_number, front_step, put_follows, put_within}
 use Rattle.seg_store.proofs.data_sectors.put_slots.Goals as goal
 
 pub returns-then-is_err-clause-any_moment : goal.returns-then-is_err-clause-any_moment
@@ -21,6 +21,22 @@ returns-then-is_err-clause-follows g c =
     put_follows c.args.first (bytes_of c.args.slots.now c.args.numbers.now) (c.args.first + get_or c.args.numbers.now c.loop-number.number-index 0) c.seal_rows-sector.result given
     (g.D.Disk.state c.args.disk.now) (g.D.Disk.state c.loop-number.disk) (g.D.Disk.state c.write.new.self)
     c.loop-number.invariant.follows c.write.ensures.tried.follows
+
+pub returns-then-is_err-clause-ascending : goal.returns-then-is_err-clause-ascending
+returns-then-is_err-clause-ascending g c =
+    let old = g.D.Disk.state c.args.disk.now in
+    let mid = g.D.Disk.state c.loop-number.disk in
+    let new = g.D.Disk.state c.write.new.self in
+    let i = c.loop-number.number-index in
+    let image = c.index-slots-number.result in
+    let lt = c.loop-number-test.true in
+    let sealed : c.seal_rows-sector.result ≡ data_sector (spelling image) = c.seal_rows-sector.ensures ∙ ap (λ rows. data_sector (spelling rows)) c.as_slice.ensures in
+    let stays = c.loop-number.invariant.stays in
+    let disk = g.met.D.Disk.is_disk c.loop-number.disk in
+    λ tells.
+    front_step c.args.first c.args.slots.now c.args.numbers.now i image lt c.requires.within c.index-slots-number.is c.seal_rows-sector.result old.shown mid.shown new.shown sealed
+    (omega (arith, disk.shown_size, stays.size, c.requires.area, number_within c.args.first c.args.slots.now c.args.numbers.now i image lt c.requires.within c.index-slots-number.is))
+    (c.loop-number.invariant.shown tells) (c.write.ensures.tried.shown (subst (λ b. IsTrue b) (sym stays.tells) tells))
 
 pub loop-number-preserved : goal.loop-number-preserved
 loop-number-preserved g c =

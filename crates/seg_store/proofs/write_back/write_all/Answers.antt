@@ -2,7 +2,7 @@ use Rattle.std.proofs.Common.{◌≡◌, ◌<◌, ◌≤◌, length, sym, ◌∙
 use Rattle.std.proofs.lemmas.Option.{get_or_from_slice_get}
 use Rattle.model_disk.proofs.Words.{stays_on}
 use Rattle.seg_store.specs.Changed.{Kept}
-use Rattle.seg_store.proofs.WritingBack.{found_at, all_at, slots_within, count_within, sum_more, next_within, next_follows, next_has}
+use Rattle.seg_store.proofs.WritingBack.{found_at, all_at, slots_within, count_within, sum_more, next_within, next_follows, next_front, next_has}
 use Rattle.seg_store.proofs.write_back.write_all.Goals as goal
 
 pub write_one-requires-clause-area : goal.write_one-requires-clause-area
@@ -68,6 +68,18 @@ returns-in-Err-clause-follows g c =
     let mid = g.D.Disk.state c.loop-place.disk in
     let new = g.D.Disk.state c.write_one.new.disk in
     next_follows c.args.first kept i f.one f.is c.loop-place.at inv.at old mid new inv.follows (c.write_one.ensures.follows f.one f.is)
+
+pub returns-in-Err-clause-ascending : goal.returns-in-Err-clause-ascending
+returns-in-Err-clause-ascending g c =
+    let kept = c.args.stores.now.items in
+    let i = c.loop-place.place in
+    let inv = c.loop-place.invariant in
+    let lt : i < length kept = omega (arith, c.loop-place-test.true, c.len-place-end.ensures, c.args.stores.now.ok) in
+    let f = found_at kept i lt in
+    let old = g.D.Disk.state c.args.disk.now in
+    let mid = g.D.Disk.state c.loop-place.disk in
+    let new = g.D.Disk.state c.write_one.new.disk in
+    λ tells. next_front c.args.first kept i f.one f.is c.loop-place.at inv.at old.shown mid.shown new.shown (inv.shown tells) (c.in-Err.ensures.ascending f.one f.is (subst (λ b. IsTrue b) (sym inv.stays.tells) tells))
 
 pub returns-in-Err-clause-writes : goal.returns-in-Err-clause-writes
 returns-in-Err-clause-writes g c =

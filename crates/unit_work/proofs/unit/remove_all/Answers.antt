@@ -6,7 +6,7 @@ use Rattle.seg_store.specs.Changed.{stored}
 use Rattle.seg_store.specs.Slots.{has_root}
 use Rattle.change_records.specs.Images.{image_at}
 use Rattle.unit_work.specs.BackOut.{cleared, is_touched, IsStored}
-use Rattle.unit_work.proofs.Marking.{among_these, marks_then, removed_marks, removed_partly}
+use Rattle.unit_work.proofs.Marking.{among_these, marks_then, removed_marks, removed_partly, all_removed}
 use Rattle.unit_work.proofs.Backing.{step_cleared, none_cleared, all_at, drop_past}
 use Rattle.unit_work.proofs.unit.remove_all.Goals as goal
 
@@ -39,3 +39,6 @@ returns-clause-stores c =
 
 pub returns-clause-marks : goal.returns-clause-marks
 returns-clause-marks c = c.loop-change.invariant.marks
+
+pub returns-clause-all_marked : goal.returns-clause-all_marked
+returns-clause-all_marked c = all_removed c.args.stores.now c.loop-change.stores c.args.records.now (returns-clause-stores c) c.loop-change.invariant.marks

@@ -51,6 +51,6 @@ returns-clause-touched c = c.take_back.ensures.slots ∙ ap (λ (d : DatabasesSt
 pub returns-clause-slots : goal.returns-clause-slots
 returns-clause-slots c = λ unit.
     back_slots unit c.self.inside.opened c.take_back.new.opened c.args.self.now c.self.invariant.touched c.self.view_is c.args.region
-    (has_unit c.self.inside.opened c.args.self.now c.args.region c.self.invariant.units c.self.view_is c.requires) c.take_back.ensures.stores c.take_back.ensures.marks c.take_back.ensures.slots
+    (has_unit c.self.inside.opened c.args.self.now c.args.region c.self.invariant.units c.self.view_is c.requires) c.take_back.ensures.stores c.take_back.ensures.marks c.take_back.ensures.all_marked c.take_back.ensures.slots
     (taken_back_committed c.self.inside.opened c.take_back.new.opened c.self.invariant.units c.args.region (has_unit c.self.inside.opened c.args.self.now c.args.region c.self.invariant.units c.self.view_is c.requires)
     c.take_back.ensures.units c.take_back.ensures.stores)

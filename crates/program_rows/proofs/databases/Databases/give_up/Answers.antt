@@ -51,7 +51,7 @@ returns-clause-value c =
           ∙ ap (regions_backed c.args.region) c.self.view_is;
       touched = c.take_back.ensures.slots ∙ ap (λ (d : DatabasesState). set d.touched (c.args.region - 1) []) c.self.view_is;
       slots = back_gives_up c.self.inside.opened (record { units = c.take_back.new.opened.units; stores = c.take_back.new.opened.stores; table = c.release.new.table }) c.args.self.now c.self.invariant.touched c.self.view_is c.args.region
-          (has_unit c.self.inside.opened c.args.self.now c.args.region c.self.invariant.units c.self.view_is c.requires) c.take_back.ensures.stores c.take_back.ensures.marks c.take_back.ensures.slots
+          (has_unit c.self.inside.opened c.args.self.now c.args.region c.self.invariant.units c.self.view_is c.requires) c.take_back.ensures.stores c.take_back.ensures.marks c.take_back.ensures.all_marked c.take_back.ensures.slots
           (taken_back_committed c.self.inside.opened c.take_back.new.opened c.self.invariant.units c.args.region (has_unit c.self.inside.opened c.args.self.now c.args.region c.self.invariant.units c.self.view_is c.requires)
           c.take_back.ensures.units c.take_back.ensures.stores);
       on_slots = whole_slots (record { units = c.take_back.new.opened.units; stores = c.take_back.new.opened.stores; table = c.release.new.table }) (invariant_of-self c);

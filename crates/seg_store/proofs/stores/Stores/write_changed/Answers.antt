@@ -1,10 +1,10 @@
 use Rattle.std.proofs.Common.{◌≡◌, ℕ, ◌≤◌, List, sym, ◌∙◌, ap, subst, IsTrue}
-use Rattle.std.specs.Prelude.{OnOk}
+use Rattle.std.specs.Prelude.{OnOk, OnErr}
 use Rattle.std.specs.List.{AllByRecursion}
 use Rattle.model_disk.specs.Disk.{Within, Follows}
 use Rattle.seg_store.specs.Slots.{Stored}
 use Rattle.seg_store.specs.Changed.{Kept, AllStores}
-use Rattle.seg_store.specs.DataSectors.{MayPut, HasPut}
+use Rattle.seg_store.specs.DataSectors.{MayPut, HasPut, PutsFront}
 use Rattle.seg_store.specs.WriteBack.{changed_bytes, kept_bytes}
 use Rattle.seg_store.proofs.WritingBack.{bytes_seen, sectors_seen}
 use Rattle.seg_store.proofs.stores.Stores.write_changed.Goals as goal
@@ -32,3 +32,11 @@ returns-clause-shown g c =
     let kept : List Kept = c.self.inside.items.items in
     let bytes : kept_bytes 0 kept ≡ changed_bytes c.args.self.now = bytes_seen 0 kept ∙ ap changed_bytes c.self.view_is in
     subst (λ (l : List (ℕ × List ℕ)). OnOk c.write_all.result (IsTrue old.tells → HasPut c.args.first l old.shown new.shown)) bytes c.write_all.ensures.shown
+
+pub returns-clause-ascending : goal.returns-clause-ascending
+returns-clause-ascending g c =
+    let old = g.D.Disk.state c.args.disk.now in
+    let new = g.D.Disk.state c.write_all.new.disk in
+    let kept : List Kept = c.self.inside.items.items in
+    let bytes : kept_bytes 0 kept ≡ changed_bytes c.args.self.now = bytes_seen 0 kept ∙ ap changed_bytes c.self.view_is in
+    subst (λ (l : List (ℕ × List ℕ)). OnErr c.write_all.result (IsTrue old.tells → PutsFront c.args.first l old.shown new.shown)) bytes c.write_all.ensures.ascending
