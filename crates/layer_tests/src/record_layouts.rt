@@ -105,13 +105,18 @@ fn each_layout_and_its_boundaries(rt: HostRuntime) -> Result<(), Fail> {
     for (bytes, length) in &records {
         assert_eq!(rt; outcome(&rt, rt.alloc(), bytes)?, (0, *length));
     }
-    let faults: [(&[u8], u8, usize); 6] = [
+    let faults: [(&[u8], u8, usize); 7] = [
         (b"", 1, 0),
         (b"\0\x05\x04\0\0", 2, 2),
         (b"\0\x09\x40\x03\x01C\0\xff\0", 2, 3),
         (b"\0\x09\x40\x02\x01C\x02\xff\0", 3, 6),
         (b"\0\x05\x02\0\x51", 3, 3),
-        (b"\0\x13\x36\0\0\0\0\0\0\0\0\x01\0\0\0\0\0\0\0\x02", 4, 0),
+        (b"\0\x13\x36\0\0\0\0\0\0\0\0\x01\0\0\0\0\0\0\0\x02", 4, 20),
+        (
+            b"\0\x1e\x07\0\0\0\0\0\0\0\x01\0\0\0\0\0\0\0\x02\0\0\0\0\0\0\0\0\0\x03",
+            3,
+            19,
+        ),
     ];
     for (bytes, rule, place) in &faults {
         assert_eq!(rt; outcome(&rt, rt.alloc(), bytes)?, (*rule, *place));

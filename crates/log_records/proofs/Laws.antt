@@ -139,9 +139,9 @@ front_is bytes r rest n whole named = ap (take n) whole ∙ take_at (spelling r)
 pub record_takes : (bytes : List ℕ) (x : Record × ℕ) → IsBytes bytes → record_at bytes ≡ Ok x → (x.1 ≤ length bytes) × Spells (take x.1 bytes) x.0
 unfolding record_at
 record_takes bytes x fits e =
-    let u = bind_ok (number_at w16 bytes) (λ (named : ℕ × List ℕ). content_at named.1 >>= λ found. cond (eqb (named.0 + length found.1) (length bytes)) (Ok (found.0, named.0)) (Err (4, length bytes))) x e in
-    let w = bind_ok (content_at u.0.1) (λ (found : Record × List ℕ). cond (eqb (u.0.0 + length found.1) (length bytes)) (Ok (found.0, u.0.0)) (Err (4, length bytes))) x u.2 in
-    let g = passed (eqb (u.0.0 + length w.0.1) (length bytes)) (4, length bytes) (w.0.0, u.0.0) x w.2 in
+    let u = bind_ok (number_at w16 bytes) (λ (named : ℕ × List ℕ). content_at named.1 >>= λ found. cond (eqb (named.0 + length found.1) (length bytes)) (Ok (found.0, named.0)) (Err (4, length found.1))) x e in
+    let w = bind_ok (content_at u.0.1) (λ (found : Record × List ℕ). cond (eqb (u.0.0 + length found.1) (length bytes)) (Ok (found.0, u.0.0)) (Err (4, length found.1))) x u.2 in
+    let g = passed (eqb (u.0.0 + length w.0.1) (length bytes)) (4, length w.0.1) (w.0.0, u.0.0) x w.2 in
     let k = number2_takes bytes u.0 fits u.1 in
     let l = content_takes u.0.1 w.0 k.0.rest_fits w.1 in
     let both = (Takes-then bytes (number2 u.0.0) u.0.1 (content w.0.0) w.0.1 k.0 l.0).parts in

@@ -193,7 +193,7 @@ content_of_code_at code rest =
 unfoldable pub content_at : Reader Record
 content_at bytes = byte_at bytes >>= λ code. content_of_code_at code.0 code.1
 
--- a record at the front of the bytes, and its length
+-- A record at the front of the bytes, and its length. A length that disagrees with the fields is told where these end, behind all of them.
 unfoldable pub record_at : List ℕ → Result (Record × ℕ) Fault
 record_at bytes = number_at w16 bytes >>= λ named. content_at named.1 >>= λ found.
-    if named.0 + length found.1 == length bytes then Ok (found.0, named.0) else Err (4, length bytes)
+    if named.0 + length found.1 == length bytes then Ok (found.0, named.0) else Err (4, length found.1)

@@ -11,7 +11,7 @@ pub(crate) const ENDS: u8 = 1;
 pub(crate) const UNKNOWN: u8 = 2;
 /// A field is out of its range. The place is that of the number or the byte that is.
 pub(crate) const OUT_OF_RANGE: u8 = 3;
-/// The length that the record names is another than that of its fields. The place is 0.
+/// The length that the record names is another than that of its fields. The place is where the fields end.
 pub(crate) const LENGTH: u8 = 4;
 
 /// Why bytes don't begin with a record.

@@ -269,6 +269,6 @@ pub(crate) fn record(alloc: Global, bytes: &[u8]) -> Result<(Record, usize), Rea
     if length as usize + rest.len() == bytes.len() {
         Ok((record, length as usize))
     } else {
-        Err(ReadFault::Broken(LENGTH, bytes.len()))
+        Err(ReadFault::Broken(LENGTH, rest.len()))
     }
 }
