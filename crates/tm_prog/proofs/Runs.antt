@@ -1,6 +1,6 @@
 -- The last line of a run.
 use Rattle.std.proofs.Common.{◌≡◌, ℕ, List, [], ◌∷◌, ◌++◌, codes, sym, subst, refl, inl, inr}
-use Rattle.std.specs.Prelude.{Option, Some, None}
+use Rattle.std.specs.Prelude.{Option, Some, None, IsSome}
 use Rattle.std.specs.Io.KnownBytes.{append_known}
 use Rattle.model_disk.specs.Disk.{DiskState}
 use Rattle.model_session.specs.Standing.{Stop}
@@ -77,6 +77,11 @@ pub served_source : {D : Type 0} (state : D → DiskState) (fault : Option WordF
 served_source state fault workload told left old new summary handed disk status lives stops valid none empty session =
     subst (λ f. IsByWords state f workload told left old new summary handed disk status lives stops) (sym (no_fault fault valid))
     (subst (λ w. IsByWords state None w told left old new summary handed disk status lives stops) none (empty, session))
+
+-- words that break no rule have no fault
+pub none_broken : (fault : Option WordFault) → FaultIs fault None → IsSome fault → ⊥
+none_broken None valid some = absurd cc
+none_broken (Some fault) valid some = valid
 
 abbrev memory_line : List ℕ
 memory_line = codes "STATUS 7 MEMORY" ++ 10 ∷ []

@@ -27,12 +27,12 @@ pub(crate) const LAST_ROOM: usize = 128;
 /// leaves the status as it is. The disk is opened behind the definition, and handed back in the end.
 /// A workload is served so too, over its own text: the source isn't touched, and the summary is printed in place of the answers.
 ///
-/// Status 1 comes exactly where the words break a rule, and 2 exactly where the definition breaks
-/// one; 3 exactly where the source ended while the system was down by a stop, which is told; 4 and 5 only where the source or the
-/// sink failed in this call; 6 where no life has begun and the disk, as it was handed in, can't be opened; 9 where a line has 4,097
-/// bytes or more or is past the millionth, or a counter is spent; 7 for want of memory. Status 0 says that the source was
-/// read to its end. With every status but 4 and 5 no call over the source or the sink failed, the
-/// writing of the status line apart.
+/// Status 1 comes only where the words break a rule, and 2 only where the definition breaks one; where they do, nothing fails and
+/// no limit is met, it is this status or 7. 3 comes exactly where the source ended while the system was down by a stop, which is
+/// told; 4 and 5 only where the source or the sink failed in this call; 6 where no life has begun and the disk, as it was handed
+/// in, can't be opened; 9 where a line has 4,097 bytes or more or is past the millionth, or a counter is spent; 7 for want of
+/// memory. Status 0 says that the source was read to its end. With every status but 4 and 5 no call over the source or the sink
+/// failed, the writing of the status line apart.
 pub fn run<S: Source, K: Sink, D: Disk>(
     alloc: Global,
     words: &[String],
@@ -47,9 +47,12 @@ pub fn run<S: Source, K: Sink, D: Disk>(
     // The source of a drill is read to its end where the status says so; that of a workload isn't touched.
     ensures whole { IsNone (workload_of (map (λ word. string_bytes word) words.now)) → IsReadToEnd result.status (S.left source.new) }
     ensures untouched { IsSome (workload_of (map (λ word. string_bytes word) words.now)) → source.new ≡ source.old }
+    // Where the words break a rule nothing of the source is read.
+    ensures unread { IsSome (word_fault (map (λ word. string_bytes word) words.now)) → source.new ≡ source.old }
 
-    // Where the words are valid, no count of the source or the sink rose and no limit is met, the status is that of the definition, or memory was wanting, or the disk decides it: not where it
-    // can be opened as it is handed in and doesn't fail, but by a spent counter.
+    // Where the words are valid, no count of the source or the sink rose and no limit is met, the status is that of the
+    // definition, or memory was wanting, or the disk decides it: not where it can be opened as it is handed in and doesn't fail,
+    // but by a spent counter.
     ensures complete { IsNone (word_fault (map (λ word. string_bytes word) words.now)) →
         ¬ HasRisen (S.faults source.old) (S.faults source.new) → ¬ HasRisen (K.faults sink.old) (K.faults sink.new) →
         IsWithinLimits (told_by (workload_of (map (λ word. string_bytes word) words.now)) (S.left source.old)) →
@@ -86,6 +89,7 @@ fn serve<S: Source, K: Sink, D: Disk>(
     ensures taken { IsBack (S.left source.old) (S.left source.new) }
     ensures whole { IsNone (workload_of (map (λ word. string_bytes word) words.now)) → IsReadToEnd result.status (S.left source.new) }
     ensures untouched { IsSome (workload_of (map (λ word. string_bytes word) words.now)) → source.new ≡ source.old }
+    ensures unread { IsSome (word_fault (map (λ word. string_bytes word) words.now)) → source.new ≡ source.old }
     ensures room { LAST_ROOM ≤ line.new.room }
 {
     if let Some((word, rule)) = find_word_fault(words) {
