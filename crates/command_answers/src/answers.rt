@@ -6,17 +6,16 @@ ghost use Rattle.model_conversation.specs.Terminals.{conversation_at};
 ghost use Rattle.model_system.specs.Codes.{code_at};
 ghost use Rattle.model_machine.specs.Commands as spec;
 ghost use Rattle.model_machine.specs.Machine.{output_at, terminal_at, waiting_now};
-ghost use Rattle.model_machine.specs.Pick.{current_priority};
 
 use crate::active::active;
 use conversation::Busy;
 use model_command::{Answer, Command};
 use model_machine::CommandRefused;
 use model_queues::TerminalReplies;
-use model_system::{Code, CodeState};
 use std::alloc::Global;
 use tm_machine::Parts;
 use tm_types::{Memory, Name};
+use tran_pick::current_priority;
 
 /// What a command is answered now. Only a display of the regions takes memory.
 pub fn answer_to(
@@ -82,16 +81,6 @@ fn shown_code(parts: &Parts, name: &Name) -> Result<Answer, CommandRefused>
         queued,
         stopped: state.stopped,
     })
-}
-
-fn current_priority(code: &Code, state: &CodeState) -> u8
-    ensures { result ≡ current_priority code.now state.now }
-{
-    if state.raised {
-        code.transaction.limit_priority
-    } else {
-        state.priority
-    }
 }
 
 fn shown_terminal(parts: &Parts, name: &Name) -> Result<Answer, CommandRefused>

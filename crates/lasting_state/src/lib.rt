@@ -1,7 +1,7 @@
 //! What lasts of a control region: databases, messages, replies, conversations, and the numbers of inputs and steps.
 //!
 //! `Tables` does the steps that last, each as `specs/Lasting.antt` of model_machine says by
-//! `applied`; it keeps beside what lasts the changes of the work on one message, and which region has
+//! `applied`; it keeps beside what lasts the changes of the work in each region, and which region has
 //! a message. After want of memory nothing has changed.
 #![tactic(auto)]
 

@@ -82,13 +82,8 @@ impl<D: Disk> LoggedMachine<D> {
             }
         };
         call.note(&mut self.units, &mut self.next_unit, &answer);
-        let is_lasting = call.lasts(&answer);
-        if force(
-            is_lasting,
-            &mut self.journal,
-            &mut self.disk,
-            &mut self.served,
-        ) {
+        let lasting = call.lasts(&answer);
+        if force(lasting, &mut self.journal, &mut self.disk, &mut self.served) {
             return answer;
         }
         call.fault(ControlFault::Disk)
@@ -115,13 +110,8 @@ impl<D: Disk> LoggedMachine<D> {
             room,
         )?;
         call.note(&mut self.units, &mut self.next_unit, &answer);
-        let is_lasting = call.lasts(&answer);
-        if force(
-            is_lasting,
-            &mut self.journal,
-            &mut self.disk,
-            &mut self.served,
-        ) {
+        let lasting = call.lasts(&answer);
+        if force(lasting, &mut self.journal, &mut self.disk, &mut self.served) {
             return Ok(answer);
         }
         Ok(call.fault(ControlFault::Disk))

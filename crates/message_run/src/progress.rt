@@ -72,13 +72,6 @@ impl Progress {
         })
     }
 
-    /// How many calls the script has made.
-    pub fn calls(&self) -> u64
-        ensures { result ≡ self.now.calls }
-    {
-        self.calls
-    }
-
     /// Lets the script go on to its next call, and answers that; or tells that the work has ended, or that
     /// what the call needs is blocked. Then the call isn't made, and the next turn comes to it again.
     /// A call that isn't answered is taken back, and an Err changes nothing.

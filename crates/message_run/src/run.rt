@@ -79,13 +79,6 @@ impl Run {
         })
     }
 
-    /// How many calls the script has made.
-    pub fn calls(&self) -> u64
-        ensures { result ≡ self.now.calls }
-    {
-        self.progress.calls()
-    }
-
     /// Lets the script go on to its next call, and answers that; or tells that the work has ended, or that
     /// what the call needs is blocked. Then the call isn't made, and the next turn comes to it again.
     /// An Err changes nothing.

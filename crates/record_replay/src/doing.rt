@@ -198,13 +198,7 @@ fn count_added(
 ) -> Result<(), Memory>
     ensures { OnOk result (Adds message.now.origin message.now.conversation (knows system.now kept.now.conversations message.now) tally.old tally.new) }
 {
-    let known = is_known(
-        system,
-        kept,
-        &message.origin,
-        &message.code,
-        message.conversation,
-    );
+    let known = is_of_known(system, kept, message);
     tally.add(&message.origin, message.conversation, known)
 }
 
@@ -225,6 +219,14 @@ fn complete(system: &System, kept: &mut Kept, tally: &mut Tally, id: u64) -> Res
     Ok(true)
 }
 
+/// Whether the names of a message are known, and its conversation is.
+fn is_of_known(system: &System, kept: &Kept, message: &Message) -> bool
+    ensures { result ≡ knows system.now kept.now.conversations message.now }
+{
+    let conversation = message.conversation;
+    is_known(system, kept, &message.origin, &message.code, conversation)
+}
+
 fn count_removed(
     system: &System,
     kept: &Kept,
@@ -233,12 +235,6 @@ fn count_removed(
 ) -> Result<(), Memory>
     ensures { OnOk result (Removes message.now.origin message.now.conversation (knows system.now kept.now.conversations message.now) tally.old tally.new) }
 {
-    let known = is_known(
-        system,
-        kept,
-        &message.origin,
-        &message.code,
-        message.conversation,
-    );
+    let known = is_of_known(system, kept, message);
     tally.remove(&message.origin, message.conversation, known)
 }

@@ -11,8 +11,8 @@ pub use lines::{
     quiet_line, shown_word, stopped_line, turned_line, unknown_line,
 };
 pub use outages::{
-    armed_line, bad_command_line, broken_line, checkpoint_line, down_line, image_line, opened_line,
-    power_line, up_line,
+    armed_line, bad_command_line, checkpoint_line, down_line, image_line, opened_line, power_line,
+    up_line,
 };
 pub use page::{PAGE_ROOM, page_lines};
 pub use printed::{NUMBER_ROOM, Printed};

@@ -48,14 +48,6 @@ fn taken_line(out: &mut Printed, freeze: bool, number: u64)
     out.push(b"\n");
 }
 
-/// Adds the line for a call, turns or an opening in which the disk failed.
-pub fn broken_line(out: &mut Printed)
-    requires { ANSWER_ROOM ≤ out.old.room }
-    ensures { out.new.text ≡ out.old.text ++ text.broken_text }
-{
-    out.push(b"STOPPED\n");
-}
-
 /// Adds the line for power that failed.
 pub fn power_line(out: &mut Printed)
     requires { ANSWER_ROOM ≤ out.old.room }

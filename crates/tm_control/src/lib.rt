@@ -12,8 +12,8 @@ pub use lasting_state::Shown;
 pub use logged_machine::OpenRefused;
 pub use model_command::{Answer, Command};
 pub use model_machine::{
-    AckRefused, Acked, CheckpointRefused, CommandRefused, ControlFault, Counter, InputRefused,
-    Taken, Turned,
+    AckRefused, Acked, CheckpointRefused, CommandRefused, ControlFault, Counter, Entry,
+    InputRefused, Taken, Turned,
 };
 pub use opening_answers::OpenError;
 

@@ -47,7 +47,8 @@ impl Candidate {
     }
 }
 
-fn current_priority(code: &Code, state: &CodeState) -> u8
+/// The priority of a code that counts now: the limit priority while it is raised.
+pub fn current_priority(code: &Code, state: &CodeState) -> u8
     ensures { result ≡ current_priority code.now state.now }
 {
     if state.raised {

@@ -5,6 +5,7 @@
 //! proved to be that too.
 #![tactic(auto)]
 
+pub use candidate::current_priority;
 pub use picked::Pick;
 pub use schedule::pick;
 

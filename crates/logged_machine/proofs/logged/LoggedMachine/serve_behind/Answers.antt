@@ -35,7 +35,7 @@ invariant_of-self-then-force g c =
     c.due-done.ensures.keeps c.due-done.ensures.counts c.due-done.ensures.writes c.as_slice.ensures.value c.in-Ok.ensures.before c.in-Ok.ensures.slots
     (g.C.Call.entry c.args.call.now c.in-Ok.answer) c.note.new.units.items c.note.new.next (g.met.C.Call.of_call c.args.call.now c.in-Ok.answer) (g.met.C.Call.last c.args.call.now) c.requires.within c.in-Ok.ensures.behind c.in-Ok.ensures.does c.note.ensures)
     c.force.new.journal c.force.new.disk true
-    (subst (λ b. IsForced g.D.Disk.state b true c.due-done.new.journal c.force.new.journal c.due-done.new.disk c.force.new.disk) c.lasts-is_lasting.ensures c.if-force.ensures.forced)
+    (subst (λ b. IsForced g.D.Disk.state b true c.due-done.new.journal c.force.new.journal c.due-done.new.disk c.force.new.disk) c.lasts-lasting.ensures c.if-force.ensures.forced)
     refl
 
 pub returns-then-force : goal.returns-then-force
@@ -47,7 +47,7 @@ returns-then-force g c =
           c.due-done.ensures.keeps c.due-done.ensures.counts c.due-done.ensures.writes c.as_slice.ensures.value c.in-Ok.ensures.before c.in-Ok.ensures.slots
           (g.C.Call.entry c.args.call.now c.in-Ok.answer) c.note.new.units.items c.note.new.next (g.met.C.Call.of_call c.args.call.now c.in-Ok.answer) (g.met.C.Call.last c.args.call.now) c.requires.within c.in-Ok.ensures.behind c.in-Ok.ensures.does c.note.ensures)
           c.force.new.journal c.force.new.disk true
-          (subst (λ b. IsForced g.D.Disk.state b true c.due-done.new.journal c.force.new.journal c.due-done.new.disk c.force.new.disk) c.lasts-is_lasting.ensures c.if-force.ensures.forced)
+          (subst (λ b. IsForced g.D.Disk.state b true c.due-done.new.journal c.force.new.journal c.due-done.new.disk c.force.new.disk) c.lasts-lasting.ensures c.if-force.ensures.forced)
           refl c.if-force.ensures.served;
     })
 
@@ -60,7 +60,7 @@ returns g c =
           c.due-done.ensures.keeps c.due-done.ensures.counts c.due-done.ensures.writes c.as_slice.ensures.value c.in-Ok.ensures.before c.in-Ok.ensures.slots
           (g.C.Call.entry c.args.call.now c.in-Ok.answer) c.note.new.units.items c.note.new.next (g.met.C.Call.of_call c.args.call.now c.in-Ok.answer) (g.met.C.Call.last c.args.call.now) c.requires.within c.in-Ok.ensures.behind c.in-Ok.ensures.does c.note.ensures)
           c.force.new.journal c.force.new.disk false
-          (subst (λ b. IsForced g.D.Disk.state b false c.due-done.new.journal c.force.new.journal c.due-done.new.disk c.force.new.disk) c.lasts-is_lasting.ensures c.if-force.ensures.forced)
+          (subst (λ b. IsForced g.D.Disk.state b false c.due-done.new.journal c.force.new.journal c.due-done.new.disk c.force.new.disk) c.lasts-lasting.ensures c.if-force.ensures.forced)
           refl c.if-force.ensures.served (g.C.Call.entry c.args.call.now c.fault-2.result) c.fault-2.ensures
           (after_broken c.self.inside.parts.system c.self.inside.parts.moment (g.C.Call.entry c.args.call.now c.in-Ok.answer) (g.C.Call.entry c.args.call.now c.fault-2.result) Disk
           (g.met.C.Call.of_call c.args.call.now c.fault-2.result ∙ sym (g.met.C.Call.of_call c.args.call.now c.in-Ok.answer)) c.fault-2.ensures)

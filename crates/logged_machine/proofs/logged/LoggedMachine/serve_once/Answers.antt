@@ -23,7 +23,7 @@ invariant_of-self-then-force g c =
     (attempt g.D.Disk.state (c.self.invariant (ap (λ (v : LoggedState _). v.served) c.self.view_is ∙ c.requires.served)) (subst (λ (v : LoggedState _). IsCounted 4294967296 v.machine.moment.lasting v.next_unit v.journal) (sym c.self.view_is) c.requires.counted) c.in_ok-answer.ensures.before c.in_ok-answer.ensures.behind
     (g.C.Call.entry c.args.call.now c.in_ok-answer.answer) c.note.new.units.items c.note.new.next c.as_slice.ensures.value (g.met.C.Call.of_call c.args.call.now c.in_ok-answer.answer) (g.met.C.Call.last c.args.call.now) c.requires.within c.in_ok-answer.ensures.does c.note.ensures c.in_ok-answer.ensures.told)
     c.force.new.journal c.force.new.disk true
-    (subst (λ b. IsForced g.D.Disk.state b true c.tell.new.journal c.force.new.journal c.self.inside.disk c.force.new.disk) c.lasts-is_lasting.ensures c.if-force.ensures.forced)
+    (subst (λ b. IsForced g.D.Disk.state b true c.tell.new.journal c.force.new.journal c.self.inside.disk c.force.new.disk) c.lasts-lasting.ensures c.if-force.ensures.forced)
     refl
 
 pub returns-then-force-clause-did : goal.returns-then-force-clause-did
@@ -32,7 +32,7 @@ returns-then-force-clause-did g c =
     (attempt g.D.Disk.state (c.self.invariant (ap (λ (v : LoggedState _). v.served) c.self.view_is ∙ c.requires.served)) (subst (λ (v : LoggedState _). IsCounted 4294967296 v.machine.moment.lasting v.next_unit v.journal) (sym c.self.view_is) c.requires.counted) c.in_ok-answer.ensures.before c.in_ok-answer.ensures.behind
     (g.C.Call.entry c.args.call.now c.in_ok-answer.answer) c.note.new.units.items c.note.new.next c.as_slice.ensures.value (g.met.C.Call.of_call c.args.call.now c.in_ok-answer.answer) (g.met.C.Call.last c.args.call.now) c.requires.within c.in_ok-answer.ensures.does c.note.ensures c.in_ok-answer.ensures.told)
     c.force.new.journal c.force.new.disk true
-    (subst (λ b. IsForced g.D.Disk.state b true c.tell.new.journal c.force.new.journal c.self.inside.disk c.force.new.disk) c.lasts-is_lasting.ensures c.if-force.ensures.forced)
+    (subst (λ b. IsForced g.D.Disk.state b true c.tell.new.journal c.force.new.journal c.self.inside.disk c.force.new.disk) c.lasts-lasting.ensures c.if-force.ensures.forced)
     (ap (λ (v : LoggedState _). v.served) c.self.view_is ∙ c.requires.served)
     refl c.if-force.ensures.served)
 
@@ -42,7 +42,7 @@ returns-clause-did g c =
     (attempt g.D.Disk.state (c.self.invariant (ap (λ (v : LoggedState _). v.served) c.self.view_is ∙ c.requires.served)) (subst (λ (v : LoggedState _). IsCounted 4294967296 v.machine.moment.lasting v.next_unit v.journal) (sym c.self.view_is) c.requires.counted) c.in_ok-answer.ensures.before c.in_ok-answer.ensures.behind
     (g.C.Call.entry c.args.call.now c.in_ok-answer.answer) c.note.new.units.items c.note.new.next c.as_slice.ensures.value (g.met.C.Call.of_call c.args.call.now c.in_ok-answer.answer) (g.met.C.Call.last c.args.call.now) c.requires.within c.in_ok-answer.ensures.does c.note.ensures c.in_ok-answer.ensures.told)
     c.force.new.journal c.force.new.disk false
-    (subst (λ b. IsForced g.D.Disk.state b false c.tell.new.journal c.force.new.journal c.self.inside.disk c.force.new.disk) c.lasts-is_lasting.ensures c.if-force.ensures.forced)
+    (subst (λ b. IsForced g.D.Disk.state b false c.tell.new.journal c.force.new.journal c.self.inside.disk c.force.new.disk) c.lasts-lasting.ensures c.if-force.ensures.forced)
     refl c.if-force.ensures.served (g.C.Call.entry c.args.call.now c.fault.result) c.fault.ensures
     (after_broken c.self.inside.parts.system c.self.inside.parts.moment (g.C.Call.entry c.args.call.now c.in_ok-answer.answer) (g.C.Call.entry c.args.call.now c.fault.result) Disk
     (g.met.C.Call.of_call c.args.call.now c.fault.result ∙ sym (g.met.C.Call.of_call c.args.call.now c.in_ok-answer.answer)) c.fault.ensures)
