@@ -1,7 +1,7 @@
 -- The device calls of a checkpoint, one after another.
 use Rattle.std.proofs.Common.{◌≡◌, ⊎_elim, inl, inr, ◌∙◌, subst, sym, arith, IsTrue}
-use Rattle.model_disk.specs.Disk.{Image, DiskState, IsDisk, ComesFrom, Follows, Within, Keeps, Only}
-use Rattle.model_disk.proofs.Words.{within_on, follows_no_more, follows_shown}
+use Rattle.tm_disk.specs.Disk.{Image, DiskState, IsDisk, ComesFrom, Follows, Within, Keeps, Only}
+use Rattle.tm_disk.proofs.Words.{within_on, follows_no_more, follows_shown}
 
 -- a call, and then the sync
 pub within_synced : (step : Image → Image → Type 0) (old mid new : DiskState) → Within step old mid → Follows step old mid → Keeps mid new → Within step old new

@@ -1,6 +1,6 @@
 -- What is known of each image behind a checkpoint, so that what it recovers to can be told.
 use Rattle.std.proofs.Common.{◌≡◌, ℕ, ◌+◌, ◌-◌, ◌*◌, ◌<◌, ◌≤◌, ◌^◌, length, false, sym, ◌∙◌, ap, subst, ⊎_elim, arith, None, Ok, IsSome}
-use Rattle.model_disk.specs.Disk.{Image, sector_at}
+use Rattle.tm_disk.specs.Disk.{Image, sector_at}
 use Rattle.model_machine.specs.Machine.{LastingState}
 use Rattle.log_sectors.specs.Sealed.{opened}
 use Rattle.log_writer.specs.Writer.{Writer}

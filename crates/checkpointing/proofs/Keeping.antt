@@ -3,7 +3,7 @@ use Rattle.std.proofs.Common.{◌≡◌, ◌⊎◌, ℕ, zero, suc, ◌+◌, ◌
 use Rattle.std.specs.Prelude.{slice_index_or}
 use Rattle.std.proofs.lemmas.Bool.{cases_lt}
 use Rattle.std.proofs.lemmas.List.{length-set, take_all}
-use Rattle.model_disk.specs.Disk.{Image, sector_at}
+use Rattle.tm_disk.specs.Disk.{Image, sector_at}
 use Rattle.log_records.specs.declared.record.Record.{Record}
 use Rattle.log_sectors.specs.Sealed.{opened}
 use Rattle.log_sectors.specs.Chain.{chain, joined}
@@ -25,7 +25,7 @@ use Rattle.model_image.proofs.Places.{snapshot_below, log_above, log_below, both
 use Rattle.model_image.proofs.Readings.{IsKept, restart_kept}
 use Rattle.model_image.proofs.Unread.{InFreeSnapshot, OfNamedSlot, unread_alike}
 use Rattle.checkpointing.specs.Parts.{CheckpointParts, AreFree, IsOver, sequence_behind, next_restart, next_writer}
-use Rattle.model_rows.specs.Record.{spelling}
+use Rattle.model_data.specs.Record.{spelling}
 use Rattle.seg_store.specs.Changed.{AllStores}
 use Rattle.seg_store.specs.DataSectors.{data_sector, HasPut}
 use Rattle.seg_store.specs.WriteBack.{changed_bytes}

@@ -1,7 +1,7 @@
 -- The whole of a checkpoint on a disk.
 use Rattle.std.proofs.Common.{◌≡◌, ℕ, ◌+◌, ◌*◌, ◌<◌, ◌≤◌, ◌^◌, [], refl, ap, length, ⊎_elim, inl, inr, ◌∙◌, arith, sym, subst}
-use Rattle.model_disk.specs.Disk.{Image, DiskState, IsDisk, Follows, Within, MayWrite}
-use Rattle.model_disk.proofs.Words.{follows_on, follows_where, within_where}
+use Rattle.tm_disk.specs.Disk.{Image, DiskState, IsDisk, Follows, Within, MayWrite}
+use Rattle.tm_disk.proofs.Words.{follows_on, follows_where, within_where}
 use Rattle.restart_data.specs.declared.restart.RestartSector.{RestartSector}
 use Rattle.restart_data.specs.Restart.{IsRestart, restart_sector}
 use Rattle.restart_data.specs.Snapshot as snapshot

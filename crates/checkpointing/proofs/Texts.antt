@@ -1,7 +1,7 @@
 -- A checkpoint leaves the text of the definition.
 use Rattle.std.proofs.Common.{◌≡◌, ◌⊎◌, ℕ, zero, suc, ◌+◌, ◌<◌, ◌≤◌, List, ◌++◌, take, refl, sym, ◌∙◌, ap, ⊎_elim, arith, Some, Ok}
 use Rattle.std.specs.Prelude.{Option, Result}
-use Rattle.model_disk.specs.Disk.{Image, sector_at}
+use Rattle.tm_disk.specs.Disk.{Image, sector_at}
 use Rattle.restart_data.specs.declared.restart.RestartSector.{RestartSector}
 use Rattle.restart_data.specs.Restart.{restart_of, restart_in}
 use Rattle.log_writer.specs.Writer.{Writer}

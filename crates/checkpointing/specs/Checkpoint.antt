@@ -1,6 +1,6 @@
 -- What a checkpoint leaves, once it is done.
 use Rattle.std.specs.Prelude.{◌≡◌, ◌⊎◌, ℕ, ◌+◌, ◌<◌, ◌≤◌, [], ◌++◌, length, slice_index_or, Some, Ok}
-use Rattle.model_disk.specs.Disk.{Image, sector_at}
+use Rattle.tm_disk.specs.Disk.{Image, sector_at}
 use Rattle.model_system.specs.System.{System}
 use Rattle.model_machine.specs.Machine.{LastingState}
 use Rattle.restart_data.specs.Restart.{restart_in}
@@ -9,7 +9,7 @@ use Rattle.log_writer.specs.Writer.{Writer}
 use Rattle.log_writer.specs.Log.{log_of, sectors_of, StaysOrLogs}
 use Rattle.model_image.specs.Recovered.{Recovers}
 use Rattle.checkpointing.specs.Parts.{CheckpointParts, next_restart}
-use Rattle.model_rows.specs.Record.{spelling}
+use Rattle.model_data.specs.Record.{spelling}
 use Rattle.seg_store.specs.Changed.{AllStores}
 use Rattle.seg_store.specs.DataSectors.{data_sector}
 use Rattle.model_image.specs.Areas.{data_first}

@@ -1,3 +1,8 @@
+pub mod Records
+pub mod Changes
+pub mod Spelled
+pub mod Touches
+pub mod View
 pub mod Parts
 pub mod Written
 pub mod Checkpoint

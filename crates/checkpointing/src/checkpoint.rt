@@ -1,6 +1,6 @@
 //! A checkpoint.
 ghost use Rattle.std.specs.Prelude.{◌≡◌, ◌+◌, ◌*◌, ◌<◌, ◌≤◌, ◌^◌, [], length, IfOk, OnOk, OnErr, IsErrOf, Some, slice_get};
-ghost use Rattle.model_disk.specs.Disk.{Image, Stays, Within, Follows, Only, WritesAtMost, FailedSince};
+ghost use Rattle.tm_disk.specs.Disk.{Image, Stays, Within, Follows, Only, WritesAtMost, FailedSince};
 ghost use Rattle.restart_data.specs.Restart.{IsRestart};
 ghost use Rattle.restart_data.specs.Snapshot as snapshot;
 ghost use Rattle.log_writer.specs.Log.{sectors_of, log_of, IsReady};

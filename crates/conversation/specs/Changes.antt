@@ -1,8 +1,8 @@
 -- A conversation with another pad.
 use Rattle.std.specs.Prelude.{ℕ, List}
 use Rattle.std.specs.Option.{option_map}
-use Rattle.model_conversation.specs.declared.conversation.Conversation.{Conversation}
-use Rattle.model_conversation.specs.declared.conversation.TerminalConversation.{TerminalConversation}
+use Rattle.model_messages.specs.declared.conversation.Conversation.{Conversation}
+use Rattle.model_messages.specs.declared.conversation.TerminalConversation.{TerminalConversation}
 
 -- the same conversation with this pad, whatever its length is
 abbrev pub with_text : List ℕ → Conversation → Conversation

@@ -1,7 +1,7 @@
 -- What a terminal's conversation answers.
 use Rattle.std.specs.Prelude.{◌≡◌, ℕ, nat_lt, if◌then◌else◌, length, List, Option, None, Some, Result, Ok, Err}
-use Rattle.model_conversation.specs.declared.conversation.Conversation.{Conversation}
-use Rattle.model_conversation.specs.Pads.{ends, is_pad, with_pad}
+use Rattle.model_messages.specs.declared.conversation.Conversation.{Conversation}
+use Rattle.model_messages.specs.Pads.{ends, is_pad, with_pad}
 use Rattle.conversation.specs.declared.conversations.Busy.{Busy}
 use Rattle.conversation.specs.declared.pads.PadRefused.{PadRefused}
 use Rattle.conversation.specs.declared.pads.PadRefused.TheVariants.{BadSpa, Memory}

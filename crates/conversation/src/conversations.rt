@@ -1,16 +1,16 @@
 //! The conversations of all terminals.
 ghost use Rattle.std.specs.Prelude.{◌≡◌, None, Some, map, IsSomeAnd, IsSome, OnOk, OnErr, IfOk, IfErr};
 ghost use Rattle.std.specs.Option.{option_copied};
-ghost use Rattle.model_queues.specs.Queue.{messages_of};
-ghost use Rattle.model_conversation.specs.Terminals.{without_conversation, conversation_at, pad_at, IsTerminal, with_terminal, with_conversation};
-ghost use Rattle.model_conversation.specs.Pads.{begun};
+ghost use Rattle.model_messages.specs.Queue.{messages_of};
+ghost use Rattle.model_messages.specs.Terminals.{without_conversation, conversation_at, pad_at, IsTerminal, with_terminal, with_conversation};
+ghost use Rattle.model_messages.specs.Pads.{begun};
 ghost use Rattle.conversation.specs.Changes.{with_new_pad};
 ghost use Rattle.conversation.specs.Refusals.{RefusesPad, input_answer, update_fault, updated};
-ghost use Rattle.model_conversation.specs.Input.{busy_id};
+ghost use Rattle.model_messages.specs.Input.{busy_id};
 
 use crate::pads::PadRefused;
 use crate::{pads, table};
-use model_conversation::{Conversation, TerminalConversation};
+use model_messages::{Conversation, TerminalConversation};
 use msg_queues::Queues;
 use std::alloc::Global;
 use std::marker::Model;
@@ -33,7 +33,7 @@ pub struct Conversations {
 
 impl Model for Conversations {
     ghost use Rattle.std.specs.Prelude.{List};
-    ghost use Rattle.model_conversation.specs.declared.conversation.TerminalConversation.{TerminalConversation};
+    ghost use Rattle.model_messages.specs.declared.conversation.TerminalConversation.{TerminalConversation};
 
     ghost Value = { List TerminalConversation };
 

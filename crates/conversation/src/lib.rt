@@ -8,7 +8,7 @@
 
 pub use conversations::{Busy, Conversations};
 pub use messages::is_conversing;
-pub use model_conversation::{Conversation, TerminalConversation};
+pub use model_messages::{Conversation, TerminalConversation};
 pub use pads::{PadRefused, begun};
 pub use table::without_conversations;
 

@@ -1,9 +1,9 @@
 //! Scratch pads.
 ghost use Rattle.std.specs.Prelude.{◌≡◌, None, IfOk, IfErr, OnOk};
-ghost use Rattle.model_conversation.specs.Pads.{begun, with_pad};
+ghost use Rattle.model_messages.specs.Pads.{begun, with_pad};
 ghost use Rattle.conversation.specs.Refusals.{RefusesPad, update_fault, updated};
 
-use model_conversation::{CODE_BYTES, Conversation, code_field, ends, fitted, is_pad};
+use model_messages::{CODE_BYTES, Conversation, code_field, ends, fitted, is_pad};
 use std::alloc::Global;
 use thiserror::Error;
 use tm_types::{Bytes, Memory, Name};

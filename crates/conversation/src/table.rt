@@ -1,10 +1,10 @@
 //! The terminals of a system by their names.
 ghost use Rattle.std.specs.Prelude.{◌≡◌, map, position, IfOk};
 ghost use Rattle.std.specs.Option.{option_copied};
-ghost use Rattle.model_conversation.specs.Terminals.{without_conversation, is_of, conversation_at, with_terminal, with_conversation};
+ghost use Rattle.model_messages.specs.Terminals.{without_conversation, is_of, conversation_at, with_terminal, with_conversation};
 ghost use Rattle.conversation.specs.Changes.{with_new_pad};
 
-use model_conversation::{Conversation, TerminalConversation};
+use model_messages::{Conversation, TerminalConversation};
 use std::alloc::Global;
 use tm_types::{Bytes, Memory, Name};
 

@@ -8,11 +8,11 @@ use Rattle.std.proofs.lemmas.List.Elements.{All-cons, All-append, filter-append}
 use Rattle.std.proofs.lemmas.List.{length-map}
 use Rattle.std.proofs.lemmas.List.Sorted.{IsPermutation-append_comm}
 use Rattle.std.proofs.lemmas.Map.Keys.{IsDistinct-IsPermutation}
-use Rattle.model_enqueue.specs.declared.request.Request.{Request}
-use Rattle.model_enqueue.specs.declared.victim.Victim.{Victim}
-use Rattle.model_enqueue.specs.Table.{EnqueueTable, blockers, blocked_by, wait_of, waits_for}
-use Rattle.model_enqueue.specs.Ask.{granted, waiting, waits_only_for, waits_for_nothing, released, after_asks, first_blocked}
-use Rattle.model_enqueue.specs.Cycle.{IsRegion, WaitsAlong, IsRing, IsCycle, HasNoCycle, changes_of, gives_way, victim_of, Breaks, after_victims}
+use Rattle.model_data.specs.declared.request.Request.{Request}
+use Rattle.model_data.specs.declared.victim.Victim.{Victim}
+use Rattle.model_data.specs.Table.{EnqueueTable, blockers, blocked_by, wait_of, waits_for}
+use Rattle.model_data.specs.Ask.{granted, waiting, waits_only_for, waits_for_nothing, released, after_asks, first_blocked}
+use Rattle.model_data.specs.Cycle.{IsRegion, WaitsAlong, IsRing, IsCycle, HasNoCycle, changes_of, gives_way, victim_of, Breaks, after_victims}
 use Rattle.pi_enqueue.specs.Kept.{IsKept, Upgrades, Waits, waiting_regions}
 use Rattle.pi_enqueue.proofs.Granting.{clash}
 use Rattle.pi_enqueue.proofs.Ascending.{all_map}

@@ -7,11 +7,11 @@ use Rattle.std.specs.Option.{option_map_or, is_some}
 use Rattle.std.specs.BTreeMap.{is_at}
 use Rattle.std.proofs.lemmas.Bool.{eq-eqb, ne_eqb, eqb-true}
 use Rattle.tm_types.specs.declared.resource.Mode.{Mode}
-use Rattle.model_enqueue.specs.declared.request.Holder.{Holder}
-use Rattle.model_enqueue.specs.declared.request.Request.{Request}
-use Rattle.model_enqueue.specs.Modes.{same_resource, serves, holder_cmp}
-use Rattle.model_enqueue.specs.Table.{EnqueueTable, mode_held, is_upgrade, is_against, holders_against, is_own, ahead, blockers, blocked_by, wait_of, waits_for}
-use Rattle.model_enqueue.specs.Ask.{asker, granted_mode, with_hold, placed, granted, waiting, waits_only_for, waits_for_nothing, released, after_asks}
+use Rattle.model_data.specs.declared.request.Holder.{Holder}
+use Rattle.model_data.specs.declared.request.Request.{Request}
+use Rattle.model_data.specs.Modes.{same_resource, serves, holder_cmp}
+use Rattle.model_data.specs.Table.{EnqueueTable, mode_held, is_upgrade, is_against, holders_against, is_own, ahead, blockers, blocked_by, wait_of, waits_for}
+use Rattle.model_data.specs.Ask.{asker, granted_mode, with_hold, placed, granted, waiting, waits_only_for, waits_for_nothing, released, after_asks}
 use Rattle.pi_enqueue.proofs.Keys.{holder_total, holder_exact, resource_exact}
 use Rattle.pi_enqueue.proofs.Ascending.{filter_inserted}
 use Rattle.pi_enqueue.proofs.Granting.{clash, and_split}

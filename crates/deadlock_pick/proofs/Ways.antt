@@ -11,8 +11,8 @@ use Rattle.std.proofs.lemmas.List.Elements.{All-cons, All-tail, All-push}
 use Rattle.std.proofs.lemmas.Map.Keys.{IsDistinct-head, IsDistinct-tail, IsDistinct-cons, IsDistinct-push}
 use Rattle.std.proofs.lemmas.Map.Steps.{length-le_from_distinct_below}
 use Rattle.std.proofs.lemmas.Cmp.{nat_eq_equiv}
-use Rattle.model_enqueue.specs.Table.{EnqueueTable, waits_for}
-use Rattle.model_enqueue.specs.Cycle.{IsRegion, WaitsAlong, IsRing, IsCycle, IsLeastCycle, HasNoCycle}
+use Rattle.model_data.specs.Table.{EnqueueTable, waits_for}
+use Rattle.model_data.specs.Cycle.{IsRegion, WaitsAlong, IsRing, IsCycle, IsLeastCycle, HasNoCycle}
 use Rattle.deadlock_pick.specs.Way.{WaitsTo, IsWayOf, BeginsWith, IsLeastOf, HasNoneOf}
 
 clash : {P : Type 0} → true ≡ false → P

@@ -1,7 +1,7 @@
 -- Tables in which no regions wait for one another in a ring.
 use Rattle.std.specs.Prelude.{ℕ}
-use Rattle.model_enqueue.specs.Table.{EnqueueTable}
-use Rattle.model_enqueue.specs.Cycle.{IsRegion, HasNoCycle}
+use Rattle.model_data.specs.Table.{EnqueueTable}
+use Rattle.model_data.specs.Cycle.{IsRegion, HasNoCycle}
 
 -- no cycle goes through any region
 abbrev pub HasNoCycles : EnqueueTable → Type 0

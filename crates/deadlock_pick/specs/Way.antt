@@ -3,8 +3,8 @@ use Rattle.std.specs.Prelude.{◌≡◌, ℕ, nat_eq, false, List, [], ◌∷◌
 use Rattle.std.specs.List.{IsDistinct}
 use Rattle.std.specs.Ordering.{nat_cmp, is_gt}
 use Rattle.std.specs.Cmp.Lexicographic.{slice_cmp}
-use Rattle.model_enqueue.specs.Table.{EnqueueTable, waits_for}
-use Rattle.model_enqueue.specs.Cycle.{IsRegion, IsCycle}
+use Rattle.model_data.specs.Table.{EnqueueTable, waits_for}
+use Rattle.model_data.specs.Cycle.{IsRegion, IsCycle}
 
 -- each region waits for the next, up to the last one
 abbrev pub WaitsTo : EnqueueTable → ℕ → List ℕ → ℕ → Type 0

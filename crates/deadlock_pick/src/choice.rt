@@ -1,11 +1,11 @@
 //! The region that gives way.
 ghost use Rattle.std.specs.Prelude.{◌≡◌, ◌≤◌, ◌<◌, length};
 ghost use Rattle.std.specs.List.{AllByRecursion};
-ghost use Rattle.model_enqueue.specs.Cycle.{gives_way, victim_of};
+ghost use Rattle.model_data.specs.Cycle.{gives_way, victim_of};
 ghost use Rattle.deadlock_pick.specs.Weighed.{IsWeighed};
 
 use crate::Weights;
-use model_enqueue::Cycle;
+use model_data::Cycle;
 
 /// The region of the ring that gives way: that whose unit has changed fewest records, on a tie the
 /// highest region. This takes no memory.

@@ -6,7 +6,7 @@
 #![tactic(auto)]
 
 pub use choice::victim;
-pub use model_enqueue::Cycle;
+pub use model_data::Cycle;
 pub use search::{cycle_through, least_cycle};
 pub use weights::Weights;
 

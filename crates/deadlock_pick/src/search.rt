@@ -1,11 +1,11 @@
 //! The search for rings.
 ghost use Rattle.std.specs.Prelude.{◌≡◌, ◌≤◌, ◌<◌, ◌∷◌, [], ◌++◌, length, IfSome, IfNone, IfOk, IsOk, MatchOption, not, ◌&&◌, nat_eq};
 ghost use Rattle.std.specs.List.{list_any};
-ghost use Rattle.model_enqueue.specs.Table.{waits_for};
-ghost use Rattle.model_enqueue.specs.Cycle.{IsRegion, IsLeastCycle, HasNoCycle};
+ghost use Rattle.model_data.specs.Table.{waits_for};
+ghost use Rattle.model_data.specs.Cycle.{IsRegion, IsLeastCycle, HasNoCycle};
 ghost use Rattle.deadlock_pick.specs.Way.{IsWayOf, IsLeastOf, HasNoneOf};
 
-use model_enqueue::Cycle;
+use model_data::Cycle;
 use pi_enqueue::Table;
 use tm_types::Memory;
 

@@ -1,6 +1,6 @@
 //! How many records each region's unit has changed.
 ghost use Rattle.std.specs.Prelude.{◌≡◌, ◌<◌, ◌≤◌, [], ◌∷◌, ◌++◌, length};
-ghost use Rattle.model_enqueue.specs.Cycle.{changes_of};
+ghost use Rattle.model_data.specs.Cycle.{changes_of};
 
 use std::marker::Model;
 
@@ -14,7 +14,7 @@ pub struct Weights {
 
 impl Model for Weights {
     ghost use Rattle.std.specs.Prelude.{◌≡◌, ◌≤◌, ◌++◌, ℕ, List, length, take, drop};
-    ghost use Rattle.model_enqueue.specs.Padded.{no_regions, padded};
+    ghost use Rattle.model_data.specs.Padded.{no_regions, padded};
 
     ghost Value = { List ℕ };
 

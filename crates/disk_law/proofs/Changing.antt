@@ -9,17 +9,17 @@ use Rattle.std.proofs.lemmas.List.Concat.{flat_map-cons}
 use Rattle.std.proofs.lemmas.List.Elements.{filter-append}
 use Rattle.std.proofs.lemmas.List.Folds.{list_any-append}
 use Rattle.tm_types.specs.declared.dbd.Dbd.{Dbd}
-use Rattle.model_disk.specs.Disk.{Image}
+use Rattle.tm_disk.specs.Disk.{Image}
 use Rattle.model_system.specs.System.{System}
 use Rattle.log_records.specs.declared.record.Record.{Record}
 use Rattle.log_records.specs.Spelling.{spelling, IsRecord}
 use Rattle.log_records.proofs.Takes.{IsBytes}
 use Rattle.model_image.specs.Slots.{is_change_of, is_sync_point_of, is_synced, is_image, are_images, is_image_of, named_by}
-use Rattle.replay_law.specs.Records.{is_change}
-use Rattle.replay_law.proofs.Bools.{first_of, second_of, neither_first}
-use Rattle.replay_law.proofs.Lists.{all_more}
-use Rattle.slot_law.specs.Committed.{Touch, Touches, Bytes, changes_of, IsLast, AreCommitted, is_place, touched}
-use Rattle.slot_law.proofs.Slots.{change_keeps, ended_keeps}
+use Rattle.image_law.specs.Records.{is_change}
+use Rattle.image_law.proofs.Bools.{first_of, second_of, neither_first}
+use Rattle.image_law.proofs.Lists.{all_more}
+use Rattle.disk_law.specs.Committed.{Touch, Touches, Bytes, changes_of, IsLast, AreCommitted, is_place, touched}
+use Rattle.disk_law.proofs.Slots.{change_keeps, ended_keeps}
 use Rattle.disk_law.specs.Life.{LifeOnDisk, IsLife, AreBeside}
 use Rattle.disk_law.specs.Kept.{IsKept, StandsAt}
 use Rattle.disk_law.specs.Changes.{SlotChange, change_record, with_slot_change, MayChange, with_slot_changes, MayChangeAll, without_unit, MarksBack}

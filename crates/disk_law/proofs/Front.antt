@@ -3,7 +3,7 @@ use Rattle.std.proofs.Common.{◌≡◌, ℕ, ◌+◌, ◌≤◌, Bool, true, fa
 use Rattle.std.specs.Prelude.{if◌then◌else◌}
 use Rattle.std.specs.List.{list_any, flat_map, AllByRecursion}
 use Rattle.std.proofs.lemmas.List.Elements.{filter-append}
-use Rattle.model_disk.specs.Disk.{Image}
+use Rattle.tm_disk.specs.Disk.{Image}
 use Rattle.model_machine.specs.Machine.{LastingState}
 use Rattle.log_records.specs.declared.record.Record.{Record}
 use Rattle.log_records.specs.declared.record.Record.TheVariants.{Input, Command, Reply, Discarded, Completed, Acknowledged, SyncPoint, Checkpoint, Terminal, Code, Change}
@@ -15,9 +15,9 @@ use Rattle.model_image.specs.Cut.{cut_of}
 use Rattle.model_image.specs.Slots.{is_sync_point_of, is_image_of, named_by}
 use Rattle.model_image.specs.Replay.{Replay, replay_all}
 use Rattle.model_image.specs.Recovered.{log_in, Recovers}
-use Rattle.replay_law.specs.Records.{is_change, without_changes}
-use Rattle.replay_law.proofs.Replayed.{all_take, appended}
-use Rattle.slot_law.specs.Committed.{Bytes}
+use Rattle.image_law.specs.Records.{is_change, without_changes}
+use Rattle.image_law.proofs.Replayed.{all_take, appended}
+use Rattle.disk_law.specs.Committed.{Bytes}
 use Rattle.disk_law.specs.Life.{LifeOnDisk, IsLife, IsWriterOf, SpellRows, but_rows}
 use Rattle.disk_law.specs.Kept.{IsKept, StandsAt, beginning}
 use Rattle.model_image.specs.Holding.{HoldsBytes}

@@ -9,10 +9,10 @@ use Rattle.std.proofs.lemmas.List.Folds.{list_any-append}
 use Rattle.log_records.specs.declared.record.Record.{Record}
 use Rattle.log_records.specs.declared.record.Record.TheVariants.{Input, Command, Reply, Discarded, Completed, Acknowledged, SyncPoint, Checkpoint, Terminal, Code, Change}
 use Rattle.model_image.specs.Slots.{is_change_of, is_sync_point_of, is_synced, before_image, after_image, named_by}
-use Rattle.slot_law.specs.Committed.{Touches, Bytes, changes_of, AreCommitted}
-use Rattle.slot_law.proofs.Slots.{quiet_keeps}
-use Rattle.replay_law.proofs.Bools.{first_of, second_of, neither_first, neither_second}
-use Rattle.replay_law.proofs.Lists.{none_filter}
+use Rattle.disk_law.specs.Committed.{Touches, Bytes, changes_of, AreCommitted}
+use Rattle.disk_law.proofs.Slots.{quiet_keeps}
+use Rattle.image_law.proofs.Bools.{first_of, second_of, neither_first, neither_second}
+use Rattle.image_law.proofs.Lists.{none_filter}
 use Rattle.disk_law.specs.Quiet.{is_quiet}
 
 -- what the changes of a slot say, by which of them count

@@ -5,9 +5,9 @@ use Rattle.std.specs.Option.{option_map, option_map_or}
 use Rattle.std.specs.List.{AllByRecursion}
 use Rattle.std.proofs.lemmas.Option.{slice_get_within, slice_get-map}
 use Rattle.tm_types.specs.declared.dbd.Dbd.{Dbd}
-use Rattle.model_disk.specs.Disk.{Image, sector_at}
-use Rattle.model_rows.specs.declared.row.Row.{Row}
-use Rattle.model_rows.specs.Record as rows
+use Rattle.tm_disk.specs.Disk.{Image, sector_at}
+use Rattle.model_data.specs.declared.row.Row.{Row}
+use Rattle.model_data.specs.Record as rows
 use Rattle.model_system.specs.System.{System}
 use Rattle.model_machine.specs.Machine.{LastingState}
 use Rattle.log_records.specs.declared.record.Record.{Record}
@@ -21,7 +21,7 @@ use Rattle.model_image.specs.Faults.{Fault, in_sector, or_fault, unless_fault}
 use Rattle.model_image.specs.Slots.{slot_in, slots_by, named_by, rows_from}
 use Rattle.model_image.specs.Replay.{Replay, replay_all}
 use Rattle.model_image.specs.Recovered.{snapshot_from, log_in, log_from, state_from, first_later, later_sector, state_with, state_by, rest_by, log_rest, Recovers}
-use Rattle.slot_law.specs.Committed.{Bytes}
+use Rattle.disk_law.specs.Committed.{Bytes}
 use Rattle.disk_law.specs.Life.{EachSlot, SpellRows, but_rows}
 use Rattle.disk_law.specs.Kept.{StandsAt, beginning}
 use Rattle.disk_law.proofs.Naming.{NamedAs}

@@ -11,18 +11,18 @@ use Rattle.std.proofs.lemmas.Nat.{from_be_bytes-to_be_bytes_2}
 use Rattle.tm_types.specs.declared.dbd.Dbd.{Dbd}
 use Rattle.tm_types.specs.SegTypes.{IsHierarchy}
 use Rattle.tm_disk.specs.Sector.{zeros}
-use Rattle.model_disk.specs.Disk.{Image}
-use Rattle.model_rows.specs.declared.row.Row.{Row}
-use Rattle.model_rows.specs.Path.{root_of}
-use Rattle.model_rows.specs.Record.{spelling, IsRecord}
-use Rattle.model_rows.proofs.Order.{key_total}
+use Rattle.tm_disk.specs.Disk.{Image}
+use Rattle.model_data.specs.declared.row.Row.{Row}
+use Rattle.model_data.specs.Path.{root_of}
+use Rattle.model_data.specs.Record.{spelling, IsRecord}
+use Rattle.model_data.proofs.Order.{key_total}
 use Rattle.model_system.specs.System.{System}
 use Rattle.log_records.specs.declared.record.Record.{Record}
 use Rattle.restart_data.specs.Fields.{number2_at, are_zeros}
 use Rattle.restart_data.proofs.Zeros.{are_zeros-zeros}
 use Rattle.seg_store.specs.Slots.{Stored, IsSlot, AtMostOne, is_free, image_root, has_root, place_of, rows_of_slots}
 use Rattle.seg_store.specs.DataSectors.{data_sector}
-use Rattle.slot_loading.proofs.Spelled.{spells_rows, no_bytes}
+use Rattle.image_loading.proofs.Spelled.{spells_rows, no_bytes}
 use Rattle.model_image.specs.Areas.{data_first}
 use Rattle.model_image.specs.Faults.{Fault, unless_fault}
 use Rattle.model_image.specs.Slots.{Slot, Source, source_of, slots_by, slot_in, all_slots, slot_fault, rows_of, rows_from, rows_of_bytes, used_in, bytes_in, is_image, is_wrong_length, has_wrong_length, has_no_record, rows_in, have_one_root, first_shared, first_in}

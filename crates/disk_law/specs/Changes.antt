@@ -8,7 +8,7 @@ use Rattle.log_records.proofs.Takes.{IsBytes}
 use Rattle.log_writer.specs.Writer.{Writer}
 use Rattle.log_writer.specs.Log.{sectors_of}
 use Rattle.model_image.specs.Slots.{is_image_of}
-use Rattle.slot_law.specs.Committed.{Bytes, Touches, is_place, with_touch, without_touches, without_sync}
+use Rattle.disk_law.specs.Committed.{Bytes, Touches, is_place, with_touch, without_touches, without_sync}
 use Rattle.disk_law.specs.Life.{LifeOnDisk, EachSlot}
 
 -- ---- a slot is changed, with its record

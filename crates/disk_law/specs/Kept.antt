@@ -1,7 +1,7 @@
 -- What each image that a stop may leave has of a life.
 use Rattle.std.specs.Prelude.{◌≡◌, ◌⊎◌, ℕ, ◌+◌, ◌*◌, true, false, List, [], ◌++◌, IsSome, Some, None, Ok}
 use Rattle.std.specs.List.{list_any, flat_map, AllByRecursion}
-use Rattle.model_disk.specs.Disk.{Image, DiskState, sector_at}
+use Rattle.tm_disk.specs.Disk.{Image, DiskState, sector_at}
 use Rattle.model_system.specs.System.{System}
 use Rattle.model_machine.specs.Machine.{LastingState}
 use Rattle.log_records.specs.declared.record.Record.{Record}
@@ -16,7 +16,7 @@ use Rattle.model_image.specs.Snapshot.{snapshot_state}
 use Rattle.model_image.specs.Slots.{named_by, is_synced}
 use Rattle.model_image.specs.Replay.{Replay, replay_all}
 use Rattle.model_image.specs.Recovered.{snapshot_from, first_later, Recovers}
-use Rattle.slot_law.specs.Committed.{AreCommitted}
+use Rattle.disk_law.specs.Committed.{AreCommitted}
 use Rattle.disk_law.specs.Life.{LifeOnDisk, EachSlot, but_rows}
 use Rattle.model_image.specs.Text.{text_in}
 

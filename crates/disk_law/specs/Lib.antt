@@ -1,5 +1,12 @@
+pub mod Committed
 pub mod Life
 pub mod Quiet
 pub mod Kept
 pub mod Changes
 pub mod Journal
+pub mod Steps
+pub mod Lasting
+pub mod Checkpointing
+pub mod Opening
+pub mod Counted
+pub mod Units

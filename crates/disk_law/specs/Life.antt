@@ -3,8 +3,8 @@ use Rattle.std.specs.Prelude.{◌≡◌, ℕ, ◌+◌, ◌^◌, ◌<◌, ◌≤�
 use Rattle.std.specs.List.{list_all, flat_map, AllByRecursion}
 use Rattle.std.specs.Option.{option_map_or}
 use Rattle.tm_types.specs.declared.dbd.Dbd.{Dbd}
-use Rattle.model_rows.specs.declared.row.Row.{Row}
-use Rattle.model_rows.specs.Record as rows
+use Rattle.model_data.specs.declared.row.Row.{Row}
+use Rattle.model_data.specs.Record as rows
 use Rattle.model_system.specs.System.{System}
 use Rattle.model_machine.specs.Machine.{LastingState, empty_state}
 use Rattle.log_records.specs.declared.record.Record.{Record}
@@ -17,8 +17,8 @@ use Rattle.seg_store.specs.Slots.{Stored, AreSlots, rows_of_slots}
 use Rattle.model_image.specs.Areas.{log_first}
 use Rattle.model_image.specs.Slots.{is_image_of}
 use Rattle.model_image.specs.States.{breaks_a_rule}
-use Rattle.replay_law.specs.Records.{without_changes}
-use Rattle.slot_law.specs.Committed.{Bytes, Touches, Touch}
+use Rattle.image_law.specs.Records.{without_changes}
+use Rattle.disk_law.specs.Committed.{Bytes, Touches, Touch}
 
 pub record LifeOnDisk : Type 0 where
   pub system : System

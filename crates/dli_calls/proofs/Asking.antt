@@ -8,14 +8,14 @@ use Rattle.std.proofs.lemmas.Cmp.{tied_itself}
 use Rattle.tm_types.specs.declared.dbd.SegType.{SegType}
 use Rattle.tm_types.specs.declared.ssa.Ssa.{Ssa}
 use Rattle.tm_types.specs.SegTypes.{type_at}
-use Rattle.model_rows.specs.declared.row.Row.{Row}
-use Rattle.model_rows.specs.Path.{pair_cmp, path_cmp, root_of, end_type, end_key, parent_path, IsPath, IsPathBelow}
-use Rattle.model_rows.specs.Rows.{record_of}
-use Rattle.model_rows.proofs.Order.{pair_total, exact_pair}
-use Rattle.model_rows.proofs.Records.{is_eq-true}
-use Rattle.model_dli.specs.Search.{number_named, pair_eq, is_there}
-use Rattle.model_dli.specs.Change.{asked_pair, insert_path}
-use Rattle.model_dli.specs.Conditions.{AreInsertSsas}
+use Rattle.model_data.specs.declared.row.Row.{Row}
+use Rattle.model_data.specs.Path.{pair_cmp, path_cmp, root_of, end_type, end_key, parent_path, IsPath, IsPathBelow}
+use Rattle.model_data.specs.Rows.{record_of}
+use Rattle.model_data.proofs.Order.{pair_total, exact_pair}
+use Rattle.model_data.proofs.Records.{is_eq-true}
+use Rattle.model_data.specs.Search.{number_named, pair_eq, is_there}
+use Rattle.model_data.specs.Change.{asked_pair, insert_path}
+use Rattle.model_data.specs.Conditions.{AreInsertSsas}
 use Rattle.dli_calls.specs.Edited.{AreNamed}
 use Rattle.row_search.proofs.Within.{pair_same, pair_itself}
 use Rattle.row_search.proofs.Places.{there_in_record}

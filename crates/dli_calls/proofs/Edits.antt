@@ -11,20 +11,20 @@ use Rattle.std.proofs.lemmas.List.Elements.{filter-append}
 use Rattle.std.proofs.lemmas.Cmp.{tied_itself}
 use Rattle.tm_types.specs.declared.dbd.Dbd.{Dbd}
 use Rattle.tm_types.specs.SegTypes.{IsHierarchy}
-use Rattle.model_rows.specs.declared.row.Row.{Row}
-use Rattle.model_rows.specs.Path.{key_cmp, path_cmp, root_of, end_type, end_key, parent_path, IsPath}
-use Rattle.model_rows.specs.Row.{HasPath, IsRow, row_cmp}
-use Rattle.model_rows.specs.Record.{IsUnder}
-use Rattle.model_rows.specs.Rows.{record_of, rows_before, rows_after, with_record, IsImage, AreRows}
-use Rattle.model_rows.proofs.Order.{key_total, path_total, exact_path, turned_less, turned_greater}
-use Rattle.model_rows.proofs.Lists.{all_then, all_both, all_append, all_filter, sorted_append, sorted_filter}
-use Rattle.model_rows.proofs.Filters.{filter_all, filter_none, filter_passes}
-use Rattle.model_rows.proofs.Records.{is_eq-true, is_gt-true, is_lt-true}
-use Rattle.model_rows.proofs.Paths.{path_parts}
-use Rattle.model_rows.proofs.Under.{row_among, has_front, has_back}
-use Rattle.model_rows.proofs.Whole.{has_filter, root_less}
-use Rattle.model_dli.specs.Search.{is_within}
-use Rattle.model_dli.specs.Change.{with_row, row_with, with_data, without}
+use Rattle.model_data.specs.declared.row.Row.{Row}
+use Rattle.model_data.specs.Path.{key_cmp, path_cmp, root_of, end_type, end_key, parent_path, IsPath}
+use Rattle.model_data.specs.Row.{HasPath, IsRow, row_cmp}
+use Rattle.model_data.specs.Record.{IsUnder}
+use Rattle.model_data.specs.Rows.{record_of, rows_before, rows_after, with_record, IsImage, AreRows}
+use Rattle.model_data.proofs.Order.{key_total, path_total, exact_path, turned_less, turned_greater}
+use Rattle.model_data.proofs.Lists.{all_then, all_both, all_append, all_filter, sorted_append, sorted_filter}
+use Rattle.model_data.proofs.Filters.{filter_all, filter_none, filter_passes}
+use Rattle.model_data.proofs.Records.{is_eq-true, is_gt-true, is_lt-true}
+use Rattle.model_data.proofs.Paths.{path_parts}
+use Rattle.model_data.proofs.Under.{row_among, has_front, has_back}
+use Rattle.model_data.proofs.Whole.{has_filter, root_less}
+use Rattle.model_data.specs.Search.{is_within}
+use Rattle.model_data.specs.Change.{with_row, row_with, with_data, without}
 use Rattle.row_search.proofs.Rising.{rows_rising, split_at_root, record_under}
 use Rattle.row_search.proofs.Within.{within_parts, within_append, within_root}
 

@@ -5,3 +5,10 @@ pub mod Setting
 pub mod Standing
 pub mod Removing
 pub mod Naming
+pub mod Keys
+pub mod Walk
+pub mod Front
+pub mod Same
+pub mod Changes
+pub mod Kept
+pub mod Stands

@@ -13,16 +13,16 @@ use Rattle.tm_types.specs.declared.dbd.Dbd.{Dbd}
 use Rattle.tm_types.specs.declared.resource.Mode.{Mode}
 use Rattle.tm_types.specs.declared.ssa.Ssa.{Ssa}
 use Rattle.tm_types.specs.SegTypes.{IsHierarchy}
-use Rattle.model_rows.specs.declared.row.Row.{Row}
-use Rattle.model_rows.specs.Path.{key_cmp, root_of, IsPath}
-use Rattle.model_rows.specs.Rows.{record_of, roots, next_root, AreRows}
-use Rattle.model_rows.proofs.Order.{key_total}
-use Rattle.model_rows.proofs.Lists.{all_then, sorted_filter}
-use Rattle.model_rows.proofs.Filters.{filter_all, filter_within, filter_passes, find_first}
-use Rattle.model_rows.proofs.Records.{is_lt-true}
-use Rattle.model_dli.specs.declared.need.Need.{Need}
-use Rattle.model_dli.specs.Search.{first_after}
-use Rattle.model_dli.specs.Footprint.{record_need, behind, along, onward}
+use Rattle.model_data.specs.declared.row.Row.{Row}
+use Rattle.model_data.specs.Path.{key_cmp, root_of, IsPath}
+use Rattle.model_data.specs.Rows.{record_of, roots, next_root, AreRows}
+use Rattle.model_data.proofs.Order.{key_total}
+use Rattle.model_data.proofs.Lists.{all_then, sorted_filter}
+use Rattle.model_data.proofs.Filters.{filter_all, filter_within, filter_passes, find_first}
+use Rattle.model_data.proofs.Records.{is_lt-true}
+use Rattle.model_data.specs.declared.need.Need.{Need}
+use Rattle.model_data.specs.Search.{first_after}
+use Rattle.model_data.specs.Footprint.{record_need, behind, along, onward}
 use Rattle.row_search.proofs.Finding.{find_front, find_back}
 use Rattle.row_search.proofs.Keys.{roots_ascending, by_records}
 use Rattle.row_search.proofs.Needing.{walk, next_fits, walk_head, onward_is, found_here, found_behind}

@@ -11,17 +11,17 @@ use Rattle.tm_types.specs.declared.ssa.Ssa.{Ssa}
 use Rattle.tm_types.specs.declared.status.Status.TheVariants.{GE, II, DJ, DA}
 use Rattle.tm_types.specs.Segment.{is_printable}
 use Rattle.tm_types.specs.SegTypes.{IsHierarchy, type_at}
-use Rattle.model_rows.specs.declared.row.Row.{Row}
-use Rattle.model_rows.specs.Path.{key_cmp, path_cmp, end_type, end_key, parent_path, IsChild, IsPath, IsPathBelow}
-use Rattle.model_rows.specs.Row.{HasPath, IsRow}
-use Rattle.model_rows.proofs.Order.{exact_path}
-use Rattle.model_rows.proofs.Records.{is_eq-true}
-use Rattle.model_rows.proofs.Under.{has_with}
-use Rattle.model_rows.proofs.Paths.{some_and, some_and_at, type_known}
+use Rattle.model_data.specs.declared.row.Row.{Row}
+use Rattle.model_data.specs.Path.{key_cmp, path_cmp, end_type, end_key, parent_path, IsChild, IsPath, IsPathBelow}
+use Rattle.model_data.specs.Row.{HasPath, IsRow}
+use Rattle.model_data.proofs.Order.{exact_path}
+use Rattle.model_data.proofs.Records.{is_eq-true}
+use Rattle.model_data.proofs.Under.{has_with}
+use Rattle.model_data.proofs.Paths.{some_and, some_and_at, type_known}
 use Rattle.std.proofs.lemmas.Map.Lookups.{exact_bytes}
-use Rattle.model_dli.specs.Search.{fitted, number_named, key_length, data_length, asked_number, is_there}
-use Rattle.model_dli.specs.Change.{key_bytes, asked_pair, insert_path, insert_row, insert_fault, replace_fault, delete_fault}
-use Rattle.model_dli.specs.Conditions.{NamesChild, AreInsertSsas}
+use Rattle.model_data.specs.Search.{fitted, number_named, key_length, data_length, asked_number, is_there}
+use Rattle.model_data.specs.Change.{key_bytes, asked_pair, insert_path, insert_row, insert_fault, replace_fault, delete_fault}
+use Rattle.model_data.specs.Conditions.{NamesChild, AreInsertSsas}
 use Rattle.row_search.proofs.Fitting.{take_blanks}
 use Rattle.row_search.proofs.Within.{both_true}
 

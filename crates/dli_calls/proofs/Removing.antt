@@ -4,12 +4,12 @@ use Rattle.std.specs.Prelude.{Some, None, Result, Ok, Err, IfOk, filter}
 use Rattle.std.specs.Ordering.{is_eq, is_gt, is_lt}
 use Rattle.tm_types.specs.declared.dbd.SegType.{SegType}
 use Rattle.tm_types.specs.declared.status.Status.TheVariants.{DA, DJ}
-use Rattle.model_rows.specs.declared.row.Row.{Row}
-use Rattle.model_rows.specs.Path.{key_cmp, end_key, end_type, root_of}
-use Rattle.model_rows.specs.Row.{row_cmp}
-use Rattle.model_rows.specs.Rows.{record_of}
-use Rattle.model_dli.specs.Search.{fitted, is_there, key_length}
-use Rattle.model_dli.specs.Change.{delete_fault, replace_fault, with_row}
+use Rattle.model_data.specs.declared.row.Row.{Row}
+use Rattle.model_data.specs.Path.{key_cmp, end_key, end_type, root_of}
+use Rattle.model_data.specs.Row.{row_cmp}
+use Rattle.model_data.specs.Rows.{record_of}
+use Rattle.model_data.specs.Search.{fitted, is_there, key_length}
+use Rattle.model_data.specs.Change.{delete_fault, replace_fault, with_row}
 use Rattle.dli_calls.specs.declared.planned.Edit.{Edit}
 use Rattle.dli_calls.specs.declared.planned.Planned.{Planned}
 use Rattle.dli_calls.specs.Plans.{IsThere}

@@ -4,16 +4,16 @@ use Rattle.std.specs.Prelude.{Result, Ok, Err, IfOk}
 use Rattle.std.specs.Option.{option_map, option_map_or}
 use Rattle.tm_types.specs.declared.dbd.Dbd.{Dbd}
 use Rattle.tm_types.specs.declared.status.Status.TheVariants.{Blank}
-use Rattle.model_rows.specs.declared.row.Row.{Row}
-use Rattle.model_rows.specs.Rows.{record_of, with_record, IsImage, passes_roots, passes_length}
-use Rattle.model_rows.proofs.Records.{HaveRoot, with_record_itself}
-use Rattle.model_dli.specs.declared.call.Position.{Position}
-use Rattle.model_dli.specs.declared.call.RowsLimit.{RowsLimit}
-use Rattle.model_dli.specs.declared.call.RowsLimit.TheVariants.{Roots, RecordLength}
-use Rattle.model_rows.specs.Path.{root_of}
-use Rattle.model_dli.specs.declared.call.DbCall.{DbCall}
-use Rattle.model_dli.specs.Change.{passed_limit, insert_fault, insert_path, insert_row, with_row}
-use Rattle.model_dli.specs.Dli.{DliResult, answered, unheld, changed_to, insert}
+use Rattle.model_data.specs.declared.row.Row.{Row}
+use Rattle.model_data.specs.Rows.{record_of, with_record, IsImage, passes_roots, passes_length}
+use Rattle.model_data.proofs.Records.{HaveRoot, with_record_itself}
+use Rattle.model_data.specs.declared.call.Position.{Position}
+use Rattle.model_data.specs.declared.call.RowsLimit.{RowsLimit}
+use Rattle.model_data.specs.declared.call.RowsLimit.TheVariants.{Roots, RecordLength}
+use Rattle.model_data.specs.Path.{root_of}
+use Rattle.model_data.specs.declared.call.DbCall.{DbCall}
+use Rattle.model_data.specs.Change.{passed_limit, insert_fault, insert_path, insert_row, with_row}
+use Rattle.model_data.specs.Dli.{DliResult, answered, unheld, changed_to, insert}
 use Rattle.seg_rows.specs.declared.rows.StoreRefused.{StoreRefused}
 use Rattle.seg_rows.specs.declared.rows.StoreRefused.TheVariants.{RootLimit, RecordTooLong, Memory}
 use Rattle.seg_rows.specs.StoreRefused.{set_refusal, RefusesToSet}

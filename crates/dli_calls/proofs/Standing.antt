@@ -9,19 +9,19 @@ use Rattle.tm_types.specs.declared.dbd.SegType.{SegType}
 use Rattle.tm_types.specs.declared.ssa.Ssa.{Ssa}
 use Rattle.tm_types.specs.declared.status.Status.{Status}
 use Rattle.tm_types.specs.declared.status.Status.TheVariants.{Blank, QC, QD, A2, A3, A6, A7, QH, GE, GB, GP, GA, GK, II, DJ, DA, AM}
-use Rattle.model_rows.specs.declared.row.Row.{Row}
-use Rattle.model_rows.specs.Path.{IsPath}
-use Rattle.model_rows.specs.Row.{IsRow}
-use Rattle.model_rows.specs.Rows.{AreRows}
+use Rattle.model_data.specs.declared.row.Row.{Row}
+use Rattle.model_data.specs.Path.{IsPath}
+use Rattle.model_data.specs.Row.{IsRow}
+use Rattle.model_data.specs.Rows.{AreRows}
 use Rattle.tm_types.specs.Segment.{IsSegmentText}
 use Rattle.tm_types.specs.SegTypes.{type_at}
-use Rattle.model_rows.specs.Path.{end_type}
-use Rattle.model_dli.specs.declared.call.Position.{Position}
-use Rattle.model_dli.specs.declared.call.Reach.{Reach}
-use Rattle.model_dli.specs.declared.call.Reach.TheVariants.{Start, Next, Parent}
-use Rattle.model_dli.specs.Search.{is_after, is_below, fits, is_there, first_below}
-use Rattle.model_dli.specs.Get.{reached, position_at, position_failed, position_missed}
-use Rattle.model_dli.specs.Conditions.{IsPosition}
+use Rattle.model_data.specs.Path.{end_type}
+use Rattle.model_data.specs.declared.call.Position.{Position}
+use Rattle.model_data.specs.declared.call.Reach.{Reach}
+use Rattle.model_data.specs.declared.call.Reach.TheVariants.{Start, Next, Parent}
+use Rattle.model_data.specs.Search.{is_after, is_below, fits, is_there, first_below}
+use Rattle.model_data.specs.Get.{reached, position_at, position_failed, position_missed}
+use Rattle.model_data.specs.Conditions.{IsPosition}
 use Rattle.dli_calls.specs.declared.planned.Planned.{Planned}
 use Rattle.row_search.proofs.Finding.{find_has}
 

@@ -2,9 +2,9 @@
 use Rattle.std.specs.Prelude.{ℕ, Bool, if◌then◌else◌, List, [], ◌∷◌, Option, None, Some, flat_map}
 use Rattle.tm_types.specs.declared.resource.Mode.{Mode}
 use Rattle.tm_types.specs.declared.resource.Mode.TheVariants.{Shared, Exclusive}
-use Rattle.model_rows.specs.declared.row.Row.{Row}
-use Rattle.model_rows.specs.Rows.{record_of}
-use Rattle.model_dli.specs.Footprint.{behind}
+use Rattle.model_data.specs.declared.row.Row.{Row}
+use Rattle.model_data.specs.Rows.{record_of}
+use Rattle.model_data.specs.Footprint.{behind}
 
 -- these roots behind one, or all of them
 abbrev pub keys_behind : Option (List ℕ) → List (List ℕ) → List (List ℕ)

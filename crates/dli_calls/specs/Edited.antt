@@ -5,10 +5,10 @@ use Rattle.tm_types.specs.declared.dbd.Dbd.{Dbd}
 use Rattle.tm_types.specs.declared.dbd.SegType.{SegType}
 use Rattle.tm_types.specs.declared.ssa.Ssa.{Ssa}
 use Rattle.tm_types.specs.SegTypes.{type_at}
-use Rattle.model_rows.specs.declared.row.Row.{Row}
-use Rattle.model_rows.specs.Rows.{record_of, with_record, IsImage}
-use Rattle.model_dli.specs.declared.call.RowsLimit.{RowsLimit}
-use Rattle.model_dli.specs.Search.{number_named}
+use Rattle.model_data.specs.declared.row.Row.{Row}
+use Rattle.model_data.specs.Rows.{record_of, with_record, IsImage}
+use Rattle.model_data.specs.declared.call.RowsLimit.{RowsLimit}
+use Rattle.model_data.specs.Search.{number_named}
 use Rattle.seg_rows.specs.StoreRefused.{set_refusal}
 use Rattle.dli_calls.specs.declared.planned.Edit.{Edit}
 use Rattle.dli_calls.specs.Plans.{limit_of}

@@ -1,11 +1,11 @@
 -- What the code of a call has done, by its definition.
 use Rattle.std.specs.Prelude.{◌≡◌, List, Option, None, Some}
-use Rattle.model_rows.specs.declared.row.Row.{Row}
-use Rattle.model_dli.specs.declared.call.Performed.{Performed}
-use Rattle.model_dli.specs.declared.call.Position.{Position}
-use Rattle.model_dli.specs.declared.call.RowsLimit.{RowsLimit}
-use Rattle.model_dli.specs.declared.call.RowsLimit.TheVariants.{Roots, RecordLength}
-use Rattle.model_dli.specs.Dli.{DliResult, answer_of}
+use Rattle.model_data.specs.declared.row.Row.{Row}
+use Rattle.model_data.specs.declared.call.Performed.{Performed}
+use Rattle.model_data.specs.declared.call.Position.{Position}
+use Rattle.model_data.specs.declared.call.RowsLimit.{RowsLimit}
+use Rattle.model_data.specs.declared.call.RowsLimit.TheVariants.{Roots, RecordLength}
+use Rattle.model_data.specs.Dli.{DliResult, answer_of}
 use Rattle.seg_rows.specs.declared.rows.StoreRefused.{StoreRefused}
 use Rattle.seg_rows.specs.declared.rows.StoreRefused.TheVariants.{RootLimit, RecordTooLong, Memory}
 

@@ -1,12 +1,12 @@
 -- What a plan of a call says, by the call's definition.
 use Rattle.std.specs.Prelude.{◌≡◌, ◌≢◌, ◌⊎◌, List, [], Option, None, Some, IsSome}
 use Rattle.tm_types.specs.declared.dbd.Dbd.{Dbd}
-use Rattle.model_rows.specs.declared.row.Row.{Row}
-use Rattle.model_rows.specs.Rows.{record_of, with_record, IsImage}
-use Rattle.model_dli.specs.declared.call.Position.{Position}
-use Rattle.model_dli.specs.declared.call.RowsLimit.{RowsLimit}
-use Rattle.model_dli.specs.declared.call.RowsLimit.TheVariants.{Roots, RecordLength}
-use Rattle.model_dli.specs.Dli.{DliResult}
+use Rattle.model_data.specs.declared.row.Row.{Row}
+use Rattle.model_data.specs.Rows.{record_of, with_record, IsImage}
+use Rattle.model_data.specs.declared.call.Position.{Position}
+use Rattle.model_data.specs.declared.call.RowsLimit.{RowsLimit}
+use Rattle.model_data.specs.declared.call.RowsLimit.TheVariants.{Roots, RecordLength}
+use Rattle.model_data.specs.Dli.{DliResult}
 use Rattle.seg_rows.specs.declared.rows.StoreRefused.{StoreRefused}
 use Rattle.seg_rows.specs.declared.rows.StoreRefused.TheVariants.{RootLimit, RecordTooLong, Memory}
 use Rattle.seg_rows.specs.StoreRefused.{set_refusal}

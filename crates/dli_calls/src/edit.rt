@@ -1,10 +1,10 @@
 //! Records with a row more, a row changed, or rows less.
 ghost use Rattle.std.specs.Prelude.{◌≡◌, ◌≤◌, ◌++◌, length, filter, IfOk, OnOk};
 ghost use Rattle.std.specs.Ordering.{is_lt, is_gt};
-ghost use Rattle.model_rows.specs.Path.{path_cmp};
-ghost use Rattle.model_dli.specs.Change.{row_with, with_row, with_data, without};
+ghost use Rattle.model_data.specs.Path.{path_cmp};
+ghost use Rattle.model_data.specs.Change.{row_with, with_row, with_data, without};
 
-use model_rows::{Path, Row};
+use model_data::{Path, Row};
 use row_search::is_within;
 use seg_rows::RecordImage;
 use std::alloc::Global;

@@ -1,20 +1,19 @@
 //! What a call needs before it is made.
 ghost use Rattle.std.specs.Prelude.{◌≡◌, ◌≤◌, [], ◌++◌, length, IfOk, IfSome, OnOk, is_some};
 ghost use Rattle.std.specs.Option.{option_copied, option_map_or};
-ghost use Rattle.model_rows.specs.Path.{IsPath};
-ghost use Rattle.model_rows.specs.Rows.{roots, AreRows};
-ghost use Rattle.model_dli.specs.Search.{first_after};
-ghost use Rattle.model_dli.specs.Change.{insert_path};
-ghost use Rattle.model_dli.specs.Conditions.{AreInsertSsas, IsDbCall, IsPosition};
-ghost use Rattle.model_dli.specs.Footprint.{along, onward, search_needs, parent_needs, insert_needs, replace_needs, delete_needs, footprint};
+ghost use Rattle.model_data.specs.Path.{IsPath};
+ghost use Rattle.model_data.specs.Rows.{roots, AreRows};
+ghost use Rattle.model_data.specs.Search.{first_after};
+ghost use Rattle.model_data.specs.Change.{insert_path};
+ghost use Rattle.model_data.specs.Conditions.{AreInsertSsas, IsDbCall, IsPosition};
+ghost use Rattle.model_data.specs.Footprint.{along, onward, search_needs, parent_needs, insert_needs, replace_needs, delete_needs, footprint};
 ghost use Rattle.dli_calls.specs.Along.{keys_behind, records_of};
 
 use crate::calls::is_allowed;
 use crate::change::keeps_key;
 use crate::inserting::insert_root;
 use crate::need_list::{Needs, record_need, sequence_need};
-use model_dli::{DbCall, Position};
-use model_rows::{Path, Row};
+use model_data::{DbCall, Path, Position, Row};
 use row_search::{Asked, asked_root, first_after, first_in_record, next_record};
 use seg_rows::Rows;
 use std::alloc::Global;

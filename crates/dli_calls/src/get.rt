@@ -1,19 +1,18 @@
 //! The gets: GU, GN and GNP, and the same with hold.
 ghost use Rattle.std.specs.Prelude.{◌≡◌, ◌≤◌, length, All, IfOk, IfSome, IsSome, OnErr, OnSome, None, Some, ◌⊎◌, if◌then◌else◌};
 ghost use Rattle.std.specs.Option.{option_copied};
-ghost use Rattle.model_dli.specs.Get.{reached, missed_status, level_status, moved_status, reached_status, parentage_at, position_at, position_failed, position_missed};
-ghost use Rattle.model_dli.specs.Dli.{get};
-ghost use Rattle.model_dli.specs.Search.{is_there};
-ghost use Rattle.model_dli.specs.declared.call.Reach.TheVariants.{Parent};
+ghost use Rattle.model_data.specs.Get.{reached, missed_status, level_status, moved_status, reached_status, parentage_at, position_at, position_failed, position_missed};
+ghost use Rattle.model_data.specs.Dli.{get};
+ghost use Rattle.model_data.specs.Search.{is_there};
+ghost use Rattle.model_data.specs.declared.call.Reach.TheVariants.{Parent};
 ghost use Rattle.tm_types.specs.declared.status.Status.TheVariants.{GE, GP};
-ghost use Rattle.model_dli.specs.Conditions.{IsPosition};
+ghost use Rattle.model_data.specs.Conditions.{IsPosition};
 ghost use Rattle.tm_types.specs.Segment.{IsSegmentText};
-ghost use Rattle.model_rows.specs.Rows.{AreRows};
+ghost use Rattle.model_data.specs.Rows.{AreRows};
 ghost use Rattle.dli_calls.specs.Plans.{Plans, StandsSomewhere};
 
 use crate::planned::{Planned, answer_at};
-use model_dli::{DbCall, Position, Reach};
-use model_rows::{Path, Row};
+use model_data::{DbCall, Path, Position, Reach, Row};
 use row_search::{asked_root, first_row, first_row_below, is_there};
 use seg_rows::Rows;
 use tm_types::{Dbd, Memory, Ssa, Status};

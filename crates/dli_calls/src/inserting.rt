@@ -3,14 +3,14 @@ ghost use Rattle.std.specs.Prelude.{◌≡◌, ◌≤◌, ◌==◌, ◌&&◌, no
 ghost use Rattle.std.specs.Ordering.{is_eq};
 ghost use Rattle.std.specs.Cmp.Lexicographic.{pointwise};
 ghost use Rattle.tm_types.specs.SegTypes.{type_at};
-ghost use Rattle.model_rows.specs.Path.{root_of, parent_path, path_cmp};
-ghost use Rattle.model_rows.specs.Rows.{AreRows};
-ghost use Rattle.model_dli.specs.Search.{number_named, pair_eq, is_there};
-ghost use Rattle.model_dli.specs.Change.{key_bytes, asked_pair, insert_path, insert_row, insert_fault};
-ghost use Rattle.model_dli.specs.Conditions.{AreInsertSsas};
+ghost use Rattle.model_data.specs.Path.{root_of, parent_path, path_cmp};
+ghost use Rattle.model_data.specs.Rows.{AreRows};
+ghost use Rattle.model_data.specs.Search.{number_named, pair_eq, is_there};
+ghost use Rattle.model_data.specs.Change.{key_bytes, asked_pair, insert_path, insert_row, insert_fault};
+ghost use Rattle.model_data.specs.Conditions.{AreInsertSsas};
 ghost use Rattle.dli_calls.specs.Edited.{AreNamed};
 
-use model_rows::{Path, Row};
+use model_data::{Path, Row};
 use row_search::{asked_number, data_length, fitted_bytes, fitted_key, number_named, record_rows};
 use seg_rows::Rows;
 use std::alloc::Global;

@@ -4,14 +4,13 @@
 //! record that it sets. Planning a call changes nothing; what it changes is one image of one record.
 //! What a call needs before it is made is its footprint: what it answers and changes depends on nothing
 //! else of the rows.
+//!
+//! Why a database call depends on its footprint alone.
+//!
+//! Laws over the definitions of `model_dli`, and no code. Where two databases agree on the records that a
+//! call looks at, it answers the same on both and changes the same, and its next footprint is the same
+//! too. Program isolation rests on it: what a region enqueued is all that its call may depend on.
 #![tactic(auto)]
-
-pub use calls::{perform, plan, would_change};
-pub use footprint::needs;
-pub use model_dli::{DbCall, Need, Performed, Position};
-pub use need_list::Needs;
-pub use needed::{NeededPlan, plan_needed};
-pub use planned::{Edit, Planned};
 
 mod calls;
 mod change;
@@ -22,3 +21,10 @@ mod inserting;
 mod need_list;
 mod needed;
 mod planned;
+
+pub use calls::{perform, plan, would_change};
+pub use footprint::needs;
+pub use model_data::{DbCall, Need, Performed, Position};
+pub use need_list::Needs;
+pub use needed::{NeededPlan, plan_needed};
+pub use planned::{Edit, Planned};

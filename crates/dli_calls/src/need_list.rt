@@ -1,8 +1,8 @@
 //! What a call needs, in the order in which it asks.
 ghost use Rattle.std.specs.Prelude.{◌≡◌, [], ◌∷◌, ◌++◌, IfOk, OnOk, OnErr};
-ghost use Rattle.model_dli.specs.Footprint.{record_need, sequence_need};
+ghost use Rattle.model_data.specs.Footprint.{record_need, sequence_need};
 
-use model_dli::Need;
+use model_data::Need;
 use std::alloc::Global;
 use std::marker::Model;
 use tm_types::{Key, Memory, Mode};
@@ -15,7 +15,7 @@ pub struct Needs {
 
 impl Model for Needs {
     ghost use Rattle.std.specs.Prelude.{List};
-    ghost use Rattle.model_dli.specs.declared.need.Need.{Need};
+    ghost use Rattle.model_data.specs.declared.need.Need.{Need};
 
     ghost Value = { List Need };
 

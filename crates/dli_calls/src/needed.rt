@@ -2,12 +2,12 @@
 ghost use Rattle.std.specs.Prelude.{◌≡◌, ◌≤◌, length, All, IfOk, IfSome, None};
 ghost use Rattle.std.specs.Option.{option_copied};
 ghost use Rattle.tm_types.specs.Segment.{IsSegmentText};
-ghost use Rattle.model_rows.specs.Path.{IsPath};
-ghost use Rattle.model_dli.specs.Conditions.{IsDbCall, IsPosition};
-ghost use Rattle.model_dli.specs.Dli.{dli, get};
-ghost use Rattle.model_dli.specs.Footprint.{footprint, search_needs};
-ghost use Rattle.model_dli.specs.Get.{reached};
-ghost use Rattle.model_dli.specs.Search.{first_after};
+ghost use Rattle.model_data.specs.Path.{IsPath};
+ghost use Rattle.model_data.specs.Conditions.{IsDbCall, IsPosition};
+ghost use Rattle.model_data.specs.Dli.{dli, get};
+ghost use Rattle.model_data.specs.Footprint.{footprint, search_needs};
+ghost use Rattle.model_data.specs.Get.{reached};
+ghost use Rattle.model_data.specs.Search.{first_after};
 ghost use Rattle.dli_calls.specs.Along.{mode_of};
 ghost use Rattle.dli_calls.specs.Plans.{IsThere, Plans};
 
@@ -16,8 +16,7 @@ use crate::footprint::{needed_row, needs};
 use crate::get::get_found;
 use crate::need_list::Needs;
 use crate::planned::Planned;
-use model_dli::{DbCall, Position, Reach};
-use model_rows::Path;
+use model_data::{DbCall, Path, Position, Reach};
 use seg_rows::Rows;
 use std::alloc::Global;
 use tm_types::{Dbd, Function, Memory, Mode};

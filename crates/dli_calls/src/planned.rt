@@ -2,7 +2,7 @@
 ghost use Rattle.std.specs.Prelude.{◌≡◌, None, Some};
 ghost use Rattle.tm_types.specs.declared.status.Status.TheVariants.{Blank};
 
-use model_dli::Position;
+use model_data::Position;
 use seg_rows::RecordImage;
 use tm_types::{Bytes, Key, Status};
 

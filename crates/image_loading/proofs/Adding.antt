@@ -2,15 +2,15 @@
 use Rattle.std.proofs.Common.{◌≡◌, ℕ, zero, suc, ◌+◌, List, [], ◌∷◌, ◌++◌, length, take, map, refl, sym, ◌∙◌, ap, arith, Some, None}
 use Rattle.std.specs.Prelude.{Option, Result, Ok, Err, OnOk, slice_get}
 use Rattle.tm_types.specs.declared.dbd.Dbd.{Dbd}
-use Rattle.model_disk.specs.Disk.{Image}
+use Rattle.tm_disk.specs.Disk.{Image}
 use Rattle.model_system.specs.System.{System}
 use Rattle.model_image.specs.Areas.{data_first}
 use Rattle.model_image.specs.Faults.{Fault}
 use Rattle.model_image.specs.Slots.{Slot, slot_fault, rows_in}
 use Rattle.seg_store.specs.Changed.{Kept}
-use Rattle.slot_loading.specs.Loading.{IsMade, slots_in}
+use Rattle.image_loading.specs.Loading.{IsMade, slots_in}
 use Rattle.image_loading.specs.Databases.{databases_in, lowest}
-use Rattle.image_loading.specs.Loading.{AreAllMade, AreSlotted}
+use Rattle.image_loading.specs.ImageLoadingLoading.{AreAllMade, AreSlotted}
 use Rattle.image_loading.proofs.Lowest.{fault_both, lowest_none, lowest_some}
 
 pub made_more : (dbds : List Dbd) (stores : List Kept) (dbd : Dbd) (store : Kept) → AreAllMade dbds stores → IsMade dbd store → AreAllMade (dbds ++ dbd ∷ []) (stores ++ store ∷ [])

@@ -1,3 +1,11 @@
+pub mod Following
+pub mod Spelled
+mod Slotted
+mod SlotsRead
+mod Built
+mod SlotLoadingLoaded
+pub mod Held
+mod Copying
 pub mod Lowest
 pub mod Adding
 pub mod Naming

@@ -2,12 +2,12 @@
 use Rattle.std.proofs.Common.{◌≡◌, ℕ, zero, suc, ◌+◌, List, [], ◌∷◌, length, refl, ◌∙◌, ap, arith, Some}
 use Rattle.std.specs.Prelude.{Option, slice_get}
 use Rattle.tm_types.specs.declared.dbd.Dbd.{Dbd}
-use Rattle.model_disk.specs.Disk.{Image, sector_at}
+use Rattle.tm_disk.specs.Disk.{Image, sector_at}
 use Rattle.model_system.specs.System.{System}
 use Rattle.log_records.specs.declared.record.Record.{Record}
 use Rattle.model_image.specs.Areas.{data_first}
 use Rattle.model_image.specs.Slots.{Slot, source_of, slots_by, slot_in, named_by, all_slots}
-use Rattle.slot_loading.specs.Loading.{given_to, slot_from, slots_in}
+use Rattle.image_loading.specs.Loading.{given_to, slot_from, slots_in}
 use Rattle.image_loading.specs.Databases.{databases_in}
 
 slots_alike : (n number : ℕ) (f g : ℕ → Slot) → ((k : ℕ) → f k ≡ g k) → slots_by f n number ≡ slots_by g n number

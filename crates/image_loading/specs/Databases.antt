@@ -2,12 +2,12 @@
 use Rattle.std.specs.Prelude.{◌≡◌, ℕ, ◌+◌, List, [], ◌∷◌, nat_le, if◌then◌else◌, Option, None, Some, IsTrue, slice_get}
 use Rattle.std.specs.List.{AllByRecursion}
 use Rattle.tm_types.specs.declared.dbd.Dbd.{Dbd}
-use Rattle.model_disk.specs.Disk.{Image}
+use Rattle.tm_disk.specs.Disk.{Image}
 use Rattle.model_system.specs.System.{System}
 use Rattle.model_image.specs.Areas.{data_first}
 use Rattle.model_image.specs.Faults.{Fault}
 use Rattle.model_image.specs.Slots.{Slot, is_image}
-use Rattle.slot_loading.specs.Loading.{slots_in}
+use Rattle.image_loading.specs.Loading.{slots_in}
 
 -- the slots of the databases from one on, which has this place, each with those that are given bytes
 abbrev pub databases_in : System → Image → List (List (ℕ × List ℕ)) → ℕ → List Dbd → List (List Slot)

@@ -1,2 +1,5 @@
-pub mod Databases
 pub mod Loading
+pub mod Reading
+pub mod Building
+pub mod Databases
+pub mod ImageLoadingLoading

@@ -1,43 +1,60 @@
--- What loading all databases answers.
-use Rattle.std.specs.Prelude.{◌≡◌, List, [], ◌∷◌, map, Option, None, Some, Result, Ok, Err}
+-- What loading a database answers.
+use Rattle.std.specs.Prelude.{◌≡◌, ℕ, ◌+◌, ◌==◌, List, [], ◌∷◌, map, find, Option, Some, None, Result, Ok, Err}
+use Rattle.std.specs.Option.{option_map}
 use Rattle.tm_types.specs.declared.dbd.Dbd.{Dbd}
-use Rattle.model_disk.specs.Disk.{DiskState, FailedSince}
-use Rattle.image_loading.specs.declared.loading.Stopped.{Stopped}
-use Rattle.image_loading.specs.declared.loading.Stopped.TheVariants as stopped
-use Rattle.model_image.specs.Faults.{Fault}
-use Rattle.model_image.specs.Slots.{Slot, slot_fault, rows_in}
+use Rattle.tm_disk.specs.Disk.{Image, DiskState, FailedSince, sector_at}
+use Rattle.model_data.specs.Rows.{Database}
+use Rattle.model_image.specs.Slots.{Slot, source_of, slots_by, slot_fault, rows_in}
+use Rattle.seg_store.specs.Slots.{AreSlots}
 use Rattle.seg_store.specs.Changed.{Kept}
-use Rattle.slot_loading.specs.Loading.{IsMade}
-use Rattle.slot_loading.specs.declared.fault.LoadFault.{LoadFault}
-use Rattle.slot_loading.specs.declared.fault.LoadFault.TheVariants as faults
+use Rattle.image_loading.specs.declared.fault.LoadFault.{LoadFault}
+use Rattle.image_loading.specs.declared.fault.LoadFault.TheVariants as faults
 
--- the stores that were loaded, and the lowest rule that is broken so far
-pub record LoadedState : Type 0 where
-  pub stores : List Kept
-  pub broken : Option Fault
+-- the bytes that a slot is given, if it is given any
+abbrev pub given_to : ℕ → List (ℕ × List ℕ) → Option (List ℕ)
+given_to number given = option_map (λ s. s.1) (find (λ s. s.0 == number) given)
 
--- Each database has a store, of which no slot counts as changed.
-abbrev pub AreAllMade : List Dbd → List Kept → Type 0
-AreAllMade [] [] = Unit {0}
-AreAllMade (dbd ∷ dbds) (store ∷ stores) = IsMade dbd store × AreAllMade dbds stores
-AreAllMade _ _ = ⊥
+-- a slot of a database: what it is given, or its sector
+abbrev pub slot_from : Image → Dbd → ℕ → List (ℕ × List ℕ) → ℕ → Slot
+slot_from image dbd first given number = record {
+  dbd = dbd;
+  place = first + number;
+  source = source_of (given_to number given) (sector_at image (first + number));
+}
 
--- Each store has the record of each of its slots.
-abbrev pub AreSlotted : List (List Slot) → List Kept → Type 0
-AreSlotted [] [] = Unit {0}
-AreSlotted (slots ∷ databases) (store ∷ stores) = (store.slots ≡ map rows_in slots) × AreSlotted databases stores
-AreSlotted _ _ = ⊥
+-- all slots of a database
+unfoldable pub slots_in : Image → Dbd → ℕ → List (ℕ × List ℕ) → List Slot
+slots_in image dbd first given = slots_by (slot_from image dbd first given) dbd.roots 0
 
--- What loading all databases answers, where there is memory and the disk doesn't fail: they break no rule, and each store
--- has the records of its slots; or the lowest rule that one breaks.
-abbrev pub TellsAll : Result LoadedState LoadFault → List (List Slot) → Type 0
-TellsAll (Ok loaded) databases = (slot_fault databases ≡ None) × AreSlotted databases loaded.stores
-TellsAll (Err (faults.Bad rule sector)) databases = slot_fault databases ≡ Some (rule, sector)
-TellsAll (Err faults.Disk) databases = Unit {0}
-TellsAll (Err faults.Memory) databases = Unit {0}
+-- a store of a database, of which no slot counts as changed
+pub record IsMade (dbd : Dbd) (store : Kept) : Type 0 where
+  pub database : store.dbd ≡ dbd
+  pub valid : AreSlots store.dbd store.slots
+  pub none_changed : store.changed ≡ []
+
+-- these slots break no rule, and the store has the record of each
+pub record AreLoaded (slots : List Slot) (store : Kept) : Type 0 where
+  pub good : slot_fault (slots ∷ []) ≡ None
+  pub each : store.slots ≡ map rows_in slots
+
+-- what loading these slots answers, where there is memory and the disk doesn't fail
+abbrev pub TellsSlots : Result Kept LoadFault → List Slot → Type 0
+TellsSlots (Ok store) slots = AreLoaded slots store
+TellsSlots (Err (faults.Bad rule sector)) slots = slot_fault (slots ∷ []) ≡ Some (rule, sector)
+TellsSlots (Err faults.Disk) slots = Unit {0}
+TellsSlots (Err faults.Memory) slots = Unit {0}
+
+-- the store of an answer that has its rows beside it
+abbrev pub store_in : Result (Kept × Database) LoadFault → Result Kept LoadFault
+store_in (Ok loaded) = Ok loaded.0
+store_in (Err fault) = Err fault
 
 -- The disk failed in the call exactly where that is told.
-abbrev pub StopCause : {A : Type 0} → Result A Stopped → DiskState → DiskState → Type 0
-StopCause (Ok value) old new = new.faults ≡ old.faults
-StopCause (Err stopped.Disk) old new = FailedSince old new
-StopCause (Err stopped.Memory) old new = new.faults ≡ old.faults
+abbrev pub FaultCause : LoadFault → DiskState → DiskState → Type 0
+FaultCause (faults.Bad rule sector) old new = new.faults ≡ old.faults
+FaultCause faults.Disk old new = FailedSince old new
+FaultCause faults.Memory old new = new.faults ≡ old.faults
+
+abbrev pub LoadCause : {A : Type 0} → Result A LoadFault → DiskState → DiskState → Type 0
+LoadCause (Ok loaded) old new = new.faults ≡ old.faults
+LoadCause (Err fault) old new = FaultCause fault old new

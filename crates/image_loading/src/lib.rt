@@ -1,8 +1,95 @@
+//! Where the areas of a system's disk stand, as `specs/Areas` of `model_image` says it.
+//!
+//! The restart sector, 64 sectors of the definition's text, two areas for snapshots, two for logs and a
+//! sector for each slot of each database follow each other. Their lengths come from the definition
+//! alone, and a checked system's limits keep each place small, as the clauses say.
+//!
+//! The slots of a database, from a disk and onto it.
+//!
+//! A restart takes the slots that its records name from these, and all others from their data sectors. What a
+//! sector spells, and which rules it may break, stands in `model_image`.
+//!
 //! All databases of an image are loaded, from their data sectors and from what their slots are given.
 //!
 //! The lowest rule goes over all of them, so each is loaded also where one before it breaks a rule.
 #![tactic(auto)]
 
+mod building;
+mod fault;
+mod image_loading_loading;
+mod judging;
 mod loading;
+mod reading;
+mod rows;
+mod slots;
+mod writing;
 
-pub use loading::{Loaded, load_all};
+ghost use Rattle.std.specs.Prelude.{◌≡◌, ◌≤◌, length, sum_by};
+ghost use Rattle.model_image.specs.Areas as areas;
+
+pub use fault::LoadFault;
+pub use image_loading_loading::{Loaded, load_all};
+pub use judging::{bytes_in, image_of};
+pub use loading::{load, load_store};
+pub use slots::Slots;
+use system_types::System;
+use tm_types::Dbd;
+pub use writing::write_slots;
+
+/// How many sectors each snapshot area has.
+pub fn snapshot_area(system: &System) -> u32
+    ensures value { result ≡ areas.snapshot_area system.now }
+    ensures small { result ≤ 2613 }
+{
+    let regions = system.regions().len() as u32;
+    (system.qbytes() + 262_144 * regions + 131_072 + 4063) / 4064
+}
+
+/// The first sector of a snapshot area, 0 or 1.
+pub fn snapshot_first(system: &System, area: u8) -> u32
+    requires { area ≤ 1 }
+    ensures value { result ≡ areas.snapshot_first system.now area }
+    ensures small { result ≤ 2678 }
+{
+    65 + u32::from(area) * snapshot_area(system)
+}
+
+/// The first sector of a log area, 0 or 1, and with 2 the first behind both.
+pub fn log_first(system: &System, area: u8) -> u32
+    requires { area ≤ 2 }
+    ensures value { result ≡ areas.log_first system.now area }
+    ensures small { result ≤ 9387 }
+{
+    let logs = system.logs();
+    65 + 2 * snapshot_area(system) + u32::from(area) * logs
+}
+
+/// The first sector of the first database's slots.
+pub fn data_first(system: &System) -> u32
+    ensures value { result ≡ areas.data_first system.now 0 }
+    ensures small { result ≤ 9387 }
+{
+    log_first(system, 2)
+}
+
+// How many roots the databases have in all.
+fn all_roots(databases: &[Dbd]) -> u32
+    requires few { length databases.now ≤ 8 }
+    ensures value { result ≡ sum_by (λ dbd. dbd.roots) databases.now }
+    ensures small { result ≤ 524288 }
+{
+    let mut roots: u32 = 0;
+    for dbd in databases {
+        roots += u32::from(dbd.roots);
+    }
+    roots
+}
+
+/// How many sectors a disk of the system has at least.
+pub fn sectors_needed(system: &System) -> u32
+    ensures value { result ≡ areas.data_first system.now (length system.now.databases) }
+    ensures small { result ≤ 533675 }
+{
+    let roots = all_roots(system.databases());
+    data_first(system) + roots
+}

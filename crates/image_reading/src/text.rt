@@ -1,7 +1,7 @@
 //! The text of the definition.
 ghost use Rattle.std.specs.Prelude.{◌≡◌, ◌+◌, ◌-◌, ◌≤◌, None, length, drop, min, take, IsTrue, IfOk, IfSome, OnOk, OnErr};
 ghost use Rattle.std.specs.Option.{option_map};
-ghost use Rattle.model_disk.specs.Disk.{Keeps, FailedSince};
+ghost use Rattle.tm_disk.specs.Disk.{Keeps, FailedSince};
 ghost use Rattle.model_image.specs.Text as texts;
 
 use tm_disk::{Disk, DiskFault, Sector};

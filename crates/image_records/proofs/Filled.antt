@@ -5,8 +5,8 @@ use Rattle.std.proofs.lemmas.Bool.{ltb-true, and_parts}
 use Rattle.std.proofs.lemmas.List.{append-nil}
 use Rattle.std.proofs.lemmas.List.Sums.{sum_by-cons}
 use Rattle.tm_types.specs.declared.message.Message.{Message}
-use Rattle.model_queues.specs.Queue.{QueuesState, IsNewId, messages_of, with_message}
-use Rattle.model_queues.specs.Room.{message_bytes, messages_bytes}
+use Rattle.model_messages.specs.Queue.{QueuesState, IsNewId, messages_of, with_message}
+use Rattle.model_messages.specs.Room.{message_bytes, messages_bytes}
 use Rattle.model_image.specs.States.{ascend_below}
 use Rattle.image_records.specs.Kept.{free_message}
 

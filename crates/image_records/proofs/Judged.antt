@@ -6,7 +6,7 @@ use Rattle.model_machine.specs.Machine.{LastingState}
 use Rattle.log_records.specs.declared.record.Record.{Record}
 use Rattle.log_records.specs.Reading.{◌>>=◌}
 use Rattle.restart_data.specs.declared.restart.RestartSector.{RestartSector}
-use Rattle.model_disk.specs.Disk.{Image}
+use Rattle.tm_disk.specs.Disk.{Image}
 use Rattle.restart_data.specs.Snapshot.{snapshot_in}
 use Rattle.log_sectors.specs.Chain.{chain, joined}
 use Rattle.model_image.specs.Areas.{snapshot_first, log_first}

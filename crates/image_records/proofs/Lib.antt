@@ -1,3 +1,7 @@
+pub mod Places
+pub mod Capped
+pub mod Named
+pub mod Taking
 pub mod Judged
 pub mod Cuts
 pub mod Fronts

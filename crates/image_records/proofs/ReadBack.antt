@@ -8,7 +8,7 @@ use Rattle.model_machine.specs.Machine.{LastingState}
 use Rattle.log_records.specs.declared.record.Record.{Record}
 use Rattle.log_records.specs.declared.record.Record.TheVariants.{Input, Command, Reply, Discarded, Completed, Acknowledged, SyncPoint, Checkpoint, Terminal, Code, Change}
 use Rattle.restart_data.specs.Rules.{first_broken, unless_broken}
-use Rattle.told_lasting.specs.declared.telling.Told.{Told}
+use Rattle.image_records.specs.declared.telling.Told.{Told}
 use Rattle.model_image.specs.Cut.{cut_of, records_of, where_none_left}
 use Rattle.model_image.specs.Counters.{told_unit}
 use Rattle.model_image.specs.Snapshot.{out_of_order, missing_or_twice, reply_of_none, wrong_changes, snapshot_rules}

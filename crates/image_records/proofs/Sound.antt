@@ -4,9 +4,9 @@ use Rattle.std.specs.Prelude.{◌&&◌, ◌||◌, not, ◌==◌, nat_lt}
 use Rattle.std.specs.List.{list_all, AllByRecursion}
 use Rattle.std.proofs.lemmas.Bool.{and_parts, cases_lt, lt-ltb, eqb-true}
 use Rattle.tm_types.specs.declared.message.Reply.{Reply}
-use Rattle.model_queues.specs.declared.replies.TerminalReplies.{TerminalReplies}
-use Rattle.model_queues.specs.Outputs.{AreNumbered, RunUpTo, outputs_bytes}
-use Rattle.model_queues.specs.Room.{messages_bytes}
+use Rattle.model_messages.specs.declared.replies.TerminalReplies.{TerminalReplies}
+use Rattle.model_messages.specs.Outputs.{AreNumbered, RunUpTo, outputs_bytes}
+use Rattle.model_messages.specs.Room.{messages_bytes}
 use Rattle.model_system.specs.System.{System}
 use Rattle.model_machine.specs.Machine.{LastingState}
 use Rattle.model_image.specs.States.{ascend_below, run_up_to, breaks_a_rule, wrong_values, wrong_ids, unknown_messages, wrong_replies, over_full}

@@ -4,7 +4,7 @@ use Rattle.std.specs.List.{list_all}
 use Rattle.model_system.specs.System.{System}
 use Rattle.model_machine.specs.Machine.{LastingState}
 use Rattle.log_records.specs.declared.record.Record.{Record}
-use Rattle.told_lasting.specs.Telling.{is_change}
+use Rattle.image_records.specs.Telling.{is_change}
 use Rattle.restart_data.specs.Rules.{first_broken, unless_broken}
 use Rattle.model_image.specs.Cut.{cut_of, records_of, IsCutOff}
 use Rattle.model_image.specs.Snapshot.{snapshot_state, snapshot_rules}

@@ -3,8 +3,8 @@ use Rattle.std.specs.Prelude.{◌≡◌, ℕ, Bool, ◌||◌, List, [], ◌∷�
 use Rattle.model_system.specs.System.{System}
 use Rattle.model_machine.specs.Machine.{LastingState}
 use Rattle.log_records.specs.declared.record.Record.{Record}
-use Rattle.told_lasting.specs.Telling.{is_change}
-use Rattle.told_lasting.specs.declared.telling.Told.{Told}
+use Rattle.image_records.specs.Telling.{is_change}
+use Rattle.image_records.specs.declared.telling.Told.{Told}
 use Rattle.model_image.specs.Snapshot.{out_of_order, missing_or_twice, reply_of_none, wrong_changes, snapshot_state}
 use Rattle.model_image.specs.States.{wrong_values, wrong_ids, unknown_messages, wrong_replies, over_full}
 use Rattle.image_records.specs.declared.reading.RecordRules.{RecordRules}

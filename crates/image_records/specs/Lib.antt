@@ -1,3 +1,5 @@
+pub mod Telling
+pub mod Weighing
 pub mod Kept
 pub mod Cutting
 pub mod NamedSlots

@@ -2,16 +2,15 @@
 ghost use Rattle.std.specs.Prelude.{◌≡◌, ◌==◌, ◌&&◌, ◌+◌, ◌<◌, false, nat_lt, not, length, slice_get, drop, bytes_eq};
 ghost use Rattle.std.specs.List.{list_all, list_any};
 ghost use Rattle.std.specs.Option.{option_map_or, option_copied};
-ghost use Rattle.model_conversation.specs.Input.{is_conversing};
-ghost use Rattle.model_conversation.specs.Terminals.{conversation_at, terminal_at, is_of};
+ghost use Rattle.model_messages.specs.Input.{is_conversing};
+ghost use Rattle.model_messages.specs.Terminals.{conversation_at, terminal_at, is_of};
 ghost use Rattle.model_image.specs.States.{is_small, is_next, is_setting, is_printable, is_pad_of, is_conversation, has_right_pad, wrong_values, ascend_below, wrong_ids, is_of_conversation, has_no_pad, is_known, are_alone, unknown_messages, run_up_to, wrong_replies};
 
 use crate::order::{is_next, is_small};
 use crate::rules::{is_code, is_terminal};
 use conversation::is_conversing;
-use model_conversation::{Conversation, TerminalConversation, has_code};
 use model_machine::{CodeSetting, Lasting, TerminalState};
-use model_queues::{Replies, TerminalReplies};
+use model_messages::{Conversation, Replies, TerminalConversation, TerminalReplies, has_code};
 use system_types::System;
 use tm_types::{Message, Name, are_printable};
 

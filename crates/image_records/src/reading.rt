@@ -11,13 +11,12 @@ use crate::cutting::cut;
 use crate::fault::RecordsFault;
 use crate::snapshot::Snapshot;
 use crate::tables::tables_of;
-use crate::{judging, rules};
+use crate::{Told, are_images_of, is_over_full, judging, rules, tell_all};
 use log_records::Record;
 use model_machine::Lasting;
 use std::alloc::Global;
 use system_types::System;
 use tm_types::Memory;
-use told_lasting::{Told, are_images_of, is_over_full, tell_all};
 
 /// Which rules on the records alone are broken.
 #[derive(Clone, Copy, Debug)]

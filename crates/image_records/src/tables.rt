@@ -1,22 +1,22 @@
 //! The tables of what lasts.
 ghost use Rattle.std.specs.Prelude.{◌≡◌, ◌+◌, ◌<◌, ◌^◌, false, true, map, IfOk, OnOk};
 ghost use Rattle.std.specs.List.{list_all};
-ghost use Rattle.model_queues.specs.Queue.{IsNewId, messages_of, with_message};
-ghost use Rattle.model_queues.specs.Room.{message_bytes, messages_bytes};
-ghost use Rattle.model_queues.specs.Outputs.{outputs_bytes};
+ghost use Rattle.model_messages.specs.Queue.{IsNewId, messages_of, with_message};
+ghost use Rattle.model_messages.specs.Room.{message_bytes, messages_bytes};
+ghost use Rattle.model_messages.specs.Outputs.{outputs_bytes};
 ghost use Rattle.model_image.specs.States.{ascend_below, breaks_a_rule, run_up_to};
 ghost use Rattle.image_records.specs.Kept.{Keeps, free_message};
 
 use crate::kept::Kept;
+use crate::replies_content;
 use conversation::Conversations;
 use model_machine::Lasting;
-use model_queues::TerminalReplies;
+use model_messages::TerminalReplies;
 use msg_queues::Queues;
 use out_queues::Outputs;
 use std::alloc::Global;
 use system_types::System;
 use tm_types::{Memory, Message};
-use told_lasting::replies_content;
 
 /// The tables of a state that breaks no rule, which is taken over. `Memory` is the only refusal.
 #[tactic(auto, using(crate::proofs::Sound::sound_steps))]

@@ -8,8 +8,8 @@ use Rattle.std.proofs.lemmas.Bool.{and_parts, ltb-true, ltb-false}
 use Rattle.std.proofs.lemmas.List.{length-append, length-replicate, length-take, take-append-le}
 use Rattle.std.proofs.lemmas.List.Folds.{list_all-append}
 use Rattle.tm_types.specs.Segment.{IsSegmentText, is_printable}
-use Rattle.model_conversation.specs.Pads.{code_field, fitted, is_pad}
-use Rattle.model_message.specs.Calls.{is_wrong_pad}
+use Rattle.model_messages.specs.Pads.{code_field, fitted, is_pad}
+use Rattle.model_messages.specs.Calls.{is_wrong_pad}
 use Rattle.io_pcb.specs.Pads.{AreKept, IsPadText, conversation_by}
 
 pub fitted_length : (n : ℕ) (text : List ℕ) → length (fitted n text) ≡ n

@@ -2,12 +2,12 @@
 use Rattle.std.specs.Prelude.{◌≡◌, ℕ, ◌+◌, ◌≤◌, ⊤, Bool, true, false, ◌&&◌, List, Option, Some, None, length}
 use Rattle.std.specs.Option.{option_map}
 use Rattle.tm_types.specs.Segment.{IsSegmentText}
-use Rattle.model_conversation.specs.declared.conversation.Conversation.{Conversation}
-use Rattle.model_conversation.specs.declared.conversation.PadChange.{PadChange}
-use Rattle.model_conversation.specs.declared.conversation.PadChange.TheVariants.{Stays, New, Ends}
-use Rattle.model_conversation.specs.Pads.{is_pad, pad_fault}
-use Rattle.model_message.specs.Work.{MessageWork}
-use Rattle.model_message.specs.Calls.{gives_back, is_wrong_pad}
+use Rattle.model_messages.specs.declared.conversation.Conversation.{Conversation}
+use Rattle.model_messages.specs.declared.conversation.PadChange.{PadChange}
+use Rattle.model_messages.specs.declared.conversation.PadChange.TheVariants.{Stays, New, Ends}
+use Rattle.model_messages.specs.Pads.{is_pad, pad_fault}
+use Rattle.model_messages.specs.Work.{MessageWork}
+use Rattle.model_messages.specs.Calls.{gives_back, is_wrong_pad}
 use Rattle.io_pcb.specs.declared.pad.LentPad.{LentPad}
 use Rattle.io_pcb.specs.declared.pad.LentPad.TheVariants.{Stays as LentStays, New as LentNew, Ends as LentEnds}
 

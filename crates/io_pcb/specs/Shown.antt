@@ -1,5 +1,5 @@
 -- A message that was ended, as it is lent.
-use Rattle.model_message.specs.declared.ended_message.EndedMessage.{EndedMessage}
+use Rattle.model_messages.specs.declared.ended_message.EndedMessage.{EndedMessage}
 use Rattle.io_pcb.specs.declared.output.Output.{Output}
 
 -- what it lends

@@ -3,7 +3,7 @@ use Rattle.std.specs.Prelude.{◌≡◌, ℕ, ◌-◌, ◌≤◌, List, Option, 
 use Rattle.tm_types.specs.declared.message.Message.{Message}
 use Rattle.tm_types.specs.Segment.{are_printable}
 use Rattle.model_system.specs.Jobs.{Job}
-use Rattle.model_message.specs.Work.{MessageWork, message_start}
+use Rattle.model_messages.specs.Work.{MessageWork, message_start}
 use Rattle.io_pcb.specs.Pads.{conversation_by}
 
 -- A pad is given exactly where the code has one: all but the first 6 bytes of it, each printable.

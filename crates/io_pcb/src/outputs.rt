@@ -1,10 +1,10 @@
 //! What is sent at the sync point.
 ghost use Rattle.std.specs.Prelude.{◌≡◌, ◌∷◌, ◌++◌, [], Some, OnOk};
 ghost use Rattle.std.specs.List.{flat_map};
-ghost use Rattle.model_message.specs.Work.{ended_to, ended_by};
+ghost use Rattle.model_messages.specs.Work.{ended_to, ended_by};
 
 use crate::pcbs::destination;
-use model_message::{EndedMessage, OpenPcb};
+use model_messages::{EndedMessage, OpenPcb};
 use std::collections::VecDeque;
 use tm_types::{Memory, Name, Segments};
 

@@ -1,11 +1,11 @@
 //! Scratch pads, as a program is given them and gives them back.
 ghost use Rattle.std.specs.Prelude.{◌≡◌, ◌≤◌, IfOk, IfSome, Some, length};
 ghost use Rattle.std.specs.Option.{option_copied};
-ghost use Rattle.model_conversation.specs.Pads.{pad_change_by};
+ghost use Rattle.model_messages.specs.Pads.{pad_change_by};
 ghost use Rattle.io_pcb.specs.Pads.{IsPadText, lent_pad};
 
 use crate::LentPad;
-use model_conversation::ends;
+use model_messages::ends;
 use std::alloc::Global;
 use tm_types::{Memory, Segment, segment_of};
 

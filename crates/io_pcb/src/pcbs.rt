@@ -2,11 +2,11 @@
 ghost use Rattle.std.specs.Prelude.{◌≡◌, ◌+◌, ◌≤◌, ◌<◌, ◌++◌, Some, false, IsSome, IsTrue, IfOk, OnOk, OnErr, length, map, slice_get};
 ghost use Rattle.std.specs.Option.{option_map_or};
 ghost use Rattle.std.specs.Vec.{vec_capacity};
-ghost use Rattle.model_message.specs.Work.{fresh_pcb, fresh_pcbs, destination_of, ended_to, ended_by, without_message};
-ghost use Rattle.model_message.specs.Calls.{with_segment, with_chosen, can_change, reset_pcb, ended_at, destination_at};
+ghost use Rattle.model_messages.specs.Work.{fresh_pcb, fresh_pcbs, destination_of, ended_to, ended_by, without_message};
+ghost use Rattle.model_messages.specs.Calls.{with_segment, with_chosen, can_change, reset_pcb, ended_at, destination_at};
 ghost use Rattle.model_system.specs.Lists.{change_at};
 
-use model_message::{EndedMessage, OpenPcb};
+use model_messages::{EndedMessage, OpenPcb};
 use model_system::Pcb;
 use std::alloc::Global;
 use std::mem;

@@ -2,10 +2,10 @@
 ghost use Rattle.std.specs.Prelude.{◌≡◌, true, false, IfOk, IfSome, IsSomeAnd, OnOk, OnErr, slice_get};
 ghost use Rattle.std.specs.Option.{option_copied, option_map};
 ghost use Rattle.tm_types.specs.Segment.{IsSegmentText};
-ghost use Rattle.model_message.specs.Calls.{given};
-ghost use Rattle.model_message.specs.Work.{message_start};
-ghost use Rattle.model_message.specs.Calls.{unique_answer, unique_work, next_answer, next_work, insert_status, insert_work, purge_status, purge_work, change_status, change_work, reset_work, finish_work};
-ghost use Rattle.model_message.specs.Calls.{texts_of, gives_back, segment_status, segment_work, pad_change};
+ghost use Rattle.model_messages.specs.Calls.{given};
+ghost use Rattle.model_messages.specs.Work.{message_start};
+ghost use Rattle.model_messages.specs.Calls.{unique_answer, unique_work, next_answer, next_work, insert_status, insert_work, purge_status, purge_work, change_status, change_work, reset_work, finish_work};
+ghost use Rattle.model_messages.specs.Calls.{texts_of, gives_back, segment_status, segment_work, pad_change};
 ghost use Rattle.io_pcb.specs.Shown.{shown};
 ghost use Rattle.model_system.specs.Codes.{code_at};
 ghost use Rattle.model_system.specs.Jobs.{job_of};
@@ -14,8 +14,7 @@ ghost use Rattle.io_pcb.specs.Pads.{IsPadText, Suits, conversation_by, gives_wro
 
 use crate::destinations::{destination_named, without_blanks};
 use crate::{LentPad, Output, outputs, pads, pcbs};
-use model_conversation::{fitted, is_pad};
-use model_message::{EndedMessage, OpenPcb};
+use model_messages::{EndedMessage, OpenPcb, fitted, is_pad};
 use model_system::{Pcbs, Transaction};
 use std::alloc::Global;
 use std::collections::VecDeque;
@@ -59,7 +58,7 @@ pub struct Work {
 }
 
 impl Model for Work {
-    ghost use Rattle.model_message.specs.Work.{MessageWork};
+    ghost use Rattle.model_messages.specs.Work.{MessageWork};
     ghost use Rattle.io_pcb.specs.Pads.{AreKept, conversation_by, place_by};
 
     ghost Value = { MessageWork };

@@ -1,6 +1,6 @@
 -- A checkpoint of a life.
 use Rattle.std.proofs.Common.{◌≡◌, ◌≤◌, ◌+◌, ◌*◌, ◌/◌, ℕ, List, length, refl, sym, subst, arith}
-use Rattle.model_disk.specs.Disk.{DiskState, Follows}
+use Rattle.tm_disk.specs.Disk.{DiskState, Follows}
 use Rattle.model_system.specs.System.{System}
 use Rattle.model_image.specs.Areas.{snapshot_area, snapshot_first, log_first, data_first}
 use Rattle.model_image.proofs.Places.{log_below, slot_above}
@@ -9,15 +9,15 @@ use Rattle.log_writer.specs.Writer.{Writer}
 use Rattle.restart_data.specs.declared.restart.RestartSector.{RestartSector}
 use Rattle.restart_data.specs.Restart.{IsRestart}
 use Rattle.seg_store.specs.Changed.{AllStores}
-use Rattle.slot_law.specs.Committed.{Touches}
+use Rattle.disk_law.specs.Committed.{Touches}
 use Rattle.checkpointing.specs.Parts.{CheckpointParts, other_area, next_restart, sequence_behind, AreFree, IsOver}
 use Rattle.checkpointing.specs.Checkpoint.{IsCheckpointed}
 use Rattle.checkpointing.specs.Conditions.{HasRestart, NoneIsAhead, ChangedAreNamed, ForceKeeps, SnapshotKeeps}
 use Rattle.checkpointing.specs.Written.{AreOf}
 use Rattle.disk_law.specs.Life.{LifeOnDisk}
 use Rattle.disk_law.specs.Kept.{AreKept}
-use Rattle.checkpoint_law.specs.Checkpointing.{parts_with, after_checkpoint}
-use Rattle.checkpoint_law.proofs.OnDisk.{has_restart, changed_are_named, none_is_ahead, forces_keep, snapshots_keep, checkpoint_done}
+use Rattle.disk_law.specs.Checkpointing.{parts_with, after_checkpoint}
+use Rattle.disk_law.proofs.CheckpointLawOnDisk.{has_restart, changed_are_named, none_is_ahead, forces_keep, snapshots_keep, checkpoint_done}
 use Rattle.disk_law.specs.Journal.{JournalState}
 use Rattle.journal.specs.Checkpoints.{parts_for, IsOf, CanCheckpoint}
 

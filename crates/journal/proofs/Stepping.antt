@@ -1,13 +1,13 @@
 -- A step of a life, by what its force leaves on the disk.
 use Rattle.std.proofs.Common.{subst, sym, Ok, Err}
 use Rattle.std.specs.Prelude.{Result, OnOk}
-use Rattle.model_disk.specs.Disk.{DiskState, IsDisk, Within, Follows}
+use Rattle.tm_disk.specs.Disk.{DiskState, IsDisk, Within, Follows}
 use Rattle.log_writer.specs.Writer.{Writer}
 use Rattle.log_writer.specs.Log.{AddsFront, AddsAll}
 use Rattle.disk_law.specs.Life.{LifeOnDisk}
 use Rattle.disk_law.specs.Kept.{AreKept}
-use Rattle.step_law.specs.Steps.{StepOnDisk, after_step}
-use Rattle.step_law.proofs.OnDisk.{step_at_any_moment, step_done}
+use Rattle.disk_law.specs.Steps.{StepOnDisk, after_step}
+use Rattle.disk_law.proofs.OnDisk.{step_at_any_moment, step_done}
 use Rattle.journal.specs.State.{IsStepOf, RecoverEither}
 
 module _ (log : Writer) (life : LifeOnDisk) (step : StepOnDisk) (is : IsStepOf log life step) (old : DiskState) (kept : AreKept life old) where

@@ -1,17 +1,17 @@
 -- What a checkpoint asks for: a life whose snapshot is given.
 use Rattle.std.specs.Prelude.{◌≡◌, ℕ, ◌<◌, ◌≤◌, List, length}
-use Rattle.model_disk.specs.Disk.{DiskState}
+use Rattle.tm_disk.specs.Disk.{DiskState}
 use Rattle.model_system.specs.System.{System}
 use Rattle.log_records.specs.declared.record.Record.{Record}
 use Rattle.log_writer.specs.Log.{IsReady}
 use Rattle.restart_data.specs.declared.restart.RestartSector.{RestartSector}
 use Rattle.seg_store.specs.Changed.{AllStores}
 use Rattle.model_image.specs.Areas.{snapshot_area, snapshot_first, log_first, data_first}
-use Rattle.slot_law.specs.Committed.{Touches}
+use Rattle.disk_law.specs.Committed.{Touches}
 use Rattle.checkpointing.specs.Parts.{CheckpointParts, other_area}
 use Rattle.disk_law.specs.Life.{LifeOnDisk, IsLife}
 use Rattle.disk_law.specs.Kept.{AreKept}
-use Rattle.checkpoint_law.specs.Checkpointing.{MayCheckpoint}
+use Rattle.disk_law.specs.Checkpointing.{MayCheckpoint}
 use Rattle.disk_law.specs.Journal.{JournalState}
 
 -- The parts of a checkpoint with these bytes as its snapshot: it goes to the areas that the restart sector doesn't name.

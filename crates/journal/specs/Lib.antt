@@ -1,2 +1,11 @@
+pub mod Turning
+pub mod Counts
+pub mod Doing
+pub mod Carried
+pub mod Going
+pub mod Opens
+pub mod Counted
+pub mod Steps
+pub mod Units
 pub mod State
 pub mod Checkpoints

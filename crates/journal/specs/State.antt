@@ -1,11 +1,11 @@
 -- What a control region keeps of its disk.
 use Rattle.std.specs.Prelude.{◌≡◌, ℕ, ◌+◌, ◌≤◌, ◌↔◌, List, [], length, Option, Some, None}
-use Rattle.model_disk.specs.Disk.{Image, DiskState}
+use Rattle.tm_disk.specs.Disk.{Image, DiskState}
 use Rattle.model_system.specs.System.{System}
 use Rattle.model_machine.specs.Machine.{LastingState}
 use Rattle.disk_law.specs.Life.{LifeOnDisk, IsLife}
 use Rattle.disk_law.specs.Kept.{RecoversEither}
-use Rattle.step_law.specs.Steps.{StepOnDisk, IsStep, with_records}
+use Rattle.disk_law.specs.Steps.{StepOnDisk, IsStep, with_records}
 use Rattle.log_writer.specs.Writer.{Writer}
 use Rattle.log_writer.specs.Log.{sectors_of}
 

@@ -1,6 +1,6 @@
 //! The journal.
 ghost use Rattle.std.specs.Prelude.{◌≡◌, ℕ, List, map, ◌+◌, ◌*◌, ◌<◌, ◌≤◌, ◌^◌, [], length, OnOk, OnErr};
-ghost use Rattle.model_disk.specs.Disk.{Stays, Within, Follows, Only, WritesAtMost, FailedSince};
+ghost use Rattle.tm_disk.specs.Disk.{Stays, Within, Follows, Only, WritesAtMost, FailedSince};
 ghost use Rattle.restart_data.specs.Restart.{IsRestart};
 ghost use Rattle.restart_data.specs.Snapshot as sectors;
 ghost use Rattle.model_image.specs.Areas.{data_first};
@@ -14,15 +14,15 @@ ghost use Rattle.checkpointing.specs.Conditions.{HasRestart, NoneIsAhead, Change
 ghost use Rattle.log_writer.specs.Log.{sectors_of, IsReady, AddsFront, AddsAll};
 ghost use Rattle.disk_law.specs.Life.{LifeOnDisk};
 ghost use Rattle.disk_law.specs.Kept.{AreKept};
-ghost use Rattle.step_law.specs.Steps.{StepOnDisk, after_step};
+ghost use Rattle.disk_law.specs.Steps.{StepOnDisk, after_step};
 ghost use Rattle.log_records.specs.declared.record.Record.{Record};
-ghost use Rattle.slot_law.specs.Committed.{Touches};
-ghost use Rattle.checkpoint_law.specs.Checkpointing.{after_checkpoint};
+ghost use Rattle.disk_law.specs.Committed.{Touches};
+ghost use Rattle.disk_law.specs.Checkpointing.{after_checkpoint};
 ghost use Rattle.journal.specs.State.{TellsRoom, TellsAllRoom, holding, forced, IsStepOf, RecoverEither};
 ghost use Rattle.journal.specs.Checkpoints.{parts_for, IsOf, CanCheckpoint};
 
 use checkpointing::{PartsView, take};
-use image_areas::{log_first, snapshot_area, snapshot_first};
+use image_loading::{log_first, snapshot_area, snapshot_first};
 use log_writer::LogWriter;
 use restart_data::RestartSector;
 use seg_store::Stores;

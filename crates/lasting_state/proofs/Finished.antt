@@ -6,20 +6,20 @@ use Rattle.std.proofs.lemmas.Bool.{ne_eqb, eqb-true}
 use Rattle.std.specs.Prelude.{IsSome, IsSomeAnd, if◌then◌else◌, find, ◌==◌}
 use Rattle.std.specs.Option.{is_some, option_map}
 use Rattle.tm_types.specs.declared.message.Message.{Message}
-use Rattle.model_conversation.specs.declared.conversation.PadChange.{PadChange}
-use Rattle.model_conversation.specs.declared.conversation.TerminalConversation.{TerminalConversation}
-use Rattle.model_queues.specs.declared.queued.Queued.{Queued}
-use Rattle.model_queues.specs.declared.replies.TerminalReplies.{TerminalReplies}
-use Rattle.model_queues.specs.Queue.{QueuesState, IsNewId, has_id, queued_at, message_at, messages_of, without}
-use Rattle.model_queues.specs.Outputs.{replies_at, with_terminal, with_reply}
-use Rattle.model_queues.proofs.Laws.{found_message, found_behind, message_found, new_id_without, messages_without}
-use Rattle.model_message.specs.declared.ended_message.EndedMessage.{EndedMessage}
+use Rattle.model_messages.specs.declared.conversation.PadChange.{PadChange}
+use Rattle.model_messages.specs.declared.conversation.TerminalConversation.{TerminalConversation}
+use Rattle.model_messages.specs.declared.queued.Queued.{Queued}
+use Rattle.model_messages.specs.declared.replies.TerminalReplies.{TerminalReplies}
+use Rattle.model_messages.specs.Queue.{QueuesState, IsNewId, has_id, queued_at, message_at, messages_of, without}
+use Rattle.model_messages.specs.Outputs.{replies_at, with_terminal, with_reply}
+use Rattle.model_messages.proofs.Laws.{found_message, found_behind, message_found, new_id_without, messages_without}
+use Rattle.model_messages.specs.declared.ended_message.EndedMessage.{EndedMessage}
 use Rattle.model_machine.specs.Machine.{LastingState}
 use Rattle.model_machine.specs.declared.lasting.CodeSetting.{CodeSetting}
 use Rattle.model_machine.specs.Lasting.{finished as finished_state, finished_by, all_sent, switched, replied, without_message, abend_outputs, discarded_pad, padded, with_pad_by}
 use Rattle.model_machine.specs.Lasting.LastingStep.{Completes, Discards}
 use Rattle.tm_types.specs.declared.abend.AbendCode.{AbendCode}
-use Rattle.model_rows.specs.declared.row.Row.{Row}
+use Rattle.model_data.specs.declared.row.Row.{Row}
 use Rattle.program_rows.specs.State.{DatabasesState, region_at, rows_of}
 use Rattle.program_rows.specs.Answering.{IsCommitted, IsGivenUp}
 use Rattle.lasting_state.specs.Tables.{TablesState, lasting_of, closed, finished, Applies, IsFinished, IsClosed}

@@ -4,3 +4,6 @@ pub mod Finished
 mod Fresh
 pub mod Told
 pub mod Commanded
+pub mod Counting
+pub mod Counted
+pub mod StepTellingLimits

@@ -5,13 +5,13 @@ use Rattle.std.proofs.lemmas.Bool.{eq-eqb, ne_eqb}
 use Rattle.std.specs.Prelude.{IsSome, IsSomeAnd}
 use Rattle.std.specs.Option.{is_some}
 use Rattle.tm_types.specs.declared.message.Message.{Message}
-use Rattle.model_queues.specs.declared.queued.Queued.{Queued}
-use Rattle.model_queues.specs.declared.replies.TerminalReplies.{TerminalReplies}
-use Rattle.model_queues.specs.Queue.{QueuesState, with_message, without, IsNewId, has_id, queued_at}
-use Rattle.model_queues.proofs.TakenBack.{taken_back}
-use Rattle.model_queues.specs.Outputs.{is_of, replies_at, with_terminal, with_reply, without_last}
-use Rattle.model_message.specs.declared.ended_message.EndedMessage.{EndedMessage}
-use Rattle.step_telling.proofs.Counted.{there_still}
+use Rattle.model_messages.specs.declared.queued.Queued.{Queued}
+use Rattle.model_messages.specs.declared.replies.TerminalReplies.{TerminalReplies}
+use Rattle.model_messages.specs.Queue.{QueuesState, with_message, without, IsNewId, has_id, queued_at}
+use Rattle.model_messages.proofs.TakenBack.{taken_back}
+use Rattle.model_messages.specs.Outputs.{is_of, replies_at, with_terminal, with_reply, without_last}
+use Rattle.model_messages.specs.declared.ended_message.EndedMessage.{EndedMessage}
+use Rattle.lasting_state.proofs.Counted.{there_still}
 use Rattle.lasting_state.specs.Sending.{switches, switched_message, switched_messages, with_messages, with_replies, IsSent}
 
 -- ---- which terminals are there

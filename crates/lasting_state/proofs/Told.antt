@@ -6,14 +6,14 @@ use Rattle.std.proofs.lemmas.Bool.{false≢true, eqb-true, eq-eqb, le-ltb}
 use Rattle.std.proofs.Math.Seq.{take-append_seam}
 use Rattle.tm_types.specs.declared.message.Message.{Message}
 use Rattle.tm_types.specs.declared.abend.AbendCode.{AbendCode}
-use Rattle.model_conversation.specs.declared.conversation.PadChange.{PadChange}
-use Rattle.model_rows.specs.declared.row.Row.{Row}
-use Rattle.model_queues.specs.Queue.{message_at}
+use Rattle.model_messages.specs.declared.conversation.PadChange.{PadChange}
+use Rattle.model_data.specs.declared.row.Row.{Row}
+use Rattle.model_messages.specs.Queue.{message_at}
 use Rattle.tm_types.specs.declared.message.Reply.{Reply}
-use Rattle.model_queues.specs.declared.replies.TerminalReplies.{TerminalReplies}
-use Rattle.model_queues.specs.Outputs.{first_number, next_of}
-use Rattle.model_queues.proofs.Laws.{found_message, message_found}
-use Rattle.model_message.specs.declared.ended_message.EndedMessage.{EndedMessage}
+use Rattle.model_messages.specs.declared.replies.TerminalReplies.{TerminalReplies}
+use Rattle.model_messages.specs.Outputs.{first_number, next_of}
+use Rattle.model_messages.proofs.Laws.{found_message, message_found}
+use Rattle.model_messages.specs.declared.ended_message.EndedMessage.{EndedMessage}
 use Rattle.model_machine.specs.declared.lasting.CodeSetting.{CodeSetting}
 use Rattle.model_machine.specs.declared.entry.Acked.{Acked}
 use Rattle.model_machine.specs.declared.entry.Acked.TheVariants.{Removed, Already}
@@ -29,8 +29,8 @@ use Rattle.log_records.specs.declared.record.Record.TheVariants.{Acknowledged, D
 use Rattle.log_records.specs.Telling.{spelled, IsUntold, Tells as RecordsTell}
 use Rattle.log_records.specs.declared.untold.Untold.{Untold}
 use Rattle.log_records.specs.declared.untold.Untold.TheVariants.{Memory, Full}
-use Rattle.step_records.specs.Records.{completion_records, completed_by, discarded_by, step_records}
-use Rattle.step_telling.specs.Untold.{WhereFull}
+use Rattle.model_image.specs.Records.{completion_records, completed_by, discarded_by, step_records}
+use Rattle.lasting_state.specs.Untold.{WhereFull}
 use Rattle.lasting_state.specs.Tables.{TablesState, lasting_of}
 use Rattle.lasting_state.specs.Telling.{IsLonger, Tells, TellsAcknowledged, is_first_of, removes_by}
 

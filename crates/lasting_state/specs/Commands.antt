@@ -2,7 +2,7 @@
 use Rattle.std.specs.Prelude.{◌≡◌, ◌+◌, true, false, None, List}
 use Rattle.tm_types.specs.declared.command.LastingCommand.{LastingCommand}
 use Rattle.tm_types.specs.declared.command.LastingCommand.TheVariants.{StartTransaction, StopTransaction, StartTerminal, StopTerminal, DequeueFirst, DequeueAll, Exit}
-use Rattle.model_queues.specs.Outputs.{with_terminal, without_first}
+use Rattle.model_messages.specs.Outputs.{with_terminal, without_first}
 use Rattle.model_system.specs.Lists.{change_at}
 use Rattle.model_machine.specs.declared.lasting.CodeSetting.{CodeSetting}
 use Rattle.model_machine.specs.Machine.{setting_place, terminal_place}

@@ -1,7 +1,7 @@
 -- Inputs as they are kept.
 use Rattle.std.specs.Prelude.{ℕ, ◌==◌, Bool, List, Option, if◌then◌else◌}
 use Rattle.tm_types.specs.Words.{operands}
-use Rattle.model_conversation.specs.declared.conversation.Conversation.{Conversation}
+use Rattle.model_messages.specs.declared.conversation.Conversation.{Conversation}
 use Rattle.model_machine.specs.Lasting.{KeptInput}
 
 -- an input that is kept with this code and flag, these segments, and the conversation that begins with it

@@ -5,3 +5,6 @@ pub mod Lending
 pub mod Showing
 pub mod Kept
 pub mod Commands
+pub mod Untold
+pub mod Counted
+pub mod Ranges

@@ -2,11 +2,11 @@
 use Rattle.std.specs.Prelude.{◌≡◌, ℕ, ◌+◌, Bool, false, not, List, [], ◌∷◌, ◌++◌, None, map, filter, length}
 use Rattle.std.specs.Option.{is_some}
 use Rattle.tm_types.specs.declared.message.Message.{Message}
-use Rattle.model_queues.specs.declared.queued.Queued.{Queued}
-use Rattle.model_queues.specs.Queue.{QueuesState}
-use Rattle.model_queues.specs.declared.replies.TerminalReplies.{TerminalReplies}
-use Rattle.model_queues.specs.Outputs.{replies_at, with_terminal, with_reply}
-use Rattle.model_message.specs.declared.ended_message.EndedMessage.{EndedMessage}
+use Rattle.model_messages.specs.declared.queued.Queued.{Queued}
+use Rattle.model_messages.specs.Queue.{QueuesState}
+use Rattle.model_messages.specs.declared.replies.TerminalReplies.{TerminalReplies}
+use Rattle.model_messages.specs.Outputs.{replies_at, with_terminal, with_reply}
+use Rattle.model_messages.specs.declared.ended_message.EndedMessage.{EndedMessage}
 
 -- an output goes to a code where no terminal has its name
 abbrev pub is_switched : List TerminalReplies → EndedMessage → Bool

@@ -1,6 +1,6 @@
 -- What a terminal is shown.
 use Rattle.std.specs.Prelude.{◌≡◌, Bool, true, false, Option, Some, None, slice_get}
-use Rattle.model_queues.specs.declared.replies.TerminalReplies.{TerminalReplies}
+use Rattle.model_messages.specs.declared.replies.TerminalReplies.{TerminalReplies}
 use Rattle.model_machine.specs.declared.lasting.TerminalState.{TerminalState}
 use Rattle.lasting_state.specs.declared.shown.Shown.{Shown}
 use Rattle.lasting_state.specs.declared.shown.Shown.TheVariants.{Reply, Empty, Stopped, Unknown}

@@ -11,9 +11,9 @@ use Rattle.model_machine.specs.declared.entry.Acked.{Acked}
 use Rattle.model_machine.specs.declared.entry.Acked.TheVariants.{Removed, Already}
 use Rattle.model_machine.specs.declared.entry.AckRefused.{AckRefused}
 use Rattle.model_machine.specs.declared.entry.AckRefused.TheVariants.{Unknown, Ahead, Fault}
-use Rattle.model_queues.specs.declared.replies.TerminalReplies.{TerminalReplies}
+use Rattle.model_messages.specs.declared.replies.TerminalReplies.{TerminalReplies}
 use Rattle.tm_types.specs.declared.message.Reply.{Reply}
-use Rattle.step_records.specs.Records.{step_bytes, step_records}
+use Rattle.model_image.specs.Records.{step_bytes, step_records}
 use Rattle.lasting_state.specs.declared.tables.Enqueued.{Enqueued}
 use Rattle.lasting_state.specs.declared.tables.Enqueued.TheVariants.{New, Full}
 use Rattle.lasting_state.specs.Tables.{TablesState, lasting_of, needs}

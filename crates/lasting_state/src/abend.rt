@@ -2,10 +2,10 @@
 ghost use Rattle.std.specs.Prelude.{◌≡◌, IfOk};
 ghost use Rattle.model_machine.specs.Lasting.{abend_outputs};
 
-use model_message::EndedMessage;
+use lasting_changes::abend_segments;
+use model_messages::EndedMessage;
 use std::alloc::Global;
 use std::collections::VecDeque;
-use step_changes::abend_segments;
 use tm_types::{AbendCode, Memory, Message};
 
 /// What is sent where the work on this message ended abnormally: its text in one segment, to its origin.

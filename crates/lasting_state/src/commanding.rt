@@ -1,18 +1,17 @@
 //! Commands of an operator that last.
 ghost use Rattle.std.specs.Prelude.{◌≡◌, ◌<◌, ◌^◌, IfErr, OnErr, OnOk};
 ghost use Rattle.model_machine.specs.Lasting.LastingStep.{Commands};
-ghost use Rattle.step_telling.specs.Untold.{WhereFull};
+ghost use Rattle.lasting_state.specs.Untold.{WhereFull};
 ghost use Rattle.lasting_state.specs.Commands.{AppliesCommand, command_done, commanded};
 ghost use Rattle.lasting_state.specs.Telling.{IsLonger, Tells};
 
 use crate::limits::COUNT_LIMIT;
 use crate::tables::Tables;
-use command_changes::{dequeue_all, dequeue_first, stop_terminal};
+use crate::tell_command;
+use lasting_changes::{change_pad, dequeue_all, dequeue_first, stop_terminal};
 use log_records::Untold;
-use model_conversation::PadChange;
+use model_messages::PadChange;
 use std::alloc::Global;
-use step_changes::change_pad;
-use step_telling::tell_command;
 use tm_types::LastingCommand;
 
 impl Tables {

@@ -2,12 +2,12 @@
 ghost use Rattle.std.specs.Prelude.{◌≡◌, ◌-◌, true, Some, IfOk};
 ghost use Rattle.tm_types.specs.Segment.{IsSegmentText};
 ghost use Rattle.tm_types.specs.Words.{operands};
-ghost use Rattle.model_conversation.specs.Pads.{begun};
+ghost use Rattle.model_messages.specs.Pads.{begun};
 ghost use Rattle.model_machine.specs.Lasting.{without_word};
 ghost use Rattle.lasting_state.specs.Kept.{kept_as, kept_at};
 
 use conversation::begun;
-use model_conversation::Conversation;
+use model_messages::Conversation;
 use std::alloc::Global;
 use std::marker::Model;
 use tm_types::{Memory, Message, Name, Segment, Segments, operands, segment_of};

@@ -1,6 +1,6 @@
 //! What lasts, as a life goes on with it.
 ghost use Rattle.std.specs.Prelude.{◌≡◌, [], length, map, replicate};
-ghost use Rattle.model_queues.specs.Queue.{IsNewId};
+ghost use Rattle.model_messages.specs.Queue.{IsNewId};
 ghost use Rattle.seg_store.specs.Stores.{no_changed};
 ghost use Rattle.program_rows.specs.State.{clean_region, committed_rows, dbds_of, rows_of, AreRowsOf};
 ghost use Rattle.program_rows.specs.OnSlots.{slots_in};

@@ -1,16 +1,16 @@
 //! Outputs on their way: to codes as messages, and to terminals as replies.
 ghost use Rattle.std.specs.Prelude.{◌≡◌, ◌≤◌, ◌+◌, ◌^◌, IfOk, IfSome, OnOk, OnErr, IsSome};
 ghost use Rattle.tm_types.specs.Segment.{counted_bytes};
-ghost use Rattle.model_queues.specs.Queue.{IsNewId, with_message};
-ghost use Rattle.model_queues.specs.Outputs.{replies_at, with_terminal, with_reply};
+ghost use Rattle.model_messages.specs.Queue.{IsNewId, with_message};
+ghost use Rattle.model_messages.specs.Outputs.{replies_at, with_terminal, with_reply};
 ghost use Rattle.lasting_state.specs.Sending.{switched_message, IsSent};
 
 use crate::limits::COUNT_LIMIT;
-use model_message::EndedMessage;
+use lasting_changes::bytes_of;
+use model_messages::EndedMessage;
 use msg_queues::Queues;
 use out_queues::Outputs;
 use std::collections::VecDeque;
-use step_changes::bytes_of;
 use tm_types::{Memory, Message, Name};
 
 /// Sends these outputs of a message with this origin, in their order, and answers the next id. Want

@@ -1,12 +1,12 @@
 //! What lasts of a control region: databases, messages, replies and numbers.
 ghost use Rattle.std.specs.Prelude.{◌≡◌, ◌<◌, ◌^◌, [], IfOk, OnOk, OnErr, IsSome, IsSomeAnd, None, Some, length, map, replicate, slice_get};
 ghost use Rattle.std.specs.Borrow.{sem};
-ghost use Rattle.model_queues.specs.Queue.{AreInOrder, IsNewId, message_at, queued_at};
+ghost use Rattle.model_messages.specs.Queue.{AreInOrder, IsNewId, message_at, queued_at};
 ghost use Rattle.model_machine.specs.Machine.{output_at, empty_state, first_setting, terminal_place};
 ghost use Rattle.model_machine.specs.Steps.{ack_by};
 ghost use Rattle.model_machine.specs.Lasting.{abend_outputs, discarded_pad};
 ghost use Rattle.model_machine.specs.Lasting.LastingStep.{Completes, Discards};
-ghost use Rattle.model_enqueue.specs.Table.{empty_table};
+ghost use Rattle.model_data.specs.Table.{empty_table};
 ghost use Rattle.program_rows.specs.State.{clean_region, committed_rows, dbds_of, region_at, AreRowsOf, IsRegionOf};
 ghost use Rattle.program_rows.specs.Answering.{IsCommitted, IsGivenUp};
 ghost use Rattle.lasting_state.specs.Tables.{lasting_of, content_of, with_databases, held, given_back, Applies, IsEnqueued, IsFinished, IsClosed, IsAcknowledged};
@@ -18,17 +18,15 @@ use crate::conversing::KeptInput;
 use crate::limits::COUNT_LIMIT;
 use crate::sending::send_all;
 use conversation::{Conversations, without_conversations};
-use first_state::fresh_states;
-use model_conversation::PadChange;
+use lasting_changes::{begin, bytes_of, change_pad, discarded_pad, fresh_states, note_input};
 use model_machine::{AckRefused, Acked, TerminalState};
-use model_message::EndedMessage;
+use model_messages::{EndedMessage, PadChange};
 use msg_queues::{QueueRefused, Queues};
 use out_queues::{AckAhead, Acked as OutputAcked, Outputs, fresh_terminals};
 use program_rows::Databases;
 use std::alloc::Global;
 use std::collections::VecDeque;
 use std::marker::Model;
-use step_changes::{begin, bytes_of, change_pad, discarded_pad, note_input};
 use system_types::System;
 use tm_types::{AbendCode, Memory, Message, Name, Segments};
 
@@ -61,7 +59,7 @@ pub struct Tables {
 
 impl Model for Tables {
     ghost use Rattle.lasting_state.specs.Tables.{TablesState};
-    ghost use Rattle.model_queues.specs.Queue.{IsNewId};
+    ghost use Rattle.model_messages.specs.Queue.{IsNewId};
 
     ghost Value = { TablesState };
 

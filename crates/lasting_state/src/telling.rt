@@ -3,8 +3,8 @@
 //! What a step does is told before anything is changed, where it fits; a step that fails is told no more.
 ghost use Rattle.std.specs.Prelude.{◌≡◌, ◌<◌, ◌≤◌, ◌^◌, [], ◌∷◌, true, IfOk, IfErr, IfSome, OnOk, OnErr, IsSome, Some, length, slice_get};
 ghost use Rattle.std.specs.Option.{option_copied};
-ghost use Rattle.model_queues.specs.Queue.{IsNewId, queued_at};
-ghost use Rattle.model_queues.specs.Outputs.{next_of};
+ghost use Rattle.model_messages.specs.Queue.{IsNewId, queued_at};
+ghost use Rattle.model_messages.specs.Outputs.{next_of};
 ghost use Rattle.model_machine.specs.Machine.{output_at, terminal_place};
 ghost use Rattle.model_machine.specs.Lasting.{abend_outputs, discarded_pad};
 ghost use Rattle.model_machine.specs.Lasting.LastingStep.{Completes, Discards};
@@ -13,25 +13,23 @@ ghost use Rattle.log_records.specs.Spelling.{IsAbend, IsCount};
 ghost use Rattle.log_records.specs.Telling.{IsUntold, Tells as RecordsTell};
 ghost use Rattle.program_rows.specs.State.{committed_rows, dbds_of, region_at, AreRowsOf, IsRegionOf};
 ghost use Rattle.program_rows.specs.Answering.{IsCommitted, IsGivenUp};
-ghost use Rattle.step_telling.specs.Ranges.{HaveCounts, HasShortPad};
-ghost use Rattle.step_telling.specs.Untold.{WhereFull};
+ghost use Rattle.lasting_state.specs.Ranges.{HaveCounts, HasShortPad};
+ghost use Rattle.lasting_state.specs.Untold.{WhereFull};
 ghost use Rattle.lasting_state.specs.Tables.{needs, Applies, IsAcknowledged, IsEnqueued, IsClosed};
 ghost use Rattle.lasting_state.specs.Telling.{IsLonger, IsRefused, Tells, TellsAcknowledged, TellsInput, WouldAcknowledge, WouldTell, is_first_of, removes_by};
 
 use crate::conversing::KeptInput;
 use crate::limits::COUNT_LIMIT;
 use crate::tables::{Enqueued, Tables};
+use crate::{tell_acknowledged, tell_completion, tell_discarded, tell_input};
+use lasting_changes::bytes_of;
 use log_records::Untold;
-use model_conversation::PadChange;
 use model_machine::{AckRefused, Acked};
-use model_message::EndedMessage;
-use model_queues::TerminalReplies;
+use model_messages::{EndedMessage, PadChange, TerminalReplies};
 use msg_queues::SLOT_ROOM;
 use out_queues::Outputs;
 use std::alloc::Global;
 use std::collections::VecDeque;
-use step_changes::bytes_of;
-use step_telling::{tell_acknowledged, tell_completion, tell_discarded, tell_input};
 use tm_types::{AbendCode, Memory, Name};
 
 impl Tables {

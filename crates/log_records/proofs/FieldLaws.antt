@@ -10,9 +10,9 @@ use Rattle.std.proofs.lemmas.List.Concat.{flat_map-cons}
 use Rattle.std.proofs.lemmas.Nat.{be_bytes_2, be_bytes_8, from_be_bytes-to_be_bytes_2, from_be_bytes-to_be_bytes_8}
 use Rattle.tm_types.specs.Name.{IsName, is_name_byte}
 use Rattle.tm_types.specs.Segment.{IsSegmentText, is_printable}
-use Rattle.model_conversation.specs.declared.conversation.PadChange.{PadChange}
-use Rattle.model_conversation.specs.declared.conversation.PadChange.TheVariants.{Stays, New, Ends}
-use Rattle.model_conversation.specs.declared.conversation.Conversation.{Conversation}
+use Rattle.model_messages.specs.declared.conversation.PadChange.{PadChange}
+use Rattle.model_messages.specs.declared.conversation.PadChange.TheVariants.{Stays, New, Ends}
+use Rattle.model_messages.specs.declared.conversation.Conversation.{Conversation}
 use Rattle.log_records.specs.Spelling.{number1, number2, number8, flag, name, text, segs, pad_change, conversation_field, IsByte, IsNumber, AreSegments, IsAbend, IsText, IsPadChange, IsConversation}
 use Rattle.log_records.specs.Reading.{Gives, ◌>>=◌, byte_at, number_at, flag_at, bytes_at, unless_wrong, bytes_of_kind_at, number_within_at, byte_within_at, name_at, text_at, segment_at, segments_at, segs_at, pad_of_kind_at, pad_change_at, conversation_where_at, conversation_at}
 use Rattle.log_records.proofs.Takes.{IsBytes, IsBytes-drop, IsBytes-take, IsBytes-rest, bind_ok, failed_not, passed, ok_is, Takes, Takes-then, Field, ◌and◌, both_again, made_takes}

@@ -7,7 +7,7 @@ use Rattle.std.proofs.lemmas.List.{length-append, take_at, take-append-drop}
 use Rattle.log_records.specs.declared.record.Record.{Record}
 use Rattle.log_records.specs.declared.record.Record.TheVariants.{Input, Command, Reply, Discarded, Completed, Acknowledged, SyncPoint, Checkpoint, Terminal, Code, Change}
 use Rattle.log_records.specs.Spelling.{number2, content, record_length, spelling, AreInRange, IsRecord, Spells, IsConversation, IsShortPad, KeepsLimits, IsShort, IsEncodable}
-use Rattle.model_conversation.specs.declared.conversation.Conversation.{Conversation}
+use Rattle.model_messages.specs.declared.conversation.Conversation.{Conversation}
 use Rattle.log_records.specs.Reading.{Fault, ◌>>=◌, Reader, byte_at, number_at, answered_of_kind_at, answered_at, snapshot_of_kind_at, snapshot_at, content_of_code_at, content_at, record_at, input_at, command_at, reply_at, discarded_at, completed_at, acknowledged_at, sync_point_at, checkpoint_at, terminal_at, code_at, change_at, unknown}
 use Rattle.log_records.proofs.Takes.{IsBytes, bind_ok, passed, Takes, Takes-then}
 use Rattle.log_records.proofs.FieldLaws.{byte_takes, number2_takes, number2_again, number2_length}

@@ -2,8 +2,8 @@
 use Rattle.std.proofs.Common.{◌≡◌, ℕ, ◌<◌, ◌^◌, Bool, List, [], ◌∷◌, ◌++◌, Option, Ok, refl, arith}
 use Rattle.log_records.specs.declared.record.Record.{Record}
 use Rattle.log_records.specs.declared.record.Record.TheVariants.{Input, Command, Reply, Discarded, Completed, Acknowledged, SyncPoint, Checkpoint, Terminal, Code, Change}
-use Rattle.model_conversation.specs.declared.conversation.PadChange.{PadChange}
-use Rattle.model_conversation.specs.declared.conversation.Conversation.{Conversation}
+use Rattle.model_messages.specs.declared.conversation.PadChange.{PadChange}
+use Rattle.model_messages.specs.declared.conversation.Conversation.{Conversation}
 use Rattle.log_records.specs.Spelling.{content, AreInRange}
 use Rattle.log_records.specs.Reading.{Reader, input_at, command_at, reply_at, discarded_at, completed_at, acknowledged_at, sync_point_at, checkpoint_at, terminal_at, code_at, change_at}
 use Rattle.log_records.proofs.Takes.{IsBytes, Takes, Field, ◌and◌, made_takes, made_again}

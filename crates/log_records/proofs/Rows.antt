@@ -2,8 +2,8 @@
 use Rattle.std.proofs.Common.{◌≡◌, ℕ, ◌+◌, ◌<◌, List, ◌∷◌, ◌++◌, length, drop, get_or, sym, ap, ◌∙◌}
 use Rattle.std.proofs.lemmas.List.{append_assoc, drop_more}
 use Rattle.std.proofs.lemmas.List.Concat.{flat_map-cons}
-use Rattle.model_rows.specs.declared.row.Row.{Row}
-use Rattle.model_rows.specs.Record.{row_spelling, spelling}
+use Rattle.model_data.specs.declared.row.Row.{Row}
+use Rattle.model_data.specs.Record.{row_spelling, spelling}
 
 pub rows_more : (rows : List Row) (i : ℕ) (row : Row) (now next whole : List ℕ) → i < length rows → row ≡ get_or rows i row
     → now ++ spelling (drop i rows) ≡ whole → next ≡ now ++ row_spelling row → next ++ spelling (drop (i + 1) rows) ≡ whole

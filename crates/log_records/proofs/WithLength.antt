@@ -2,11 +2,11 @@
 use Rattle.std.proofs.Common.{◌≡◌, ℕ, ◌-◌, ◌<◌, ◌≤◌, ◌^◌, Bool, List, [], ◌∷◌, ◌++◌, length, ap, sym, subst, arith, Some, None, Result, Ok, Err}
 use Rattle.std.specs.Result.{OnOk}
 use Rattle.std.specs.Prelude.{Option}
-use Rattle.model_conversation.specs.declared.conversation.Conversation.{Conversation}
+use Rattle.model_messages.specs.declared.conversation.Conversation.{Conversation}
 use Rattle.std.proofs.lemmas.List.{length-append}
 use Rattle.log_records.specs.declared.record.Record.{Record}
 use Rattle.log_records.specs.declared.record.Record.TheVariants.{SyncPoint, Terminal}
-use Rattle.model_conversation.specs.declared.conversation.PadChange.TheVariants.{Stays, New, Ends}
+use Rattle.model_messages.specs.declared.conversation.PadChange.TheVariants.{Stays, New, Ends}
 use Rattle.log_records.specs.Spelling.{content, IsShort, IsShortPad, AreInRange, HasRoom, IsRecord}
 use Rattle.log_records.proofs.Lengths.{eight, one, text_length}
 

@@ -11,9 +11,9 @@ use Rattle.log_records.specs.declared.fault.ReadFault.{ReadFault}
 use Rattle.log_records.specs.declared.fault.ReadFault.TheVariants as faults
 use Rattle.log_records.specs.declared.record.Record.{Record}
 use Rattle.log_records.specs.declared.record.Record.TheVariants.{Input, Command, Reply, Discarded, Completed, Acknowledged, SyncPoint, Checkpoint, Terminal, Code, Change}
-use Rattle.model_conversation.specs.declared.conversation.PadChange.{PadChange}
-use Rattle.model_conversation.specs.declared.conversation.PadChange.TheVariants.{Stays, New, Ends}
-use Rattle.model_conversation.specs.declared.conversation.Conversation.{Conversation}
+use Rattle.model_messages.specs.declared.conversation.PadChange.{PadChange}
+use Rattle.model_messages.specs.declared.conversation.PadChange.TheVariants.{Stays, New, Ends}
+use Rattle.model_messages.specs.declared.conversation.Conversation.{Conversation}
 
 abbrev pub Fault : Type 0
 Fault = ℕ × ℕ

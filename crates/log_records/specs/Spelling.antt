@@ -6,9 +6,9 @@ use Rattle.tm_types.specs.Name.{IsName}
 use Rattle.tm_types.specs.Segment.{IsSegmentText}
 use Rattle.log_records.specs.declared.record.Record.{Record}
 use Rattle.log_records.specs.declared.record.Record.TheVariants.{Input, Command, Reply, Discarded, Completed, Acknowledged, SyncPoint, Checkpoint, Terminal, Code, Change}
-use Rattle.model_conversation.specs.declared.conversation.PadChange.{PadChange}
-use Rattle.model_conversation.specs.declared.conversation.PadChange.TheVariants.{Stays, New, Ends}
-use Rattle.model_conversation.specs.declared.conversation.Conversation.{Conversation}
+use Rattle.model_messages.specs.declared.conversation.PadChange.{PadChange}
+use Rattle.model_messages.specs.declared.conversation.PadChange.TheVariants.{Stays, New, Ends}
+use Rattle.model_messages.specs.declared.conversation.Conversation.{Conversation}
 
 -- the bytes of a field, and then those of the next ones
 infixr 20 ◌▹◌

@@ -2,15 +2,15 @@
 ghost use Rattle.std.specs.Prelude.{◌≡◌, ◌<◌, ◌≤◌, ◌^◌, ◌+◌, ◌-◌, ◌++◌, length, take, drop, OnOk, OnErr};
 ghost use Rattle.log_records.specs.declared.record.Record.TheVariants.{Input, Command, Reply, Discarded, Completed, Acknowledged, SyncPoint, Checkpoint, Terminal, Code, Change};
 ghost use Rattle.log_records.specs.Spelling.{number2, spelling, IsCount, IsAbend, IsPadChange, HasRoom, IsShort, IsRecord};
-ghost use Rattle.model_rows.specs.Record.{spelling as rows_spelling};
+ghost use Rattle.model_data.specs.Record.{spelling as rows_spelling};
 
 use crate::encoding::{
     put_acknowledged, put_checkpoint, put_code, put_command, put_completed, put_discarded,
     put_input, put_reply, put_sync_point, put_terminal,
 };
 use crate::images::put_row_change;
-use model_conversation::{Conversation, PadChange};
-use model_rows::Row;
+use model_data::Row;
+use model_messages::{Conversation, PadChange};
 use tm_types::{AbendCode, Memory, Name, Segments};
 
 // The record that begins at `start` gets its length, for which it has two bytes; where there was no memory to write it

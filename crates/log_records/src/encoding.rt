@@ -7,7 +7,7 @@ ghost use Rattle.tm_types.specs.Segment.{IsSegmentText};
 ghost use Rattle.log_records.specs.Spelling.{number2, number8, flag, name, text, segs, pad_change, conversation_field, content, spelling, IsText, IsCount, AreSegments, IsAbend, IsPadChange, IsShortPad, IsConversation, KeepsLimits, AreInRange, IsEncodable, IsRecord};
 
 use crate::record::Record;
-use model_conversation::{Conversation, PadChange};
+use model_messages::{Conversation, PadChange};
 use std::alloc::Global;
 use tm_types::{AbendCode, Memory, Name, Segments};
 

@@ -8,7 +8,7 @@ ghost use Rattle.log_records.specs.Reading.{Gives, byte_at, number_at, flag_at, 
 
 use crate::fault::{ENDS, OUT_OF_RANGE, ReadFault};
 use crate::wrong_bytes::{first_outside_names, front};
-use model_conversation::{Conversation, PadChange};
+use model_messages::{Conversation, PadChange};
 use std::alloc::Global;
 use tm_types::{Bytes, Name, Segment, SegmentRefused, Segments, first_unprintable};
 

@@ -2,10 +2,10 @@
 ghost use Rattle.std.specs.Prelude.{◌≡◌, ◌≤◌, ◌++◌, length, take, OnOk, OnErr};
 ghost use Rattle.log_records.specs.declared.record.Record.TheVariants.{Change};
 ghost use Rattle.log_records.specs.Spelling.{content, text, AreInRange};
-ghost use Rattle.model_rows.specs.Record.{row_spelling, spelling as rows_spelling};
+ghost use Rattle.model_data.specs.Record.{row_spelling, spelling as rows_spelling};
 
 use crate::encoding::{put_number2, put_slot};
-use model_rows::Row;
+use model_data::Row;
 use tm_types::Memory;
 
 /// Appends what a slot's change is: the images of the record in it before and after, by their rows.

@@ -13,7 +13,7 @@ pub use appending::{
 pub use decoding::{decode, one_spelling};
 pub use encoding::encode;
 pub use fault::DecodeFault;
-pub use model_conversation::{Conversation, PadChange};
+pub use model_messages::{Conversation, PadChange};
 pub use record::Record;
 pub use telling::end_telling;
 pub use untold::Untold;

@@ -1,5 +1,5 @@
 //! The records of the log and of a snapshot.
-use model_conversation::{Conversation, PadChange};
+use model_messages::{Conversation, PadChange};
 use tm_types::{AbendCode, Bytes, Name, Segments};
 
 /// A record of the log or of a snapshot.

@@ -15,7 +15,7 @@ use Rattle.image_records.specs.declared.slots.NamedSlot.{NamedSlot}
 use Rattle.image_records.specs.Kept.{KeptState}
 use Rattle.image_records.specs.NamedSlots.{AreNamed}
 use Rattle.image_records.specs.Answers.{SnapshotState, IsOf, TellsLog, log_of, replayed_to}
-use Rattle.record_replay.specs.Judged.{lasting_in}
+use Rattle.log_replay.specs.Judged.{lasting_in}
 use Rattle.log_replay.specs.Replaying.{Ends}
 use Rattle.log_replay.proofs.Tables.{lasting_is}
 use Rattle.log_replay.proofs.NamedBy.{are_named, are_slots}

@@ -11,14 +11,14 @@ use Rattle.model_image.specs.Counters.{next_unit}
 use Rattle.model_image.specs.Replay.{Replay, is_known, replayed, unless_it_breaks, replay_one, replay_all, replay_of}
 use Rattle.model_image.specs.Slots.{is_image_of}
 use Rattle.model_image.specs.States.{breaks_a_rule}
-use Rattle.record_replay.specs.Waiting.{of_unit}
+use Rattle.log_replay.specs.Waiting.{of_unit}
 use Rattle.image_records.specs.Kept.{KeptState}
-use Rattle.replay_law.proofs.Bools.{both}
-use Rattle.record_replay.specs.Judged.{lasting_in, AreFree, AreSound}
-use Rattle.model_queues.specs.Queue.{messages_of}
-use Rattle.record_replay.specs.Tallied.{Counts, Follows}
-use Rattle.record_replay.proofs.Right.{follows_sound}
-use Rattle.record_replay.specs.Working.{WorkState, IsAt, Comes}
+use Rattle.image_law.proofs.Bools.{both}
+use Rattle.log_replay.specs.Judged.{lasting_in, AreFree, AreSound}
+use Rattle.model_messages.specs.Queue.{messages_of}
+use Rattle.log_replay.specs.Tallied.{Counts, Follows}
+use Rattle.log_replay.proofs.Right.{follows_sound}
+use Rattle.log_replay.specs.Working.{WorkState, IsAt, Comes}
 use Rattle.log_replay.specs.Replaying.{Ends}
 use Rattle.log_replay.proofs.Tables.{kept_is}
 

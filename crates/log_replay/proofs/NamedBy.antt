@@ -9,13 +9,13 @@ use Rattle.model_system.specs.System.{System}
 use Rattle.log_records.specs.declared.record.Record.{Record}
 use Rattle.log_records.specs.declared.record.Record.TheVariants.{Input, Command, Reply, Discarded, Completed, Acknowledged, SyncPoint, Checkpoint, Terminal, Code, Change}
 use Rattle.model_image.specs.Slots.{is_change_of, is_synced, is_image, is_image_of, are_images, dbd_at, before_image, after_image, named_by}
-use Rattle.told_lasting.specs.Telling.{is_change}
+use Rattle.image_records.specs.Telling.{is_change}
 use Rattle.image_records.specs.declared.slots.NamedSlot.{NamedSlot}
 use Rattle.image_records.specs.NamedSlots.{is_at, bytes_at, IsBefore, Ascend, is_slot_by, is_slot_of, AreNamed}
 use Rattle.std.proofs.lemmas.List.{reverse-append}
 use Rattle.std.proofs.lemmas.List.Folds.{list_all-append}
-use Rattle.replay_law.proofs.Bools.{both, first_of, second_of}
-use Rattle.replay_law.proofs.Lists.{found_passes}
+use Rattle.image_law.proofs.Bools.{both, first_of, second_of}
+use Rattle.image_law.proofs.Lists.{found_passes}
 
 -- ---- a snapshot's changes say as much as all its records
 

@@ -5,17 +5,17 @@ use Rattle.std.specs.List.{list_all}
 use Rattle.std.specs.Option.{is_none}
 use Rattle.tm_types.specs.declared.message.Message.{Message}
 use Rattle.model_system.specs.System.{System}
-use Rattle.model_queues.specs.declared.queued.Queued.{Queued}
-use Rattle.model_queues.specs.Queue.{messages_of}
-use Rattle.model_rows.specs.declared.row.Row.{Row}
+use Rattle.model_messages.specs.declared.queued.Queued.{Queued}
+use Rattle.model_messages.specs.Queue.{messages_of}
+use Rattle.model_data.specs.declared.row.Row.{Row}
 use Rattle.model_machine.specs.Machine.{LastingState, empty_state}
 use Rattle.log_records.specs.declared.record.Record.{Record}
 use Rattle.log_records.specs.declared.record.Record.TheVariants.{Input, Command, Reply, Discarded, Completed, Acknowledged, SyncPoint, Checkpoint, Terminal, Code, Change}
 use Rattle.model_image.specs.Snapshot.{told, told_by, snapshot_state}
 use Rattle.model_image.specs.States.{breaks_a_rule}
 use Rattle.image_records.specs.Kept.{KeptState, Keeps, kept_of, free_message}
-use Rattle.replay_law.proofs.Bools.{first_of, second_of}
-use Rattle.record_replay.specs.Judged.{lasting_in, AreFree, AreSound, has_no_holder}
+use Rattle.image_law.proofs.Bools.{first_of, second_of}
+use Rattle.log_replay.specs.Judged.{lasting_in, AreFree, AreSound, has_no_holder}
 
 -- ---- no record of a snapshot tells of rows
 

@@ -1,69 +1,309 @@
-//! A log done again.
-ghost use Rattle.std.specs.Prelude.{◌≡◌, ℕ, List, true, IfOk, Decides};
-ghost use Rattle.std.specs.List.{list_all};
-ghost use Rattle.log_records.specs.declared.record.Record as model;
-ghost use Rattle.model_image.specs.Cut.{cut_of, IsCutOff};
-ghost use Rattle.model_image.specs.Replay.{replay_of};
-ghost use Rattle.model_image.specs.Slots.{is_image_of};
-ghost use Rattle.image_records.specs.Answers.{IsOf, TellsLog};
-ghost use Rattle.record_replay.specs.Judged.{AreSound, lasting_in};
-ghost use Rattle.log_replay.specs.Replaying.{Ends};
+//! One record of a log, done again.
+ghost use Rattle.std.specs.Prelude.{◌≡◌, None, Some, true, false, IfOk};
+ghost use Rattle.std.specs.Option.{option_map_or};
+ghost use Rattle.tm_types.specs.Commands.{command_in};
+ghost use Rattle.model_image.specs.Replay.{Replay, accepts, acknowledges, commands, discards, syncs, is_known, names_known, replay_one};
+ghost use Rattle.model_machine.specs.Lasting.{applied};
+ghost use Rattle.model_machine.specs.Lasting.LastingStep.{Commands};
+ghost use Rattle.log_replay.specs.Judged.{lasting_in, AreSound, Leaves};
+ghost use Rattle.log_replay.specs.Tallied.{Follows};
+ghost use Rattle.log_replay.specs.Working.{IsAt, Comes, ComesTo, IsDone, Waits, waits_for};
 
-use crate::units::last_unit;
-use image_records::{Kept, Record, RecordsFault, Replayed, Snapshot};
-use named_slots::named_slots;
-use record_replay::{Working, replay_record};
+use crate::commanding::{command, ended_by};
+use crate::judging::{ends_pad, has_pad_at, has_pad_of, is_known, is_sound};
+use crate::steps::{accept, acknowledge, count_discarded, discard, found, origin_done, sync};
+use crate::tally::Tally;
+use crate::waiting::{UnitRecords, push, take};
+use crate::working::Working;
+use image_records::{Kept, is_code, is_image_of, is_small, is_terminal};
+use log_records::Record;
+use model_messages::PadChange;
 use std::alloc::Global;
 use system_types::System;
-use tm_types::Memory;
+use tm_types::{AbendCode, LastingCommand, Memory, Message, Name};
 
-/// Does the records of a log again that stands behind a snapshot; whether what is left of its bytes behind them is cut off
-/// was decided. `Bad(18)`: it is no record that was cut off. `Bad(19)`: a record is none of a log, is about what isn't
-/// there, has a number that isn't the next one, or leaves a state that breaks a rule.
-pub fn replay_log(
+/// Does a record of the log again, and gives the tables back with what it did. None: it breaks the rule on such records.
+pub fn replay_record(
     alloc: Global,
     system: &System,
-    snapshot: Snapshot,
-    log: Vec<Record>,
-    is_cut_off: bool,
-) -> Result<Replayed, RecordsFault>
-    requires { (records : List model.Record) × IsOf system.now records snapshot }
-    // It is the log of all bytes that are cut so.
-    ensures { (bytes : List ℕ) → log.items ≡ (cut_of bytes).records → Decides is_cut_off (IsCutOff (cut_of bytes).rest) → (records : List model.Record) → list_all (is_image_of system.now) records ≡ true → IsOf system.now records snapshot → TellsLog system.now records bytes result }
+    mut working: Working,
+    r: Record,
+) -> Result<Option<Working>, Memory>
+    requires sound { AreSound system.now working.kept }
+    requires follows { Follows system.now working.kept working.tally }
+    ensures { IfOk result (λ done. (replay : Replay) → IsAt system.now replay working → ComesTo system.now (replay_one system.now r replay) done) }
 {
-    if !is_cut_off {
-        return Err(RecordsFault::Bad(18));
+    let fine = do_again(alloc, system, &mut working, r)?;
+    if !fine {
+        return Ok(None);
     }
-    let Ok(slots) = named_slots(alloc, &snapshot.changes, &log) else {
-        return Err(RecordsFault::Memory);
-    };
-    let last_unit = last_unit(snapshot.next_unit, &log);
-    match replay_all(alloc, system, snapshot.kept, log) {
-        Ok(Some(kept)) => Ok(Replayed {
-            kept,
-            slots,
-            last_unit,
-        }),
-        Ok(None) => Err(RecordsFault::Bad(19)),
-        Err(_) => Err(RecordsFault::Memory),
+    Ok(Some(working))
+}
+
+// The same in place: false, or without memory, the tables aren't to be used any more.
+fn do_again(
+    alloc: Global,
+    system: &System,
+    working: &mut Working,
+    r: Record,
+) -> Result<bool, Memory>
+    requires sound { AreSound system.now working.old.kept }
+    requires follows { Follows system.now working.old.kept working.old.tally }
+    ensures { IfOk result (λ fine. (replay : Replay) → IsAt system.now replay working.old → Comes system.now (replay_one system.now r replay) working.new fine) }
+{
+    let known = names_are_known(alloc, system, &r)?;
+    if !known {
+        return Ok(false);
+    }
+    match waits_for(&r) {
+        Some(unit) => wait(alloc, working, unit, r),
+        None => do_now(alloc, system, working, r),
     }
 }
 
-fn replay_all(
+fn wait(alloc: Global, working: &mut Working, unit: u64, r: Record) -> Result<bool, Memory>
+    ensures { IfOk result (Waits unit r working.old working.new) }
+{
+    push(alloc, &mut working.units, unit, r)?;
+    Ok(true)
+}
+
+/// The unit at whose sync point the record is done.
+fn waits_for(r: &Record) -> Option<u64>
+    ensures { result ≡ waits_for r.now }
+{
+    match r {
+        Record::Input { unit, .. } => {
+            if *unit == 0 {
+                return None;
+            }
+            Some(*unit)
+        }
+        Record::Reply { unit, .. } => Some(*unit),
+        Record::Completed { unit, .. } => Some(*unit),
+        _ => None,
+    }
+}
+
+/// Does a record that is no unit's, or that is its sync point.
+fn do_now(alloc: Global, system: &System, working: &mut Working, r: Record) -> Result<bool, Memory>
+    requires sound { AreSound system.now working.old.kept }
+    requires follows { Follows system.now working.old.kept working.old.tally }
+    requires now { waits_for r ≡ None }
+    ensures { IfOk result (IsDone system.now r working.old working.new) }
+{
+    match r {
+        Record::Input {
+            id,
+            origin,
+            code,
+            number,
+            conversation,
+            segments,
+            ..
+        } => replay_input(
+            alloc,
+            system,
+            &mut working.kept,
+            &mut working.tally,
+            number,
+            Message {
+                id,
+                origin,
+                code,
+                conversation,
+                segments,
+            },
+        ),
+        Record::Acknowledged { terminal, number } => {
+            replay_acknowledged(system, &mut working.kept, &working.tally, &terminal, number)
+        }
+        Record::Discarded {
+            id,
+            abend,
+            number,
+            ..
+        } => replay_discarded(
+            alloc,
+            system,
+            &mut working.kept,
+            &mut working.tally,
+            id,
+            abend,
+            number,
+        ),
+        Record::SyncPoint { unit, pad } => {
+            let records = take(alloc, &mut working.units, unit);
+            replay_sync_point(system, &mut working.kept, &mut working.tally, records, pad)
+        }
+        Record::Change { .. } => Ok(true),
+        Record::Command { text } => {
+            replay_command(system, &mut working.kept, &working.tally, text.as_slice())
+        }
+        _ => Ok(false),
+    }
+}
+
+fn replay_input(
     alloc: Global,
     system: &System,
-    kept: Kept,
-    records: Vec<Record>,
-) -> Result<Option<Kept>, Memory>
-    requires { AreSound system.now kept }
-    ensures { IfOk result (Ends system.now (replay_of system.now records.items (lasting_in system.now kept))) }
+    kept: &mut Kept,
+    tally: &mut Tally,
+    number: u64,
+    message: Message,
+) -> Result<bool, Memory>
+    requires sound { AreSound system.now kept.old }
+    requires follows { Follows system.now kept.old tally.old }
+    ensures leaves { IfOk result (Leaves system.now (accepts system.now message.id message.origin message.code number message.conversation message.segments (lasting_in system.now kept.old)) kept.new) }
+    ensures follows { IfOk result (λ fine. fine ≡ true → Follows system.now kept.new tally.new) }
 {
-    let mut working = Working::new(alloc, kept)?;
-    for r in records {
-        match replay_record(alloc, system, working, r)? {
-            Some(next) => working = next,
-            None => return Ok(None),
-        }
+    let origin = message.origin;
+    let code = message.code;
+    let conversation = message.conversation;
+    let fine = accept(alloc, system, kept, number, message)?;
+    if !fine {
+        return Ok(false);
     }
-    Ok(Some(working.kept))
+    let known = is_known(system, kept, &origin, &code, conversation);
+    tally.add(&origin, conversation, known)?;
+    let pads = has_pad_at(system, kept, &origin);
+    let right = tally.is_right(false, &None);
+    Ok(is_sound(system, kept, is_small(number), pads, right))
+}
+
+fn replay_acknowledged(
+    system: &System,
+    kept: &mut Kept,
+    tally: &Tally,
+    terminal: &Name,
+    number: u64,
+) -> Result<bool, Memory>
+    requires sound { AreSound system.now kept.old }
+    requires follows { Follows system.now kept.old tally.now }
+    ensures leaves { IfOk result (Leaves system.now (acknowledges terminal.now number (lasting_in system.now kept.old)) kept.new) }
+    ensures follows { IfOk result (λ fine. fine ≡ true → Follows system.now kept.new tally.now) }
+{
+    let fine = acknowledge(kept, terminal, number);
+    if !fine {
+        return Ok(false);
+    }
+    Ok(is_sound(system, kept, true, true, true))
+}
+
+fn replay_command(
+    system: &System,
+    kept: &mut Kept,
+    tally: &Tally,
+    text: &[u8],
+) -> Result<bool, Memory>
+    requires sound { AreSound system.now kept.old }
+    requires follows { Follows system.now kept.old tally.now }
+    ensures leaves { IfOk result (Leaves system.now (commands text.now (lasting_in system.now kept.old)) kept.new) }
+    ensures follows { IfOk result (λ fine. fine ≡ true → Follows system.now kept.new tally.now) }
+{
+    match LastingCommand::read(text) {
+        Some(spelled) => Ok(do_spelled(system, kept, tally, &spelled)),
+        None => Ok(false),
+    }
+}
+
+fn do_spelled(system: &System, kept: &mut Kept, tally: &Tally, spelled: &LastingCommand) -> bool
+    requires sound { AreSound system.now kept.old }
+    requires follows { Follows system.now kept.old tally.now }
+    ensures leaves { Leaves system.now (Some (applied (Commands spelled.now) (lasting_in system.now kept.old))) kept.new result }
+    ensures follows { result ≡ true → Follows system.now kept.new tally.now }
+{
+    let ended = ended_by(spelled);
+    command(kept, spelled);
+    let right = tally.is_right(true, &ended);
+    is_sound(system, kept, true, true, right)
+}
+
+fn replay_discarded(
+    alloc: Global,
+    system: &System,
+    kept: &mut Kept,
+    tally: &mut Tally,
+    id: u64,
+    abend: AbendCode,
+    number: u64,
+) -> Result<bool, Memory>
+    requires sound { AreSound system.now kept.old }
+    requires follows { Follows system.now kept.old tally.old }
+    ensures leaves { IfOk result (Leaves system.now (discards id abend number (lasting_in system.now kept.old)) kept.new) }
+    ensures follows { IfOk result (λ fine. fine ≡ true → Follows system.now kept.new tally.new) }
+{
+    let Some(message) = found(kept, id) else {
+        return Ok(false);
+    };
+    count_discarded(system, kept, tally, message)?;
+    let ends = message.conversation;
+    let origin = Some(message.origin);
+    let fine = discard(alloc, kept, id, abend, number)?;
+    if !fine {
+        return Ok(false);
+    }
+    let right = tally.is_right(ends, &origin);
+    Ok(is_sound(system, kept, true, true, right))
+}
+
+fn replay_sync_point(
+    system: &System,
+    kept: &mut Kept,
+    tally: &mut Tally,
+    records: UnitRecords,
+    pad: PadChange,
+) -> Result<bool, Memory>
+    requires sound { AreSound system.now kept.old }
+    requires follows { Follows system.now kept.old tally.old }
+    ensures leaves { IfOk result (Leaves system.now (syncs pad records (lasting_in system.now kept.old)) kept.new) }
+    ensures follows { IfOk result (λ fine. fine ≡ true → Follows system.now kept.new tally.new) }
+{
+    let origin = origin_done(kept, &records);
+    let ends = ends_pad(&pad);
+    let fine = sync(system, kept, tally, records, pad)?;
+    if !fine {
+        return Ok(false);
+    }
+    let pads = has_pad_of(system, kept, &origin);
+    let right = tally.is_right(ends, &origin);
+    Ok(is_sound(system, kept, true, pads, right))
+}
+
+fn names_are_known(alloc: Global, system: &System, r: &Record) -> Result<bool, Memory>
+    ensures { IfOk result (λ is. is ≡ is_known system.now r.now) }
+{
+    match r {
+        Record::Input { origin, code, .. } => {
+            Ok(is_terminal(system, origin) && is_code(system, code))
+        }
+        Record::Reply { terminal, .. } => Ok(is_terminal(system, terminal)),
+        Record::Acknowledged { terminal, .. } => Ok(is_terminal(system, terminal)),
+        Record::Command { text } => Ok(names_known(system, text.as_slice())),
+        _ => is_image_of(alloc, system, r),
+    }
+}
+
+/// Whether a text spells a command that lasts and names a code of the system, or a terminal.
+fn names_known(system: &System, text: &[u8]) -> bool
+    ensures { result ≡ option_map_or (names_known system.now) (command_in text.now) false }
+{
+    match LastingCommand::read(text) {
+        Some(command) => is_named(system, &command),
+        None => false,
+    }
+}
+
+fn is_named(system: &System, command: &LastingCommand) -> bool
+    ensures { result ≡ names_known system.now command.now }
+{
+    match command {
+        LastingCommand::StartTransaction(code) => is_code(system, code),
+        LastingCommand::StopTransaction(code) => is_code(system, code),
+        LastingCommand::StartTerminal(terminal) => is_terminal(system, terminal),
+        LastingCommand::StopTerminal(terminal) => is_terminal(system, terminal),
+        LastingCommand::DequeueFirst(terminal) => is_terminal(system, terminal),
+        LastingCommand::DequeueAll(terminal) => is_terminal(system, terminal),
+        LastingCommand::Exit(terminal) => is_terminal(system, terminal),
+    }
 }

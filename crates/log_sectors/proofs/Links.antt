@@ -1,7 +1,7 @@
 -- A chain, one sector on.
 use Rattle.std.proofs.Common.{◌≡◌, ℕ, suc, ◌+◌, ◌-◌, ◌<◌, List, [], ◌∷◌, ◌++◌, sym, ◌∙◌, ap, arith, append_assoc, Option, Some, None}
 use Rattle.std.specs.Prelude.{Result, Ok, Err, is_err, OnOk, false}
-use Rattle.model_disk.specs.Disk.{Image, sector_at}
+use Rattle.tm_disk.specs.Disk.{Image, sector_at}
 use Rattle.log_sectors.specs.Sealed.{opened}
 use Rattle.log_sectors.specs.Chain.{before, chain, joined}
 

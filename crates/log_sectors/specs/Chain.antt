@@ -1,6 +1,6 @@
 -- The chain of a log area.
 use Rattle.std.specs.Prelude.{ℕ, zero, suc, ◌+◌, List, [], ◌∷◌, ◌++◌, Option, Some, None}
-use Rattle.model_disk.specs.Disk.{Image, sector_at}
+use Rattle.tm_disk.specs.Disk.{Image, sector_at}
 use Rattle.log_sectors.specs.Sealed.{opened}
 
 -- a payload before others, where there is one

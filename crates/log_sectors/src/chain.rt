@@ -1,6 +1,6 @@
 //! The chain of a log area.
 ghost use Rattle.std.specs.Prelude.{◌≡◌, ◌+◌, ◌<◌, ◌≤◌, ◌^◌, length, IsTrue, IfOk, OnOk, IsErrOf};
-ghost use Rattle.model_disk.specs.Disk.{sector_at, Keeps, FailedSince};
+ghost use Rattle.tm_disk.specs.Disk.{sector_at, Keeps, FailedSince};
 ghost use Rattle.log_sectors.specs.Chain.{chain, joined};
 
 use crate::unseal;

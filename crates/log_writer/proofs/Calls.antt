@@ -1,7 +1,7 @@
 -- The device calls of forcing, one after another.
 use Rattle.std.proofs.Common.{◌≡◌, ℕ, ◌+◌, ◌≤◌, refl, sym, ◌∙◌, subst, arith, IsTrue, ⊎_elim, false, List}
-use Rattle.model_disk.specs.Disk.{Image, DiskState, Elapses, Follows, Within, MayWrite, Keeps, IsDisk, Only}
-use Rattle.model_disk.proofs.Words.{within_on, within_more, follows_on, follows_no_more, within_where, follows_where, follows_shown, leaves_none}
+use Rattle.tm_disk.specs.Disk.{Image, DiskState, Elapses, Follows, Within, MayWrite, Keeps, IsDisk, Only}
+use Rattle.tm_disk.proofs.Words.{within_on, within_more, follows_on, follows_no_more, within_where, follows_where, follows_shown, leaves_none}
 use Rattle.log_sectors.specs.Sealed.{sealed}
 use Rattle.log_writer.specs.Log.{Lays, HasLaid, piece, AddsFront, AddsAll, IsReady, IsAtEnd}
 use Rattle.log_writer.specs.Writer.{Writer}

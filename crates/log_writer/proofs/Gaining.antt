@@ -1,7 +1,7 @@
 -- What the laid sectors add to the chain.
 use Rattle.std.proofs.Common.{◌≡◌, ◌⊎◌, ℕ, suc, zero, ◌+◌, ◌-◌, ◌*◌, ◌<◌, ◌≤◌, List, [], ◌∷◌, ◌++◌, length, take, drop, refl, sym, ◌∙◌, ap, subst, inl, inr, ⊎_elim, arith, append_assoc, Option, Some, None, IsSome, take-append-drop}
 use Rattle.std.proofs.lemmas.List.{take_at, append-nil}
-use Rattle.model_disk.specs.Disk.{Image, sector_at}
+use Rattle.tm_disk.specs.Disk.{Image, sector_at}
 use Rattle.log_sectors.specs.Sealed.{opened}
 use Rattle.log_sectors.specs.Chain.{before, chain, joined}
 use Rattle.log_writer.specs.Writer.{Writer}

@@ -2,7 +2,7 @@
 use Rattle.std.proofs.Common.{◌≡◌, ◌⊎◌, ℕ, suc, zero, ◌+◌, ◌-◌, ◌*◌, ◌<◌, ◌≤◌, List, [], ◌++◌, length, take, drop, refl, sym, ◌∙◌, ap, subst, inl, inr, ⊎_elim, arith}
 use Rattle.std.proofs.lemmas.Bool.{cases_lt}
 use Rattle.std.proofs.lemmas.List.{get_or-set_same, get_or-set_other, length-set, length-drop, drop-drop, take-append-drop, nil_from_length, set_past}
-use Rattle.model_disk.specs.Disk.{Image, sector_at, with_sector, MayWrite}
+use Rattle.tm_disk.specs.Disk.{Image, sector_at, with_sector, MayWrite}
 use Rattle.log_sectors.specs.Sealed.{sealed}
 use Rattle.log_sectors.specs.Chain.{joined}
 use Rattle.log_writer.specs.Log.{pieces, piece, Lays, HasLaid}

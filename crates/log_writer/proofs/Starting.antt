@@ -2,7 +2,7 @@
 use Rattle.std.proofs.Common.{◌≡◌, ℕ, ◌+◌, ◌<◌, ◌≤◌, List, [], replicate, ◌∙◌, ap, ⊎_elim, arith, None}
 use Rattle.std.proofs.lemmas.Bool.{cases_lt}
 use Rattle.std.proofs.lemmas.List.{length-replicate, get_or-replicate, get_or_past}
-use Rattle.model_disk.specs.Disk.{Image, DiskState, sector_at, Only}
+use Rattle.tm_disk.specs.Disk.{Image, DiskState, sector_at, Only}
 use Rattle.tm_disk.specs.Sector.{blank}
 use Rattle.log_sectors.specs.Sealed.{opened}
 use Rattle.log_sectors.proofs.Sealing.{opened-blank, opened-nothing}

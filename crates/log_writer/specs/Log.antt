@@ -1,6 +1,6 @@
 -- What forcing a log leaves on the disk.
 use Rattle.std.specs.Prelude.{◌≡◌, ◌⊎◌, ℕ, zero, suc, ◌+◌, ◌-◌, ◌*◌, ◌/◌, ◌<◌, ◌≤◌, List, [], ◌∷◌, ◌++◌, length, take, drop, slice_index_or, IsSome, None}
-use Rattle.model_disk.specs.Disk.{Image, DiskState, sector_at}
+use Rattle.tm_disk.specs.Disk.{Image, DiskState, sector_at}
 use Rattle.log_sectors.specs.Sealed.{sealed, opened}
 use Rattle.log_sectors.specs.Chain.{chain, joined}
 use Rattle.log_writer.specs.Writer.{Writer}

@@ -1,6 +1,6 @@
 //! Writing bytes into log sectors.
 ghost use Rattle.std.specs.Prelude.{◌≡◌, ◌+◌, ◌*◌, ◌<◌, ◌≤◌, ◌^◌, length, IsTrue, IfOk, OnOk, OnErr};
-ghost use Rattle.model_disk.specs.Disk.{Stays, Within, Follows, WritesAtMost, FailedSince};
+ghost use Rattle.tm_disk.specs.Disk.{Stays, Within, Follows, WritesAtMost, FailedSince};
 ghost use Rattle.log_writer.specs.Log.{sectors_of, pieces, piece, Lays, HasLaid};
 
 use log_sectors::{PAYLOAD_BYTES, seal};

@@ -1,6 +1,6 @@
 //! The end of a log area.
 ghost use Rattle.std.specs.Prelude.{◌≡◌, ◌+◌, ◌-◌, ◌*◌, ◌<◌, ◌≤◌, ◌^◌, ◌++◌, [], length, IsTrue, IsOk, IfOk, OnOk, OnErr};
-ghost use Rattle.model_disk.specs.Disk.{Stays, Within, Follows, Only, WritesAtMost, FailedSince};
+ghost use Rattle.tm_disk.specs.Disk.{Stays, Within, Follows, Only, WritesAtMost, FailedSince};
 ghost use Rattle.log_writer.specs.Log.{sectors_of, room_of, IsReady, AddsFront, AddsAll};
 
 use crate::lay::{lay, sectors_of};

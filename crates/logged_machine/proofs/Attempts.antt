@@ -4,11 +4,11 @@ use Rattle.std.specs.Prelude.{IfSome, Option, Some, None, Result, Ok, Err, ◌++
 use Rattle.std.specs.List.{flat_map}
 use Rattle.std.specs.Option.{is_some}
 use Rattle.std.proofs.Common.{lt-ltb}
-use Rattle.model_disk.specs.Disk.{DiskState, Stays, Within, WritesAtMost, FailedSince}
+use Rattle.tm_disk.specs.Disk.{DiskState, Stays, Within, WritesAtMost, FailedSince}
 use Rattle.model_machine.specs.Machine.{Moment}
-use Rattle.model_command.specs.declared.answer.Answer.{Answer}
-use Rattle.model_command.specs.declared.command.Command.{Command}
-use Rattle.model_machine.specs.Commands.{lasting_command}
+use Rattle.model_machine.specs.declared.answer.Answer.{Answer}
+use Rattle.model_machine.specs.declared.command.Command.{Command}
+use Rattle.model_machine.specs.ModelMachineCommands.{lasting_command}
 use Rattle.model_machine.specs.Lasting.{LastingStep}
 use Rattle.model_machine.specs.Steps.{lasting_step}
 use Rattle.model_machine.specs.History.{after_entry, call_of, victims_in}
@@ -39,24 +39,24 @@ use Rattle.tm_machine.specs.Answers.{IsAnswered}
 use Rattle.tm_machine.specs.OnSlots.{HasSlots, TellByCall, TurnsSo, changes_told, slots_now, turn_records}
 use Rattle.tm_machine.specs.Parts.{PartsState}
 use Rattle.tm_machine.specs.Told.{ends_work, records_of}
-use Rattle.machine_life.specs.Turning.{next_after, unit_of, units_after}
-use Rattle.machine_life.proofs.Numbers.{units_stay}
-use Rattle.machine_life.proofs.Turns.{GoesBy}
-use Rattle.machine_life.specs.Steps.{is_lasting, is_new, is_removed}
-use Rattle.parts_life.proofs.Answering.{ack_of_parts, command_of_parts, input_of_parts}
-use Rattle.parts_life.proofs.Turning.{turn_of_parts}
-use Rattle.parts_life.proofs.Closing.{ack_steps, command_steps, input_steps, room_in_log, turn_steps}
-use Rattle.machine_telling.specs.Telling.{Appends}
-use Rattle.machine_life.specs.Counted.{IsCounted}
+use Rattle.journal.specs.Turning.{next_after, unit_of, units_after}
+use Rattle.journal.proofs.Numbers.{units_stay}
+use Rattle.journal.proofs.Turns.{GoesBy}
+use Rattle.journal.specs.Steps.{is_lasting, is_new, is_removed}
+use Rattle.logged_machine.proofs.Answering.{ack_of_parts, command_of_parts, input_of_parts}
+use Rattle.logged_machine.proofs.Turning.{turn_of_parts}
+use Rattle.logged_machine.proofs.Closing.{ack_steps, command_steps, input_steps, room_in_log, turn_steps}
+use Rattle.logged_machine.specs.Telling.{Appends}
+use Rattle.journal.specs.Counted.{IsCounted}
 use Rattle.model_image.specs.Counters.{greatest_unit}
 use Rattle.checkpointing.specs.Counts.{CountsUpTo}
-use Rattle.checkpoint_law.specs.Counted.{TellUnits}
-use Rattle.parts_life.proofs.Counts.{force_up_to, forced_tell, quiet_tells}
-use Rattle.parts_life.proofs.OwnUnits.{records_most, turn_most, unit_below}
-use Rattle.parts_life.specs.Logged.{IsLogged}
-use Rattle.machine_telling.specs.Calls.{Does, DoesTo, IsWithin, NumbersBy, lasts_by, may_last, own_bytes, own_records}
+use Rattle.disk_law.specs.Counted.{TellUnits}
+use Rattle.logged_machine.proofs.Counts.{force_up_to, forced_tell, quiet_tells}
+use Rattle.logged_machine.proofs.OwnUnits.{records_most, turn_most, unit_below}
+use Rattle.logged_machine.specs.PartsLifeLogged.{IsLogged}
+use Rattle.logged_machine.specs.Calls.{Does, DoesTo, IsWithin, NumbersBy, lasts_by, may_last, own_bytes, own_records}
 use Rattle.logged_machine.specs.Logged.{LoggedState}
-use Rattle.control_life.specs.Faults.{fault_in}
+use Rattle.openings.specs.Faults.{fault_in}
 use Rattle.logged_machine.specs.Leaving.{Leaves}
 use Rattle.logged_machine.specs.Doing.{Did, GoesOnIn, LeavesCounts, Tried}
 use Rattle.logged_machine.proofs.Leaving.{leaves_same, leaves_within}

@@ -1,90 +1,142 @@
--- What a due call has at hand once it was answered, and what follows of it.
-use Rattle.std.proofs.Common.{◌≡◌, ℕ, Bool, true, false, List}
-use Rattle.std.specs.Prelude.{Some}
-use Rattle.model_disk.specs.Disk.{DiskState, WritesAtMost}
-use Rattle.model_machine.specs.History.{after_entry, call_of}
-use Rattle.model_machine.specs.declared.entry.ControlFault.TheVariants.{Disk}
-use Rattle.model_machine.specs.declared.entry.ControlCall.{ControlCall}
-use Rattle.model_machine.specs.declared.entry.Entry.{Entry}
+-- A checkpoint with the records of a call behind it, by what was written.
+use Rattle.std.proofs.Common.{◌≡◌, ℕ, ◌+◌, ◌≤◌, List, ◌++◌, length, refl, sym, ◌∙◌, ap, subst, arith}
+use Rattle.std.specs.List.{flat_map}
+use Rattle.tm_disk.specs.Disk.{DiskState, Within, WritesAtMost}
+use Rattle.model_system.specs.System.{System}
 use Rattle.log_records.specs.declared.record.Record.{Record}
+use Rattle.log_records.specs.Spelling.{spelling}
+use Rattle.log_writer.specs.Writer.{Writer}
+use Rattle.log_writer.specs.Log.{sectors_of}
+use Rattle.seg_store.specs.Changed.{AllStores}
+use Rattle.checkpointing.specs.Parts.{next_restart, next_writer}
+use Rattle.checkpointing.specs.Steps.{Takes}
 use Rattle.disk_law.specs.Journal.{JournalState}
-use Rattle.tm_machine.specs.OnSlots.{HasSlots}
+use Rattle.journal.specs.Checkpoints.{CanCheckpoint, parts_for}
+use Rattle.journal.specs.State.{holding}
+use Rattle.program_rows.specs.OnSlots.{all_stores}
+use Rattle.program_rows.specs.State.{settled}
+use Rattle.tm_machine.specs.Answers.{IsAnswered}
+use Rattle.tm_machine.specs.OnSlots.{HasSlots, slots_now}
 use Rattle.tm_machine.specs.Parts.{PartsState}
-use Rattle.machine_life.specs.Counted.{IsCounted}
-use Rattle.parts_life.specs.Logged.{IsLogged}
-use Rattle.control_life.specs.Faults.{fault_in}
-use Rattle.machine_checkpoint.specs.Taking.{checkpoint_sectors, settled_parts}
-use Rattle.machine_due.specs.Due.{Behind, CountsWithin, KeepsOnDisk}
-use Rattle.machine_telling.specs.Calls.{Does, IsWithin, NumbersBy, lasts_by, may_last, own_records}
-use Rattle.logged_machine.specs.Doing.{Done}
-use Rattle.logged_machine.specs.Forcing.{IsForced, MayForce}
-use Rattle.logged_machine.specs.Logged.{LoggedState}
-use Rattle.logged_machine.proofs.Attempts.{Attempt, attempt, logged_on, may_force, tried_off, tried_on}
-use Rattle.logged_machine.proofs.Due.{behind_of, done_by, found_disk, found_none, mid_counted, mid_logged}
+use Rattle.journal.specs.Counted.{IsCounted}
+use Rattle.model_machine.specs.declared.entry.Entry.{Entry}
+use Rattle.logged_machine.specs.PartsLifeLogged.{IsLogged}
+use Rattle.logged_machine.proofs.Storing.{have_written}
+use Rattle.logged_machine.specs.Taking.{IsSnapshot, checkpoint_sectors, settled_parts}
+use Rattle.logged_machine.proofs.Taken.{can, goes_on, raised, within_up_to}
+use Rattle.logged_machine.specs.Telling.{Appends}
+use Rattle.logged_machine.specs.Due.{Behind, Checkpointed, CountsWithin, IsEmptyLog, WroteTold}
 
--- A checkpoint was taken, and the call was told behind it: it was answered by this entry.
-pub record IsBehind {D : Type 0} (state : D → DiskState) (parts parts' : PartsState) (text : List ℕ) (journal told : JournalState) (units units' : List ℕ) (next next' : ℕ) (disk disk' : D) (up : Bool) (entry : Entry) (has_step : Bool) : Type 0 where
-  pub served : up ≡ true
-  pub logged : IsLogged parts units next journal text (state disk)
-  pub counted : IsCounted 0 parts.moment.lasting next journal
-  pub keeps : KeepsOnDisk parts.system (state disk) (state disk')
-  pub counts : CountsWithin parts.system journal next (state disk) (state disk')
-  pub most : WritesAtMost (checkpoint_sectors parts.system parts.databases.changed journal) (state disk) (state disk')
-  pub records : List Record
-  pub behind : Behind state parts units next records journal told disk disk'
-  pub attempt : Attempt state (settled_parts parts) parts' text behind.middle told units units' next next' disk' entry has_step
+-- ---- parts where no slot counts as changed
 
--- ---- a call
+pub has_settled : (parts : PartsState) → HasSlots parts → HasSlots (settled_parts parts)
+has_settled parts has = record {
+  have = have_written parts.system.databases (length parts.system.regions) (slots_now parts) has.have;
+  one_sector = has.one_sector;
+  held = has.held;
+  compatible = has.compatible;
+  table_is = has.table_is;
+  rows_are = has.rows_are;
+  defined = has.defined;
+  pads = has.pads;
+}
 
-module _ {D : Type 0} (state : D → DiskState) {parts parts' : PartsState} {text : List ℕ} {journal told : JournalState} {units given : List ℕ} {next : ℕ} {disk disk' : D} {up : Bool}
-    (served : up ≡ true) (h : IsLogged parts units next journal text (state disk)) (counted : IsCounted 0 parts.moment.lasting next journal) (keeps : KeepsOnDisk parts.system (state disk) (state disk'))
-    (counts : CountsWithin parts.system journal next (state disk) (state disk')) (most : WritesAtMost (checkpoint_sectors parts.system parts.databases.changed journal) (state disk) (state disk'))
-    (same : given ≡ units) (before : HasSlots (settled_parts parts)) (slots : HasSlots parts') where
-  pub behind_call : {call : ControlCall} (entry : Entry) (units' : List ℕ) (next' : ℕ) → call_of entry ≡ call → may_last call ≡ true → IsWithin call → Behind state parts given next (own_records (settled_parts parts) given call) journal told disk disk'
-      → Does given entry (settled_parts parts) parts' → NumbersBy entry units units' next next' → IsBehind state parts parts' text journal told units units' next next' disk disk' up entry (lasts_by entry)
-  behind_call {call = call} entry units' next' of_call last within behind does numbers =
-      let b = behind_of state parts units given next (own_records (settled_parts parts) given call) journal told disk disk' same behind in
-      record {
-        served = served;
-        logged = h;
-        counted = counted;
-        keeps = keeps;
-        counts = counts;
-        most = most;
-        records = own_records (settled_parts parts) given call;
-        behind = b;
-        attempt =
-            attempt state (mid_logged state parts text journal told units next disk disk' up h served counted keeps counts most _ b)
-            (mid_counted state parts text journal told units next disk disk' up h served counted keeps counts most _ b) before slots entry units' next' same of_call last within does numbers b.appends;
-      }
+-- the call was answered so, whichever slots counted as changed
+pub answered_settled : (parts made parts' : PartsState) (entry : Entry) → parts' ≡ settled_parts made → IsAnswered parts made entry → IsAnswered (settled_parts parts) parts' entry
+answered_settled parts made parts' entry is a =
+    subst (λ (p : PartsState). IsAnswered (settled_parts parts) p entry) (sym is) (record { may = a.may; after = a.after; system = a.system })
 
--- ---- what follows
+pub databases_settled : (parts made parts' : PartsState) → parts' ≡ settled_parts made → made.databases ≡ parts.databases → parts'.databases ≡ settled parts.databases
+databases_settled parts made parts' is same = ap (λ (p : PartsState). p.databases) is ∙ ap settled same
 
-module _ {D : Type 0} (state : D → DiskState) {parts parts' : PartsState} {text : List ℕ} {journal told : JournalState} {units units' : List ℕ} {next next' : ℕ} {disk disk' : D} {up : Bool} {entry : Entry} {has_step : Bool}
-    (b : IsBehind state parts parts' text journal told units units' next next' disk disk' up entry has_step) where
-  -- what the force asks for
-  pub may_force_behind : MayForce told.log (state disk')
-  may_force_behind =
-      may_force state b.attempt (mid_counted state parts text journal told units next disk disk' up b.logged b.served b.counted b.keeps b.counts b.most b.records b.behind)
+-- ---- the records that were told in a log of its own
 
-  module _ (journal' : JournalState) (disk'' : D) (served : Bool) (f : IsForced state has_step served told journal' disk' disk'') where
-    abbrev was_at : LoggedState D
-    was_at = record { machine = parts; text = text; served = up; journal = journal; units = units; next_unit = next; disk = disk }
+module _ (begun told : JournalState) (records : List Record) (count : ℕ) (empty : IsEmptyLog count begun.log) (a : Appends records begun told) where
+  pub told_place : told.log.place ≡ 0
+  told_place = ap (λ (w : Writer). w.place) a.log ∙ empty.place_is
 
-    abbrev is_at : Bool → LoggedState D
-    is_at up' = record { machine = parts'; text = text; served = up'; journal = journal'; units = units'; next_unit = next'; disk = disk'' }
+  pub told_bytes : told.log.appended ≡ flat_map spelling records
+  told_bytes = ap (λ (w : Writer). w.appended) a.log ∙ ap (λ (l : List ℕ). l ++ flat_map spelling records) empty.appended_is
 
-    pub logged_behind : served ≡ true → IsLogged parts' units' next' journal' text (state disk'')
-    logged_behind on = logged_on state b.attempt journal' disk'' served f on
+  pub told_room : 0 + sectors_of (length (flat_map spelling records)) ≤ count
+  told_room =
+      subst (λ (n : ℕ). 0 + sectors_of (length (flat_map spelling records)) ≤ n) empty.count_is
+      (subst (λ (l : List ℕ). 0 + sectors_of (length (l ++ flat_map spelling records)) ≤ begun.log.count) empty.appended_is
+      (subst (λ (n : ℕ). n + sectors_of (length (begun.log.appended ++ flat_map spelling records)) ≤ begun.log.count) empty.place_is a.fits))
 
-    pub done_on : {up' : Bool} → served ≡ true → up' ≡ served → Done state (fault_in entry) was_at (is_at up') entry
-    done_on {up' = up'} on is_up =
-        done_by state parts text journal told units next disk disk' up b.logged b.served b.counted b.keeps b.counts b.most b.records b.behind (fault_in entry) (is_at up') entry (found_none (fault_in entry) b.attempt.no_fault)
-        (tried_on state b.attempt journal' disk'' served f b.served on is_up)
+  pub told_fits : sectors_of (length told.log.appended) ≤ count
+  told_fits = subst (λ (l : List ℕ). sectors_of (length l) ≤ count) (sym told_bytes) (omega (arith, told_room))
 
-    -- and where the disk failed in that
-    pub done_off : {up' : Bool} → served ≡ false → up' ≡ served → (broken : Entry) → fault_in broken ≡ Some Disk
-        → (has_step ≡ true → after_entry parts.system parts.moment broken ≡ after_entry parts.system parts.moment entry) → call_of broken ≡ call_of entry → Done state (fault_in broken) was_at (is_at up') broken
-    done_off {up' = up'} off is_up broken fault same call =
-        done_by state parts text journal told units next disk disk' up b.logged b.served b.counted b.keeps b.counts b.most b.records b.behind (fault_in broken) (is_at up') broken (found_disk (fault_in broken) fault)
-        (tried_off state b.attempt journal' disk'' served f off is_up broken fault same call)
+-- ---- the checkpoint
+
+-- so much is written with the system and the stores that the parts had
+pub written : (parts : PartsState) (journal : JournalState) (old new : DiskState) {system : System} → system ≡ parts.system → {stores : AllStores} → stores ≡ all_stores (slots_now parts)
+    → WritesAtMost (checkpoint_sectors system stores.changed journal) old new → WritesAtMost (checkpoint_sectors parts.system parts.databases.changed journal) old new
+written parts journal old new {system = system} same {stores = stores} are writes =
+    subst (λ (a : AllStores). WritesAtMost (checkpoint_sectors parts.system a.changed journal) old new) are
+    (subst (λ (y : System). WritesAtMost (checkpoint_sectors y stores.changed journal) old new) same writes)
+
+-- With the system and the stores that the parts had, and the bytes of their snapshot.
+module _ {D : Type 0} (state : D → DiskState) {parts : PartsState} {units : List ℕ} {next : ℕ} {journal : JournalState} {disk : D} (logged : (text : List ℕ) × IsLogged parts units next journal text (state disk))
+    (has : HasSlots parts) (counted : IsCounted 0 parts.moment.lasting next journal) {bytes : List ℕ} (s : IsSnapshot parts units next (journal.restart.checkpoint + 1) bytes)
+    {lent : List ℕ} (lent_is : lent ≡ bytes) {system : System} (same : system ≡ parts.system) {stores : AllStores} (are : stores ≡ all_stores (slots_now parts)) where
+  -- it may be taken
+  pub may : CanCheckpoint system journal stores lent (state disk)
+  may =
+      subst (λ (b : List ℕ). CanCheckpoint system journal stores b (state disk)) (sym lent_is)
+      (subst (λ (a : AllStores). CanCheckpoint system journal a bytes (state disk)) (sym are)
+      (subst (λ (y : System). CanCheckpoint y journal (all_stores (slots_now parts)) bytes (state disk)) (sym same)
+      (can parts units next journal logged.0 (state disk) logged.1 has counted bytes s)))
+
+  some_logs : 1 ≤ parts.system.logs
+  some_logs = omega (arith, has.defined.least_logs)
+
+  -- whenever a crash comes in it, the image counts up to this
+  pub counts : {disk' : D} → Within (Takes (parts_for system journal.restart lent) journal.log stores) (state disk) (state disk') → CountsWithin parts.system journal next (state disk) (state disk')
+  counts {disk' = disk'} within =
+      within_up_to parts units next journal logged.0 (state disk) logged.1 has counted bytes s some_logs (state disk')
+      (subst (λ (a : AllStores). Within (Takes (parts_for parts.system journal.restart bytes) journal.log a) (state disk) (state disk')) are
+      (subst (λ (y : System). Within (Takes (parts_for y journal.restart bytes) journal.log stores) (state disk) (state disk')) same
+      (subst (λ (b : List ℕ). Within (Takes (parts_for system journal.restart b) journal.log stores) (state disk) (state disk')) lent_is within)))
+
+  -- the journal behind it
+  abbrev middle : JournalState
+  middle = record {
+    log = next_writer (parts_for parts.system journal.restart bytes) journal.log;
+    restart = next_restart (parts_for parts.system journal.restart bytes) journal.log;
+  }
+
+  module _ {journal' : JournalState} {disk' : D} (size : (state disk').size ≡ (state disk).size) where
+    checkpointed : (told : List ℕ) → WroteTold parts.system (all_stores (slots_now parts)) bytes told journal journal' (state disk) (state disk') → Checkpointed state parts units next journal middle disk disk'
+    checkpointed told w = record {
+      takes = record { bytes = bytes; restart = refl; log = refl };
+      raised = raised parts units next journal logged.0 (state disk) logged.1 has counted bytes s some_logs middle refl refl;
+      logged = λ text h.
+          goes_on parts units next journal text (state disk) h has counted bytes s parts.system refl (all_stores (slots_now parts)) refl (settled_parts parts) refl middle refl refl (state disk') w.kept
+          w.ready size w.follows;
+      synced = w.synced;
+      no_fault = w.no_fault;
+    }
+
+    own : {begun told : JournalState} {records : List Record} → IsEmptyLog parts.system.logs begun.log → Appends records begun told
+        → WroteTold parts.system (all_stores (slots_now parts)) bytes told.log.appended journal journal' (state disk) (state disk') → Behind state parts units next records journal journal' disk disk'
+    own {begun = begun} {told = told} {records = records} empty a w = record {
+      middle = middle;
+      checkpointed = checkpointed told.log.appended w;
+      appends = record {
+        log = w.log ∙ ap (λ (l : List ℕ). holding l middle.log) (told_bytes begun told records parts.system.logs empty a);
+        restart = w.restart;
+        valid = a.valid;
+        bytes = a.bytes;
+        fits = told_room begun told records parts.system.logs empty a;
+      };
+    }
+
+    -- and these records are appended behind it
+    pub behind : {begun told : JournalState} {records : List Record} → IsEmptyLog parts.system.logs begun.log → Appends records begun told
+        → WroteTold system stores lent told.log.appended journal journal' (state disk) (state disk') → Behind state parts units next records journal journal' disk disk'
+    behind {told = told} empty a w =
+        own empty a
+        (subst (λ (l : AllStores). WroteTold parts.system l bytes told.log.appended journal journal' (state disk) (state disk')) are
+        (subst (λ (y : System). WroteTold y stores bytes told.log.appended journal journal' (state disk) (state disk')) same
+        (subst (λ (b : List ℕ). WroteTold system stores b told.log.appended journal journal' (state disk) (state disk')) lent_is w)))

@@ -1,8 +1,8 @@
 -- A checkpoint as a call: what it is answered, and the number that each image has behind it.
 use Rattle.std.proofs.Common.{◌≡◌, ℕ, ◌+◌, ◌≤◌, Bool, List, [], Some, None, Result, Ok, Err, refl, sym, ◌∙◌, ap, subst, arith, inr}
-use Rattle.model_disk.specs.Disk.{DiskState, Image, sector_at}
+use Rattle.tm_disk.specs.Disk.{DiskState, Image, sector_at}
 use Rattle.model_system.specs.System.{System}
-use Rattle.model_machine.specs.Commands.{checkpoint_answer, unless_busy}
+use Rattle.model_machine.specs.ModelMachineCommands.{checkpoint_answer, unless_busy}
 use Rattle.model_machine.specs.declared.entry.CheckpointRefused.{CheckpointRefused}
 use Rattle.model_machine.specs.declared.entry.CheckpointRefused.TheVariants.{BusyRegion, Fault}
 use Rattle.model_machine.specs.declared.entry.ControlFault.{ControlFault}
@@ -19,8 +19,8 @@ use Rattle.model_image.specs.Areas.{snapshot_area, log_first}
 use Rattle.disk_law.specs.Journal.{JournalState}
 use Rattle.tm_machine.specs.Answers.{IsAnswered}
 use Rattle.tm_machine.specs.Parts.{PartsState}
-use Rattle.parts_life.specs.Logged.{IsLogged}
-use Rattle.machine_checkpoint.specs.Taking.{TakesNext, checkpoint_sectors}
+use Rattle.logged_machine.specs.PartsLifeLogged.{IsLogged}
+use Rattle.logged_machine.specs.Taking.{TakesNext, checkpoint_sectors}
 use Rattle.logged_machine.specs.Taken.{HasNumber, IsTaken, LeavesSettled, StaysUntaken, WritesCheckpoint, again}
 use Rattle.logged_machine.specs.Doing.{Did, Refreshed, Unrefreshed}
 use Rattle.logged_machine.specs.Logged.{LoggedState}

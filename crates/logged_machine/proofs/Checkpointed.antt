@@ -2,8 +2,8 @@
 use Rattle.std.proofs.Common.{◌≡◌, ◌⊎◌, ◌≤◌, ◌<◌, ◌+◌, ◌^◌, ℕ, Bool, true, false, List, length, inl, inr, ⊎_elim, refl, sym, ◌∙◌, ap, subst, arith}
 use Rattle.std.specs.Prelude.{None, Option, Some}
 use Rattle.tm_machine.specs.Answers.{IsAnswered}
-use Rattle.model_disk.specs.Disk.{Image, DiskState, Stays, Within, WritesAtMost, ComesFrom, FailedSince, Only}
-use Rattle.model_disk.proofs.Words.{stays_same}
+use Rattle.tm_disk.specs.Disk.{Image, DiskState, Stays, Within, WritesAtMost, ComesFrom, FailedSince, Only}
+use Rattle.tm_disk.proofs.Words.{stays_same}
 use Rattle.model_system.specs.System.{System}
 use Rattle.model_machine.specs.Machine.{LastingState, Moment}
 use Rattle.model_machine.specs.declared.entry.Entry.{Entry}
@@ -13,18 +13,18 @@ use Rattle.checkpointing.specs.Checkpoint.{KeepsRecovery}
 use Rattle.checkpointing.specs.Parts.{sequence_behind}
 use Rattle.checkpointing.specs.Texts.{KeepsText}
 use Rattle.checkpointing.specs.Counts.{CountsUpTo}
-use Rattle.checkpoint_law.specs.Counted.{StandsUpTo}
+use Rattle.disk_law.specs.Counted.{StandsUpTo}
 use Rattle.restart_data.specs.declared.restart.RestartSector.{RestartSector}
 use Rattle.log_writer.specs.Writer.{Writer}
 use Rattle.log_writer.specs.Log.{sectors_of}
 use Rattle.disk_law.specs.Journal.{JournalState}
-use Rattle.machine_life.specs.Counts.{AreUnspent}
+use Rattle.journal.specs.Counts.{AreUnspent}
 use Rattle.tm_machine.specs.Parts.{PartsState}
-use Rattle.machine_life.specs.Counted.{IsCounted}
-use Rattle.parts_life.specs.Logged.{IsLogged}
-use Rattle.machine_checkpoint.specs.Taking.{SameAll, TakesNext, Untaken, checkpoint_sectors, settled_parts}
+use Rattle.journal.specs.Counted.{IsCounted}
+use Rattle.logged_machine.specs.PartsLifeLogged.{IsLogged}
+use Rattle.logged_machine.specs.Taking.{SameAll, TakesNext, Untaken, checkpoint_sectors, settled_parts}
 use Rattle.logged_machine.specs.Logged.{LoggedState}
-use Rattle.machine_telling.specs.Calls.{NumbersBy}
+use Rattle.logged_machine.specs.Calls.{NumbersBy}
 use Rattle.logged_machine.specs.Goes.{ActsOn}
 use Rattle.logged_machine.specs.Leaving.{Brings, Leaves}
 use Rattle.logged_machine.specs.Doing.{Did, FailsIn, LeavesCounts, Refreshed, Unrefreshed, is_memory, lasting_with}

@@ -1,8 +1,8 @@
 -- A call behind a checkpoint, and a call as its callers see it.
 use Rattle.std.proofs.Common.{true, ◌≡◌, ◌⊎◌, ◌≤◌, ◌+◌, ℕ, List, [], ◌∷◌, map, inl, inr, ⊎_elim, refl, ◌∙◌, ap, subst, arith}
 use Rattle.std.specs.Prelude.{Option, Some, None, Ok}
-use Rattle.model_disk.specs.Disk.{Image, DiskState, IsDisk, FailedSince, Rose}
-use Rattle.model_disk.proofs.Words.{stays_on}
+use Rattle.tm_disk.specs.Disk.{Image, DiskState, IsDisk, FailedSince, Rose}
+use Rattle.tm_disk.proofs.Words.{stays_on}
 use Rattle.model_system.specs.System.{System}
 use Rattle.model_machine.specs.Machine.{LastingState, Moment}
 use Rattle.model_machine.specs.History.{May, after_entry}
@@ -14,8 +14,8 @@ use Rattle.checkpointing.specs.Texts.{HasText}
 use Rattle.disk_law.specs.Kept.{RecoversEither}
 use Rattle.logged_machine.specs.Logged.{LoggedState, AreLasting}
 use Rattle.logged_machine.specs.Goes.{Keeps, WentOn, GoesBy, CrashesBy, ActsOn}
-use Rattle.machine_telling.specs.Calls.{DoesTo, NumbersBy}
-use Rattle.machine_checkpoint.specs.Taking.{settled_parts}
+use Rattle.logged_machine.specs.Calls.{DoesTo, NumbersBy}
+use Rattle.logged_machine.specs.Taking.{settled_parts}
 use Rattle.tm_machine.specs.Parts.{PartsState}
 use Rattle.logged_machine.specs.Leaving.{Brings}
 use Rattle.checkpointing.specs.Counts.{CountsUpTo}

@@ -1,7 +1,7 @@
 -- What a call writes, and how far it raises what is counted on.
 use Rattle.std.proofs.Common.{◌≡◌, ◌≤◌, ◌<◌, ◌+◌, ◌*◌, ℕ, Bool, true, false, List, [], ◌∷◌, length, refl, sym, ◌∙◌, ap, subst, arith, ⊎_elim, inl, inr}
 use Rattle.std.specs.Prelude.{Option, Some, None}
-use Rattle.model_disk.specs.Disk.{DiskState, ComesFrom, Within, WritesAtMost}
+use Rattle.tm_disk.specs.Disk.{DiskState, ComesFrom, Within, WritesAtMost}
 use Rattle.model_system.specs.System.{System}
 use Rattle.model_machine.specs.History.{call_of}
 use Rattle.model_machine.specs.declared.entry.Entry.{Entry}
@@ -13,15 +13,15 @@ use Rattle.log_writer.specs.Writer.{Writer}
 use Rattle.log_writer.specs.Log.{AddsFront, ChangesOnly, sectors_of}
 use Rattle.disk_law.specs.Changes.{with_bytes}
 use Rattle.disk_law.specs.Journal.{JournalState}
-use Rattle.step_telling.specs.Untold.{WhereFull}
+use Rattle.lasting_state.specs.Untold.{WhereFull}
 use Rattle.tm_machine.specs.Parts.{PartsState}
 use Rattle.checkpointing.specs.Counts.{CountsUpTo}
 use Rattle.checkpointing.proofs.Counted.{up_to_more}
-use Rattle.checkpoint_law.specs.Counted.{StandsUpTo}
-use Rattle.parts_life.specs.Logged.{IsLogged}
-use Rattle.machine_checkpoint.specs.Taking.{checkpoint_sectors, settled_parts}
-use Rattle.machine_telling.specs.Calls.{own_bytes}
-use Rattle.machine_telling.specs.Telling.{IsAllBut, StayFree}
+use Rattle.disk_law.specs.Counted.{StandsUpTo}
+use Rattle.logged_machine.specs.PartsLifeLogged.{IsLogged}
+use Rattle.logged_machine.specs.Taking.{checkpoint_sectors, settled_parts}
+use Rattle.logged_machine.specs.Calls.{own_bytes}
+use Rattle.logged_machine.specs.Telling.{IsAllBut, StayFree}
 use Rattle.logged_machine.specs.Logged.{LoggedState}
 use Rattle.logged_machine.specs.Doing.{Done, DoneFrugally, GoesOnIn, IsDue, LeavesCounts, Refreshed, Tried, Unrefreshed}
 use Rattle.logged_machine.specs.Frugal.{DoesNothing, NoneIsDue, Raises, WritesBehind, WritesBy, WritesLog, has_lasting_step}

@@ -1,15 +1,15 @@
 -- What opening a machine with its log answers, by what opening its parts does.
 use Rattle.std.proofs.Common.{◌≡◌, ℕ, ◌<◌, ◌≤◌, List, Err, refl}
-use Rattle.model_disk.specs.Disk.{DiskState, Stays, Within}
-use Rattle.model_disk.proofs.Words.{keeps_same, stays_same, within_same}
+use Rattle.tm_disk.specs.Disk.{DiskState, Stays, Within}
+use Rattle.tm_disk.proofs.Words.{keeps_same, stays_same, within_same}
 use Rattle.model_system.specs.System.{System}
-use Rattle.cold_start.specs.FirstImage.{sectors_needed}
-use Rattle.opening_answers.specs.declared.refusals.OpenError.{OpenError}
-use Rattle.opening_answers.specs.declared.refusals.OpenError.TheVariants.{TooSmall, Memory}
-use Rattle.opening_answers.specs.Opening.{OpeningCause, WroteNothing}
-use Rattle.control_life.specs.declared.how.How.{How}
-use Rattle.control_life.specs.Opened.{KeepsBy, Refuses}
-use Rattle.control_life.specs.Opened.{HandsBack}
+use Rattle.openings.specs.FirstImage.{sectors_needed}
+use Rattle.openings.specs.declared.refusals.OpenError.{OpenError}
+use Rattle.openings.specs.declared.refusals.OpenError.TheVariants.{TooSmall, Memory}
+use Rattle.openings.specs.Opening.{OpeningCause, WroteNothing}
+use Rattle.openings.specs.declared.how.How.{How}
+use Rattle.openings.specs.Opened.{KeepsBy, Refuses}
+use Rattle.openings.specs.Opened.{HandsBack}
 
 module _ {D : Type 0} (state : D → DiskState) (how : How) (system : System) (text : List ℕ) where
   -- nothing was written

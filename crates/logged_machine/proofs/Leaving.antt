@@ -1,6 +1,6 @@
 -- What crashes leave, over one call of a disk and another.
 use Rattle.std.proofs.Common.{◌⊎◌, inl, inr, ⊎_elim, arith}
-use Rattle.model_disk.specs.Disk.{Image, DiskState, IsDisk, ComesFrom, Within}
+use Rattle.tm_disk.specs.Disk.{Image, DiskState, IsDisk, ComesFrom, Within}
 use Rattle.logged_machine.specs.Leaving.{Leaves}
 
 pub leaves_same : (P : Image → Type 0) (disk : DiskState) → Leaves P disk disk

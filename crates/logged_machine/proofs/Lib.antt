@@ -1,3 +1,9 @@
+pub mod Appending
+pub mod Spelled
+pub mod Taken
+mod Behind
+mod Still
+pub mod Begun
 pub mod Leaving
 pub mod Doing
 pub mod Logging
@@ -10,5 +16,16 @@ pub mod Checked
 pub mod Handed
 pub mod Settled
 pub mod Frugality
-pub mod Due
-pub mod Behind
+pub mod LoggedMachineDue
+pub mod LoggedMachineBehind
+pub mod Pads
+pub mod Holding
+pub mod Turning
+pub mod Answering
+pub mod PartsLifeWriting
+pub mod Storing
+pub mod PartsLifeOpening
+pub mod PartsLifeChecking
+pub mod Closing
+pub mod Counts
+pub mod OwnUnits

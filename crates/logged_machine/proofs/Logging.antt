@@ -1,7 +1,7 @@
 -- The life of a machine with its log, as calls go on.
 use Rattle.std.proofs.Common.{◌≡◌, ◌≤◌, ◌+◌, ℕ, List, sym, ◌∙◌, ap, subst, arith, length}
 use Rattle.std.specs.Prelude.{Option, Some, Result, Ok}
-use Rattle.model_disk.specs.Disk.{Image, DiskState, Within}
+use Rattle.tm_disk.specs.Disk.{Image, DiskState, Within}
 use Rattle.model_system.specs.System.{System}
 use Rattle.model_machine.specs.Machine.{LastingState, Moment}
 use Rattle.log_writer.specs.Writer.{Writer}
@@ -17,17 +17,17 @@ use Rattle.disk_law.specs.Changes.{with_bytes}
 use Rattle.disk_law.specs.Kept.{AreKept, RecoversEither}
 use Rattle.disk_law.proofs.Front.{recovers}
 use Rattle.disk_law.proofs.Forcing.{restart_stays, text_stays}
-use Rattle.step_law.specs.Steps.{after_step, with_records}
-use Rattle.step_law.proofs.Stepping.{step_front}
+use Rattle.disk_law.specs.Steps.{after_step, with_records}
+use Rattle.disk_law.proofs.Stepping.{step_front}
 use Rattle.disk_law.specs.Journal.{JournalState}
 use Rattle.journal.specs.State.{IsStepOf, forced}
 use Rattle.tm_machine.specs.OnSlots.{slots_now}
 use Rattle.tm_machine.specs.Parts.{PartsState}
-use Rattle.machine_life.specs.Carried.{IsCarriedBy}
-use Rattle.machine_life.specs.Going.{GoesOn, StepsOn}
+use Rattle.journal.specs.Carried.{IsCarriedBy}
+use Rattle.journal.specs.Going.{GoesOn, StepsOn}
 use Rattle.checkpointing.specs.Texts.{HasText}
-use Rattle.checkpoint_law.specs.Counted.{TellUnits}
-use Rattle.parts_life.specs.Logged.{IsLogged}
+use Rattle.disk_law.specs.Counted.{TellUnits}
+use Rattle.logged_machine.specs.PartsLifeLogged.{IsLogged}
 use Rattle.logged_machine.specs.Leaving.{Leaves, Brings}
 use Rattle.logged_machine.proofs.Leaving.{leaves_within}
 

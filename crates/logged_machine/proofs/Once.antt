@@ -3,8 +3,8 @@ use Rattle.std.proofs.Common.{◌≡◌, ◌≤◌, ℕ, Bool, true, false, List
 use Rattle.std.specs.Prelude.{Option, Some, None}
 use Rattle.std.specs.List.{flat_map}
 use Rattle.std.specs.Option.{is_some}
-use Rattle.model_disk.specs.Disk.{DiskState, Stays, Within, FailedSince}
-use Rattle.model_disk.proofs.Words.{stays_same}
+use Rattle.tm_disk.specs.Disk.{DiskState, Stays, Within, FailedSince}
+use Rattle.tm_disk.proofs.Words.{stays_same}
 use Rattle.model_machine.specs.Machine.{LastingState, Moment}
 use Rattle.model_machine.specs.Lasting.{LastingStep}
 use Rattle.model_machine.specs.History.{after_entry}
@@ -13,19 +13,19 @@ use Rattle.model_machine.specs.declared.entry.ControlFault.TheVariants.{Disk}
 use Rattle.log_records.specs.declared.record.Record.{Record}
 use Rattle.log_records.specs.Spelling.{spelling}
 use Rattle.log_writer.specs.Log.{AddsFront}
-use Rattle.checkpoint_law.specs.Counted.{TellUnits}
+use Rattle.disk_law.specs.Counted.{TellUnits}
 use Rattle.disk_law.specs.Journal.{JournalState}
 use Rattle.tm_machine.specs.Answers.{IsAnswered}
 use Rattle.tm_machine.specs.OnSlots.{slots_now}
 use Rattle.tm_machine.specs.Parts.{PartsState}
-use Rattle.machine_life.specs.Going.{StepsOn}
-use Rattle.machine_life.proofs.Turns.{GoesBy}
-use Rattle.parts_life.proofs.Closing.{goes_quiet, goes_step}
-use Rattle.machine_telling.specs.Telling.{Appends}
+use Rattle.journal.specs.Going.{StepsOn}
+use Rattle.journal.proofs.Turns.{GoesBy}
+use Rattle.logged_machine.proofs.Closing.{goes_quiet, goes_step}
+use Rattle.logged_machine.specs.Telling.{Appends}
 use Rattle.logged_machine.specs.Logged.{LoggedState}
-use Rattle.parts_life.specs.Logged.{IsLogged}
+use Rattle.logged_machine.specs.PartsLifeLogged.{IsLogged}
 use Rattle.logged_machine.specs.Leaving.{Brings, Leaves}
-use Rattle.machine_telling.specs.Calls.{DoesTo, NumbersBy}
+use Rattle.logged_machine.specs.Calls.{DoesTo, NumbersBy}
 use Rattle.logged_machine.specs.Forcing.{Forces}
 use Rattle.logged_machine.specs.Doing.{Did, lasting_with}
 use Rattle.logged_machine.proofs.Leaving.{leaves_same}

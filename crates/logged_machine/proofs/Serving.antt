@@ -2,13 +2,13 @@
 use Rattle.std.proofs.Common.{◌≡◌, ◌≤◌, ◌<◌, ◌+◌, ◌^◌, ℕ, List, sym, subst, arith}
 use Rattle.log_writer.specs.Writer.{Writer}
 use Rattle.restart_data.specs.Restart.{IsCounter}
-use Rattle.model_disk.specs.Disk.{DiskState, IsToldToStop}
+use Rattle.tm_disk.specs.Disk.{DiskState, IsToldToStop}
 use Rattle.disk_law.specs.Journal.{JournalState}
 use Rattle.model_image.specs.Areas.{data_first}
 use Rattle.std.specs.Prelude.{length}
 use Rattle.tm_machine.specs.Parts.{PartsState}
-use Rattle.parts_life.specs.Logged.{IsLogged}
-use Rattle.parts_life.proofs.Counts.{standing_up_to}
+use Rattle.logged_machine.specs.PartsLifeLogged.{IsLogged}
+use Rattle.logged_machine.proofs.Counts.{standing_up_to}
 use Rattle.logged_machine.specs.Logged.{LoggedState, AreLasting}
 use Rattle.logged_machine.proofs.Logging.{recover, have_text}
 

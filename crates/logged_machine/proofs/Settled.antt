@@ -5,11 +5,11 @@ use Rattle.std.specs.List.{flat_map}
 use Rattle.std.specs.Option.{option_map_or}
 use Rattle.tm_types.specs.declared.function.Function.{Function}
 use Rattle.tm_types.specs.declared.function.Function.TheVariants.{GU, GN, GNP, GHU, GHN, GHNP, ISRT, REPL, DLET, PURG, CHNG, ROLB, ROLL}
-use Rattle.model_script.specs.declared.need.CallText.{CallText}
-use Rattle.model_script.specs.declared.need.Need.{Need}
-use Rattle.model_script.specs.declared.need.Need.TheVariants.{Call, Ended, Abend}
+use Rattle.model_system.specs.declared.need.CallText.{CallText}
+use Rattle.model_system.specs.declared.need.Need.{Need}
+use Rattle.model_system.specs.declared.need.Need.TheVariants.{Call, Ended, Abend}
 use Rattle.model_system.specs.Jobs.{Job, job_of}
-use Rattle.model_dli.specs.Data.{Data}
+use Rattle.model_data.specs.Data.{Data}
 use Rattle.model_machine.specs.Machine.{Slot, slot_at}
 use Rattle.model_machine.specs.Trial.{Reached, Trial, reached, trial_need}
 use Rattle.model_machine.specs.Trial.Reached.{Messages, Rows, Nothing}
@@ -23,9 +23,9 @@ use Rattle.message_run.specs.Telling.{message_told, need_told, next_told, reach_
 use Rattle.tm_machine.specs.OnSlots.{changes_told, slot_told}
 use Rattle.tm_machine.specs.Parts.{PartsState}
 use Rattle.tm_machine.specs.Told.{records_of}
-use Rattle.machine_life.specs.Turning.{unit_of}
-use Rattle.machine_checkpoint.specs.Taking.{settled_parts}
-use Rattle.machine_telling.specs.Calls.{own_bytes}
+use Rattle.journal.specs.Turning.{unit_of}
+use Rattle.logged_machine.specs.Taking.{settled_parts}
+use Rattle.logged_machine.specs.Calls.{own_bytes}
 
 same_map : {A B : Type 0} (f g : A → B) (none : B) → ((a : A) → f a ≡ g a) → (o : Option A) → option_map_or f o none ≡ option_map_or g o none
 same_map f g none same None = refl

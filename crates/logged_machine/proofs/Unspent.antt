@@ -3,15 +3,15 @@ use Rattle.std.proofs.Common.{◌≡◌, ◌<◌, ◌+◌, arith, ℕ, Bool, tru
 use Rattle.std.specs.Prelude.{Option, Some, None, cond, find, nat_le, nat_lt, ◌&&◌}
 use Rattle.std.specs.List.{list_all}
 use Rattle.std.specs.Option.{option_map}
-use Rattle.model_queues.specs.declared.replies.TerminalReplies.{TerminalReplies}
+use Rattle.model_messages.specs.declared.replies.TerminalReplies.{TerminalReplies}
 use Rattle.model_machine.specs.Machine.{LastingState}
 use Rattle.model_machine.specs.declared.counts.Counter.{Counter}
-use Rattle.opening_answers.specs.Opening.{counters, output_counters, first_spent}
+use Rattle.openings.specs.Opening.{counters, output_counters, first_spent}
 use Rattle.model_machine.specs.declared.counts.Counter.TheVariants as counter
 use Rattle.restart_data.specs.declared.restart.RestartSector.{RestartSector}
 use Rattle.disk_law.specs.Journal.{JournalState}
-use Rattle.machine_life.specs.Counts.{AreUnspent}
-use Rattle.machine_life.specs.Counted.{IsCounted}
+use Rattle.journal.specs.Counts.{AreUnspent}
+use Rattle.journal.specs.Counted.{IsCounted}
 
 pub record NoneSpent (epoch sequence checkpoint unit : ℕ) (lasting : LastingState) : Type 0 where
   pub epoch_low : epoch < 1000000000000000000

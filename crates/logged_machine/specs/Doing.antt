@@ -1,19 +1,19 @@
 -- What one attempt of a call leaves, and what a checkpoint does.
 use Rattle.std.specs.Prelude.{◌≡◌, ℕ, ◌+◌, ◌*◌, ◌≤◌, Bool, true, false, Option, Some, None}
-use Rattle.model_disk.specs.Disk.{Image, DiskState, FailedSince, Only, WritesAtMost}
+use Rattle.tm_disk.specs.Disk.{Image, DiskState, FailedSince, Only, WritesAtMost}
 use Rattle.checkpointing.specs.Counts.{CountsUpTo}
-use Rattle.checkpoint_law.specs.Counted.{StandsUpTo}
-use Rattle.machine_life.specs.Counted.{IsCounted}
+use Rattle.disk_law.specs.Counted.{StandsUpTo}
+use Rattle.journal.specs.Counted.{IsCounted}
 use Rattle.model_machine.specs.Machine.{LastingState}
 use Rattle.model_machine.specs.History.{after_entry, call_of}
 use Rattle.model_machine.specs.declared.entry.Entry.{Entry}
 use Rattle.model_machine.specs.declared.entry.ControlFault.{ControlFault}
 use Rattle.model_machine.specs.declared.entry.ControlFault.TheVariants.{Memory, Disk, Spent}
 use Rattle.logged_machine.specs.Logged.{LoggedState}
-use Rattle.machine_checkpoint.specs.Taking.{TakesNext, checkpoint_sectors, settled_parts}
+use Rattle.logged_machine.specs.Taking.{TakesNext, checkpoint_sectors, settled_parts}
 use Rattle.logged_machine.specs.Goes.{Keeps, WentOn}
 use Rattle.logged_machine.specs.Leaving.{Brings, Leaves}
-use Rattle.machine_telling.specs.Calls.{own_bytes}
+use Rattle.logged_machine.specs.Calls.{own_bytes}
 use Rattle.logged_machine.specs.Frugal.{IsFrugal, Raises, WritesBy, WritesDue, has_lasting_step}
 
 -- what lasts with the call of an entry

@@ -1,12 +1,12 @@
 -- What a force asks for, and what it leaves.
 use Rattle.std.specs.Prelude.{◌≡◌, ◌+◌, ◌<◌, ◌≤◌, ◌^◌, Bool, true, false, length}
-use Rattle.model_disk.specs.Disk.{DiskState, FailedSince, Follows, Stays, Within, WritesAtMost}
+use Rattle.tm_disk.specs.Disk.{DiskState, FailedSince, Follows, Stays, Within, WritesAtMost}
 use Rattle.log_writer.specs.Writer.{Writer}
 use Rattle.log_writer.specs.Log.{AddsAll, AddsFront, IsReady, sectors_of}
 use Rattle.disk_law.specs.Journal.{JournalState}
 use Rattle.disk_law.specs.Life.{LifeOnDisk}
 use Rattle.disk_law.specs.Kept.{AreKept}
-use Rattle.step_law.specs.Steps.{StepOnDisk, after_step}
+use Rattle.disk_law.specs.Steps.{StepOnDisk, after_step}
 use Rattle.journal.specs.State.{IsStepOf, forced}
 
 -- The log's area is on the disk and its sequences are in their range, and behind its writer the area is free.

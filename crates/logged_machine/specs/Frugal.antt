@@ -1,7 +1,7 @@
 -- What a call other than a checkpoint writes, and how far a call raises what is counted on.
 use Rattle.std.specs.Prelude.{◌≡◌, ◌⊎◌, ℕ, ◌+◌, ◌≤◌, Bool, true, false, List, [], length, Option, Some, None}
 use Rattle.std.specs.Option.{is_some}
-use Rattle.model_disk.specs.Disk.{DiskState, Within, WritesAtMost}
+use Rattle.tm_disk.specs.Disk.{DiskState, Within, WritesAtMost}
 use Rattle.model_system.specs.System.{System}
 use Rattle.model_machine.specs.Steps.{lasting_step}
 use Rattle.model_machine.specs.declared.entry.ControlCall.{ControlCall}
@@ -13,8 +13,8 @@ use Rattle.disk_law.specs.Changes.{with_bytes}
 use Rattle.disk_law.specs.Journal.{JournalState}
 use Rattle.journal.specs.State.{LeavesSectors, forced}
 use Rattle.tm_machine.specs.Parts.{PartsState}
-use Rattle.machine_telling.specs.Calls.{own_bytes}
-use Rattle.machine_checkpoint.specs.Taking.{TakesNext, checkpoint_sectors}
+use Rattle.logged_machine.specs.Calls.{own_bytes}
+use Rattle.logged_machine.specs.Taking.{TakesNext, checkpoint_sectors}
 
 -- whether a step lasts of it
 abbrev pub has_lasting_step : PartsState → ControlCall → Bool

@@ -1,6 +1,6 @@
 -- What a call leaves of a machine with its log.
 use Rattle.std.specs.Prelude.{◌≡◌, ◌⊎◌, ◌≤◌, ℕ, true, false, List, Option, Some, None, Ok}
-use Rattle.model_disk.specs.Disk.{Image, DiskState, Stays, FailedSince}
+use Rattle.tm_disk.specs.Disk.{Image, DiskState, Stays, FailedSince}
 use Rattle.model_machine.specs.History.{after_entry}
 use Rattle.model_machine.specs.declared.entry.Entry.{Entry}
 use Rattle.model_machine.specs.declared.entry.ControlFault.{ControlFault}
@@ -8,9 +8,9 @@ use Rattle.model_machine.specs.declared.entry.ControlFault.TheVariants.{Memory, 
 use Rattle.checkpointing.specs.Texts.{HasText}
 use Rattle.tm_machine.specs.Answers.{IsAnswered}
 use Rattle.tm_machine.specs.Parts.{PartsState}
-use Rattle.machine_telling.specs.Calls.{DoesTo}
-pub use Rattle.machine_telling.specs.Calls.{NumbersBy}
-use Rattle.machine_checkpoint.specs.Taking.{settled_parts}
+use Rattle.logged_machine.specs.Calls.{DoesTo}
+pub use Rattle.logged_machine.specs.Calls.{NumbersBy}
+use Rattle.logged_machine.specs.Taking.{settled_parts}
 use Rattle.model_image.specs.Recovered.{Recovers}
 use Rattle.disk_law.specs.Kept.{RecoversEither}
 use Rattle.logged_machine.specs.Logged.{LoggedState}

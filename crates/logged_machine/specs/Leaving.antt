@@ -1,6 +1,6 @@
 -- What crashes leave since a call began.
 use Rattle.std.specs.Prelude.{◌⊎◌, ℕ, ◌≤◌, List}
-use Rattle.model_disk.specs.Disk.{Image, DiskState}
+use Rattle.tm_disk.specs.Disk.{Image, DiskState}
 use Rattle.model_system.specs.System.{System}
 use Rattle.model_machine.specs.Machine.{LastingState}
 use Rattle.checkpointing.specs.Texts.{HasText}

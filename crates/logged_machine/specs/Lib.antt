@@ -1,8 +1,16 @@
+pub mod Calls
+pub mod Telling
+pub mod Taking
+pub mod Due
+pub mod Opened
+pub mod OpeningSlots
 pub mod Logged
 pub mod Goes
-pub mod Opened
+pub mod LoggedMachineOpened
 pub mod Taken
 pub mod Leaving
 pub mod Doing
 pub mod Frugal
 pub mod Forcing
+pub mod Carried
+pub mod PartsLifeLogged

@@ -1,12 +1,12 @@
 -- A machine with its log on a disk, as its callers see it.
 use Rattle.std.specs.Prelude.{◌≡◌, ℕ, ◌+◌, Bool, true, List, Option, Ok}
-use Rattle.model_disk.specs.Disk.{Image, DiskState}
+use Rattle.tm_disk.specs.Disk.{Image, DiskState}
 use Rattle.model_machine.specs.declared.counts.Counter.{Counter}
 use Rattle.model_image.specs.Recovered.{Recovers}
 use Rattle.checkpointing.specs.Texts.{HasText}
 use Rattle.checkpointing.specs.Counts.{CountsUpTo}
-use Rattle.checkpoint_law.specs.Counted.{StandsUpTo}
-use Rattle.opening_answers.specs.Opening.{counters, first_spent}
+use Rattle.disk_law.specs.Counted.{StandsUpTo}
+use Rattle.openings.specs.Opening.{counters, first_spent}
 use Rattle.disk_law.specs.Journal.{JournalState}
 use Rattle.tm_machine.specs.Parts.{PartsState}
 

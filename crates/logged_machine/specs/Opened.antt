@@ -1,23 +1,33 @@
--- What opening a machine with its log answers.
-use Rattle.std.specs.Prelude.{◌≡◌, ℕ, ◌≤◌, true, List, [], length, map, replicate}
-use Rattle.model_disk.specs.Disk.{DiskState, Stays, Within}
+-- What a machine with its log is opened with.
+use Rattle.std.specs.Prelude.{◌≡◌, ℕ, ◌≤◌, List, [], map}
+use Rattle.tm_disk.specs.Disk.{Image, DiskState}
 use Rattle.model_system.specs.System.{System}
 use Rattle.model_machine.specs.Machine.{LastingState, start_of}
-use Rattle.cold_start.specs.FirstImage.{sectors_needed}
-use Rattle.control_life.specs.declared.how.How.{How}
-use Rattle.control_life.specs.Opened.{Begins, KeepsBy}
-use Rattle.logged_machine.specs.Logged.{LoggedState}
+use Rattle.model_image.specs.Holding.{HoldsStores}
+use Rattle.openings.specs.FirstImage.{sectors_needed}
+use Rattle.disk_law.specs.Journal.{JournalState}
+use Rattle.openings.specs.Parts.{AreOpeningParts, OpeningParts}
+use Rattle.openings.specs.Opening.{MayBegin}
+use Rattle.openings.specs.Renewal.{IsRenewed}
+use Rattle.tm_machine.specs.Parts.{PartsState}
+use Rattle.openings.specs.declared.how.How.{How}
+use Rattle.openings.specs.Opened.{Begins}
 
--- The machine stands where that begins, and so does all that it counts on. No region has a unit, and no slot counts as changed.
-pub record Opens {D : Type 0} (state : D → DiskState) (how : How) (system : System) (text : List ℕ) (disk : D) (new : LoggedState D) (opening : LastingState) : Type 0 where
-  pub system_is : new.machine.system ≡ system
-  pub moment : new.machine.moment ≡ start_of system opening
-  pub unchanged : new.machine.databases.changed ≡ map (λ dbd. []) system.databases
-  pub units : new.units ≡ replicate (length system.regions) 0
-  pub text_is : new.text ≡ text
-  pub served : new.served ≡ true
-  pub no_fault : (state new.disk).faults ≡ (state disk).faults
-  pub stays : Stays (state disk) (state new.disk)
-  pub size : sectors_needed system ≤ (state disk).size
-  pub begins : Begins how system text (state disk) opening new.journal.restart new.journal.log new.next_unit
-  pub any_moment : Within (KeepsBy how system text) (state disk) (state new.disk)
+-- The machine stands where that begins, and so do its journal and the number of the next unit. No slot of its databases
+-- counts as changed.
+pub record OpensOn (how : How) (system : System) (text : List ℕ) (old new : DiskState) (machine : PartsState) (journal : JournalState) (next_unit : ℕ) (opening : LastingState) : Type 0 where
+  pub moment : machine.moment ≡ start_of system opening
+  pub unchanged : machine.databases.changed ≡ map (λ dbd. []) system.databases
+  pub no_fault : new.faults ≡ old.faults
+  pub size : sectors_needed system ≤ old.size
+  pub begins : Begins how system text old opening journal.restart journal.log next_unit
+
+-- ---- what it begins with
+
+-- Each image that a crash may leave has what a life begins with, and all areas of the system are on the disk.
+pub record BeginsOn (system : System) (text : List ℕ) (parts : OpeningParts) (state : LastingState) (disk : DiskState) : Type 0 where
+  pub are : AreOpeningParts system state parts
+  pub may : MayBegin system text parts state
+  pub renewed : (image : Image) → disk.may_leave image → IsRenewed system text parts.now parts.next_unit state image
+  pub stored : (image : Image) → disk.may_leave image → HoldsStores system parts.stores.stores image
+  pub size : sectors_needed system ≤ disk.size

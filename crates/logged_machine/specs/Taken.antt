@@ -1,6 +1,6 @@
 -- A checkpoint that was taken.
 use Rattle.std.specs.Prelude.{◌≡◌, ℕ, ◌+◌, false, List, [], Some, Ok}
-use Rattle.model_disk.specs.Disk.{Image, DiskState, Only, WritesAtMost}
+use Rattle.tm_disk.specs.Disk.{Image, DiskState, Only, WritesAtMost}
 use Rattle.model_system.specs.System.{System}
 use Rattle.restart_data.specs.declared.restart.RestartSector.{RestartSector}
 use Rattle.restart_data.specs.Restart.{restart_in}
@@ -12,7 +12,7 @@ use Rattle.model_machine.specs.declared.entry.CheckpointRefused.{CheckpointRefus
 use Rattle.model_machine.specs.declared.entry.CheckpointRefused.TheVariants.{BusyRegion, Fault}
 use Rattle.model_machine.specs.declared.entry.ControlFault.TheVariants.{Memory, Disk, Spent}
 use Rattle.program_rows.specs.State.{DatabasesState, settled}
-use Rattle.machine_checkpoint.specs.Taking.{TakesNext, checkpoint_sectors}
+use Rattle.logged_machine.specs.Taking.{TakesNext, checkpoint_sectors}
 use Rattle.logged_machine.specs.Logged.{LoggedState}
 use Rattle.tm_machine.specs.Parts.{PartsState}
 

@@ -1,21 +1,20 @@
 //! Checkpoints that are asked for.
 ghost use Rattle.std.specs.Prelude.{◌*◌, ◌≡◌, true, ℕ, None, Ok, IfErr, IfOk, OnOk};
-ghost use Rattle.model_disk.specs.Disk.{Image};
-ghost use Rattle.model_machine.specs.Commands.{checkpoint_answer, unless_busy};
+ghost use Rattle.tm_disk.specs.Disk.{Image};
+ghost use Rattle.model_machine.specs.ModelMachineCommands.{checkpoint_answer, unless_busy};
 ghost use Rattle.model_machine.specs.declared.entry.Entry.TheVariants.{Checked};
-ghost use Rattle.machine_life.specs.Counted.{IsCounted};
+ghost use Rattle.journal.specs.Counted.{IsCounted};
 ghost use Rattle.logged_machine.specs.Doing.{CountsSince, Did, LeavesCounts};
 ghost use Rattle.logged_machine.specs.Frugal.{Raises};
 ghost use Rattle.logged_machine.specs.Goes.{Keeps, GoesBy, CrashesBy};
-ghost use Rattle.control_life.specs.Faults.{fault_in};
+ghost use Rattle.openings.specs.Faults.{fault_in};
 ghost use Rattle.logged_machine.specs.Logged.{LastsNow, spent_now};
 ghost use Rattle.logged_machine.specs.Taken.{HasNumber, IsTaken, LeavesSettled, StaysUntaken, WritesCheckpoint, again};
 
 use crate::logged::LoggedMachine;
-use command_answers::busy_region;
 use model_machine::CheckpointRefused;
 use tm_disk::Disk;
-use tm_machine::Parts;
+use tm_machine::{Parts, busy_region};
 
 impl<D: Disk> LoggedMachine<D> {
     /// Takes a checkpoint, of which it answers the number. Before a freeze no region may work on a message. No slot counts as

@@ -1,7 +1,7 @@
 //! A machine with its log.
 ghost use Rattle.std.specs.Prelude.{◌≡◌, ◌<◌, ◌↔◌, IfOk, IsTrue, IsFalse};
-ghost use Rattle.model_disk.specs.Disk.{IsToldToStop, armed};
-ghost use Rattle.model_machine.specs.Commands.{command_answer};
+ghost use Rattle.tm_disk.specs.Disk.{IsToldToStop, armed};
+ghost use Rattle.model_machine.specs.ModelMachineCommands.{command_answer};
 ghost use Rattle.model_machine.specs.declared.entry.Entry.TheVariants.{Show as ShowEntry};
 ghost use Rattle.model_machine.specs.Machine.{output_at, terminal_at};
 ghost use Rattle.model_machine.specs.Steps.{is_quiet, show_answer};
@@ -10,16 +10,14 @@ ghost use Rattle.tm_machine.specs.Answers.{Answers};
 ghost use Rattle.tm_machine.specs.OnSlots.{HasSlots};
 ghost use Rattle.logged_machine.specs.Logged.{LastsNow};
 
-use command_answers::answer_to;
 use journal::Journal;
 use lasting_state::Shown;
-use model_command::{Answer, Command};
-use model_machine::{CommandRefused, ShowAnswer};
+use model_machine::{Answer, Command, CommandRefused, ShowAnswer};
 use std::alloc::Global;
 use std::marker::Model;
 use system_types::System;
 use tm_disk::Disk;
-use tm_machine::Parts;
+use tm_machine::{Parts, answer_to};
 use tm_types::{Bytes, Memory, Name};
 
 /// A machine with its log on a disk.
@@ -39,7 +37,7 @@ pub struct LoggedMachine<D: Disk> {
 
 impl<D: Disk> Model for LoggedMachine<D> {
     ghost use Rattle.std.specs.Prelude.{◌≡◌, true};
-    ghost use Rattle.parts_life.specs.Logged.{IsLogged};
+    ghost use Rattle.logged_machine.specs.PartsLifeLogged.{IsLogged};
     ghost use Rattle.logged_machine.specs.Logged.{LoggedState};
 
     ghost Value = { LoggedState D };

@@ -1,125 +1,51 @@
 //! How a machine with its log is opened.
-ghost use Rattle.std.specs.Prelude.{◌≡◌, ◌≤◌, length, replicate, IfOk, IfErr};
-ghost use Rattle.cold_start.specs.FirstImage.{sectors_needed};
-ghost use Rattle.checkpointing.specs.Counts.{RaisesCounts};
-ghost use Rattle.model_disk.specs.Disk.{Only, Within};
+ghost use Rattle.std.specs.Prelude.{◌≡◌, ◌≤◌, length, IfOk, IfErr, OnErr, Err};
+ghost use Rattle.tm_disk.specs.Disk.{Stays, Within, Only};
 ghost use Rattle.model_machine.specs.Machine.{empty_state, start_of};
-ghost use Rattle.machine_life.proofs.Openings.{no_units};
-ghost use Rattle.logged_machine.specs.Logged.{LastsNow};
-ghost use Rattle.logged_machine.specs.Opened.{Opens};
-ghost use Rattle.control_life.specs.Opened.{HandsBack};
+ghost use Rattle.checkpointing.specs.Counts.{RaisesCounts};
+ghost use Rattle.openings.specs.Opening.{OpeningCause};
+ghost use Rattle.journal.proofs.Openings.{no_units};
+ghost use Rattle.logged_machine.specs.PartsLifeLogged.{IsLogged};
+ghost use Rattle.logged_machine.specs.Opened.{OpensOn};
+ghost use Rattle.openings.specs.Opened.{KeepsBy, Refuses};
 
-use crate::logged::LoggedMachine;
-use crate::refused::OpenRefused;
-use control_life::How;
-use image_areas::sectors_needed;
-use machine_opening::{OpenError, open};
+use crate::beginning::begin;
+use crate::looking::look;
+use journal::Journal;
 use model_machine::Lasting;
+use openings::{How, OpenError};
 use std::alloc::Global;
-use system_types::System;
 use tm_disk::Disk;
 use tm_machine::Parts;
-use tm_types::{Bytes, Memory};
 
-impl<D: Disk> LoggedMachine<D> {
-    /// Opens the machine of this system, whose definition has this text, with what the disk has, or cold. The size of the
-    /// disk is looked at before anything wants memory.
-    pub fn open(
-        alloc: Global,
-        disk: D,
-        system: System,
-        text: Bytes,
-        how: How,
-    ) -> Result<(LoggedMachine<D>, Lasting), OpenRefused<D>>
-        requires text { length text ≤ 262144 }
-        requires only { Only (D.state disk).shown (D.state disk) }
-        ensures opened { IfOk result (λ opened. Opens D.state how system text disk opened.0 opened.1) }
-        ensures lasts { IfOk result (λ opened. LastsNow D.state opened.0) }
-        // Where no counter is above a bound, none of what a crash leaves is more than one above it.
-        ensures counts { IfOk result (λ opened. Within (RaisesCounts 1 system) (D.state disk) (D.state opened.0.disk)) }
-        ensures counts_back { IfErr result (λ refused. Within (RaisesCounts 1 system) (D.state disk) (D.state refused.disk)) }
-        ensures refused { IfErr result (λ refused. HandsBack D.state how system text disk refused.error refused.disk refused.system refused.text) }
-    {
-        let needed = sectors_needed(&system);
-        let has = disk.sectors();
-        if has < needed {
-            return Err(OpenRefused {
-                error: OpenError::TooSmall(needed, has),
-                disk,
-                system,
-                text,
-            });
-        }
-        match Parts::new(alloc, system) {
-            Ok(parts) => open_parts(alloc, disk, parts, text, how),
-            Err(system) => Err(OpenRefused {
-                error: OpenError::Memory,
-                disk,
-                system,
-                text,
-            }),
-        }
-    }
-}
-
-/// The same with parts that are new.
-fn open_parts<D: Disk>(
+/// Opens the machine of these parts, which are new, with what the disk has, or cold. It answers the journal, the number of the
+/// next unit, and what lasts. A refusal leaves the parts as they were.
+pub fn open<D: Disk>(
     alloc: Global,
-    disk: D,
-    parts: Parts,
-    text: Bytes,
+    disk: &mut D,
+    parts: &mut Parts,
+    text: &[u8],
     how: How,
-) -> Result<(LoggedMachine<D>, Lasting), OpenRefused<D>>
-    requires text { length text ≤ 262144 }
-    requires only { Only (D.state disk).shown (D.state disk) }
-    requires fresh { parts.moment ≡ start_of parts.system (empty_state parts.system) }
-    requires size { sectors_needed parts.system ≤ (D.state disk).size }
-    ensures opened { IfOk result (λ opened. Opens D.state how parts.system text disk opened.0 opened.1) }
-    ensures lasts { IfOk result (λ opened. LastsNow D.state opened.0) }
-    ensures counts { IfOk result (λ opened. Within (RaisesCounts 1 parts.system) (D.state disk) (D.state opened.0.disk)) }
-    ensures counts_back { IfErr result (λ refused. Within (RaisesCounts 1 parts.system) (D.state disk) (D.state refused.disk)) }
-    ensures refused { IfErr result (λ refused. HandsBack D.state how parts.system text disk refused.error refused.disk refused.system refused.text) }
+) -> Result<(Journal, u64, Lasting), OpenError>
+    requires fresh { parts.old.moment ≡ start_of parts.old.system (empty_state parts.old.system) }
+    requires text { length text.now ≤ 262144 }
+    requires only { Only (D.state disk.old).shown (D.state disk.old) }
+    ensures system { parts.new.system ≡ parts.old.system }
+    ensures kept { OnErr result (parts.new ≡ parts.old) }
+    ensures opens { IfOk result (λ opened. OpensOn how parts.old.system text.entry.now (D.state disk.old) (D.state disk.new) parts.new opened.0 opened.1 opened.2) }
+    ensures logged { IfOk result (λ opened. IsLogged parts.new (no_units (length parts.old.system.regions)) opened.1 opened.0 text.entry.now (D.state disk.new)) }
+    ensures refuses { IfErr result (λ error. Refuses how parts.old.system text.entry.now (D.state disk.old) error) }
+    ensures cause { IfErr result (λ error. OpeningCause (Err error) (D.state disk.old) (D.state disk.new)) }
+    ensures stays { Stays (D.state disk.old) (D.state disk.new) }
+    ensures any_moment { Within (KeepsBy how parts.old.system text.entry.now) (D.state disk.old) (D.state disk.new) }
+    // Where no counter is above a bound, none of what a crash leaves is more than one above it.
+    ensures counts { Within (RaisesCounts 1 parts.old.system) (D.state disk.old) (D.state disk.new) }
 {
-    let Ok(units) = without_units(alloc, parts.system().regions().len()) else {
-        return Err(OpenRefused {
-            error: OpenError::Memory,
-            disk,
-            system: parts.into_system(),
-            text,
-        });
-    };
-    let mut disk = disk;
-    let mut parts = parts;
-    match open(alloc, &mut disk, &mut parts, text.as_slice(), how) {
-        Ok((journal, next_unit, lasting)) => Ok((
-            LoggedMachine {
-                alloc,
-                parts,
-                journal,
-                disk,
-                text,
-                units,
-                next_unit,
-                served: true,
-            },
-            lasting,
-        )),
-        Err(error) => Err(OpenRefused {
-            error,
-            disk,
-            system: parts.into_system(),
-            text,
-        }),
+    match look(alloc, disk, parts.system(), text, how) {
+        Ok((opening, lasting)) => {
+            let (journal, next_unit) = begin(alloc, parts, opening);
+            Ok((journal, next_unit, lasting))
+        }
+        Err(error) => Err(error),
     }
-}
-
-/// So many regions, none with a unit.
-fn without_units(alloc: Global, count: usize) -> Result<Vec<u64>, Memory>
-    ensures { IfOk result (λ units. units.items ≡ no_units count) }
-{
-    let mut units = Vec::with_capacity(alloc, count)?;
-    for _place in 0..count {
-        units.push(0)?;
-    }
-    Ok(units)
 }

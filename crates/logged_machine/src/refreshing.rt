@@ -1,10 +1,10 @@
 //! Checkpoints.
 ghost use Rattle.std.specs.Prelude.{◌≡◌, true, OnOk, IfErr};
-ghost use Rattle.machine_life.specs.Counted.{IsCounted};
+ghost use Rattle.journal.specs.Counted.{IsCounted};
 ghost use Rattle.logged_machine.specs.Doing.{Refreshed, Unrefreshed, is_memory};
 
+use crate::checkpoint;
 use crate::logged::LoggedMachine;
-use machine_checkpoint::checkpoint;
 use model_machine::ControlFault;
 use tm_disk::Disk;
 

@@ -1,6 +1,6 @@
 //! A refused opening.
 
-use opening_answers::OpenError;
+use openings::OpenError;
 use system_types::System;
 use tm_disk::Disk;
 use tm_types::Bytes;

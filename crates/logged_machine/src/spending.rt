@@ -4,7 +4,7 @@ ghost use Rattle.logged_machine.specs.Logged.{LastsNow, spent_now};
 
 use crate::logged::LoggedMachine;
 use model_machine::Counter;
-use opening_answers::{Counts, spent_counter};
+use openings::{Counts, spent_counter};
 use tm_disk::Disk;
 
 impl<D: Disk> LoggedMachine<D> {

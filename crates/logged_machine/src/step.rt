@@ -1,11 +1,11 @@
 //! A call of which a step may last, done and forced.
 ghost use Rattle.std.specs.Prelude.{◌≡◌, ◌<◌, ◌≤◌, ◌*◌, length, true, None, IfErr, IfOk, OnErr, OnOk};
 ghost use Rattle.model_machine.specs.History.{IsCall};
-ghost use Rattle.control_life.specs.Faults.{fault_in};
-ghost use Rattle.step_telling.specs.Untold.{WhereFull};
-ghost use Rattle.machine_life.specs.Counted.{IsCounted};
-ghost use Rattle.machine_telling.specs.Calls.{IsWithin, own_bytes};
-ghost use Rattle.machine_telling.specs.Telling.{HasRoom};
+ghost use Rattle.openings.specs.Faults.{fault_in};
+ghost use Rattle.lasting_state.specs.Untold.{WhereFull};
+ghost use Rattle.journal.specs.Counted.{IsCounted};
+ghost use Rattle.logged_machine.specs.Calls.{IsWithin, own_bytes};
+ghost use Rattle.logged_machine.specs.Telling.{HasRoom};
 ghost use Rattle.logged_machine.specs.Logged.{LastsNow, spent_now};
 ghost use Rattle.logged_machine.specs.Goes.{Keeps, GoesBy, CrashesBy};
 ghost use Rattle.logged_machine.specs.Doing.{CountsSince, Done, DoneFrugally, Tried};
@@ -14,8 +14,7 @@ ghost use Rattle.logged_machine.specs.Frugal.{IsFrugal, Raises};
 use crate::forcing::force;
 use crate::logged::LoggedMachine;
 use crate::refreshing::is_memory;
-use machine_due::DueCall;
-use machine_telling::{Untold, room_left, tell};
+use crate::{DueCall, Untold, room_left, tell};
 use model_machine::ControlFault;
 use tm_disk::Disk;
 

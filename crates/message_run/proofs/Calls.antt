@@ -5,18 +5,18 @@ use Rattle.std.proofs.lemmas.Option.{get_or_from_slice_get, slice_get_within}
 use Rattle.std.proofs.lemmas.List.Elements.{All-get_or}
 use Rattle.tm_types.specs.declared.dbd.Dbd.{Dbd}
 use Rattle.tm_types.specs.declared.function.Function.{Function}
-use Rattle.model_script.specs.declared.need.CallText.{CallText}
-use Rattle.model_script.specs.declared.need.Need.TheVariants.{Call as NeedsCall, Abend as NeedsAbend}
-use Rattle.model_script.specs.declared.program.ScriptLine.{ScriptLine}
-use Rattle.model_script.specs.declared.script_ssa.ScriptSsa.{ScriptSsa}
-use Rattle.model_script.specs.declared.statement.Statement.{Statement}
-use Rattle.model_script.specs.declared.statement.Statement.TheVariants.{Label, Set, Word, Cut, Pad, Add, Less, If, Goto, Call, Abend, End}
-use Rattle.model_script.specs.Arithmetic.{sum_text, difference_text}
-use Rattle.model_script.specs.Script.{ScriptState, Needs, call_ssa, call_text, counted, executed_by, step_by, need_of, need_at, settled, variable_text}
+use Rattle.model_system.specs.declared.need.CallText.{CallText}
+use Rattle.model_system.specs.declared.need.Need.TheVariants.{Call as NeedsCall, Abend as NeedsAbend}
+use Rattle.model_system.specs.declared.program.ScriptLine.{ScriptLine}
+use Rattle.model_system.specs.declared.script_ssa.ScriptSsa.{ScriptSsa}
+use Rattle.model_system.specs.declared.statement.Statement.{Statement}
+use Rattle.model_system.specs.declared.statement.Statement.TheVariants.{Label, Set, Word, Cut, Pad, Add, Less, If, Goto, Call, Abend, End}
+use Rattle.model_system.specs.Arithmetic.{sum_text, difference_text}
+use Rattle.model_system.specs.Script.{ScriptState, Needs, call_ssa, call_text, counted, executed_by, step_by, need_of, need_at, settled, variable_text}
 use Rattle.model_system.specs.declared.pcb.Pcb.{Pcb}
 use Rattle.model_system.specs.declared.pcb.Pcb.TheVariants.{Database, Destination, Modifiable}
 use Rattle.model_system.specs.Pcbs.{pcb_at}
-use Rattle.model_dli.specs.Conditions.{AreSsasOf}
+use Rattle.model_data.specs.Conditions.{AreSsasOf}
 use Rattle.system_types.specs.Valid.{IsServable, IsPcbOf, IsCallOn, IsDatabaseCall}
 use Rattle.message_run.specs.RunState.{IsCallBy, IsCallOf}
 

@@ -5,17 +5,17 @@ use Rattle.std.specs.Option.{option_and_then}
 use Rattle.tm_types.specs.declared.abend.AbendCode.{AbendCode}
 use Rattle.tm_types.specs.declared.function.Function.{Function}
 use Rattle.tm_types.specs.declared.function.Function.TheVariants.{GU, GN, GNP, GHU, GHN, GHNP, ISRT, REPL, DLET, PURG, CHNG, ROLB, ROLL}
-use Rattle.model_conversation.specs.declared.conversation.Conversation.{Conversation}
-use Rattle.model_rows.specs.declared.row.Row.{Row}
-use Rattle.model_dli.specs.Data.{Data}
-use Rattle.model_script.specs.declared.need.CallText.{CallText}
-use Rattle.model_script.specs.declared.need.Need.{Need}
-use Rattle.model_script.specs.declared.need.Need.TheVariants.{Call, Ended, Abend}
+use Rattle.model_messages.specs.declared.conversation.Conversation.{Conversation}
+use Rattle.model_data.specs.declared.row.Row.{Row}
+use Rattle.model_data.specs.Data.{Data}
+use Rattle.model_system.specs.declared.need.CallText.{CallText}
+use Rattle.model_system.specs.declared.need.Need.{Need}
+use Rattle.model_system.specs.declared.need.Need.TheVariants.{Call, Ended, Abend}
 use Rattle.model_system.specs.Jobs.{Job}
 use Rattle.model_system.specs.Lists.{change_at}
 use Rattle.model_system.specs.System.{System}
-use Rattle.model_message.specs.Work.{MessageWork}
-use Rattle.model_message.specs.Calls.{gives_back, is_blank, returned_pad, segment_status, segment_work, with_segment, work_by}
+use Rattle.model_messages.specs.Work.{MessageWork}
+use Rattle.model_messages.specs.Calls.{gives_back, is_blank, returned_pad, segment_status, segment_work, with_segment, work_by}
 use Rattle.model_machine.specs.Trial.{Given, Trial, Reached, outcome_at, reached, call_outcome, called, gone_on, unless_abend, is_sync, gone, advance, advance_by, trial_need, trial_of}
 use Rattle.model_machine.specs.Trial.Reached.{Messages, Rows, Nothing}
 use Rattle.model_machine.specs.Trial.Advance.{Stops}

@@ -9,18 +9,18 @@ use Rattle.tm_types.specs.declared.dbd.Dbd.{Dbd}
 use Rattle.tm_types.specs.declared.dbd.SegType.{SegType}
 use Rattle.tm_types.specs.declared.resource.Resource.{Resource}
 use Rattle.tm_types.specs.Segment.{IsSegmentText}
-use Rattle.model_script.specs.declared.need.CallText.{CallText}
-use Rattle.model_script.specs.Script.{Answer}
+use Rattle.model_system.specs.declared.need.CallText.{CallText}
+use Rattle.model_system.specs.Script.{Answer}
 use Rattle.model_system.specs.declared.pcb.Pcb.{Pcb}
 use Rattle.model_system.specs.declared.pcb.Pcb.TheVariants.{Database}
 use Rattle.model_system.specs.System.{System}
-use Rattle.model_dli.specs.declared.call.DbCall.{DbCall}
-use Rattle.model_dli.specs.declared.call.Position.{Position}
-use Rattle.model_dli.specs.Conditions.{AreSsasOf, IsDbCall, IsPosition}
-use Rattle.model_dli.specs.Data.{data_abend, nowhere, position_at}
-use Rattle.model_dli.specs.Dli.{DliResult, dli}
-use Rattle.model_enqueue.specs.declared.request.Request.{Request}
-use Rattle.model_enqueue.specs.Ask.{after_asks, first_blocked}
+use Rattle.model_data.specs.declared.call.DbCall.{DbCall}
+use Rattle.model_data.specs.declared.call.Position.{Position}
+use Rattle.model_data.specs.Conditions.{AreSsasOf, IsDbCall, IsPosition}
+use Rattle.model_data.specs.Data.{data_abend, nowhere, position_at}
+use Rattle.model_data.specs.Dli.{DliResult, dli}
+use Rattle.model_data.specs.declared.request.Request.{Request}
+use Rattle.model_data.specs.Ask.{after_asks, first_blocked}
 use Rattle.model_machine.specs.Trial.{DbPcb, Outcome, Reached, Rows, Nothing, db_outcome, reached_by}
 use Rattle.program_rows.specs.State.{DatabasesState, IsRegionOf, data_of, region_at, rows_numbered}
 use Rattle.program_rows.specs.Isolation.{requests_of_call}

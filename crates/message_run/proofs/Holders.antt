@@ -10,11 +10,11 @@ use Rattle.std.proofs.lemmas.Bool.{lt-ltb, le-ltb, eq-eqb, ne_eqb, eqb-true, cas
 use Rattle.std.proofs.lemmas.Cmp.{then_total, on_total, nat_cmp_total, eq_by_cmp_equiv}
 use Rattle.std.proofs.lemmas.Map.Lookups.{exact_bytes}
 use Rattle.tm_types.specs.declared.resource.Resource.{Resource}
-use Rattle.model_enqueue.specs.declared.request.Holder.{Holder}
-use Rattle.model_enqueue.specs.declared.request.Request.{Request}
-use Rattle.model_enqueue.specs.Modes.{same_resource, resource_cmp, holder_cmp}
-use Rattle.model_enqueue.specs.Table.{is_asker}
-use Rattle.model_enqueue.specs.Ask.{asker}
+use Rattle.model_data.specs.declared.request.Holder.{Holder}
+use Rattle.model_data.specs.declared.request.Request.{Request}
+use Rattle.model_data.specs.Modes.{same_resource, resource_cmp, holder_cmp}
+use Rattle.model_data.specs.Table.{is_asker}
+use Rattle.model_data.specs.Ask.{asker}
 
 pub resource_total : IsTotalOrder resource_cmp
 resource_total = then_total (on_total (λ (r : Resource). r.db) nat_cmp_total) (on_total (λ (r : Resource). r.root) (options_total nat_list_cmp_total))

@@ -10,11 +10,11 @@ use Rattle.std.specs.declared.cmp.Ordering.TheVariants.{Less, Equal, Greater}
 use Rattle.std.proofs.lemmas.List.Elements.{All-nil, All-cons}
 use Rattle.tm_types.specs.declared.resource.Mode.{Mode}
 use Rattle.tm_types.specs.declared.resource.Mode.TheVariants.{Shared, Exclusive}
-use Rattle.model_enqueue.specs.declared.request.Holder.{Holder}
-use Rattle.model_enqueue.specs.declared.request.Request.{Request}
-use Rattle.model_enqueue.specs.Modes.{serves, stronger, holder_cmp}
-use Rattle.model_enqueue.specs.Table.{EnqueueTable, is_asker, is_served, is_upgrade, mode_held, blocked_by}
-use Rattle.model_enqueue.specs.Ask.{asker, granted, granted_mode, with_hold, waiting, waits_only_for, after_asks, first_blocked, placed}
+use Rattle.model_data.specs.declared.request.Holder.{Holder}
+use Rattle.model_data.specs.declared.request.Request.{Request}
+use Rattle.model_data.specs.Modes.{serves, stronger, holder_cmp}
+use Rattle.model_data.specs.Table.{EnqueueTable, is_asker, is_served, is_upgrade, mode_held, blocked_by}
+use Rattle.model_data.specs.Ask.{asker, granted, granted_mode, with_hold, waiting, waits_only_for, after_asks, first_blocked, placed}
 use Rattle.message_run.specs.Ahead.{IsHeld}
 use Rattle.message_run.proofs.Holders.{asker_is, holder_exact, holder_same}
 

@@ -5,15 +5,15 @@ use Rattle.std.specs.List.{AllByRecursion}
 use Rattle.tm_types.specs.declared.dbd.Dbd.{Dbd}
 use Rattle.tm_types.specs.declared.function.Function.{Function}
 use Rattle.tm_types.specs.declared.function.Function.TheVariants.{GU, GN, GNP, GHU, GHN, GHNP, ISRT, REPL, DLET, PURG, CHNG, ROLB, ROLL}
-use Rattle.model_script.specs.declared.need.CallText.{CallText}
-use Rattle.model_script.specs.declared.need.Need.{Need}
-use Rattle.model_script.specs.declared.need.Need.TheVariants.{Call}
-use Rattle.model_script.specs.Script.{need_at}
+use Rattle.model_system.specs.declared.need.CallText.{CallText}
+use Rattle.model_system.specs.declared.need.Need.{Need}
+use Rattle.model_system.specs.declared.need.Need.TheVariants.{Call}
+use Rattle.model_system.specs.Script.{need_at}
 use Rattle.model_system.specs.declared.pcb.Pcb.{Pcb}
 use Rattle.model_system.specs.Jobs.{Job}
 use Rattle.model_system.specs.Pcbs.{pcb_at}
-use Rattle.model_message.specs.Work.{MessageWork}
-use Rattle.model_dli.specs.Data.{Data}
+use Rattle.model_messages.specs.Work.{MessageWork}
+use Rattle.model_data.specs.Data.{Data}
 use Rattle.model_machine.specs.Trial.{Given, Trial, reached, reached_by, is_sync, is_get_unique}
 use Rattle.model_machine.specs.Trial.Reached.{Messages}
 use Rattle.seg_store.specs.Slots.{Stored}
@@ -27,7 +27,7 @@ use Rattle.log_records.specs.Telling.{spelled, Tells, IsUntold}
 use Rattle.program_rows.specs.Telling.{unless_stopped}
 use Rattle.tm_types.specs.declared.abend.AbendCode.{AbendCode}
 use Rattle.tm_types.specs.declared.resource.Resource.{Resource}
-use Rattle.model_enqueue.specs.declared.request.Request.{Request}
+use Rattle.model_data.specs.declared.request.Request.{Request}
 use Rattle.program_rows.specs.OnSlots.{slots_in}
 use Rattle.program_rows.proofs.Slotted.{calls_none}
 use Rattle.message_run.specs.RunState.{RunState}
@@ -36,7 +36,7 @@ use Rattle.message_run.specs.Telling.{message_told, reach_told, need_told, next_
 use Rattle.message_run.proofs.Steps.{trial_needs}
 use Rattle.message_run.proofs.Calls.{all_at}
 use Rattle.message_run.proofs.Standing.{all_nowhere}
-use Rattle.model_dli.specs.Data.{nowhere}
+use Rattle.model_data.specs.Data.{nowhere}
 use Rattle.message_run.specs.RunState.{AreStanding}
 use Rattle.message_run.specs.Answering.{IfAnswered, IsRolled, RollsBack}
 use Rattle.message_run.specs.declared.answer.CallEnd.{CallEnd}

@@ -5,9 +5,9 @@ use Rattle.std.proofs.lemmas.List.{length-replicate, length-set}
 use Rattle.tm_types.specs.declared.dbd.Dbd.{Dbd}
 use Rattle.model_system.specs.declared.pcb.Pcb.{Pcb}
 use Rattle.model_system.specs.declared.pcb.Pcb.TheVariants.{Database}
-use Rattle.model_dli.specs.declared.call.Position.{Position}
-use Rattle.model_dli.specs.Conditions.{IsPosition}
-use Rattle.model_dli.specs.Data.{nowhere}
+use Rattle.model_data.specs.declared.call.Position.{Position}
+use Rattle.model_data.specs.Conditions.{IsPosition}
+use Rattle.model_data.specs.Data.{nowhere}
 use Rattle.message_run.specs.RunState.{AreStanding}
 
 -- each of so many equal elements

@@ -7,23 +7,23 @@ use Rattle.tm_types.specs.declared.abend.AbendCode.{AbendCode}
 use Rattle.tm_types.specs.declared.dbd.Dbd.{Dbd}
 use Rattle.tm_types.specs.declared.resource.Resource.{Resource}
 use Rattle.tm_types.specs.declared.status.Status.{Status}
-use Rattle.model_script.specs.declared.need.CallText.{CallText}
-use Rattle.model_script.specs.declared.need.Need.{Need}
-use Rattle.model_script.specs.declared.need.Need.TheVariants.{Call}
-use Rattle.model_script.specs.declared.program.ScriptLine.{ScriptLine}
-use Rattle.model_script.specs.Script.{Answer, ScriptState, script_start, script_after, need_at, answered}
-use Rattle.model_script.proofs.Settled.{script_after_append}
+use Rattle.model_system.specs.declared.need.CallText.{CallText}
+use Rattle.model_system.specs.declared.need.Need.{Need}
+use Rattle.model_system.specs.declared.need.Need.TheVariants.{Call}
+use Rattle.model_system.specs.declared.program.ScriptLine.{ScriptLine}
+use Rattle.model_system.specs.Script.{Answer, ScriptState, script_start, script_after, need_at, answered}
+use Rattle.model_system.proofs.Settled.{script_after_append}
 use Rattle.model_system.specs.declared.pcb.Pcb.{Pcb}
 use Rattle.model_system.specs.Jobs.{Job}
 use Rattle.model_system.specs.Pcbs.{pcb_at}
 use Rattle.script_run.specs.Running.{Running, HasTexts, answered_machine, waiting_told}
 use Rattle.script_run.proofs.GoingOn.{answered_more, behind_is}
-use Rattle.model_dli.specs.declared.call.Position.{Position}
-use Rattle.model_dli.specs.Data.{Data, data_start, nowhere}
-use Rattle.model_enqueue.specs.declared.request.Request.{Request}
-use Rattle.model_enqueue.specs.Table.{EnqueueTable}
-use Rattle.model_enqueue.specs.Ask.{after_asks, first_blocked}
-use Rattle.model_message.specs.Work.{MessageWork, message_start}
+use Rattle.model_data.specs.declared.call.Position.{Position}
+use Rattle.model_data.specs.Data.{Data, data_start, nowhere}
+use Rattle.model_data.specs.declared.request.Request.{Request}
+use Rattle.model_data.specs.Table.{EnqueueTable}
+use Rattle.model_data.specs.Ask.{after_asks, first_blocked}
+use Rattle.model_messages.specs.Work.{MessageWork, message_start}
 use Rattle.seg_store.specs.Slots.{Stored}
 use Rattle.program_rows.specs.State.{DatabasesState, RegionRows, IsClean, committed_rows, rows_of, dbds_of, data_of, no_rows}
 use Rattle.program_rows.specs.Answering.{told_blocked}
@@ -37,7 +37,7 @@ use Rattle.message_run.specs.Answering.{Answers, AreGranted, AreBlocked, outcome
 use Rattle.message_run.specs.Ahead.{IsAhead, IsFree, IsHeld, IsStart, GoesBy, StopsSo, WaitsFor, needs_before, needs_behind}
 use Rattle.message_run.proofs.Holding.{asks_keep, asks_hold}
 use Rattle.message_run.proofs.Standing.{all_nowhere}
-use Rattle.model_rows.specs.declared.row.Row.{Row}
+use Rattle.model_data.specs.declared.row.Row.{Row}
 
 pub stops_at : (sync : Bool) (rest : Advance) → sync ≡ true → (if sync then Stops Syncs else rest) ≡ Stops Syncs
 stops_at true rest e = refl

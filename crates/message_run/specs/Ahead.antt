@@ -4,17 +4,17 @@ use Rattle.std.specs.Prelude.{◌≡◌, ℕ, zero, suc, ◌+◌, ◌-◌, ⊤, 
 use Rattle.tm_types.specs.declared.message.Message.{Message}
 use Rattle.tm_types.specs.declared.resource.Resource.{Resource}
 use Rattle.io_pcb.specs.Pads.{conversation_by}
-use Rattle.model_rows.specs.declared.row.Row.{Row}
-use Rattle.model_script.specs.declared.need.Need.{Need}
+use Rattle.model_data.specs.declared.row.Row.{Row}
+use Rattle.model_system.specs.declared.need.Need.{Need}
 use Rattle.script_run.specs.Running.{HasTexts}
-use Rattle.model_script.specs.Script.{script_start, script_after}
+use Rattle.model_system.specs.Script.{script_start, script_after}
 use Rattle.model_system.specs.Jobs.{Job}
 use Rattle.model_machine.specs.Trial.{Given, Trial, WorkEnd, CalledWith, trial_of, trial_need, advance}
 use Rattle.model_machine.specs.Trial.Advance.{Goes, Stops}
 use Rattle.model_machine.specs.Trial.WorkEnd.{Ends, Syncs, Abends}
-use Rattle.model_enqueue.specs.Table.{EnqueueTable, is_served}
-use Rattle.model_enqueue.specs.Ask.{after_asks, first_blocked}
-use Rattle.model_enqueue.specs.declared.request.Request.{Request}
+use Rattle.model_data.specs.Table.{EnqueueTable, is_served}
+use Rattle.model_data.specs.Ask.{after_asks, first_blocked}
+use Rattle.model_data.specs.declared.request.Request.{Request}
 use Rattle.model_machine.specs.Requests.{asked_before, requests_of}
 use Rattle.program_rows.specs.Answering.{told_blocked}
 use Rattle.program_rows.specs.State.{DatabasesState, IsClean, region_at, committed_rows, dbds_of, data_of}

@@ -1,13 +1,13 @@
 -- How a call of a script is answered, and what that leaves of the work.
 use Rattle.std.specs.Prelude.{◌≡◌, ℕ, ◌-◌, ⊤, List, Some, None, length, replicate, slice_set}
-use Rattle.model_script.specs.Script.{Answer}
-use Rattle.model_script.specs.declared.need.CallText.{CallText}
+use Rattle.model_system.specs.Script.{Answer}
+use Rattle.model_system.specs.declared.need.CallText.{CallText}
 use Rattle.model_system.specs.System.{System}
-use Rattle.model_message.specs.Work.{MessageWork}
-use Rattle.model_message.specs.Calls.{unique_answer, reset_work}
-use Rattle.model_dli.specs.Data.{nowhere}
-use Rattle.model_enqueue.specs.declared.request.Request.{Request}
-use Rattle.model_enqueue.specs.Ask.{after_asks, first_blocked, waits_for_nothing}
+use Rattle.model_messages.specs.Work.{MessageWork}
+use Rattle.model_messages.specs.Calls.{unique_answer, reset_work}
+use Rattle.model_data.specs.Data.{nowhere}
+use Rattle.model_data.specs.declared.request.Request.{Request}
+use Rattle.model_data.specs.Ask.{after_asks, first_blocked, waits_for_nothing}
 use Rattle.model_machine.specs.Trial.{Reached, Outcome, outcome_at}
 use Rattle.model_machine.specs.Requests.{requests_at}
 use Rattle.script_run.specs.Running.{answered_machine}

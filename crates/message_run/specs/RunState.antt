@@ -2,14 +2,14 @@
 -- how far the message and the output have come, and where the program's PCBs stand in the databases.
 use Rattle.std.specs.Prelude.{◌≡◌, ℕ, ◌-◌, ◌≤◌, List, Option, None, Some, IsSomeAnd, length, slice_get}
 use Rattle.tm_types.specs.declared.dbd.Dbd.{Dbd}
-use Rattle.model_script.specs.declared.need.CallText.{CallText}
+use Rattle.model_system.specs.declared.need.CallText.{CallText}
 use Rattle.model_system.specs.declared.pcb.Pcb.{Pcb}
 use Rattle.model_system.specs.declared.pcb.Pcb.TheVariants.{Database, Destination, Modifiable}
 use Rattle.model_system.specs.Pcbs.{pcb_at}
 use Rattle.script_run.specs.Running.{Running}
-use Rattle.model_message.specs.Work.{MessageWork}
-use Rattle.model_dli.specs.declared.call.Position.{Position}
-use Rattle.model_dli.specs.Conditions.{AreSsasOf, IsPosition}
+use Rattle.model_messages.specs.Work.{MessageWork}
+use Rattle.model_data.specs.declared.call.Position.{Position}
+use Rattle.model_data.specs.Conditions.{AreSsasOf, IsPosition}
 
 pub record RunState : Type 0 where
   pub calls : ℕ

@@ -2,11 +2,11 @@
 use Rattle.std.specs.Prelude.{◌≡◌, ⊤, ℕ, List, []}
 use Rattle.tm_types.specs.declared.function.Function.{Function}
 use Rattle.tm_types.specs.declared.function.Function.TheVariants.{ROLB}
-use Rattle.model_script.specs.declared.need.CallText.{CallText}
-use Rattle.model_script.specs.declared.need.Need.{Need}
-use Rattle.model_script.specs.declared.need.Need.TheVariants.{Call, Ended, Abend}
+use Rattle.model_system.specs.declared.need.CallText.{CallText}
+use Rattle.model_system.specs.declared.need.Need.{Need}
+use Rattle.model_system.specs.declared.need.Need.TheVariants.{Call, Ended, Abend}
 use Rattle.model_system.specs.Jobs.{Job}
-use Rattle.model_dli.specs.Data.{Data, position_at}
+use Rattle.model_data.specs.Data.{Data, position_at}
 use Rattle.model_machine.specs.Trial.{Given, Reached, Trial, reached, db_call, trial_need}
 use Rattle.model_machine.specs.Trial.Reached.{Messages, Rows, Nothing}
 use Rattle.log_records.specs.declared.record.Record.{Record}

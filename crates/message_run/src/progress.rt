@@ -1,9 +1,9 @@
 //! How far the work on a message has come.
 ghost use Rattle.std.specs.Prelude.{◌≡◌, ◌≤◌, IfOk, IfErr, IfSome, OnOk, OnErr, length, replicate};
 ghost use Rattle.std.specs.Option.{option_copied};
-ghost use Rattle.model_dli.specs.Data.{nowhere};
+ghost use Rattle.model_data.specs.Data.{nowhere};
 ghost use Rattle.model_machine.specs.Trial.{is_sync};
-ghost use Rattle.model_message.specs.Calls.{finish_work, pad_change};
+ghost use Rattle.model_messages.specs.Calls.{finish_work, pad_change};
 ghost use Rattle.io_pcb.specs.Pads.{IsPadText, Suits, lent_pad};
 ghost use Rattle.program_rows.specs.State.{dbds_of, IsRegionOf};
 ghost use Rattle.model_system.specs.System as model;
@@ -17,8 +17,8 @@ use crate::answer::CallEnd;
 use crate::run::{Advanced, Ending};
 use io_pcb::{LentPad, Work};
 use log_records::Untold;
-use model_message::EndedMessage;
-use model_script::{CallText, Need};
+use model_messages::EndedMessage;
+use model_system::{CallText, Need};
 use program_rows::{Databases, Position};
 use script_run::Machine;
 use std::alloc::Global;

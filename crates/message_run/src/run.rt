@@ -1,7 +1,7 @@
 //! The work on a message, from call to call.
 ghost use Rattle.std.specs.Prelude.{◌≡◌, ◌≤◌, IfOk, IfErr, IfSome, OnOk, OnErr, length, replicate};
 ghost use Rattle.std.specs.Option.{option_copied};
-ghost use Rattle.model_message.specs.Calls.{finish_work, pad_change};
+ghost use Rattle.model_messages.specs.Calls.{finish_work, pad_change};
 ghost use Rattle.io_pcb.specs.Pads.{IsPadText, Suits, lent_pad};
 ghost use Rattle.program_rows.specs.State.{dbds_of, IsRegionOf};
 ghost use Rattle.model_system.specs.System as model;
@@ -14,7 +14,7 @@ ghost use Rattle.message_run.specs.Telling.{TellsOn, IsQuietUnlessCalled, IsUnto
 use crate::progress::Progress;
 use io_pcb::LentPad;
 use log_records::Untold;
-use model_message::EndedMessage;
+use model_messages::EndedMessage;
 use program_rows::Databases;
 use std::alloc::Global;
 use std::collections::VecDeque;

@@ -5,9 +5,9 @@ use Rattle.std.specs.List.{list_all, list_any}
 use Rattle.std.specs.Str.{bytes_eq}
 use Rattle.std.proofs.lemmas.Bool.Decides.{nat_tests}
 use Rattle.std.proofs.lemmas.List.{reverse-append}
-use Rattle.model_format.specs.declared.device_field.DeviceField.{DeviceField}
-use Rattle.model_format.specs.Breaks.{clash, overlap, clashing_field, line_if}
-use Rattle.model_format.specs.Showing.{covers}
+use Rattle.model_system.specs.declared.device_field.DeviceField.{DeviceField}
+use Rattle.model_system.specs.Breaks.{clash, overlap, clashing_field, line_if}
+use Rattle.model_system.specs.Showing.{covers}
 use Rattle.mfs_edit.proofs.Rules.{neither, not_if}
 
 -- each field clashes with none behind it

@@ -3,12 +3,12 @@ use Rattle.std.proofs.Common.{ℕ, ◌≡◌, ◌≤◌, ◌&&◌, Bool, List, [
 use Rattle.std.specs.Prelude.{Option, Some, None, Result, Ok, Err, IfOk, IsTrue}
 use Rattle.std.specs.List.{list_all}
 use Rattle.std.proofs.lemmas.List.{length-map}
-use Rattle.model_format.specs.declared.fields.FieldValue.{FieldValue}
-use Rattle.model_format.specs.declared.segment_line.SegmentLine.{SegmentLine}
-use Rattle.model_format.specs.Breaks.{KeepsRule, no_input}
-use Rattle.model_format.specs.Entering.{entered, texts_of, unless_unknown}
-use Rattle.model_format.specs.Formats.{FormatLines}
-use Rattle.model_format.specs.Valid.{IsFormat}
+use Rattle.model_system.specs.declared.fields.FieldValue.{FieldValue}
+use Rattle.model_system.specs.declared.segment_line.SegmentLine.{SegmentLine}
+use Rattle.model_system.specs.Breaks.{KeepsRule, no_input}
+use Rattle.model_system.specs.Entering.{entered, texts_of, unless_unknown}
+use Rattle.model_system.specs.Formats.{FormatLines}
+use Rattle.model_system.specs.Valid.{IsFormat}
 use Rattle.mfs_edit.specs.declared.refused.EditRefused.{EditRefused}
 use Rattle.mfs_edit.specs.Answers.{AnswersInput}
 use Rattle.mfs_edit.specs.Texts.{is_text, values_printable}

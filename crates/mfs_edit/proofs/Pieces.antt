@@ -1,11 +1,11 @@
 -- The pieces of segments, one after another.
 use Rattle.std.proofs.Common.{ℕ, zero, suc, ◌≡◌, ◌+◌, List, [], ◌∷◌, ◌++◌, take, refl, ap, sym, ◌∙◌, append_assoc, append-nil}
 use Rattle.std.specs.Prelude.{Some, None, slice_get}
-use Rattle.model_format.specs.declared.message_field.MessageField.{MessageField}
-use Rattle.model_format.specs.declared.message_field.MessageField.TheVariants.{Source, Literal}
-use Rattle.model_format.specs.declared.message_field.MessageFieldLine.{MessageFieldLine}
-use Rattle.model_format.specs.declared.segment_line.SegmentLine.{SegmentLine}
-use Rattle.model_format.specs.Showing.{Piece, with_piece, pieces_of, all_pieces}
+use Rattle.model_system.specs.declared.message_field.MessageField.{MessageField}
+use Rattle.model_system.specs.declared.message_field.MessageField.TheVariants.{Source, Literal}
+use Rattle.model_system.specs.declared.message_field.MessageFieldLine.{MessageFieldLine}
+use Rattle.model_system.specs.declared.segment_line.SegmentLine.{SegmentLine}
+use Rattle.model_system.specs.Showing.{Piece, with_piece, pieces_of, all_pieces}
 use Rattle.mfs_edit.specs.Pieces.{left_by, rest_of, piece_of}
 
 with_more : (content : MessageField) (text : List ℕ) (more : List ℕ → List Piece) → with_piece content text more ≡ piece_of content text ++ more (left_by content text)

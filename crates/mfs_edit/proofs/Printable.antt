@@ -8,19 +8,19 @@ use Rattle.std.proofs.lemmas.List.{reverse-append, length-append, length-take, l
 use Rattle.std.proofs.lemmas.List.Folds.{list_all-append}
 use Rattle.std.proofs.lemmas.Bool.Decides.{nat_tests}
 use Rattle.tm_types.specs.Segment.{IsSegmentText, is_printable, are_printable}
-use Rattle.model_format.specs.declared.fields.FieldValue.{FieldValue}
-use Rattle.model_format.specs.declared.device_field.DeviceField.{DeviceField}
-use Rattle.model_format.specs.declared.message_field.Justify.{Justify}
-use Rattle.model_format.specs.declared.message_field.Justify.TheVariants.{Left, Right}
-use Rattle.model_format.specs.declared.message_field.MessageField.{MessageField}
-use Rattle.model_format.specs.declared.message_field.MessageField.TheVariants.{Source, Literal}
-use Rattle.model_format.specs.declared.message_field.MessageFieldLine.{MessageFieldLine}
-use Rattle.model_format.specs.declared.segment_line.SegmentLine.{SegmentLine}
-use Rattle.model_format.specs.Breaks.{KeepsRule, bytes_of, bytes_in, broken_input, unknown_source, line_if}
-use Rattle.model_format.specs.Entering.{value_of, text_of, texts_of}
-use Rattle.model_format.specs.Fitting.{fitted}
-use Rattle.model_format.specs.Formats.{FormatLines}
-use Rattle.model_format.specs.Valid.{IsFormat, is_message_field, is_segment}
+use Rattle.model_system.specs.declared.fields.FieldValue.{FieldValue}
+use Rattle.model_system.specs.declared.device_field.DeviceField.{DeviceField}
+use Rattle.model_system.specs.declared.message_field.Justify.{Justify}
+use Rattle.model_system.specs.declared.message_field.Justify.TheVariants.{Left, Right}
+use Rattle.model_system.specs.declared.message_field.MessageField.{MessageField}
+use Rattle.model_system.specs.declared.message_field.MessageField.TheVariants.{Source, Literal}
+use Rattle.model_system.specs.declared.message_field.MessageFieldLine.{MessageFieldLine}
+use Rattle.model_system.specs.declared.segment_line.SegmentLine.{SegmentLine}
+use Rattle.model_system.specs.Breaks.{KeepsRule, bytes_of, bytes_in, broken_input, unknown_source, line_if}
+use Rattle.model_system.specs.Entering.{value_of, text_of, texts_of}
+use Rattle.model_system.specs.Fitting.{fitted}
+use Rattle.model_system.specs.Formats.{FormatLines}
+use Rattle.model_system.specs.Valid.{IsFormat, is_message_field, is_segment}
 use Rattle.mfs_edit.specs.Texts.{is_text, values_printable}
 use Rattle.mfs_edit.proofs.Rules.{neither, not_if, kept_input}
 

@@ -2,8 +2,8 @@
 use Rattle.std.proofs.Common.{ℕ, ◌≡◌, Bool, true, false, [], refl}
 use Rattle.std.specs.Prelude.{Option, Some, None}
 use Rattle.std.specs.Option.{option_or}
-use Rattle.model_format.specs.Breaks.{KeepsRule, broken_line, no_input, clashing_field, broken_input, broken_output, line_if}
-use Rattle.model_format.specs.Formats.{FormatLines}
+use Rattle.model_system.specs.Breaks.{KeepsRule, broken_line, no_input, clashing_field, broken_input, broken_output, line_if}
+use Rattle.model_system.specs.Formats.{FormatLines}
 
 -- neither of two is there
 pub neither : (a b : Option ℕ) → option_or a b ≡ None → (a ≡ None) × (b ≡ None)

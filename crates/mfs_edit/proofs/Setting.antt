@@ -10,12 +10,12 @@ use Rattle.std.proofs.lemmas.Bool.Decides.{nat_tests}
 use Rattle.std.proofs.lemmas.List.{reverse-append, same_lists, get_or_append_left, get_or-append_right, get_or-take, get_or-drop, get_or_default, get_or-set_same, get_or-set_other, length-take-le, length-append, length-drop, length-take, length-set}
 use Rattle.std.proofs.lemmas.List.FromFn.{get_or-map-range_with_len, length-map-range_with_len}
 use Rattle.std.proofs.lemmas.Slice.Eq.{bytes_eq-Decides}
-use Rattle.model_format.specs.declared.device_field.DeviceField.{DeviceField}
-use Rattle.model_format.specs.Breaks.{clash}
-use Rattle.model_format.specs.Fitting.{fitted}
-use Rattle.model_format.specs.Pages.{IsPage}
-use Rattle.model_format.specs.Showing.{Piece, covers, shown_in, byte_in, byte_at, page_of}
-use Rattle.model_format.specs.Valid.{is_on_page}
+use Rattle.model_system.specs.declared.device_field.DeviceField.{DeviceField}
+use Rattle.model_system.specs.Breaks.{clash}
+use Rattle.model_system.specs.Fitting.{fitted}
+use Rattle.model_system.specs.Pages.{IsPage}
+use Rattle.model_system.specs.Showing.{Piece, covers, shown_in, byte_in, byte_at, page_of}
+use Rattle.model_system.specs.Valid.{is_on_page}
 use Rattle.mfs_edit.specs.Pieces.{OnPage, row_with}
 use Rattle.mfs_edit.proofs.Names.{found_backwards}
 use Rattle.mfs_edit.proofs.Clashes.{apart, parts_true, is_false, IsIn, all_in, other_name, one_covers}

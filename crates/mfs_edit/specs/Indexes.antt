@@ -5,8 +5,8 @@ use Rattle.std.specs.declared.cmp.Ordering.{Ordering}
 use Rattle.std.specs.Ordering.{nat_cmp}
 use Rattle.std.specs.Cmp.Lexicographic.{slice_cmp}
 use Rattle.std.specs.Str.{bytes_eq}
-use Rattle.model_format.specs.declared.device_field.DeviceField.{DeviceField}
-use Rattle.model_format.specs.declared.fields.FieldValue.{FieldValue}
+use Rattle.model_system.specs.declared.device_field.DeviceField.{DeviceField}
+use Rattle.model_system.specs.declared.fields.FieldValue.{FieldValue}
 
 abbrev pub name_cmp : List ℕ → List ℕ → Ordering
 name_cmp a b = slice_cmp nat_cmp a b

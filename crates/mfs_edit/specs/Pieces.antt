@@ -1,10 +1,10 @@
 -- The pieces of a segment, MFLD by MFLD, and the row in which one is set.
 use Rattle.std.specs.Prelude.{ℕ, ◌+◌, ◌-◌, ◌≤◌, List, [], ◌∷◌, ◌++◌, take, drop}
-use Rattle.model_format.specs.declared.device_field.DeviceField.{DeviceField}
-use Rattle.model_format.specs.declared.message_field.MessageField.{MessageField}
-use Rattle.model_format.specs.declared.message_field.MessageField.TheVariants.{Source, Literal}
-use Rattle.model_format.specs.declared.message_field.MessageFieldLine.{MessageFieldLine}
-use Rattle.model_format.specs.Showing.{Piece, with_piece}
+use Rattle.model_system.specs.declared.device_field.DeviceField.{DeviceField}
+use Rattle.model_system.specs.declared.message_field.MessageField.{MessageField}
+use Rattle.model_system.specs.declared.message_field.MessageField.TheVariants.{Source, Literal}
+use Rattle.model_system.specs.declared.message_field.MessageFieldLine.{MessageFieldLine}
+use Rattle.model_system.specs.Showing.{Piece, with_piece}
 
 -- what an MFLD leaves of a text, and what some of them leave
 abbrev pub left_by : MessageField → List ℕ → List ℕ

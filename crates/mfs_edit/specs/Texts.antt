@@ -2,7 +2,7 @@
 use Rattle.std.specs.Prelude.{ℕ, nat_le, Bool, ◌&&◌, List, length}
 use Rattle.std.specs.List.{list_all}
 use Rattle.tm_types.specs.Segment.{are_printable}
-use Rattle.model_format.specs.declared.fields.FieldValue.{FieldValue}
+use Rattle.model_system.specs.declared.fields.FieldValue.{FieldValue}
 
 -- at most 1,996 printable bytes
 abbrev pub is_text : List ℕ → Bool

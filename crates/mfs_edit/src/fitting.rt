@@ -1,8 +1,8 @@
 //! Values that are set into places.
 ghost use Rattle.std.specs.Prelude.{◌≡◌, ◌-◌, ◌++◌, length, take, drop, replicate};
-ghost use Rattle.model_format.specs.Fitting.{fitted};
+ghost use Rattle.model_system.specs.Fitting.{fitted};
 
-use model_format::Justify;
+use model_system::Justify;
 
 /// Sets a value into a place, as the definition says; the place keeps its length.
 pub(crate) fn set_fitted(place: &mut [u8], justify: Justify, fill: u8, value: &[u8])

@@ -4,7 +4,7 @@ ghost use Rattle.std.specs.Option.{option_copied};
 ghost use Rattle.std.specs.Str.{bytes_eq};
 ghost use Rattle.mfs_edit.specs.Indexes as spec;
 
-use model_format::{DeviceField, FieldValue};
+use model_system::{DeviceField, FieldValue};
 use std::alloc::Global;
 use std::collections::BTreeMap;
 use tm_types::{Memory, Name};

@@ -3,10 +3,10 @@ ghost use Rattle.std.specs.Prelude.{◌≡◌, ◌++◌, ◌≤◌, [], ℕ, Lis
 ghost use Rattle.std.specs.List.{list_all};
 ghost use Rattle.std.specs.Option.{option_map, option_copied};
 ghost use Rattle.tm_types.specs.Segment.{IsSegmentText, are_printable};
-ghost use Rattle.model_format.specs.Breaks.{KeepsRule, has_field};
-ghost use Rattle.model_format.specs.Entering as spec;
-ghost use Rattle.model_format.specs.Fitting.{fitted};
-ghost use Rattle.model_format.specs.Valid.{IsFormat};
+ghost use Rattle.model_system.specs.Breaks.{KeepsRule, has_field};
+ghost use Rattle.model_system.specs.Entering as spec;
+ghost use Rattle.model_system.specs.Fitting.{fitted};
+ghost use Rattle.model_system.specs.Valid.{IsFormat};
 ghost use Rattle.mfs_edit.specs.Answers.{AnswersInput};
 ghost use Rattle.mfs_edit.specs.Indexes.{IndexesFields, IndexesValues};
 ghost use Rattle.mfs_edit.specs.Texts.{is_text, values_printable};
@@ -14,7 +14,7 @@ ghost use Rattle.mfs_edit.specs.Texts.{is_text, values_printable};
 use crate::EditRefused;
 use crate::fitting::set_fitted;
 use crate::indexes::{field_named, fields_by_name, value_named, values_by_name};
-use model_format::{
+use model_system::{
     DeviceField, FieldValue, Fields, Format, MessageField, MessageFieldLine, SegmentLine, Source,
 };
 use std::alloc::Global;
@@ -36,7 +36,7 @@ pub fn edit_in(alloc: Global, format: &Format, fields: &Fields) -> Result<Segmen
     entered(alloc, format, fields)
 }
 
-#[tactic(auto, unfolding(model_format::specs::Entering::entered))]
+#[tactic(auto, unfolding(model_system::specs::Entering::entered))]
 fn entered(alloc: Global, format: &Format, fields: &Fields) -> Result<Segments, EditRefused>
     requires rule { KeepsRule format.now }
     requires printable { IsTrue (values_printable fields.now) }

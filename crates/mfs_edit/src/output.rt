@@ -1,19 +1,19 @@
 //! The segments of a reply become a page.
 ghost use Rattle.std.specs.Prelude.{◌≡◌, ◌+◌, ◌-◌, ◌≤◌, ◌++◌, ◌∷◌, [], List, ℕ, None, IfOk, IsTrue, length, take, drop, slice_set};
 ghost use Rattle.std.specs.List.{list_all, slice_index_or};
-ghost use Rattle.model_format.specs.Breaks.{KeepsRule, clashing_field};
-ghost use Rattle.model_format.specs.Fitting.{fitted};
-ghost use Rattle.model_format.specs.Pages.{IsPage};
-ghost use Rattle.model_format.specs.Showing as spec;
-ghost use Rattle.model_format.specs.Showing.{Piece};
-ghost use Rattle.model_format.specs.Valid.{is_on_page};
-ghost use Rattle.model_format.specs.declared.device_field.DeviceField.{DeviceField};
+ghost use Rattle.model_system.specs.Breaks.{KeepsRule, clashing_field};
+ghost use Rattle.model_system.specs.Fitting.{fitted};
+ghost use Rattle.model_system.specs.Pages.{IsPage};
+ghost use Rattle.model_system.specs.Showing as spec;
+ghost use Rattle.model_system.specs.Showing.{Piece};
+ghost use Rattle.model_system.specs.Valid.{is_on_page};
+ghost use Rattle.model_system.specs.declared.device_field.DeviceField.{DeviceField};
 ghost use Rattle.mfs_edit.specs.Indexes.{IndexesFields};
 ghost use Rattle.mfs_edit.specs.Pieces.{OnPage, left_by, piece_of, row_with};
 
 use crate::fitting::set_fitted;
 use crate::indexes::{field_named, fields_by_name};
-use model_format::{DeviceField, Format, MessageField, MessageFieldLine, Page, Source};
+use model_system::{DeviceField, Format, MessageField, MessageFieldLine, Page, Source};
 use std::alloc::Global;
 use std::collections::BTreeMap;
 use tm_types::{Memory, Name, Segments};
@@ -23,7 +23,7 @@ use tm_types::{Memory, Name, Segments};
 /// The i-th segment meets the i-th SEG of the output; each of its MFLDs takes its bytes from the front
 /// of what is left, and they are set into its field by JUST and FILL. Literals and segments past the
 /// last SEG aren't shown; a field that no MFLD reaches is blank.
-#[tactic(auto, unfolding(model_format::specs::Showing::shown))]
+#[tactic(auto, unfolding(model_system::specs::Showing::shown))]
 pub fn edit_out(alloc: Global, format: &Format, segments: &Segments) -> Result<Page, Memory>
     requires { KeepsRule format.now }
     ensures { IfOk result (λ page. page ≡ spec.shown format.now segments.now) }

@@ -3,10 +3,10 @@ use Rattle.std.proofs.Common.{ℕ, ◌≡◌, Bool, true, false, ◌&&◌, List,
 use Rattle.std.specs.Prelude.{IsTrue, OnOk}
 use Rattle.std.specs.List.{list_all}
 use Rattle.std.proofs.lemmas.List.Folds.{list_all-append}
-use Rattle.model_format.specs.declared.message_field.MessageFieldLine.{MessageFieldLine}
-use Rattle.model_format.specs.declared.segment_line.SegmentLine.{SegmentLine}
-use Rattle.model_format.specs.Formats.{FormatLines}
-use Rattle.model_format.specs.Valid.{IsFormat, is_on_page, is_message_field, is_segment}
+use Rattle.model_system.specs.declared.message_field.MessageFieldLine.{MessageFieldLine}
+use Rattle.model_system.specs.declared.segment_line.SegmentLine.{SegmentLine}
+use Rattle.model_system.specs.Formats.{FormatLines}
+use Rattle.model_system.specs.Valid.{IsFormat, is_on_page, is_message_field, is_segment}
 use Rattle.mfs_text.specs.declared.lines.Direction.TheVariants.{Input, Output}
 use Rattle.mfs_text.specs.declared.lines.Section.{Section}
 use Rattle.mfs_text.specs.declared.lines.Section.TheVariants as section

@@ -1,9 +1,9 @@
 -- A format as far as it has been read, and the lines that are still to be read.
 use Rattle.std.proofs.Common.{ℕ, ◌≡◌, true, false, cond, List, [], ◌∷◌, ◌++◌, Result, Ok, Err, refl, ap, sym, ◌∙◌, append_assoc, append-nil}
-use Rattle.model_format.specs.declared.device_field.DeviceField.{DeviceField}
-use Rattle.model_format.specs.declared.message_field.MessageFieldLine.{MessageFieldLine}
-use Rattle.model_format.specs.declared.segment_line.SegmentLine.{SegmentLine}
-use Rattle.model_format.specs.Formats.{FormatLines}
+use Rattle.model_system.specs.declared.device_field.DeviceField.{DeviceField}
+use Rattle.model_system.specs.declared.message_field.MessageFieldLine.{MessageFieldLine}
+use Rattle.model_system.specs.declared.segment_line.SegmentLine.{SegmentLine}
+use Rattle.model_system.specs.Formats.{FormatLines}
 use Rattle.mfs_text.specs.declared.lines.Direction.TheVariants.{Input, Output}
 use Rattle.mfs_text.specs.declared.lines.Section.{Section}
 use Rattle.mfs_text.specs.declared.lines.Section.TheVariants as section

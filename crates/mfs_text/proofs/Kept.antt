@@ -2,9 +2,9 @@
 use Rattle.std.proofs.Common.{ℕ, ◌≡◌, List, [], ◌∷◌}
 use Rattle.std.specs.Prelude.{Option, Some, None, IfNone}
 use Rattle.std.specs.Option.{option_or}
-use Rattle.model_format.specs.declared.segment_line.SegmentLine.{SegmentLine}
-use Rattle.model_format.specs.Breaks.{broken_line, no_input, KeepsRule}
-use Rattle.model_format.specs.Formats.{FormatLines}
+use Rattle.model_system.specs.declared.segment_line.SegmentLine.{SegmentLine}
+use Rattle.model_system.specs.Breaks.{broken_line, no_input, KeepsRule}
+use Rattle.model_system.specs.Formats.{FormatLines}
 
 other_line : (line other : ℕ) (segments : List SegmentLine) (rest : Option ℕ) → option_or (no_input line segments) rest ≡ None → option_or (no_input other segments) rest ≡ None
 other_line line other [] rest h = cc

@@ -1,10 +1,10 @@
 -- Formats.
 use Rattle.std.specs.Prelude.{ℕ, suc, Bool, true, false, List, [], ◌∷◌, Result, Ok, Err, if◌then◌else◌}
 use Rattle.text_rows.specs.Refusals.{at_line}
-use Rattle.model_format.specs.declared.device_field.DeviceField.{DeviceField}
-use Rattle.model_format.specs.declared.message_field.MessageFieldLine.{MessageFieldLine}
-use Rattle.model_format.specs.declared.segment_line.SegmentLine.{SegmentLine}
-use Rattle.model_format.specs.Formats.{FormatLines}
+use Rattle.model_system.specs.declared.device_field.DeviceField.{DeviceField}
+use Rattle.model_system.specs.declared.message_field.MessageFieldLine.{MessageFieldLine}
+use Rattle.model_system.specs.declared.segment_line.SegmentLine.{SegmentLine}
+use Rattle.model_system.specs.Formats.{FormatLines}
 use Rattle.mfs_text.specs.declared.lines.Direction.TheVariants.{Input, Output}
 use Rattle.mfs_text.specs.declared.lines.Section.{Section}
 use Rattle.mfs_text.specs.declared.lines.Section.TheVariants as section

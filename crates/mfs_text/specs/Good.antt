@@ -1,6 +1,6 @@
 -- What a line that was read keeps.
 use Rattle.std.specs.Prelude.{Bool, true}
-use Rattle.model_format.specs.Valid.{is_on_page, is_message_field}
+use Rattle.model_system.specs.Valid.{is_on_page, is_message_field}
 use Rattle.mfs_text.specs.declared.lines.FormatLine.{FormatLine}
 use Rattle.mfs_text.specs.declared.lines.FormatLine.TheVariants.{Field, MessageField}
 

@@ -4,10 +4,10 @@ use Rattle.text_rows.specs.Lowest.{both}
 use Rattle.text_rows.specs.Names.{name_of}
 use Rattle.text_rows.specs.Numbers.{number_between}
 use Rattle.text_rows.specs.Operands.{needed, or_as}
-use Rattle.model_format.specs.declared.message_field.Justify.{Justify}
-use Rattle.model_format.specs.declared.message_field.Justify.TheVariants.{Left}
-use Rattle.model_format.specs.declared.message_field.MessageField.{MessageField}
-use Rattle.model_format.specs.declared.message_field.MessageField.TheVariants as content
+use Rattle.model_system.specs.declared.message_field.Justify.{Justify}
+use Rattle.model_system.specs.declared.message_field.Justify.TheVariants.{Left}
+use Rattle.model_system.specs.declared.message_field.MessageField.{MessageField}
+use Rattle.model_system.specs.declared.message_field.MessageField.TheVariants as content
 use Rattle.mfs_text.specs.declared.kinds.Kind.{Kind}
 use Rattle.mfs_text.specs.declared.kinds.Kind.TheVariants as kind
 use Rattle.mfs_text.specs.declared.lines.Direction.{Direction}

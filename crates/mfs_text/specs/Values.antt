@@ -6,9 +6,9 @@ use Rattle.text_rows.specs.Lines.{split_at}
 use Rattle.text_rows.specs.Lists.{two_of}
 use Rattle.text_rows.specs.Lowest.{both}
 use Rattle.text_rows.specs.Numbers.{number_between}
-use Rattle.model_format.specs.declared.message_field.Justify.{Justify}
-use Rattle.model_format.specs.declared.message_field.Justify.TheVariants.{Left, Right}
-use Rattle.model_format.specs.Valid.{is_fill}
+use Rattle.model_system.specs.declared.message_field.Justify.{Justify}
+use Rattle.model_system.specs.declared.message_field.Justify.TheVariants.{Left, Right}
+use Rattle.model_system.specs.Valid.{is_fill}
 use Rattle.mfs_text.specs.declared.lines.Direction.{Direction}
 use Rattle.mfs_text.specs.declared.lines.Direction.TheVariants.{Input, Output}
 

@@ -2,9 +2,9 @@
 ghost use Rattle.std.specs.Prelude.{◌≡◌, ◌+◌, [], nat_lt, IfNone};
 ghost use Rattle.std.specs.List.{list_any};
 ghost use Rattle.std.specs.Option.{option_or};
-ghost use Rattle.model_format.specs.Breaks as spec;
+ghost use Rattle.model_system.specs.Breaks as spec;
 
-use model_format::{DeviceField, Format, MessageField, MessageFieldLine, SegmentLine};
+use model_system::{DeviceField, Format, MessageField, MessageFieldLine, SegmentLine};
 use tm_types::{Name, SEGMENT_LIMIT};
 
 /// The lowest line of the format that breaks the rule, `line` being that of its FMT: None exactly
@@ -21,7 +21,7 @@ pub fn broken_line(format: &Format, line: u32) -> Option<u32>
     first_broken(format, line)
 }
 
-#[tactic(auto, unfolding(model_format::specs::Breaks::broken_line))]
+#[tactic(auto, unfolding(model_system::specs::Breaks::broken_line))]
 fn first_broken(format: &Format, line: u32) -> Option<u32>
     ensures { result ≡ spec.broken_line line format.now }
 {

@@ -1,11 +1,11 @@
 //! A format as far as its lines have been read.
 ghost use Rattle.std.specs.Prelude.{◌≡◌, [], ◌∷◌, OnOk, IsTrue};
-ghost use Rattle.model_format.specs.Valid.{IsFormat};
+ghost use Rattle.model_system.specs.Valid.{IsFormat};
 ghost use Rattle.mfs_text.specs.Built as spec;
 ghost use Rattle.mfs_text.specs.Good.{is_good};
 
 use crate::{Direction, FormatLine, Section};
-use model_format::{DeviceField, MessageFieldLine, MessageFields, SegmentLine};
+use model_system::{DeviceField, MessageFieldLine, MessageFields, SegmentLine};
 use std::alloc::Global;
 use tm_types::Memory;
 

@@ -9,7 +9,7 @@ pub use breaks::broken_line;
 pub use built::Built;
 pub use kinds::Kind;
 pub use lines::{Direction, FormatLine, Section, or_lower, stray_rule};
-pub use model_format::Format;
+pub use model_system::Format;
 pub use reader::read_format;
 
 mod breaks;

@@ -7,7 +7,7 @@ use crate::Kind;
 use crate::kinds::{kind_of, known};
 use crate::rows::row;
 use crate::rules::OUT_OF_PLACE;
-use model_format::{DeviceField, MessageFieldLine};
+use model_system::{DeviceField, MessageFieldLine};
 use std::alloc::Global;
 use text_rows::{also, is_passed_over, printable_line, split_macro};
 use tm_types::Memory;

@@ -1,7 +1,7 @@
 //! The lines of a format, one after another.
 ghost use Rattle.std.specs.Prelude.{◌≡◌, ◌+◌, ◌<◌, ◌^◌, IfOk, IsTrue, length};
 ghost use Rattle.text_rows.specs.Refusals.{Answers, at_line};
-ghost use Rattle.model_format.specs.Valid.{IsFormat};
+ghost use Rattle.model_system.specs.Valid.{IsFormat};
 ghost use Rattle.mfs_text.specs.Built.{lines_in};
 ghost use Rattle.mfs_text.specs.Formats as spec;
 ghost use Rattle.mfs_text.specs.Good.{is_good};
@@ -11,7 +11,7 @@ use crate::built::add;
 use crate::lines::{format_line, section_after};
 use crate::rules::END_MISSING;
 use crate::{Built, FormatLine, Section};
-use model_format::Format;
+use model_system::Format;
 use std::alloc::Global;
 use text_rows::LineRefused;
 use tm_edge::Line;

@@ -1,11 +1,11 @@
 //! The values of operands.
 ghost use Rattle.std.specs.Prelude.{◌≡◌, ◌≤◌, Ok, Err, IfOk, IsTrue, MatchResult};
 ghost use Rattle.text_rows.specs.Lines.{split_at};
-ghost use Rattle.model_format.specs.Valid.{is_fill, is_literal};
+ghost use Rattle.model_system.specs.Valid.{is_fill, is_literal};
 ghost use Rattle.mfs_text.specs.Values as spec;
 
 use crate::Direction;
-use model_format::Justify;
+use model_system::Justify;
 use text_rows::rules::{NOT_PRINTABLE, WRONG_WORD};
 use text_rows::{both, byte_between, is_word, split_at, two_of};
 use tm_types::{are_printable, is_printable};

@@ -2,7 +2,7 @@
 use Rattle.std.proofs.Common.{◌≡◌, ℕ, ◌<◌, List, [], length, ◌^◌, refl, sym, ◌∙◌, ap, subst, arith, true, None, Ok}
 use Rattle.std.specs.Prelude.{Option, Result}
 use Rattle.std.specs.Bool.{one_answer}
-use Rattle.model_disk.specs.Disk.{Image}
+use Rattle.tm_disk.specs.Disk.{Image}
 use Rattle.model_system.specs.System.{System}
 use Rattle.model_machine.specs.Machine.{LastingState, empty_state}
 use Rattle.log_records.specs.declared.record.Record.TheVariants.{Command}

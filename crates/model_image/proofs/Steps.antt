@@ -10,23 +10,23 @@ use Rattle.tm_types.specs.Commands.{name_in, spelling}
 use Rattle.tm_types.specs.Name.{IsName}
 use Rattle.tm_types.proofs.Commands.{spelled_read}
 use Rattle.tm_types.specs.declared.message.Reply.{Reply as KeptReply}
-use Rattle.model_queues.specs.Outputs.{next_of, reply_at}
-use Rattle.model_message.specs.declared.ended_message.EndedMessage.{EndedMessage}
+use Rattle.model_messages.specs.Outputs.{next_of, reply_at}
+use Rattle.model_messages.specs.declared.ended_message.EndedMessage.{EndedMessage}
 use Rattle.model_machine.specs.declared.lasting.TerminalState.{TerminalState}
 use Rattle.model_machine.specs.Machine.{LastingState, terminal_at, message_at, output_at}
 use Rattle.model_machine.specs.Lasting.{KeptInput, applied, code_word, kept_alone, kept_first, kept_by, kept_by_code, kept_input, without_word, padded, sent, all_sent, switched, replied, without_message, finished_by, with_pad_by}
 use Rattle.model_machine.specs.Lasting.LastingStep.{Accepts, Acknowledges, Completes, Discards, Commands}
 use Rattle.log_records.specs.declared.record.Record.{Record}
 use Rattle.log_records.specs.declared.record.Record.TheVariants.{Input, Reply, Completed}
-use Rattle.model_conversation.specs.declared.conversation.Conversation.{Conversation}
-use Rattle.model_conversation.specs.declared.conversation.PadChange.{PadChange}
-use Rattle.model_conversation.specs.Pads.{begun}
-use Rattle.model_conversation.specs.Terminals.{conversation_at}
+use Rattle.model_messages.specs.declared.conversation.Conversation.{Conversation}
+use Rattle.model_messages.specs.declared.conversation.PadChange.{PadChange}
+use Rattle.model_messages.specs.Pads.{begun}
+use Rattle.model_messages.specs.Terminals.{conversation_at}
 use Rattle.model_system.specs.declared.code.Code.{Code}
 use Rattle.model_system.specs.Codes.{code_at}
 use Rattle.model_system.specs.System.{System}
 use Rattle.model_image.specs.Replay.{done, all_done, pad_size, kept_in_record, accepts, acknowledges, discards, commands, syncs, with_step, completed_id, completed_message}
-use Rattle.step_records.specs.Records.{output_record, output_records, completion_records}
+use Rattle.model_image.specs.Records.{output_record, output_records, completion_records}
 
 same : (n : ℕ) → (n == n) ≡ true
 same n = eq-eqb n n refl

@@ -1,6 +1,6 @@
 -- Where only sectors are others that a restart sector leads nobody to, an image recovers to the same.
 use Rattle.std.proofs.Common.{◌≡◌, ◌⊎◌, ℕ, ◌+◌, ◌-◌, ◌*◌, ◌<◌, ◌≤◌, List, sym, ◌∙◌, ap, subst, inl, inr, ⊎_elim, arith, Some, Ok, IsSome}
-use Rattle.model_disk.specs.Disk.{Image, sector_at}
+use Rattle.tm_disk.specs.Disk.{Image, sector_at}
 use Rattle.model_system.specs.System.{System}
 use Rattle.log_records.specs.declared.record.Record.{Record}
 use Rattle.restart_data.specs.declared.restart.RestartSector.{RestartSector}

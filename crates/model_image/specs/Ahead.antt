@@ -1,6 +1,6 @@
 -- Log sectors that a life has still to write.
 use Rattle.std.specs.Prelude.{◌≡◌, ℕ, ◌+◌, ◌*◌, ◌<◌, ◌≤◌, ◌^◌, None}
-use Rattle.model_disk.specs.Disk.{Image, sector_at}
+use Rattle.tm_disk.specs.Disk.{Image, sector_at}
 use Rattle.model_system.specs.System.{System}
 use Rattle.log_sectors.specs.Sealed.{opened}
 use Rattle.model_image.specs.Areas.{log_first}

@@ -1,6 +1,6 @@
 -- Images that recover alike.
 use Rattle.std.specs.Prelude.{Result}
-use Rattle.model_disk.specs.Disk.{Image}
+use Rattle.tm_disk.specs.Disk.{Image}
 use Rattle.model_system.specs.System.{System}
 use Rattle.model_machine.specs.Machine.{LastingState}
 use Rattle.model_image.specs.Faults.{Fault}

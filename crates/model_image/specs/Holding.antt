@@ -1,7 +1,7 @@
 -- Data sectors that hold what stores have.
 use Rattle.std.specs.Prelude.{◌≡◌, ℕ, ◌+◌, ◌<◌, false, List, [], Some, slice_get, slice_index_or}
-use Rattle.model_disk.specs.Disk.{Image, sector_at}
-use Rattle.model_rows.specs.Record.{spelling}
+use Rattle.tm_disk.specs.Disk.{Image, sector_at}
+use Rattle.model_data.specs.Record.{spelling}
 use Rattle.model_system.specs.System.{System}
 use Rattle.seg_store.specs.Slots.{Stored}
 use Rattle.model_image.specs.Areas.{data_first}

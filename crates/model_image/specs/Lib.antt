@@ -11,3 +11,4 @@ pub mod Alike
 pub mod Ahead
 pub mod Holding
 pub mod Text
+pub mod Records

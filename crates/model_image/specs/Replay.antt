@@ -6,18 +6,18 @@ use Rattle.tm_types.specs.declared.command.LastingCommand.TheVariants.{StartTran
 use Rattle.tm_types.specs.Commands.{command_in}
 use Rattle.tm_types.specs.declared.message.Message.{Message}
 use Rattle.tm_types.specs.declared.abend.AbendCode.{AbendCode}
-use Rattle.model_conversation.specs.declared.conversation.Conversation.{Conversation}
-use Rattle.model_conversation.specs.Pads.{begun}
-use Rattle.model_conversation.specs.Terminals.{conversation_at}
+use Rattle.model_messages.specs.declared.conversation.Conversation.{Conversation}
+use Rattle.model_messages.specs.Pads.{begun}
+use Rattle.model_messages.specs.Terminals.{conversation_at}
 use Rattle.model_system.specs.Codes.{code_at}
 use Rattle.model_system.specs.System.{System}
-use Rattle.model_queues.specs.Outputs.{with_terminal, with_reply, next_of, reply_at}
+use Rattle.model_messages.specs.Outputs.{with_terminal, with_reply, next_of, reply_at}
 use Rattle.model_machine.specs.Machine.{LastingState, terminal_at, message_at}
 use Rattle.model_machine.specs.Lasting.{KeptInput, applied, with_pad_by}
 use Rattle.model_machine.specs.Lasting.LastingStep.{Accepts, Acknowledges, Discards, Commands}
 use Rattle.log_records.specs.declared.record.Record.{Record}
 use Rattle.log_records.specs.declared.record.Record.TheVariants.{Input, Command, Reply, Discarded, Completed, Acknowledged, SyncPoint, Checkpoint, Terminal, Code, Change}
-use Rattle.model_conversation.specs.declared.conversation.PadChange.{PadChange}
+use Rattle.model_messages.specs.declared.conversation.PadChange.{PadChange}
 use Rattle.model_image.specs.States.{is_terminal, is_code, breaks_a_rule}
 use Rattle.model_image.specs.Snapshot.{message_of}
 use Rattle.model_image.specs.Slots.{is_image_of}

@@ -4,11 +4,11 @@ use Rattle.std.specs.Option.{is_some, option_map, option_or, unwrap_or}
 use Rattle.std.specs.List.{list_any}
 use Rattle.tm_types.specs.declared.dbd.Dbd.{Dbd}
 use Rattle.tm_types.specs.declared.dbd.SegType.{SegType}
-use Rattle.model_disk.specs.Disk.{Image, sector_at}
+use Rattle.tm_disk.specs.Disk.{Image, sector_at}
 use Rattle.model_system.specs.System.{System}
-use Rattle.model_rows.specs.declared.row.Row.{Row}
-use Rattle.model_rows.specs.Reading.{next_row}
-use Rattle.model_rows.specs.Record.{record_limit}
+use Rattle.model_data.specs.declared.row.Row.{Row}
+use Rattle.model_data.specs.Reading.{next_row}
+use Rattle.model_data.specs.Record.{record_limit}
 use Rattle.log_records.specs.declared.record.Record.{Record}
 use Rattle.log_records.specs.declared.record.Record.TheVariants.{SyncPoint, Change}
 use Rattle.restart_data.specs.Fields.{number2_at, are_zeros}

@@ -5,8 +5,8 @@ use Rattle.std.specs.Str.{bytes_eq}
 use Rattle.tm_types.specs.declared.message.Message.{Message}
 use Rattle.model_system.specs.System.{System}
 use Rattle.model_system.specs.Lists.{change_at}
-use Rattle.model_queues.specs.declared.replies.TerminalReplies.{TerminalReplies}
-use Rattle.model_queues.specs.Outputs.{with_terminal}
+use Rattle.model_messages.specs.declared.replies.TerminalReplies.{TerminalReplies}
+use Rattle.model_messages.specs.Outputs.{with_terminal}
 use Rattle.model_machine.specs.Lasting.{conversing}
 use Rattle.model_machine.specs.Machine.{LastingState, terminal_place, empty_state}
 use Rattle.log_records.specs.declared.record.Record.{Record}

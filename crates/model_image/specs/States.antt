@@ -5,15 +5,15 @@ use Rattle.std.specs.List.{list_all, list_any}
 use Rattle.std.specs.Str.{bytes_eq}
 use Rattle.tm_types.specs.declared.message.Message.{Message}
 use Rattle.tm_types.specs.declared.message.Reply.{Reply}
-use Rattle.model_conversation.specs.declared.conversation.Conversation.{Conversation}
-use Rattle.model_conversation.specs.declared.conversation.TerminalConversation.{TerminalConversation}
-use Rattle.model_conversation.specs.Pads.{code_field}
-use Rattle.model_conversation.specs.Terminals.{conversation_at}
-use Rattle.model_conversation.specs.Input.{is_conversing}
+use Rattle.model_messages.specs.declared.conversation.Conversation.{Conversation}
+use Rattle.model_messages.specs.declared.conversation.TerminalConversation.{TerminalConversation}
+use Rattle.model_messages.specs.Pads.{code_field}
+use Rattle.model_messages.specs.Terminals.{conversation_at}
+use Rattle.model_messages.specs.Input.{is_conversing}
 use Rattle.model_system.specs.System.{System}
 use Rattle.model_system.specs.Codes.{code_at}
-use Rattle.model_queues.specs.Room.{messages_bytes}
-use Rattle.model_queues.specs.Outputs.{outputs_bytes}
+use Rattle.model_messages.specs.Room.{messages_bytes}
+use Rattle.model_messages.specs.Outputs.{outputs_bytes}
 use Rattle.model_machine.specs.declared.lasting.CodeSetting.{CodeSetting}
 use Rattle.model_machine.specs.Machine.{LastingState}
 

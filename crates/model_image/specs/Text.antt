@@ -1,7 +1,7 @@
 -- The text of a definition on a disk.
 use Rattle.std.specs.Prelude.{ℕ, zero, suc, ◌+◌, List, [], ◌∷◌, ◌++◌, take, ◌==◌, if◌then◌else◌, Option, Some, None}
 use Rattle.std.specs.Option.{option_map}
-use Rattle.model_disk.specs.Disk.{Image, sector_at}
+use Rattle.tm_disk.specs.Disk.{Image, sector_at}
 
 -- the bytes of so many sectors from a place on
 abbrev pub bytes_from : ℕ → Image → ℕ → List ℕ

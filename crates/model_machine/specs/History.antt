@@ -11,9 +11,9 @@ use Rattle.model_machine.specs.declared.entry.CheckpointRefused.TheVariants.{Fau
 use Rattle.model_system.specs.System.{System}
 use Rattle.model_machine.specs.Machine.{LastingState, Moment, start_of, slot_at, IsRegion}
 use Rattle.model_machine.specs.declared.entry.Turned.TheVariants.{Backed}
-use Rattle.model_enqueue.specs.declared.victim.Victim.{Victim}
+use Rattle.model_data.specs.declared.victim.Victim.{Victim}
 use Rattle.model_machine.specs.Requests.{BreaksAt}
-use Rattle.model_machine.specs.Commands.{IsServed, command_answer, checkpoint_answer}
+use Rattle.model_machine.specs.ModelMachineCommands.{IsServed, command_answer, checkpoint_answer}
 use Rattle.model_machine.specs.Steps.{input_answer, show_answer, ack_answer, turn_answer, After}
 
 -- the call that an entry answers

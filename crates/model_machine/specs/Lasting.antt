@@ -7,21 +7,21 @@ use Rattle.tm_types.specs.declared.command.LastingCommand.TheVariants.{StartTran
 use Rattle.tm_types.specs.declared.message.Message.{Message}
 use Rattle.tm_types.specs.Words.{first_word, operands}
 use Rattle.tm_types.specs.Digits.{four_digits}
-use Rattle.model_conversation.specs.declared.conversation.Conversation.{Conversation}
-use Rattle.model_conversation.specs.declared.conversation.PadChange.{PadChange}
-use Rattle.model_conversation.specs.declared.conversation.PadChange.TheVariants.{Stays, New, Ends}
-use Rattle.model_conversation.specs.declared.conversation.TerminalConversation.{TerminalConversation}
-use Rattle.model_conversation.specs.Pads.{begun}
-use Rattle.model_conversation.specs.Terminals.{conversation_at, with_conversation}
-use Rattle.model_conversation.specs.Terminals as conversations
+use Rattle.model_messages.specs.declared.conversation.Conversation.{Conversation}
+use Rattle.model_messages.specs.declared.conversation.PadChange.{PadChange}
+use Rattle.model_messages.specs.declared.conversation.PadChange.TheVariants.{Stays, New, Ends}
+use Rattle.model_messages.specs.declared.conversation.TerminalConversation.{TerminalConversation}
+use Rattle.model_messages.specs.Pads.{begun}
+use Rattle.model_messages.specs.Terminals.{conversation_at, with_conversation}
+use Rattle.model_messages.specs.Terminals as conversations
 use Rattle.model_system.specs.declared.code.Code.{Code}
 use Rattle.model_system.specs.Codes.{code_at}
 use Rattle.model_system.specs.System.{System}
 use Rattle.model_system.specs.Lists.{change_at}
-use Rattle.model_queues.specs.declared.replies.TerminalReplies.{TerminalReplies}
-use Rattle.model_queues.specs.Outputs.{with_terminal, with_reply, without_first}
-use Rattle.model_message.specs.declared.ended_message.EndedMessage.{EndedMessage}
-use Rattle.model_rows.specs.declared.row.Row.{Row}
+use Rattle.model_messages.specs.declared.replies.TerminalReplies.{TerminalReplies}
+use Rattle.model_messages.specs.Outputs.{with_terminal, with_reply, without_first}
+use Rattle.model_messages.specs.declared.ended_message.EndedMessage.{EndedMessage}
+use Rattle.model_data.specs.declared.row.Row.{Row}
 use Rattle.model_machine.specs.declared.lasting.CodeSetting.{CodeSetting}
 use Rattle.model_machine.specs.declared.lasting.TerminalState.{TerminalState}
 use Rattle.model_machine.specs.Machine.{LastingState, terminal_place, setting_place, output_at, message_at}

@@ -1,3 +1,5 @@
+pub mod Commands
+pub mod Answers
 pub mod Trial
 pub mod Machine
 pub mod Pick
@@ -7,4 +9,4 @@ pub mod Requests
 pub mod Steps
 pub mod History
 pub mod Flags
-pub mod Commands
+pub mod ModelMachineCommands

@@ -4,18 +4,18 @@ use Rattle.std.specs.Option.{unwrap_or, is_some}
 use Rattle.std.specs.List.{list_any, count_by}
 use Rattle.std.specs.Str.{bytes_eq}
 use Rattle.tm_types.specs.declared.message.Message.{Message}
-use Rattle.model_conversation.specs.declared.conversation.TerminalConversation.{TerminalConversation}
-use Rattle.model_conversation.specs.Terminals.{without_conversation}
-use Rattle.model_queues.specs.declared.replies.TerminalReplies.{TerminalReplies}
-use Rattle.model_queues.specs.Outputs.{fresh_terminal, replies_at, outputs_bytes}
-use Rattle.model_queues.specs.Room.{messages_bytes}
-use Rattle.model_queues.specs.Waiting.{count_waiting}
+use Rattle.model_messages.specs.declared.conversation.TerminalConversation.{TerminalConversation}
+use Rattle.model_messages.specs.Terminals.{without_conversation}
+use Rattle.model_messages.specs.declared.replies.TerminalReplies.{TerminalReplies}
+use Rattle.model_messages.specs.Outputs.{fresh_terminal, replies_at, outputs_bytes}
+use Rattle.model_messages.specs.Room.{messages_bytes}
+use Rattle.model_messages.specs.Waiting.{count_waiting}
 use Rattle.model_system.specs.declared.code_state.CodeState.{CodeState}
 use Rattle.model_system.specs.declared.code.Code.{Code}
 use Rattle.model_system.specs.declared.code.Transaction.{Transaction}
 use Rattle.model_system.specs.System.{System}
-use Rattle.model_rows.specs.declared.row.Row.{Row}
-use Rattle.model_enqueue.specs.Table.{EnqueueTable, empty_table}
+use Rattle.model_data.specs.declared.row.Row.{Row}
+use Rattle.model_data.specs.Table.{EnqueueTable, empty_table}
 use Rattle.model_machine.specs.declared.lasting.TerminalState.{TerminalState}
 use Rattle.model_machine.specs.declared.lasting.CodeSetting.{CodeSetting}
 

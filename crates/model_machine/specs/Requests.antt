@@ -1,20 +1,20 @@
 -- What a region asks for before its script's next call is made, and what blocks it.
 use Rattle.std.specs.Prelude.{◌≡◌, ℕ, zero, suc, ◌-◌, Option, Some, None, List, [], ◌∷◌, ◌++◌, map, length, slice_set}
 use Rattle.std.specs.Option.{option_map_or}
-use Rattle.model_rows.specs.declared.row.Row.{Row}
-use Rattle.model_script.specs.declared.need.CallText.{CallText}
-use Rattle.model_script.specs.declared.need.Need.{Need}
-use Rattle.model_script.specs.declared.need.Need.TheVariants.{Call, Ended, Abend}
+use Rattle.model_data.specs.declared.row.Row.{Row}
+use Rattle.model_system.specs.declared.need.CallText.{CallText}
+use Rattle.model_system.specs.declared.need.Need.{Need}
+use Rattle.model_system.specs.declared.need.Need.TheVariants.{Call, Ended, Abend}
 use Rattle.model_system.specs.System.{System}
 use Rattle.model_system.specs.Jobs.{Job, job_of}
-use Rattle.model_dli.specs.declared.need.Need.{Need as RootNeed}
-use Rattle.model_dli.specs.Data.{Data, rows_at, position_at}
-use Rattle.model_dli.specs.Footprint.{footprint}
-use Rattle.model_enqueue.specs.declared.request.Request.{Request}
-use Rattle.model_enqueue.specs.declared.victim.Victim.{Victim}
-use Rattle.model_enqueue.specs.Table.{EnqueueTable}
-use Rattle.model_enqueue.specs.Ask.{after_asks, first_blocked, released}
-use Rattle.model_enqueue.specs.Cycle.{Breaks, after_victims}
+use Rattle.model_data.specs.declared.need.Need.{Need as RootNeed}
+use Rattle.model_data.specs.Data.{Data, rows_at, position_at}
+use Rattle.model_data.specs.Footprint.{footprint}
+use Rattle.model_data.specs.declared.request.Request.{Request}
+use Rattle.model_data.specs.declared.victim.Victim.{Victim}
+use Rattle.model_data.specs.Table.{EnqueueTable}
+use Rattle.model_data.specs.Ask.{after_asks, first_blocked, released}
+use Rattle.model_data.specs.Cycle.{Breaks, after_victims}
 use Rattle.model_machine.specs.declared.entry.Turned.{Turned}
 use Rattle.model_machine.specs.declared.entry.Turned.TheVariants.{Scheduled, Called, Next, QC, Done, Abended, Idle, Held, Waits, Backed}
 use Rattle.model_machine.specs.Trial.{DbPcb, Given, Reached, Trial, reached, db_call, trial_need, trial_of}

@@ -10,13 +10,13 @@ use Rattle.model_system.specs.declared.code.SegmentKind.TheVariants.{Multiple, S
 use Rattle.model_system.specs.System.{System}
 use Rattle.model_system.specs.Codes.{code_at}
 use Rattle.model_system.specs.Jobs.{Job, job_of}
-use Rattle.model_conversation.specs.declared.conversation.Conversation.{Conversation}
-use Rattle.model_conversation.specs.Input.{busy_id}
-use Rattle.model_conversation.specs.Terminals.{conversation_at}
-use Rattle.model_queues.specs.declared.replies.TerminalReplies.{TerminalReplies}
-use Rattle.model_queues.specs.Outputs.{first_number}
-use Rattle.model_queues.specs.Room.{input_needs, slot_needs, slot_room}
-use Rattle.model_queues.specs.Waiting.{first_waiting}
+use Rattle.model_messages.specs.declared.conversation.Conversation.{Conversation}
+use Rattle.model_messages.specs.Input.{busy_id}
+use Rattle.model_messages.specs.Terminals.{conversation_at}
+use Rattle.model_messages.specs.declared.replies.TerminalReplies.{TerminalReplies}
+use Rattle.model_messages.specs.Outputs.{first_number}
+use Rattle.model_messages.specs.Room.{input_needs, slot_needs, slot_room}
+use Rattle.model_messages.specs.Waiting.{first_waiting}
 use Rattle.model_machine.specs.declared.entry.ControlCall.{ControlCall}
 use Rattle.model_machine.specs.declared.entry.ControlCall.TheVariants.{Input, Receive, Acknowledge, Turn, Command, Checkpoint}
 use Rattle.model_machine.specs.declared.entry.Taken.{Taken}
@@ -35,16 +35,16 @@ use Rattle.model_machine.specs.Trial.{Trial, WorkEnd, Advance, advance, outputs_
 use Rattle.model_machine.specs.Trial.WorkEnd.{Ends, Syncs, Abends}
 use Rattle.model_machine.specs.Trial.Advance.{Goes, Stops}
 use Rattle.model_machine.specs.declared.lasting.TerminalState.{TerminalState}
-use Rattle.model_machine.specs.Commands.{state_now, command_step}
+use Rattle.model_machine.specs.ModelMachineCommands.{state_now, command_step}
 use Rattle.model_machine.specs.Machine.{LastingState, Moment, Slot, terminal_at, output_at, slot_at, is_held, busy_slots, content, states_of, moment_with}
 use Rattle.model_machine.specs.Lasting.{KeptInput, LastingStep, kept_input, applied}
 use Rattle.model_machine.specs.Lasting.LastingStep.{Accepts, Acknowledges, Completes, Discards}
 use Rattle.model_machine.specs.Pick.{Candidate, pick_of}
 use Rattle.model_machine.specs.Work.{slot_trial}
 use Rattle.model_machine.specs.Requests.{blocked_now, asked_table, table_after, without_victims}
-use Rattle.model_enqueue.specs.declared.request.Request.{Request}
-use Rattle.model_enqueue.specs.declared.victim.Victim.{Victim}
-use Rattle.model_enqueue.specs.Table.{EnqueueTable}
+use Rattle.model_data.specs.declared.request.Request.{Request}
+use Rattle.model_data.specs.declared.victim.Victim.{Victim}
+use Rattle.model_data.specs.Table.{EnqueueTable}
 
 -- ---- inputs
 

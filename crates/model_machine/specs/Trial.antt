@@ -6,26 +6,26 @@ use Rattle.tm_types.specs.declared.dbd.Dbd.{Dbd}
 use Rattle.tm_types.specs.declared.function.Function.{Function}
 use Rattle.tm_types.specs.declared.function.Function.TheVariants.{GU, ROLB}
 use Rattle.tm_types.specs.declared.message.Message.{Message}
-use Rattle.model_conversation.specs.declared.conversation.Conversation.{Conversation}
-use Rattle.model_conversation.specs.declared.conversation.PadChange.{PadChange}
+use Rattle.model_messages.specs.declared.conversation.Conversation.{Conversation}
+use Rattle.model_messages.specs.declared.conversation.PadChange.{PadChange}
 use Rattle.tm_types.specs.declared.status.Status.{Status}
 use Rattle.tm_types.specs.declared.status.Status.TheVariants.{AM}
-use Rattle.model_script.specs.declared.need.CallText.{CallText}
-use Rattle.model_script.specs.declared.need.Need.{Need}
-use Rattle.model_script.specs.declared.need.Need.TheVariants.{Call, Ended, Abend}
-use Rattle.model_script.specs.Script.{Answer, next_need}
+use Rattle.model_system.specs.declared.need.CallText.{CallText}
+use Rattle.model_system.specs.declared.need.Need.{Need}
+use Rattle.model_system.specs.declared.need.Need.TheVariants.{Call, Ended, Abend}
+use Rattle.model_system.specs.Script.{Answer, next_need}
 use Rattle.model_system.specs.declared.pcb.Pcb.{Pcb}
 use Rattle.model_system.specs.declared.pcb.Pcb.TheVariants.{Database, Destination, Modifiable}
 use Rattle.model_system.specs.Jobs.{Job}
 use Rattle.model_system.specs.Pcbs.{pcb_at}
 use Rattle.model_system.specs.System.{System}
-use Rattle.model_rows.specs.declared.row.Row.{Row}
-use Rattle.model_dli.specs.declared.call.DbCall.{DbCall}
-use Rattle.model_dli.specs.Dli.{DliResult}
-use Rattle.model_dli.specs.Data.{Data, data_start, data_call, data_abend, data_after}
-use Rattle.model_message.specs.declared.ended_message.EndedMessage.{EndedMessage}
-use Rattle.model_message.specs.Work.{MessageWork, message_start}
-use Rattle.model_message.specs.Calls.{status_alone, message_answer, message_work, message_abend, pad_change, finish_work}
+use Rattle.model_data.specs.declared.row.Row.{Row}
+use Rattle.model_data.specs.declared.call.DbCall.{DbCall}
+use Rattle.model_data.specs.Dli.{DliResult}
+use Rattle.model_data.specs.Data.{Data, data_start, data_call, data_abend, data_after}
+use Rattle.model_messages.specs.declared.ended_message.EndedMessage.{EndedMessage}
+use Rattle.model_messages.specs.Work.{MessageWork, message_start}
+use Rattle.model_messages.specs.Calls.{status_alone, message_answer, message_work, message_abend, pad_change, finish_work}
 
 -- the database that a PCB reaches: its number, its definition, and the PCB's options
 pub record DbPcb : Type 0 where

@@ -4,7 +4,7 @@ use Rattle.std.specs.Option.{option_and_then}
 use Rattle.model_system.specs.System.{System}
 use Rattle.model_system.specs.Jobs.{job_of}
 use Rattle.tm_types.specs.declared.message.Message.{Message}
-use Rattle.model_conversation.specs.Terminals.{conversation_at}
+use Rattle.model_messages.specs.Terminals.{conversation_at}
 use Rattle.model_machine.specs.Trial.{Given, Trial, trial_of}
 use Rattle.model_machine.specs.Machine.{LastingState, Slot, message_at}
 

@@ -1,8 +1,8 @@
 //! The calls of a control region, and what they are answered.
 
 use crate::counts::Counter;
-use model_command::{Answer, Command};
-use model_enqueue::Victims;
+use crate::{Answer, Command};
+use model_data::Victims;
 use thiserror::Error;
 use tm_types::{AbendCode, Function, Name, Resource, Segments, Status};
 

@@ -1,9 +1,8 @@
 //! What lasts of the machine.
 ghost use Rattle.std.specs.Prelude.{◌≡◌, []};
 
-use model_conversation::TerminalConversation;
-use model_queues::TerminalReplies;
-use model_rows::Row;
+use model_data::Row;
+use model_messages::{TerminalConversation, TerminalReplies};
 use std::alloc::Global;
 use std::marker::Model;
 use tm_types::{Message, Name};
@@ -37,7 +36,7 @@ pub struct DatabaseRows {
 
 impl Model for DatabaseRows {
     ghost use Rattle.std.specs.Prelude.{List};
-    ghost use Rattle.model_rows.specs.declared.row.Row.{Row};
+    ghost use Rattle.model_data.specs.declared.row.Row.{Row};
 
     ghost Value = { List Row };
 

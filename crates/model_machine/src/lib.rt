@@ -1,3 +1,8 @@
+//! What an operator's commands are: what a text commands, and what is printed for the answer to a command.
+//!
+//! The crate holds definitions and the small types that they speak of. `oper_cmds` reads commands and
+//! prints answers by these definitions.
+//!
 //! The one-message machine: what the control region's calls mean.
 //!
 //! The crate holds definitions and the small types that they speak of, and almost no code. A
@@ -5,14 +10,19 @@
 //! and the history is legal.
 #![tactic(auto)]
 
+mod active;
+mod answer;
+mod command;
+mod counts;
+mod entry;
+mod lasting;
+
+pub use active::{ActiveRegion, ActiveRegions, RegionWork};
+pub use answer::Answer;
+pub use command::Command;
 pub use counts::Counter;
 pub use entry::{
     AckRefused, Acked, CheckpointRefused, CommandRefused, ControlCall, ControlFault, Entry,
     InputRefused, ShowAnswer, Taken, Turned,
 };
 pub use lasting::{CodeSetting, DatabaseRows, Lasting, TerminalState};
-pub use model_command::{ActiveRegion, ActiveRegions, Answer, Command, RegionWork};
-
-mod counts;
-mod entry;
-mod lasting;

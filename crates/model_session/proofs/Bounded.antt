@@ -8,7 +8,7 @@ use Rattle.std.proofs.lemmas.List.{append-nil, length_push, length-map, length-d
 use Rattle.std.proofs.lemmas.Bool.Decides.{nat_tests}
 use Rattle.std.proofs.lemmas.Slice.Eq.{bytes_eq-Decides}
 use Rattle.text_rows.specs.Lowest.{also, both}
-use Rattle.model_command.specs.Commands.{command_of}
+use Rattle.model_machine.specs.Commands.{command_of}
 use Rattle.model_session.specs.Numbers.{name_operand}
 use Rattle.tm_types.specs.Segment.{are_printable}
 use Rattle.tm_types.specs.Words.{first_word, operands}

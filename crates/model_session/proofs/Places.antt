@@ -12,12 +12,12 @@ use Rattle.std.proofs.lemmas.List.{append-nil}
 use Rattle.std.proofs.lemmas.List.Elements.{All-head, All-tail}
 use Rattle.std.proofs.lemmas.Map.Keys.{IsDistinct-push}
 use Rattle.std.proofs.lemmas.Map.Steps.{length-le_from_distinct_below}
-use Rattle.model_format.specs.declared.device_field.DeviceField.{DeviceField}
-use Rattle.model_format.specs.Breaks.{KeepsRule, broken_input, broken_line, broken_output, clash, clashing_field, line_if, no_input, overlap}
-use Rattle.model_format.specs.Formats.{FormatLines}
-use Rattle.model_format.specs.Valid.{IsFormat, is_on_page}
+use Rattle.model_system.specs.declared.device_field.DeviceField.{DeviceField}
+use Rattle.model_system.specs.Breaks.{KeepsRule, broken_input, broken_line, broken_output, clash, clashing_field, line_if, no_input, overlap}
+use Rattle.model_system.specs.Formats.{FormatLines}
+use Rattle.model_system.specs.Valid.{IsFormat, is_on_page}
 use Rattle.model_system.specs.declared.screen.SystemFormat.{SystemFormat}
-use Rattle.model_system.specs.Formats.{format_name, format_named}
+use Rattle.model_system.specs.ModelSystemFormats.{format_name, format_named}
 use Rattle.model_system.specs.System.{System}
 use Rattle.model_session.specs.Bounded.{HasScreens}
 

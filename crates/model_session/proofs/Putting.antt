@@ -9,16 +9,16 @@ use Rattle.std.proofs.lemmas.List.{length-take, reverse-append, take-take, take_
 use Rattle.std.proofs.lemmas.List.Folds.{find-append}
 use Rattle.std.proofs.lemmas.Map.Keys.{IsDistinct-head, IsDistinct-tail}
 use Rattle.std.proofs.lemmas.Slice.Eq.{bytes_eq-Decides}
-use Rattle.model_format.specs.declared.device_field.DeviceField.{DeviceField}
-use Rattle.model_format.specs.declared.fields.FieldValue.{FieldValue}
-use Rattle.model_format.specs.declared.message_field.MessageField.{MessageField}
-use Rattle.model_format.specs.declared.message_field.MessageField.TheVariants.{Source, Literal}
-use Rattle.model_format.specs.declared.message_field.MessageFieldLine.{MessageFieldLine}
-use Rattle.model_format.specs.declared.segment_line.SegmentLine.{SegmentLine}
-use Rattle.model_format.specs.Breaks.{has_field}
-use Rattle.model_format.specs.Entering.{entered, text_of, texts_of, unknown_field, unless_unknown, value_of}
-use Rattle.model_format.specs.Fitting.{fitted}
-use Rattle.model_format.specs.Formats.{FormatLines}
+use Rattle.model_system.specs.declared.device_field.DeviceField.{DeviceField}
+use Rattle.model_system.specs.declared.fields.FieldValue.{FieldValue}
+use Rattle.model_system.specs.declared.message_field.MessageField.{MessageField}
+use Rattle.model_system.specs.declared.message_field.MessageField.TheVariants.{Source, Literal}
+use Rattle.model_system.specs.declared.message_field.MessageFieldLine.{MessageFieldLine}
+use Rattle.model_system.specs.declared.segment_line.SegmentLine.{SegmentLine}
+use Rattle.model_system.specs.Breaks.{has_field}
+use Rattle.model_system.specs.Entering.{entered, text_of, texts_of, unknown_field, unless_unknown, value_of}
+use Rattle.model_system.specs.Fitting.{fitted}
+use Rattle.model_system.specs.Formats.{FormatLines}
 use Rattle.model_session.specs.Blocks.{put_value}
 use Rattle.model_session.proofs.Pigeons.{Apart, Differ, differ_put, differ_take, few_names, none_differ, put_name}
 

@@ -2,11 +2,11 @@
 use Rattle.std.proofs.Common.{◌≡◌, ◌∙◌, refl, sym, ap, ℕ, ◌≤◌, Bool, true, List, [], ◌∷◌, length, take, arith}
 use Rattle.std.specs.Prelude.{Option, Some, None, Result, Ok, Err, IfSome, min, if◌then◌else◌}
 use Rattle.text_rows.specs.Lowest.{also}
-use Rattle.model_command.specs.Commands.{command_of}
-use Rattle.model_format.specs.declared.fields.FieldValue.{FieldValue}
-use Rattle.model_format.specs.Entering.{entered}
-use Rattle.model_format.specs.Formats.{FormatLines}
-use Rattle.model_system.specs.Formats.{format_of}
+use Rattle.model_machine.specs.Commands.{command_of}
+use Rattle.model_system.specs.declared.fields.FieldValue.{FieldValue}
+use Rattle.model_system.specs.Entering.{entered}
+use Rattle.model_system.specs.Formats.{FormatLines}
+use Rattle.model_system.specs.ModelSystemFormats.{format_of}
 use Rattle.model_system.specs.System.{System}
 use Rattle.model_session.specs.declared.asked.Asked.{Asked}
 use Rattle.model_session.specs.declared.asked.Form.{Form}

@@ -2,18 +2,18 @@
 use Rattle.std.proofs.Common.{◌≡◌, ℕ, ◌+◌, Bool, true, false, ◌&&◌, List, length, refl, ◌∙◌, ap}
 use Rattle.std.specs.Prelude.{Option, Some, None, Result, Ok, Err, if◌then◌else◌, nat_le, nat_lt, ◌==◌, slice_get}
 use Rattle.std.specs.Option.{is_some, option_map_or, option_and_then, option_or, unwrap_or}
-use Rattle.model_command.specs.declared.command.Command.{Command}
-use Rattle.model_command.specs.declared.command.Command.TheVariants.{StartTransaction, StopTransaction, StartTerminal, StopTerminal, DisplayTransaction, DisplayTerminal, DisplayActive, Checkpoint as TakeCheckpoint, Freeze, DequeueFirst, DequeueAll, Exit, EmergencyRestart, NormalRestart, ColdStart}
+use Rattle.model_machine.specs.declared.command.Command.{Command}
+use Rattle.model_machine.specs.declared.command.Command.TheVariants.{StartTransaction, StopTransaction, StartTerminal, StopTerminal, DisplayTransaction, DisplayTerminal, DisplayActive, Checkpoint as TakeCheckpoint, Freeze, DequeueFirst, DequeueAll, Exit, EmergencyRestart, NormalRestart, ColdStart}
 use Rattle.model_system.specs.declared.code.Code.{Code}
 use Rattle.model_system.specs.declared.code_state.CodeState.{CodeState}
 use Rattle.model_system.specs.Codes.{code_at}
 use Rattle.model_system.specs.System.{System}
-use Rattle.model_conversation.specs.declared.conversation.Conversation.{Conversation}
-use Rattle.model_conversation.specs.Input.{busy_id}
-use Rattle.model_conversation.specs.Terminals.{conversation_at}
-use Rattle.model_queues.specs.declared.replies.TerminalReplies.{TerminalReplies}
-use Rattle.model_queues.specs.Outputs.{first_number}
-use Rattle.model_queues.specs.Room.{input_needs}
+use Rattle.model_messages.specs.declared.conversation.Conversation.{Conversation}
+use Rattle.model_messages.specs.Input.{busy_id}
+use Rattle.model_messages.specs.Terminals.{conversation_at}
+use Rattle.model_messages.specs.declared.replies.TerminalReplies.{TerminalReplies}
+use Rattle.model_messages.specs.Outputs.{first_number}
+use Rattle.model_messages.specs.Room.{input_needs}
 use Rattle.tm_types.specs.Segment.{counted_bytes}
 use Rattle.model_machine.specs.declared.entry.AckRefused.{AckRefused}
 use Rattle.model_machine.specs.declared.entry.Acked.{Acked}
@@ -25,10 +25,10 @@ use Rattle.model_machine.specs.declared.entry.Entry.TheVariants.{Accept, Acked a
 use Rattle.model_machine.specs.declared.entry.InputRefused.TheVariants.{Terminal as NoTerminal, StoppedTerminal, Expected, Code as NoCode, StoppedCode, SegmentsOver, QueueFull}
 use Rattle.model_machine.specs.declared.entry.Taken.TheVariants.{New, Already}
 use Rattle.model_machine.specs.declared.lasting.TerminalState.{TerminalState}
-use Rattle.model_enqueue.specs.declared.victim.Victim.{Victim}
+use Rattle.model_data.specs.declared.victim.Victim.{Victim}
 use Rattle.model_machine.specs.Machine.{Moment, terminal_at, output_at, content, busy_slots, waiting_now}
 use Rattle.model_machine.specs.Lasting.{KeptInput, kept_input}
-use Rattle.model_machine.specs.Commands.{CommandAnswer, shown_code, shown_terminal, first_dequeued, all_dequeued, exited, command_answer, unless_busy, first_busy, checkpoint_answer, state_now}
+use Rattle.model_machine.specs.ModelMachineCommands.{CommandAnswer, shown_code, shown_terminal, first_dequeued, all_dequeued, exited, command_answer, unless_busy, first_busy, checkpoint_answer, state_now}
 use Rattle.model_machine.specs.Steps.{Refusal, refusals, first_of, by_number, busy_by, most_segments, by_count, input_answer, ack_by}
 use Rattle.model_machine.specs.History.{May, call_of, entry_now, is_fault, number_in, victims_in}
 

@@ -7,7 +7,7 @@ use Rattle.tm_types.specs.Segment.{are_printable}
 use Rattle.tm_types.specs.Words.{first_word, operands}
 use Rattle.text_rows.specs.Lines.{is_passed_over, split_at}
 use Rattle.text_rows.specs.Lowest.{also}
-use Rattle.model_format.specs.declared.fields.FieldValue.{FieldValue}
+use Rattle.model_system.specs.declared.fields.FieldValue.{FieldValue}
 use Rattle.model_session.specs.Numbers.{name_operand}
 use Rattle.model_session.specs.declared.others.Others.{Others}
 

@@ -6,8 +6,8 @@ use Rattle.model_session.specs.declared.asked.Asked.{Asked}
 use Rattle.model_session.specs.declared.asked.Asked.TheVariants.{Call}
 use Rattle.model_system.specs.System.{System}
 use Rattle.text_rows.specs.Lowest.{also}
-use Rattle.model_format.specs.declared.fields.FieldValue.{FieldValue}
-use Rattle.model_system.specs.Formats.{format_of}
+use Rattle.model_system.specs.declared.fields.FieldValue.{FieldValue}
+use Rattle.model_system.specs.ModelSystemFormats.{format_of}
 use Rattle.model_session.specs.Blocks.{Block, alone, and_line, field_of, is_screen, judged, no_others, takes_further}
 use Rattle.model_session.specs.Lines.{asked_of}
 

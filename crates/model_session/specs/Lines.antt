@@ -8,12 +8,12 @@ use Rattle.std.specs.Str.{bytes_eq}
 use Rattle.text_rows.specs.Lowest.{both, also}
 use Rattle.tm_types.specs.Segment.{are_printable}
 use Rattle.tm_types.specs.Words.{first_word, operands}
-use Rattle.model_machine.specs.Commands.{IsServed}
+use Rattle.model_machine.specs.ModelMachineCommands.{IsServed}
 use Rattle.model_machine.specs.declared.entry.ControlCall.TheVariants.{Input, Receive, Acknowledge, Turn, Command, Checkpoint}
-use Rattle.model_format.specs.declared.fields.FieldValue.{FieldValue}
-use Rattle.model_format.specs.Entering.{entered}
-use Rattle.model_format.specs.Formats.{FormatLines}
-use Rattle.model_system.specs.Formats.{format_of}
+use Rattle.model_system.specs.declared.fields.FieldValue.{FieldValue}
+use Rattle.model_system.specs.Entering.{entered}
+use Rattle.model_system.specs.Formats.{FormatLines}
+use Rattle.model_system.specs.ModelSystemFormats.{format_of}
 use Rattle.model_system.specs.System.{System}
 use Rattle.model_session.specs.declared.asked.Form.{Form}
 use Rattle.model_session.specs.declared.asked.Form.TheVariants.{Input as InputForm, Screen as ScreenForm, Receive as ReceiveForm, Acknowledge as AcknowledgeForm, Turn as TurnForm, Quiet as QuietForm, Power as PowerForm, PowerIn as PowerInForm}
@@ -22,9 +22,9 @@ use Rattle.model_session.specs.declared.asked.Asked.TheVariants.{Bad, Stopped, C
 use Rattle.model_session.specs.declared.asked.InputStopped.{InputStopped}
 use Rattle.model_session.specs.declared.asked.InputStopped.TheVariants.{Terminal, Format, Field, TooLong}
 use Rattle.model_session.specs.Numbers.{number_operand, name_operand}
-use Rattle.model_command.specs.declared.command.Command.{Command as OperatorCommand}
-use Rattle.model_command.specs.declared.command.Command.TheVariants.{Checkpoint as TakeCheckpoint, Freeze, EmergencyRestart, NormalRestart, ColdStart as ColdRestart}
-use Rattle.model_command.specs.Commands.{command_of}
+use Rattle.model_machine.specs.declared.command.Command.{Command as OperatorCommand}
+use Rattle.model_machine.specs.declared.command.Command.TheVariants.{Checkpoint as TakeCheckpoint, Freeze, EmergencyRestart, NormalRestart, ColdStart as ColdRestart}
+use Rattle.model_machine.specs.Commands.{command_of}
 pub use Rattle.model_session.specs.Blocks.{operand_count, has_operand}
 use Rattle.model_session.specs.Blocks.{Block, is_further, is_screen}
 

@@ -10,12 +10,12 @@ use Rattle.tm_types.specs.Status.{status_text}
 use Rattle.tm_types.specs.declared.message.Reply.{Reply}
 use Rattle.tm_types.specs.declared.dbd.Dbd.{Dbd}
 use Rattle.tm_types.specs.declared.resource.Resource.{Resource}
-use Rattle.model_enqueue.specs.declared.victim.Victim.{Victim}
-use Rattle.model_format.specs.Formats.{FormatLines}
-use Rattle.model_format.specs.Showing.{shown}
-use Rattle.model_system.specs.Formats.{format_of}
+use Rattle.model_data.specs.declared.victim.Victim.{Victim}
+use Rattle.model_system.specs.Formats.{FormatLines}
+use Rattle.model_system.specs.Showing.{shown}
+use Rattle.model_system.specs.ModelSystemFormats.{format_of}
 use Rattle.model_system.specs.System.{System}
-use Rattle.model_message.specs.Calls.{without_blanks}
+use Rattle.model_messages.specs.Calls.{without_blanks}
 use Rattle.model_machine.specs.declared.entry.Entry.{Entry}
 use Rattle.model_machine.specs.declared.entry.Entry.TheVariants.{Accept, Show, Acked as AckedEntry, Turn, Commanded, Checked}
 use Rattle.model_machine.specs.declared.entry.ControlFault.{ControlFault}
@@ -33,9 +33,9 @@ use Rattle.model_machine.specs.declared.entry.CommandRefused.{CommandRefused}
 use Rattle.model_machine.specs.declared.entry.CommandRefused.TheVariants.{UnknownName, Busy, NoConversation, Fault as CommandFault}
 use Rattle.model_machine.specs.declared.entry.CheckpointRefused.{CheckpointRefused}
 use Rattle.model_machine.specs.declared.entry.CheckpointRefused.TheVariants.{BusyRegion, Fault as CheckpointFault}
-use Rattle.model_command.specs.declared.answer.Answer.{Answer}
-use Rattle.model_command.specs.declared.answer.Answer.TheVariants as answers
-use Rattle.model_command.specs.Answers.{answer_text}
+use Rattle.model_machine.specs.declared.answer.Answer.{Answer}
+use Rattle.model_machine.specs.declared.answer.Answer.TheVariants as answers
+use Rattle.model_machine.specs.Answers.{answer_text}
 use Rattle.model_machine.specs.declared.entry.Turned.{Turned}
 use Rattle.model_machine.specs.declared.entry.Turned.TheVariants.{Scheduled, Called, Next, QC, Done, Abended, Idle, Held, Waits, Backed}
 use Rattle.model_machine.specs.Machine.{Moment, output_at}

@@ -2,7 +2,7 @@
 use Rattle.std.specs.Prelude.{ℕ, List, Option, find}
 use Rattle.std.specs.Option.{option_map, option_and_then}
 use Rattle.std.specs.Str.{bytes_eq}
-use Rattle.model_script.specs.declared.program.ScriptLine.{ScriptLine}
+use Rattle.model_system.specs.declared.program.ScriptLine.{ScriptLine}
 use Rattle.model_system.specs.declared.code.Code.{Code}
 use Rattle.model_system.specs.declared.code.Transaction.{Transaction}
 use Rattle.model_system.specs.declared.pcb.Pcb.{Pcb}

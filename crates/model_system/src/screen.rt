@@ -1,5 +1,5 @@
 //! Message formats, and the terminals that have one.
-use model_format::Format;
+use crate::Format;
 use tm_types::Name;
 
 /// A message format under its name.

@@ -1,6 +1,5 @@
 //! Programs with their PCBs.
-use crate::Pcbs;
-use model_script::Program;
+use crate::{Pcbs, Program};
 use tm_types::Name;
 
 /// A program under the name of its PSB, with its PCBs.

@@ -13,9 +13,9 @@ use Rattle.std.proofs.lemmas.List.{map-append}
 use Rattle.std.proofs.lemmas.List.Sums.{sum_by-cons, sum_by_push}
 use Rattle.std.proofs.lemmas.Map.Entries.{sum_by-remove_entry}
 use Rattle.tm_types.specs.declared.message.Message.{Message}
-use Rattle.model_queues.specs.declared.queued.Queued.{Queued}
-use Rattle.model_queues.specs.Room.{message_bytes, messages_bytes}
-use Rattle.model_queues.specs.Queue.{AreInOrder, ids_of, IsNewId, messages_of, has_id, queued_at, with_message, with_holder, without}
+use Rattle.model_messages.specs.declared.queued.Queued.{Queued}
+use Rattle.model_messages.specs.Room.{message_bytes, messages_bytes}
+use Rattle.model_messages.specs.Queue.{AreInOrder, ids_of, IsNewId, messages_of, has_id, queued_at, with_message, with_holder, without}
 use Rattle.msg_queues.specs.Kept.{AreKeyed}
 use Rattle.msg_queues.proofs.Keys.{at_key, key_is, greater_from, first_below, others_ascend}
 

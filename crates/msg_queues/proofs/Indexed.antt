@@ -11,10 +11,10 @@ use Rattle.std.specs.Str.{bytes_eq}
 use Rattle.std.proofs.lemmas.Bool.{eq-eqb, ne_eqb, eqb-true}
 use Rattle.std.proofs.lemmas.List.Sums.{sum_by-cons}
 use Rattle.tm_types.specs.declared.message.Message.{Message}
-use Rattle.model_queues.specs.declared.queued.Queued.{Queued}
-use Rattle.model_conversation.specs.Input.{is_conversing, busy_id}
-use Rattle.model_queues.specs.Room.{message_bytes, messages_bytes}
-use Rattle.model_queues.specs.Queue.{messages_of, IsNewId, has_id, queued_at, message_at, with_message, with_holder, without, is_free_of, first_free, free_count}
+use Rattle.model_messages.specs.declared.queued.Queued.{Queued}
+use Rattle.model_messages.specs.Input.{is_conversing, busy_id}
+use Rattle.model_messages.specs.Room.{message_bytes, messages_bytes}
+use Rattle.model_messages.specs.Queue.{messages_of, IsNewId, has_id, queued_at, message_at, with_message, with_holder, without, is_free_of, first_free, free_count}
 use Rattle.msg_queues.specs.Kept.{AreKeyed, AreKept, HasCode}
 use Rattle.msg_queues.specs.Places.{ids_of, places, conversing, IsBehind, with_id, with_flag, without_id, first_open, open_count}
 use Rattle.msg_queues.specs.Index.{of_name, when, ChangesName, KeepsNames, AreIndexed, AreConversing}

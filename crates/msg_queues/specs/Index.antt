@@ -6,7 +6,7 @@ use Rattle.std.specs.Map.{lookup}
 use Rattle.std.specs.Option.{unwrap_or}
 use Rattle.std.specs.Ordering.{nat_cmp}
 use Rattle.std.specs.Str.{bytes_eq}
-use Rattle.model_queues.specs.declared.queued.Queued.{Queued}
+use Rattle.model_messages.specs.declared.queued.Queued.{Queued}
 use Rattle.msg_queues.specs.Places.{places, conversing}
 
 -- what is kept under a name, nothing where the name isn't there

@@ -4,9 +4,9 @@ use Rattle.std.specs.List.{AllByRecursion}
 use Rattle.std.specs.List.Sorted.{IsStrictlySortedBy}
 use Rattle.std.specs.Map.{keys_of, values_of}
 use Rattle.std.specs.Ordering.{nat_cmp}
-use Rattle.model_queues.specs.declared.queued.Queued.{Queued}
-use Rattle.model_queues.specs.Room.{messages_bytes}
-use Rattle.model_queues.specs.Queue.{messages_of, has_id}
+use Rattle.model_messages.specs.declared.queued.Queued.{Queued}
+use Rattle.model_messages.specs.Room.{messages_bytes}
+use Rattle.model_messages.specs.Queue.{messages_of, has_id}
 use Rattle.msg_queues.specs.Index.{AreIndexed, AreConversing}
 
 -- each message is kept under its id, and the ids ascend

@@ -7,8 +7,8 @@ use Rattle.std.specs.Option.{option_map, is_some}
 use Rattle.std.specs.Ordering.{nat_cmp}
 use Rattle.std.specs.Str.{bytes_eq}
 use Rattle.tm_types.specs.declared.message.Message.{Message}
-use Rattle.model_conversation.specs.Input.{is_conversing}
-use Rattle.model_queues.specs.declared.queued.Queued.{Queued}
+use Rattle.model_messages.specs.Input.{is_conversing}
+use Rattle.model_messages.specs.declared.queued.Queued.{Queued}
 
 -- the ids of the messages that pass the test, each with this flag
 abbrev pub ids_of : (Message → Bool) → (Queued → Bool) → List Queued → List (ℕ × Bool)

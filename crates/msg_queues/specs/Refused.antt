@@ -1,8 +1,8 @@
 -- Why an input isn't taken.
 use Rattle.std.specs.Prelude.{◌≡◌, ℕ, ◌+◌, ◌<◌, ◌≤◌}
 use Rattle.tm_types.specs.declared.message.Message.{Message}
-use Rattle.model_queues.specs.Room.{message_bytes, messages_bytes, input_needs}
-use Rattle.model_queues.specs.Queue.{QueuesState, messages_of}
+use Rattle.model_messages.specs.Room.{message_bytes, messages_bytes, input_needs}
+use Rattle.model_messages.specs.Queue.{QueuesState, messages_of}
 use Rattle.msg_queues.specs.declared.queues.QueueRefused.{QueueRefused}
 use Rattle.msg_queues.specs.declared.queues.QueueRefused.TheVariants.{Full, Memory}
 

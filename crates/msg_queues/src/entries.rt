@@ -2,11 +2,11 @@
 ghost use Rattle.std.specs.Prelude.{◌≡◌, ◌+◌, OnOk, OnErr, IfErr, None, IfSome, IfNone};
 ghost use Rattle.std.specs.Option.{option_map, unwrap_or};
 ghost use Rattle.std.specs.Map.{values_of};
-ghost use Rattle.model_queues.specs.Room.{message_bytes, messages_bytes};
-ghost use Rattle.model_queues.specs.Queue.{IsNewId, messages_of, queued_at, message_at, with_message, with_holder, without};
+ghost use Rattle.model_messages.specs.Room.{message_bytes, messages_bytes};
+ghost use Rattle.model_messages.specs.Queue.{IsNewId, messages_of, queued_at, message_at, with_message, with_holder, without};
 ghost use Rattle.msg_queues.specs.Kept.{AreKeyed, HasCode};
 
-use model_queues::Queued;
+use model_messages::Queued;
 use std::alloc::AllocFailed;
 use std::collections::BTreeMap;
 use tm_types::{Message, Name};

@@ -5,7 +5,7 @@
 //! call is a change of that list, and no call looks at all messages. After a refusal nothing changed.
 #![tactic(auto)]
 
-pub use model_queues::Queued;
+pub use model_messages::Queued;
 pub use queues::{QueueRefused, Queues, SLOT_ROOM};
 
 mod entries;

@@ -2,14 +2,14 @@
 ghost use Rattle.std.specs.Prelude.{◌≡◌, ◌+◌, ◌<◌, ◌≤◌, ◌^◌, [], Some, None, OnOk, OnErr, IfErr, IsSomeAnd, IsSome, slice_get};
 ghost use Rattle.std.specs.Option.{option_copied, option_and_then};
 ghost use Rattle.std.specs.Map.{values_of};
-ghost use Rattle.model_queues.specs.Room.{message_bytes, messages_bytes, input_needs};
-ghost use Rattle.model_queues.specs.Queue.{IsNewId, AreInOrder, messages_of, queued_at, message_at, with_message, with_holder, without, first_free, free_count};
-ghost use Rattle.model_conversation.specs.Input.{busy_id};
+ghost use Rattle.model_messages.specs.Room.{message_bytes, messages_bytes, input_needs};
+ghost use Rattle.model_messages.specs.Queue.{IsNewId, AreInOrder, messages_of, queued_at, message_at, with_message, with_holder, without, first_free, free_count};
+ghost use Rattle.model_messages.specs.Input.{busy_id};
 ghost use Rattle.msg_queues.specs.Refused.{RefusesInput};
 
 use crate::id_queue::IdQueue;
 use crate::{entries, index};
-use model_queues::Queued;
+use model_messages::Queued;
 use std::alloc::{AllocFailed, Global};
 use std::collections::BTreeMap;
 use std::marker::Model;
@@ -44,7 +44,7 @@ pub struct Queues {
 
 impl Model for Queues {
     ghost use Rattle.std.specs.Map.{values_of};
-    ghost use Rattle.model_queues.specs.Queue.{QueuesState};
+    ghost use Rattle.model_messages.specs.Queue.{QueuesState};
     ghost use Rattle.msg_queues.specs.Kept.{AreKept};
 
     ghost Value = { QueuesState };

@@ -1,10 +1,10 @@
 //! What is printed for the answer to a command.
 ghost use Rattle.std.specs.Prelude.{◌≡◌, ◌++◌, codes, decimal, IfOk, OnOk, OnErr};
 ghost use Rattle.std.specs.List.{flat_map};
-ghost use Rattle.model_command.specs.Answers as text;
+ghost use Rattle.model_machine.specs.Answers as text;
 
 use itoa::Buffer;
-use model_command::{ActiveRegion, Answer, RegionWork};
+use model_machine::{ActiveRegion, Answer, RegionWork};
 use std::alloc::Global;
 use tm_types::{Key, Memory, Name};
 

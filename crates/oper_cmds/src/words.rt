@@ -1,6 +1,6 @@
 //! The words of a command, which one blank parts, and its names.
 ghost use Rattle.std.specs.Prelude.{◌≡◌};
-ghost use Rattle.model_command.specs.Commands as spec;
+ghost use Rattle.model_machine.specs.Commands as spec;
 
 use crate::rules::{NO_NAME, WRONG_OPERANDS};
 use tm_types::{Name, first_word, operands};
@@ -31,7 +31,7 @@ pub(crate) fn third_operand(text: &[u8]) -> &[u8]
 }
 
 /// The name that a word is.
-#[tactic(auto, unfolding(model_command::specs::Commands::name_operand))]
+#[tactic(auto, unfolding(model_machine::specs::Commands::name_operand))]
 pub(crate) fn name_operand(word: &[u8]) -> Result<Name, u8>
     ensures { result ≡ spec.name_operand word.now }
 {

@@ -7,9 +7,9 @@ use Rattle.std.proofs.lemmas.List.{length-take-le}
 use Rattle.std.proofs.lemmas.List.Sums.{sum_by-cons, sum_by_push}
 use Rattle.tm_types.specs.Segment.{counted_bytes}
 use Rattle.tm_types.specs.declared.message.Reply.{Reply}
-use Rattle.model_queues.specs.Room.{reply_bytes, replies_bytes}
-use Rattle.model_queues.specs.declared.replies.TerminalReplies.{TerminalReplies}
-use Rattle.model_queues.specs.Outputs.{fresh_terminal, is_of, replies_at, IsTerminal, with_terminal, with_reply, without_first, without_last, with_next, RunUpTo, AreNumbered, outputs_bytes}
+use Rattle.model_messages.specs.Room.{reply_bytes, replies_bytes}
+use Rattle.model_messages.specs.declared.replies.TerminalReplies.{TerminalReplies}
+use Rattle.model_messages.specs.Outputs.{fresh_terminal, is_of, replies_at, IsTerminal, with_terminal, with_reply, without_first, without_last, with_next, RunUpTo, AreNumbered, outputs_bytes}
 use Rattle.out_queues.specs.Kept.{AreKept}
 
 abbrev terminal_bytes : TerminalReplies → ℕ

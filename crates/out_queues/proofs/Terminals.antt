@@ -4,8 +4,8 @@ use Rattle.std.specs.Prelude.{position, slice_get}
 use Rattle.std.specs.List.{position_from}
 use Rattle.std.proofs.lemmas.Iterator.Adapters.{position_from-zero}
 use Rattle.std.specs.Option.{is_some}
-use Rattle.model_queues.specs.declared.replies.TerminalReplies.{TerminalReplies}
-use Rattle.model_queues.specs.Outputs.{is_of, replies_at, IsTerminal, with_terminal}
+use Rattle.model_messages.specs.declared.replies.TerminalReplies.{TerminalReplies}
+use Rattle.model_messages.specs.Outputs.{is_of, replies_at, IsTerminal, with_terminal}
 
 -- this is the place of the terminal of the name
 record IsPlace (name : List ℕ) (ts : List TerminalReplies) (place : ℕ) : Type 0 where

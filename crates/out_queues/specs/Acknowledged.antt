@@ -1,8 +1,8 @@
 -- Acknowledgements.
 use Rattle.std.specs.Prelude.{ℕ, ◌==◌, nat_lt, ◌&&◌, if◌then◌else◌, List, Result, Ok, Err, slice_get}
 use Rattle.std.specs.Option.{is_some}
-use Rattle.model_queues.specs.declared.replies.TerminalReplies.{TerminalReplies}
-use Rattle.model_queues.specs.Outputs.{first_number, with_terminal, without_first}
+use Rattle.model_messages.specs.declared.replies.TerminalReplies.{TerminalReplies}
+use Rattle.model_messages.specs.Outputs.{first_number, with_terminal, without_first}
 use Rattle.out_queues.specs.declared.outputs.Acked.{Acked}
 use Rattle.out_queues.specs.declared.outputs.Acked.TheVariants.{Removed, Already}
 use Rattle.out_queues.specs.declared.outputs.AckAhead.{AckAhead}

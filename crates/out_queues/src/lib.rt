@@ -5,7 +5,7 @@
 //! terminal follow one another. After a refusal nothing changed.
 #![tactic(auto)]
 
-pub use model_queues::{Replies, TerminalReplies};
+pub use model_messages::{Replies, TerminalReplies};
 pub use outputs::{AckAhead, Acked, Outputs};
 pub use table::fresh_terminals;
 

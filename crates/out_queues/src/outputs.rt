@@ -3,11 +3,11 @@ ghost use Rattle.std.specs.Prelude.{◌≡◌, ◌+◌, ◌<◌, ◌≤◌, ◌^
 ghost use Rattle.std.specs.List.{AllByRecursion};
 ghost use Rattle.std.specs.Option.{option_copied, is_some};
 ghost use Rattle.tm_types.specs.Segment.{counted_bytes};
-ghost use Rattle.model_queues.specs.Outputs.{fresh_terminal, replies_at, IsTerminal, with_terminal, with_reply, without_last, with_next, reply_at, next_of, AreNumbered, outputs_bytes};
+ghost use Rattle.model_messages.specs.Outputs.{fresh_terminal, replies_at, IsTerminal, with_terminal, with_reply, without_last, with_next, reply_at, next_of, AreNumbered, outputs_bytes};
 ghost use Rattle.out_queues.specs.Acknowledged.{ack_answer, left_by};
 
 use crate::table;
-use model_queues::TerminalReplies;
+use model_messages::TerminalReplies;
 use std::alloc::{AllocFailed, Global};
 use std::marker::Model;
 use thiserror::Error;
@@ -39,7 +39,7 @@ pub struct Outputs {
 
 impl Model for Outputs {
     ghost use Rattle.std.specs.Prelude.{List};
-    ghost use Rattle.model_queues.specs.declared.replies.TerminalReplies.{TerminalReplies};
+    ghost use Rattle.model_messages.specs.declared.replies.TerminalReplies.{TerminalReplies};
     ghost use Rattle.out_queues.specs.Kept.{AreKept};
 
     ghost Value = { List TerminalReplies };

@@ -2,10 +2,10 @@
 ghost use Rattle.std.specs.Prelude.{◌≡◌, ◌+◌, ◌<◌, ◌≤◌, ◌^◌, Some, map, position, slice_get, IsSomeAnd, OnOk, OnErr, IfOk, IfErr};
 ghost use Rattle.tm_types.specs.Segment.{counted_bytes};
 ghost use Rattle.std.specs.Option.{option_copied};
-ghost use Rattle.model_queues.specs.Room.{replies_bytes};
-ghost use Rattle.model_queues.specs.Outputs.{fresh_terminal, is_of, replies_at, IsTerminal, with_terminal, with_reply, without_first, without_last, with_next, next_of, first_number, outputs_bytes};
+ghost use Rattle.model_messages.specs.Room.{replies_bytes};
+ghost use Rattle.model_messages.specs.Outputs.{fresh_terminal, is_of, replies_at, IsTerminal, with_terminal, with_reply, without_first, without_last, with_next, next_of, first_number, outputs_bytes};
 
-use model_queues::{Replies, TerminalReplies};
+use model_messages::{Replies, TerminalReplies};
 use std::alloc::{AllocFailed, Global};
 use std::collections::VecDeque;
 use tm_types::{Memory, Name, Reply, Segments};

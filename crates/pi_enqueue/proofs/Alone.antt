@@ -6,10 +6,10 @@ use Rattle.std.specs.Map.{keys_of}
 use Rattle.std.proofs.lemmas.Bool.{eq-eqb}
 use Rattle.tm_types.specs.declared.resource.Resource.{Resource}
 use Rattle.tm_types.specs.declared.resource.Mode.{Mode}
-use Rattle.model_enqueue.specs.declared.request.Holder.{Holder}
-use Rattle.model_enqueue.specs.declared.request.Request.{Request}
-use Rattle.model_enqueue.specs.Modes.{excludes}
-use Rattle.model_enqueue.specs.Table.{EnqueueTable, holds_of, holders_against, is_against, ahead, is_upgrade, is_served, blocked_by}
+use Rattle.model_data.specs.declared.request.Holder.{Holder}
+use Rattle.model_data.specs.declared.request.Request.{Request}
+use Rattle.model_data.specs.Modes.{excludes}
+use Rattle.model_data.specs.Table.{EnqueueTable, holds_of, holders_against, is_against, ahead, is_upgrade, is_served, blocked_by}
 use Rattle.pi_enqueue.specs.Grant.{AreFree, without_waits}
 use Rattle.pi_enqueue.specs.Lists.{AreEmpty, AreListed, IsUpTo, is_on, is_listed}
 

@@ -12,12 +12,12 @@ use Rattle.pi_enqueue.specs.Lists.{seen, AreKept, AreListed}
 use Rattle.std.proofs.lemmas.Bool.{eq-eqb, eqb-true}
 use Rattle.std.proofs.lemmas.Map.Keys.{IsDistinct-head, IsDistinct-tail}
 use Rattle.tm_types.specs.declared.resource.Mode.{Mode}
-use Rattle.model_enqueue.specs.declared.request.Holder.{Holder}
-use Rattle.model_enqueue.specs.declared.request.Request.{Request}
-use Rattle.model_enqueue.specs.Modes.{same_resource}
-use Rattle.model_enqueue.specs.Table.{EnqueueTable, is_own, blocked_by, is_upgrade}
-use Rattle.model_enqueue.specs.Ask.{without_wait, placed, granted, waiting, answer_to, left_by, after_ask, waits_only_for, waits_for_nothing, after_asks, first_blocked}
-use Rattle.model_enqueue.specs.Cycle.{IsRegion}
+use Rattle.model_data.specs.declared.request.Holder.{Holder}
+use Rattle.model_data.specs.declared.request.Request.{Request}
+use Rattle.model_data.specs.Modes.{same_resource}
+use Rattle.model_data.specs.Table.{EnqueueTable, is_own, blocked_by, is_upgrade}
+use Rattle.model_data.specs.Ask.{without_wait, placed, granted, waiting, answer_to, left_by, after_ask, waits_only_for, waits_for_nothing, after_asks, first_blocked}
+use Rattle.model_data.specs.Cycle.{IsRegion}
 use Rattle.pi_enqueue.specs.Kept.{IsKept, WaitsForNothingElse}
 use Rattle.pi_enqueue.specs.Grant.{AreFree, granted_all, with_holds, without_waits, told}
 use Rattle.pi_enqueue.specs.declared.table.Blocked.{Blocked}

@@ -12,11 +12,11 @@ use Rattle.std.proofs.lemmas.Bool.{eq-eqb, eqb-true}
 use Rattle.tm_types.specs.declared.resource.Resource.{Resource}
 use Rattle.tm_types.specs.declared.resource.Mode.{Mode}
 use Rattle.tm_types.specs.declared.resource.Mode.TheVariants.{Shared, Exclusive}
-use Rattle.model_enqueue.specs.declared.request.Holder.{Holder}
-use Rattle.model_enqueue.specs.declared.request.Request.{Request}
-use Rattle.model_enqueue.specs.Modes.{same_resource, excludes, serves, stronger, holder_cmp}
-use Rattle.model_enqueue.specs.Table.{EnqueueTable, holds_of, mode_held, is_against, holders_against, is_own, ahead, blockers, blocked_by}
-use Rattle.model_enqueue.specs.Ask.{asker, granted_mode, with_hold, without_wait, granted}
+use Rattle.model_data.specs.declared.request.Holder.{Holder}
+use Rattle.model_data.specs.declared.request.Request.{Request}
+use Rattle.model_data.specs.Modes.{same_resource, excludes, serves, stronger, holder_cmp}
+use Rattle.model_data.specs.Table.{EnqueueTable, holds_of, mode_held, is_against, holders_against, is_own, ahead, blockers, blocked_by}
+use Rattle.model_data.specs.Ask.{asker, granted_mode, with_hold, without_wait, granted}
 use Rattle.pi_enqueue.specs.Kept.{IsKept, Upgrades, held}
 use Rattle.pi_enqueue.proofs.Keys.{holder_total, lookup_alike, holder_exact, holder_ties, resource_exact, resource_back, eqb_back}
 use Rattle.pi_enqueue.proofs.Ascending.{all_map, all_filtered, filter_inserted, lookup_inserted}

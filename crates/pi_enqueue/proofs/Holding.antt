@@ -11,11 +11,11 @@ use Rattle.std.proofs.lemmas.List.{get_or-set_same, get_or-set_other}
 use Rattle.tm_types.specs.declared.resource.Resource.{Resource}
 use Rattle.tm_types.specs.declared.resource.Mode.{Mode}
 use Rattle.tm_types.specs.declared.resource.Mode.TheVariants.{Shared, Exclusive}
-use Rattle.model_enqueue.specs.declared.request.Holder.{Holder}
-use Rattle.model_enqueue.specs.declared.request.Request.{Request}
-use Rattle.model_enqueue.specs.Modes.{same_resource, serves, stronger, holder_cmp}
-use Rattle.model_enqueue.specs.Table.{mode_held, is_served}
-use Rattle.model_enqueue.specs.Ask.{asker, granted_mode, with_hold}
+use Rattle.model_data.specs.declared.request.Holder.{Holder}
+use Rattle.model_data.specs.declared.request.Request.{Request}
+use Rattle.model_data.specs.Modes.{same_resource, serves, stronger, holder_cmp}
+use Rattle.model_data.specs.Table.{mode_held, is_served}
+use Rattle.model_data.specs.Ask.{asker, granted_mode, with_hold}
 use Rattle.pi_enqueue.specs.declared.holds.Change.{Change}
 use Rattle.pi_enqueue.specs.Lists.{IsUpTo, is_on, is_listed, AreListed, StayListed, with_mode, before_all, is_more}
 use Rattle.pi_enqueue.proofs.Keys.{holder_total, held_is, holder_exact, holder_ties, resource_same}

@@ -12,12 +12,12 @@ use Rattle.std.proofs.lemmas.Map.Entries.{lookup-filter-keys}
 use Rattle.tm_types.specs.declared.resource.Resource.{Resource}
 use Rattle.tm_types.specs.declared.resource.Mode.{Mode}
 use Rattle.tm_types.specs.declared.resource.Mode.TheVariants.{Shared, Exclusive}
-use Rattle.model_enqueue.specs.declared.request.Holder.{Holder}
-use Rattle.model_enqueue.specs.declared.request.Request.{Request}
-use Rattle.model_enqueue.specs.Modes.{same_resource, excludes, serves, stronger, holder_cmp}
-use Rattle.model_enqueue.specs.Table.{EnqueueTable, empty_table, holds_of, mode_held, is_served, is_upgrade, holders_against, is_own, waiters_ahead, blocked_by}
-use Rattle.model_enqueue.specs.Ask.{asker, granted_mode, with_hold, without_wait, placed, granted, waiting, waits_only_for, waits_for_nothing, released}
-use Rattle.model_enqueue.specs.Cycle.{IsRegion}
+use Rattle.model_data.specs.declared.request.Holder.{Holder}
+use Rattle.model_data.specs.declared.request.Request.{Request}
+use Rattle.model_data.specs.Modes.{same_resource, excludes, serves, stronger, holder_cmp}
+use Rattle.model_data.specs.Table.{EnqueueTable, empty_table, holds_of, mode_held, is_served, is_upgrade, holders_against, is_own, waiters_ahead, blocked_by}
+use Rattle.model_data.specs.Ask.{asker, granted_mode, with_hold, without_wait, placed, granted, waiting, waits_only_for, waits_for_nothing, released}
+use Rattle.model_data.specs.Cycle.{IsRegion}
 use Rattle.pi_enqueue.specs.Kept.{IsKept, Upgrades, Waits, held}
 use Rattle.pi_enqueue.specs.declared.lists.Lists.{Lists}
 use Rattle.pi_enqueue.specs.Lists.{seen, AreKept, AreListed}

@@ -15,11 +15,11 @@ use Rattle.std.proofs.lemmas.Cmp.{then_total, on_total, nat_cmp_total, eq_by_cmp
 use Rattle.std.proofs.lemmas.Map.Lookups.{exact_bytes}
 use Rattle.tm_types.specs.declared.resource.Resource.{Resource}
 use Rattle.tm_types.specs.declared.resource.Mode.{Mode}
-use Rattle.model_enqueue.specs.declared.request.Holder.{Holder}
-use Rattle.model_enqueue.specs.declared.request.Request.{Request}
-use Rattle.model_enqueue.specs.Modes.{same_resource, excludes, resource_cmp, holder_cmp}
-use Rattle.model_enqueue.specs.Table.{holds_of, is_asker, mode_held, holders_against}
-use Rattle.model_enqueue.specs.Ask.{asker}
+use Rattle.model_data.specs.declared.request.Holder.{Holder}
+use Rattle.model_data.specs.declared.request.Request.{Request}
+use Rattle.model_data.specs.Modes.{same_resource, excludes, resource_cmp, holder_cmp}
+use Rattle.model_data.specs.Table.{holds_of, is_asker, mode_held, holders_against}
+use Rattle.model_data.specs.Ask.{asker}
 use Rattle.pi_enqueue.specs.Lists.{IsUpTo}
 
 pub resource_total : IsTotalOrder resource_cmp

@@ -7,11 +7,11 @@ use Rattle.std.proofs.lemmas.Bool.{eq-eqb}
 use Rattle.tm_types.specs.declared.resource.Resource.{Resource}
 use Rattle.tm_types.specs.declared.resource.Mode.{Mode}
 use Rattle.tm_types.specs.declared.resource.Mode.TheVariants.{Shared, Exclusive}
-use Rattle.model_enqueue.specs.declared.request.Holder.{Holder}
-use Rattle.model_enqueue.specs.declared.request.Request.{Request}
-use Rattle.model_enqueue.specs.Modes.{serves, stronger, holder_cmp}
-use Rattle.model_enqueue.specs.Table.{EnqueueTable, holds_of, mode_held, is_served, blocked_by}
-use Rattle.model_enqueue.specs.Ask.{asker, granted_mode, with_hold, granted, waiting, waits_only_for, after_asks, first_blocked, released}
+use Rattle.model_data.specs.declared.request.Holder.{Holder}
+use Rattle.model_data.specs.declared.request.Request.{Request}
+use Rattle.model_data.specs.Modes.{serves, stronger, holder_cmp}
+use Rattle.model_data.specs.Table.{EnqueueTable, holds_of, mode_held, is_served, blocked_by}
+use Rattle.model_data.specs.Ask.{asker, granted_mode, with_hold, granted, waiting, waits_only_for, after_asks, first_blocked, released}
 use Rattle.pi_enqueue.specs.Kept.{IsKept, held}
 use Rattle.pi_enqueue.proofs.Keys.{resource_same, eqb_back, holder_exact}
 use Rattle.pi_enqueue.proofs.Granting.{clash, at_holder, held_after}

@@ -3,9 +3,9 @@ use Rattle.std.proofs.Common.{◌≡◌, ℕ, ◌+◌, ◌∷◌, [], ◌++◌, 
 use Rattle.std.specs.Prelude.{find, position, slice_set}
 use Rattle.std.specs.List.{position_from}
 use Rattle.std.proofs.lemmas.Iterator.Adapters.{position_from-zero}
-use Rattle.model_enqueue.specs.declared.request.Request.{Request}
-use Rattle.model_enqueue.specs.Table.{is_own}
-use Rattle.model_enqueue.specs.Ask.{placed}
+use Rattle.model_data.specs.declared.request.Request.{Request}
+use Rattle.model_data.specs.Table.{is_own}
+use Rattle.model_data.specs.Ask.{placed}
 
 -- ---- a place in a queue
 placed_from : (q : Request) (k : ℕ) (ws : List Request) (i : ℕ) → position_from (is_own q) k ws ≡ Some i

@@ -2,10 +2,10 @@
 use Rattle.std.specs.Prelude.{◌≡◌, ℕ, List, [], ◌∷◌, None}
 use Rattle.std.specs.List.{AllByRecursion}
 use Rattle.tm_types.specs.declared.resource.Mode.{Mode}
-use Rattle.model_enqueue.specs.declared.request.Holder.{Holder}
-use Rattle.model_enqueue.specs.declared.request.Request.{Request}
-use Rattle.model_enqueue.specs.Table.{EnqueueTable, blocked_by}
-use Rattle.model_enqueue.specs.Ask.{with_hold, without_wait, granted}
+use Rattle.model_data.specs.declared.request.Holder.{Holder}
+use Rattle.model_data.specs.declared.request.Request.{Request}
+use Rattle.model_data.specs.Table.{EnqueueTable, blocked_by}
+use Rattle.model_data.specs.Ask.{with_hold, without_wait, granted}
 use Rattle.pi_enqueue.specs.declared.table.Blocked.{Blocked}
 
 -- none of these requests is blocked

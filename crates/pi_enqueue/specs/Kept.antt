@@ -7,11 +7,11 @@ use Rattle.std.specs.Option.{IfSome}
 use Rattle.tm_types.specs.declared.resource.Resource.{Resource}
 use Rattle.tm_types.specs.declared.resource.Mode.{Mode}
 use Rattle.tm_types.specs.declared.resource.Mode.TheVariants.{Exclusive}
-use Rattle.model_enqueue.specs.declared.request.Holder.{Holder}
-use Rattle.model_enqueue.specs.declared.request.Request.{Request}
-use Rattle.model_enqueue.specs.Modes.{same_resource, holder_cmp}
-use Rattle.model_enqueue.specs.Table.{EnqueueTable, holds_of, is_upgrade, wait_of}
-use Rattle.model_enqueue.specs.Cycle.{IsRegion}
+use Rattle.model_data.specs.declared.request.Holder.{Holder}
+use Rattle.model_data.specs.declared.request.Request.{Request}
+use Rattle.model_data.specs.Modes.{same_resource, holder_cmp}
+use Rattle.model_data.specs.Table.{EnqueueTable, holds_of, is_upgrade, wait_of}
+use Rattle.model_data.specs.Cycle.{IsRegion}
 
 -- the mode in which a region holds a resource
 abbrev pub held : ℕ → Resource → List (Holder × Mode) → Option Mode

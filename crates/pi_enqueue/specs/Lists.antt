@@ -7,9 +7,9 @@ use Rattle.std.specs.Vec.{vec_len, vec_capacity}
 use Rattle.tm_types.specs.declared.resource.Resource.{Resource}
 use Rattle.tm_types.specs.declared.resource.Mode.{Mode}
 use Rattle.tm_types.specs.declared.resource.Mode.TheVariants.{Shared, Exclusive}
-use Rattle.model_enqueue.specs.declared.request.Holder.{Holder}
-use Rattle.model_enqueue.specs.Modes.{same_resource, holder_cmp}
-use Rattle.model_enqueue.specs.Table.{EnqueueTable}
+use Rattle.model_data.specs.declared.request.Holder.{Holder}
+use Rattle.model_data.specs.Modes.{same_resource, holder_cmp}
+use Rattle.model_data.specs.Table.{EnqueueTable}
 use Rattle.pi_enqueue.specs.declared.holds.Change.{Change}
 use Rattle.pi_enqueue.specs.declared.lists.Lists.{Lists}
 use Rattle.pi_enqueue.specs.Kept.{IsKept}

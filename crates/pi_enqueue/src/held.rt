@@ -2,7 +2,7 @@
 ghost use Rattle.std.specs.Prelude.{◌≡◌, ◌↔◌, ◌≤◌, ◌<◌, ◌+◌, take, drop, ◌∷◌, [], ◌++◌, true, IsTrue, length, OnOk, OnErr, IfOk, IfSome, IfNone, replicate};
 ghost use Rattle.pi_enqueue.specs.Lists.{AreEmpty, is_listed, StayListed};
 
-use model_enqueue::Holder;
+use model_data::Holder;
 use std::alloc::Global;
 use std::marker::Model;
 use tm_types::{Memory, Resource};

@@ -6,14 +6,14 @@ ghost use Rattle.std.specs.List.Sorted.{IsStrictlySortedBy};
 ghost use Rattle.std.specs.BTreeMap.{insert_entry, is_at};
 ghost use Rattle.std.specs.Vec.{vec_len, vec_capacity};
 ghost use Rattle.std.specs.Map.{keys_of, lookup, remove_entry, set_value};
-ghost use Rattle.model_enqueue.specs.Modes.{excludes, serves, holder_cmp};
-ghost use Rattle.model_enqueue.specs.Table.{mode_held, holders_against, holds_of};
-ghost use Rattle.model_enqueue.specs.Ask.{asker, with_hold};
+ghost use Rattle.model_data.specs.Modes.{excludes, serves, holder_cmp};
+ghost use Rattle.model_data.specs.Table.{mode_held, holders_against, holds_of};
+ghost use Rattle.model_data.specs.Ask.{asker, with_hold};
 ghost use Rattle.pi_enqueue.specs.Grant.{with_holds};
 ghost use Rattle.pi_enqueue.specs.Lists.{IsUpTo, is_on, is_listed, AreListed, StayListed, with_mode, before_all, is_more};
 
 use crate::held::{Held, list};
-use model_enqueue::{Holder, Request};
+use model_data::{Holder, Request};
 use std::alloc::Global;
 use std::collections::BTreeMap;
 use std::ops::Bound;

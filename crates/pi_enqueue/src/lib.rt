@@ -6,7 +6,7 @@
 //! waiters.
 #![tactic(auto)]
 
-pub use model_enqueue::{Asked, Holder, Request};
+pub use model_data::{Asked, Holder, Request};
 pub use table::{Blocked, Table};
 
 mod held;

@@ -3,10 +3,10 @@ ghost use Rattle.std.specs.Prelude.{◌≡◌, ◌==◌, ◌≤◌, ◌++◌, []
 ghost use Rattle.std.specs.List.{AllByRecursion, list_any};
 ghost use Rattle.std.specs.Option.{option_and_then, option_copied, option_map};
 ghost use Rattle.std.specs.Map.{keys_of};
-ghost use Rattle.model_enqueue.specs.Table.{empty_table, ahead, blockers, blocked_by, wait_of};
-ghost use Rattle.model_enqueue.specs.Ask.{waiting, waits_only_for, waits_for_nothing, released, after_asks, first_blocked};
-ghost use Rattle.model_enqueue.specs.declared.request.Request.{Request};
-ghost use Rattle.model_enqueue.specs.Cycle.{IsRegion};
+ghost use Rattle.model_data.specs.Table.{empty_table, ahead, blockers, blocked_by, wait_of};
+ghost use Rattle.model_data.specs.Ask.{waiting, waits_only_for, waits_for_nothing, released, after_asks, first_blocked};
+ghost use Rattle.model_data.specs.declared.request.Request.{Request};
+ghost use Rattle.model_data.specs.Cycle.{IsRegion};
 ghost use Rattle.pi_enqueue.specs.Lists.{seen, IsUpTo, AreKept, AreListed, HasRoom};
 ghost use Rattle.pi_enqueue.specs.Grant.{AreFree, granted_all, told};
 
@@ -14,7 +14,7 @@ use crate::held::{Held, are_others_empty, empty_lists};
 use crate::holds::{first_against, hold_all, is_against, is_served, mode_held, release};
 use crate::queue::{self, end_each, end_others, end_waits, first_ahead, is_ahead, place};
 use crate::table::Blocked;
-use model_enqueue::{Holder, Request};
+use model_data::{Holder, Request};
 use std::alloc::Global;
 use std::collections::BTreeMap;
 use tm_types::{Memory, Mode};

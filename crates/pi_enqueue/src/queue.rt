@@ -3,12 +3,12 @@ ghost use Rattle.std.specs.Prelude.{◌≡◌, ◌==◌, ◌<◌, ◌≤◌, not
 ghost use Rattle.std.specs.List.{list_any};
 ghost use Rattle.std.specs.Option.{option_copied};
 ghost use Rattle.std.specs.Vec.{vec_len, vec_capacity};
-ghost use Rattle.model_enqueue.specs.Modes.{same_resource};
-ghost use Rattle.model_enqueue.specs.Table.{is_own, ahead};
-ghost use Rattle.model_enqueue.specs.Ask.{without_wait, placed};
+ghost use Rattle.model_data.specs.Modes.{same_resource};
+ghost use Rattle.model_data.specs.Table.{is_own, ahead};
+ghost use Rattle.model_data.specs.Ask.{without_wait, placed};
 ghost use Rattle.pi_enqueue.specs.Grant.{without_waits};
 
-use model_enqueue::Request;
+use model_data::Request;
 use tm_types::Resource;
 
 /// Whether both are the same record, or the sequence resource of one database.

@@ -2,15 +2,15 @@
 ghost use Rattle.std.specs.Prelude.{◌≡◌, ◌<◌, ◌^◌, IfOk, OnOk, OnErr};
 ghost use Rattle.std.specs.List.{AllByRecursion};
 ghost use Rattle.std.specs.Option.{option_map};
-ghost use Rattle.model_enqueue.specs.Table.{empty_table, is_served, blocked_by, lowest_holder, wait_of, waits_by, waits_for};
-ghost use Rattle.model_enqueue.specs.Ask.{answer_to, after_ask, after_asks, first_blocked, released, waits_for_nothing};
-ghost use Rattle.model_enqueue.specs.Cycle.{IsRegion};
+ghost use Rattle.model_data.specs.Table.{empty_table, is_served, blocked_by, lowest_holder, wait_of, waits_by, waits_for};
+ghost use Rattle.model_data.specs.Ask.{answer_to, after_ask, after_asks, first_blocked, released, waits_for_nothing};
+ghost use Rattle.model_data.specs.Cycle.{IsRegion};
 ghost use Rattle.pi_enqueue.specs.Kept.{IsKept, WaitsForNothingElse};
 ghost use Rattle.pi_enqueue.specs.Grant.{told};
 
 use crate::holds::{is_served, lowest, mode_held};
 use crate::lists::{Lists, told};
-use model_enqueue::{Asked, Request};
+use model_data::{Asked, Request};
 use std::alloc::Global;
 use std::marker::Model;
 use tm_types::{Memory, Mode, Resource};
@@ -34,7 +34,7 @@ pub struct Table {
 }
 
 impl Model for Table {
-    ghost use Rattle.model_enqueue.specs.Table.{EnqueueTable};
+    ghost use Rattle.model_data.specs.Table.{EnqueueTable};
     ghost use Rattle.pi_enqueue.specs.Lists.{seen, AreKept};
 
     ghost Value = { EnqueueTable };

@@ -2,8 +2,8 @@
 use Rattle.std.proofs.Common.{◌≡◌, ◌≢◌, ℕ, ◌∷◌, [], List, suc, refl, sym, ◌∙◌, ap, subst, Bool, true, false, cond, None, Some, arith, get_or, eqb, ◌&&◌, ◌||◌, ◌⊎◌, inl, inr, ⊎_elim}
 use Rattle.std.specs.List.{AllByRecursion}
 use Rattle.std.proofs.lemmas.Bool.{false≢true, eqb-true}
-use Rattle.model_rows.specs.declared.row.Row.{Row}
-use Rattle.model_enqueue.specs.Table.{EnqueueTable}
+use Rattle.model_data.specs.declared.row.Row.{Row}
+use Rattle.model_data.specs.Table.{EnqueueTable}
 use Rattle.pi_enqueue.specs.Kept.{IsKept}
 use Rattle.seg_store.specs.Slots.{Stored, has_root}
 use Rattle.seg_store.proofs.SlotRows.{same_key}
@@ -11,7 +11,7 @@ use Rattle.unit_work.specs.declared.change.Change.{Change}
 use Rattle.unit_work.specs.Changes.{is_of, is_changed}
 use Rattle.unit_work.specs.BackOut.{is_touched, was_in, cleared_slot}
 use Rattle.program_rows.specs.Open.{HoldsAlone, Sits, IsUnit, AreUnits, was_there}
-use Rattle.change_records.specs.Images.{image_at}
+use Rattle.unit_work.specs.Images.{image_at}
 use Rattle.program_rows.proofs.Beside.{IsIdle, AreRooted, AreOthers, AreBeside, touched_is}
 use Rattle.program_rows.proofs.Aside.{was_in_is, can_rooted, cleared_where}
 use Rattle.program_rows.proofs.Together.{AreAllBeside, beside_by, all_by}

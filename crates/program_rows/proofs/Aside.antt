@@ -4,16 +4,16 @@ use Rattle.std.specs.List.{AllByRecursion, slice_get}
 use Rattle.std.specs.Option.{option_map_or}
 use Rattle.std.proofs.lemmas.Bool.{false≢true, eqb-true, eq-eqb}
 use Rattle.std.proofs.lemmas.List.{length-map}
-use Rattle.model_rows.specs.declared.row.Row.{Row}
-use Rattle.model_rows.specs.Record.{IsRecord}
-use Rattle.model_rows.proofs.Lists.{all_then}
+use Rattle.model_data.specs.declared.row.Row.{Row}
+use Rattle.model_data.specs.Record.{IsRecord}
+use Rattle.model_data.proofs.Lists.{all_then}
 use Rattle.seg_store.specs.Slots.{Stored, has_root, is_free, slot_of}
 use Rattle.seg_store.proofs.Places as places
 use Rattle.seg_store.proofs.SlotRows.{record_has}
 use Rattle.unit_work.specs.declared.change.Change.{Change}
 use Rattle.unit_work.specs.Changes.{is_changed}
 use Rattle.unit_work.specs.BackOut.{is_touched, was_in, cleared_slot, cleared_slots, cleared_from, cleared, backed_out, IsStored, FitsStore, FitsOption, CanGoBack, CanBackOut}
-use Rattle.change_records.specs.Images.{slots_at, image_at}
+use Rattle.unit_work.specs.Images.{slots_at, image_at}
 use Rattle.program_rows.proofs.Slotwise.{back, backed_is, image_at_each, slots_at_length, dbds_each}
 use Rattle.program_rows.proofs.Beside.{IsIdle, AreRooted, AreBeside, idle_back, idle_stays, touched_is, all_changed}
 use Rattle.program_rows.specs.Open.{was_there}

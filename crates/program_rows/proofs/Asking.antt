@@ -6,11 +6,11 @@ use Rattle.std.proofs.lemmas.Bool.{false≢true, ne_eqb, eqb-true}
 use Rattle.tm_types.specs.declared.resource.Resource.{Resource}
 use Rattle.tm_types.specs.declared.resource.Mode.{Mode}
 use Rattle.tm_types.specs.declared.resource.Mode.TheVariants.{Shared, Exclusive}
-use Rattle.model_enqueue.specs.declared.request.Holder.{Holder}
-use Rattle.model_enqueue.specs.declared.request.Request.{Request}
-use Rattle.model_enqueue.specs.Modes.{excludes}
-use Rattle.model_enqueue.specs.Table.{EnqueueTable, holds_of, is_upgrade, is_against, blocked_by}
-use Rattle.model_enqueue.specs.Ask.{placed, with_hold, granted, waiting, waits_only_for, after_asks, first_blocked}
+use Rattle.model_data.specs.declared.request.Holder.{Holder}
+use Rattle.model_data.specs.declared.request.Request.{Request}
+use Rattle.model_data.specs.Modes.{excludes}
+use Rattle.model_data.specs.Table.{EnqueueTable, holds_of, is_upgrade, is_against, blocked_by}
+use Rattle.model_data.specs.Ask.{placed, with_hold, granted, waiting, waits_only_for, after_asks, first_blocked}
 use Rattle.pi_enqueue.specs.Kept.{held}
 use Rattle.program_rows.specs.Open.{HoldsAlone}
 use Rattle.program_rows.proofs.Holders.{alone_granted, alone_asked, found_any}

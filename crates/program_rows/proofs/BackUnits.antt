@@ -3,16 +3,16 @@ use Rattle.std.proofs.Common.{◌≡◌, ◌≢◌, ℕ, ◌-◌, ◌<◌, ◌�
 use Rattle.std.specs.List.{AllByRecursion}
 use Rattle.std.proofs.lemmas.Bool.{cases_eq}
 use Rattle.std.proofs.lemmas.List.{length-set}
-use Rattle.model_rows.specs.declared.row.Row.{Row}
-use Rattle.model_rows.proofs.Lists.{all_then, all_filter}
-use Rattle.model_enqueue.specs.Table.{EnqueueTable}
-use Rattle.model_enqueue.specs.Ask.{released}
+use Rattle.model_data.specs.declared.row.Row.{Row}
+use Rattle.model_data.proofs.Lists.{all_then, all_filter}
+use Rattle.model_data.specs.Table.{EnqueueTable}
+use Rattle.model_data.specs.Ask.{released}
 use Rattle.pi_enqueue.specs.Kept.{IsKept}
 use Rattle.seg_store.specs.Slots.{Stored, has_root, is_free}
 use Rattle.unit_work.specs.declared.change.Change.{Change}
 use Rattle.unit_work.specs.BackOut.{cleared, backed_out, IsStored, CanGoBack}
 use Rattle.program_rows.specs.Open.{HoldsAlone, StaysInSlot, Sits, IsUnit, AreUnits, backed_all, seen_by, was_there}
-use Rattle.change_records.specs.Images.{slots_at}
+use Rattle.unit_work.specs.Images.{slots_at}
 use Rattle.program_rows.proofs.Beside.{AreBeside}
 use Rattle.program_rows.proofs.Aside.{goes, can_aside, aside_back, slots_there, was_there_own}
 use Rattle.program_rows.proofs.Together.{pull, get_set, get_set_else, set_twice, set_apart}

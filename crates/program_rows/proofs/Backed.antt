@@ -3,16 +3,16 @@ use Rattle.std.proofs.Common.{◌≡◌, ◌≢◌, ℕ, ◌+◌, ◌-◌, ◌<�
 use Rattle.std.specs.List.{AllByRecursion, slice_get}
 use Rattle.std.specs.Option.{option_map_or}
 use Rattle.std.proofs.lemmas.Bool.{false≢true}
-use Rattle.model_rows.specs.declared.row.Row.{Row}
-use Rattle.model_rows.specs.Record.{IsRecord}
-use Rattle.model_rows.specs.Rows.{record_of, roots}
+use Rattle.model_data.specs.declared.row.Row.{Row}
+use Rattle.model_data.specs.Record.{IsRecord}
+use Rattle.model_data.specs.Rows.{record_of, roots}
 use Rattle.seg_store.specs.Slots.{Stored, has_root, is_free, AreSlots, rows_of_slots}
 use Rattle.unit_work.specs.declared.change.Change.{Change}
 use Rattle.unit_work.specs.Changes.{is_changed, AreOnce}
 use Rattle.unit_work.specs.BackOut.{cleared_slot, cleared, backed_out, IsStored, CanGoBack, CanBackOut}
 use Rattle.program_rows.specs.State.{rows_of, rows_in}
 use Rattle.program_rows.specs.Open.{backed_all, StaysInSlot, was_there}
-use Rattle.change_records.specs.Images.{slots_at, image_at}
+use Rattle.unit_work.specs.Images.{slots_at, image_at}
 use Rattle.program_rows.proofs.Slotwise.{each_slot, each_store, back, backed_is, each_there, slots_at_each, slots_at_length, image_at_each, dbds_each}
 use Rattle.program_rows.proofs.Beside.{AreRooted, AreBeside, idle_back}
 use Rattle.program_rows.proofs.Aside.{goes, can_rooted, cleared_where, slots_there, was_there_own}

@@ -4,14 +4,14 @@ use Rattle.std.specs.List.{AllByRecursion}
 use Rattle.std.specs.Ordering.{is_eq}
 use Rattle.std.proofs.lemmas.Bool.{false≢true, eq-eqb, eqb-true}
 use Rattle.std.proofs.lemmas.Cmp.{tied_itself}
-use Rattle.model_rows.specs.declared.row.Row.{Row}
-use Rattle.model_rows.proofs.Order.{key_total}
+use Rattle.model_data.specs.declared.row.Row.{Row}
+use Rattle.model_data.proofs.Order.{key_total}
 use Rattle.seg_store.specs.Slots.{Stored, has_root}
 use Rattle.seg_store.proofs.SlotRows.{rooted}
 use Rattle.unit_work.specs.declared.change.Change.{Change}
 use Rattle.unit_work.specs.Changes.{is_of, is_changed}
 use Rattle.unit_work.specs.BackOut.{is_touched, was_in, backed_slot, cleared_slot, backed_out}
-use Rattle.change_records.specs.Images.{slots_at, image_at}
+use Rattle.unit_work.specs.Images.{slots_at, image_at}
 use Rattle.program_rows.specs.Open.{was_there}
 use Rattle.program_rows.proofs.Slotwise.{back, each_store, backed_is, twice, alike}
 use Rattle.program_rows.proofs.Bools.{or_left, or_right}

@@ -13,15 +13,15 @@ use Rattle.std.proofs.lemmas.Bool.{false≢true, eq-eqb, ne_eqb}
 use Rattle.std.proofs.lemmas.Map.Keys.{sorted_head, sorted_tail}
 use Rattle.tm_types.specs.declared.resource.Mode.{Mode}
 use Rattle.tm_types.specs.declared.resource.Mode.TheVariants.{Shared, Exclusive}
-use Rattle.model_dli.specs.declared.need.Need.{Need}
-use Rattle.model_dli.specs.Footprint.{up_to_blocked}
-use Rattle.model_enqueue.specs.declared.request.Holder.{Holder}
-use Rattle.model_enqueue.specs.declared.request.Request.{Request}
-use Rattle.model_enqueue.specs.Modes.{same_resource, excludes, serves, stronger, holder_cmp}
-use Rattle.model_enqueue.specs.Table.{EnqueueTable, holds_of, mode_held, is_served, is_against, holders_against, waiters_ahead, blocked_by}
-use Rattle.model_enqueue.specs.Ask.{asker, granted_mode, with_hold, granted, waiting, waits_only_for, after_asks, first_blocked}
+use Rattle.model_data.specs.declared.need.Need.{Need}
+use Rattle.model_data.specs.Footprint.{up_to_blocked}
+use Rattle.model_data.specs.declared.request.Holder.{Holder}
+use Rattle.model_data.specs.declared.request.Request.{Request}
+use Rattle.model_data.specs.Modes.{same_resource, excludes, serves, stronger, holder_cmp}
+use Rattle.model_data.specs.Table.{EnqueueTable, holds_of, mode_held, is_served, is_against, holders_against, waiters_ahead, blocked_by}
+use Rattle.model_data.specs.Ask.{asker, granted_mode, with_hold, granted, waiting, waits_only_for, after_asks, first_blocked}
 use Rattle.pi_enqueue.specs.Kept.{held, IsKept}
-use Rattle.model_rows.proofs.Lists.{all_then}
+use Rattle.model_data.proofs.Lists.{all_then}
 use Rattle.program_rows.specs.Isolation.{request_of}
 use Rattle.pi_enqueue.proofs.Keys.{asker_is}
 use Rattle.program_rows.proofs.Holders.{holder_total, holder_exact, held_own, held_other, resource_same, resource_exact}

@@ -9,20 +9,20 @@ use Rattle.tm_types.specs.declared.abend.AbendCode.{AbendCode}
 use Rattle.tm_types.specs.declared.resource.Mode.TheVariants.{Exclusive}
 use Rattle.tm_types.specs.Segment.{IsSegmentText}
 use Rattle.tm_types.specs.SegTypes.{IsHierarchy}
-use Rattle.model_rows.specs.declared.row.Row.{Row}
-use Rattle.model_rows.specs.Record.{IsRecord}
-use Rattle.model_rows.specs.Rows.{record_of, with_record, roots, AreRows}
-use Rattle.model_rows.proofs.Records.{with_record_itself}
-use Rattle.model_dli.specs.Conditions.{IsDbCall, IsPosition}
-use Rattle.model_dli.specs.declared.call.DbCall.{DbCall}
-use Rattle.model_dli.specs.declared.call.Position.{Position}
-use Rattle.model_dli.specs.declared.call.RowsLimit.{RowsLimit}
-use Rattle.model_dli.specs.declared.need.Need.{Need}
-use Rattle.model_dli.specs.Data.{with_changed, abend_by, data_abend, limit_abend}
-use Rattle.model_dli.specs.Dli.{DliResult, dli}
-use Rattle.model_dli.specs.Footprint.{footprint, record_need, sequence_need, AgreeAt, AgreeOn, IsNeeded, up_to_blocked}
-use Rattle.model_enqueue.specs.Table.{EnqueueTable}
-use Rattle.model_enqueue.specs.Ask.{after_asks, first_blocked}
+use Rattle.model_data.specs.declared.row.Row.{Row}
+use Rattle.model_data.specs.Record.{IsRecord}
+use Rattle.model_data.specs.Rows.{record_of, with_record, roots, AreRows}
+use Rattle.model_data.proofs.Records.{with_record_itself}
+use Rattle.model_data.specs.Conditions.{IsDbCall, IsPosition}
+use Rattle.model_data.specs.declared.call.DbCall.{DbCall}
+use Rattle.model_data.specs.declared.call.Position.{Position}
+use Rattle.model_data.specs.declared.call.RowsLimit.{RowsLimit}
+use Rattle.model_data.specs.declared.need.Need.{Need}
+use Rattle.model_data.specs.Data.{with_changed, abend_by, data_abend, limit_abend}
+use Rattle.model_data.specs.Dli.{DliResult, dli}
+use Rattle.model_data.specs.Footprint.{footprint, record_need, sequence_need, AgreeAt, AgreeOn, IsNeeded, up_to_blocked}
+use Rattle.model_data.specs.Table.{EnqueueTable}
+use Rattle.model_data.specs.Ask.{after_asks, first_blocked}
 use Rattle.pi_enqueue.specs.Kept.{IsKept}
 use Rattle.seg_rows.specs.StoreRefused.{set_refusal}
 use Rattle.seg_store.specs.Slots.{Stored, AreSlots, slot_for, rows_of_slots, with_image}
@@ -32,17 +32,17 @@ use Rattle.unit_work.specs.Changes.{with_change, is_full}
 use Rattle.dli_calls.specs.declared.planned.Edit.{Edit}
 use Rattle.dli_calls.specs.declared.planned.Planned.{Planned}
 use Rattle.dli_calls.specs.Plans.{limit_of, HasAnswer, PlansTo, PlansNone, PlansEdit, IsThere}
-use Rattle.footprint_law.specs.Alike.{AreAlike, rows_changed}
-use Rattle.footprint_law.proofs.Front.{agree_unblocked, agree_where_none, same_front}
-use Rattle.footprint_law.proofs.Same.{same_call}
-use Rattle.footprint_law.proofs.Changes.{changed_needed, roots_needed}
-use Rattle.footprint_law.proofs.Kept.{rows_kept}
+use Rattle.dli_calls.specs.Alike.{AreAlike, rows_changed}
+use Rattle.dli_calls.proofs.Front.{agree_unblocked, agree_where_none, same_front}
+use Rattle.dli_calls.proofs.Same.{same_call}
+use Rattle.dli_calls.proofs.Changes.{changed_needed, roots_needed}
+use Rattle.dli_calls.proofs.Kept.{rows_kept}
 use Rattle.program_rows.specs.State.{RegionRows, no_rows, roots_of, rows_of, rows_in, data_of, region_at, rows_numbered}
 use Rattle.program_rows.specs.Isolation.{request_of, requests_of_call}
 use Rattle.program_rows.specs.Answering.{told_blocked, IsAnswer, region_after}
 use Rattle.program_rows.specs.Calling.{Called}
 use Rattle.program_rows.specs.Telling.{call_told, changed_told, changed_touched, set_told, unless_stopped}
-use Rattle.change_records.specs.Images.{slots_at}
+use Rattle.unit_work.specs.Images.{slots_at}
 use Rattle.log_records.specs.declared.record.Record.{Record}
 use Rattle.program_rows.specs.Open.{records_of, slots_of, opened, regions_from, seen_by, HoldsAlone, AreUnits}
 use Rattle.program_rows.specs.Making.{seen, IsSame, WaitsAt, IsPut, TakesSlot, edit_told, kept_of}
@@ -281,13 +281,13 @@ module _ (o : Opened) (h : AreUnits (records_of o.units.items) o.stores.stores o
             unrefused : (dli dbd call at stored).refusal ≡ None
             unrefused = plans.refusal ∙ no_abend _ _ (limit_of (set_refusal dbd e.root e.image stored)) limits
 
-            image_rooted : AllByRecursion (λ row. Rattle.model_rows.specs.Path.root_of row.path ≡ e.root) e.image
-            image_rooted = ⊎_elim (λ none. subst (λ rows. AllByRecursion (λ (row : Row). Rattle.model_rows.specs.Path.root_of row.path ≡ e.root) rows) (sym none) tt) (λ r. r.under.one_root) plans.image
+            image_rooted : AllByRecursion (λ row. Rattle.model_data.specs.Path.root_of row.path ≡ e.root) e.image
+            image_rooted = ⊎_elim (λ none. subst (λ rows. AllByRecursion (λ (row : Row). Rattle.model_data.specs.Path.root_of row.path ≡ e.root) rows) (sym none) tt) (λ r. r.under.one_root) plans.image
 
             image_left : record_of e.root (dli dbd call at stored).rows ≡ e.image
             image_left = ap (record_of e.root) (plans.rows unrefused) ∙ with_record_itself e.root e.image stored image_rooted
 
-            by : (c : Option (List ℕ × List Row)) → option_map (λ x. x.0) c ≡ Some e.root → IfSome c (λ x. Rattle.model_rows.specs.Record.IsUnder dbd.types x.0 x.1)
+            by : (c : Option (List ℕ × List Row)) → option_map (λ x. x.0) c ≡ Some e.root → IfSome c (λ x. Rattle.model_data.specs.Record.IsUnder dbd.types x.0 x.1)
                 → (dli dbd call at stored).rows ≡ rows_changed c stored → record_of e.root (rows_changed c mine) ≡ e.image
             by None q under rows = let clash : (let none : Option (List ℕ) = None in none) ≡ Some e.root = q in absurd (cc)
             by (Some c) q under rows =
@@ -313,8 +313,8 @@ module _ (o : Opened) (h : AreUnits (records_of o.units.items) o.stores.stores o
       unrefused : (dli dbd call at stored).refusal ≡ None
       unrefused = plans.refusal ∙ no_abend _ _ (limit_of (set_refusal dbd e.root e.image stored)) limits
 
-      image_rooted : AllByRecursion (λ row. Rattle.model_rows.specs.Path.root_of row.path ≡ e.root) e.image
-      image_rooted = ⊎_elim (λ none. subst (λ rows. AllByRecursion (λ (row : Row). Rattle.model_rows.specs.Path.root_of row.path ≡ e.root) rows) (sym none) tt) (λ r. r.under.one_root) plans.image
+      image_rooted : AllByRecursion (λ row. Rattle.model_data.specs.Path.root_of row.path ≡ e.root) e.image
+      image_rooted = ⊎_elim (λ none. subst (λ rows. AllByRecursion (λ (row : Row). Rattle.model_data.specs.Path.root_of row.path ≡ e.root) rows) (sym none) tt) (λ r. r.under.one_root) plans.image
 
       image_left : record_of e.root (dli dbd call at stored).rows ≡ e.image
       image_left = ap (record_of e.root) (plans.rows unrefused) ∙ with_record_itself e.root e.image stored image_rooted
@@ -322,7 +322,7 @@ module _ (o : Opened) (h : AreUnits (records_of o.units.items) o.stores.stores o
       mine_left : (dli dbd call at mine).rows ≡ with_record e.root e.image mine
       mine_left = alike.rows_b ∙ by alike.change (sym (alike.whole unrefused) ∙ plans.changed) alike.under alike.rows_a
         where
-          by : (c : Option (List ℕ × List Row)) → option_map (λ x. x.0) c ≡ Some e.root → IfSome c (λ x. Rattle.model_rows.specs.Record.IsUnder dbd.types x.0 x.1)
+          by : (c : Option (List ℕ × List Row)) → option_map (λ x. x.0) c ≡ Some e.root → IfSome c (λ x. Rattle.model_data.specs.Record.IsUnder dbd.types x.0 x.1)
               → (dli dbd call at stored).rows ≡ rows_changed c stored → rows_changed c mine ≡ with_record e.root e.image mine
           by None q under rows = let clash : (let none : Option (List ℕ) = None in none) ≡ Some e.root = q in absurd (cc)
           by (Some c) q under rows =
@@ -394,7 +394,7 @@ module _ (o : Opened) (h : AreUnits (records_of o.units.items) o.stores.stores o
           in_slot : Rattle.seg_store.specs.Slots.IsSlot put.t.dbd e.image
           in_slot = all_there (Rattle.seg_store.specs.Slots.IsSlot put.t.dbd) put.t.slots slot e.image put.valid.each image_there
 
-          record_of_slot : IsRecord put.t.dbd (Rattle.seg_store.specs.Slots.image_root e.image) e.image → Rattle.model_rows.specs.Record.IsLongRecord put.s.dbd.types e.root e.image → IsRecord put.s.dbd e.root e.image
+          record_of_slot : IsRecord put.t.dbd (Rattle.seg_store.specs.Slots.image_root e.image) e.image → Rattle.model_data.specs.Record.IsLongRecord put.s.dbd.types e.root e.image → IsRecord put.s.dbd e.root e.image
           record_of_slot r long = subst (λ d. IsRecord d e.root e.image) put.dbd (subst (λ k. IsRecord put.t.dbd k e.image) (record_image_root put.s.dbd.types e.root e.image long) r)
 
       new_regions : (seen new).regions ≡ set (seen o).regions (region - 1) (region_after number (dli dbd call at mine) (region_at region (seen o)))

@@ -5,12 +5,12 @@ use Rattle.std.proofs.lemmas.Bool.{false≢true}
 use Rattle.std.proofs.lemmas.List.{length-set}
 use Rattle.tm_types.specs.declared.resource.Resource.{Resource}
 use Rattle.tm_types.specs.declared.resource.Mode.{Mode}
-use Rattle.model_rows.specs.Rows.{record_of, roots}
-use Rattle.model_rows.proofs.Lists.{all_then}
-use Rattle.model_dli.specs.Footprint.{AgreeAt}
-use Rattle.model_enqueue.specs.declared.request.Holder.{Holder}
-use Rattle.model_enqueue.specs.Modes.{same_resource}
-use Rattle.model_enqueue.specs.Table.{EnqueueTable, holds_of}
+use Rattle.model_data.specs.Rows.{record_of, roots}
+use Rattle.model_data.proofs.Lists.{all_then}
+use Rattle.model_data.specs.Footprint.{AgreeAt}
+use Rattle.model_data.specs.declared.request.Holder.{Holder}
+use Rattle.model_data.specs.Modes.{same_resource}
+use Rattle.model_data.specs.Table.{EnqueueTable, holds_of}
 use Rattle.pi_enqueue.specs.Kept.{held}
 use Rattle.seg_store.specs.Slots.{Stored}
 use Rattle.unit_work.specs.declared.change.Change.{Change}

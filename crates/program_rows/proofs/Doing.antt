@@ -4,15 +4,15 @@ use Rattle.std.specs.List.{slice_get}
 use Rattle.std.specs.Prelude.{IfSome, IfOk, OnOk, is_some, not, Bool, true, false}
 use Rattle.tm_types.specs.declared.dbd.Dbd.{Dbd}
 use Rattle.tm_types.specs.Segment.{IsSegmentText}
-use Rattle.model_rows.specs.declared.row.Row.{Row}
-use Rattle.model_dli.specs.Conditions.{IsDbCall, IsPosition}
-use Rattle.model_dli.specs.declared.call.DbCall.{DbCall}
-use Rattle.model_dli.specs.declared.call.Position.{Position}
-use Rattle.model_dli.specs.Dli.{dli}
-use Rattle.model_dli.specs.Footprint.{footprint}
-use Rattle.model_enqueue.specs.declared.request.Request.{Request}
-use Rattle.model_enqueue.specs.Table.{EnqueueTable}
-use Rattle.model_enqueue.specs.Ask.{after_asks, first_blocked}
+use Rattle.model_data.specs.declared.row.Row.{Row}
+use Rattle.model_data.specs.Conditions.{IsDbCall, IsPosition}
+use Rattle.model_data.specs.declared.call.DbCall.{DbCall}
+use Rattle.model_data.specs.declared.call.Position.{Position}
+use Rattle.model_data.specs.Dli.{dli}
+use Rattle.model_data.specs.Footprint.{footprint}
+use Rattle.model_data.specs.declared.request.Request.{Request}
+use Rattle.model_data.specs.Table.{EnqueueTable}
+use Rattle.model_data.specs.Ask.{after_asks, first_blocked}
 use Rattle.pi_enqueue.specs.Kept.{IsKept}
 use Rattle.seg_store.specs.Slots.{Stored, rows_of_slots}
 use Rattle.dli_calls.specs.declared.planned.Edit.{Edit}

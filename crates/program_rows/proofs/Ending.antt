@@ -7,11 +7,11 @@ use Rattle.std.proofs.lemmas.Bool.{cases_eq, false≢true}
 use Rattle.std.proofs.lemmas.List.{length-set, length-map}
 use Rattle.tm_types.specs.declared.dbd.Dbd.{Dbd}
 use Rattle.tm_types.specs.SegTypes.{IsHierarchy}
-use Rattle.model_enqueue.specs.Table.{EnqueueTable, empty_table}
-use Rattle.model_enqueue.specs.Ask.{released}
-use Rattle.model_enqueue.specs.Cycle.{IsRegion}
+use Rattle.model_data.specs.Table.{EnqueueTable, empty_table}
+use Rattle.model_data.specs.Ask.{released}
+use Rattle.model_data.specs.Cycle.{IsRegion}
 use Rattle.pi_enqueue.specs.Kept.{IsKept}
-use Rattle.model_rows.proofs.Lists.{all_then}
+use Rattle.model_data.proofs.Lists.{all_then}
 use Rattle.seg_store.specs.Slots.{Stored, rows_of_slots}
 use Rattle.seg_store.specs.Changed.{AllStores}
 use Rattle.seg_store.specs.Stores.{empty_store, empty_stores, no_changed}
@@ -24,9 +24,9 @@ use Rattle.program_rows.specs.Isolation.{AgreeOnHeld}
 use Rattle.program_rows.specs.Answering.{regions_backed, IsBeside, IsCommitted}
 use Rattle.program_rows.specs.Open.{records_of, slots_of, backed_all, seen_by, regions_from, IsUnit, AreUnits, IsTouched, AreTouched, AllTouch, was_there}
 use Rattle.program_rows.specs.Telling.{slot_told, back_told, IsToldable}
-use Rattle.change_records.specs.Images.{slots_at, image_at}
-use Rattle.change_records.specs.Marks.{is_marked, AreMarked, AreAllMarked}
-use Rattle.change_records.specs.Told.{ChangesTold, is_told_of}
+use Rattle.unit_work.specs.Images.{slots_at, image_at}
+use Rattle.unit_work.specs.Marks.{is_marked, AreMarked, AreAllMarked}
+use Rattle.unit_work.specs.Told.{ChangesTold, is_told_of}
 use Rattle.unit_work.proofs.Marking.{marks_more}
 use Rattle.program_rows.specs.OnSlots.{slots_in as slots_seen, CallsSo, CommitsSo, GivesUpSo, IsMarkedBack}
 use Rattle.program_rows.specs.Making.{seen, IsOpen, IsWhole, AreThere, HasTouched, changed_in, slots_in}
@@ -122,7 +122,7 @@ valid_rows stores dbds valid e =
       types = λ number dbd at. let found = get_mapped stores (number - 1) dbd at in subst (λ d. IsHierarchy d.types) found.2 (store_types stores (number - 1) found.0 valid found.1);
       each = λ number dbd at.
           let found = get_mapped stores (number - 1) dbd at in
-          subst (λ d. Rattle.model_rows.specs.Rows.AreRows d (rows_in number (rows_of stores))) found.2 (store_rows stores number found.0 valid found.1);
+          subst (λ d. Rattle.model_data.specs.Rows.AreRows d (rows_in number (rows_of stores))) found.2 (store_rows stores number found.0 valid found.1);
     })
 
 pub committed_are_rows : (o : Opened) → IsOpen o → AreRowsOf (dbds_of (seen o)) (committed_rows (seen o))

@@ -3,14 +3,14 @@ use Rattle.std.proofs.Common.{◌≡◌, ◌≢◌, ℕ, ◌+◌, ◌-◌, ◌�
 use Rattle.std.specs.List.{AllByRecursion, list_any}
 use Rattle.std.proofs.lemmas.Bool.{false≢true, eqb-true}
 use Rattle.std.proofs.lemmas.List.Sums.{sum_by-cons}
-use Rattle.model_rows.specs.declared.row.Row.{Row}
-use Rattle.model_enqueue.specs.Table.{EnqueueTable}
+use Rattle.model_data.specs.declared.row.Row.{Row}
+use Rattle.model_data.specs.Table.{EnqueueTable}
 use Rattle.seg_store.specs.Slots.{Stored, AtMostOne, has_root, is_free, place_of}
 use Rattle.seg_store.proofs.Places.{none_head, none_tail}
 use Rattle.unit_work.specs.declared.change.Change.{Change}
 use Rattle.unit_work.specs.Changes.{Pairs, Ascend, is_before}
 use Rattle.unit_work.specs.BackOut.{is_touched, was_in, CanBackOut}
-use Rattle.change_records.specs.Images.{slots_at, image_at}
+use Rattle.unit_work.specs.Images.{slots_at, image_at}
 use Rattle.program_rows.specs.OnSlots.{records_in}
 use Rattle.program_rows.specs.Open.{was_there, IsTouched}
 use Rattle.program_rows.proofs.Aside.{cleared_where}

@@ -2,13 +2,13 @@
 use Rattle.std.proofs.Common.{◌≡◌, ℕ, ◌≤◌, ◌∷◌, [], List, map, suc, refl, sym, ◌∙◌, ap, subst, Some, None, get_or, inl, inr, ⊎_elim}
 use Rattle.std.specs.List.{AllByRecursion}
 use Rattle.std.specs.Ordering.{is_eq}
-use Rattle.model_rows.proofs.Lists.{all_then}
+use Rattle.model_data.proofs.Lists.{all_then}
 use Rattle.tm_types.specs.declared.resource.Mode.{Mode}
-use Rattle.model_dli.specs.declared.need.Need.{Need}
-use Rattle.model_enqueue.specs.declared.request.Holder.{Holder}
-use Rattle.model_enqueue.specs.declared.request.Request.{Request}
-use Rattle.model_enqueue.specs.Table.{EnqueueTable}
-use Rattle.model_enqueue.specs.Ask.{asker, granted_mode, with_hold, waits_for_nothing, after_asks}
+use Rattle.model_data.specs.declared.need.Need.{Need}
+use Rattle.model_data.specs.declared.request.Holder.{Holder}
+use Rattle.model_data.specs.declared.request.Request.{Request}
+use Rattle.model_data.specs.Table.{EnqueueTable}
+use Rattle.model_data.specs.Ask.{asker, granted_mode, with_hold, waits_for_nothing, after_asks}
 use Rattle.pi_enqueue.specs.Kept.{IsKept}
 use Rattle.seg_store.specs.Slots.{Stored}
 use Rattle.unit_work.specs.declared.change.Change.{Change}

@@ -5,15 +5,15 @@ use Rattle.std.specs.Option.{option_map_or}
 use Rattle.std.proofs.lemmas.Bool.{false≢true, cases_lt}
 use Rattle.std.proofs.lemmas.List.{length-map}
 use Rattle.std.proofs.lemmas.Option.{slice_get_within}
-use Rattle.model_rows.specs.declared.row.Row.{Row}
-use Rattle.model_rows.proofs.Lists.{all_then}
-use Rattle.model_enqueue.specs.Table.{EnqueueTable}
+use Rattle.model_data.specs.declared.row.Row.{Row}
+use Rattle.model_data.proofs.Lists.{all_then}
+use Rattle.model_data.specs.Table.{EnqueueTable}
 use Rattle.seg_store.specs.Slots.{Stored, AreSlots, AtMostOne, has_root, is_free}
 use Rattle.seg_store.proofs.SlotRows.{same_key}
 use Rattle.unit_work.specs.declared.change.Change.{Change}
 use Rattle.unit_work.specs.Changes.{Changes, is_seen}
 use Rattle.unit_work.specs.BackOut.{was_in, backed_slot, cleared_slot}
-use Rattle.change_records.specs.Images.{slots_at, image_at, IsSlotOf}
+use Rattle.unit_work.specs.Images.{slots_at, image_at, IsSlotOf}
 use Rattle.program_rows.specs.OnSlots.{slots_in as slots_seen, root_in, HoldsSlot, IsTouchedSlot, AreTouchedSlots, AreOnSlots}
 use Rattle.program_rows.specs.Open.{records_of, slots_of, HoldsAlone, IsUnit, was_there, IsTouched}
 use Rattle.program_rows.specs.Making.{seen, IsWhole}

@@ -9,11 +9,11 @@ use Rattle.std.proofs.lemmas.Bool.{false≢true, eq-eqb, ne_eqb, eqb-true}
 use Rattle.tm_types.specs.declared.resource.Resource.{Resource}
 use Rattle.tm_types.specs.declared.resource.Mode.{Mode}
 use Rattle.tm_types.specs.declared.resource.Mode.TheVariants.{Shared, Exclusive}
-use Rattle.model_enqueue.specs.declared.request.Holder.{Holder}
-use Rattle.model_enqueue.specs.declared.request.Request.{Request}
-use Rattle.model_enqueue.specs.Modes.{same_resource, stronger, holder_cmp}
-use Rattle.model_enqueue.specs.Table.{holds_of, mode_held}
-use Rattle.model_enqueue.specs.Ask.{asker, granted_mode, with_hold}
+use Rattle.model_data.specs.declared.request.Holder.{Holder}
+use Rattle.model_data.specs.declared.request.Request.{Request}
+use Rattle.model_data.specs.Modes.{same_resource, stronger, holder_cmp}
+use Rattle.model_data.specs.Table.{holds_of, mode_held}
+use Rattle.model_data.specs.Ask.{asker, granted_mode, with_hold}
 use Rattle.pi_enqueue.specs.Kept.{held}
 use Rattle.pi_enqueue.proofs.Keys.{lookup_alike, asker_is}
 pub use Rattle.pi_enqueue.proofs.Keys.{holder_total, holder_exact, resource_same, resource_exact}

@@ -2,10 +2,10 @@
 use Rattle.std.proofs.Common.{◌≡◌, ◌≢◌, ℕ, ◌≤◌, ◌<◌, ◌∷◌, [], List, length, refl, sym, ap, ◌∙◌, false, Option, None, Some, arith}
 use Rattle.std.proofs.lemmas.Bool.{cond-false, le-ltb}
 use Rattle.tm_types.specs.declared.dbd.Dbd.{Dbd}
-use Rattle.model_rows.specs.declared.row.Row.{Row}
-use Rattle.model_rows.specs.Record.{spelling, record_limit}
-use Rattle.model_rows.specs.Rows.{record_of, passes_roots, passes_length}
-use Rattle.model_dli.specs.declared.call.RowsLimit.TheVariants.{Roots, RecordLength}
+use Rattle.model_data.specs.declared.row.Row.{Row}
+use Rattle.model_data.specs.Record.{spelling, record_limit}
+use Rattle.model_data.specs.Rows.{record_of, passes_roots, passes_length}
+use Rattle.model_data.specs.declared.call.RowsLimit.TheVariants.{Roots, RecordLength}
 use Rattle.seg_rows.specs.StoreRefused.{set_refusal}
 use Rattle.seg_rows.specs.declared.rows.StoreRefused.TheVariants.{RecordTooLong}
 use Rattle.seg_store.specs.Slots.{AreSlots, slot_of, slot_for, lowest_free, first_of, rows_of_slots}

@@ -8,7 +8,7 @@ use Rattle.unit_work.specs.declared.change.Change.{Change}
 use Rattle.unit_work.specs.Changes.{Changes, AreInOrder, is_full, no_changes, with_change, with_slot, with_touch}
 use Rattle.unit_work.specs.Touching.{Touching}
 use Rattle.dli_calls.specs.declared.planned.Edit.{Edit}
-use Rattle.model_enqueue.specs.declared.request.Request.{Request}
+use Rattle.model_data.specs.declared.request.Request.{Request}
 use Rattle.pi_enqueue.specs.declared.table.Blocked.{Blocked}
 use Rattle.pi_enqueue.specs.Grant.{told}
 use Rattle.program_rows.specs.Open.{records_of, slots_of}

@@ -5,13 +5,13 @@ use Rattle.std.specs.Option.{option_map_or}
 use Rattle.std.proofs.lemmas.Bool.{cases_eq}
 use Rattle.std.proofs.lemmas.List.{length-set}
 use Rattle.std.proofs.lemmas.Option.{slice_get_within, slice_get-get_or}
-use Rattle.model_rows.specs.declared.row.Row.{Row}
+use Rattle.model_data.specs.declared.row.Row.{Row}
 use Rattle.seg_store.specs.Slots.{Stored}
 use Rattle.unit_work.specs.declared.change.Change.{Change}
 use Rattle.unit_work.specs.BackOut.{backed_out}
 use Rattle.unit_work.proofs.Backing.{get_set_same, get_set_other}
 use Rattle.program_rows.specs.Open.{backed_all}
-use Rattle.change_records.specs.Images.{slots_at, image_at}
+use Rattle.unit_work.specs.Images.{slots_at, image_at}
 use Rattle.program_rows.proofs.Slotwise.{back, backed_is, image_at_each}
 use Rattle.program_rows.proofs.Beside.{IsIdle, idle_back}
 use Rattle.program_rows.proofs.Aside.{ChangesAside, slots_there}

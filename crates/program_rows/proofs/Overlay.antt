@@ -9,21 +9,21 @@ use Rattle.std.proofs.lemmas.List.{length-set, length-map}
 use Rattle.std.proofs.lemmas.Option.{slice_get_within}
 use Rattle.tm_types.specs.declared.dbd.Dbd.{Dbd}
 use Rattle.tm_types.specs.SegTypes.{IsHierarchy}
-use Rattle.model_rows.specs.declared.row.Row.{Row}
-use Rattle.model_rows.specs.Path.{key_cmp, IsPath}
-use Rattle.model_rows.specs.Record.{IsUnder}
-use Rattle.model_rows.specs.Row.{IsRow, row_cmp}
-use Rattle.model_rows.specs.Rows.{record_of, with_record, roots, AreRows}
-use Rattle.model_rows.proofs.Lists.{all_then}
-use Rattle.model_rows.proofs.Prefixes.{none_under}
-use Rattle.model_rows.proofs.Records.{record_rooted, with_record_itself, with_record_other}
-use Rattle.model_rows.proofs.Whole.{record_is, with_record_rows}
+use Rattle.model_data.specs.declared.row.Row.{Row}
+use Rattle.model_data.specs.Path.{key_cmp, IsPath}
+use Rattle.model_data.specs.Record.{IsUnder}
+use Rattle.model_data.specs.Row.{IsRow, row_cmp}
+use Rattle.model_data.specs.Rows.{record_of, with_record, roots, AreRows}
+use Rattle.model_data.proofs.Lists.{all_then}
+use Rattle.model_data.proofs.Prefixes.{none_under}
+use Rattle.model_data.proofs.Records.{record_rooted, with_record_itself, with_record_other}
+use Rattle.model_data.proofs.Whole.{record_is, with_record_rows}
 use Rattle.seg_store.specs.Slots.{Stored, AreSlots, rows_of_slots}
 use Rattle.seg_store.proofs.SlotRows.{slots_are_rows, same_key}
 use Rattle.unit_work.specs.declared.change.Change.{Change}
 use Rattle.unit_work.specs.Changes.{is_of, is_changed}
 use Rattle.row_search.proofs.Keys.{by_records, flat_same, by_keys, roots_ascending}
-use Rattle.footprint_law.proofs.Keys.{rooted_here}
+use Rattle.dli_calls.proofs.Keys.{rooted_here}
 use Rattle.program_rows.specs.State.{roots_of, rows_of, rows_in, with_records_from}
 use Rattle.program_rows.proofs.Aside.{slots_there, same_there}
 use Rattle.program_rows.proofs.Backed.{AreValid, all_there, rows_in_is}

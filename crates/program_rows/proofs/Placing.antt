@@ -4,14 +4,14 @@ use Rattle.std.specs.List.{slice_get}
 use Rattle.std.specs.Prelude.{IfSome}
 use Rattle.std.proofs.lemmas.Option.{slice_get_within, slice_get-get_or}
 use Rattle.tm_types.specs.declared.dbd.Dbd.{Dbd}
-use Rattle.model_rows.specs.declared.row.Row.{Row}
-use Rattle.model_rows.specs.Record as rows
-use Rattle.model_rows.specs.Rows.{record_of}
+use Rattle.model_data.specs.declared.row.Row.{Row}
+use Rattle.model_data.specs.Record as rows
+use Rattle.model_data.specs.Rows.{record_of}
 use Rattle.seg_store.specs.Slots.{Stored, slot_for, rows_of_slots}
 use Rattle.dli_calls.specs.declared.planned.Edit.{Edit}
 use Rattle.log_records.specs.declared.record.Record.{Record}
 use Rattle.log_records.specs.declared.record.Record.TheVariants as told
-use Rattle.change_records.specs.Images.{image_at}
+use Rattle.unit_work.specs.Images.{image_at}
 use Rattle.program_rows.specs.Making.{TakesSlot, edit_told}
 use Rattle.log_records.specs.Telling.{spelled, Tells}
 use Rattle.program_rows.specs.Telling.{set_told}

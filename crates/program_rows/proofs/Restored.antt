@@ -6,12 +6,12 @@ use Rattle.std.specs.Ordering.{is_eq}
 use Rattle.std.proofs.lemmas.Bool.{false≢true, eq-eqb, eqb-true}
 use Rattle.std.proofs.lemmas.Cmp.{tied_itself}
 use Rattle.tm_types.specs.declared.dbd.Dbd.{Dbd}
-use Rattle.model_rows.specs.declared.row.Row.{Row}
-use Rattle.model_rows.specs.Path.{key_cmp}
-use Rattle.model_rows.specs.Record.{IsRecord}
-use Rattle.model_rows.specs.Rows.{record_of}
-use Rattle.model_rows.proofs.Lists.{all_then}
-use Rattle.model_rows.proofs.Order.{key_total}
+use Rattle.model_data.specs.declared.row.Row.{Row}
+use Rattle.model_data.specs.Path.{key_cmp}
+use Rattle.model_data.specs.Record.{IsRecord}
+use Rattle.model_data.specs.Rows.{record_of}
+use Rattle.model_data.proofs.Lists.{all_then}
+use Rattle.model_data.proofs.Order.{key_total}
 use Rattle.seg_store.specs.Slots.{has_root, place_of, AtMostOne, IsSlot, AreSlots, rows_of_slots}
 use Rattle.seg_store.proofs.Places as places
 use Rattle.seg_store.proofs.SlotRows.{slots_record, rooted, same_key, record_has, record_image_root}

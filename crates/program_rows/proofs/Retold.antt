@@ -7,16 +7,16 @@ use Rattle.std.proofs.lemmas.List.{length-map}
 use Rattle.tm_types.specs.declared.dbd.Dbd.{Dbd}
 use Rattle.tm_types.specs.declared.abend.AbendCode.{AbendCode}
 use Rattle.tm_types.specs.declared.resource.Resource.{Resource}
-use Rattle.model_rows.specs.declared.row.Row.{Row}
-use Rattle.model_rows.specs.Record as rows
-use Rattle.model_dli.specs.Conditions.{IsDbCall, IsPosition}
-use Rattle.model_dli.specs.declared.call.DbCall.{DbCall}
-use Rattle.model_dli.specs.declared.call.Position.{Position}
-use Rattle.model_dli.specs.Dli.{dli}
-use Rattle.model_dli.specs.Footprint.{footprint}
-use Rattle.model_enqueue.specs.declared.request.Request.{Request}
-use Rattle.model_enqueue.specs.Table.{EnqueueTable}
-use Rattle.model_enqueue.specs.Ask.{after_asks, first_blocked}
+use Rattle.model_data.specs.declared.row.Row.{Row}
+use Rattle.model_data.specs.Record as rows
+use Rattle.model_data.specs.Conditions.{IsDbCall, IsPosition}
+use Rattle.model_data.specs.declared.call.DbCall.{DbCall}
+use Rattle.model_data.specs.declared.call.Position.{Position}
+use Rattle.model_data.specs.Dli.{dli}
+use Rattle.model_data.specs.Footprint.{footprint}
+use Rattle.model_data.specs.declared.request.Request.{Request}
+use Rattle.model_data.specs.Table.{EnqueueTable}
+use Rattle.model_data.specs.Ask.{after_asks, first_blocked}
 use Rattle.pi_enqueue.specs.Kept.{IsKept}
 use Rattle.seg_store.specs.Slots.{Stored, slot_for, rows_of_slots}
 use Rattle.unit_work.specs.declared.change.Change.{Change}
@@ -28,9 +28,9 @@ use Rattle.log_records.specs.declared.record.Record.{Record}
 use Rattle.log_records.specs.declared.record.Record.TheVariants as told
 use Rattle.log_records.specs.declared.untold.Untold.{Untold}
 use Rattle.log_records.specs.declared.untold.Untold.TheVariants as untold
-use Rattle.change_records.specs.Images.{slots_at, image_at, bytes_at}
-use Rattle.change_records.specs.Marks.{is_marked, AreMarked}
-use Rattle.change_records.specs.Told.{is_told_of, IsTold, ChangesTold}
+use Rattle.unit_work.specs.Images.{slots_at, image_at, bytes_at}
+use Rattle.unit_work.specs.Marks.{is_marked, AreMarked}
+use Rattle.unit_work.specs.Told.{is_told_of, IsTold, ChangesTold}
 use Rattle.program_rows.specs.State.{rows_in, rows_of, rows_numbered, touched_by}
 use Rattle.program_rows.specs.Isolation.{request_of, requests_of_call}
 use Rattle.program_rows.specs.Answering.{told_blocked}

@@ -5,12 +5,12 @@ use Rattle.std.specs.Ordering.{is_eq}
 use Rattle.std.proofs.lemmas.Cmp.{tied_itself}
 use Rattle.tm_types.specs.declared.dbd.Dbd.{Dbd}
 use Rattle.tm_types.specs.SegTypes.{IsHierarchy}
-use Rattle.model_rows.specs.declared.row.Row.{Row}
-use Rattle.model_rows.specs.Path.{key_cmp, root_of}
-use Rattle.model_rows.specs.Rows.{record_of, roots, AreRows}
-use Rattle.model_rows.proofs.Lists.{all_filter}
-use Rattle.model_rows.proofs.Order.{key_total}
-use Rattle.model_rows.proofs.Records.{record_rooted}
+use Rattle.model_data.specs.declared.row.Row.{Row}
+use Rattle.model_data.specs.Path.{key_cmp, root_of}
+use Rattle.model_data.specs.Rows.{record_of, roots, AreRows}
+use Rattle.model_data.proofs.Lists.{all_filter}
+use Rattle.model_data.proofs.Order.{key_total}
+use Rattle.model_data.proofs.Records.{record_rooted}
 use Rattle.row_search.proofs.Keys.{HasKey, each_rooted}
 
 -- a root has its record

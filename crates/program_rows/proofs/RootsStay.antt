@@ -9,9 +9,9 @@ use Rattle.std.specs.declared.cmp.Ordering.TheVariants.{Less, Equal, Greater}
 use Rattle.std.proofs.lemmas.Bool.{false≢true, eq-eqb, eqb-true}
 use Rattle.std.proofs.lemmas.Option.{slice_get-get_or}
 use Rattle.tm_types.specs.declared.dbd.Dbd.{Dbd}
-use Rattle.model_rows.specs.declared.row.Row.{Row}
-use Rattle.model_rows.specs.Path.{key_cmp, root_of}
-use Rattle.model_rows.specs.Rows.{roots}
+use Rattle.model_data.specs.declared.row.Row.{Row}
+use Rattle.model_data.specs.Path.{key_cmp, root_of}
+use Rattle.model_data.specs.Rows.{roots}
 use Rattle.seg_store.specs.Slots.{has_root, is_free, AtMostOne, AreSlots, rows_of_slots}
 use Rattle.seg_store.proofs.Places as places
 use Rattle.seg_store.proofs.SlotRows.{entries_of, put_entry, slots_roots, same_key}

@@ -3,10 +3,10 @@ use Rattle.std.proofs.Common.{◌≡◌, ◌≢◌, ℕ, ◌+◌, ◌<◌, ◌�
 use Rattle.std.specs.List.{AllByRecursion}
 use Rattle.std.proofs.lemmas.Bool.{false≢true, cases_eq}
 use Rattle.std.proofs.lemmas.List.{length-set}
-use Rattle.model_rows.proofs.Lists.{all_then}
-use Rattle.model_dli.specs.declared.need.Need.{Need}
-use Rattle.model_dli.specs.Footprint.{AgreeAt}
-use Rattle.model_enqueue.specs.Table.{EnqueueTable}
+use Rattle.model_data.proofs.Lists.{all_then}
+use Rattle.model_data.specs.declared.need.Need.{Need}
+use Rattle.model_data.specs.Footprint.{AgreeAt}
+use Rattle.model_data.specs.Table.{EnqueueTable}
 use Rattle.seg_store.specs.Slots.{Stored}
 use Rattle.unit_work.specs.declared.change.Change.{Change}
 use Rattle.unit_work.specs.Changes.{is_changed}

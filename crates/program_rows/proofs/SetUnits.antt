@@ -3,11 +3,11 @@ use Rattle.std.proofs.Common.{◌≡◌, ◌≢◌, ℕ, ◌+◌, ◌-◌, ◌<�
 use Rattle.std.specs.List.{AllByRecursion, slice_get}
 use Rattle.std.proofs.lemmas.Bool.{false≢true, cases_eq}
 use Rattle.std.proofs.lemmas.List.{length-set}
-use Rattle.model_rows.specs.declared.row.Row.{Row}
-use Rattle.model_rows.specs.Record.{IsRecord}
-use Rattle.model_rows.specs.Rows.{record_of, with_record}
-use Rattle.model_rows.proofs.Lists.{all_then, all_append}
-use Rattle.model_enqueue.specs.Table.{EnqueueTable}
+use Rattle.model_data.specs.declared.row.Row.{Row}
+use Rattle.model_data.specs.Record.{IsRecord}
+use Rattle.model_data.specs.Rows.{record_of, with_record}
+use Rattle.model_data.proofs.Lists.{all_then, all_append}
+use Rattle.model_data.specs.Table.{EnqueueTable}
 use Rattle.pi_enqueue.specs.Kept.{IsKept}
 use Rattle.seg_store.specs.Slots.{Stored, has_root, AreSlots, slot_of, slot_for, rows_of_slots}
 use Rattle.seg_store.proofs.SlotRows.{same_key, record_some}
@@ -17,7 +17,7 @@ use Rattle.unit_work.specs.BackOut.{is_touched, cleared_slot, backed_out}
 use Rattle.unit_work.proofs.Keeping.{kept_touch}
 use Rattle.program_rows.specs.State.{rows_of, rows_in}
 use Rattle.program_rows.specs.Open.{HoldsAlone, StaysInSlot, Sits, IsUnit, AreUnits, backed_all, seen_by, was_there}
-use Rattle.change_records.specs.Images.{slots_at, image_at}
+use Rattle.unit_work.specs.Images.{slots_at, image_at}
 use Rattle.program_rows.proofs.Stepping.{Own, HasSlot, Steps, steps, has_slot}
 use Rattle.program_rows.proofs.Beside.{IsIdle, touched_is, none_touched, all_changed}
 use Rattle.program_rows.proofs.Aside.{can_aside, cleared_where, slots_there}

@@ -8,9 +8,9 @@ use Rattle.std.proofs.lemmas.Map.Text.{is_eq-slice_cmp}
 use Rattle.std.proofs.lemmas.Option.{slice_get_within}
 use Rattle.tm_types.specs.declared.dbd.Dbd.{Dbd}
 use Rattle.tm_types.specs.declared.abend.AbendCode.{AbendCode}
-use Rattle.model_dli.specs.declared.call.RowsLimit.{RowsLimit}
-use Rattle.model_dli.specs.Data as dat
-use Rattle.model_dli.specs.Data.{with_changed, abend_by, limit_abend}
+use Rattle.model_data.specs.declared.call.RowsLimit.{RowsLimit}
+use Rattle.model_data.specs.Data as dat
+use Rattle.model_data.specs.Data.{with_changed, abend_by, limit_abend}
 use Rattle.seg_rows.specs.StoreRefused.{set_refusal}
 use Rattle.seg_store.specs.Slots.{Stored, rows_of_slots}
 use Rattle.unit_work.specs.declared.change.Change.{Change}

@@ -6,14 +6,14 @@ use Rattle.std.proofs.lemmas.Bool.{false≢true, cases_eq}
 use Rattle.std.proofs.lemmas.List.{length-set, length-map}
 use Rattle.std.proofs.lemmas.Option.{slice_get-get_or}
 use Rattle.tm_types.specs.declared.dbd.Dbd.{Dbd}
-use Rattle.model_rows.specs.declared.row.Row.{Row}
-use Rattle.model_rows.specs.Record.{IsRecord}
-use Rattle.model_rows.specs.Rows.{with_record}
+use Rattle.model_data.specs.declared.row.Row.{Row}
+use Rattle.model_data.specs.Record.{IsRecord}
+use Rattle.model_data.specs.Rows.{with_record}
 use Rattle.seg_store.specs.Slots.{Stored, has_root, place_of, AtMostOne, AreSlots, slot_of, rows_of_slots}
 use Rattle.seg_store.proofs.Places as places
 use Rattle.seg_store.proofs.SlotRows as slot_rows
 use Rattle.program_rows.specs.State.{rows_of, rows_in}
-use Rattle.change_records.specs.Images.{slots_at}
+use Rattle.unit_work.specs.Images.{slots_at}
 use Rattle.program_rows.proofs.Backed.{rows_in_is}
 use Rattle.program_rows.proofs.OneSlot.{OneSlot}
 use Rattle.program_rows.proofs.Seen.{same_list, get_put, get_put_else}

@@ -4,8 +4,8 @@ use Rattle.std.specs.List.{list_any}
 use Rattle.std.specs.Prelude.{IfSome}
 use Rattle.std.specs.Option.{option_map_or}
 use Rattle.std.proofs.lemmas.Bool.{eq-eqb}
-use Rattle.model_rows.specs.declared.row.Row.{Row}
-use Rattle.model_rows.specs.Record as rows
+use Rattle.model_data.specs.declared.row.Row.{Row}
+use Rattle.model_data.specs.Record as rows
 use Rattle.log_records.specs.declared.record.Record.{Record}
 use Rattle.tm_types.specs.declared.dbd.Dbd.{Dbd}
 use Rattle.seg_store.specs.Slots.{Stored, AreSlots, rows_of_slots, slot_of, slot_for, lowest_free, first_of, with_root, with_image}
@@ -15,9 +15,9 @@ use Rattle.seg_store.proofs.SlotRows.{free_at, set_itself, record_none}
 use Rattle.dli_calls.specs.declared.planned.Edit.{Edit}
 use Rattle.dli_calls.specs.Plans.{IsThere}
 use Rattle.program_rows.specs.Making.{MarksEdit}
-use Rattle.change_records.specs.Images.{slots_at}
-use Rattle.change_records.specs.Marks.{is_marked, AreMarked}
-use Rattle.change_records.specs.Told.{is_told_of, ChangesTold}
+use Rattle.unit_work.specs.Images.{slots_at}
+use Rattle.unit_work.specs.Marks.{is_marked, AreMarked}
+use Rattle.unit_work.specs.Told.{is_told_of, ChangesTold}
 use Rattle.unit_work.proofs.Marking.{marks_none, marks_same, marks_one, set_marked}
 use Rattle.program_rows.specs.OnSlots.{SlotsState, all_stores, CallsSo}
 use Rattle.program_rows.specs.Telling.{set_told}

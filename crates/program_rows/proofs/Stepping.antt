@@ -8,12 +8,12 @@ use Rattle.std.proofs.lemmas.List.{length-set, set-set}
 use Rattle.std.proofs.lemmas.Option.{slice_get_within}
 use Rattle.std.proofs.lemmas.Cmp.{tied_itself}
 use Rattle.tm_types.specs.declared.dbd.Dbd.{Dbd}
-use Rattle.model_rows.specs.declared.row.Row.{Row}
-use Rattle.model_rows.specs.Path.{root_of}
-use Rattle.model_rows.specs.Record.{IsRecord}
-use Rattle.model_rows.specs.Rows.{record_of, IsImage}
-use Rattle.model_rows.proofs.Lists.{all_then, all_append}
-use Rattle.model_rows.proofs.Order.{key_total}
+use Rattle.model_data.specs.declared.row.Row.{Row}
+use Rattle.model_data.specs.Path.{root_of}
+use Rattle.model_data.specs.Record.{IsRecord}
+use Rattle.model_data.specs.Rows.{record_of, IsImage}
+use Rattle.model_data.proofs.Lists.{all_then, all_append}
+use Rattle.model_data.proofs.Order.{key_total}
 use Rattle.seg_store.specs.Slots.{Stored, has_root, is_free, image_root, AtMostOne, IsSlot, AreSlots, slot_of, slot_for, lowest_free, first_of, rows_of_slots}
 use Rattle.seg_store.proofs.Places as places
 use Rattle.seg_store.proofs.SlotRows.{slots_record, rooted, record_has, same_key, set_itself, free_at, record_none}

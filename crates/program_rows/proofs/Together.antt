@@ -2,13 +2,13 @@
 use Rattle.std.proofs.Common.{◌≡◌, ◌≢◌, ℕ, ◌<◌, ◌∷◌, [], List, length, zero, suc, refl, sym, ◌∙◌, ap, subst, arith, get_or, set, inl, inr, ⊎_elim}
 use Rattle.std.specs.List.{AllByRecursion}
 use Rattle.std.proofs.lemmas.Bool.{false≢true}
-use Rattle.model_rows.proofs.Lists.{all_then}
+use Rattle.model_data.proofs.Lists.{all_then}
 use Rattle.seg_store.specs.Slots.{Stored}
 use Rattle.unit_work.specs.declared.change.Change.{Change}
 use Rattle.unit_work.specs.BackOut.{backed_from, backed_out, CanBackOut}
 use Rattle.unit_work.proofs.Backing.{none_cleared, none_backed}
 use Rattle.program_rows.specs.Open.{backed_all}
-use Rattle.change_records.specs.Images.{slots_at, image_at}
+use Rattle.unit_work.specs.Images.{slots_at, image_at}
 use Rattle.program_rows.proofs.Slotwise.{back, backed_is, image_at_each, slots_at_length}
 use Rattle.program_rows.proofs.Beside.{IsIdle, AreRooted, AreBeside, idle_stays, swap}
 use Rattle.program_rows.proofs.Aside.{can_aside, aside_back}

@@ -5,18 +5,18 @@ use Rattle.std.specs.Option.{option_map_or}
 use Rattle.std.proofs.lemmas.Bool.{false≢true, ltb-false}
 use Rattle.std.proofs.lemmas.Option.{slice_get_within, slice_get-get_or}
 use Rattle.tm_types.specs.declared.dbd.Dbd.{Dbd}
-use Rattle.model_rows.specs.declared.row.Row.{Row}
-use Rattle.model_rows.specs.Record.{spelling, record_limit}
-use Rattle.model_rows.specs.Rows.{passes_roots, passes_length}
-use Rattle.model_rows.proofs.Lists.{all_then}
-use Rattle.model_enqueue.specs.Table.{EnqueueTable}
+use Rattle.model_data.specs.declared.row.Row.{Row}
+use Rattle.model_data.specs.Record.{spelling, record_limit}
+use Rattle.model_data.specs.Rows.{passes_roots, passes_length}
+use Rattle.model_data.proofs.Lists.{all_then}
+use Rattle.model_data.specs.Table.{EnqueueTable}
 use Rattle.seg_rows.specs.StoreRefused.{set_refusal}
 use Rattle.seg_store.specs.Slots.{Stored, AreSlots, IsSlot}
 use Rattle.unit_work.specs.declared.change.Change.{Change}
 use Rattle.unit_work.specs.Changes.{is_before, is_slot, is_seen}
 use Rattle.unit_work.specs.BackOut.{backed_out, backs}
-use Rattle.change_records.specs.Images.{slots_at, image_at, bytes_at, IsSlotOf}
-use Rattle.change_records.specs.Told.{is_told_of, IsTold, ChangesTold}
+use Rattle.unit_work.specs.Images.{slots_at, image_at, bytes_at, IsSlotOf}
+use Rattle.unit_work.specs.Told.{is_told_of, IsTold, ChangesTold}
 use Rattle.program_rows.specs.Open.{IsTouched, AreTouched}
 use Rattle.program_rows.specs.Telling.{slot_told, IsToldable}
 use Rattle.program_rows.proofs.Backed.{AreValid, all_there, backed_dbds, backed_lengths}

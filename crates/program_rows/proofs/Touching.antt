@@ -3,16 +3,16 @@ use Rattle.std.proofs.Common.{◌≡◌, ◌≢◌, ℕ, ◌+◌, ◌-◌, ◌<�
 use Rattle.std.proofs.lemmas.Bool.{false≢true, cases_eq, cases_lt, eq-eqb, ne_eqb}
 use Rattle.std.proofs.lemmas.Option.{slice_get-get_or}
 use Rattle.std.proofs.lemmas.List.{length-set}
-use Rattle.model_rows.specs.declared.row.Row.{Row}
-use Rattle.model_rows.proofs.Lists.{all_then}
+use Rattle.model_data.specs.declared.row.Row.{Row}
+use Rattle.model_data.proofs.Lists.{all_then}
 use Rattle.tm_types.specs.declared.resource.Resource.{Resource}
-use Rattle.model_enqueue.specs.Table.{EnqueueTable}
-use Rattle.model_enqueue.specs.Ask.{released}
+use Rattle.model_data.specs.Table.{EnqueueTable}
+use Rattle.model_data.specs.Ask.{released}
 use Rattle.seg_store.specs.Slots.{Stored, has_root, is_free}
 use Rattle.unit_work.specs.declared.change.Change.{Change}
 use Rattle.unit_work.specs.Changes.{AreInOrder, is_changed, is_seen, with_change, with_slot, is_full}
 use Rattle.unit_work.specs.BackOut.{is_touched, was_in, backed_slot, cleared_slot, backed_out, backs}
-use Rattle.change_records.specs.Images.{slots_at, image_at}
+use Rattle.unit_work.specs.Images.{slots_at, image_at}
 use Rattle.program_rows.specs.Open.{HoldsAlone, AreUnits, was_there, IsTouched, AreTouched, AllTouch}
 use Rattle.program_rows.proofs.Slotwise.{back, backed_is, image_at_each}
 use Rattle.program_rows.proofs.Beside.{IsIdle, idle_back, none_touched}

@@ -3,13 +3,13 @@ use Rattle.std.proofs.Common.{◌≡◌, ◌≢◌, ℕ, ◌<◌, ◌≤◌, ◌
 use Rattle.std.specs.List.{AllByRecursion}
 use Rattle.std.proofs.lemmas.Bool.{false≢true, cases_eq, cases_lt}
 use Rattle.std.proofs.lemmas.List.{length-set}
-use Rattle.model_enqueue.specs.Table.{EnqueueTable}
+use Rattle.model_data.specs.Table.{EnqueueTable}
 use Rattle.pi_enqueue.specs.Kept.{IsKept}
 use Rattle.seg_store.specs.Slots.{Stored}
 use Rattle.unit_work.specs.declared.change.Change.{Change}
 use Rattle.unit_work.specs.Changes.{is_before, is_slot, is_seen}
 use Rattle.unit_work.specs.BackOut.{is_touched, backed_out, backs}
-use Rattle.change_records.specs.Images.{slots_at, image_at}
+use Rattle.unit_work.specs.Images.{slots_at, image_at}
 use Rattle.program_rows.specs.Open.{HoldsAlone, backed_all, IsUnit, AreUnits, was_there, IsTouched, AllTouch}
 use Rattle.program_rows.proofs.Slotwise.{back}
 use Rattle.program_rows.proofs.Beside.{IsIdle, idle_back, none_touched}

@@ -3,13 +3,13 @@ use Rattle.std.specs.Prelude.{◌≡◌, ℕ, ◌-◌, ◌≤◌, List, [], Opti
 use Rattle.tm_types.specs.declared.abend.AbendCode.{AbendCode}
 use Rattle.tm_types.specs.Segment.{IsSegmentText}
 use Rattle.tm_types.specs.declared.dbd.SegType.{SegType}
-use Rattle.model_dli.specs.Conditions.{IsPosition}
-use Rattle.model_dli.specs.Data.{with_changed}
-use Rattle.model_dli.specs.Dli.{DliResult}
+use Rattle.model_data.specs.Conditions.{IsPosition}
+use Rattle.model_data.specs.Data.{with_changed}
+use Rattle.model_data.specs.Dli.{DliResult}
 use Rattle.tm_types.specs.declared.resource.Resource.{Resource}
-use Rattle.model_enqueue.specs.declared.request.Request.{Request}
-use Rattle.model_enqueue.specs.Table.{EnqueueTable}
-use Rattle.model_enqueue.specs.Ask.{after_asks, released}
+use Rattle.model_data.specs.declared.request.Request.{Request}
+use Rattle.model_data.specs.Table.{EnqueueTable}
+use Rattle.model_data.specs.Ask.{after_asks, released}
 use Rattle.program_rows.specs.Isolation.{AgreeOnHeld}
 use Rattle.program_rows.specs.OnSlots.{slots_in, AreOnSlots, CommitsSo, GivesUpSo}
 use Rattle.program_rows.specs.State.{DatabasesState, RegionRows, region_at, committed_rows, clean_region, with_records_from}

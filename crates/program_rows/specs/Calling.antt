@@ -1,11 +1,11 @@
 -- What is so of a call that was made, or that waits.
 use Rattle.std.specs.Prelude.{◌≡◌, ℕ, []}
 use Rattle.tm_types.specs.declared.dbd.Dbd.{Dbd}
-use Rattle.model_dli.specs.declared.call.DbCall.{DbCall}
-use Rattle.model_dli.specs.declared.call.Position.{Position}
-use Rattle.model_dli.specs.Data.{data_abend}
-use Rattle.model_dli.specs.Dli.{dli}
-use Rattle.model_enqueue.specs.Ask.{first_blocked}
+use Rattle.model_data.specs.declared.call.DbCall.{DbCall}
+use Rattle.model_data.specs.declared.call.Position.{Position}
+use Rattle.model_data.specs.Data.{data_abend}
+use Rattle.model_data.specs.Dli.{dli}
+use Rattle.model_data.specs.Ask.{first_blocked}
 use Rattle.program_rows.specs.State.{DatabasesState, dbds_of, data_of, rows_numbered}
 use Rattle.program_rows.specs.Isolation.{requests_of_call}
 use Rattle.program_rows.specs.Answering.{blocked_of, told_blocked, Gives, LeadsToAbend, Stands, regions_after, table_left, StaysUnlessMade}

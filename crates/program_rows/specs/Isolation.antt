@@ -3,14 +3,14 @@ use Rattle.std.specs.Prelude.{ℕ, ◌==◌, ◌&&◌, Bool, Option, List, map, 
 use Rattle.std.specs.List.{list_any}
 use Rattle.tm_types.specs.declared.dbd.Dbd.{Dbd}
 use Rattle.tm_types.specs.declared.resource.Resource.{Resource}
-use Rattle.model_rows.specs.declared.row.Row.{Row}
-use Rattle.model_dli.specs.declared.call.DbCall.{DbCall}
-use Rattle.model_dli.specs.declared.call.Position.{Position}
-use Rattle.model_dli.specs.declared.need.Need.{Need}
-use Rattle.model_dli.specs.Footprint.{footprint, AgreeAt}
-use Rattle.model_enqueue.specs.declared.request.Request.{Request}
-use Rattle.model_enqueue.specs.Modes.{same_resource}
-use Rattle.model_enqueue.specs.Table.{EnqueueTable}
+use Rattle.model_data.specs.declared.row.Row.{Row}
+use Rattle.model_data.specs.declared.call.DbCall.{DbCall}
+use Rattle.model_data.specs.declared.call.Position.{Position}
+use Rattle.model_data.specs.declared.need.Need.{Need}
+use Rattle.model_data.specs.Footprint.{footprint, AgreeAt}
+use Rattle.model_data.specs.declared.request.Request.{Request}
+use Rattle.model_data.specs.Modes.{same_resource}
+use Rattle.model_data.specs.Table.{EnqueueTable}
 use Rattle.program_rows.specs.State.{DatabasesState, rows_in, rows_numbered}
 
 -- what a region asks for to have what is needed of the database of this number

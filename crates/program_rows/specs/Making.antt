@@ -2,11 +2,11 @@
 use Rattle.std.specs.Prelude.{◌≡◌, ◌<◌, ◌≤◌, ℕ, ◌-◌, true, false, List, Option, None, Some, IfSome, [], length, slice_get, slice_index_or, slice_set}
 use Rattle.tm_types.specs.declared.abend.AbendCode.{AbendCode}
 use Rattle.tm_types.specs.declared.dbd.Dbd.{Dbd}
-use Rattle.model_rows.specs.Rows.{record_of, IsImage}
-use Rattle.model_dli.specs.Data.{abend_by}
-use Rattle.model_enqueue.specs.declared.request.Request.{Request}
-use Rattle.model_enqueue.specs.Table.{EnqueueTable}
-use Rattle.model_enqueue.specs.Ask.{after_asks, first_blocked}
+use Rattle.model_data.specs.Rows.{record_of, IsImage}
+use Rattle.model_data.specs.Data.{abend_by}
+use Rattle.model_data.specs.declared.request.Request.{Request}
+use Rattle.model_data.specs.Table.{EnqueueTable}
+use Rattle.model_data.specs.Ask.{after_asks, first_blocked}
 use Rattle.pi_enqueue.specs.Kept.{IsKept}
 use Rattle.seg_rows.specs.StoreRefused.{set_refusal}
 use Rattle.seg_store.specs.Slots.{Stored, AreSlots, rows_of_slots, slot_for, with_root}
@@ -22,9 +22,9 @@ use Rattle.program_rows.specs.Telling.{set_told}
 use Rattle.log_records.specs.declared.record.Record.{Record}
 use Rattle.log_records.specs.declared.untold.Untold.{Untold}
 use Rattle.log_records.specs.declared.untold.Untold.TheVariants.{Memory, Full}
-use Rattle.change_records.specs.Images.{slots_at}
-use Rattle.change_records.specs.Marks.{is_marked, AreMarked}
-use Rattle.change_records.specs.Told.{is_told_of}
+use Rattle.unit_work.specs.Images.{slots_at}
+use Rattle.unit_work.specs.Marks.{is_marked, AreMarked}
+use Rattle.unit_work.specs.Told.{is_told_of}
 use Rattle.seg_store.specs.Changed.{AllStores, slot_changed}
 use Rattle.std.specs.List.{list_any}
 use Rattle.program_rows.specs.Open.{records_of, slots_of, opened, AreUnits, AllTouch}

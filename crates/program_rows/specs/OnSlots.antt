@@ -2,19 +2,19 @@
 use Rattle.std.specs.Prelude.{◌≡◌, ◌⊎◌, ◌<◌, ◌≤◌, ℕ, ◌-◌, true, false, List, [], ◌∷◌, length, map, sum_by, slice_index_or, slice_set, Option, None, Some}
 use Rattle.std.specs.List.{AllByRecursion, list_any}
 use Rattle.tm_types.specs.declared.dbd.Dbd.{Dbd}
-use Rattle.model_rows.specs.declared.row.Row.{Row}
-use Rattle.model_rows.specs.Path.{root_of}
-use Rattle.model_rows.specs.Record as rows
-use Rattle.model_enqueue.specs.Table.{EnqueueTable}
+use Rattle.model_data.specs.declared.row.Row.{Row}
+use Rattle.model_data.specs.Path.{root_of}
+use Rattle.model_data.specs.Record as rows
+use Rattle.model_data.specs.Table.{EnqueueTable}
 use Rattle.log_records.specs.declared.record.Record.{Record}
 use Rattle.log_records.specs.declared.record.Record.TheVariants as told
 use Rattle.seg_store.specs.Slots.{Stored, AreSlots}
 use Rattle.seg_store.specs.Changed.{AllStores}
 use Rattle.unit_work.specs.declared.change.Change.{Change}
 use Rattle.unit_work.specs.Changes.{Ascend, is_seen, with_slot}
-use Rattle.change_records.specs.Images.{slots_at, image_at, bytes_at, IsSlotOf}
-use Rattle.change_records.specs.Marks.{is_marked, AreMarked}
-use Rattle.change_records.specs.Told.{ChangesTold, is_told_of}
+use Rattle.unit_work.specs.Images.{slots_at, image_at, bytes_at, IsSlotOf}
+use Rattle.unit_work.specs.Marks.{is_marked, AreMarked}
+use Rattle.unit_work.specs.Told.{ChangesTold, is_told_of}
 use Rattle.program_rows.specs.Open.{HoldsAlone}
 use Rattle.pi_enqueue.specs.Kept.{IsKept}
 use Rattle.program_rows.specs.State.{DatabasesState, dbds_of}

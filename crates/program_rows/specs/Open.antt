@@ -3,10 +3,10 @@ use Rattle.std.specs.Prelude.{◌≡◌, ◌≢◌, ℕ, ◌<◌, ◌≤◌, ◌
 use Rattle.std.specs.List.{AllByRecursion, list_any}
 use Rattle.tm_types.specs.declared.resource.Resource.{Resource}
 use Rattle.tm_types.specs.declared.resource.Mode.TheVariants.{Exclusive}
-use Rattle.model_enqueue.specs.Table.{EnqueueTable}
+use Rattle.model_data.specs.Table.{EnqueueTable}
 use Rattle.pi_enqueue.specs.Kept.{IsKept, held}
 use Rattle.seg_store.specs.Slots.{Stored, AreSlots, has_root}
-use Rattle.change_records.specs.Images.{image_at, IsSlotOf}
+use Rattle.unit_work.specs.Images.{image_at, IsSlotOf}
 use Rattle.unit_work.specs.declared.change.Change.{Change}
 use Rattle.unit_work.specs.Changes.{Changes, is_seen, AreInOrder, AreKept}
 use Rattle.unit_work.specs.BackOut.{was_in, backed_out, backs, CanBackOut}

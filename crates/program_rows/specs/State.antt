@@ -2,11 +2,11 @@
 use Rattle.std.specs.Prelude.{◌≡◌, ℕ, ◌-◌, ◌≤◌, List, [], ◌∷◌, Some, length, map, slice_get, slice_index_or, slice_set}
 use Rattle.tm_types.specs.declared.dbd.Dbd.{Dbd}
 use Rattle.tm_types.specs.SegTypes.{IsHierarchy}
-use Rattle.model_rows.specs.declared.row.Row.{Row}
-use Rattle.model_rows.specs.Rows.{AreRows, record_of, with_record}
-use Rattle.model_dli.specs.declared.call.Position.{Position}
-use Rattle.model_dli.specs.Data.{Data}
-use Rattle.model_enqueue.specs.Table.{EnqueueTable}
+use Rattle.model_data.specs.declared.row.Row.{Row}
+use Rattle.model_data.specs.Rows.{AreRows, record_of, with_record}
+use Rattle.model_data.specs.declared.call.Position.{Position}
+use Rattle.model_data.specs.Data.{Data}
+use Rattle.model_data.specs.Table.{EnqueueTable}
 use Rattle.seg_store.specs.Slots.{Stored, rows_of_slots}
 use Rattle.unit_work.specs.declared.change.Change.{Change}
 

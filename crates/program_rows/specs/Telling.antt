@@ -2,21 +2,21 @@
 use Rattle.std.specs.Prelude.{◌≤◌, ℕ, ◌-◌, List, [], ◌∷◌, Option, None, Some, length, map, slice_set}
 use Rattle.tm_types.specs.declared.abend.AbendCode.{AbendCode}
 use Rattle.tm_types.specs.declared.dbd.Dbd.{Dbd}
-use Rattle.model_rows.specs.declared.row.Row.{Row}
-use Rattle.model_rows.specs.Record as rows
-use Rattle.model_rows.specs.Rows.{record_of}
-use Rattle.model_dli.specs.declared.call.DbCall.{DbCall}
-use Rattle.model_dli.specs.declared.call.Position.{Position}
-use Rattle.model_dli.specs.Data.{data_abend}
-use Rattle.model_dli.specs.Dli.{DliResult, dli}
-use Rattle.model_enqueue.specs.declared.request.Request.{Request}
-use Rattle.model_enqueue.specs.Ask.{first_blocked}
+use Rattle.model_data.specs.declared.row.Row.{Row}
+use Rattle.model_data.specs.Record as rows
+use Rattle.model_data.specs.Rows.{record_of}
+use Rattle.model_data.specs.declared.call.DbCall.{DbCall}
+use Rattle.model_data.specs.declared.call.Position.{Position}
+use Rattle.model_data.specs.Data.{data_abend}
+use Rattle.model_data.specs.Dli.{DliResult, dli}
+use Rattle.model_data.specs.declared.request.Request.{Request}
+use Rattle.model_data.specs.Ask.{first_blocked}
 use Rattle.log_records.specs.declared.record.Record.{Record}
 use Rattle.log_records.specs.declared.record.Record.TheVariants as told
 use Rattle.seg_store.specs.Slots.{Stored, slot_for}
 use Rattle.unit_work.specs.declared.change.Change.{Change}
 use Rattle.unit_work.specs.Changes.{with_slot}
-use Rattle.change_records.specs.Images.{slots_at, image_at, bytes_at, IsSlotOf}
+use Rattle.unit_work.specs.Images.{slots_at, image_at, bytes_at, IsSlotOf}
 use Rattle.program_rows.specs.State.{DatabasesState, data_of, rows_numbered, touched_by}
 use Rattle.program_rows.specs.Isolation.{requests_of_call}
 use Rattle.program_rows.specs.declared.answer.DataAnswer.{DataAnswer}

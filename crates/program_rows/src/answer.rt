@@ -1,5 +1,5 @@
 //! What a call gives.
-use model_dli::Position;
+use model_data::Position;
 use tm_types::{AbendCode, Bytes, Resource, Status};
 
 /// What a call that is answered gives.

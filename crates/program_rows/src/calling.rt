@@ -1,8 +1,8 @@
 //! A call of a region on a database.
 ghost use Rattle.std.specs.Prelude.{◌≡◌, ◌≤◌, ◌-◌, Some, All, IfOk, IfErr, OnOk, OnErr, length, map, slice_get};
-ghost use Rattle.model_dli.specs.Conditions.{IsDbCall, IsPosition};
+ghost use Rattle.model_data.specs.Conditions.{IsDbCall, IsPosition};
 ghost use Rattle.program_rows.specs.Calling.{IsDone};
-ghost use Rattle.model_dli.specs.Dli.{dli};
+ghost use Rattle.model_data.specs.Dli.{dli};
 ghost use Rattle.program_rows.specs.OnSlots.{slots_in, CallsSo};
 ghost use Rattle.program_rows.specs.State.{rows_numbered};
 ghost use Rattle.program_rows.specs.Open.{slots_of};
@@ -16,7 +16,7 @@ use crate::making::make;
 use crate::opened::Opened;
 use dli_calls::plan_needed;
 use log_records::Untold;
-use model_dli::{DbCall, Position};
+use model_data::{DbCall, Position};
 use std::alloc::Global;
 use tm_types::Dbd;
 

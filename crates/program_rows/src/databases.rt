@@ -1,18 +1,18 @@
 //! The databases, and the calls on them.
 ghost use Rattle.std.specs.Prelude.{◌≡◌, ◌≤◌, ◌-◌, ℕ, [], Some, All, IfOk, IfErr, OnOk, OnErr, length, map, replicate, slice_get, slice_set};
-ghost use Rattle.model_dli.specs.Conditions.{IsDbCall, IsPosition};
-ghost use Rattle.model_dli.specs.Data.{data_abend};
-ghost use Rattle.model_dli.specs.Dli.{dli};
-ghost use Rattle.model_enqueue.specs.Table.{empty_table};
-ghost use Rattle.model_enqueue.specs.Ask.{first_blocked, released, waits_for_nothing};
+ghost use Rattle.model_data.specs.Conditions.{IsDbCall, IsPosition};
+ghost use Rattle.model_data.specs.Data.{data_abend};
+ghost use Rattle.model_data.specs.Dli.{dli};
+ghost use Rattle.model_data.specs.Table.{empty_table};
+ghost use Rattle.model_data.specs.Ask.{first_blocked, released, waits_for_nothing};
 ghost use Rattle.std.specs.List.{AllByRecursion};
 ghost use Rattle.tm_types.specs.SegTypes.{IsHierarchy};
-ghost use Rattle.model_enqueue.specs.Cycle.{IsRegion};
+ghost use Rattle.model_data.specs.Cycle.{IsRegion};
 ghost use Rattle.pi_enqueue.specs.Kept.{IsKept};
 ghost use Rattle.unit_work.specs.BackOut.{CanBackOut, backed_out, backs};
 ghost use Rattle.program_rows.specs.Open.{records_of, slots_of};
-ghost use Rattle.change_records.specs.Images.{image_at};
-ghost use Rattle.change_records.specs.Marks.{AreMarked, AreAllMarked};
+ghost use Rattle.unit_work.specs.Images.{image_at};
+ghost use Rattle.unit_work.specs.Marks.{AreMarked, AreAllMarked};
 ghost use Rattle.program_rows.specs.OnSlots.{slots_in, all_stores, AreOnSlots, CallsSo};
 ghost use Rattle.log_records.specs.Telling.{Tells, IsUntold};
 ghost use Rattle.program_rows.specs.Telling.{back_told, call_told, touched_after};
@@ -26,7 +26,7 @@ use crate::opened::{Opened, clear_units, put_unit, take_unit, unit_of, units_of}
 use crate::telling::tell_slots;
 use crate::{DataAnswer, calling};
 use log_records::Untold;
-use model_dli::{DbCall, Position};
+use model_data::{DbCall, Position};
 use pi_enqueue::Table;
 use seg_store::Stores;
 use std::alloc::Global;

@@ -9,7 +9,7 @@
 
 pub use answer::{Answered, Blocked, DataAnswer};
 pub use databases::Databases;
-pub use model_dli::{DbCall, Position};
+pub use model_data::{DbCall, Position};
 
 mod answer;
 mod asked;

@@ -1,10 +1,10 @@
 //! The record of a plan is set, and its image before kept.
 ghost use Rattle.std.specs.Prelude.{◌≡◌, ◌≤◌, ◌-◌, Some, None, IfOk, IfErr, OnOk, OnErr, IfSome, false, slice_get, slice_set, map, length};
 ghost use Rattle.std.specs.List.{AllByRecursion};
-ghost use Rattle.model_rows.specs.Rows.{IsImage, record_of};
-ghost use Rattle.model_dli.specs.Data.{limit_abend};
-ghost use Rattle.model_enqueue.specs.Ask.{first_blocked};
-ghost use Rattle.model_enqueue.specs.Cycle.{IsRegion};
+ghost use Rattle.model_data.specs.Rows.{IsImage, record_of};
+ghost use Rattle.model_data.specs.Data.{limit_abend};
+ghost use Rattle.model_data.specs.Ask.{first_blocked};
+ghost use Rattle.model_data.specs.Cycle.{IsRegion};
 ghost use Rattle.seg_rows.specs.StoreRefused.{set_refusal};
 ghost use Rattle.seg_store.specs.Slots.{AreSlots, rows_of_slots, slot_for};
 ghost use Rattle.unit_work.specs.Changes.{is_full, no_changes, with_touch, AreInOrder};
@@ -19,8 +19,8 @@ use crate::telling::{image_in, tell};
 use crate::{Answered, DataAnswer};
 use dli_calls::{Edit, Planned};
 use log_records::Untold;
-use model_dli::RowsLimit;
-use model_dli::abends::{RECORD_TOO_LONG, TOO_MANY_RECORDS, TOO_MANY_ROOTS};
+use model_data::RowsLimit;
+use model_data::abends::{RECORD_TOO_LONG, TOO_MANY_RECORDS, TOO_MANY_ROOTS};
 use seg_rows::{RecordImage, Rows, record_limit};
 use seg_store::{Store, Stores};
 use std::alloc::Global;

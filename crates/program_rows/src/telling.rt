@@ -4,7 +4,7 @@ ghost use Rattle.std.specs.List.{AllByRecursion};
 ghost use Rattle.log_records.specs.declared.record.Record.TheVariants.{Change as ChangeRecord};
 ghost use Rattle.log_records.specs.Spelling.{spelling, IsRecord};
 ghost use Rattle.log_records.specs.Telling.{Adds, Tells, IsUntold};
-ghost use Rattle.model_rows.specs.Record.{spelling as rows_spelling};
+ghost use Rattle.model_data.specs.Record.{spelling as rows_spelling};
 ghost use Rattle.program_rows.specs.Telling.{slot_told, IsToldable};
 
 use log_records::{Untold, append_change, end_telling};

@@ -1,8 +1,8 @@
 -- The first free message of a code.
 use Rattle.std.proofs.Common.{◌≡◌, ℕ, List, refl}
 use Rattle.std.specs.Prelude.{Option, Some, None, IfSome}
-use Rattle.model_queues.specs.declared.queued.Queued.{Queued}
-use Rattle.model_queues.specs.Queue.{AreInOrder, first_free}
+use Rattle.model_messages.specs.declared.queued.Queued.{Queued}
+use Rattle.model_messages.specs.Queue.{AreInOrder, first_free}
 use Rattle.tran_pick.specs.Picked.{IsFirstFree}
 use Rattle.tran_pick.proofs.Found.{first_is_free}
 

@@ -4,8 +4,8 @@ use Rattle.std.specs.Prelude.{nat_le, if◌then◌else◌}
 use Rattle.std.specs.Option.{option_and_then}
 use Rattle.std.specs.Str.{bytes_eq}
 use Rattle.std.proofs.lemmas.Option.{slice_get_read}
-use Rattle.model_queues.specs.Queue.{first_free}
-use Rattle.model_queues.specs.Room.{slot_room}
+use Rattle.model_messages.specs.Queue.{first_free}
+use Rattle.model_messages.specs.Room.{slot_room}
 use Rattle.model_system.specs.declared.code.Code.{Code}
 use Rattle.model_system.specs.declared.code_state.CodeState.{CodeState}
 use Rattle.model_system.specs.Codes.{code_at, code_place}

@@ -2,10 +2,10 @@
 use Rattle.std.proofs.Common.{◌≡◌, sym, ap, ◌∙◌, subst, List, ℕ}
 use Rattle.std.specs.Prelude.{Option, Some, None, IsSomeAnd, Result, Ok, Err, IfOk}
 use Rattle.tm_types.specs.declared.message.Message.{Message}
-use Rattle.model_conversation.specs.declared.conversation.TerminalConversation.{TerminalConversation}
-use Rattle.model_queues.specs.declared.queued.Queued.{Queued}
-use Rattle.model_queues.specs.Queue.{message_at, messages_of}
-use Rattle.model_queues.proofs.Laws.{message_found}
+use Rattle.model_messages.specs.declared.conversation.TerminalConversation.{TerminalConversation}
+use Rattle.model_messages.specs.declared.queued.Queued.{Queued}
+use Rattle.model_messages.specs.Queue.{message_at, messages_of}
+use Rattle.model_messages.proofs.Laws.{message_found}
 use Rattle.model_system.specs.Jobs.{Job, job_of}
 use Rattle.model_system.specs.System.{System}
 use Rattle.system_types.specs.declared.job.Job.{Job as Lent}
@@ -14,7 +14,7 @@ use Rattle.model_machine.specs.Trial.{Given, trial_of}
 use Rattle.log_records.specs.declared.record.Record.{Record}
 use Rattle.log_records.specs.declared.untold.Untold.{Untold}
 use Rattle.log_records.specs.declared.untold.Untold.TheVariants.{Memory, Full}
-use Rattle.step_telling.specs.Untold.{WhereFull}
+use Rattle.lasting_state.specs.Untold.{WhereFull}
 use Rattle.program_rows.specs.State.{DatabasesState, committed_rows}
 use Rattle.message_run.specs.declared.run.Advanced.{Advanced}
 use Rattle.message_run.specs.Ahead.{IsStart, IsAhead, GoesOn}

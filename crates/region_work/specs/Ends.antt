@@ -1,8 +1,8 @@
 -- Where the outputs of a region's work go, and the message that the region goes on with behind it.
 use Rattle.std.specs.Prelude.{ℕ, ◌+◌, ◌*◌, nat_le, ◌&&◌, if◌then◌else◌, Option, Some, None, List, map}
-use Rattle.model_queues.specs.Queue.{first_free}
-use Rattle.model_queues.specs.Room.{slot_room}
-use Rattle.model_message.specs.declared.ended_message.EndedMessage.{EndedMessage}
+use Rattle.model_messages.specs.Queue.{first_free}
+use Rattle.model_messages.specs.Room.{slot_room}
+use Rattle.model_messages.specs.declared.ended_message.EndedMessage.{EndedMessage}
 use Rattle.model_system.specs.declared.code.Code.{Code}
 use Rattle.model_system.specs.declared.code_state.CodeState.{CodeState}
 use Rattle.model_machine.specs.Steps.{may_go_on}

@@ -3,17 +3,17 @@ use Rattle.std.specs.Prelude.{◌≡◌, ◌<◌, ⊤, ℕ, length, Option, Some
 use Rattle.std.specs.List.{AllByRecursion}
 use Rattle.std.specs.Option.{option_map_or}
 use Rattle.tm_types.specs.declared.message.Message.{Message}
-use Rattle.model_conversation.specs.declared.conversation.PadChange.{PadChange}
-use Rattle.model_conversation.specs.declared.conversation.PadChange.TheVariants.{Stays}
-use Rattle.model_conversation.specs.declared.conversation.TerminalConversation.{TerminalConversation}
-use Rattle.model_conversation.specs.Terminals.{conversation_at, pad_at}
+use Rattle.model_messages.specs.declared.conversation.PadChange.{PadChange}
+use Rattle.model_messages.specs.declared.conversation.PadChange.TheVariants.{Stays}
+use Rattle.model_messages.specs.declared.conversation.TerminalConversation.{TerminalConversation}
+use Rattle.model_messages.specs.Terminals.{conversation_at, pad_at}
 use Rattle.model_machine.specs.Trial.{Given, Trial, trial_of}
 use Rattle.log_records.specs.declared.record.Record.{Record}
 use Rattle.io_pcb.specs.Pads.{IsPadText, Suits}
-use Rattle.model_queues.specs.Queue.{message_at}
+use Rattle.model_messages.specs.Queue.{message_at}
 use Rattle.model_system.specs.System.{System}
-use Rattle.model_message.specs.declared.ended_message.EndedMessage.{EndedMessage}
-use Rattle.model_message.specs.Calls.{finish_work, pad_change}
+use Rattle.model_messages.specs.declared.ended_message.EndedMessage.{EndedMessage}
+use Rattle.model_messages.specs.Calls.{finish_work, pad_change}
 use Rattle.model_system.specs.Jobs.{Job, job_of}
 use Rattle.program_rows.specs.State.{DatabasesState, IsClean, committed_rows}
 use Rattle.log_records.specs.Telling.{spelled}

@@ -1,11 +1,11 @@
 //! The end of a region's work on a message.
 ghost use Rattle.std.specs.Prelude.{◌≡◌, ◌≤◌, ◌-◌, ◌∷◌, None, Some, length, slice_get, slice_set, IfOk, IfErr, OnOk, OnErr, IsSome, IsSomeAnd};
-ghost use Rattle.model_queues.specs.Queue.{AreInOrder, IsNewId, message_at, queued_at};
+ghost use Rattle.model_messages.specs.Queue.{AreInOrder, IsNewId, message_at, queued_at};
 ghost use Rattle.model_machine.specs.Lasting.{abend_outputs, discarded_pad};
 ghost use Rattle.model_machine.specs.Lasting.LastingStep.{Completes, Discards};
 ghost use Rattle.log_records.specs.Spelling.{IsAbend};
-ghost use Rattle.step_telling.specs.Ranges.{HaveCounts, HasShortPad};
-ghost use Rattle.step_telling.specs.Untold.{WhereFull};
+ghost use Rattle.lasting_state.specs.Ranges.{HaveCounts, HasShortPad};
+ghost use Rattle.lasting_state.specs.Untold.{WhereFull};
 ghost use Rattle.program_rows.specs.State.{committed_rows, dbds_of, region_at, AreRowsOf, IsRegionOf};
 ghost use Rattle.program_rows.specs.Answering.{IsCommitted, IsGivenUp};
 ghost use Rattle.lasting_state.specs.Tables.{given_back, with_databases, Applies, IsClosed};
@@ -14,8 +14,7 @@ ghost use Rattle.region_work.specs.Ends.{destinations};
 
 use crate::region::Busy;
 use lasting_state::{Tables, Untold};
-use model_conversation::PadChange;
-use model_message::EndedMessage;
+use model_messages::{EndedMessage, PadChange};
 use std::alloc::Global;
 use std::collections::VecDeque;
 use tm_types::{AbendCode, Memory, Name};

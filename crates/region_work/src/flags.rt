@@ -1,6 +1,6 @@
 //! Which priorities count.
 ghost use Rattle.std.specs.Prelude.{◌≡◌, ◌<◌, length, slice_get};
-ghost use Rattle.model_queues.specs.Queue.{free_count};
+ghost use Rattle.model_messages.specs.Queue.{free_count};
 ghost use Rattle.model_machine.specs.Machine.{raised_by};
 ghost use Rattle.model_machine.specs.Flags.{followed, followed_by, all_followed};
 

@@ -1,8 +1,8 @@
 //! The message that a region goes on with.
 ghost use Rattle.std.specs.Prelude.{◌≡◌, ◌+◌, ◌*◌, nat_le, length, slice_get, IfSome};
 ghost use Rattle.std.specs.Option.{option_and_then};
-ghost use Rattle.model_queues.specs.Queue.{first_free};
-ghost use Rattle.model_queues.specs.Room.{slot_room};
+ghost use Rattle.model_messages.specs.Queue.{first_free};
+ghost use Rattle.model_messages.specs.Room.{slot_room};
 ghost use Rattle.model_system.specs.Codes.{code_at, code_place};
 ghost use Rattle.model_machine.specs.Steps.{may_go_on};
 ghost use Rattle.lasting_state.specs.Tables.{content_of};

@@ -2,7 +2,7 @@
 ghost use Rattle.std.specs.Prelude.{◌≡◌, ◌≤◌, ◌-◌, ℕ, None, slice_set, ◌<◌, ◌^◌, length, count_by, is_some, IfOk, IfErr, OnErr, OnOk, IfSome, Some, IsSome, IsSomeAnd};
 ghost use Rattle.std.specs.Option.{option_copied};
 ghost use Rattle.io_pcb.specs.Pads.{lent_pad};
-ghost use Rattle.model_queues.specs.Queue.{messages_of, queued_at};
+ghost use Rattle.model_messages.specs.Queue.{messages_of, queued_at};
 ghost use Rattle.model_system.specs.Jobs.{job_of};
 ghost use Rattle.system_types.specs.Jobs.{lent_job};
 ghost use Rattle.system_types.specs.Valid.{IsServable};
@@ -12,14 +12,13 @@ ghost use Rattle.message_run.specs.RunState.{AreStanding};
 ghost use Rattle.message_run.specs.Ahead.{IsStart, StaysUnlessCalled, StayOthers};
 ghost use Rattle.message_run.specs.Telling.{TellsNext, IsQuietUnlessCalled};
 ghost use Rattle.log_records.specs.Telling.{spelled};
-ghost use Rattle.step_telling.specs.Untold.{WhereFull};
+ghost use Rattle.lasting_state.specs.Untold.{WhereFull};
 ghost use Rattle.region_work.specs.Region.{given_in, HasPad, HavePads, IsQueuedWork, IsStarted, GoesSo, TellsSo, IsLongerSo, NextTells, Steps, SameWork, SuitsUnit, outputs_by, pad_by, pad_in};
 
 use io_pcb::LentPad;
 use lasting_state::{Tables, Untold};
 use message_run::{Advanced, Run};
-use model_conversation::PadChange;
-use model_message::EndedMessage;
+use model_messages::{EndedMessage, PadChange};
 use program_rows::Databases;
 use std::alloc::Global;
 use std::collections::VecDeque;

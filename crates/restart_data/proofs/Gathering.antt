@@ -3,7 +3,7 @@ use Rattle.std.proofs.Common.{◌≡◌, ℕ, suc, ◌+◌, ◌-◌, ◌<◌, Bo
 use Rattle.std.specs.Prelude.{Result, nat_le}
 use Rattle.std.proofs.lemmas.Bool.{leb-true, leb-false, le-leb, lt-leb}
 use Rattle.std.proofs.lemmas.List.{append-nil}
-use Rattle.model_disk.specs.Disk.{Image, sector_at}
+use Rattle.tm_disk.specs.Disk.{Image, sector_at}
 use Rattle.restart_data.specs.Snapshot.{Fault, lower_of, part_of, part_in, and_then, parts_in}
 
 lower_by : (a b c : Fault) (x y : Bool) → nat_le a.0 b.0 ≡ x → nat_le b.0 c.0 ≡ y → lower_of (lower_of a b) c ≡ lower_of a (lower_of b c)

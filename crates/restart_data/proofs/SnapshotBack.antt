@@ -4,7 +4,7 @@ use Rattle.std.specs.Prelude.{Result, codes, ◌==◌, nat_lt}
 use Rattle.std.proofs.lemmas.Bool.{le-ltb, ne_eqb, eq-eqb}
 use Rattle.std.proofs.lemmas.Nat.{from_be_bytes-to_be_bytes_2, from_be_bytes-to_be_bytes_8}
 use Rattle.std.proofs.lemmas.List.{take_at, drop_at, drop-drop, take-append-drop, length-take, length-drop, nil_from_length}
-use Rattle.model_disk.specs.Disk.{Image, sector_at}
+use Rattle.tm_disk.specs.Disk.{Image, sector_at}
 use Rattle.tm_disk.specs.Sector.{zeros}
 use Rattle.restart_data.specs.Fields.{bytes_at, number2_at, number8_at, are_zeros}
 use Rattle.restart_data.specs.Rules.{first_broken}

@@ -1,6 +1,6 @@
 -- What writing a restart sector or a snapshot leaves, and what reading it tells.
 use Rattle.std.specs.Prelude.{◌≡◌, ℕ, ◌+◌, ◌<◌, ◌≤◌, List, length, Option, Some, Result, Ok, Err}
-use Rattle.model_disk.specs.Disk.{Image, DiskState, FailedSince, sector_at, with_sector}
+use Rattle.tm_disk.specs.Disk.{Image, DiskState, FailedSince, sector_at, with_sector}
 use Rattle.restart_data.specs.declared.restart.RestartSector.{RestartSector}
 use Rattle.restart_data.specs.declared.restart.RestartFault.{RestartFault}
 use Rattle.restart_data.specs.declared.restart.RestartFault.TheVariants as restart_faults

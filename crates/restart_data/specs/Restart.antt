@@ -2,7 +2,7 @@
 use Rattle.std.specs.Prelude.{ℕ, ◌<◌, ◌≤◌, Bool, not, ◌||◌, nat_lt, nat_le, ◌==◌, List, [], ◌∷◌, ◌++◌, drop, if◌then◌else◌, codes, Option, Some, None, Result, Ok}
 use Rattle.std.specs.Int.{w32, w64, to_be_bytes}
 use Rattle.std.specs.Str.{bytes_eq}
-use Rattle.model_disk.specs.Disk.{Image, sector_at}
+use Rattle.tm_disk.specs.Disk.{Image, sector_at}
 use Rattle.tm_disk.specs.Sector.{zeros}
 use Rattle.restart_data.specs.declared.restart.RestartSector.{RestartSector}
 use Rattle.restart_data.specs.Fields.{bytes_at, byte_at, number4_at, number8_at, are_zeros}

@@ -1,6 +1,6 @@
 //! The restart sector on a disk.
 ghost use Rattle.std.specs.Prelude.{◌≡◌, ◌<◌, IsTrue, IfOk, IfSome, OnOk, OnErr};
-ghost use Rattle.model_disk.specs.Disk.{Stays, Within, Follows, Only, Keeps, MayWrite, WritesAtMost, FailedSince};
+ghost use Rattle.tm_disk.specs.Disk.{Stays, Within, Follows, Only, Keeps, MayWrite, WritesAtMost, FailedSince};
 ghost use Rattle.restart_data.specs.Restart.{IsRestart, restart_sector, restart_in};
 ghost use Rattle.restart_data.specs.Images.{IsValid, Restarts, TellsRestart, RestartCause};
 

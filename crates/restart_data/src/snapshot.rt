@@ -1,6 +1,6 @@
 //! Snapshots on a disk.
 ghost use Rattle.std.specs.Prelude.{◌≡◌, ◌+◌, ◌*◌, ◌<◌, ◌≤◌, ◌^◌, length, IsTrue, IfOk, OnOk, OnErr};
-ghost use Rattle.model_disk.specs.Disk.{Stays, Within, Follows, Keeps, WritesAtMost, FailedSince};
+ghost use Rattle.tm_disk.specs.Disk.{Stays, Within, Follows, Keeps, WritesAtMost, FailedSince};
 ghost use Rattle.restart_data.specs.Snapshot.{sectors_of, piece, snapshot_in};
 ghost use Rattle.restart_data.specs.Images.{ChangesOnly, Saves, TellsSnapshot, SnapshotCause};
 

@@ -4,7 +4,7 @@ use Rattle.std.specs.Prelude.{replicate}
 use Rattle.std.proofs.lemmas.List.{length-take}
 use Rattle.tm_types.specs.declared.dbd.SegType.{SegType}
 use Rattle.tm_types.specs.declared.ssa.Ssa.{Ssa}
-use Rattle.model_dli.specs.Search.{number_named, asked_number}
+use Rattle.model_data.specs.Search.{number_named, asked_number}
 
 pub asked_number_at : (types : List SegType) (ssas : List Ssa) (i : ℕ) (d : Ssa) → i + 1 ≡ length ssas → asked_number types ssas ≡ number_named types (get_or ssas i d).segment
 asked_number_at types [] i d e = absurd (omega arith)

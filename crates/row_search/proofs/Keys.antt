@@ -13,17 +13,17 @@ use Rattle.std.proofs.lemmas.Map.Lookups.{exact_bytes}
 use Rattle.tm_types.specs.declared.dbd.SegType.{SegType}
 use Rattle.tm_types.specs.declared.dbd.Dbd.{Dbd}
 use Rattle.tm_types.specs.SegTypes.{IsHierarchy}
-use Rattle.model_rows.specs.declared.row.Row.{Row}
-use Rattle.model_rows.specs.Path.{key_cmp, path_cmp, root_of, IsPath}
-use Rattle.model_rows.specs.Row.{HasPath, IsRow, row_cmp}
-use Rattle.model_rows.specs.Rows.{record_of, rows_before, rows_after, roots, AreRows}
-use Rattle.model_rows.proofs.Order.{key_total, path_total, turned_greater, not_less_itself}
-use Rattle.model_rows.proofs.Lists.{all_then, all_both, all_filter, sorted_filter}
-use Rattle.model_rows.proofs.Filters.{filter_none, filter_within, filter_passes}
-use Rattle.model_rows.proofs.Records.{is_eq-true, is_lt-true}
-use Rattle.model_rows.proofs.Paths.{root_type}
-use Rattle.model_rows.proofs.Under.{front_there, has_with}
-use Rattle.model_rows.proofs.Whole.{root_less}
+use Rattle.model_data.specs.declared.row.Row.{Row}
+use Rattle.model_data.specs.Path.{key_cmp, path_cmp, root_of, IsPath}
+use Rattle.model_data.specs.Row.{HasPath, IsRow, row_cmp}
+use Rattle.model_data.specs.Rows.{record_of, rows_before, rows_after, roots, AreRows}
+use Rattle.model_data.proofs.Order.{key_total, path_total, turned_greater, not_less_itself}
+use Rattle.model_data.proofs.Lists.{all_then, all_both, all_filter, sorted_filter}
+use Rattle.model_data.proofs.Filters.{filter_none, filter_within, filter_passes}
+use Rattle.model_data.proofs.Records.{is_eq-true, is_lt-true}
+use Rattle.model_data.proofs.Paths.{root_type}
+use Rattle.model_data.proofs.Under.{front_there, has_with}
+use Rattle.model_data.proofs.Whole.{root_less}
 use Rattle.row_search.proofs.Rising.{rising, split_at_root}
 
 -- a key is one of these

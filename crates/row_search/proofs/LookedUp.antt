@@ -9,7 +9,7 @@ use Rattle.tm_types.specs.declared.ssa.Ssa.{Ssa}
 use Rattle.tm_types.specs.declared.ssa.KeyTest.{KeyTest}
 use Rattle.tm_types.specs.declared.ssa.KeyTest.TheVariants.{Any, Equal, AtLeast}
 use Rattle.tm_types.specs.SegTypes.{type_at}
-use Rattle.model_dli.specs.Search.{number_named, meets_at, meets_ssa}
+use Rattle.model_data.specs.Search.{number_named, meets_at, meets_ssa}
 use Rattle.row_search.specs.declared.asked.AskedSegment.{AskedSegment}
 use Rattle.row_search.specs.Asked.{asked_segment, looked_up, is_met}
 

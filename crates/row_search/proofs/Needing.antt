@@ -13,17 +13,17 @@ use Rattle.tm_types.specs.declared.resource.Mode.{Mode}
 use Rattle.tm_types.specs.declared.resource.Mode.TheVariants.{Shared}
 use Rattle.tm_types.specs.declared.ssa.Ssa.{Ssa}
 use Rattle.tm_types.specs.SegTypes.{IsHierarchy}
-use Rattle.model_rows.specs.declared.row.Row.{Row}
-use Rattle.model_rows.specs.Path.{key_cmp, root_of, IsPath}
-use Rattle.model_rows.specs.Row.{IsRow}
-use Rattle.model_rows.specs.Rows.{record_of, roots, AreRows}
-use Rattle.model_rows.proofs.Order.{key_total, turned_less}
-use Rattle.model_rows.proofs.Lists.{all_then, all_append}
-use Rattle.model_rows.proofs.Filters.{filter_none, filter_passes}
-use Rattle.model_rows.proofs.Records.{record_rooted, is_lt-true}
-use Rattle.model_dli.specs.declared.need.Need.{Need}
-use Rattle.model_dli.specs.Search.{is_after, fits, first_after}
-use Rattle.model_dli.specs.Footprint.{record_need, sequence_need, up_to, behind, has_reached, along, onward}
+use Rattle.model_data.specs.declared.row.Row.{Row}
+use Rattle.model_data.specs.Path.{key_cmp, root_of, IsPath}
+use Rattle.model_data.specs.Row.{IsRow}
+use Rattle.model_data.specs.Rows.{record_of, roots, AreRows}
+use Rattle.model_data.proofs.Order.{key_total, turned_less}
+use Rattle.model_data.proofs.Lists.{all_then, all_append}
+use Rattle.model_data.proofs.Filters.{filter_none, filter_passes}
+use Rattle.model_data.proofs.Records.{record_rooted, is_lt-true}
+use Rattle.model_data.specs.declared.need.Need.{Need}
+use Rattle.model_data.specs.Search.{is_after, fits, first_after}
+use Rattle.model_data.specs.Footprint.{record_need, sequence_need, up_to, behind, has_reached, along, onward}
 use Rattle.row_search.proofs.Finding.{find_front, find_back, find_has}
 use Rattle.row_search.proofs.Places.{after_in_later}
 use Rattle.row_search.proofs.Rising.{rows_rising, from_root}

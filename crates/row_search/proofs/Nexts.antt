@@ -8,14 +8,14 @@ use Rattle.std.proofs.lemmas.Bool.{false≢true}
 use Rattle.std.proofs.lemmas.Option.{same_Some, none-some}
 use Rattle.std.proofs.lemmas.Cmp.{tied_itself}
 use Rattle.tm_types.specs.declared.dbd.Dbd.{Dbd}
-use Rattle.model_rows.specs.declared.row.Row.{Row}
-use Rattle.model_rows.specs.Path.{key_cmp, root_of, IsPath}
-use Rattle.model_rows.specs.Record.{record_root}
-use Rattle.model_rows.specs.Row.{IsRow}
-use Rattle.model_rows.specs.Rows.{record_of, roots, next_root, AreRows}
-use Rattle.model_rows.proofs.Order.{key_total}
-use Rattle.model_rows.proofs.Lists.{all_then, all_filter}
-use Rattle.model_rows.proofs.Records.{HaveRoot, record_rooted}
+use Rattle.model_data.specs.declared.row.Row.{Row}
+use Rattle.model_data.specs.Path.{key_cmp, root_of, IsPath}
+use Rattle.model_data.specs.Record.{record_root}
+use Rattle.model_data.specs.Row.{IsRow}
+use Rattle.model_data.specs.Rows.{record_of, roots, next_root, AreRows}
+use Rattle.model_data.proofs.Order.{key_total}
+use Rattle.model_data.proofs.Lists.{all_then, all_filter}
+use Rattle.model_data.proofs.Records.{HaveRoot, record_rooted}
 use Rattle.seg_rows.specs.NextRecord.{next_record}
 use Rattle.row_search.proofs.Keys.{HasKey}
 

@@ -15,16 +15,16 @@ use Rattle.tm_types.specs.declared.ssa.Ssa.{Ssa}
 use Rattle.tm_types.specs.declared.ssa.KeyTest.{KeyTest}
 use Rattle.tm_types.specs.declared.ssa.KeyTest.TheVariants.{Any, Equal as ByKey, AtLeast}
 use Rattle.tm_types.specs.SegTypes.{IsHierarchy, type_at}
-use Rattle.model_rows.specs.declared.row.Row.{Row}
-use Rattle.model_rows.specs.Path.{key_cmp, path_cmp, root_of, end_type, IsPath, IsPathBelow}
-use Rattle.model_rows.specs.Rows.{record_of}
-use Rattle.model_rows.proofs.Order.{key_total, path_total, exact_path, turned_greater, not_less_itself}
-use Rattle.model_rows.proofs.Lists.{all_then}
-use Rattle.model_rows.proofs.Records.{is_eq-true, is_lt-true}
-use Rattle.model_rows.proofs.Paths.{child_greater}
-use Rattle.model_rows.proofs.Whole.{root_less}
-use Rattle.model_dli.specs.Search.{fitted, number_named, meets, meets_at, meets_ssa, asked_number, fits, is_after, is_below, row_at, is_there, first_after, first_below}
-use Rattle.model_dli.specs.Get.{key_asked, asked_root}
+use Rattle.model_data.specs.declared.row.Row.{Row}
+use Rattle.model_data.specs.Path.{key_cmp, path_cmp, root_of, end_type, IsPath, IsPathBelow}
+use Rattle.model_data.specs.Rows.{record_of}
+use Rattle.model_data.proofs.Order.{key_total, path_total, exact_path, turned_greater, not_less_itself}
+use Rattle.model_data.proofs.Lists.{all_then}
+use Rattle.model_data.proofs.Records.{is_eq-true, is_lt-true}
+use Rattle.model_data.proofs.Paths.{child_greater}
+use Rattle.model_data.proofs.Whole.{root_less}
+use Rattle.model_data.specs.Search.{fitted, number_named, meets, meets_at, meets_ssa, asked_number, fits, is_after, is_below, row_at, is_there, first_after, first_below}
+use Rattle.model_data.specs.Get.{key_asked, asked_root}
 use Rattle.row_search.specs.Walk.{rows_from}
 use Rattle.row_search.proofs.Finding.{find_within}
 use Rattle.row_search.proofs.Within.{both_true, within_root}

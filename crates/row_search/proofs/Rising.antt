@@ -14,18 +14,18 @@ use Rattle.std.proofs.lemmas.Map.Lookups.{exact_bytes}
 use Rattle.tm_types.specs.declared.dbd.SegType.{SegType}
 use Rattle.tm_types.specs.declared.dbd.Dbd.{Dbd}
 use Rattle.tm_types.specs.SegTypes.{IsHierarchy}
-use Rattle.model_rows.specs.declared.row.Row.{Row}
-use Rattle.model_rows.specs.Path.{key_cmp, root_of, IsPath}
-use Rattle.model_rows.specs.Row.{IsRow, row_cmp}
-use Rattle.model_rows.specs.Record.{IsUnder}
-use Rattle.model_rows.specs.Rows.{record_of, rows_before, rows_after, roots, next_root, AreRows}
-use Rattle.model_rows.proofs.Order.{key_total, path_total, turned_greater, not_less_itself}
-use Rattle.model_rows.proofs.Lists.{all_then, all_both, all_filter, sorted_filter}
-use Rattle.model_rows.proofs.Filters.{filter_all, filter_none, filter_within, filter_apart}
-use Rattle.model_rows.proofs.Records.{is_eq-true, is_lt-true}
-use Rattle.model_rows.proofs.Prefixes.{none_under}
-use Rattle.model_rows.proofs.Roots.{first_row}
-use Rattle.model_rows.proofs.Whole.{record_is, root_less}
+use Rattle.model_data.specs.declared.row.Row.{Row}
+use Rattle.model_data.specs.Path.{key_cmp, root_of, IsPath}
+use Rattle.model_data.specs.Row.{IsRow, row_cmp}
+use Rattle.model_data.specs.Record.{IsUnder}
+use Rattle.model_data.specs.Rows.{record_of, rows_before, rows_after, roots, next_root, AreRows}
+use Rattle.model_data.proofs.Order.{key_total, path_total, turned_greater, not_less_itself}
+use Rattle.model_data.proofs.Lists.{all_then, all_both, all_filter, sorted_filter}
+use Rattle.model_data.proofs.Filters.{filter_all, filter_none, filter_within, filter_apart}
+use Rattle.model_data.proofs.Records.{is_eq-true, is_lt-true}
+use Rattle.model_data.proofs.Prefixes.{none_under}
+use Rattle.model_data.proofs.Roots.{first_row}
+use Rattle.model_data.proofs.Whole.{record_is, root_less}
 use Rattle.row_search.specs.Walk.{rows_from}
 use Rattle.row_search.proofs.Finding.{find_head, find_passes, find_none, filter_twice}
 

@@ -7,16 +7,16 @@ use Rattle.std.proofs.lemmas.Cmp.{tied_itself}
 use Rattle.tm_types.specs.declared.dbd.Dbd.{Dbd}
 use Rattle.tm_types.specs.declared.ssa.Ssa.{Ssa}
 use Rattle.tm_types.specs.SegTypes.{IsHierarchy}
-use Rattle.model_rows.specs.declared.row.Row.{Row}
-use Rattle.model_rows.specs.Path.{key_cmp, root_of, IsPath}
-use Rattle.model_rows.specs.Row.{IsRow}
-use Rattle.model_rows.specs.Rows.{record_of, rows_after, next_root, AreRows}
-use Rattle.model_rows.proofs.Order.{key_total}
-use Rattle.model_rows.proofs.Lists.{all_then}
-use Rattle.model_rows.proofs.Filters.{filter_within}
-use Rattle.model_rows.proofs.Records.{is_lt-true}
-use Rattle.model_dli.specs.Search.{is_after, fits, first_after}
-use Rattle.model_dli.specs.Get.{asked_root}
+use Rattle.model_data.specs.declared.row.Row.{Row}
+use Rattle.model_data.specs.Path.{key_cmp, root_of, IsPath}
+use Rattle.model_data.specs.Row.{IsRow}
+use Rattle.model_data.specs.Rows.{record_of, rows_after, next_root, AreRows}
+use Rattle.model_data.proofs.Order.{key_total}
+use Rattle.model_data.proofs.Lists.{all_then}
+use Rattle.model_data.proofs.Filters.{filter_within}
+use Rattle.model_data.proofs.Records.{is_lt-true}
+use Rattle.model_data.specs.Search.{is_after, fits, first_after}
+use Rattle.model_data.specs.Get.{asked_root}
 use Rattle.row_search.specs.Arguments.{Arguments}
 use Rattle.row_search.specs.Walk.{first_root, rows_from, roots_left}
 use Rattle.row_search.proofs.Finding.{find_front, find_back, find_head, find_passes}

@@ -5,9 +5,9 @@ use Rattle.std.specs.Ordering.{is_eq}
 use Rattle.std.specs.Cmp.Lexicographic.{pointwise, same_text, texts_ties}
 use Rattle.std.proofs.lemmas.Bool.{false≢true, eqb-true, eq-eqb}
 use Rattle.std.proofs.lemmas.Cmp.{tied_itself}
-use Rattle.model_rows.specs.Path.{root_of}
-use Rattle.model_rows.proofs.Order.{key_total}
-use Rattle.model_dli.specs.Search.{pair_eq, is_within}
+use Rattle.model_data.specs.Path.{root_of}
+use Rattle.model_data.proofs.Order.{key_total}
+use Rattle.model_data.specs.Search.{pair_eq, is_within}
 
 pub both_true : (a b : Bool) → (a && b) ≡ true → (a ≡ true) × (b ≡ true)
 both_true true b e = (refl, e)

@@ -8,8 +8,8 @@ use Rattle.tm_types.specs.declared.ssa.Ssa.{Ssa}
 use Rattle.tm_types.specs.declared.ssa.KeyTest.{KeyTest}
 use Rattle.tm_types.specs.declared.ssa.KeyTest.TheVariants as test
 use Rattle.tm_types.specs.SegTypes.{type_at}
-use Rattle.model_rows.specs.Path.{key_cmp}
-use Rattle.model_dli.specs.Search.{fitted, number_named, asked_number}
+use Rattle.model_data.specs.Path.{key_cmp}
+use Rattle.model_data.specs.Search.{fitted, number_named, asked_number}
 use Rattle.row_search.specs.declared.asked.AskedKey.{AskedKey}
 use Rattle.row_search.specs.declared.asked.AskedKey.TheVariants.{Any, Equal, AtLeast}
 use Rattle.row_search.specs.declared.asked.AskedSegment.{AskedSegment}

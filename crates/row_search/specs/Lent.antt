@@ -1,8 +1,8 @@
 -- A record as it is lent.
 use Rattle.std.specs.Prelude.{◌≡◌, ℕ, List, Option}
 use Rattle.std.specs.Option.{option_map}
-use Rattle.model_rows.specs.declared.row.Row.{Row}
-use Rattle.model_rows.specs.Rows.{record_of}
+use Rattle.model_data.specs.declared.row.Row.{Row}
+use Rattle.model_data.specs.Rows.{record_of}
 use Rattle.row_search.specs.declared.search.LentRecord.{LentRecord}
 
 -- the key of its root, if there is one

@@ -1,9 +1,9 @@
 -- How a search goes from record to record.
 use Rattle.std.specs.Prelude.{ℕ, suc, not, List, [], Option, None, Some, length, filter}
 use Rattle.std.specs.Ordering.{is_gt}
-use Rattle.model_rows.specs.declared.row.Row.{Row}
-use Rattle.model_rows.specs.Path.{key_cmp, root_of}
-use Rattle.model_rows.specs.Rows.{rows_after, next_root}
+use Rattle.model_data.specs.declared.row.Row.{Row}
+use Rattle.model_data.specs.Path.{key_cmp, root_of}
+use Rattle.model_data.specs.Rows.{rows_after, next_root}
 
 -- the root of the record at which a search from a place begins
 abbrev pub first_root : Option (List (ℕ × List ℕ)) → List Row → Option (List ℕ)

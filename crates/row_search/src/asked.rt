@@ -1,11 +1,11 @@
 //! What the arguments of a call ask for.
 ghost use Rattle.std.specs.Prelude.{◌≡◌, ◌≤◌, ◌&&◌, Some, drop, length, map, min, take, IfOk};
 ghost use Rattle.std.specs.List.{list_all};
-ghost use Rattle.model_dli.specs.Search.{fitted, place_named, number_named, key_length, data_length, meets_ssa, asked_number, fits};
-ghost use Rattle.model_dli.specs.Get.{key_asked, asked_root};
+ghost use Rattle.model_data.specs.Search.{fitted, place_named, number_named, key_length, data_length, meets_ssa, asked_number, fits};
+ghost use Rattle.model_data.specs.Get.{key_asked, asked_root};
 ghost use Rattle.row_search.specs.Asked.{looked_up, asked_key, is_as_asked, is_met};
 
-use model_rows::Path;
+use model_data::Path;
 use std::alloc::Global;
 use std::marker::Model;
 use tm_types::{Bytes, Dbd, Key, KeyTest, Memory, Name, SegType, SegTypes, Ssa};

@@ -1,14 +1,14 @@
 //! Looking for rows, record by record.
 ghost use Rattle.std.specs.Prelude.{◌≡◌, ◌≤◌, ◌&&◌, Some, length, IfSome, OnSome};
 ghost use Rattle.std.specs.Option.{option_copied};
-ghost use Rattle.model_rows.specs.Path.{IsPath};
-ghost use Rattle.model_rows.specs.Rows.{record_of, next_root, AreRows};
+ghost use Rattle.model_data.specs.Path.{IsPath};
+ghost use Rattle.model_data.specs.Rows.{record_of, next_root, AreRows};
 ghost use Rattle.row_search.specs.Lent.{lent_root, IsLentOf};
 ghost use Rattle.row_search.specs.Walk.{first_root};
-ghost use Rattle.model_dli.specs.Search.{is_after, is_within, is_below, is_there, first_after, first_below};
+ghost use Rattle.model_data.specs.Search.{is_after, is_within, is_below, is_there, first_after, first_below};
 
 use crate::asked::{Asked, asked_root};
-use model_rows::{Path, Row};
+use model_data::{Path, Row};
 use seg_rows::Rows;
 use tm_types::{Dbd, Key, Ssa};
 

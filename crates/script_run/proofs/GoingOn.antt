@@ -1,11 +1,11 @@
 -- Steps, one after another.
 use Rattle.std.proofs.Common.{◌≡◌, ℕ, zero, suc, ◌-◌, ◌<◌, ◌≤◌, List, refl, ap, sym, ◌∙◌, arith, subst}
 use Rattle.std.specs.Prelude.{Option, Some, None, IfSome, IsSome, slice_get}
-use Rattle.model_script.specs.declared.program.ScriptLine.{ScriptLine}
-use Rattle.model_script.specs.declared.need.Need.{Need}
-use Rattle.model_script.specs.Script.{Answer, ScriptState, Executed, GoesOn, Needs, answered, moved_on, run, settled, step, unless_needs, need_of, need_at, step_by, waiting_at, waiting_by, arrived}
-use Rattle.model_script.proofs.Settled.{goes_on_settled, needs_settled, need_found, step_one, step_within}
-use Rattle.model_script.specs.declared.need.Need.TheVariants.{Call, Ended, Abend}
+use Rattle.model_system.specs.declared.program.ScriptLine.{ScriptLine}
+use Rattle.model_system.specs.declared.need.Need.{Need}
+use Rattle.model_system.specs.Script.{Answer, ScriptState, Executed, GoesOn, Needs, answered, moved_on, run, settled, step, unless_needs, need_of, need_at, step_by, waiting_at, waiting_by, arrived}
+use Rattle.model_system.proofs.Settled.{goes_on_settled, needs_settled, need_found, step_one, step_within}
+use Rattle.model_system.specs.declared.need.Need.TheVariants.{Call, Ended, Abend}
 use Rattle.script_run.specs.Running.{Going, Waiting, Waits, Steps, HasRoom, IsStanding, behind, waiting_in, waiting_told}
 
 module _ (lines : List ScriptLine) (limit : ℕ) (old new : Going) where

@@ -6,7 +6,7 @@ use Rattle.std.proofs.lemmas.Bool.Decides.{nat_tests}
 use Rattle.std.proofs.lemmas.List.Sums.{prefix_len-le-length}
 use Rattle.std.proofs.lemmas.List.Recursion.{is_position_or_len}
 use Rattle.tm_types.specs.Words.{first_word}
-use Rattle.model_script.specs.Texts.{with_front, pieces, is_filled, words}
+use Rattle.model_system.specs.Texts.{with_front, pieces, is_filled, words}
 use Rattle.script_run.specs.Runs.{blanks_before, word_length}
 
 -- what position gives, or the length

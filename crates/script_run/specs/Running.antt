@@ -4,10 +4,10 @@ use Rattle.tm_types.specs.Segment.{IsSegmentText}
 use Rattle.tm_types.specs.declared.ssa.Ssa.{Ssa}
 use Rattle.tm_types.specs.declared.ssa.KeyTest.{KeyTest}
 use Rattle.tm_types.specs.declared.ssa.KeyTest.TheVariants.{Any, Equal, AtLeast}
-use Rattle.model_script.specs.declared.need.Need.{Need}
-use Rattle.model_script.specs.declared.need.Need.TheVariants.{Call, Ended, Abend}
-use Rattle.model_script.specs.declared.program.ScriptLine.{ScriptLine}
-use Rattle.model_script.specs.Script.{Answer, ScriptState, Executed, GoesOn, Needs, arrived, moved_on, settled, step, waiting_at}
+use Rattle.model_system.specs.declared.need.Need.{Need}
+use Rattle.model_system.specs.declared.need.Need.TheVariants.{Call, Ended, Abend}
+use Rattle.model_system.specs.declared.program.ScriptLine.{ScriptLine}
+use Rattle.model_system.specs.Script.{Answer, ScriptState, Executed, GoesOn, Needs, arrived, moved_on, settled, step, waiting_at}
 
 -- a script that waits for the answer to a call: where it stands, and the variable that the call may set
 pub record Waiting : Type 0 where

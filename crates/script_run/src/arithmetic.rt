@@ -3,7 +3,7 @@ ghost use Rattle.std.specs.Prelude.{◌≡◌, ◌<◌, ◌≤◌, ◌^◌, IsTr
 ghost use Rattle.std.specs.Option.{option_map};
 ghost use Rattle.std.specs.Fmt.{decimal};
 ghost use Rattle.tm_types.specs.Segment.{IsSegmentText};
-ghost use Rattle.model_script.specs.Arithmetic as spec;
+ghost use Rattle.model_system.specs.Arithmetic as spec;
 
 use std::alloc::Global;
 use tm_types::{Bytes, Memory, are_digits};
@@ -13,7 +13,7 @@ const AMOUNT_CAP: u64 = 1_000_000_000_000_000_000;
 
 /// The sum of the texts, without leading zeros; None exactly where one isn't 1 to 18 digits, or the
 /// sum has more than 18.
-#[tactic(auto, unfolding(model_script::specs::Arithmetic::sum_text))]
+#[tactic(auto, unfolding(model_system::specs::Arithmetic::sum_text))]
 pub fn sum(alloc: Global, x: &[u8], y: &[u8]) -> Result<Option<Bytes>, Memory>
     ensures value { IfOk result (λ text. text ≡ spec.sum_text x.now y.now) }
     ensures text { IfOk result (λ text. IfSome text (λ digits. IsSegmentText digits)) }
@@ -31,7 +31,7 @@ pub fn sum(alloc: Global, x: &[u8], y: &[u8]) -> Result<Option<Bytes>, Memory>
 
 /// The first text less the second, without leading zeros; None exactly where one isn't 1 to 18
 /// digits, or the second is greater.
-#[tactic(auto, unfolding(model_script::specs::Arithmetic::difference_text))]
+#[tactic(auto, unfolding(model_system::specs::Arithmetic::difference_text))]
 pub fn difference(alloc: Global, x: &[u8], y: &[u8]) -> Result<Option<Bytes>, Memory>
     ensures value { IfOk result (λ text. text ≡ spec.difference_text x.now y.now) }
     ensures text { IfOk result (λ text. IfSome text (λ digits. IsSegmentText digits)) }

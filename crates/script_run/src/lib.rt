@@ -6,7 +6,7 @@
 #![tactic(auto)]
 
 pub use machine::Machine;
-pub use model_script::{CallText, Need, Program};
+pub use model_system::{CallText, Need, Program};
 
 mod arithmetic;
 mod machine;

@@ -3,12 +3,12 @@ ghost use Rattle.std.specs.Prelude.{◌≡◌, ◌<◌, false, IfOk, OnSome, OnO
 ghost use Rattle.std.specs.Borrow.{Bor};
 ghost use Rattle.std.specs.Option.{option_map};
 ghost use Rattle.tm_types.specs.Segment.{IsSegmentText};
-ghost use Rattle.model_script.specs.Script as spec;
+ghost use Rattle.model_system.specs.Script as spec;
 ghost use Rattle.script_run.specs.Running.{HasTexts, GivesRoom, Going, IsStanding, Waits, answered_machine, waiting_told};
 
 use crate::script::Script;
 use crate::steps::go_on;
-use model_script::{Need, Program, Statement};
+use model_system::{Need, Program, Statement};
 use std::alloc::Global;
 use std::marker::Model;
 use tm_types::{Bytes, Function, Memory, Status};

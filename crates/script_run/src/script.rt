@@ -4,12 +4,12 @@ ghost use Rattle.std.specs.List.{list_all, flat_map};
 ghost use Rattle.std.specs.Borrow.{Bor};
 ghost use Rattle.std.specs.Option.{option_map};
 ghost use Rattle.tm_types.specs.Segment.{is_printable, IsSegmentText};
-ghost use Rattle.model_script.specs.Programs.{is_plain, is_statement};
-ghost use Rattle.model_script.specs.Script as spec;
+ghost use Rattle.model_system.specs.Programs.{is_plain, is_statement};
+ghost use Rattle.model_system.specs.Script as spec;
 ghost use Rattle.script_run.specs.Running.{at_rest, texts_before};
 
 use crate::texts::append_cut;
-use model_script::{Text, Variable};
+use model_system::{Text, Variable};
 use std::alloc::Global;
 use std::marker::Model;
 use std::mem;
@@ -31,7 +31,7 @@ pub struct Script {
 
 impl Model for Script {
     ghost use Rattle.std.specs.Prelude.{◌≡◌, length};
-    ghost use Rattle.model_script.specs.Script.{ScriptState};
+    ghost use Rattle.model_system.specs.Script.{ScriptState};
     ghost use Rattle.script_run.specs.Running.{AreTexts, Going, texts_before};
 
     ghost Value = { Going };

@@ -3,16 +3,16 @@ ghost use Rattle.std.specs.Prelude.{◌≡◌, ◌≤◌, [], IsTrue, IfOk, OnEr
 ghost use Rattle.std.specs.List.{list_all};
 ghost use Rattle.std.specs.Option.{option_map_or};
 ghost use Rattle.tm_types.specs.Segment.{IsSegmentText};
-ghost use Rattle.model_script.specs.Programs.{is_plain, is_statement};
-ghost use Rattle.model_script.specs.declared.statement.Statement.TheVariants as line;
-ghost use Rattle.model_script.specs.Script as spec;
+ghost use Rattle.model_system.specs.Programs.{is_plain, is_statement};
+ghost use Rattle.model_system.specs.declared.statement.Statement.TheVariants as line;
+ghost use Rattle.model_system.specs.Script as spec;
 ghost use Rattle.script_run.specs.Running.{AreKeyTexts, IsKeyText, Does, HasRoom};
 
 use crate::arithmetic::{difference, sum};
 use crate::script::Script;
 use crate::texts::{cut, holds, padded, word};
-use model_script::abends::WRONG_ARITHMETIC;
-use model_script::{
+use model_system::abends::WRONG_ARITHMETIC;
+use model_system::{
     CallText, Comparison, Need, ScriptSsa, ScriptSsas, Statement, Target, Text, Texts, Variable,
 };
 use std::alloc::Global;

@@ -1,13 +1,13 @@
 //! From statement to statement, up to the next call or end.
 ghost use Rattle.std.specs.Prelude.{◌≡◌, ◌+◌, drop, IfOk, OnOk, OnErr, IfSome};
-ghost use Rattle.model_script.specs.Programs.{is_label};
-ghost use Rattle.model_script.specs.Script as spec;
+ghost use Rattle.model_system.specs.Programs.{is_label};
+ghost use Rattle.model_system.specs.Script as spec;
 ghost use Rattle.script_run.specs.Running.{HasTexts, GivesRoom, Steps};
 
 use crate::script::Script;
 use crate::statements::execute;
-use model_script::abends::TOO_MANY_STATEMENTS;
-use model_script::{Need, Program, Statement};
+use model_system::abends::TOO_MANY_STATEMENTS;
+use model_system::{Need, Program, Statement};
 use std::alloc::Global;
 use tm_types::{AbendCode, Memory};
 

@@ -3,9 +3,9 @@ ghost use Rattle.std.specs.Prelude.{IsTrue, ◌≡◌, ◌≤◌, ◌==◌, ◌+
 ghost use Rattle.std.specs.List.{list_all};
 ghost use Rattle.tm_types.specs.Segment.{is_printable, IsSegmentText};
 ghost use Rattle.script_run.specs.Runs as runs;
-ghost use Rattle.model_script.specs.Texts as spec;
+ghost use Rattle.model_system.specs.Texts as spec;
 
-use model_script::Comparison;
+use model_system::Comparison;
 use std::alloc::Global;
 use std::cmp::Ordering;
 use tm_types::{Bytes, Memory, SEGMENT_LIMIT, first_word};

@@ -3,16 +3,16 @@ use Rattle.std.proofs.Common.{◌≡◌, ℕ, ◌≤◌, Bool, true, false, ◌&
 use Rattle.std.specs.Prelude.{Option, Some, None, IfOk, is_some, is_none}
 use Rattle.text_rows.specs.Lowest.{both, also}
 use Rattle.tm_types.specs.declared.function.Function.{Function}
-use Rattle.model_script.specs.declared.script_ssa.ScriptSsa.{ScriptSsa}
-use Rattle.model_script.specs.declared.statement.Comparison.{Comparison}
-use Rattle.model_script.specs.declared.statement.Target.{Target}
-use Rattle.model_script.specs.declared.text.Text.{Text}
-use Rattle.model_script.specs.Programs.{is_statement, takes_area, takes_ssas, ssas_allowed, is_function_of, is_call, is_plain}
+use Rattle.model_system.specs.declared.script_ssa.ScriptSsa.{ScriptSsa}
+use Rattle.model_system.specs.declared.statement.Comparison.{Comparison}
+use Rattle.model_system.specs.declared.statement.Target.{Target}
+use Rattle.model_system.specs.declared.text.Text.{Text}
+use Rattle.model_system.specs.Programs.{is_statement, takes_area, takes_ssas, ssas_allowed, is_function_of, is_call, is_plain}
 use Rattle.std.proofs.lemmas.Bool.Decides.{nat_tests}
 use Rattle.script_text.specs.Values.{variable_of, ssas_of}
 use Rattle.script_text.specs.Statements.{if_made, area_taken, no_area, area_of, with_area}
-use Rattle.model_script.specs.declared.statement.Statement.{Statement}
-use Rattle.model_script.specs.declared.statement.Statement.TheVariants.{Label, Set, Word, Cut, Pad, Add, Less, If, Goto, Call, Abend, End}
+use Rattle.model_system.specs.declared.statement.Statement.{Statement}
+use Rattle.model_system.specs.declared.statement.Statement.TheVariants.{Label, Set, Word, Cut, Pad, Add, Less, If, Goto, Call, Abend, End}
 use Rattle.script_text.specs.Good.{are_printable, is_free, IsGood}
 
 module _ (places : List ℕ → Option ℕ) (here : ℕ) (words : List (List ℕ)) where

@@ -8,7 +8,7 @@ use Rattle.text_rows.specs.declared.pieces.Place.TheVariants.{WordStart}
 use Rattle.text_rows.specs.Lines.{printable_line}
 use Rattle.text_rows.specs.Lowest.{also}
 use Rattle.text_rows.specs.Pieces.{parts, place_after, with_front, pieces_from, pieces}
-use Rattle.model_script.specs.declared.statement.Statement.{Statement}
+use Rattle.model_system.specs.declared.statement.Statement.{Statement}
 use Rattle.script_text.specs.Good.{are_printable, IsGood, IsKept}
 use Rattle.script_text.specs.Scripts.{words, counted}
 use Rattle.script_text.specs.Statements.{has_label_word, label_in}

@@ -5,11 +5,11 @@ use Rattle.std.specs.List.{list_all}
 use Rattle.std.proofs.lemmas.List.Sums.{sum_by-append}
 use Rattle.std.proofs.lemmas.Option.{same_Some}
 use Rattle.text_rows.specs.Lines.{is_passed_over}
-use Rattle.model_script.specs.Programs.{IsProgram, is_statement, is_label, statement_count, label_place, target_of}
-use Rattle.model_script.specs.declared.program.ScriptLine.{ScriptLine}
-use Rattle.model_script.specs.declared.statement.Statement.{Statement}
-use Rattle.model_script.specs.declared.statement.Statement.TheVariants.{Label, Set, Word, Cut, Pad, Add, Less, If, Goto, Call, Abend, End}
-use Rattle.model_script.specs.declared.statement.Target.{Target}
+use Rattle.model_system.specs.Programs.{IsProgram, is_statement, is_label, statement_count, label_place, target_of}
+use Rattle.model_system.specs.declared.program.ScriptLine.{ScriptLine}
+use Rattle.model_system.specs.declared.statement.Statement.{Statement}
+use Rattle.model_system.specs.declared.statement.Statement.TheVariants.{Label, Set, Word, Cut, Pad, Add, Less, If, Goto, Call, Abend, End}
+use Rattle.model_system.specs.declared.statement.Target.{Target}
 use Rattle.tm_types.proofs.Hierarchy.{slice_get_push}
 use Rattle.script_text.specs.Good.{IsPlaced, IsKept}
 use Rattle.script_text.specs.Kept.{AreKept}

@@ -1,8 +1,8 @@
 -- Words that are read one after another.
 use Rattle.std.proofs.Common.{◌≡◌, ℕ, List, [], ◌∷◌, Result, Ok, Err, refl, ap, append_assoc, append-nil, arith}
 use Rattle.text_rows.specs.Lowest.{both}
-use Rattle.model_script.specs.declared.script_ssa.ScriptSsa.{ScriptSsa}
-use Rattle.model_script.specs.declared.text.Text.{Text}
+use Rattle.model_system.specs.declared.script_ssa.ScriptSsa.{ScriptSsa}
+use Rattle.model_system.specs.declared.text.Text.{Text}
 use Rattle.script_text.specs.Values.{with_text, with_ssa}
 use Rattle.script_text.specs.WordLists.{and_last, and_more}
 

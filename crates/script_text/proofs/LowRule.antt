@@ -13,16 +13,16 @@ use Rattle.text_rows.specs.Numbers.{number_between}
 use Rattle.text_rows.specs.Refusals.{Answers, at_line, then_lines}
 use Rattle.text_rows.specs.declared.refused.LineRefused.{LineRefused}
 use Rattle.text_rows.specs.declared.refused.LineRefused.TheVariants.{BadLine, Memory}
-use Rattle.model_script.specs.Programs.{is_function_of, takes_area, takes_ssas}
-use Rattle.model_script.specs.declared.program.ScriptLine.{ScriptLine}
-use Rattle.model_script.specs.declared.script_ssa.ScriptSsa.{ScriptSsa}
-use Rattle.model_script.specs.declared.statement.Comparison.{Comparison}
-use Rattle.model_script.specs.declared.statement.Comparison.TheVariants.{Equal, NotEqual, LessThan}
-use Rattle.model_script.specs.declared.statement.Statement.{Statement}
-use Rattle.model_script.specs.declared.statement.Statement.TheVariants as line
-use Rattle.model_script.specs.declared.statement.Target.{Target}
-use Rattle.model_script.specs.declared.text.Text.{Text}
-use Rattle.model_script.specs.declared.text.Text.TheVariants.{Status}
+use Rattle.model_system.specs.Programs.{is_function_of, takes_area, takes_ssas}
+use Rattle.model_system.specs.declared.program.ScriptLine.{ScriptLine}
+use Rattle.model_system.specs.declared.script_ssa.ScriptSsa.{ScriptSsa}
+use Rattle.model_system.specs.declared.statement.Comparison.{Comparison}
+use Rattle.model_system.specs.declared.statement.Comparison.TheVariants.{Equal, NotEqual, LessThan}
+use Rattle.model_system.specs.declared.statement.Statement.{Statement}
+use Rattle.model_system.specs.declared.statement.Statement.TheVariants as line
+use Rattle.model_system.specs.declared.statement.Target.{Target}
+use Rattle.model_system.specs.declared.text.Text.{Text}
+use Rattle.model_system.specs.declared.text.Text.TheVariants.{Status}
 use Rattle.script_text.specs.declared.line_word.LineWord.{LineWord}
 use Rattle.script_text.specs.declared.line_word.LineWord.TheVariants.{Label, Set, Word, Cut, Pad, Add, Less, If, Goto, Call, Abend, End}
 use Rattle.script_text.specs.LowRules.{HasScriptRule}

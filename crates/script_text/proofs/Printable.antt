@@ -6,8 +6,8 @@ use Rattle.std.specs.Option.{option_map}
 use Rattle.std.proofs.lemmas.List.Folds.{list_all-append}
 use Rattle.std.proofs.lemmas.Option.{same_Some}
 use Rattle.text_rows.specs.Lines.{split_at}
-use Rattle.model_script.specs.Programs.{is_plain}
-use Rattle.model_script.specs.declared.text.Text.{Text}
+use Rattle.model_system.specs.Programs.{is_plain}
+use Rattle.model_system.specs.declared.text.Text.{Text}
 use Rattle.script_text.specs.WordLists.{and_last}
 
 pub both_true : (a b : Bool) → a ≡ true → b ≡ true → (a && b) ≡ true

@@ -4,8 +4,8 @@ use Rattle.std.specs.Prelude.{Option}
 use Rattle.text_rows.specs.Lines.{is_passed_over}
 use Rattle.text_rows.specs.Refusals.{at_line, then_lines, behind}
 use Rattle.text_rows.proofs.Reading.{behind_then}
-use Rattle.model_script.specs.declared.program.ScriptLine.{ScriptLine}
-use Rattle.model_script.specs.declared.statement.Statement.{Statement}
+use Rattle.model_system.specs.declared.program.ScriptLine.{ScriptLine}
+use Rattle.model_system.specs.declared.statement.Statement.{Statement}
 use Rattle.script_text.specs.Scripts.{is_last, last_line, statement_line, numbered, nothing_more, counted, script}
 
 module _ (places : List ℕ → Option ℕ) (number here before : ℕ) (line : List ℕ) (lines : List (List ℕ)) where

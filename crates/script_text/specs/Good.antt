@@ -6,11 +6,11 @@ use Rattle.std.specs.Ordering.{nat_cmp}
 use Rattle.std.specs.Cmp.Lexicographic.{slice_cmp}
 use Rattle.std.specs.BTreeMap.{BTreeMap, get}
 use Rattle.tm_types.specs.Segment.{is_printable}
-use Rattle.model_script.specs.Programs.{is_statement, is_label}
-use Rattle.model_script.specs.declared.statement.Statement.{Statement}
+use Rattle.model_system.specs.Programs.{is_statement, is_label}
+use Rattle.model_system.specs.declared.statement.Statement.{Statement}
 use Rattle.script_text.specs.Scripts.{words, counted}
 use Rattle.script_text.specs.Statements.{has_label_word, label_in}
-use Rattle.model_script.specs.declared.statement.Statement.TheVariants.{Label, If, Goto}
+use Rattle.model_system.specs.declared.statement.Statement.TheVariants.{Label, If, Goto}
 
 abbrev pub name_cmp : List ℕ → List ℕ → Ordering
 name_cmp a b = slice_cmp nat_cmp a b

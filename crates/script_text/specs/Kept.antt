@@ -1,7 +1,7 @@
 -- Lines that were read so far.
 use Rattle.std.specs.Prelude.{◌≡◌, ◌≤◌, ℕ, true, Option, Some, List, length, slice_get}
-use Rattle.model_script.specs.Programs.{is_statement, statement_count, label_place}
-use Rattle.model_script.specs.declared.program.ScriptLine.{ScriptLine}
+use Rattle.model_system.specs.Programs.{is_statement, statement_count, label_place}
+use Rattle.model_system.specs.declared.program.ScriptLine.{ScriptLine}
 use Rattle.script_text.specs.Good.{IsPlaced}
 use Rattle.script_text.specs.Scripts.{first_or, label_from}
 

@@ -6,8 +6,8 @@ use Rattle.text_rows.specs.Lowest.{also}
 use Rattle.text_rows.specs.Lines.{is_passed_over, printable_line}
 use Rattle.text_rows.specs.Pieces.{pieces}
 use Rattle.text_rows.specs.Refusals.{at_line, then_lines}
-use Rattle.model_script.specs.declared.program.ScriptLine.{ScriptLine}
-use Rattle.model_script.specs.declared.statement.Statement.{Statement}
+use Rattle.model_system.specs.declared.program.ScriptLine.{ScriptLine}
+use Rattle.model_system.specs.declared.statement.Statement.{Statement}
 use Rattle.script_text.specs.Statements.{label_in, has_label_word, statement_of, nothing_behind}
 
 -- A line is words that blanks part; a literal in quotes is one word.

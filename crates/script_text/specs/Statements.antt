@@ -6,13 +6,13 @@ use Rattle.text_rows.specs.Lowest.{both, also}
 use Rattle.text_rows.specs.Names.{name_of}
 use Rattle.text_rows.specs.Numbers as rows
 use Rattle.text_rows.specs.Numbers.{is_number}
-use Rattle.model_script.specs.Programs.{is_function_of, takes_area, takes_ssas}
-use Rattle.model_script.specs.declared.script_ssa.ScriptSsa.{ScriptSsa}
-use Rattle.model_script.specs.declared.statement.Comparison.{Comparison}
-use Rattle.model_script.specs.declared.statement.Statement.{Statement}
-use Rattle.model_script.specs.declared.statement.Statement.TheVariants as line
-use Rattle.model_script.specs.declared.statement.Target.{Target}
-use Rattle.model_script.specs.declared.text.Text.{Text}
+use Rattle.model_system.specs.Programs.{is_function_of, takes_area, takes_ssas}
+use Rattle.model_system.specs.declared.script_ssa.ScriptSsa.{ScriptSsa}
+use Rattle.model_system.specs.declared.statement.Comparison.{Comparison}
+use Rattle.model_system.specs.declared.statement.Statement.{Statement}
+use Rattle.model_system.specs.declared.statement.Statement.TheVariants as line
+use Rattle.model_system.specs.declared.statement.Target.{Target}
+use Rattle.model_system.specs.declared.text.Text.{Text}
 use Rattle.script_text.specs.declared.line_word.LineWord.{LineWord}
 use Rattle.script_text.specs.declared.line_word.LineWord.TheVariants.{Label, Set, Word, Cut, Pad, Add, Less, If, Goto, Call, Abend, End}
 use Rattle.script_text.specs.Values.{variable_of, text_of, texts_of, number_of, comparison_of, goto_word, target_of, ssas_of, function_of}

@@ -7,13 +7,13 @@ use Rattle.text_rows.specs.Lines.{split_at}
 use Rattle.text_rows.specs.Lowest.{both}
 use Rattle.text_rows.specs.Names.{name_of}
 use Rattle.text_rows.specs.Numbers.{number_between}
-use Rattle.model_script.specs.declared.script_ssa.ScriptSsa.{ScriptSsa}
-use Rattle.model_script.specs.declared.script_ssa.ScriptSsa.TheVariants.{Any, Equal as EqualKey, AtLeast}
-use Rattle.model_script.specs.declared.statement.Comparison.{Comparison}
-use Rattle.model_script.specs.declared.statement.Comparison.TheVariants.{Equal, NotEqual, LessThan}
-use Rattle.model_script.specs.declared.statement.Target.{Target}
-use Rattle.model_script.specs.declared.text.Text.{Text}
-use Rattle.model_script.specs.declared.text.Text.TheVariants.{Variable, Status, Literal}
+use Rattle.model_system.specs.declared.script_ssa.ScriptSsa.{ScriptSsa}
+use Rattle.model_system.specs.declared.script_ssa.ScriptSsa.TheVariants.{Any, Equal as EqualKey, AtLeast}
+use Rattle.model_system.specs.declared.statement.Comparison.{Comparison}
+use Rattle.model_system.specs.declared.statement.Comparison.TheVariants.{Equal, NotEqual, LessThan}
+use Rattle.model_system.specs.declared.statement.Target.{Target}
+use Rattle.model_system.specs.declared.text.Text.{Text}
+use Rattle.model_system.specs.declared.text.Text.TheVariants.{Variable, Status, Literal}
 
 -- Rule 3: a variable is one letter, A to Z, seen as its place among them.
 unfoldable pub variable_of : List ℕ → Result ℕ ℕ

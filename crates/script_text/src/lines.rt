@@ -8,7 +8,7 @@ ghost use Rattle.script_text.specs.Statements as statements;
 
 use crate::rules::TOO_MANY_STATEMENTS;
 use crate::statements::{has_label_word, nothing_behind, statement_of};
-use model_script::Statement;
+use model_system::Statement;
 use std::alloc::Global;
 use std::collections::BTreeMap;
 use text_rows::{Pieces, Place, also, is_word, printable_line};

@@ -8,7 +8,7 @@ ghost use Rattle.script_text.specs.Scripts as spec;
 use crate::labels::labels_of;
 use crate::lines::{is_label_line, is_last, last_line, statement_line};
 use crate::rules::ENDPROG_MISSING;
-use model_script::{Program, ScriptLine};
+use model_system::{Program, ScriptLine};
 use std::alloc::Global;
 use std::collections::BTreeMap;
 use text_rows::{LineRefused, is_passed_over};

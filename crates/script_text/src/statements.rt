@@ -1,6 +1,6 @@
 //! The statements, each by its word.
 ghost use Rattle.std.specs.Prelude.{◌≡◌, ◌≤◌, nat_le, ◌∷◌, [], ℕ, true, false, Ok, Some, None, IfOk, IfSome, IsTrue, is_some, is_none};
-ghost use Rattle.model_script.specs.Programs.{is_call, is_statement, is_function_of, is_message_function, ssas_allowed, takes_area, takes_ssas};
+ghost use Rattle.model_system.specs.Programs.{is_call, is_statement, is_function_of, is_message_function, ssas_allowed, takes_area, takes_ssas};
 ghost use Rattle.script_text.specs.Good.{places_in, are_printable, is_free, IsGood};
 ghost use Rattle.script_text.specs.Statements as spec;
 ghost use Rattle.script_text.specs.Values as values;
@@ -14,7 +14,7 @@ use crate::values::{
     byte_of, comparison_of, function_of, goto_word, place_of, short_of, ssas_of, target_of,
     text_of, texts_of, variable_of,
 };
-use model_script::{Comparison, ScriptSsas, Statement, Target, Text, Variable};
+use model_system::{Comparison, ScriptSsas, Statement, Target, Text, Variable};
 use std::alloc::Global;
 use std::collections::BTreeMap;
 use text_rows::rules::OUT_OF_RANGE;

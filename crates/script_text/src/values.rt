@@ -3,7 +3,7 @@ ghost use Rattle.std.specs.Prelude.{◌≡◌, ◌≤◌, ◌<◌, ◌∷◌, []
 ghost use Rattle.std.specs.List.{list_all};
 ghost use Rattle.std.specs.Option.{option_copied};
 ghost use Rattle.tm_types.specs.Segment.{is_printable};
-ghost use Rattle.model_script.specs.Programs.{is_plain};
+ghost use Rattle.model_system.specs.Programs.{is_plain};
 ghost use Rattle.script_text.specs.Good.{places_in, are_printable};
 ghost use Rattle.script_text.specs.Values as spec;
 ghost use Rattle.script_text.specs.WordLists as lists;
@@ -13,7 +13,7 @@ ghost use Rattle.text_rows.specs.Names as names;
 use crate::rules::{
     NO_LABEL, OPEN_LITERAL, UNKNOWN_FUNCTION, UNKNOWN_WORD, WRONG_NUMBER, WRONG_OPERAND,
 };
-use model_script::{Comparison, ScriptSsa, ScriptSsas, Target, Text, Texts, Variable};
+use model_system::{Comparison, ScriptSsa, ScriptSsas, Target, Text, Texts, Variable};
 use std::alloc::Global;
 use std::collections::BTreeMap;
 use text_rows::{Pieces, is_word, name_of, number_between, split_at};

@@ -7,11 +7,11 @@ use Rattle.std.specs.Result.{OnOk, is_err}
 use Rattle.tm_types.specs.declared.dbd.SegType.{SegType}
 use Rattle.tm_types.specs.declared.dbd.Dbd.{Dbd}
 use Rattle.tm_types.specs.SegTypes.{IsHierarchy}
-use Rattle.model_rows.specs.declared.row.Row.{Row}
-use Rattle.model_rows.specs.Path.{root_of}
-use Rattle.model_rows.specs.Record.{IsUnder, Spells, SpellsRecord, IsLongestRecord, spelling, row_spelling, record_limit}
-use Rattle.model_rows.specs.Reading.{last_path, next_row}
-use Rattle.model_rows.proofs.Prefixes.{IsStuck, stuck_longest, next_under, none_under, row_spelled, spelling_append, length_row, no_spelling, one_record}
+use Rattle.model_data.specs.declared.row.Row.{Row}
+use Rattle.model_data.specs.Path.{root_of}
+use Rattle.model_data.specs.Record.{IsUnder, Spells, SpellsRecord, IsLongestRecord, spelling, row_spelling, record_limit}
+use Rattle.model_data.specs.Reading.{last_path, next_row}
+use Rattle.model_data.proofs.Prefixes.{IsStuck, stuck_longest, next_under, none_under, row_spelled, spelling_append, length_row, no_spelling, one_record}
 use Rattle.seg_rows.specs.DecodeFault.{RefusesBytes}
 use Rattle.seg_rows.specs.declared.decode.DecodeFault.TheVariants.{Bad}
 

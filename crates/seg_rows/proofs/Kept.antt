@@ -11,15 +11,15 @@ use Rattle.std.specs.Map.{keys_of, lookup, remove_entry}
 use Rattle.std.proofs.lemmas.Map.Lookups.{exact_bytes}
 use Rattle.std.proofs.lemmas.Bool.{false≢true, eq-eqb, ne_eqb, cond-true, cond-false, lt-ltb, le-ltb, leb-false, cases_lt}
 use Rattle.tm_types.specs.declared.dbd.Dbd.{Dbd}
-use Rattle.model_rows.specs.declared.row.Row.{Row}
-use Rattle.model_rows.specs.Path.{key_cmp}
-use Rattle.model_rows.specs.Record.{IsRecord, spelling, record_limit}
-use Rattle.model_rows.specs.Rows.{record_of, with_record, roots, next_root, rows_of, IsImage, passes_roots, passes_length, AreRows}
-use Rattle.model_rows.proofs.Entries.{entries_record, entries_insert, entries_remove}
-use Rattle.model_rows.proofs.Roots.{AreRecords, records_rooted, entries_roots, entries_rows}
+use Rattle.model_data.specs.declared.row.Row.{Row}
+use Rattle.model_data.specs.Path.{key_cmp}
+use Rattle.model_data.specs.Record.{IsRecord, spelling, record_limit}
+use Rattle.model_data.specs.Rows.{record_of, with_record, roots, next_root, rows_of, IsImage, passes_roots, passes_length, AreRows}
+use Rattle.model_data.proofs.Entries.{entries_record, entries_insert, entries_remove}
+use Rattle.model_data.proofs.Roots.{AreRecords, records_rooted, entries_roots, entries_rows}
 use Rattle.std.proofs.lemmas.Cmp.{tied_itself}
-use Rattle.model_rows.proofs.Order.{key_total}
-use Rattle.model_rows.proofs.Records.{is_eq-true}
+use Rattle.model_data.proofs.Order.{key_total}
+use Rattle.model_data.proofs.Records.{is_eq-true}
 use Rattle.seg_rows.specs.PlainRows.{AreKept}
 use Rattle.seg_rows.specs.NextRecord.{next_record}
 use Rattle.seg_rows.specs.StoreRefused.{set_refusal}

@@ -1,8 +1,8 @@
 -- What a refusal to decode says.
 use Rattle.std.specs.Prelude.{◌≡◌, ℕ, List, Result, Ok, Err}
 use Rattle.tm_types.specs.declared.dbd.Dbd.{Dbd}
-use Rattle.model_rows.specs.declared.row.Row.{Row}
-use Rattle.model_rows.specs.Record.{SpellsRecord, IsLongestRecord}
+use Rattle.model_data.specs.declared.row.Row.{Row}
+use Rattle.model_data.specs.Record.{SpellsRecord, IsLongestRecord}
 use Rattle.seg_rows.specs.declared.decode.DecodeFault.{DecodeFault}
 use Rattle.seg_rows.specs.declared.decode.DecodeFault.TheVariants.{Bad, Memory}
 

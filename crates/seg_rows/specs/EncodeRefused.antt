@@ -1,8 +1,8 @@
 -- What a refusal to encode says.
 use Rattle.std.specs.Prelude.{◌≡◌, ◌<◌, List, length}
 use Rattle.tm_types.specs.declared.dbd.Dbd.{Dbd}
-use Rattle.model_rows.specs.declared.row.Row.{Row}
-use Rattle.model_rows.specs.Record.{spelling, record_limit}
+use Rattle.model_data.specs.declared.row.Row.{Row}
+use Rattle.model_data.specs.Record.{spelling, record_limit}
 use Rattle.seg_rows.specs.declared.encode.EncodeRefused.{EncodeRefused}
 use Rattle.seg_rows.specs.declared.encode.EncodeRefused.TheVariants.{TooLong, Memory}
 

@@ -1,8 +1,8 @@
 -- Records one after the other, by their roots.
 use Rattle.std.specs.Prelude.{ℕ, List, Option}
 use Rattle.std.specs.Option.{option_map}
-use Rattle.model_rows.specs.declared.row.Row.{Row}
-use Rattle.model_rows.specs.Rows.{record_of, next_root}
+use Rattle.model_data.specs.declared.row.Row.{Row}
+use Rattle.model_data.specs.Rows.{record_of, next_root}
 
 -- the record of the first root, or of the first one after this key
 abbrev pub next_record : List Row → Option (List ℕ) → Option (List Row)

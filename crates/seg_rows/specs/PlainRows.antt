@@ -5,9 +5,9 @@ use Rattle.std.specs.List.Sorted.{IsStrictlySortedBy}
 use Rattle.std.specs.Map.{keys_of}
 use Rattle.tm_types.specs.declared.dbd.Dbd.{Dbd}
 use Rattle.tm_types.specs.SegTypes.{IsHierarchy}
-use Rattle.model_rows.specs.declared.row.Row.{Row}
-use Rattle.model_rows.specs.Path.{key_cmp}
-use Rattle.model_rows.specs.Record.{IsRecord}
+use Rattle.model_data.specs.declared.row.Row.{Row}
+use Rattle.model_data.specs.Path.{key_cmp}
+use Rattle.model_data.specs.Record.{IsRecord}
 
 -- each entry is a record under its root, the roots ascend, and are no more than the database may have
 pub record AreKept (dbd : Dbd) (records : List (List ℕ × List Row)) : Type 0 where

@@ -1,8 +1,8 @@
 -- When a record isn't set.
 use Rattle.std.specs.Prelude.{◌≡◌, ℕ, List, Option, None, Some, if◌then◌else◌}
 use Rattle.tm_types.specs.declared.dbd.Dbd.{Dbd}
-use Rattle.model_rows.specs.declared.row.Row.{Row}
-use Rattle.model_rows.specs.Rows.{passes_roots, passes_length}
+use Rattle.model_data.specs.declared.row.Row.{Row}
+use Rattle.model_data.specs.Rows.{passes_roots, passes_length}
 use Rattle.seg_rows.specs.declared.rows.StoreRefused.{StoreRefused}
 use Rattle.seg_rows.specs.declared.rows.StoreRefused.TheVariants.{RootLimit, RecordTooLong, Memory}
 

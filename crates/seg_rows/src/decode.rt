@@ -3,15 +3,15 @@ ghost use Rattle.std.specs.Prelude.{◌≡◌, ◌≤◌, List, length, take, If
 ghost use Rattle.std.specs.Ordering.{is_lt};
 ghost use Rattle.std.specs.Option.{option_copied};
 ghost use Rattle.tm_types.specs.SegTypes.{IsHierarchy, type_at};
-ghost use Rattle.model_rows.specs.declared.row.Row.{Row};
-ghost use Rattle.model_rows.specs.Path.{path_cmp, end_type};
-ghost use Rattle.model_rows.specs.Record.{Spells};
-ghost use Rattle.model_rows.specs.Reading.{down_to, may_follow, row_at, row_of_type, next_row};
+ghost use Rattle.model_data.specs.declared.row.Row.{Row};
+ghost use Rattle.model_data.specs.Path.{path_cmp, end_type};
+ghost use Rattle.model_data.specs.Record.{Spells};
+ghost use Rattle.model_data.specs.Reading.{down_to, may_follow, row_at, row_of_type, next_row};
 ghost use Rattle.seg_rows.specs.DecodeFault.{RefusesBytes, DecodesTo};
 
 use crate::RecordImage;
 use crate::encode::record_limit;
-use model_rows::{Path, Row};
+use model_data::{Path, Row};
 use std::alloc::Global;
 use thiserror::Error;
 use tm_types::{Bytes, Dbd, Key, Memory, SegType, are_printable};

@@ -1,10 +1,10 @@
 //! A record is written as bytes.
 ghost use Rattle.std.specs.Prelude.{◌≡◌, ◌≤◌, ◌++◌, ◌∷◌, length, IfOk, IfErr, OnOk};
-ghost use Rattle.model_rows.specs.Record.{spelling, row_spelling, record_limit};
+ghost use Rattle.model_data.specs.Record.{spelling, row_spelling, record_limit};
 ghost use Rattle.seg_rows.specs.EncodeRefused.{RefusesRecord};
 
 use crate::RecordImage;
-use model_rows::Row;
+use model_data::Row;
 use std::alloc::Global;
 use thiserror::Error;
 use tm_types::{Bytes, Dbd, Memory};

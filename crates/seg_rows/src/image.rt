@@ -1,10 +1,10 @@
 //! The rows of a record.
 ghost use Rattle.std.specs.Prelude.{◌≡◌, ◌↔◌, ◌≤◌, ◌-◌, [], ◌∷◌, ◌++◌, length, slice_get, IsTrue, IfOk, OnOk, OnErr};
 ghost use Rattle.std.specs.Option.{option_copied};
-ghost use Rattle.model_rows.specs.Record.{spelling, record_root};
-ghost use Rattle.model_rows.specs.Reading.{last_path};
+ghost use Rattle.model_data.specs.Record.{spelling, record_root};
+ghost use Rattle.model_data.specs.Reading.{last_path};
 
-use model_rows::Row;
+use model_data::Row;
 use std::alloc::Global;
 use std::marker::Model;
 use tm_types::{Key, Memory};
@@ -17,7 +17,7 @@ pub struct RecordImage {
 
 impl Model for RecordImage {
     ghost use Rattle.std.specs.Prelude.{List};
-    ghost use Rattle.model_rows.specs.declared.row.Row.{Row};
+    ghost use Rattle.model_data.specs.declared.row.Row.{Row};
 
     ghost Value = { List Row };
 

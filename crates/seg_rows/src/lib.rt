@@ -7,7 +7,7 @@
 pub use decode::{DecodeFault, decode_record};
 pub use encode::{EncodeRefused, encode_record, record_limit, rows_as_bytes};
 pub use image::RecordImage;
-pub use model_rows::{Path, Row};
+pub use model_data::{Path, Row};
 pub use plain::PlainRows;
 pub use rows::{Rows, StoreRefused};
 

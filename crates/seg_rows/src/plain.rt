@@ -3,7 +3,7 @@ ghost use Rattle.std.specs.Prelude.{◌≡◌, [], IfOk, find, slice_get, not, i
 ghost use Rattle.std.specs.Ordering.{is_lt};
 ghost use Rattle.std.specs.Option.{option_copied, option_map};
 ghost use Rattle.std.specs.BTreeMap.{keys, get_by, btree_map_len, IsOrdered};
-ghost use Rattle.model_rows.specs.Path.{key_cmp};
+ghost use Rattle.model_data.specs.Path.{key_cmp};
 
 use crate::encode::record_limit;
 use crate::{RecordImage, Rows, StoreRefused};
@@ -21,7 +21,7 @@ pub struct PlainRows {
 }
 
 impl Model for PlainRows {
-    ghost use Rattle.model_rows.specs.Rows.{Database, rows_of};
+    ghost use Rattle.model_data.specs.Rows.{Database, rows_of};
     ghost use Rattle.seg_rows.specs.PlainRows.{AreKept};
 
     ghost Value = { Database };

@@ -23,8 +23,8 @@ pub enum StoreRefused {
 pub trait Rows {
     ghost use Rattle.std.specs.Prelude.{List};
     ghost use Rattle.tm_types.specs.declared.dbd.Dbd.{Dbd};
-    ghost use Rattle.model_rows.specs.declared.row.Row.{Row};
-    ghost use Rattle.model_rows.specs.Rows.{record_of, next_root, with_record, IsImage, AreRows};
+    ghost use Rattle.model_data.specs.declared.row.Row.{Row};
+    ghost use Rattle.model_data.specs.Rows.{record_of, next_root, with_record, IsImage, AreRows};
     ghost use Rattle.seg_rows.specs.StoreRefused.{set_refusal, RefusesToSet};
     ghost use Rattle.seg_rows.specs.NextRecord.{next_record};
 

@@ -1,7 +1,7 @@
 -- A store once more, with as much room.
 use Rattle.std.proofs.Common.{◌≡◌, ℕ, ◌≤◌, List, sym, subst}
 use Rattle.tm_types.specs.declared.dbd.Dbd.{Dbd}
-use Rattle.model_rows.specs.declared.row.Row.{Row}
+use Rattle.model_data.specs.declared.row.Row.{Row}
 use Rattle.seg_store.specs.Changed.{Kept}
 use Rattle.seg_store.specs.Store.{IsKept}
 

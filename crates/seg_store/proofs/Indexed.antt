@@ -8,9 +8,9 @@ use Rattle.std.specs.Map.{keys_of, lookup, remove_entry}
 use Rattle.std.proofs.lemmas.List.{length-map}
 use Rattle.tm_types.specs.declared.dbd.Dbd.{Dbd}
 use Rattle.tm_types.specs.SegTypes.{IsHierarchy}
-use Rattle.model_rows.specs.declared.row.Row.{Row}
-use Rattle.model_rows.specs.Path.{key_cmp}
-use Rattle.model_rows.specs.Record.{IsRecord}
+use Rattle.model_data.specs.declared.row.Row.{Row}
+use Rattle.model_data.specs.Path.{key_cmp}
+use Rattle.model_data.specs.Record.{IsRecord}
 use Rattle.seg_store.specs.Slots.{has_root, slot_of, AreSlots, free_slots}
 use Rattle.seg_store.specs.Store.{AreIndexed, free_numbers, count_below}
 use Rattle.seg_store.proofs.Places as places

@@ -1,8 +1,8 @@
 -- The next root and its record, by the index.
 use Rattle.std.proofs.Common.{◌≡◌, ℕ, ◌<◌, List, length, sym, ◌∙◌, ap, Option, None, Some, get_or}
 use Rattle.std.specs.Option.{option_map}
-use Rattle.model_rows.specs.declared.row.Row.{Row}
-use Rattle.model_rows.specs.Rows.{record_of, next_root, AreRows}
+use Rattle.model_data.specs.declared.row.Row.{Row}
+use Rattle.model_data.specs.Rows.{record_of, next_root, AreRows}
 use Rattle.tm_types.specs.declared.dbd.Dbd.{Dbd}
 use Rattle.seg_rows.specs.NextRecord.{next_record}
 use Rattle.seg_store.specs.Slots.{rows_of_slots, slot_of}

@@ -6,10 +6,10 @@ use Rattle.std.specs.Option.{option_or, unwrap_or, option_map}
 use Rattle.std.proofs.lemmas.Bool.{cases_lt, cases_eq, eq-eqb, ne_eqb}
 use Rattle.std.proofs.lemmas.List.{get_or-set_same, get_or-set_other, length-set, set_past, take_more, map-append, get_or_default, take-append-drop}
 use Rattle.std.proofs.lemmas.Option.{slice_get-map, slice_get-get_or}
-use Rattle.model_rows.specs.declared.row.Row.{Row}
-use Rattle.model_rows.specs.Record.{spelling}
-use Rattle.model_disk.specs.Disk.{Image, DiskState, sector_at, with_sector, MayWrite, Elapses, Follows, Within}
-use Rattle.model_disk.proofs.Words.{within_on, follows_on}
+use Rattle.model_data.specs.declared.row.Row.{Row}
+use Rattle.model_data.specs.Record.{spelling}
+use Rattle.tm_disk.specs.Disk.{Image, DiskState, sector_at, with_sector, MayWrite, Elapses, Follows, Within}
+use Rattle.tm_disk.proofs.Words.{within_on, follows_on}
 use Rattle.seg_store.specs.DataSectors.{data_sector, IsGivenAt, given_at, MayPut, HasPut, PutsFront, bytes_of}
 
 -- a slot of a list is given to its place

@@ -4,9 +4,9 @@ use Rattle.std.specs.Int.{w16, to_be_bytes}
 use Rattle.std.proofs.lemmas.List.{length-replicate, drop-replicate, drop_at, take_at, drop-drop, take-append-drop, length-append, take_more, take_all}
 use Rattle.std.proofs.lemmas.Grind.{flat_map-append}
 use Rattle.tm_disk.specs.Sector.{zeros, blank}
-use Rattle.model_rows.specs.declared.row.Row.{Row}
-use Rattle.model_rows.specs.Path.{end_type}
-use Rattle.model_rows.specs.Record.{spelling, row_spelling}
+use Rattle.model_data.specs.declared.row.Row.{Row}
+use Rattle.model_data.specs.Path.{end_type}
+use Rattle.model_data.specs.Record.{spelling, row_spelling}
 use Rattle.seg_store.specs.DataSectors.{data_sector}
 
 length-zeros : (n : ℕ) → length (zeros n) ≡ n

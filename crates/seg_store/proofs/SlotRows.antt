@@ -16,14 +16,14 @@ use Rattle.std.proofs.lemmas.List.{length-set, length-map}
 use Rattle.std.proofs.lemmas.Option.{slice_get-get_or, slice_get_within}
 use Rattle.tm_types.specs.declared.dbd.Dbd.{Dbd}
 use Rattle.tm_types.specs.SegTypes.{IsHierarchy}
-use Rattle.model_rows.specs.declared.row.Row.{Row}
-use Rattle.model_rows.specs.Path.{key_cmp, root_of}
-use Rattle.model_rows.specs.Record.{IsRecord, IsLongRecord, spelling, record_limit, record_root}
-use Rattle.model_rows.specs.Rows.{record_of, with_record, roots, rows_of, AreRows, passes_roots, passes_length}
-use Rattle.model_rows.proofs.Order.{key_total}
-use Rattle.model_rows.proofs.Records.{is_eq-true}
-use Rattle.model_rows.proofs.Entries.{entries_record, entries_insert, entries_remove}
-use Rattle.model_rows.proofs.Roots.{AreRecords, records_rooted, entries_roots, entries_rows}
+use Rattle.model_data.specs.declared.row.Row.{Row}
+use Rattle.model_data.specs.Path.{key_cmp, root_of}
+use Rattle.model_data.specs.Record.{IsRecord, IsLongRecord, spelling, record_limit, record_root}
+use Rattle.model_data.specs.Rows.{record_of, with_record, roots, rows_of, AreRows, passes_roots, passes_length}
+use Rattle.model_data.proofs.Order.{key_total}
+use Rattle.model_data.proofs.Records.{is_eq-true}
+use Rattle.model_data.proofs.Entries.{entries_record, entries_insert, entries_remove}
+use Rattle.model_data.proofs.Roots.{AreRecords, records_rooted, entries_roots, entries_rows}
 use Rattle.seg_rows.specs.StoreRefused.{set_refusal}
 use Rattle.seg_rows.specs.declared.rows.StoreRefused.TheVariants.{RootLimit, RecordTooLong}
 use Rattle.seg_store.specs.Slots.{image_root, has_root, is_free, AtMostOne, slot_of, lowest_free, first_of, with_image, with_root, rows_of_slots, IsSlot, AreSlots, free_slots, without_root}

@@ -5,10 +5,10 @@ use Rattle.std.specs.List.{slice_get, AllByRecursion}
 use Rattle.std.specs.Option.{option_or, unwrap_or}
 use Rattle.std.proofs.lemmas.List.Sums.{sum_by-cons, sum_by-take-le}
 use Rattle.std.proofs.lemmas.List.{append-nil, map-append}
-use Rattle.model_rows.specs.declared.row.Row.{Row}
-use Rattle.model_rows.specs.Record.{spelling}
-use Rattle.model_disk.specs.Disk.{Image, DiskState, sector_at, Follows, Within}
-use Rattle.model_disk.proofs.Words.{follows_on, follows_more, within_more, within_within}
+use Rattle.model_data.specs.declared.row.Row.{Row}
+use Rattle.model_data.specs.Record.{spelling}
+use Rattle.tm_disk.specs.Disk.{Image, DiskState, sector_at, Follows, Within}
+use Rattle.tm_disk.proofs.Words.{follows_on, follows_more, within_more, within_within}
 use Rattle.seg_store.specs.Slots.{Stored, AreSlots}
 use Rattle.seg_store.specs.Changed.{Kept, stored, all_stores}
 use Rattle.seg_store.specs.DataSectors.{data_sector, IsGivenAt, given_at, MayPut, HasPut, PutsFront, bytes_of}

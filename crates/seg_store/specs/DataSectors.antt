@@ -2,10 +2,10 @@
 use Rattle.std.specs.Prelude.{◌≡◌, ◌⊎◌, ℕ, ◌+◌, ◌-◌, ◌==◌, List, [], ◌∷◌, ◌++◌, length, map, slice_index_or, if◌then◌else◌, Option, None, Some}
 use Rattle.std.specs.Option.{option_or, unwrap_or}
 use Rattle.std.specs.Int.{w16, to_be_bytes}
-use Rattle.model_disk.specs.Disk.{Image, sector_at}
+use Rattle.tm_disk.specs.Disk.{Image, sector_at}
 use Rattle.tm_disk.specs.Sector.{zeros}
-use Rattle.model_rows.specs.declared.row.Row.{Row}
-use Rattle.model_rows.specs.Record.{spelling}
+use Rattle.model_data.specs.declared.row.Row.{Row}
+use Rattle.model_data.specs.Record.{spelling}
 
 -- a sector with these bytes of a record, of which there are at most 4,000: how many they are, the bytes, and zeros to
 -- the end; no record has no bytes

@@ -6,10 +6,10 @@ use Rattle.std.specs.List.{AllByRecursion}
 use Rattle.std.specs.Ordering.{is_eq}
 use Rattle.tm_types.specs.declared.dbd.Dbd.{Dbd}
 use Rattle.tm_types.specs.SegTypes.{IsHierarchy}
-use Rattle.model_rows.specs.declared.row.Row.{Row}
-use Rattle.model_rows.specs.Path.{key_cmp, root_of}
-use Rattle.model_rows.specs.Record.{IsRecord}
-use Rattle.model_rows.specs.Rows.{with_record}
+use Rattle.model_data.specs.declared.row.Row.{Row}
+use Rattle.model_data.specs.Path.{key_cmp, root_of}
+use Rattle.model_data.specs.Record.{IsRecord}
+use Rattle.model_data.specs.Rows.{with_record}
 
 -- a database with its slots
 pub record Stored : Type 0 where

@@ -1,7 +1,7 @@
 -- The changed slots of all databases, and what writing them leaves.
 use Rattle.std.specs.Prelude.{ℕ, ◌+◌, List, [], ◌∷◌, ◌++◌, length, map, slice_index_or, sum_by}
-use Rattle.model_rows.specs.declared.row.Row.{Row}
-use Rattle.model_rows.specs.Record.{spelling}
+use Rattle.model_data.specs.declared.row.Row.{Row}
+use Rattle.model_data.specs.Record.{spelling}
 use Rattle.seg_store.specs.Slots.{Stored}
 use Rattle.seg_store.specs.Changed.{Kept, AllStores}
 

@@ -2,11 +2,11 @@
 ghost use Rattle.std.specs.Prelude.{◌≡◌, ◌+◌, ◌<◌, ◌≤◌, IsTrue, OnOk, OnErr, length};
 ghost use Rattle.std.specs.List.{AllByRecursion};
 ghost use Rattle.std.specs.Int.{w16, to_be_bytes};
-ghost use Rattle.model_disk.specs.Disk.{Stays, Within, Follows, WritesAtMost, FailedSince};
-ghost use Rattle.model_rows.specs.Record.{spelling};
+ghost use Rattle.tm_disk.specs.Disk.{Stays, Within, Follows, WritesAtMost, FailedSince};
+ghost use Rattle.model_data.specs.Record.{spelling};
 ghost use Rattle.seg_store.specs.DataSectors.{data_sector, MayPut, HasPut, PutsFront, bytes_of};
 
-use model_rows::Row;
+use model_data::Row;
 use seg_rows::RecordImage;
 use tm_disk::{Disk, DiskFault, Sector};
 

@@ -7,7 +7,7 @@ ghost use Rattle.std.specs.Option.{option_copied};
 ghost use Rattle.std.specs.BTreeMap.{is_at, insert_entry};
 ghost use Rattle.std.specs.Map.{keys_of, lookup, remove_entry};
 ghost use Rattle.std.specs.Vec.{vec_capacity};
-ghost use Rattle.model_rows.specs.Path.{key_cmp};
+ghost use Rattle.model_data.specs.Path.{key_cmp};
 ghost use Rattle.seg_store.specs.Store.{next_entry};
 
 use tm_types::Key;

@@ -2,10 +2,10 @@
 ghost use Rattle.std.specs.Prelude.{◌≡◌, ◌↔◌, ◌*◌, ◌+◌, ◌≤◌, ◌<◌, ◌≢◌, ℕ, [], IfOk, IfErr, OnOk, OnErr, IsOk, IsTrue, None, Some, slice_get, slice_set, length};
 ghost use Rattle.std.specs.Vec.{vec_len};
 ghost use Rattle.std.specs.Option.{is_some, option_copied};
-ghost use Rattle.model_rows.specs.Record.{IsRecord, IsLongRecord};
-ghost use Rattle.model_rows.specs.Rows.{record_of, with_record, IsImage, AreRows};
+ghost use Rattle.model_data.specs.Record.{IsRecord, IsLongRecord};
+ghost use Rattle.model_data.specs.Rows.{record_of, with_record, IsImage, AreRows};
 ghost use Rattle.seg_rows.specs.StoreRefused.{set_refusal};
-ghost use Rattle.model_disk.specs.Disk.{Stays, Within, Follows, WritesAtMost, FailedSince};
+ghost use Rattle.tm_disk.specs.Disk.{Stays, Within, Follows, WritesAtMost, FailedSince};
 ghost use Rattle.seg_store.specs.Changed.{stored, with_number, with_changed, slot_changed, AreChanged};
 ghost use Rattle.seg_store.specs.DataSectors.{bytes_of, MayPut, HasPut, PutsFront};
 ghost use Rattle.seg_store.specs.Slots.{image_root, slot_of, lowest_free, slot_for, with_root, rows_of_slots, AreSlots, free_slots, without_root};

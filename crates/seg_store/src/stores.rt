@@ -2,7 +2,7 @@
 ghost use Rattle.std.specs.Prelude.{◌≡◌, ◌+◌, ◌≤◌, ◌-◌, IfOk, OnOk, OnErr, Some, length, slice_get, IsTrue, ◌↔◌, []};
 ghost use Rattle.std.specs.Borrow.{sem};
 ghost use Rattle.std.specs.List.{AllByRecursion};
-ghost use Rattle.model_disk.specs.Disk.{Stays, Within, Follows, WritesAtMost, FailedSince};
+ghost use Rattle.tm_disk.specs.Disk.{Stays, Within, Follows, WritesAtMost, FailedSince};
 ghost use Rattle.seg_store.specs.Slots.{AreSlots};
 ghost use Rattle.seg_store.specs.DataSectors.{MayPut, HasPut, PutsFront};
 ghost use Rattle.seg_store.specs.WriteBack.{slot_count, changed_count, changed_bytes, all_written};

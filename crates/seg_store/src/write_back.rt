@@ -1,7 +1,7 @@
 //! The changed slots of all databases, written to their sectors.
 ghost use Rattle.std.specs.Prelude.{◌≡◌, ◌+◌, ◌<◌, ◌≤◌, [], length, take, map, IsTrue, IfOk, OnOk, OnErr, Some, slice_get, slice_set};
 ghost use Rattle.std.specs.List.{AllByRecursion};
-ghost use Rattle.model_disk.specs.Disk.{Stays, Within, Follows, WritesAtMost, FailedSince};
+ghost use Rattle.tm_disk.specs.Disk.{Stays, Within, Follows, WritesAtMost, FailedSince};
 ghost use Rattle.seg_store.specs.Changed.{Kept};
 ghost use Rattle.seg_store.specs.DataSectors.{MayPut, HasPut, PutsFront, bytes_of};
 ghost use Rattle.seg_store.specs.WriteBack.{kept_slots, kept_bytes, kept_count, written_kept};

@@ -5,10 +5,10 @@ use Rattle.std.specs.Prelude.{Option, Some, None, Result, Ok, Err, IfSome, find,
 use Rattle.std.specs.Option.{option_and_then, option_map}
 use Rattle.std.specs.Str.{bytes_eq}
 use Rattle.text_rows.specs.Lowest.{also}
-use Rattle.model_format.specs.declared.fields.FieldValue.{FieldValue}
-use Rattle.model_format.specs.Formats.{FormatLines}
+use Rattle.model_system.specs.declared.fields.FieldValue.{FieldValue}
+use Rattle.model_system.specs.Formats.{FormatLines}
 use Rattle.model_system.specs.declared.screen.Screen.{Screen}
-use Rattle.model_system.specs.Formats.{format_named, format_of}
+use Rattle.model_system.specs.ModelSystemFormats.{format_named, format_of}
 use Rattle.model_system.specs.System.{System}
 use Rattle.model_session.specs.declared.asked.Form.{Form}
 use Rattle.model_session.specs.declared.asked.Form.TheVariants.{Input as InputForm, Screen as ScreenForm, Receive as ReceiveForm, Acknowledge as AcknowledgeForm, Turn as TurnForm, Quiet as QuietForm, Power as PowerForm, PowerIn as PowerInForm}
@@ -18,8 +18,8 @@ use Rattle.model_session.specs.Blocks.{Block, alone, and_field, and_line, and_te
 use Rattle.model_session.specs.Bounded.{AsksAlike, HasScreens, whole, whole_input, whole_screen, with_lines}
 use Rattle.model_session.specs.Lines.{asked_by, asked_of, block_form, command_asked, entered_asked, first_long, form_of, further_forms, input_long, input_texts, is_command, printable_block, screen_asked, unless_long}
 use Rattle.model_session.proofs.Bounded.{keeps_enough}
-use Rattle.model_command.specs.Commands.{command_of}
-use Rattle.model_format.specs.Entering.{entered}
+use Rattle.model_machine.specs.Commands.{command_of}
+use Rattle.model_system.specs.Entering.{entered}
 use Rattle.session_lines.specs.Asking.{HasFew}
 
 -- ---- the system with the screen of one terminal alone

@@ -2,7 +2,7 @@
 use Rattle.std.proofs.Common.{◌≡◌, ◌∙◌, ℕ, List, ap, sym, refl}
 use Rattle.std.specs.Prelude.{Result, Ok, Err, OnOk}
 use Rattle.text_rows.specs.Lowest.{also}
-use Rattle.model_format.specs.declared.fields.FieldValue.{FieldValue}
+use Rattle.model_system.specs.declared.fields.FieldValue.{FieldValue}
 use Rattle.model_session.specs.Blocks.{Block, and_field, and_value, field_of, first_values, judged, put_value}
 
 no_more : (before : Result (Unit {0}) ℕ) → also {A = Unit {0}} {B = Unit {0}} before (Ok tt) ≡ before

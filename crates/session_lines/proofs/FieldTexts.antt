@@ -6,7 +6,7 @@ use Rattle.tm_types.specs.Segment.{is_printable, are_printable}
 use Rattle.tm_types.specs.Words.{operands}
 use Rattle.text_rows.specs.Lines.{split_at}
 use Rattle.text_rows.specs.Lowest.{also}
-use Rattle.model_format.specs.declared.fields.FieldValue.{FieldValue}
+use Rattle.model_system.specs.declared.fields.FieldValue.{FieldValue}
 use Rattle.model_session.specs.Blocks.{field_of, field_parts, has_operand, with_text}
 use Rattle.model_session.specs.Numbers.{name_operand}
 use Rattle.session_lines.proofs.Printable.{all_drop, printable_operands}

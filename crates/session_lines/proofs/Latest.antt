@@ -10,7 +10,7 @@ use Rattle.std.proofs.lemmas.List.{length-map, take_all, take_at}
 use Rattle.std.proofs.lemmas.Slice.Eq.{bytes_eq-Decides}
 use Rattle.indexmap.specs.IndexMap.{insert_entry}
 use Rattle.tm_types.specs.Segment.{are_printable}
-use Rattle.model_format.specs.declared.fields.FieldValue.{FieldValue}
+use Rattle.model_system.specs.declared.fields.FieldValue.{FieldValue}
 use Rattle.model_session.specs.Blocks.{first_values, put_value}
 use Rattle.mfs_edit.specs.Texts.{values_printable}
 use Rattle.session_lines.specs.Values.{is_kept, value_of, values_of}

@@ -4,9 +4,9 @@ use Rattle.std.specs.Prelude.{Option, Some, None, Result, Ok, Err, IfOk, IsTrue}
 use Rattle.std.specs.List.{list_all}
 use Rattle.std.proofs.lemmas.Bool.Decides.{nat_tests}
 use Rattle.tm_types.specs.Segment.{are_printable}
-use Rattle.model_format.specs.declared.fields.FieldValue.{FieldValue}
-use Rattle.model_format.specs.Entering.{entered}
-use Rattle.model_format.specs.Formats.{FormatLines}
+use Rattle.model_system.specs.declared.fields.FieldValue.{FieldValue}
+use Rattle.model_system.specs.Entering.{entered}
+use Rattle.model_system.specs.Formats.{FormatLines}
 use Rattle.model_machine.specs.declared.entry.ControlCall.TheVariants.{Input}
 use Rattle.model_system.specs.System.{System}
 use Rattle.model_session.specs.declared.asked.Asked.{Asked}

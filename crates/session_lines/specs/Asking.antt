@@ -4,7 +4,7 @@ use Rattle.std.specs.List.{list_all}
 use Rattle.model_session.specs.declared.asked.Form.{Form}
 use Rattle.model_session.specs.declared.asked.Form.TheVariants.{Input, Screen, Receive, Acknowledge, Turn, Quiet, Power, PowerIn}
 use Rattle.tm_types.specs.Segment.{are_printable}
-use Rattle.model_system.specs.Formats.{format_of}
+use Rattle.model_system.specs.ModelSystemFormats.{format_of}
 use Rattle.model_system.specs.System.{System}
 use Rattle.model_session.specs.Blocks.{Block}
 use Rattle.model_session.specs.Lines.{block_form, is_command}

@@ -1,8 +1,8 @@
 //! What a block asks for.
 ghost use Rattle.std.specs.Prelude.{◌≡◌, ℕ, ◌+◌, ◌<◌, ◌≤◌, ◌++◌, ◌∷◌, [], true, false, Some, None, Err, List, Result, IsTrue, IfOk, IfSome, IfErr, OnOk, OnErr, length, map, replicate};
 ghost use Rattle.std.specs.List.{list_all};
-ghost use Rattle.model_format.specs.Breaks.{KeepsRule};
-ghost use Rattle.model_system.specs.Formats.{format_of};
+ghost use Rattle.model_system.specs.Breaks.{KeepsRule};
+ghost use Rattle.model_system.specs.ModelSystemFormats.{format_of};
 ghost use Rattle.tm_types.specs.Segment.{are_printable};
 ghost use Rattle.model_session.specs.Lines as spec;
 ghost use Rattle.model_session.specs.Blocks.{alone, takes_further};
@@ -16,9 +16,9 @@ use crate::forms::form_of;
 use crate::rules::{NOT_PRINTABLE, WRONG_OPERANDS};
 use crate::words::has_operand;
 use mfs_edit::{EditRefused, edit_in};
-use model_format::{DeviceField, Format};
 use model_machine::ControlCall;
 use model_session::{Asked, Form, InputStopped, Others};
+use model_system::{DeviceField, Format};
 use std::alloc::Global;
 use system_types::System;
 use text_rows::also;

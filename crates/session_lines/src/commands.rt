@@ -1,10 +1,9 @@
 //! Operator commands as session lines.
 ghost use Rattle.std.specs.Prelude.{◌≡◌, ℕ, take, Ok};
 ghost use Rattle.model_session.specs.Lines as spec;
-ghost use Rattle.model_command.specs.Commands.{command_of};
+ghost use Rattle.model_machine.specs.Commands.{command_of};
 
-use model_command::Command;
-use model_machine::ControlCall;
+use model_machine::{Command, ControlCall};
 use model_session::Asked;
 use oper_cmds::read_command;
 

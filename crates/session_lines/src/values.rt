@@ -2,14 +2,14 @@
 ghost use Rattle.std.specs.Prelude.{◌≡◌, ◌∷◌, ◌++◌, [], IfOk, OnOk, OnErr, IsTrue, length};
 ghost use Rattle.std.specs.List.{list_any};
 ghost use Rattle.std.specs.Str.{bytes_eq};
-ghost use Rattle.model_format.specs.declared.fields.FieldValue.{FieldValue};
+ghost use Rattle.model_system.specs.declared.fields.FieldValue.{FieldValue};
 ghost use Rattle.model_session.specs.Blocks as spec;
 ghost use Rattle.mfs_edit.specs.Texts.{values_printable};
 ghost use Rattle.tm_types.specs.Segment.{are_printable};
 ghost use Rattle.session_lines.specs.Values.{is_kept, values_of};
 
 use indexmap::IndexMap;
-use model_format::{FieldValue, Fields};
+use model_system::{FieldValue, Fields};
 use std::alloc::Global;
 use std::marker::Model;
 use tm_types::{Bytes, Memory, Name};
@@ -26,7 +26,7 @@ pub struct LastValues {
 
 impl Model for LastValues {
     ghost use Rattle.std.specs.Prelude.{List, length, ◌≤◌, IsTrue};
-    ghost use Rattle.model_format.specs.declared.fields.FieldValue.{FieldValue};
+    ghost use Rattle.model_system.specs.declared.fields.FieldValue.{FieldValue};
     ghost use Rattle.mfs_edit.specs.Texts.{values_printable};
     ghost use Rattle.session_lines.specs.Values.{values_of};
 

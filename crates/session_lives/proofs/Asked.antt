@@ -1,8 +1,8 @@
 -- What was asked of a control region, by the fault that its call met.
 use Rattle.std.proofs.Common.{◌≡◌, ℕ, Bool, true, false, List, sym, ◌∙◌, ap, subst, refl, arith}
 use Rattle.std.specs.Prelude.{◌↔◌, IfOk, IsTrue, Option, Some, None, Result, Ok, Err}
-use Rattle.model_disk.specs.Disk.{DiskState, Only}
-use Rattle.model_disk.proofs.Words.{stays_same, stays_on}
+use Rattle.tm_disk.specs.Disk.{DiskState, Only}
+use Rattle.tm_disk.proofs.Words.{stays_same, stays_on}
 use Rattle.model_machine.specs.declared.entry.Entry.{Entry}
 use Rattle.model_machine.specs.declared.entry.Entry.TheVariants.{Accept, Show, Acked, Turn, Commanded, Checked}
 use Rattle.model_machine.specs.declared.entry.ControlCall.TheVariants.{Command as CommandCall, Checkpoint as CheckpointCall}
@@ -14,13 +14,13 @@ use Rattle.model_machine.specs.declared.entry.CommandRefused.{CommandRefused}
 use Rattle.model_machine.specs.declared.entry.CommandRefused.TheVariants.{UnknownName, Busy, NoConversation, Fault as CommandFault}
 use Rattle.model_machine.specs.declared.entry.CheckpointRefused.{CheckpointRefused}
 use Rattle.model_machine.specs.declared.entry.CheckpointRefused.TheVariants.{BusyRegion, Fault as CheckpointFault}
-use Rattle.model_command.specs.declared.command.Command.{Command}
-use Rattle.model_command.specs.declared.answer.Answer.{Answer}
-use Rattle.model_machine.specs.Commands.{command_answer}
+use Rattle.model_machine.specs.declared.command.Command.{Command}
+use Rattle.model_machine.specs.declared.answer.Answer.{Answer}
+use Rattle.model_machine.specs.ModelMachineCommands.{command_answer}
 use Rattle.model_machine.specs.History.{May, is_fault, call_of, now_of}
 use Rattle.model_session.specs.declared.asked.Asked.TheVariants.{Call}
 use Rattle.model_session.specs.Text.{entry_text, command_text, checkpoint_text}
-use Rattle.control_life.specs.Faults.{fault_in}
+use Rattle.openings.specs.Faults.{fault_in}
 use Rattle.model_machine.specs.declared.counts.Counter.{Counter}
 use Rattle.tm_control.specs.OnDisk.{ControlOnDisk, spent_now}
 use Rattle.tm_control.specs.Calls.{StaysSo, AddsBy, AddedNothing, SpentBy, StaysSpent}

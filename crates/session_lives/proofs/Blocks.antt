@@ -1,7 +1,7 @@
 -- A block that was served, by what it asks for of the session's system.
 use Rattle.std.proofs.Common.{◌≡◌, ℕ, true, List, sym, ◌∙◌, ap, subst, refl, arith, inl}
-use Rattle.model_disk.specs.Disk.{DiskState}
-use Rattle.model_disk.proofs.Words.{stays_same}
+use Rattle.tm_disk.specs.Disk.{DiskState}
+use Rattle.tm_disk.proofs.Words.{stays_same}
 use Rattle.model_system.specs.System.{System}
 use Rattle.model_session.specs.Blocks.{Block}
 use Rattle.model_session.specs.Lines.{asked_of}

@@ -2,21 +2,21 @@
 use Rattle.std.proofs.Common.{◌≡◌, ℕ, ◌+◌, ◌*◌, ◌≤◌, true, List, [], ◌∷◌, ◌++◌, length, sym, ◌∙◌, ap, subst, arith}
 use Rattle.std.specs.Prelude.{Option, Some, None, Result}
 use Rattle.std.proofs.lemmas.List.{length-append}
-use Rattle.model_disk.specs.Disk.{DiskState, IsDisk, NoMore}
+use Rattle.tm_disk.specs.Disk.{DiskState, IsDisk, NoMore}
 use Rattle.model_system.specs.System.{System}
 use Rattle.model_machine.specs.declared.entry.Entry.{Entry}
 use Rattle.model_machine.specs.declared.entry.Entry.TheVariants.{Turn}
 use Rattle.model_machine.specs.declared.entry.Turned.{Turned}
-use Rattle.control_life.specs.Faults.{fault_in}
+use Rattle.openings.specs.Faults.{fault_in}
 use Rattle.model_machine.specs.declared.entry.ControlFault.{ControlFault}
 use Rattle.model_machine.specs.declared.entry.ControlFault.TheVariants.{Memory, Disk, Spent}
 use Rattle.checkpointing.specs.Counts.{CountsUpTo}
 use Rattle.checkpointing.proofs.Counted.{up_to_more}
-use Rattle.checkpoint_law.specs.Counted.{StandsUpTo}
+use Rattle.disk_law.specs.Counted.{StandsUpTo}
 use Rattle.disk_law.specs.Journal.{JournalState}
 use Rattle.tm_control.specs.OnDisk.{ControlOnDisk}
 use Rattle.tm_control.specs.Calls.{StaysSo, AddsBy, CountsSince, KeepsLog, RaisesBy, StaysSpent, StaysUndone, with_room}
-use Rattle.counter_law.specs.Measures.{call_raises}
+use Rattle.session_law.specs.Measures.{call_raises}
 use Rattle.session_lives.specs.Counting.{CountsUp, KeepsPace}
 
 -- ---- bounds

@@ -3,8 +3,8 @@ use Rattle.std.proofs.Common.{◌≡◌, ◌⊎◌, ℕ, ◌+◌, ◌*◌, ◌-�
 use Rattle.std.proofs.lemmas.List.{append-nil, length-append}
 use Rattle.std.specs.Prelude.{if◌then◌else◌, Option, Some, None, Ok}
 use Rattle.std.specs.Option.{option_map}
-use Rattle.model_disk.specs.Disk.{Image, DiskState, IsSameDisk, Only, Rose}
-use Rattle.model_disk.proofs.Words.{same_on}
+use Rattle.tm_disk.specs.Disk.{Image, DiskState, IsSameDisk, Only, Rose}
+use Rattle.tm_disk.proofs.Words.{same_on}
 use Rattle.model_system.specs.System.{System}
 use Rattle.model_machine.specs.declared.entry.Entry.{Entry}
 use Rattle.model_machine.specs.declared.entry.ControlFault.TheVariants.{Disk}
@@ -15,14 +15,14 @@ use Rattle.checkpointing.specs.Texts.{HasText}
 use Rattle.checkpointing.specs.Counts.{CountsUpTo}
 use Rattle.checkpointing.proofs.Counted.{up_to_more}
 use Rattle.system_types.specs.Valid.{IsSystem}
-use Rattle.counter_law.specs.Measures.{call_raises, last_measure, lives_measure, measure}
-use Rattle.cold_start.specs.FirstImage.{sectors_needed}
+use Rattle.session_law.specs.Measures.{call_raises, last_measure, lives_measure, measure}
+use Rattle.openings.specs.FirstImage.{sectors_needed}
 use Rattle.disk_law.specs.Kept.{RecoversEither}
 use Rattle.model_session.specs.Lives.{LifeState, LastLife, AreLegal, HasAnswered, Leaves, is_disk_fault, longer}
 use Rattle.model_session.specs.Standing.{Standing, Outage, SessionState, Stop, AreStops, LastAnswered, IsLeft, gone_on, ended, broken}
 use Rattle.model_session.specs.Standing.Standing.{Up as StandsUp, Down as StandsDown}
 use Rattle.tm_control.specs.OnDisk.{ControlOnDisk, LastsBy, lasting_after}
-use Rattle.control_life.specs.declared.life.Life.{Life}
+use Rattle.openings.specs.declared.life.Life.{Life}
 use Rattle.session_lives.specs.declared.place.Idle.{Idle}
 use Rattle.session_lives.specs.declared.place.Place.TheVariants.{Up, Down}
 use Rattle.session_lives.specs.declared.place.Kept.{Kept}

@@ -1,5 +1,5 @@
 -- What leads on, whatever disk was handed in.
-use Rattle.model_disk.specs.Disk.{DiskState}
+use Rattle.tm_disk.specs.Disk.{DiskState}
 use Rattle.model_session.specs.Standing.{Setting, SessionState}
 use Rattle.session_lives.specs.declared.place.Session.{Session}
 use Rattle.session_lives.specs.Running.{Course, Leads, LeadsBy}

@@ -1,6 +1,6 @@
 -- What the disk is cut with, behind a block.
 use Rattle.std.proofs.Common.{◌≡◌, ℕ, Bool, true, false, List, sym, ◌∙◌, ap, subst, refl}
-use Rattle.model_disk.specs.Disk.{DiskState, IsCut}
+use Rattle.tm_disk.specs.Disk.{DiskState, IsCut}
 use Rattle.model_session.specs.Blocks.{Block}
 use Rattle.model_session.specs.Lines.{asked_of}
 use Rattle.model_session.specs.declared.asked.Asked.{Asked}

@@ -1,14 +1,14 @@
 -- An opening that was refused.
 use Rattle.std.proofs.Common.{◌≡◌, ℕ, Bool, false, List, [], ◌∷◌, ◌++◌, sym, ◌∙◌, ap, subst}
 use Rattle.std.specs.Prelude.{Option}
-use Rattle.model_disk.specs.Disk.{DiskState, Within, IsCut}
+use Rattle.tm_disk.specs.Disk.{DiskState, Within, IsCut}
 use Rattle.model_system.specs.System.{System}
-use Rattle.opening_answers.specs.declared.refusals.OpenError.{OpenError}
-use Rattle.opening_answers.specs.declared.refusals.OpenError.TheVariants.{BadImage, WrongDefinition, TooSmall, Spent, Disk, Memory}
-use Rattle.opening_answers.specs.Opening.{WroteNothing}
+use Rattle.openings.specs.declared.refusals.OpenError.{OpenError}
+use Rattle.openings.specs.declared.refusals.OpenError.TheVariants.{BadImage, WrongDefinition, TooSmall, Spent, Disk, Memory}
+use Rattle.openings.specs.Opening.{WroteNothing}
 use Rattle.checkpointing.specs.Counts.{RaisesCounts}
-use Rattle.control_life.specs.Opened.{HandsBack}
-use Rattle.control_life.specs.declared.life.Life.{Life}
+use Rattle.openings.specs.Opened.{HandsBack}
+use Rattle.openings.specs.declared.life.Life.{Life}
 use Rattle.session_lives.specs.declared.called.Opening.{Opening}
 use Rattle.session_lives.specs.declared.place.Idle.{Idle}
 use Rattle.session_lives.specs.declared.place.Kept.{Kept}

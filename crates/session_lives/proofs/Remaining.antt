@@ -3,7 +3,7 @@ use Rattle.std.proofs.Common.{◌≡◌, ℕ, Bool, true, false, List, [], ◌�
 use Rattle.std.proofs.lemmas.List.{append-nil, map-append}
 use Rattle.std.specs.Prelude.{Option, Some, None, Ok}
 use Rattle.std.specs.Option.{option_map, is_some}
-use Rattle.model_disk.specs.Disk.{Image, DiskState}
+use Rattle.tm_disk.specs.Disk.{Image, DiskState}
 use Rattle.model_system.specs.System.{System}
 use Rattle.model_machine.specs.Machine.{start_of}
 use Rattle.model_machine.specs.History.{moment_after, now_of}
@@ -12,7 +12,7 @@ use Rattle.model_session.specs.Lives.{LifeState, AreLegal, HasAnswered, kept_lif
 use Rattle.model_session.specs.Standing.{Stop, AreStops}
 use Rattle.model_session.specs.Standing.Standing.{Up as StandsUp}
 use Rattle.tm_control.specs.OnDisk.{ControlOnDisk, LastsBy}
-use Rattle.control_life.specs.declared.life.Life.{Life}
+use Rattle.openings.specs.declared.life.Life.{Life}
 use Rattle.session_lives.specs.declared.place.Idle.{Idle}
 use Rattle.session_lives.specs.declared.place.Place.TheVariants.{Up, Down, Moved}
 use Rattle.session_lives.specs.declared.place.Place.{Place}

@@ -4,8 +4,8 @@ use Rattle.std.specs.Prelude.{Option, Some, None, slice_get, if◌then◌else◌
 use Rattle.std.specs.Option.{option_map_or, option_and_then}
 use Rattle.tm_types.specs.declared.message.Reply.{Reply}
 use Rattle.model_system.specs.System.{System}
-use Rattle.model_system.specs.Formats.{format_of}
-use Rattle.model_queues.specs.declared.replies.TerminalReplies.{TerminalReplies}
+use Rattle.model_system.specs.ModelSystemFormats.{format_of}
+use Rattle.model_messages.specs.declared.replies.TerminalReplies.{TerminalReplies}
 use Rattle.model_machine.specs.declared.lasting.TerminalState.{TerminalState}
 use Rattle.model_machine.specs.declared.entry.ShowAnswer.TheVariants.{Reply as Showed, Empty, Stopped}
 use Rattle.model_machine.specs.Machine.{Moment, terminal_at, output_at}

@@ -4,8 +4,8 @@ use Rattle.std.proofs.lemmas.List.{map-append}
 use Rattle.std.proofs.lemmas.Bool.{cases_Bool, eq-eqb}
 use Rattle.std.specs.Prelude.{◌==◌, if◌then◌else◌, Option, Some, None, Result, Ok, Err}
 use Rattle.std.specs.Option.{option_map, is_some}
-use Rattle.model_disk.specs.Disk.{Image, DiskState, IsDisk, IsSameDisk, ComesFrom, Within}
-use Rattle.model_disk.proofs.Words.{same_on, stays_is_same, within_each, leaves_none}
+use Rattle.tm_disk.specs.Disk.{Image, DiskState, IsDisk, IsSameDisk, ComesFrom, Within}
+use Rattle.tm_disk.proofs.Words.{same_on, stays_is_same, within_each, leaves_none}
 use Rattle.model_system.specs.System.{System}
 use Rattle.model_machine.specs.Machine.{LastingState, empty_state}
 use Rattle.model_image.specs.Alike.{RecoversAlike}
@@ -27,20 +27,20 @@ use Rattle.model_machine.specs.declared.counts.Counter.{Counter}
 use Rattle.model_image.specs.Areas.{snapshot_area}
 use Rattle.model_image.specs.Counters.{next_sequence}
 use Rattle.model_image.specs.Text.{text_in, first_difference}
-use Rattle.cold_start.specs.FirstImage.{sectors_needed}
+use Rattle.openings.specs.FirstImage.{sectors_needed}
 use Rattle.checkpointing.specs.Texts.{HasText}
 use Rattle.checkpointing.specs.Counts.{AreUpTo, CountsUpTo, RaisesCounts}
 use Rattle.checkpointing.proofs.Counted.{up_to_more, same_raises}
-use Rattle.counter_law.specs.Measures.{call_raises, measure}
-use Rattle.counter_law.specs.Spent.{FindsSpent, IsSpentAt}
-use Rattle.counter_law.proofs.Sessions.{opened_measure, failed_measure}
-use Rattle.opening_answers.specs.declared.refusals.OpenError.{OpenError}
-use Rattle.opening_answers.specs.declared.refusals.OpenError.TheVariants.{Spent as SpentCounter}
-use Rattle.opening_parts.specs.Parts.{OpeningParts}
-use Rattle.opening_answers.specs.Opening.{TellsOpening, SizeFirst, IsOther, IsSpent}
+use Rattle.session_law.specs.Measures.{call_raises, measure}
+use Rattle.session_law.specs.Spent.{FindsSpent, IsSpentAt}
+use Rattle.session_law.proofs.CounterLawSessions.{opened_measure, failed_measure}
+use Rattle.openings.specs.declared.refusals.OpenError.{OpenError}
+use Rattle.openings.specs.declared.refusals.OpenError.TheVariants.{Spent as SpentCounter}
+use Rattle.openings.specs.Parts.{OpeningParts}
+use Rattle.openings.specs.Opening.{TellsOpening, SizeFirst, IsOther, IsSpent}
 use Rattle.disk_law.specs.Journal.{JournalState}
-use Rattle.control_life.specs.Opened.{KeepsBy, Begins, Refuses}
-use Rattle.control_life.specs.declared.life.Life.{Life}
+use Rattle.openings.specs.Opened.{KeepsBy, Begins, Refuses}
+use Rattle.openings.specs.declared.life.Life.{Life}
 use Rattle.session_lives.specs.declared.called.Opening.{Opening}
 use Rattle.session_lives.specs.declared.called.Opening.TheVariants.{Opened, Broke as OpeningBroke, Refused, Memory as OpeningMemory, Spent as OpeningSpent}
 use Rattle.session_lives.specs.declared.called.Served.{Served}

@@ -2,8 +2,8 @@
 use Rattle.std.proofs.Common.{◌≡◌, ℕ, ◌+◌, ◌*◌, ◌≤◌, ◌<◌, Bool, true, false, List, [], ◌∷◌, ◌++◌, length, map, sym, ◌∙◌, ap, subst, refl, arith, inl, inr}
 use Rattle.std.proofs.lemmas.List.{append-nil}
 use Rattle.std.specs.Prelude.{Option, Some, None, vec_len, vec_capacity}
-use Rattle.model_disk.specs.Disk.{DiskState, IsSameDisk, Only, Rose}
-use Rattle.model_disk.proofs.Words.{same_on}
+use Rattle.tm_disk.specs.Disk.{DiskState, IsSameDisk, Only, Rose}
+use Rattle.tm_disk.proofs.Words.{same_on}
 use Rattle.model_system.specs.System.{System}
 use Rattle.model_machine.specs.declared.entry.Entry.{Entry}
 use Rattle.model_machine.specs.declared.entry.ControlCall.TheVariants.{Turn}
@@ -24,8 +24,8 @@ use Rattle.session_lives.specs.declared.called.Served.{Served}
 use Rattle.session_lives.specs.declared.place.Place.TheVariants.{Up}
 use Rattle.session_lives.specs.declared.place.Kept.{Kept}
 use Rattle.session_lives.specs.declared.place.Session.{Session}
-use Rattle.counter_law.specs.Measures.{call_raises, lives_measure, measure}
-use Rattle.counter_law.specs.Spent.{HasSpent, IsSpentAt}
+use Rattle.session_law.specs.Measures.{call_raises, lives_measure, measure}
+use Rattle.session_law.specs.Spent.{HasSpent, IsSpentAt}
 use Rattle.session_lives.specs.Counting.{CountsUp, KeepsPace}
 use Rattle.session_lives.specs.Running.{life_of, last_up, session_at, session_of, session_up, setting_of, CountsFirst, IsUpReady, IsUpSound, IsSound, IsSoundAt, IsReadyAt, LeadsBy}
 use Rattle.session_lives.specs.Asking.{IsAsked, Does, Freezes, Fails, PowersOff, Undoes, IsSpentUp, LooksAtCounters}

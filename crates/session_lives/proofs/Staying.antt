@@ -1,6 +1,6 @@
 -- What stays over what was asked.
-use Rattle.model_disk.specs.Disk.{DiskState}
-use Rattle.model_disk.proofs.Words.{stays_is_same}
+use Rattle.tm_disk.specs.Disk.{DiskState}
+use Rattle.tm_disk.proofs.Words.{stays_is_same}
 use Rattle.model_session.specs.declared.asked.Asked.{Asked}
 use Rattle.model_session.specs.declared.asked.Asked.TheVariants.{Bad, BadCommand, Stopped, Call, Quiet, Power as AskedPower, PowerIn, Restart, ColdStart}
 use Rattle.tm_control.specs.OnDisk.{ControlOnDisk}

@@ -3,7 +3,7 @@ use Rattle.std.proofs.Common.{◌≡◌, ℕ, suc, Bool, true, false, List, [], 
 use Rattle.std.proofs.lemmas.Bool.{eqb-true}
 use Rattle.std.specs.Prelude.{◌==◌, if◌then◌else◌, Option, Some, None, Result}
 use Rattle.std.specs.Option.{option_map}
-use Rattle.model_disk.specs.Disk.{Image}
+use Rattle.tm_disk.specs.Disk.{Image}
 use Rattle.model_system.specs.System.{System}
 use Rattle.model_machine.specs.Machine.{LastingState}
 use Rattle.model_image.specs.Areas.{snapshot_area}
@@ -13,8 +13,8 @@ use Rattle.model_image.proofs.Answers.{zeros_are_empty}
 use Rattle.restart_data.specs.declared.restart.RestartSector.{RestartSector}
 use Rattle.restart_data.specs.Restart.{restart_in}
 use Rattle.checkpointing.specs.Texts.{HasText}
-use Rattle.opening_parts.specs.Parts.{OpeningParts}
-use Rattle.opening_answers.specs.Opening.{TellsOpening}
+use Rattle.openings.specs.Parts.{OpeningParts}
+use Rattle.openings.specs.Opening.{TellsOpening}
 
 none_some : (n : Option ℕ) → option_map (λ n. suc n) n ≡ None → n ≡ None
 none_some None e = refl

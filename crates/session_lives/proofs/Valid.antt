@@ -3,17 +3,17 @@ use Rattle.std.proofs.Common.{ℕ, ◌≤◌, List, Ok, Err, refl, sym, subst, a
 use Rattle.std.specs.Prelude.{IsTrue}
 use Rattle.model_machine.specs.Machine.{LastingState}
 use Rattle.model_image.specs.Recovered.{Recovers}
-use Rattle.cold_start.specs.FirstImage.{sectors_needed}
+use Rattle.openings.specs.FirstImage.{sectors_needed}
 use Rattle.checkpointing.specs.Texts.{HasText}
-use Rattle.opening_parts.specs.Parts.{OpeningParts}
-use Rattle.model_disk.specs.Disk.{Image, DiskState, IsDisk, Only}
+use Rattle.openings.specs.Parts.{OpeningParts}
+use Rattle.tm_disk.specs.Disk.{Image, DiskState, IsDisk, Only}
 use Rattle.model_system.specs.System.{System}
 use Rattle.model_image.proofs.Answers.{one_answer_of}
 use Rattle.model_session.specs.declared.asked.ImageRefused.{ImageRefused}
 use Rattle.model_session.specs.declared.asked.ImageRefused.TheVariants.{Rule, Text, Size}
-use Rattle.opening_answers.specs.Opening.{IsOther, TellsOpening}
-use Rattle.control_life.specs.declared.how.How.TheVariants.{Found}
-use Rattle.control_life.specs.Opened.{Refuses}
+use Rattle.openings.specs.Opening.{IsOther, TellsOpening}
+use Rattle.openings.specs.declared.how.How.TheVariants.{Found}
+use Rattle.openings.specs.Opened.{Refuses}
 use Rattle.session_lives.specs.Running.{IsValidDisk, error_of}
 use Rattle.session_lives.proofs.Told.{told_state, told_text}
 use Rattle.session_lives.proofs.Restarted.{no_difference, ok_or_err}

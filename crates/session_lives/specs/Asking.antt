@@ -1,6 +1,6 @@
 -- What is asked of a control region that is up, and how that went.
 use Rattle.std.specs.Prelude.{◌≡◌, ◌⊎◌, ℕ, ◌++◌, Bool, true, false, if◌then◌else◌, List, [], ◌∷◌, length, Option, Some, None}
-use Rattle.model_disk.specs.Disk.{DiskState, FailedSince, Only}
+use Rattle.tm_disk.specs.Disk.{DiskState, FailedSince, Only}
 use Rattle.model_machine.specs.declared.entry.Entry.{Entry}
 use Rattle.model_machine.specs.declared.entry.ControlCall.{ControlCall}
 use Rattle.model_machine.specs.declared.entry.ControlCall.TheVariants.{Turn, Receive}

@@ -1,14 +1,14 @@
 -- What a session has come to.
 use Rattle.std.specs.Prelude.{◌≡◌, ℕ, ◌<◌, ◌≤◌, ◌++◌, true, List, [], ◌∷◌, map, Option, Some, None}
 use Rattle.std.specs.Option.{is_some}
-use Rattle.model_disk.specs.Disk.{Image, DiskState}
+use Rattle.tm_disk.specs.Disk.{Image, DiskState}
 use Rattle.model_system.specs.System.{System}
 use Rattle.model_session.specs.Lives.{AreLegal}
 use Rattle.model_session.specs.Standing.{SessionState, Stop, AreAllLives, AreStops, last_life}
-use Rattle.cold_start.specs.FirstImage.{sectors_needed}
+use Rattle.openings.specs.FirstImage.{sectors_needed}
 use Rattle.tm_control.specs.OnDisk.{ControlOnDisk, Lasts}
 use Rattle.tm_control.specs.Closed.{Closes}
-use Rattle.control_life.specs.declared.life.Life.{Life}
+use Rattle.openings.specs.declared.life.Life.{Life}
 use Rattle.session_lives.specs.declared.place.Idle.{Idle}
 use Rattle.session_lives.specs.declared.place.Place.{Place}
 use Rattle.session_lives.specs.declared.place.Place.TheVariants.{Up, Down, Moved}

@@ -1,10 +1,10 @@
 -- How far a control region counts on.
 use Rattle.std.specs.Prelude.{◌≡◌, ℕ, ◌+◌, ◌*◌, ◌≤◌, true, length}
-use Rattle.model_disk.specs.Disk.{Image, DiskState}
+use Rattle.tm_disk.specs.Disk.{Image, DiskState}
 use Rattle.checkpointing.specs.Counts.{CountsUpTo}
-use Rattle.checkpoint_law.specs.Counted.{StandsUpTo}
+use Rattle.disk_law.specs.Counted.{StandsUpTo}
 use Rattle.tm_control.specs.OnDisk.{ControlOnDisk}
-use Rattle.counter_law.specs.Measures.{call_raises}
+use Rattle.session_law.specs.Measures.{call_raises}
 
 -- Of what it counts on for its log nothing is above a bound while it is up, and so it is with each image that a crash may leave.
 pub record CountsUp {D : Type 0} (state : D → DiskState) (high : ℕ) (control : ControlOnDisk D) : Type 0 where

@@ -1,7 +1,7 @@
 -- Openings, the ends of lives, and what serving a block comes to.
 use Rattle.std.specs.Prelude.{◌≡◌, ℕ, ◌+◌, ◌-◌, ◌<◌, ◌≤◌, max, ◌++◌, Bool, true, false, if◌then◌else◌, List, [], ◌∷◌, length, Option, Some, None, IsTrue, vec_len, vec_capacity}
 use Rattle.std.specs.Option.{is_some}
-use Rattle.model_disk.specs.Disk.{DiskState, IsSameDisk, Within, NoMore, Only, IsCut}
+use Rattle.tm_disk.specs.Disk.{DiskState, IsSameDisk, Within, NoMore, Only, IsCut}
 use Rattle.model_system.specs.System.{System}
 use Rattle.model_session.specs.declared.asked.Asked.{Asked}
 use Rattle.model_session.specs.declared.asked.Asked.TheVariants.{Power as AskedPower, PowerIn, Restart, ColdStart}
@@ -15,18 +15,18 @@ use Rattle.model_session.specs.Standing.{Setting, Standing, SessionState, or_col
 use Rattle.model_session.specs.Standing.Standing.{Up as StandsUp, Down as StandsDown}
 use Rattle.model_session.specs.Session.{IsServed, IsBegunBy}
 use Rattle.checkpointing.specs.Counts.{CountsUpTo, RaisesCounts}
-use Rattle.checkpoint_law.specs.Counted.{StandsUpTo}
+use Rattle.disk_law.specs.Counted.{StandsUpTo}
 use Rattle.disk_law.specs.Journal.{JournalState}
-use Rattle.control_life.specs.declared.how.How.{How}
-use Rattle.control_life.specs.declared.how.How.TheVariants.{Found, Cold}
-use Rattle.opening_answers.specs.declared.refusals.OpenError.{OpenError}
-use Rattle.opening_answers.specs.declared.refusals.OpenError.TheVariants.{BadImage, WrongDefinition, TooSmall, Spent as SpentCounter, Disk, Memory as NoMemory}
+use Rattle.openings.specs.declared.how.How.{How}
+use Rattle.openings.specs.declared.how.How.TheVariants.{Found, Cold}
+use Rattle.openings.specs.declared.refusals.OpenError.{OpenError}
+use Rattle.openings.specs.declared.refusals.OpenError.TheVariants.{BadImage, WrongDefinition, TooSmall, Spent as SpentCounter, Disk, Memory as NoMemory}
 use Rattle.tm_control.specs.OnDisk.{ControlOnDisk, Lasts}
-use Rattle.opening_answers.specs.Opening.{WroteNothing}
+use Rattle.openings.specs.Opening.{WroteNothing}
 use Rattle.tm_control.specs.Closed.{Opens, Closes}
-use Rattle.control_life.specs.Opened.{Refuses}
-use Rattle.control_life.specs.Opened.{HandsBack}
-use Rattle.control_life.specs.declared.life.Life.{Life}
+use Rattle.openings.specs.Opened.{Refuses}
+use Rattle.openings.specs.Opened.{HandsBack}
+use Rattle.openings.specs.declared.life.Life.{Life}
 use Rattle.session_lives.specs.declared.called.Called.{Called}
 use Rattle.session_lives.specs.declared.called.Called.TheVariants.{Answered, Frozen, Power, Broke as CallBroke, Memory as CallMemory, Spent as CallSpent}
 use Rattle.session_lives.specs.declared.called.Served.{Served}
@@ -40,7 +40,7 @@ use Rattle.session_lives.specs.declared.place.Place.{Place}
 use Rattle.session_lives.specs.declared.place.Place.TheVariants.{Up, Down, Moved}
 use Rattle.session_lives.specs.declared.place.Kept.{Kept}
 use Rattle.session_lives.specs.declared.place.Session.{Session}
-use Rattle.counter_law.specs.Spent.{IsSpentAt}
+use Rattle.session_law.specs.Spent.{IsSpentAt}
 use Rattle.session_lives.specs.Running.{IsDownReady, error_of}
 use Rattle.session_lives.specs.Asking.{LooksAtCounters}
 

@@ -1,7 +1,7 @@
 -- A session as it runs: where it stands, what it keeps beside, and what holds of these.
 use Rattle.std.specs.Prelude.{◌≡◌, ◌⊎◌, ℕ, ◌+◌, ◌*◌, ◌<◌, ◌≤◌, Bool, true, false, List, length, map, Option, Some, None, Ok, Err, IsTrue, vec_len, vec_capacity}
 use Rattle.std.specs.Option.{option_map, is_some}
-use Rattle.model_disk.specs.Disk.{Image, DiskState, IsSameDisk, Only}
+use Rattle.tm_disk.specs.Disk.{Image, DiskState, IsSameDisk, Only}
 use Rattle.model_system.specs.System.{System}
 use Rattle.model_machine.specs.Machine.{LastingState, empty_state}
 use Rattle.model_image.specs.Recovered.{Recovers}
@@ -12,17 +12,17 @@ use Rattle.model_session.specs.Standing.Standing.{Up as StandsUp, Down as Stands
 use Rattle.model_session.specs.Session.{OpensFirst}
 use Rattle.model_session.specs.declared.asked.ImageRefused.{ImageRefused}
 use Rattle.model_session.specs.declared.asked.ImageRefused.TheVariants.{Rule, Text as OtherText, Size}
-use Rattle.cold_start.specs.FirstImage.{sectors_needed}
+use Rattle.openings.specs.FirstImage.{sectors_needed}
 use Rattle.checkpointing.specs.Texts.{HasText}
 use Rattle.checkpointing.specs.Counts.{CountsUpTo}
 use Rattle.system_types.specs.Valid.{IsSystem}
-use Rattle.opening_answers.specs.declared.refusals.OpenError.{OpenError}
-use Rattle.opening_answers.specs.declared.refusals.OpenError.TheVariants.{BadImage, WrongDefinition, TooSmall}
-use Rattle.opening_answers.specs.Opening.{SizeFirst, IsOther}
+use Rattle.openings.specs.declared.refusals.OpenError.{OpenError}
+use Rattle.openings.specs.declared.refusals.OpenError.TheVariants.{BadImage, WrongDefinition, TooSmall}
+use Rattle.openings.specs.Opening.{SizeFirst, IsOther}
 use Rattle.tm_control.specs.OnDisk.{ControlOnDisk}
-use Rattle.control_life.specs.declared.life.Life.{Life}
-use Rattle.counter_law.specs.Counts.{LastsUpTo}
-use Rattle.counter_law.specs.Measures.{call_raises, measure}
+use Rattle.openings.specs.declared.life.Life.{Life}
+use Rattle.session_law.specs.Counts.{LastsUpTo}
+use Rattle.session_law.specs.Measures.{call_raises, measure}
 use Rattle.session_lives.specs.declared.place.Idle.{Idle}
 use Rattle.session_lives.specs.declared.place.Place.{Place}
 use Rattle.session_lives.specs.declared.place.Place.TheVariants.{Up, Down, Moved}

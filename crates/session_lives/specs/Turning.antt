@@ -1,6 +1,6 @@
 -- Turns of the regions, one after another.
 use Rattle.std.specs.Prelude.{◌≡◌, ℕ, Bool, true, List, length}
-use Rattle.model_disk.specs.Disk.{DiskState}
+use Rattle.tm_disk.specs.Disk.{DiskState}
 use Rattle.model_machine.specs.declared.entry.Entry.{Entry}
 use Rattle.model_machine.specs.Steps.{is_quiet}
 use Rattle.model_machine.specs.History.{AreSteps, now_of, moment_after}

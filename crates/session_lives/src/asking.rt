@@ -3,10 +3,10 @@ ghost use Rattle.std.specs.Prelude.{◌≡◌, ℕ, List, ◌<◌, ◌≤◌, �
 ghost use Rattle.model_machine.specs.Machine.{IsRegion};
 ghost use Rattle.model_machine.specs.Steps.{show_answer};
 ghost use Rattle.model_machine.specs.declared.entry.Entry.TheVariants.{Accept, Acked as AckedEntry, Turn as TurnEntry, Commanded, Checked};
-ghost use Rattle.control_life.specs.Faults.{fault_in};
+ghost use Rattle.openings.specs.Faults.{fault_in};
 ghost use Rattle.model_machine.specs.History.{now_of};
-ghost use Rattle.model_system.specs.Formats.{format_of};
-ghost use Rattle.model_machine.specs.Commands.{IsServed, command_answer};
+ghost use Rattle.model_system.specs.ModelSystemFormats.{format_of};
+ghost use Rattle.model_machine.specs.ModelMachineCommands.{IsServed, command_answer};
 ghost use Rattle.model_session.specs.Text as spec_text;
 ghost use Rattle.model_session.specs.Text.{show_text, shown_text, bad_line_text, bad_command_text, stopped_text, up_text, power_text};
 ghost use Rattle.model_session.specs.Lines.{CanAsk};
@@ -19,8 +19,7 @@ ghost use Rattle.session_lives.specs.Asking.{IsAsked, StaysBy, called_by, ended_
 use crate::called::Called;
 use crate::turns::answer_quiet;
 use mfs_edit::edit_out;
-use model_command::{Answer, Command};
-use model_machine::{CheckpointRefused, CommandRefused, ControlCall};
+use model_machine::{Answer, CheckpointRefused, Command, CommandRefused, ControlCall};
 use model_session::{Asked, InputStopped};
 use session_text::{
     ANSWER_ROOM, PAGE_ROOM, Printed, TURN_ROOM, WORD_ROOM, ack_line, armed_line, bad_command_line,

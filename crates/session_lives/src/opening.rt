@@ -1,6 +1,6 @@
 //! Openings, and the ends of lives.
 ghost use Rattle.std.specs.Prelude.{◌≡◌, ◌<◌, ◌≤◌, ◌+◌, ◌++◌, ◌∷◌, [], true, false, if◌then◌else◌, length, vec_len, vec_capacity};
-ghost use Rattle.model_disk.specs.Disk.{IsCut, Only};
+ghost use Rattle.tm_disk.specs.Disk.{IsCut, Only};
 ghost use Rattle.model_session.specs.Standing.{or_cold};
 ghost use Rattle.session_lives.specs.Running.{IsReady, IsDownReady};
 ghost use Rattle.session_lives.specs.Openings as spec;

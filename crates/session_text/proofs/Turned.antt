@@ -1,7 +1,7 @@
 -- A turn in which no region gave way has one line.
 use Rattle.std.proofs.Common.{◌≡◌, ℕ, List, refl}
 use Rattle.tm_types.specs.declared.dbd.Dbd.{Dbd}
-use Rattle.model_enqueue.specs.declared.victim.Victim.{Victim}
+use Rattle.model_data.specs.declared.victim.Victim.{Victim}
 use Rattle.model_machine.specs.declared.entry.Turned.{Turned}
 use Rattle.model_machine.specs.declared.entry.Turned.TheVariants.{Scheduled, Called, Next, QC, Done, Abended, Idle, Held, Waits, Backed}
 use Rattle.model_session.specs.Text.{region_line, did_text, turned_text}

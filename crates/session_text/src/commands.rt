@@ -2,8 +2,7 @@
 ghost use Rattle.std.specs.Prelude.{◌≡◌, IfOk};
 ghost use Rattle.model_session.specs.Text as text;
 
-use model_command::Answer;
-use model_machine::CommandRefused;
+use model_machine::{Answer, CommandRefused};
 use oper_cmds::answer_text;
 use std::alloc::Global;
 use tm_types::Memory;

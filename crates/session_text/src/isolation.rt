@@ -5,7 +5,7 @@ ghost use Rattle.model_session.specs.Text as text;
 
 use crate::Printed;
 use crate::lines::add_region;
-use model_enqueue::{Cycle, Victim};
+use model_data::{Cycle, Victim};
 use tm_types::{Dbd, Key, Resource};
 
 /// Adds what a region waits for and by whom, in 80 bytes at most.

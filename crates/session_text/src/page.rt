@@ -1,13 +1,13 @@
 //! The lines of a page.
 ghost use Rattle.std.specs.Prelude.{◌≡◌, ◌≤◌, ◌<◌, ◌+◌, ◌*◌, ◌++◌, ◌==◌, length};
 ghost use Rattle.std.specs.List.{suffix_len};
-ghost use Rattle.model_format.specs.Pages.{IsPage};
-ghost use Rattle.model_message.specs.Calls.{without_blanks};
+ghost use Rattle.model_system.specs.Pages.{IsPage};
+ghost use Rattle.model_messages.specs.Calls.{without_blanks};
 ghost use Rattle.model_session.specs.Text as text;
 
 use crate::Printed;
 use crate::lines::{ANSWER_ROOM, add_about};
-use model_format::Page;
+use model_system::Page;
 use tm_types::Name;
 
 /// The room that the line of a row needs at most.

@@ -1,6 +1,6 @@
 //! Records, forced to the log.
 ghost use Rattle.std.specs.Prelude.{◌≡◌, ◌+◌, ◌<◌, ◌≤◌, ◌^◌, ◌++◌, [], length, IsTrue, IfOk, OnOk, IsErrOf};
-ghost use Rattle.model_disk.specs.Disk.{Stays, Within, Follows, WritesAtMost, FailedSince};
+ghost use Rattle.tm_disk.specs.Disk.{Stays, Within, Follows, WritesAtMost, FailedSince};
 ghost use Rattle.log_writer.specs.Log.{sectors_of, room_of, IsReady, AddsFront, AddsAll};
 ghost use Rattle.sync_point.specs.Unit.{with_bytes};
 

@@ -1,6 +1,6 @@
 -- Each format keeps the rule among its lines.
 use Rattle.std.proofs.Common.{◌≡◌, List, [], ◌∷◌, ◌++◌, None, IfSome, All}
-use Rattle.model_format.specs.Breaks.{KeepsRule}
+use Rattle.model_system.specs.Breaks.{KeepsRule}
 use Rattle.mfs_text.proofs.Kept.{kept_from}
 use Rattle.system_types.specs.declared.definition.Macro.{Macro}
 use Rattle.system_types.specs.declared.definition.Macro.TheVariants.{Format}

@@ -10,11 +10,11 @@ use Rattle.std.proofs.lemmas.List.Elements.{All-cons, All-head, All-tail}
 use Rattle.std.proofs.lemmas.Slice.Eq.{bytes_eq-Decides}
 use Rattle.tm_types.specs.declared.dbd.SegType.{SegType}
 use Rattle.tm_types.specs.SegTypes.{type_at}
-use Rattle.model_dli.specs.Conditions.{AreInsertSsas}
-use Rattle.model_dli.specs.Search.{number_named, place_named}
-use Rattle.model_script.specs.declared.script_ssa.ScriptSsa.{ScriptSsa}
-use Rattle.model_script.specs.declared.script_ssa.ScriptSsa.TheVariants.{Any, Equal, AtLeast}
-use Rattle.model_script.specs.Script.{ScriptState, call_ssa}
+use Rattle.model_data.specs.Conditions.{AreInsertSsas}
+use Rattle.model_data.specs.Search.{number_named, place_named}
+use Rattle.model_system.specs.declared.script_ssa.ScriptSsa.{ScriptSsa}
+use Rattle.model_system.specs.declared.script_ssa.ScriptSsa.TheVariants.{Any, Equal, AtLeast}
+use Rattle.model_system.specs.Script.{ScriptState, call_ssa}
 use Rattle.system_types.specs.declared.definition.Macro.{Macro}
 use Rattle.system_types.specs.declared.definition.Macro.TheVariants.{Segment}
 use Rattle.system_types.specs.declared.definition.MacroLine.{MacroLine}

@@ -9,12 +9,12 @@ use Rattle.std.proofs.lemmas.List.Elements.{All-head, All-tail, All-cons}
 use Rattle.tm_types.specs.declared.dbd.Dbd.{Dbd}
 use Rattle.tm_types.specs.declared.function.Function.{Function}
 use Rattle.tm_types.specs.declared.function.Function.TheVariants.{GU, GN, GNP, GHU, GHN, GHNP, ISRT, REPL, DLET, PURG, CHNG, ROLB, ROLL}
-use Rattle.model_dli.specs.Conditions.{AreSsasOf}
-use Rattle.model_dli.specs.Search.{place_named}
-use Rattle.model_script.specs.declared.program.ScriptLine.{ScriptLine}
-use Rattle.model_script.specs.declared.script_ssa.ScriptSsa.{ScriptSsa}
-use Rattle.model_script.specs.declared.statement.Statement.TheVariants.{Call}
-use Rattle.model_script.specs.Script.{ScriptState, call_ssa}
+use Rattle.model_data.specs.Conditions.{AreSsasOf}
+use Rattle.model_data.specs.Search.{place_named}
+use Rattle.model_system.specs.declared.program.ScriptLine.{ScriptLine}
+use Rattle.model_system.specs.declared.script_ssa.ScriptSsa.{ScriptSsa}
+use Rattle.model_system.specs.declared.statement.Statement.TheVariants.{Call}
+use Rattle.model_system.specs.Script.{ScriptState, call_ssa}
 use Rattle.model_system.specs.declared.pcb.Pcb.{Pcb}
 use Rattle.model_system.specs.declared.system_program.SystemProgram.{SystemProgram}
 use Rattle.model_system.specs.Pcbs.{pcb_at}

@@ -1,7 +1,7 @@
 -- The rules that macros keep among each other.
 use Rattle.std.specs.Prelude.{ℕ, ◌==◌, nat_le, Bool, false, ◌&&◌, ◌||◌, not, List, [], ◌∷◌, ◌++◌, Option, Some, None, Result, Ok, Err}
 use Rattle.std.specs.Option.{option_or}
-use Rattle.model_format.specs.Breaks as format_rule
+use Rattle.model_system.specs.Breaks as format_rule
 use Rattle.system_types.specs.declared.definition.Macro.{Macro}
 use Rattle.system_types.specs.declared.definition.Macro.TheVariants.{Database, Application, DatabasePcb, DestinationPcb, Transaction, Terminal, Format, Program}
 use Rattle.system_types.specs.declared.definition.MacroLine.{MacroLine}

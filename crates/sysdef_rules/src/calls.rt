@@ -6,7 +6,7 @@ ghost use Rattle.system_types.specs.Calls.{is_database_function, is_output_funct
 ghost use Rattle.sysdef_rules.specs.Calls as spec;
 
 use crate::lookups::{has_segment, numbered, parent_named, pcbs_of, segments_of};
-use model_script::{ScriptLine, ScriptSsa, Statement};
+use model_system::{ScriptLine, ScriptSsa, Statement};
 use system_types::{Macro, MacroLine};
 use tm_types::{Function, Name};
 

@@ -3,8 +3,8 @@
 use Rattle.std.proofs.Common.{ℕ, suc, ◌≡◌, ◌&&◌, ◌||◌, cond, Bool, true, false, List, [], ◌∷◌, Result, Ok, Err, IsTrue, IfOk, All, refl, sym, subst, arith}
 use Rattle.std.proofs.lemmas.Bool.{false≢true}
 use Rattle.std.proofs.lemmas.List.Elements.{All-cons}
-use Rattle.model_script.specs.declared.program.ScriptLine.{ScriptLine}
-use Rattle.model_format.specs.Formats.{FormatLines}
+use Rattle.model_system.specs.declared.program.ScriptLine.{ScriptLine}
+use Rattle.model_system.specs.Formats.{FormatLines}
 use Rattle.text_rows.specs.Lines.{is_passed_over}
 use Rattle.text_rows.specs.Lowest.{also}
 use Rattle.text_rows.specs.Operands.{macro_name}

@@ -5,7 +5,7 @@ use Rattle.text_rows.specs.Lines.{is_passed_over}
 use Rattle.text_rows.specs.Lowest.{also}
 use Rattle.text_rows.specs.Operands.{macro_name, macro_operands}
 use Rattle.text_rows.specs.Refusals.{at_line}
-use Rattle.model_format.specs.Formats.{FormatLines}
+use Rattle.model_system.specs.Formats.{FormatLines}
 use Rattle.mfs_text.specs.Formats.{format_of}
 use Rattle.mfs_text.specs.Lines.{or_lower}
 use Rattle.sysdef_rows.specs.declared.kinds.Kind.{Kind}

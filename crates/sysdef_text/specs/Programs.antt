@@ -3,7 +3,7 @@ use Rattle.std.specs.Prelude.{ℕ, suc, ◌+◌, ◌==◌, nat_lt, min, Bool, Li
 use Rattle.text_rows.specs.Lines.{is_passed_over, printable_line}
 use Rattle.text_rows.specs.Lowest.{also}
 use Rattle.text_rows.specs.Refusals.{at_line}
-use Rattle.model_script.specs.declared.program.ScriptLine.{ScriptLine}
+use Rattle.model_system.specs.declared.program.ScriptLine.{ScriptLine}
 use Rattle.script_text.specs.Scripts.{is_last, program_of}
 use Rattle.sysdef_text.specs.Places.{within}
 

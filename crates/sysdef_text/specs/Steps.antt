@@ -5,8 +5,8 @@ use Rattle.text_rows.specs.Lines.{is_passed_over}
 use Rattle.text_rows.specs.Operands.{macro_name}
 use Rattle.text_rows.specs.Refusals.{at_line}
 use Rattle.mfs_text.specs.Lines.{stray_rule}
-use Rattle.model_format.specs.Formats.{FormatLines}
-use Rattle.model_script.specs.declared.program.ScriptLine.{ScriptLine}
+use Rattle.model_system.specs.Formats.{FormatLines}
+use Rattle.model_system.specs.declared.program.ScriptLine.{ScriptLine}
 use Rattle.script_text.specs.Scripts.{is_last}
 use Rattle.system_types.specs.declared.definition.Macro.{Macro}
 use Rattle.system_types.specs.declared.definition.Macro.TheVariants.{Format, Program}

@@ -2,8 +2,8 @@
 use Rattle.std.specs.Prelude.{ℕ, Bool, true, false, List}
 use Rattle.tm_types.specs.declared.function.Function.{Function}
 use Rattle.tm_types.specs.declared.function.Function.TheVariants.{GU, GN, GNP, GHU, GHN, GHNP, ISRT, REPL, DLET, PURG, CHNG}
-use Rattle.model_script.specs.declared.script_ssa.ScriptSsa.{ScriptSsa}
-use Rattle.model_script.specs.declared.script_ssa.ScriptSsa.TheVariants.{Any, Equal, AtLeast}
+use Rattle.model_system.specs.declared.script_ssa.ScriptSsa.{ScriptSsa}
+use Rattle.model_system.specs.declared.script_ssa.ScriptSsa.TheVariants.{Any, Equal, AtLeast}
 
 -- A database PCB has the gets, ISRT, REPL and DLET.
 abbrev pub is_database_function : Function → Bool

@@ -3,11 +3,11 @@ use Rattle.std.specs.Prelude.{◌≡◌, ◌⊎◌, ℕ, ◌-◌, ◌≤◌, Lis
 use Rattle.std.specs.Str.{bytes_eq}
 use Rattle.tm_types.specs.declared.dbd.Dbd.{Dbd}
 use Rattle.tm_types.specs.declared.function.Function.{Function}
-use Rattle.model_script.specs.declared.program.ScriptLine.{ScriptLine}
-use Rattle.model_script.specs.declared.script_ssa.ScriptSsa.{ScriptSsa}
-use Rattle.model_script.specs.declared.statement.Statement.TheVariants.{Call}
-use Rattle.model_script.specs.Script.{ScriptState, call_ssa}
-use Rattle.model_format.specs.Breaks.{KeepsRule}
+use Rattle.model_system.specs.declared.program.ScriptLine.{ScriptLine}
+use Rattle.model_system.specs.declared.script_ssa.ScriptSsa.{ScriptSsa}
+use Rattle.model_system.specs.declared.statement.Statement.TheVariants.{Call}
+use Rattle.model_system.specs.Script.{ScriptState, call_ssa}
+use Rattle.model_system.specs.Breaks.{KeepsRule}
 use Rattle.model_system.specs.declared.code.Code.{Code}
 use Rattle.model_system.specs.declared.pcb.Pcb.{Pcb}
 use Rattle.model_system.specs.declared.pcb.Pcb.TheVariants.{Database, Destination, Modifiable}
@@ -15,8 +15,8 @@ use Rattle.model_system.specs.Codes.{code_at, code_place}
 use Rattle.model_system.specs.Jobs.{program_at}
 use Rattle.model_system.specs.Pcbs.{pcb_at}
 use Rattle.model_system.specs.System.{System}
-use Rattle.model_dli.specs.Conditions.{AreSsasOf}
-use Rattle.model_dli.specs.Search.{place_named}
+use Rattle.model_data.specs.Conditions.{AreSsasOf}
+use Rattle.model_data.specs.Search.{place_named}
 use Rattle.system_types.specs.Definitions.{IsTransaction}
 use Rattle.system_types.specs.Calls.{is_database_function, is_output_function, segment_name}
 

@@ -1,9 +1,7 @@
 //! A system definition: its macros, with their operands.
 ghost use Rattle.std.specs.Prelude.{◌≡◌};
 
-use model_format::Format;
-use model_script::Program;
-use model_system::{Classes, Transaction};
+use model_system::{Classes, Format, Program, Transaction};
 use std::marker::Model;
 use tm_types::Name;
 

@@ -1,11 +1,10 @@
 //! The formats of terminals.
 ghost use Rattle.std.specs.Prelude.{◌≡◌, All, IfSome};
 ghost use Rattle.std.specs.Option.{option_copied};
-ghost use Rattle.model_format.specs.Breaks.{KeepsRule};
-ghost use Rattle.model_system.specs.Formats as spec;
+ghost use Rattle.model_system.specs.Breaks.{KeepsRule};
+ghost use Rattle.model_system.specs.ModelSystemFormats as spec;
 
-use model_format::Format;
-use model_system::{Screen, SystemFormat};
+use model_system::{Format, Screen, SystemFormat};
 use tm_types::Name;
 
 /// The name of the format that a terminal has.

@@ -5,8 +5,7 @@ ghost use Rattle.model_system.specs.Jobs.{job_with};
 ghost use Rattle.model_system.specs.System as model;
 ghost use Rattle.system_types.specs.Jobs.{lent_job};
 
-use model_script::Program;
-use model_system::{Code, Pcbs, SystemProgram, Transaction};
+use model_system::{Code, Pcbs, Program, SystemProgram, Transaction};
 
 /// What serves the messages of a code: its operands, its program, and the PCBs of this.
 #[derive(Clone, Copy, Debug)]

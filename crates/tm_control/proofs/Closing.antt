@@ -1,13 +1,13 @@
 -- The end of a life.
 use Rattle.std.proofs.Common.{◌≡◌, ◌+◌, ◌-◌, ◌≤◌, ℕ, Bool, true, false, List, refl, sym, ◌∙◌, ap, arith}
 use Rattle.std.specs.Prelude.{Some, None, Result, Ok, Err}
-use Rattle.model_disk.specs.Disk.{DiskState}
+use Rattle.tm_disk.specs.Disk.{DiskState}
 use Rattle.model_system.specs.System.{System}
 use Rattle.model_machine.specs.declared.entry.Acked.{Acked as AckAnswer}
 use Rattle.model_machine.specs.declared.entry.AckRefused.{AckRefused}
 use Rattle.model_machine.specs.declared.entry.AckRefused.TheVariants.{Unknown as AckUnknown, Ahead, Fault as AckFault}
-use Rattle.model_command.specs.declared.answer.Answer.{Answer}
-use Rattle.model_command.specs.declared.command.Command.{Command}
+use Rattle.model_machine.specs.declared.answer.Answer.{Answer}
+use Rattle.model_machine.specs.declared.command.Command.{Command}
 use Rattle.model_machine.specs.declared.entry.CheckpointRefused.{CheckpointRefused}
 use Rattle.model_machine.specs.declared.entry.CheckpointRefused.TheVariants.{BusyRegion, Fault as CheckpointFault}
 use Rattle.model_machine.specs.declared.entry.CommandRefused.{CommandRefused}
@@ -23,7 +23,7 @@ use Rattle.model_machine.specs.Machine.{LastingState, Moment, start_of}
 use Rattle.model_machine.specs.History.{AscendAbove, IsLegal, is_fault, moment_after}
 use Rattle.deadlock_pick.specs.Broken.{HasNoCycles}
 use Rattle.logged_machine.specs.Logged.{LoggedState}
-use Rattle.control_life.specs.Faults.{fault_in}
+use Rattle.openings.specs.Faults.{fault_in}
 use Rattle.tm_control.specs.OnDisk.{lasting_after}
 use Rattle.tm_control.specs.Inside.{HoldsBy}
 use Rattle.tm_control.proofs.Rings.{no_ring}

@@ -1,17 +1,17 @@
 -- What a control region counts on as a life begins.
 use Rattle.std.proofs.Common.{◌≡◌, ◌⊎◌, ℕ, ◌+◌, ◌≤◌, List, refl, sym, ap, subst, arith, ⊎_elim, IsTrue}
-use Rattle.model_disk.specs.Disk.{DiskState}
+use Rattle.tm_disk.specs.Disk.{DiskState}
 use Rattle.model_system.specs.System.{System}
 use Rattle.model_machine.specs.Machine.{LastingState}
 use Rattle.log_writer.specs.Writer.{Writer}
 use Rattle.restart_data.specs.declared.restart.RestartSector.{RestartSector}
 use Rattle.checkpointing.specs.Counts.{CountsUpTo}
-use Rattle.checkpoint_law.specs.Counted.{StandsUpTo}
+use Rattle.disk_law.specs.Counted.{StandsUpTo}
 use Rattle.disk_law.specs.Journal.{JournalState}
-use Rattle.opening_answers.specs.Opening.{IsBegun, IsColdImage, IsReopened}
-use Rattle.control_life.specs.declared.how.How.{How}
-use Rattle.control_life.specs.declared.how.How.TheVariants.{Found, Cold}
-use Rattle.control_life.specs.Opened.{Begins}
+use Rattle.openings.specs.Opening.{IsBegun, IsColdImage, IsReopened}
+use Rattle.openings.specs.declared.how.How.{How}
+use Rattle.openings.specs.declared.how.How.TheVariants.{Found, Cold}
+use Rattle.openings.specs.Opened.{Begins}
 
 module _ (how : How) (system : System) (text : List ℕ) (disk : DiskState) (opening : LastingState) (journal : JournalState) (next : ℕ) (b : Begins how system text disk opening journal.restart journal.log next) (high : ℕ) where
   begun : IsBegun system b.parts opening → StandsUpTo (high + 1) journal next

@@ -2,7 +2,7 @@
 use Rattle.std.proofs.Common.{◌≡◌, ◌≤◌, ◌+◌, ◌*◌, ℕ, Bool, true, false, List, [], ◌∷◌, ◌++◌, refl, sym, ◌∙◌, ap, subst, arith}
 use Rattle.std.specs.Prelude.{Option, Some, None, Result, Ok, Err, IfErr, if◌then◌else◌}
 use Rattle.std.specs.Option.{option_map_or}
-use Rattle.model_disk.specs.Disk.{Image, DiskState, IsDisk}
+use Rattle.tm_disk.specs.Disk.{Image, DiskState, IsDisk}
 use Rattle.model_system.specs.System.{System}
 use Rattle.model_machine.specs.declared.entry.CheckpointRefused.{CheckpointRefused}
 use Rattle.model_machine.specs.declared.entry.CheckpointRefused.TheVariants.{BusyRegion, Fault}
@@ -24,7 +24,7 @@ use Rattle.checkpointing.proofs.Counted.{up_to_more}
 use Rattle.disk_law.specs.Journal.{JournalState}
 use Rattle.logged_machine.specs.Logged.{LoggedState, LastsNow}
 use Rattle.logged_machine.specs.Goes.{Keeps, Failed, GoesBy, CrashesBy, ActsOn}
-use Rattle.control_life.specs.Faults.{fault_in}
+use Rattle.openings.specs.Faults.{fault_in}
 use Rattle.tm_control.specs.OnDisk.{ControlOnDisk, IsDown, Lasts, LastsBy, lasting_after}
 use Rattle.model_machine.specs.declared.entry.ControlCall.{ControlCall}
 use Rattle.tm_machine.specs.Parts.{PartsState}

@@ -1,13 +1,13 @@
 -- What is handed back at the end of a life.
 use Rattle.std.proofs.Common.{◌≡◌, ◌-◌, ℕ, List}
-use Rattle.model_disk.specs.Disk.{DiskState}
+use Rattle.tm_disk.specs.Disk.{DiskState}
 use Rattle.model_system.specs.System.{System}
 use Rattle.model_machine.specs.declared.entry.Entry.{Entry}
 use Rattle.model_machine.specs.Machine.{LastingState}
 use Rattle.logged_machine.specs.Logged.{LoggedState}
 use Rattle.tm_control.specs.Closed.{Closes}
 use Rattle.tm_control.specs.Inside.{Holds}
-use Rattle.control_life.specs.declared.life.Life.{Life}
+use Rattle.openings.specs.declared.life.Life.{Life}
 use Rattle.tm_control.proofs.Closing.{IsEnded, ended}
 use Rattle.tm_control.proofs.Going.{seen}
 

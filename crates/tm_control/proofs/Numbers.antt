@@ -6,10 +6,10 @@ use Rattle.model_machine.specs.declared.entry.ControlFault.{ControlFault}
 use Rattle.model_machine.specs.declared.entry.Entry.{Entry}
 use Rattle.model_machine.specs.declared.entry.Entry.TheVariants.{Accept, Show, Acked, Turn, Commanded, Checked}
 use Rattle.model_machine.specs.History.{AscendAbove}
-use Rattle.model_disk.specs.Disk.{DiskState}
+use Rattle.tm_disk.specs.Disk.{DiskState}
 use Rattle.model_system.specs.System.{System}
 use Rattle.disk_law.specs.Journal.{JournalState}
-use Rattle.control_life.specs.Faults.{fault_in}
+use Rattle.openings.specs.Faults.{fault_in}
 use Rattle.logged_machine.specs.Taken.{IsTaken}
 use Rattle.tm_control.specs.Inside.{last_checked}
 

@@ -2,15 +2,15 @@
 use Rattle.std.proofs.Common.{◌≡◌, ℕ, Bool, true, false, List, [], ◌∷◌, refl, sym, ap, subst}
 use Rattle.std.specs.Prelude.{Option, Some, None, if◌then◌else◌, map, nat_lt}
 use Rattle.std.specs.Option.{option_map_or}
-use Rattle.model_dli.specs.declared.need.Need.{Need as RootNeed}
-use Rattle.model_dli.specs.Data.{Data}
-use Rattle.model_enqueue.specs.declared.request.Request.{Request}
-use Rattle.model_enqueue.specs.declared.victim.Victim.{Victim}
-use Rattle.model_enqueue.specs.Table.{EnqueueTable, empty_table}
-use Rattle.model_enqueue.specs.Cycle.{after_victims}
-use Rattle.model_script.specs.declared.need.CallText.{CallText}
-use Rattle.model_script.specs.declared.need.Need.{Need}
-use Rattle.model_script.specs.declared.need.Need.TheVariants.{Call, Ended, Abend}
+use Rattle.model_data.specs.declared.need.Need.{Need as RootNeed}
+use Rattle.model_data.specs.Data.{Data}
+use Rattle.model_data.specs.declared.request.Request.{Request}
+use Rattle.model_data.specs.declared.victim.Victim.{Victim}
+use Rattle.model_data.specs.Table.{EnqueueTable, empty_table}
+use Rattle.model_data.specs.Cycle.{after_victims}
+use Rattle.model_system.specs.declared.need.CallText.{CallText}
+use Rattle.model_system.specs.declared.need.Need.{Need}
+use Rattle.model_system.specs.declared.need.Need.TheVariants.{Call, Ended, Abend}
 use Rattle.model_system.specs.System.{System}
 use Rattle.model_system.specs.Jobs.{Job, job_of}
 use Rattle.model_machine.specs.declared.entry.ControlCall.{ControlCall}

@@ -1,14 +1,14 @@
 -- What a control region opens with, and what is handed back at the end of a life.
 use Rattle.std.specs.Prelude.{◌≡◌, ℕ, ◌+◌, ◌≤◌, true, List, [], length, map, replicate}
-use Rattle.model_disk.specs.Disk.{DiskState, Stays, Within}
+use Rattle.tm_disk.specs.Disk.{DiskState, Stays, Within}
 use Rattle.model_system.specs.System.{System}
 use Rattle.model_machine.specs.Machine.{start_of}
 use Rattle.model_machine.specs.History.{AscendAbove, IsLegal, moment_after}
 use Rattle.deadlock_pick.specs.Broken.{HasNoCycles}
-use Rattle.cold_start.specs.FirstImage.{sectors_needed}
-use Rattle.control_life.specs.declared.how.How.{How}
-use Rattle.control_life.specs.Opened.{KeepsBy, Begins}
-use Rattle.control_life.specs.declared.life.Life.{Life}
+use Rattle.openings.specs.FirstImage.{sectors_needed}
+use Rattle.openings.specs.declared.how.How.{How}
+use Rattle.openings.specs.Opened.{KeepsBy, Begins}
+use Rattle.openings.specs.declared.life.Life.{Life}
 use Rattle.tm_control.specs.OnDisk.{ControlOnDisk, lasting_after}
 
 -- A control region was opened: it is up, and has no entry yet. What it counts on stands where it begins. No region has a unit, and no slot

@@ -1,6 +1,6 @@
 -- What holds of the parts of a control region.
 use Rattle.std.specs.Prelude.{◌≡◌, ℕ, ◌≤◌, ◌++◌, Bool, true, false, List, [], ◌∷◌, Some, Ok}
-use Rattle.model_disk.specs.Disk.{Image, DiskState}
+use Rattle.tm_disk.specs.Disk.{Image, DiskState}
 use Rattle.model_machine.specs.Machine.{LastingState, start_of}
 use Rattle.model_machine.specs.History.{IsCall, AreSteps, AscendAbove, call_of, moment_after}
 use Rattle.model_machine.specs.declared.entry.Entry.{Entry}
@@ -9,7 +9,7 @@ use Rattle.model_machine.specs.declared.entry.ControlFault.TheVariants.{Disk}
 use Rattle.disk_law.specs.Kept.{RecoversEither}
 use Rattle.checkpointing.specs.Texts.{HasText}
 use Rattle.logged_machine.specs.Logged.{LoggedState}
-use Rattle.control_life.specs.Faults.{fault_in}
+use Rattle.openings.specs.Faults.{fault_in}
 use Rattle.tm_control.specs.OnDisk.{lasting_after}
 
 -- the number of the last checkpoint that these entries tell of, or this one

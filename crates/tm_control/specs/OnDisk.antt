@@ -1,19 +1,19 @@
 -- A control region on its disk, as its callers see it.
 use Rattle.std.specs.Prelude.{◌≡◌, ℕ, ◌++◌, ◌+◌, Bool, true, false, List, [], ◌∷◌, Option, Some, Ok}
-use Rattle.model_disk.specs.Disk.{Image, DiskState}
+use Rattle.tm_disk.specs.Disk.{Image, DiskState}
 use Rattle.model_system.specs.System.{System}
 use Rattle.model_machine.specs.Machine.{LastingState, start_of}
 use Rattle.model_machine.specs.History.{ControlState, IsCall, AreSteps, call_of, moment_after, now_of}
 use Rattle.model_machine.specs.declared.counts.Counter.{Counter}
 use Rattle.model_machine.specs.declared.entry.Entry.{Entry}
 use Rattle.model_machine.specs.declared.entry.ControlFault.TheVariants.{Disk}
-use Rattle.opening_answers.specs.Opening.{counters, first_spent}
+use Rattle.openings.specs.Opening.{counters, first_spent}
 use Rattle.program_rows.specs.State.{DatabasesState}
 use Rattle.disk_law.specs.Journal.{JournalState}
 use Rattle.model_image.specs.Recovered.{Recovers}
 use Rattle.disk_law.specs.Kept.{RecoversEither}
 use Rattle.checkpointing.specs.Texts.{HasText}
-use Rattle.control_life.specs.Faults.{fault_in}
+use Rattle.openings.specs.Faults.{fault_in}
 
 -- The control region as its history tells it; the definition's text; whether it is up; how often its disk had failed when
 -- it was opened; the databases as they are, with what each region has changed; what it keeps of its log; the numbers of the

@@ -1,6 +1,6 @@
 //! The end of a life.
 
-use control_life::Life;
+use openings::Life;
 use system_types::System;
 use tm_disk::Disk;
 use tm_types::Bytes;

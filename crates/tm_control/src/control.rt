@@ -2,18 +2,18 @@
 ghost use Rattle.std.specs.Prelude.{◌≡◌, ℕ, ◌+◌, ◌-◌, ◌*◌, ◌<◌, ◌≤◌, ◌↔◌, length, true, if◌then◌else◌, IfOk, IfErr, OnOk, OnErr, IsTrue};
 ghost use Rattle.std.specs.Borrow.{sem};
 ghost use Rattle.std.specs.Io.BufRead.{Rests};
-ghost use Rattle.checkpoint_law.specs.Counted.{StandsUpTo};
+ghost use Rattle.disk_law.specs.Counted.{StandsUpTo};
 ghost use Rattle.checkpointing.specs.Counts.{CountsUpTo, RaisesCounts};
-ghost use Rattle.control_life.specs.declared.how.How.TheVariants.{Found};
-ghost use Rattle.model_disk.specs.Disk.{Only, Within, armed};
+ghost use Rattle.openings.specs.declared.how.How.TheVariants.{Found};
+ghost use Rattle.tm_disk.specs.Disk.{Only, Within, armed};
 ghost use Rattle.model_machine.specs.declared.entry.Entry.TheVariants.{Accept, Show, Acked as AckedEntry, Turn as TurnEntry, Commanded, Checked};
-ghost use Rattle.model_machine.specs.Commands.{IsServed, command_answer};
+ghost use Rattle.model_machine.specs.ModelMachineCommands.{IsServed, command_answer};
 ghost use Rattle.model_machine.specs.Machine.{output_at, terminal_at, IsRegion};
 ghost use Rattle.model_machine.specs.Steps.{is_quiet, show_answer};
 ghost use Rattle.model_machine.specs.History.{AddsNothing, now_of};
 ghost use Rattle.lasting_state.specs.Showing.{IsShownTo};
-ghost use Rattle.control_life.specs.Faults.{fault_in};
-ghost use Rattle.control_life.specs.Opened.{HandsBack};
+ghost use Rattle.openings.specs.Faults.{fault_in};
+ghost use Rattle.openings.specs.Opened.{HandsBack};
 ghost use Rattle.tm_machine.specs.OnSlots.{HasSlots};
 ghost use Rattle.logged_machine.specs.Logged.{LastsNow};
 ghost use Rattle.logged_machine.specs.Taken.{IsTaken, LeavesSettled, WritesCheckpoint};
@@ -24,14 +24,13 @@ ghost use Rattle.tm_control.specs.contracts.control.Control.{the_row};
 
 use crate::closed::Closed;
 use crate::noting::{acked_entry, checked_entry, command_entry, input_entry, note, turn_entry};
-use control_life::{History, How, Life};
 use lasting_state::Shown;
 use logged_machine::{Acknowledgement, Input, LoggedMachine, OpenRefused, Turn};
-use model_command::{Answer, Command};
 use model_machine::{
-    AckRefused, Acked, CheckpointRefused, CommandRefused, ControlFault, Entry, InputRefused,
-    Lasting, Taken, Turned,
+    AckRefused, Acked, Answer, CheckpointRefused, Command, CommandRefused, ControlFault, Entry,
+    InputRefused, Lasting, Taken, Turned,
 };
+use openings::{History, How, Life};
 use std::alloc::Global;
 use std::marker::Model;
 use system_types::System;

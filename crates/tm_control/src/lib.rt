@@ -7,15 +7,13 @@
 
 pub use closed::Closed;
 pub use control::Control;
-pub use control_life::{History, How, Life};
 pub use lasting_state::Shown;
 pub use logged_machine::OpenRefused;
-pub use model_command::{Answer, Command};
 pub use model_machine::{
-    AckRefused, Acked, CheckpointRefused, CommandRefused, ControlFault, Counter, Entry,
-    InputRefused, Taken, Turned,
+    AckRefused, Acked, Answer, CheckpointRefused, Command, CommandRefused, ControlFault, Counter,
+    Entry, InputRefused, Taken, Turned,
 };
-pub use opening_answers::OpenError;
+pub use openings::{History, How, Life, OpenError};
 
 mod closed;
 mod control;

@@ -4,7 +4,7 @@ use Rattle.std.specs.Prelude.{Contains}
 use Rattle.std.proofs.lemmas.Bool.{cases_lt, cases_eq}
 use Rattle.std.proofs.lemmas.List.{ext_get_or, get_or_past, set-set, set-get_or, length-set}
 use Rattle.std.proofs.lemmas.List.Elements.{Contains-get_or, Contains-append_left, Contains-push_cases, Contains-push}
-use Rattle.model_disk.specs.Disk.{Image, sector_at, with_sector, MayWrite}
+use Rattle.tm_disk.specs.Disk.{Image, sector_at, with_sector, MayWrite}
 use Rattle.tm_disk.specs.Moments.{Moment, writes_to, IsLeft, picked, after_write}
 use Rattle.tm_disk.specs.MomentLaws.{length-picked, Contains-first, Contains-cons_cases, writes_to-same, writes_to-other, sector_at-same, sector_at-other}
 use Rattle.tm_disk.specs.declared.record.Written.{Written}

@@ -3,7 +3,7 @@ use Rattle.std.proofs.Common.{◌≡◌, ℕ, ◌<◌, ◌≤◌, List, [], ◌�
 use Rattle.std.specs.Prelude.{All}
 use Rattle.std.proofs.lemmas.List.{drop-append-le, drop_all, take_rest}
 use Rattle.std.proofs.lemmas.List.Elements.{All-push}
-use Rattle.model_disk.specs.Disk.{Image, with_sector}
+use Rattle.tm_disk.specs.Disk.{Image, with_sector}
 use Rattle.tm_disk.specs.Moments.{Moment, zero_disk, shown_of, picked, settled_by, after_write, moment_now, moments_past, IsSound}
 use Rattle.tm_disk.specs.MomentLaws.{length-shown_of, length-picked}
 use Rattle.tm_disk.proofs.Past.{after-push, past-write, past-synced, past-cut}

@@ -1,3 +1,4 @@
+pub mod Words
 pub mod Crash
 pub mod Picks
 pub mod Keeping

@@ -4,7 +4,7 @@ use Rattle.std.specs.Prelude.{All, replicate, cond}
 use Rattle.std.proofs.lemmas.Bool.{cases_eq, eq-eqb, ne_eqb}
 use Rattle.std.proofs.lemmas.List.{drop-append-le, drop_all, drop_more, get_or-set_same, get_or-set_other, get_or-map, length-map, length-replicate, length-set, length_push, map-set}
 use Rattle.std.proofs.lemmas.List.Elements.{All-set, All-replicate}
-use Rattle.model_disk.specs.Disk.{Image, sector_at, with_sector}
+use Rattle.tm_disk.specs.Disk.{Image, sector_at, with_sector}
 use Rattle.tm_disk.specs.Sector.{blank}
 use Rattle.tm_disk.specs.Moments.{Moment, zero_disk, writes_to, picked, settled_by, after_write, moments_past, IsSound}
 use Rattle.tm_disk.specs.MomentLaws.{writes_to-same, writes_to-other}

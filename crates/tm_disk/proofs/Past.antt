@@ -1,7 +1,7 @@
 -- How the moments of a disk in memory go on.
 use Rattle.std.proofs.Common.{◌≡◌, ◌⊎◌, ℕ, ◌≤◌, List, [], ◌∷◌, ◌++◌, length, drop, refl, sym, ◌∙◌, ap, subst, inl, inr, ⊎_elim, append_assoc}
 use Rattle.std.proofs.lemmas.List.{append-nil, drop-append-le}
-use Rattle.model_disk.specs.Disk.{Image}
+use Rattle.tm_disk.specs.Disk.{Image}
 use Rattle.tm_disk.specs.Moments.{Moment, IsLeft, settled_by, waiting, after_write, after, moments, moment_now, moments_past, WasLeft}
 use Rattle.tm_disk.specs.declared.record.Written.{Written}
 use Rattle.tm_disk.specs.declared.record.Before.TheVariants.{Nothing, Synced, Cut}

@@ -2,8 +2,8 @@
 use Rattle.std.proofs.Common.{◌≡◌, ℕ, ◌+◌, ◌<◌, ◌≤◌, List, [], ◌∷◌, ◌++◌, length, drop, refl, sym, ◌∙◌, ap, subst, inl, inr, ⊎_elim, arith, length-append, Option, None}
 use Rattle.std.specs.Prelude.{Result, Ok, Err, is_err, OnOk, false}
 use Rattle.std.proofs.lemmas.Bool.Decides.{nat_tests}
-use Rattle.model_disk.specs.Disk.{Image, Elapses, Keeps, MayHaveWritten, HasWritten, IsCut, one_less}
-use Rattle.model_disk.proofs.Words.{keeps_same, lessens_one, lessens_same}
+use Rattle.tm_disk.specs.Disk.{Image, Elapses, Keeps, MayHaveWritten, HasWritten, IsCut, one_less}
+use Rattle.tm_disk.proofs.Words.{keeps_same, lessens_one, lessens_same}
 use Rattle.tm_disk.specs.Count.{raised}
 use Rattle.tm_disk.specs.Contents.{now_of, past_of, GoesOn, HasSettled, Settles}
 use Rattle.tm_disk.specs.Moments.{Moment, shown_of, IsLeft, WasLeft, settled_by, after_write, writes_to}

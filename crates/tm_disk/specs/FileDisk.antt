@@ -2,7 +2,7 @@
 use Rattle.std.specs.Prelude.{ℕ, ◌<◌, ◌^◌, false, replicate, [], None}
 use Rattle.std.proofs.lemmas.Bool.{false≢true}
 use Rattle.std.proofs.lemmas.List.{length-replicate}
-use Rattle.model_disk.specs.Disk.{DiskState, IsDisk}
+use Rattle.tm_disk.specs.Disk.{DiskState, IsDisk}
 use Rattle.tm_disk.specs.declared.file_disk.FileDisk.{FileDisk}
 
 abbrev pub silent_state : ℕ → ℕ → ℕ → DiskState

@@ -1,3 +1,4 @@
+pub mod Disk
 pub mod Contents
 pub mod Count
 pub mod FileDisk

@@ -2,7 +2,7 @@
 use Rattle.std.specs.Prelude.{◌≡◌, ◌⊎◌, ℕ, ◌+◌, ◌≤◌, List, length, Bool, IsTrue, if◌then◌else◌, vec_capacity}
 use Rattle.std.proofs.Common.{sym, ◌∙◌}
 use Rattle.std.proofs.lemmas.List.{length-map, length-replicate}
-use Rattle.model_disk.specs.Disk.{DiskState, IsDisk, is_due, is_stopped}
+use Rattle.tm_disk.specs.Disk.{DiskState, IsDisk, is_due, is_stopped}
 use Rattle.tm_disk.specs.Sector.{blank}
 use Rattle.tm_disk.specs.Moments.{Moment, zero_disk, after_write}
 use Rattle.tm_disk.specs.Numbered.{made_by}

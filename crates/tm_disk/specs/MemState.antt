@@ -2,7 +2,7 @@
 use Rattle.std.specs.Prelude.{◌≡◌, ◌⊎◌, ℕ, ◌<◌, ◌^◌, true, List, length, drop, Option}
 use Rattle.std.proofs.Common.{⊎_elim, inl}
 use Rattle.std.proofs.lemmas.Bool.{true≢false}
-use Rattle.model_disk.specs.Disk.{Image, DiskState, IsDisk}
+use Rattle.tm_disk.specs.Disk.{Image, DiskState, IsDisk}
 use Rattle.tm_disk.specs.Moments.{Moment, shown_of, picked, IsLeft, WasLeft}
 use Rattle.tm_disk.specs.MomentLaws.{length-shown_of, shown_is_left, none_left, WasLeft-drop}
 

@@ -4,7 +4,7 @@ use Rattle.std.proofs.Common.{sym, ◌∙◌, ap, subst, inl, inr, ⊎_elim, ari
 use Rattle.std.proofs.Math.ListN.{length-set}
 use Rattle.std.proofs.lemmas.Bool.{eq-eqb, ne_eqb, cases_lt, cases_eq}
 use Rattle.std.proofs.lemmas.List.{get_or_past}
-use Rattle.model_disk.specs.Disk.{Image, sector_at, with_sector}
+use Rattle.tm_disk.specs.Disk.{Image, sector_at, with_sector}
 use Rattle.tm_disk.specs.Moments.{Moment, shown_of, writes_to, IsLeft, picked, settled_by, waiting, after_write, after, moments, moments_past, WasLeft}
 use Rattle.tm_disk.specs.declared.record.Written.{Written}
 use Rattle.tm_disk.specs.declared.record.Before.{Before}

@@ -1,6 +1,6 @@
 -- The moments of a disk in memory, and what a crash at each of them leaves.
 use Rattle.std.specs.Prelude.{◌≡◌, ◌⊎◌, ℕ, ◌+◌, ◌/◌, ◌%◌, List, [], ◌∷◌, ◌++◌, length, ◌==◌, Contains, if◌then◌else◌, slice_index_or, replicate, ◌<◌, ◌≤◌, ◌^◌, All, drop}
-use Rattle.model_disk.specs.Disk.{Image, sector_at, with_sector}
+use Rattle.tm_disk.specs.Disk.{Image, sector_at, with_sector}
 use Rattle.tm_disk.specs.Sector.{blank}
 use Rattle.tm_disk.specs.declared.record.Written.{Written}
 use Rattle.tm_disk.specs.declared.record.Before.{Before}

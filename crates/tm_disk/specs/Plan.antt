@@ -1,6 +1,6 @@
 -- What a disk in memory counts, and when it fails.
 use Rattle.std.specs.Prelude.{Contains}
-use Rattle.model_disk.specs.Disk.{one_less}
+use Rattle.tm_disk.specs.Disk.{one_less}
 use Rattle.tm_disk.specs.Count.{raised}
 use Rattle.tm_disk.specs.declared.plan.Plan.{Plan}
 

@@ -44,7 +44,7 @@ fn made(writes: &[Written], number: u32) -> Sector
 
 impl Contents {
     ghost use Rattle.std.specs.Prelude.{[], ◌∷◌, ◌++◌, IfOk, OnOk, OnErr, IsTrue, ◌↔◌, vec_capacity};
-    ghost use Rattle.model_disk.specs.Disk.{sector_at};
+    ghost use Rattle.tm_disk.specs.Disk.{sector_at};
     ghost use Rattle.tm_disk.specs.Moments.{zero_disk, shown_of, after_write, settled_by};
     ghost use Rattle.tm_disk.specs.Contents.{now_of, past_of, GoesOn, StaysAt, Settles};
     ghost use Rattle.tm_disk.specs.declared.record.Before.TheVariants.{Synced, Cut};

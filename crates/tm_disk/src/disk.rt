@@ -1,6 +1,6 @@
 //! A disk of sectors: what its calls promise.
 ghost use Rattle.std.specs.Prelude.{◌≡◌, ◌<◌, ◌↔◌, IsTrue, IsFalse, OnOk, OnErr, IsErr};
-ghost use Rattle.model_disk.specs.Disk.{DiskState, IsDisk, Keeps, IsToldToStop, MayHaveWritten, HasWritten, IsCut, Only, FailedSince, sector_at, is_stopped, is_due, armed};
+ghost use Rattle.tm_disk.specs.Disk.{DiskState, IsDisk, Keeps, IsToldToStop, MayHaveWritten, HasWritten, IsCut, Only, FailedSince, sector_at, is_stopped, is_due, armed};
 ghost use Rattle.tm_disk.specs.declared.disk.DiskFault.TheVariants.{Disk as disk_fault};
 
 use crate::Sector;

@@ -1,6 +1,6 @@
 //! A disk in memory, which fails and is cut off as it is told.
 ghost use Rattle.std.specs.Prelude.{◌≡◌, ◌⊎◌, ◌+◌, ◌<◌, ◌↔◌, IsTrue, IsFalse, IfOk, OnOk, OnErr, IsErr, is_err, if◌then◌else◌, None};
-ghost use Rattle.model_disk.specs.Disk.{Keeps, IsToldToStop, MayHaveWritten, HasWritten, IsCut, Only, FailedSince, sector_at, is_stopped, is_due, armed};
+ghost use Rattle.tm_disk.specs.Disk.{Keeps, IsToldToStop, MayHaveWritten, HasWritten, IsCut, Only, FailedSince, sector_at, is_stopped, is_due, armed};
 
 use crate::contents::Contents;
 use crate::plan::Plan;

@@ -1,6 +1,6 @@
 //! What a disk in memory counts, and the calls at which it is to fail.
 ghost use Rattle.std.specs.Prelude.{◌≡◌, ◌⊎◌, ◌↔◌, IsTrue, None};
-ghost use Rattle.model_disk.specs.Disk.{is_stopped, is_due, one_less, armed};
+ghost use Rattle.tm_disk.specs.Disk.{is_stopped, is_due, one_less, armed};
 ghost use Rattle.tm_disk.specs.Count.{raised};
 
 #[derive(Drop)]

@@ -2,8 +2,8 @@
 use Rattle.std.proofs.Common.{◌≡◌, ℕ, ◌+◌, ◌-◌, List, subst}
 use Rattle.std.specs.Prelude.{Option, Some, None, IfSome, IsSomeAnd, slice_get}
 use Rattle.tm_types.specs.declared.abend.AbendCode.{AbendCode}
-use Rattle.model_message.specs.Calls.{finish_work}
-use Rattle.model_message.specs.Work.{MessageWork}
+use Rattle.model_messages.specs.Calls.{finish_work}
+use Rattle.model_messages.specs.Work.{MessageWork}
 use Rattle.model_system.specs.declared.code_state.CodeState.{CodeState}
 use Rattle.model_system.specs.Jobs.{Job, job_of}
 use Rattle.model_system.specs.System.{System}
@@ -14,11 +14,11 @@ use Rattle.message_run.specs.RunState.{RunState}
 use Rattle.program_rows.specs.State.{DatabasesState, committed_rows}
 use Rattle.lasting_state.specs.Tables.{TablesState}
 use Rattle.log_records.specs.Spelling.{IsAbend}
-use Rattle.sound_law.proofs.Abends.{AreAllowed, slot_right}
-use Rattle.sound_law.proofs.Counts.{outputs_have}
-use Rattle.sound_law.proofs.Jobs.{job_found}
-use Rattle.sound_law.proofs.Trials.{IsJob}
-use Rattle.step_telling.specs.Ranges.{HaveCounts}
+use Rattle.image_law.proofs.Abends.{AreAllowed, slot_right}
+use Rattle.image_law.proofs.Counts.{outputs_have}
+use Rattle.image_law.proofs.Jobs.{job_found}
+use Rattle.image_law.proofs.Trials.{IsJob}
+use Rattle.lasting_state.specs.Ranges.{HaveCounts}
 use Rattle.region_work.specs.declared.region.Busy.{Busy}
 use Rattle.tm_machine.specs.Ends.{EndsSo, SlotEnds}
 use Rattle.tm_machine.specs.Parts.{PartsState, AreParts}

@@ -5,10 +5,10 @@ use Rattle.std.specs.Option.{option_map, option_map_or, option_and_then, unwrap_
 use Rattle.std.specs.Str.{bytes_eq}
 use Rattle.std.specs.List.{position, prefix_len}
 use Rattle.std.proofs.lemmas.Bool.{lt-ltb, le-ltb}
-use Rattle.model_queues.specs.Queue.{free_count, messages_of}
+use Rattle.model_messages.specs.Queue.{free_count, messages_of}
 use Rattle.conversation.specs.declared.conversations.Busy.{Busy as BusyMessage}
 use Rattle.conversation.specs.Refusals.{input_answer as conversation_answer}
-use Rattle.model_conversation.specs.declared.conversation.Conversation.{Conversation}
+use Rattle.model_messages.specs.declared.conversation.Conversation.{Conversation}
 use Rattle.model_system.specs.Codes.{code_at, code_place}
 use Rattle.model_system.specs.declared.code.Code.{Code}
 use Rattle.model_system.specs.declared.code.SegmentKind.{SegmentKind}
@@ -43,8 +43,8 @@ use Rattle.tm_machine.specs.Answers.{IsAnswered}
 use Rattle.tm_machine.specs.Inputs.{IsNewInput, IsRefusal, code_for, is_input_fault, kept_so, way_by}
 use Rattle.tm_machine.specs.declared.input.NewInput.{NewInput}
 use Rattle.tm_types.specs.Name.{IsName}
-use Rattle.model_conversation.specs.Input.{busy_id}
-use Rattle.model_conversation.specs.Terminals.{conversation_at}
+use Rattle.model_messages.specs.Input.{busy_id}
+use Rattle.model_messages.specs.Terminals.{conversation_at}
 use Rattle.tm_machine.specs.declared.input.Way.TheVariants.{Alone, Begins}
 use Rattle.tm_machine.specs.Parts.{PartsState, slots_of, settings_of, flags_of, AreParts}
 use Rattle.tm_machine.proofs.Conversing.{no_both}

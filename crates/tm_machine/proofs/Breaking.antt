@@ -7,12 +7,12 @@ use Rattle.std.proofs.lemmas.Bool.{eqb-true, leb-true, le-leb}
 use Rattle.std.proofs.lemmas.List.Sums.{length-filter}
 use Rattle.tm_types.specs.declared.message.Message.{Message}
 use Rattle.tm_types.specs.declared.resource.Resource.{Resource}
-use Rattle.model_queues.specs.Waiting.{is_waiting}
-use Rattle.model_enqueue.specs.declared.request.Request.{Request}
-use Rattle.model_enqueue.specs.declared.victim.Victim.{Victim}
-use Rattle.model_enqueue.specs.Table.{EnqueueTable}
-use Rattle.model_enqueue.specs.Ask.{released}
-use Rattle.model_enqueue.specs.Cycle.{Breaks, after_victims}
+use Rattle.model_messages.specs.Waiting.{is_waiting}
+use Rattle.model_data.specs.declared.request.Request.{Request}
+use Rattle.model_data.specs.declared.victim.Victim.{Victim}
+use Rattle.model_data.specs.Table.{EnqueueTable}
+use Rattle.model_data.specs.Ask.{released}
+use Rattle.model_data.specs.Cycle.{Breaks, after_victims}
 use Rattle.model_system.specs.declared.code.Code.{Code}
 use Rattle.model_system.specs.declared.code.Transaction.{Transaction}
 use Rattle.model_system.specs.System.{System}

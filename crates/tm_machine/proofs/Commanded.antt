@@ -8,12 +8,12 @@ use Rattle.std.proofs.lemmas.Slice.Eq.{bytes_eq-Decides}
 use Rattle.tm_types.specs.declared.command.LastingCommand.{LastingCommand}
 use Rattle.tm_types.specs.declared.command.LastingCommand.TheVariants.{StartTransaction, StopTransaction, StartTerminal, StopTerminal, DequeueFirst, DequeueAll, Exit}
 use Rattle.tm_types.specs.declared.message.Message.{Message}
-use Rattle.model_conversation.specs.declared.conversation.Conversation.{Conversation}
-use Rattle.model_conversation.specs.declared.conversation.TerminalConversation.{TerminalConversation}
-use Rattle.model_conversation.specs.Input.{busy_id, is_conversing}
-use Rattle.model_conversation.specs.Terminals.{conversation_at, with_conversation}
-use Rattle.model_queues.specs.declared.queued.Queued.{Queued}
-use Rattle.model_queues.specs.Queue.{free_count, messages_of}
+use Rattle.model_messages.specs.declared.conversation.Conversation.{Conversation}
+use Rattle.model_messages.specs.declared.conversation.TerminalConversation.{TerminalConversation}
+use Rattle.model_messages.specs.Input.{busy_id, is_conversing}
+use Rattle.model_messages.specs.Terminals.{conversation_at, with_conversation}
+use Rattle.model_messages.specs.declared.queued.Queued.{Queued}
+use Rattle.model_messages.specs.Queue.{free_count, messages_of}
 use Rattle.model_system.specs.declared.code_state.CodeState.{CodeState}
 use Rattle.model_system.specs.Lists.{change_at}
 use Rattle.model_system.specs.System.{System}
@@ -34,7 +34,7 @@ use Rattle.tm_machine.proofs.Conversing.{all_both, all_map, all_with, belongs_st
 use Rattle.region_work.proofs.Kept.{all_found}
 use Rattle.tm_machine.proofs.Joining.{none_conversing}
 use Rattle.tm_machine.proofs.Leaving.{moment_is}
-use Rattle.model_queues.proofs.Laws.{message_found}
+use Rattle.model_messages.proofs.Laws.{message_found}
 use Rattle.tm_machine.proofs.Raising.{followed_none}
 
 -- ---- lists of which one element changes

@@ -12,14 +12,14 @@ use Rattle.std.proofs.lemmas.List.Sums.{count_by-le-length}
 use Rattle.std.proofs.lemmas.Map.Keys.{sorted_head, sorted_tail}
 use Rattle.std.proofs.lemmas.Option.{get_or_from_slice_get}
 use Rattle.tm_types.specs.declared.message.Message.{Message}
-use Rattle.model_queues.specs.declared.queued.Queued.{Queued}
-use Rattle.model_queues.specs.Queue.{AreInOrder, has_id, ids_of, message_at, messages_of, queued_at, with_holder, free_count}
-use Rattle.model_queues.proofs.Laws.{messages_held}
+use Rattle.model_messages.specs.declared.queued.Queued.{Queued}
+use Rattle.model_messages.specs.Queue.{AreInOrder, has_id, ids_of, message_at, messages_of, queued_at, with_holder, free_count}
+use Rattle.model_messages.proofs.Laws.{messages_held}
 use Rattle.msg_queues.proofs.Keys.{equal_from}
-use Rattle.model_enqueue.specs.Table.{blockers, wait_of, waits_for}
-use Rattle.model_enqueue.specs.Ask.{released}
-use Rattle.model_enqueue.specs.Cycle.{IsRegion as IsTableRegion, IsCycle, WaitsAlong, changes_of, gives_way, victim_of}
-use Rattle.model_enqueue.specs.declared.request.Request.{Request}
+use Rattle.model_data.specs.Table.{blockers, wait_of, waits_for}
+use Rattle.model_data.specs.Ask.{released}
+use Rattle.model_data.specs.Cycle.{IsRegion as IsTableRegion, IsCycle, WaitsAlong, changes_of, gives_way, victim_of}
+use Rattle.model_data.specs.declared.request.Request.{Request}
 use Rattle.model_system.specs.declared.code_state.CodeState.{CodeState}
 use Rattle.model_system.specs.System.{System}
 use Rattle.model_system.specs.Jobs.{Job}

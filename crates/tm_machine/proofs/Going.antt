@@ -2,14 +2,14 @@
 use Rattle.std.proofs.Common.{◌≡◌, ℕ, ◌+◌, ◌-◌, ◌≤◌, List, [], refl, sym, ap, ◌∙◌, subst}
 use Rattle.std.specs.Prelude.{Option, Some, None, IsSomeAnd, Result, Ok, Err, IfOk, IfSome, OnOk, OnErr, slice_get, slice_set}
 use Rattle.tm_types.specs.declared.message.Message.{Message}
-use Rattle.model_queues.specs.Queue.{message_at, free_count}
+use Rattle.model_messages.specs.Queue.{message_at, free_count}
 use Rattle.model_system.specs.declared.code_state.CodeState.{CodeState}
 use Rattle.model_machine.specs.declared.lasting.CodeSetting.{CodeSetting}
 use Rattle.model_system.specs.System.{System}
 use Rattle.model_machine.specs.declared.entry.Turned.TheVariants.{Called as TurnCalled}
 use Rattle.model_machine.specs.Trial.{Advance, trial_of}
-use Rattle.model_enqueue.specs.Table.{EnqueueTable}
-use Rattle.model_enqueue.specs.Ask.{after_asks, first_blocked}
+use Rattle.model_data.specs.Table.{EnqueueTable}
+use Rattle.model_data.specs.Ask.{after_asks, first_blocked}
 use Rattle.program_rows.specs.Answering.{told_blocked}
 use Rattle.model_machine.specs.Requests.{blocked_now, requests_of, slot_requests, table_by}
 use Rattle.model_machine.specs.Trial.Advance.{Goes as TrialGoes}

@@ -11,11 +11,11 @@ use Rattle.std.proofs.lemmas.Slice.Eq.{bytes_eq-Decides}
 use Rattle.tm_types.specs.declared.message.Message.{Message}
 use Rattle.tm_types.specs.Name.{IsName}
 use Rattle.tm_types.specs.Segment.{is_printable}
-use Rattle.model_conversation.specs.declared.conversation.Conversation.{Conversation}
-use Rattle.model_conversation.specs.declared.conversation.TerminalConversation.{TerminalConversation}
-use Rattle.model_conversation.specs.Input.{is_conversing, busy_id}
-use Rattle.model_conversation.specs.Pads.{begun, code_field}
-use Rattle.model_conversation.specs.Terminals.{terminal_at, conversation_at, with_conversation}
+use Rattle.model_messages.specs.declared.conversation.Conversation.{Conversation}
+use Rattle.model_messages.specs.declared.conversation.TerminalConversation.{TerminalConversation}
+use Rattle.model_messages.specs.Input.{is_conversing, busy_id}
+use Rattle.model_messages.specs.Pads.{begun, code_field}
+use Rattle.model_messages.specs.Terminals.{terminal_at, conversation_at, with_conversation}
 use Rattle.model_system.specs.declared.code.Code.{Code}
 use Rattle.model_system.specs.Codes.{code_at}
 use Rattle.model_system.specs.System.{System}
@@ -26,7 +26,7 @@ use Rattle.model_machine.specs.Machine.{terminal_place, fresh_terminal_state}
 use Rattle.model_machine.specs.Lasting.{KeptInput, code_word, conversing, input_message, kept_alone, kept_by, kept_by_code, kept_first, with_begun}
 use Rattle.model_machine.specs.Steps.{busy_by}
 use Rattle.model_machine.specs.Trial.{Given}
-use Rattle.step_changes.proofs.Abended.{both, name_prints}
+use Rattle.lasting_changes.proofs.Abended.{both, name_prints}
 use Rattle.region_work.specs.Region.{given_in}
 use Rattle.tm_machine.specs.Parts.{AreApart, AreConversations, IsConversation, IsOfConversation}
 use Rattle.tm_machine.proofs.Conversing.{all_both, all_map, all_append, all_with, alone_append, belongs_still, found_holds, names_stay, no_both, other_terminal, own_terminal}

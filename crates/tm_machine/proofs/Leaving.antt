@@ -2,7 +2,7 @@
 use Rattle.std.proofs.Common.{◌≡◌, ℕ, ◌-◌, List, [], refl, sym, ap, ◌∙◌}
 use Rattle.std.specs.Prelude.{Option, Some, None, slice_set}
 use Rattle.std.specs.Option.{option_map_or, option_and_then}
-use Rattle.model_queues.specs.Queue.{free_count}
+use Rattle.model_messages.specs.Queue.{free_count}
 use Rattle.model_system.specs.declared.code_state.CodeState.{CodeState}
 use Rattle.model_system.specs.System.{System}
 use Rattle.model_machine.specs.declared.entry.ControlCall.TheVariants.{Turn}
@@ -10,8 +10,8 @@ use Rattle.model_machine.specs.declared.entry.Turned.{Turned}
 use Rattle.model_machine.specs.declared.entry.Turned.TheVariants.{Idle}
 use Rattle.model_machine.specs.Trial.{Advance, Trial}
 use Rattle.model_system.specs.Jobs.{Job, job_of}
-use Rattle.model_enqueue.specs.declared.victim.Victim.{Victim}
-use Rattle.model_enqueue.specs.Table.{EnqueueTable}
+use Rattle.model_data.specs.declared.victim.Victim.{Victim}
+use Rattle.model_data.specs.Table.{EnqueueTable}
 use Rattle.model_machine.specs.Work.{slot_trial}
 use Rattle.model_machine.specs.Requests.{BreaksAt, asked_table, blocked_now, requests_of, requests_on, slot_requests, table_after, table_by, without_victims}
 use Rattle.model_machine.specs.Machine.{LastingState, Moment, Slot, slot_at, waiting_now, moment_with}

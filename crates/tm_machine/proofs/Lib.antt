@@ -27,3 +27,7 @@ mod Slotting
 mod Settled
 mod Opened
 pub mod Abends
+pub mod Dequeued
+pub mod CommandAnswersEnded
+pub mod Regions
+pub mod Performed

@@ -7,11 +7,11 @@ use Rattle.std.specs.List.{AllByRecursion, find, filter, count_by}
 use Rattle.std.proofs.lemmas.List.Sums.{length-filter}
 use Rattle.std.proofs.lemmas.Bool.{eqb-true, eq-eqb, ne_eqb}
 use Rattle.tm_types.specs.declared.message.Message.{Message}
-use Rattle.model_queues.specs.declared.queued.Queued.{Queued}
-use Rattle.model_queues.specs.Queue.{IsNewId, has_id, is_free_of, queued_at, message_at, messages_of, with_message, with_holder, without, first_free, free_count}
-use Rattle.model_queues.specs.Waiting.{is_waiting, first_waiting, count_waiting}
-use Rattle.model_queues.proofs.Laws.{message_found, found_behind, found_without, found_held, found_own}
-use Rattle.model_conversation.specs.declared.conversation.TerminalConversation.{TerminalConversation}
+use Rattle.model_messages.specs.declared.queued.Queued.{Queued}
+use Rattle.model_messages.specs.Queue.{IsNewId, has_id, is_free_of, queued_at, message_at, messages_of, with_message, with_holder, without, first_free, free_count}
+use Rattle.model_messages.specs.Waiting.{is_waiting, first_waiting, count_waiting}
+use Rattle.model_messages.proofs.Laws.{message_found, found_behind, found_without, found_held, found_own}
+use Rattle.model_messages.specs.declared.conversation.TerminalConversation.{TerminalConversation}
 use Rattle.model_system.specs.System.{System}
 use Rattle.program_rows.specs.State.{DatabasesState}
 use Rattle.model_machine.specs.Trial.{Given}

@@ -10,12 +10,12 @@ use Rattle.std.proofs.lemmas.Slice.Eq.{bytes_eq-Decides}
 use Rattle.tm_types.specs.Name.{IsName}
 use Rattle.tm_types.specs.Segment.{is_printable}
 use Rattle.tm_types.specs.declared.message.Message.{Message}
-use Rattle.model_conversation.specs.declared.conversation.Conversation.{Conversation}
-use Rattle.model_conversation.specs.declared.conversation.TerminalConversation.{TerminalConversation}
-use Rattle.model_conversation.specs.Pads.{code_field}
-use Rattle.model_conversation.specs.Terminals.{conversation_at}
-use Rattle.model_conversation.specs.Input.{is_conversing}
-use Rattle.model_queues.specs.Queue.{IsNewId, free_count, messages_of}
+use Rattle.model_messages.specs.declared.conversation.Conversation.{Conversation}
+use Rattle.model_messages.specs.declared.conversation.TerminalConversation.{TerminalConversation}
+use Rattle.model_messages.specs.Pads.{code_field}
+use Rattle.model_messages.specs.Terminals.{conversation_at}
+use Rattle.model_messages.specs.Input.{is_conversing}
+use Rattle.model_messages.specs.Queue.{IsNewId, free_count, messages_of}
 use Rattle.model_system.specs.declared.code.Code.{Code}
 use Rattle.model_system.specs.Codes.{code_at}
 use Rattle.model_system.specs.System.{System}
@@ -23,14 +23,14 @@ use Rattle.model_machine.specs.declared.lasting.CodeSetting.{CodeSetting}
 use Rattle.model_machine.specs.declared.lasting.TerminalState.{TerminalState}
 use Rattle.model_machine.specs.Machine.{LastingState, Slot, is_held, raised_now, states_by, start_of, waiting_now}
 use Rattle.model_machine.proofs.Flags.{now_twice, now_same}
-use Rattle.model_enqueue.specs.Table.{empty_table, wait_of}
+use Rattle.model_data.specs.Table.{empty_table, wait_of}
 use Rattle.model_image.specs.States.{ascend_below, are_alone, breaks_a_rule, has_right_pad, is_conversation, is_known, is_of_conversation, is_terminal, is_code, is_pad_of, has_no_pad, is_next, is_small, is_setting, wrong_ids, wrong_values, unknown_messages, wrong_replies, over_full}
-use Rattle.snapshot_records.specs.Records.{IsOfSystem}
+use Rattle.checkpointing.specs.Records.{IsOfSystem}
 use Rattle.system_types.specs.Valid.{IsSystem}
-use Rattle.opening_parts.specs.Parts.{OpeningParts, AreOpeningParts, waiting}
+use Rattle.openings.specs.Parts.{OpeningParts, AreOpeningParts, waiting}
 use Rattle.program_rows.specs.State.{DatabasesState, AreRowsOf, clean_region, committed_rows, dbds_of, rows_of}
 use Rattle.lasting_state.specs.Tables.{TablesState, lasting_of}
-use Rattle.step_changes.proofs.Abended.{both, name_prints}
+use Rattle.lasting_changes.proofs.Abended.{both, name_prints}
 use Rattle.region_work.specs.declared.region.Busy.{Busy}
 use Rattle.tm_machine.specs.Parts.{slot_of, slots_of, settings_of, flags_of, IsTold, AreAlone, AreApart, AreParts, IsConversation, IsOfConversation}
 use Rattle.tm_machine.proofs.Joining.{field_is, blanks_print}

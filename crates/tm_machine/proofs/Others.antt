@@ -5,14 +5,14 @@ use Rattle.std.specs.Option.{option_map, option_and_then}
 use Rattle.std.specs.Str.{bytes_eq}
 use Rattle.std.proofs.lemmas.List.{get_or-set_other, get_or-set_same}
 use Rattle.std.proofs.lemmas.List.Elements.{All-head, All-tail}
-use Rattle.model_dli.specs.declared.need.Need.{Need as RootNeed}
-use Rattle.model_dli.specs.Data.{Data}
-use Rattle.model_enqueue.specs.declared.request.Request.{Request}
-use Rattle.model_enqueue.specs.Table.{wait_of}
-use Rattle.model_enqueue.specs.Ask.{after_asks}
-use Rattle.model_script.specs.declared.need.CallText.{CallText}
-use Rattle.model_script.specs.declared.need.Need.{Need}
-use Rattle.model_script.specs.declared.need.Need.TheVariants.{Call, Ended, Abend}
+use Rattle.model_data.specs.declared.need.Need.{Need as RootNeed}
+use Rattle.model_data.specs.Data.{Data}
+use Rattle.model_data.specs.declared.request.Request.{Request}
+use Rattle.model_data.specs.Table.{wait_of}
+use Rattle.model_data.specs.Ask.{after_asks}
+use Rattle.model_system.specs.declared.need.CallText.{CallText}
+use Rattle.model_system.specs.declared.need.Need.{Need}
+use Rattle.model_system.specs.declared.need.Need.TheVariants.{Call, Ended, Abend}
 use Rattle.model_system.specs.Jobs.{Job, job_of, job_by, job_with, program_at}
 use Rattle.model_machine.specs.Trial.{Given, Reached, Trial, reached, trial_need}
 use Rattle.model_machine.specs.Trial.Reached.{Messages, Rows, Nothing}
@@ -22,8 +22,8 @@ use Rattle.program_rows.specs.Answering.{IsBeside, IsCommitted, IsGivenUp}
 use Rattle.message_run.specs.Ahead.{IsAhead, IsHeld, StayOthers}
 use Rattle.message_run.specs.RunState.{RunState}
 use Rattle.message_run.proofs.Holding.{asks_keep}
-use Rattle.isolation_law.proofs.Beside.{kept}
-use Rattle.isolation_law.proofs.Others.{beside_committed as committed_law}
+use Rattle.message_run.proofs.Beside.{kept}
+use Rattle.message_run.proofs.Others.{beside_committed as committed_law}
 use Rattle.model_system.specs.declared.code.Code.{Code}
 use Rattle.model_system.specs.declared.system_program.SystemProgram.{SystemProgram}
 use Rattle.model_system.specs.Codes.{code_at}

@@ -5,8 +5,8 @@ use Rattle.std.specs.Option.{unwrap_or, is_some}
 use Rattle.std.specs.List.{count_by}
 use Rattle.std.proofs.lemmas.Bool.{lt-ltb, le-ltb}
 use Rattle.tm_types.specs.Segment.{counted_bytes}
-use Rattle.model_queues.specs.Queue.{IsNewId, free_count, messages_of}
-use Rattle.model_queues.specs.Room.{input_needs}
+use Rattle.model_messages.specs.Queue.{IsNewId, free_count, messages_of}
+use Rattle.model_messages.specs.Room.{input_needs}
 use Rattle.model_system.specs.declared.code_state.CodeState.{CodeState}
 use Rattle.model_system.specs.System.{System}
 use Rattle.model_machine.specs.declared.entry.Taken.TheVariants.{New}

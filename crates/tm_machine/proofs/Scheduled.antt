@@ -5,10 +5,10 @@ use Rattle.std.specs.Str.{bytes_eq}
 use Rattle.std.specs.Prelude.{Option, Some, None, IsSome, IsSomeAnd, if◌then◌else◌, nat_lt, slice_get, slice_set, unwrap_or}
 use Rattle.std.specs.Option.{option_map, option_and_then, IfSome}
 use Rattle.tm_types.specs.declared.message.Message.{Message}
-use Rattle.model_queues.specs.declared.queued.Queued.{Queued}
-use Rattle.model_queues.specs.Queue.{queued_at, messages_of, with_holder, first_free, free_count}
-use Rattle.model_queues.specs.Waiting.{first_waiting}
-use Rattle.model_queues.proofs.Laws.{messages_held}
+use Rattle.model_messages.specs.declared.queued.Queued.{Queued}
+use Rattle.model_messages.specs.Queue.{queued_at, messages_of, with_holder, first_free, free_count}
+use Rattle.model_messages.specs.Waiting.{first_waiting}
+use Rattle.model_messages.proofs.Laws.{messages_held}
 use Rattle.model_system.specs.declared.code_state.CodeState.{CodeState}
 use Rattle.model_system.specs.System.{System}
 use Rattle.model_system.specs.Codes.{code_at}

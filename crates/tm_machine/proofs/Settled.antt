@@ -1,7 +1,7 @@
 -- Parts whose slots count as changed or not.
 use Rattle.std.proofs.Common.{ℕ, ◌+◌, List, [], Option, Some, None, map}
-use Rattle.model_conversation.specs.declared.conversation.TerminalConversation.{TerminalConversation}
-use Rattle.model_queues.specs.declared.queued.Queued.{Queued}
+use Rattle.model_messages.specs.declared.conversation.TerminalConversation.{TerminalConversation}
+use Rattle.model_messages.specs.declared.queued.Queued.{Queued}
 use Rattle.model_system.specs.declared.code_state.CodeState.{CodeState}
 use Rattle.model_system.specs.System.{System}
 use Rattle.model_system.specs.Jobs.{Job}

@@ -5,9 +5,9 @@ use Rattle.std.specs.List.{AllByRecursion}
 use Rattle.std.specs.Option.{option_map_or}
 use Rattle.std.specs.Str.{bytes_eq}
 use Rattle.tm_types.specs.declared.message.Message.{Message}
-use Rattle.model_queues.specs.Queue.{IsNewId, free_count, messages_of}
-use Rattle.model_conversation.specs.declared.conversation.TerminalConversation.{TerminalConversation}
-use Rattle.model_conversation.specs.Terminals.{without_conversation}
+use Rattle.model_messages.specs.Queue.{IsNewId, free_count, messages_of}
+use Rattle.model_messages.specs.declared.conversation.TerminalConversation.{TerminalConversation}
+use Rattle.model_messages.specs.Terminals.{without_conversation}
 use Rattle.model_system.specs.declared.code.Code.{Code}
 use Rattle.model_system.specs.declared.code_state.CodeState.{CodeState}
 use Rattle.model_system.specs.Lists.{change_at}
@@ -24,7 +24,7 @@ use Rattle.model_machine.specs.Lasting.{KeptInput, input_message, kept_input, wi
 use Rattle.model_machine.specs.Lasting.LastingStep.{Accepts}
 use Rattle.model_machine.specs.Steps.{accepts, input_answer, After}
 use Rattle.model_machine.specs.Flags.{all_followed}
-use Rattle.model_enqueue.specs.Table.{empty_table, wait_of}
+use Rattle.model_data.specs.Table.{empty_table, wait_of}
 use Rattle.program_rows.specs.State.{DatabasesState, RegionRows, AreRowsOf, IsClean, clean_region, committed_rows, dbds_of, no_rows, region_at}
 use Rattle.lasting_state.specs.Tables.{TablesState, lasting_of, enqueued}
 use Rattle.region_work.specs.declared.region.Busy.{Busy}

@@ -3,8 +3,8 @@ use Rattle.std.proofs.Common.{◌≡◌, ℕ, zero, suc, ◌+◌, ◌-◌, ◌�
 use Rattle.std.specs.Prelude.{Option, Some, None, IsSomeAnd, IfSome, slice_get, slice_set, unwrap_or}
 use Rattle.std.specs.Option.{option_map, option_and_then}
 use Rattle.tm_types.specs.declared.message.Message.{Message}
-use Rattle.model_queues.specs.Queue.{message_at, messages_of}
-use Rattle.model_queues.proofs.Laws.{message_found}
+use Rattle.model_messages.specs.Queue.{message_at, messages_of}
+use Rattle.model_messages.proofs.Laws.{message_found}
 use Rattle.model_system.specs.declared.code_state.CodeState.{CodeState}
 use Rattle.model_system.specs.System.{System}
 use Rattle.model_system.specs.Jobs.{Job, job_of}

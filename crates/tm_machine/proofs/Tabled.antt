@@ -10,11 +10,11 @@ use Rattle.std.specs.declared.cmp.Ordering.{Ordering}
 use Rattle.std.specs.declared.cmp.Ordering.TheVariants.{Less, Equal, Greater}
 use Rattle.std.proofs.lemmas.Bool.{ne_eqb, eq-eqb}
 use Rattle.tm_types.specs.declared.resource.Mode.{Mode}
-use Rattle.model_enqueue.specs.declared.request.Holder.{Holder}
-use Rattle.model_enqueue.specs.declared.request.Request.{Request}
-use Rattle.model_enqueue.specs.Modes.{same_resource, serves, holder_cmp}
-use Rattle.model_enqueue.specs.Table.{EnqueueTable, holds_of, is_asker, is_own, is_upgrade, blocked_by, wait_of}
-use Rattle.model_enqueue.specs.Ask.{asker, granted, granted_mode, without_wait, placed, waiting, waits_only_for, waits_for_nothing, after_asks, first_blocked, released}
+use Rattle.model_data.specs.declared.request.Holder.{Holder}
+use Rattle.model_data.specs.declared.request.Request.{Request}
+use Rattle.model_data.specs.Modes.{same_resource, serves, holder_cmp}
+use Rattle.model_data.specs.Table.{EnqueueTable, holds_of, is_asker, is_own, is_upgrade, blocked_by, wait_of}
+use Rattle.model_data.specs.Ask.{asker, granted, granted_mode, without_wait, placed, waiting, waits_only_for, waits_for_nothing, after_asks, first_blocked, released}
 use Rattle.message_run.specs.Ahead.{IsHeld}
 use Rattle.message_run.proofs.Holders.{holder_exact}
 

@@ -4,8 +4,8 @@ use Rattle.std.specs.Prelude.{Option, Some, None, Result, Ok, Err}
 use Rattle.std.specs.List.{flat_map, AllByRecursion}
 use Rattle.std.specs.Option.{option_map_or, option_and_then}
 use Rattle.std.proofs.lemmas.List.{append-nil}
-use Rattle.model_enqueue.specs.declared.request.Request.{Request}
-use Rattle.model_enqueue.specs.declared.victim.Victim.{Victim}
+use Rattle.model_data.specs.declared.request.Request.{Request}
+use Rattle.model_data.specs.declared.victim.Victim.{Victim}
 use Rattle.model_system.specs.System.{System}
 use Rattle.model_machine.specs.declared.entry.ControlCall.{ControlCall}
 use Rattle.model_machine.specs.declared.entry.ControlCall.TheVariants.{Input, Turn}
@@ -25,16 +25,16 @@ use Rattle.model_machine.specs.Lasting.LastingStep.{Accepts}
 use Rattle.model_machine.specs.Requests.{blocked_now}
 use Rattle.model_machine.specs.Steps.{AtWork, accepts, blocked_answer, ended_step, ending_step, input_answer, lasting_step, next_message, slot_answer, slot_work, step_in_turn, sync_answer, turn_by, turn_step, unless_blocked, work_answer}
 use Rattle.model_machine.specs.Lasting.{KeptInput, kept_input}
-use Rattle.model_conversation.specs.declared.conversation.Conversation.{Conversation as PadConversation}
-use Rattle.model_conversation.specs.declared.conversation.PadChange.{PadChange}
-use Rattle.model_conversation.specs.declared.conversation.PadChange.TheVariants.{Stays, New, Ends as PadEnds}
+use Rattle.model_messages.specs.declared.conversation.Conversation.{Conversation as PadConversation}
+use Rattle.model_messages.specs.declared.conversation.PadChange.{PadChange}
+use Rattle.model_messages.specs.declared.conversation.PadChange.TheVariants.{Stays, New, Ends as PadEnds}
 use Rattle.io_pcb.specs.Pads.{Suits}
 use Rattle.message_run.specs.RunState.{RunState}
-use Rattle.step_telling.specs.Ranges.{HasShortPad}
+use Rattle.lasting_state.specs.Ranges.{HasShortPad}
 use Rattle.region_work.specs.Region.{SuitsUnit, pad_by}
 use Rattle.log_records.specs.declared.record.Record.{Record}
 use Rattle.log_records.specs.Spelling.{spelling, IsRecord}
-use Rattle.step_records.specs.Records.{step_records, step_bytes}
+use Rattle.model_image.specs.Records.{step_records, step_bytes}
 use Rattle.lasting_state.specs.Tables.{TablesState, lasting_of}
 use Rattle.lasting_state.specs.Telling.{Tells as TablesTell, IsLonger as IsLongerStep}
 use Rattle.tm_machine.specs.Inputs.{IsRefusal}

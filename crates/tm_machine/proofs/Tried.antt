@@ -2,13 +2,13 @@
 use Rattle.std.proofs.Common.{◌≡◌, ℕ, List, [], ◌∷◌, ◌++◌, map, refl, sym, ap, ◌∙◌, subst}
 use Rattle.std.specs.Prelude.{Option, Some, None}
 use Rattle.std.specs.List.{flat_map}
-use Rattle.model_conversation.specs.declared.conversation.Conversation.{Conversation}
-use Rattle.model_conversation.specs.declared.conversation.PadChange.TheVariants.{Stays}
+use Rattle.model_messages.specs.declared.conversation.Conversation.{Conversation}
+use Rattle.model_messages.specs.declared.conversation.PadChange.TheVariants.{Stays}
 use Rattle.io_pcb.specs.Pads.{Suits}
 use Rattle.model_system.specs.declared.pcb.Pcb.{Pcb}
 use Rattle.model_system.specs.declared.pcb.Pcb.TheVariants.{Destination}
-use Rattle.model_message.specs.Work.{fresh_pcb, ended_by, ended_to, destination_of}
-use Rattle.model_message.specs.Calls.{finish_work, pad_change}
+use Rattle.model_messages.specs.Work.{fresh_pcb, ended_by, ended_to, destination_of}
+use Rattle.model_messages.specs.Calls.{finish_work, pad_change}
 use Rattle.model_system.specs.Jobs.{Job}
 use Rattle.model_machine.specs.Trial.{Given, Trial, trial_of, trial_start, outputs_of, pad_of}
 use Rattle.program_rows.specs.State.{DatabasesState, region_at, rows_of}

@@ -3,7 +3,7 @@ use Rattle.std.specs.Prelude.{◌≡◌, ⊤, ℕ, ◌<◌, ◌≤◌, true, fal
 use Rattle.std.specs.List.{AllByRecursion}
 use Rattle.tm_types.specs.declared.command.LastingCommand.{LastingCommand}
 use Rattle.tm_types.specs.declared.command.LastingCommand.TheVariants.{StartTransaction, StopTransaction, Exit}
-use Rattle.model_conversation.specs.Input.{busy_id}
+use Rattle.model_messages.specs.Input.{busy_id}
 use Rattle.model_system.specs.declared.code_state.CodeState.{CodeState}
 use Rattle.model_system.specs.Lists.{change_at}
 use Rattle.system_types.specs.Codes.{is_state_of, stopped_state}
@@ -11,7 +11,7 @@ use Rattle.model_machine.specs.Machine.{LastingState, Moment, moment_with}
 use Rattle.model_machine.specs.Lasting.{applied}
 use Rattle.model_machine.specs.Lasting.LastingStep.{Commands}
 use Rattle.log_records.specs.Spelling.{IsRecord}
-use Rattle.step_records.specs.Records.{step_bytes, step_records}
+use Rattle.model_image.specs.Records.{step_bytes, step_records}
 use Rattle.tm_machine.specs.Parts.{PartsState}
 
 -- a command ends no conversation of which a message is queued or worked on

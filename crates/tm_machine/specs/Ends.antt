@@ -1,6 +1,6 @@
 -- How the work of a region on a message ends.
 use Rattle.std.specs.Prelude.{◌≡◌, ◌≤◌, ◌-◌, ℕ, List, Option, Some, None, IsSome, IsSomeAnd, length, slice_get}
-use Rattle.model_queues.specs.Queue.{IsNewId, queued_at}
+use Rattle.model_messages.specs.Queue.{IsNewId, queued_at}
 use Rattle.model_machine.specs.Lasting.{LastingStep}
 use Rattle.model_machine.specs.Lasting.LastingStep.{Completes}
 use Rattle.model_machine.specs.Trial.{WorkEnd}
@@ -8,7 +8,7 @@ use Rattle.model_machine.specs.Trial.Advance.{Stops}
 use Rattle.model_machine.specs.Machine.{Slot, slot_at}
 use Rattle.model_machine.specs.Requests.{blocked_now}
 use Rattle.model_machine.specs.Steps.{slot_work}
-use Rattle.step_telling.specs.Ranges.{HaveCounts}
+use Rattle.lasting_state.specs.Ranges.{HaveCounts}
 use Rattle.program_rows.specs.State.{AreRowsOf, IsRegionOf, committed_rows, dbds_of, region_at}
 use Rattle.program_rows.specs.Answering.{IsCommitted}
 use Rattle.lasting_state.specs.Tables.{Applies, IsClosed, TablesState}

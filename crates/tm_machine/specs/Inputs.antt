@@ -8,7 +8,7 @@ use Rattle.model_machine.specs.declared.entry.InputRefused.TheVariants.{Terminal
 use Rattle.model_machine.specs.Machine.{terminal_place}
 use Rattle.tm_types.specs.Name.{IsName}
 use Rattle.model_system.specs.Codes.{code_place}
-use Rattle.model_conversation.specs.Pads.{begun}
+use Rattle.model_messages.specs.Pads.{begun}
 use Rattle.model_machine.specs.Lasting.{KeptInput, code_word, kept_input, without_word}
 use Rattle.lasting_state.specs.Kept.{kept_as}
 use Rattle.model_machine.specs.Steps.{busy_conversation, no_room, input_answer}

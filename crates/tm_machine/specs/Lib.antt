@@ -10,3 +10,4 @@ pub mod OnSlots
 pub mod Commands
 pub mod Lookups
 pub mod Opening
+pub mod Work

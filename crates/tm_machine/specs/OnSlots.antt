@@ -2,7 +2,7 @@
 use Rattle.std.specs.Prelude.{◌≡◌, ◌<◌, ◌≤◌, ⊤, ℕ, ◌-◌, Option, None, IfSome, IsSome, List, [], ◌∷◌, ◌++◌, length, slice_set}
 use Rattle.std.specs.List.{AllByRecursion, flat_map}
 use Rattle.std.specs.Option.{option_map_or}
-use Rattle.model_enqueue.specs.declared.victim.Victim.{Victim}
+use Rattle.model_data.specs.declared.victim.Victim.{Victim}
 use Rattle.model_system.specs.Jobs.{Job, job_of}
 use Rattle.model_machine.specs.declared.entry.ControlCall.TheVariants.{Turn}
 use Rattle.model_machine.specs.declared.entry.Turned.{Turned}

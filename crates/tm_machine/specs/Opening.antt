@@ -3,8 +3,8 @@ use Rattle.std.specs.Prelude.{◌≡◌, false}
 use Rattle.model_system.specs.System.{System}
 use Rattle.model_machine.specs.Machine.{LastingState}
 use Rattle.model_image.specs.States.{breaks_a_rule}
-use Rattle.snapshot_records.specs.Records.{IsOfSystem}
-use Rattle.opening_parts.specs.Parts.{OpeningParts, AreOpeningParts}
+use Rattle.checkpointing.specs.Records.{IsOfSystem}
+use Rattle.openings.specs.Parts.{OpeningParts, AreOpeningParts}
 
 -- The parts are those of a state of this system that breaks no rule.
 pub record IsOpenedWith (system : System) (state : LastingState) (parts : OpeningParts) : Type 0 where

@@ -3,19 +3,19 @@ use Rattle.std.specs.Prelude.{◌≡◌, ⊤, ℕ, ◌+◌, ◌≤◌, Bool, tru
 use Rattle.std.specs.Option.{is_some}
 use Rattle.std.specs.List.{AllByRecursion, list_all}
 use Rattle.tm_types.specs.Segment.{is_printable}
-use Rattle.model_conversation.specs.declared.conversation.Conversation.{Conversation}
-use Rattle.model_conversation.specs.declared.conversation.TerminalConversation.{TerminalConversation}
-use Rattle.model_conversation.specs.Pads.{code_field}
+use Rattle.model_messages.specs.declared.conversation.Conversation.{Conversation}
+use Rattle.model_messages.specs.declared.conversation.TerminalConversation.{TerminalConversation}
+use Rattle.model_messages.specs.Pads.{code_field}
 use Rattle.model_system.specs.Codes.{code_at}
 use Rattle.tm_types.specs.declared.message.Message.{Message}
-use Rattle.model_queues.specs.declared.queued.Queued.{Queued}
-use Rattle.model_queues.specs.Queue.{queued_at, free_count, messages_of}
+use Rattle.model_messages.specs.declared.queued.Queued.{Queued}
+use Rattle.model_messages.specs.Queue.{queued_at, free_count, messages_of}
 use Rattle.model_system.specs.declared.code_state.CodeState.{CodeState}
 use Rattle.model_system.specs.System.{System}
 use Rattle.model_machine.specs.declared.lasting.CodeSetting.{CodeSetting}
 use Rattle.model_machine.specs.Machine.{Moment, Slot, is_held, setting_of, raised_now}
 use Rattle.system_types.specs.Valid.{IsSystem}
-use Rattle.model_enqueue.specs.Table.{wait_of}
+use Rattle.model_data.specs.Table.{wait_of}
 use Rattle.program_rows.specs.State.{DatabasesState, AreRowsOf, IsClean, committed_rows, dbds_of}
 use Rattle.lasting_state.specs.Tables.{TablesState}
 use Rattle.region_work.specs.declared.region.Busy.{Busy}

@@ -10,7 +10,7 @@ use Rattle.model_machine.specs.Machine.{Moment}
 use Rattle.model_machine.specs.Steps.{lasting_step}
 use Rattle.log_records.specs.declared.record.Record.{Record}
 use Rattle.log_records.specs.Spelling.{spelling, IsRecord}
-use Rattle.step_records.specs.Records.{step_records}
+use Rattle.model_image.specs.Records.{step_records}
 
 -- the records of the step that lasts of a call at this moment, in this unit; none where nothing lasts
 abbrev pub records_of : System → Moment → ℕ → ControlCall → List Record

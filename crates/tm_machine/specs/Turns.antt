@@ -1,7 +1,7 @@
 -- What a turn of a region comes to.
 use Rattle.std.specs.Prelude.{◌≡◌, ℕ, Option, Some, None, List, [], ◌∷◌}
 use Rattle.tm_types.specs.declared.resource.Resource.{Resource}
-use Rattle.model_enqueue.specs.declared.victim.Victim.{Victim}
+use Rattle.model_data.specs.declared.victim.Victim.{Victim}
 use Rattle.message_run.specs.declared.run.Advanced.{Advanced}
 use Rattle.message_run.specs.declared.run.Advanced.TheVariants.{Called, Ended, Waits}
 use Rattle.message_run.specs.Ahead.{end_of}

@@ -1,9 +1,9 @@
 -- Regions that give way, one after another.
 use Rattle.std.specs.Prelude.{◌≡◌, ℕ, ◌-◌, None, IsSome, List, [], ◌∷◌, slice_set}
 use Rattle.model_system.specs.System.{System}
-use Rattle.model_enqueue.specs.declared.victim.Victim.{Victim}
-use Rattle.model_enqueue.specs.Ask.{released}
-use Rattle.model_enqueue.specs.Cycle.{Breaks, IsLeastCycle, victim_of}
+use Rattle.model_data.specs.declared.victim.Victim.{Victim}
+use Rattle.model_data.specs.Ask.{released}
+use Rattle.model_data.specs.Cycle.{Breaks, IsLeastCycle, victim_of}
 use Rattle.model_machine.specs.Machine.{Moment, IsRegion, slot_at, moment_with, raised_now, waiting_now}
 use Rattle.model_machine.specs.Requests.{changes_now}
 use Rattle.tm_machine.specs.Parts.{PartsState}

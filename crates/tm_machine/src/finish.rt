@@ -1,9 +1,9 @@
 //! How a region's work on a message ends.
 ghost use Rattle.std.specs.Prelude.{◌≡◌, ◌≤◌, ◌-◌, ◌∷◌, None, IfOk, IfErr, IfSome, OnOk, OnErr, IsSome, IsSomeAnd, IsTrue, slice_set};
 ghost use Rattle.std.specs.List.{list_all};
-ghost use Rattle.model_script.specs.Programs.{is_statement};
+ghost use Rattle.model_system.specs.Programs.{is_statement};
 ghost use Rattle.model_system.specs.Jobs.{job_of};
-ghost use Rattle.model_queues.specs.Queue.{message_at};
+ghost use Rattle.model_messages.specs.Queue.{message_at};
 ghost use Rattle.model_machine.specs.declared.entry.ControlCall.TheVariants.{Turn};
 ghost use Rattle.model_machine.specs.Machine.{IsRegion};
 ghost use Rattle.model_machine.specs.Trial.WorkEnd.{Ends, Syncs, Abends};
@@ -12,7 +12,7 @@ ghost use Rattle.lasting_state.specs.Telling.{IsLonger as IsLongerStep, Tells as
 ghost use Rattle.region_work.specs.Ends.{destinations};
 ghost use Rattle.region_work.specs.Region.{outputs_by};
 ghost use Rattle.tm_machine.specs.Ends.{EndsSo, IsCompleted, MayComplete, OfWork, completion_of};
-ghost use Rattle.step_telling.specs.Untold.{WhereFull};
+ghost use Rattle.lasting_state.specs.Untold.{WhereFull};
 ghost use Rattle.tm_machine.specs.OnSlots.{TurnsSo};
 ghost use Rattle.tm_machine.specs.Told.{IsLonger, Tells};
 ghost use Rattle.tm_machine.specs.Turns.{IsTurned};

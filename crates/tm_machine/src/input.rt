@@ -6,7 +6,7 @@ ghost use Rattle.model_system.specs.Codes.{code_place};
 ghost use Rattle.model_machine.specs.declared.entry.Entry.TheVariants.{Accept};
 ghost use Rattle.model_machine.specs.declared.entry.ControlCall.TheVariants.{Input};
 ghost use Rattle.model_machine.specs.Steps.{by_number, most_segments, input_answer};
-ghost use Rattle.step_telling.specs.Untold.{WhereFull};
+ghost use Rattle.lasting_state.specs.Untold.{WhereFull};
 ghost use Rattle.tm_machine.specs.Answers.{IsAnswered};
 ghost use Rattle.tm_machine.specs.Inputs.{IsNewInput, IsRefusal, code_for, is_input_fault, way_by, kept_so};
 ghost use Rattle.tm_machine.specs.Told.{IsLonger, Tells};

@@ -1,6 +1,6 @@
 //! What lasts of a control region, lent.
 ghost use Rattle.std.specs.Prelude.{◌≡◌};
-ghost use Rattle.model_queues.specs.Queue.{messages_of};
+ghost use Rattle.model_messages.specs.Queue.{messages_of};
 ghost use Rattle.tm_machine.specs.Parts.{flags_of, settings_of};
 
 use crate::parts::Parts;

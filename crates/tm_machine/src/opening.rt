@@ -8,7 +8,7 @@ use crate::parts::Parts;
 
 impl Parts {
     /// What lasts is what these parts are of; no region has a message. The parts were new. This takes no memory.
-    pub fn open(&mut self, parts: opening_parts::Parts)
+    pub fn open(&mut self, parts: openings::Parts)
         requires fresh { self.old.moment ≡ start_of self.old.system (empty_state self.old.system) }
         requires some { (state : LastingState) × IsOpenedWith self.old.system state parts }
         ensures system { self.new.system ≡ self.old.system }

@@ -5,7 +5,7 @@ ghost use Rattle.model_machine.specs.declared.entry.Entry.TheVariants.{Acked as 
 ghost use Rattle.model_machine.specs.Machine.{output_at, terminal_at};
 ghost use Rattle.model_machine.specs.Steps.{show_answer};
 ghost use Rattle.lasting_state.specs.Showing.{IsShownTo};
-ghost use Rattle.step_telling.specs.Untold.{WhereFull};
+ghost use Rattle.lasting_state.specs.Untold.{WhereFull};
 ghost use Rattle.tm_machine.specs.Answers.{Answers, IsAnswered};
 ghost use Rattle.tm_machine.specs.Told.{IsLonger, Tells};
 

@@ -3,7 +3,7 @@ ghost use Rattle.std.specs.Prelude.{◌≡◌, ◌<◌, ℕ, length, false, Ok, 
 ghost use Rattle.model_machine.specs.declared.entry.Entry.TheVariants.{Turn as TurnEntry};
 ghost use Rattle.model_machine.specs.Machine.{IsRegion, slot_at};
 ghost use Rattle.model_machine.specs.Steps.{need_now};
-ghost use Rattle.step_telling.specs.Untold.{WhereFull};
+ghost use Rattle.lasting_state.specs.Untold.{WhereFull};
 ghost use Rattle.tm_machine.specs.Answers.{Answers};
 ghost use Rattle.message_run.specs.Telling.{TellsNext, IsQuietUnlessCalled};
 ghost use Rattle.log_records.specs.Telling.{spelled};
@@ -14,7 +14,7 @@ ghost use Rattle.tm_machine.specs.Turns.{Goes, IsTurned, waited};
 use crate::parts::Parts;
 use lasting_state::Untold;
 use message_run::Advanced;
-use model_enqueue::Victims;
+use model_data::Victims;
 use model_machine::Turned;
 use msg_queues::SLOT_ROOM;
 use region_work::{Busy, advance, count_busy, follow, take};

@@ -1,6 +1,6 @@
 //! The regions that give way where waiting has closed a ring.
 ghost use Rattle.std.specs.Prelude.{◌≡◌, ◌≤◌, length, map, IsSome, MatchOption};
-ghost use Rattle.model_enqueue.specs.Cycle.{HasNoCycle};
+ghost use Rattle.model_data.specs.Cycle.{HasNoCycle};
 ghost use Rattle.model_machine.specs.Machine.{IsRegion, busy_slots, slot_at};
 ghost use Rattle.model_machine.specs.Requests.{changes_now};
 ghost use Rattle.program_rows.specs.OnSlots.{GivesUpSo, HaveSlots};
@@ -9,7 +9,7 @@ ghost use Rattle.tm_machine.specs.Victims.{gave_way, BreaksRings, GivesWay};
 
 use crate::parts::Parts;
 use deadlock_pick::{Weights, least_cycle, victim};
-use model_enqueue::{Victim, Victims};
+use model_data::{Victim, Victims};
 use program_rows::Databases;
 use region_work::{busy_at, code_of, follow, give_up};
 

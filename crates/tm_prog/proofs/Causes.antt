@@ -4,12 +4,12 @@ use Rattle.std.proofs.lemmas.List.Folds.{list_all-append}
 use Rattle.std.proofs.lemmas.Bool.Decides.{nat_tests}
 use Rattle.std.specs.Prelude.{Option, Some, None, IsNone, IfSome, Result, Ok, Err, nat_le}
 use Rattle.std.specs.List.{list_all}
-use Rattle.model_disk.specs.Disk.{DiskState, IsDisk, FailedSince}
+use Rattle.tm_disk.specs.Disk.{DiskState, IsDisk, FailedSince}
 use Rattle.model_system.specs.System.{System}
 use Rattle.model_session.specs.declared.asked.ImageRefused.{ImageRefused}
 use Rattle.model_session.specs.Blocks.{Block, blocks_of}
 use Rattle.model_session.specs.Standing.{Stop}
-use Rattle.control_life.specs.declared.life.Life.{Life}
+use Rattle.openings.specs.declared.life.Life.{Life}
 use Rattle.std.specs.Io.KnownBytes.{append_known}
 use Rattle.tm_edge.specs.Fault.{HasRisen, AppendsFront}
 use Rattle.tm_edge.specs.Lines.{CutLine, cut_lines, lines_of, is_short, line_size, line_text, behind_line, HasServed, IsTooLong}

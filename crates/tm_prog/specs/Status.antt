@@ -3,7 +3,7 @@ use Rattle.std.specs.Prelude.{◌≡◌, ℕ, ◌≤◌, ◌++◌, ◌⊎◌, Bo
 use Rattle.std.specs.List.{list_all}
 use Rattle.std.specs.Io.KnownBytes.{append_known}
 use Rattle.model_system.specs.System.{System}
-use Rattle.control_life.specs.declared.life.Life.{Life}
+use Rattle.openings.specs.declared.life.Life.{Life}
 use Rattle.tm_edge.specs.Fault.{HasRisen, AppendsFront}
 use Rattle.tm_edge.specs.Lines.{cut_lines, lines_of, is_short}
 use Rattle.tm_session.specs.declared.outcome.Ended.{Ended}
@@ -11,7 +11,7 @@ use Rattle.tm_session.specs.declared.outcome.Ended.TheVariants.{Done, Words, Bad
 use Rattle.model_session.specs.declared.asked.ImageRefused.TheVariants.{Rule, Text, Size}
 use Rattle.model_session.specs.Blocks.{Block, blocks_of}
 use Rattle.model_session.specs.Standing.{Stop}
-use Rattle.model_disk.specs.Disk.{DiskState, FailedSince}
+use Rattle.tm_disk.specs.Disk.{DiskState, FailedSince}
 use Rattle.sysdef_text.specs.Ends.{definition_lines, lines_behind}
 use Rattle.tm_session.specs.Source.{judged, definition_text}
 use Rattle.tm_session.specs.Outcome.{HasCause}

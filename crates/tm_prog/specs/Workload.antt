@@ -1,18 +1,18 @@
 -- A workload: its text is served as a session, and its summary is told in place of the transcript.
 use Rattle.std.specs.Prelude.{◌≡◌, ◌⊎◌, ℕ, List, [], Option, Some, None}
 use Rattle.std.specs.Io.KnownBytes.{append_known}
-use Rattle.model_disk.specs.Disk.{DiskState}
+use Rattle.tm_disk.specs.Disk.{DiskState}
 use Rattle.model_session.specs.Standing.{Stop}
-use Rattle.control_life.specs.declared.life.Life.{Life}
+use Rattle.openings.specs.declared.life.Life.{Life}
 use Rattle.tm_edge.specs.Fault.{HasRisen, AppendsFront}
 use Rattle.tm_session.specs.declared.outcome.Ended.{Ended}
 use Rattle.tm_session.specs.declared.outcome.Ended.TheVariants.{Done, Write, Memory}
 use Rattle.tm_session.specs.Outcome.{HasCause, IsReadToEnd}
 use Rattle.tm_session.specs.Headline.{IsSession}
 use Rattle.workload.specs.Workload.{workload_text}
-use Rattle.session_summary.specs.Counts.{counts_of, entries_of}
-use Rattle.session_summary.specs.Shown.{last_reply}
-use Rattle.session_summary.specs.Summary.{summary_text}
+use Rattle.workload.specs.Counts.{counts_of, entries_of}
+use Rattle.workload.specs.Shown.{last_reply}
+use Rattle.workload.specs.Summary.{summary_text}
 use Rattle.tm_prog.specs.declared.words.Workload.{Workload}
 
 -- the text of its definition and of its session

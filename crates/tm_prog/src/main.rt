@@ -7,7 +7,7 @@
 #![tactic(auto)]
 
 ghost use Rattle.std.specs.Prelude.{◌≡◌};
-ghost use Rattle.model_disk.specs.Disk.{Only};
+ghost use Rattle.tm_disk.specs.Disk.{Only};
 ghost use Rattle.tm_prog.specs.Status.{status_number};
 
 #[cfg(test)]

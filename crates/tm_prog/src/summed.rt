@@ -1,7 +1,7 @@
 //! A workload, served as a session and summed up.
 ghost use Rattle.std.specs.Prelude.{◌≡◌, ◌≤◌, ◌⊎◌, [], ◌++◌, length};
 ghost use Rattle.std.specs.Io.KnownBytes.{append_known};
-ghost use Rattle.model_disk.specs.Disk.{Only};
+ghost use Rattle.tm_disk.specs.Disk.{Only};
 ghost use Rattle.tm_edge.specs.Fault.{AppendsFront};
 ghost use Rattle.tm_session.specs.Outcome.{HasCause};
 ghost use Rattle.tm_session.specs.declared.outcome.Ended.TheVariants.{Done, Write, Memory};
@@ -10,15 +10,13 @@ ghost use Rattle.tm_prog.specs.Workload as spec;
 
 use crate::run::{LAST_ROOM, unbegun};
 use crate::words::Workload;
-use session_summary::summary;
 use session_text::Printed;
 use std::alloc::Global;
-use text_edge::{TextSink, TextSource};
 use tm_disk::Disk;
-use tm_edge::Sink;
+use tm_edge::{Sink, TextSink, TextSource};
 use tm_session::{Ended, Outcome, drill_session};
 use tm_types::Bytes;
-use workload::make;
+use workload::{make, summary};
 
 /// Serves the session of a workload over the disk, and tells its summary in place of what the session prints.
 ///

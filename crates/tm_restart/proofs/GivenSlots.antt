@@ -7,18 +7,18 @@ use Rattle.std.proofs.lemmas.Bool.{leb-true}
 use Rattle.std.proofs.lemmas.List.Elements.{All-head, All-tail}
 use Rattle.std.proofs.lemmas.Option.{same_Some}
 use Rattle.tm_types.specs.declared.dbd.Dbd.{Dbd}
-use Rattle.model_rows.specs.Record.{record_limit}
+use Rattle.model_data.specs.Record.{record_limit}
 use Rattle.model_system.specs.System.{System}
 use Rattle.model_image.specs.Slots.{is_image, rows_by, rows_of_bytes}
 use Rattle.system_types.specs.Valid.{IsSystem, IsDatabase}
-use Rattle.slot_loading.specs.Loading.{given_to}
+use Rattle.image_loading.specs.Loading.{given_to}
 use Rattle.image_records.specs.declared.slots.NamedSlot.{NamedSlot}
 use Rattle.image_records.specs.NamedSlots.{is_slot_of, Ascend}
-use Rattle.given_slots.specs.Giving.{of_database, AreNamedBytes}
-use Rattle.given_slots.proofs.Right.{IsRightSlot, in_order, right_slots}
-use Rattle.image_look.proofs.NamedSlots.{given_images}
-use Rattle.renewal.specs.Given.{Given, AreOf, AreGiven}
-use Rattle.renewal.proofs.Finding.{to_all}
+use Rattle.image_reading.specs.Giving.{of_database, AreNamedBytes}
+use Rattle.image_reading.proofs.Right.{IsRightSlot, in_order, right_slots}
+use Rattle.tm_restart.proofs.NamedSlots.{given_images}
+use Rattle.tm_restart.specs.Given.{Given, AreOf, AreGiven}
+use Rattle.tm_restart.proofs.RenewalFinding.{to_all}
 
 pub database_at : (dbds : List Dbd) (place : ℕ) (dbd : Dbd) → All IsDatabase dbds → slice_get dbds place ≡ Some dbd → IsDatabase dbd
 database_at [] place dbd all found = absurd cc

@@ -1,28 +1,28 @@
 -- What the writes of a restart leave, for what was made of an image.
 use Rattle.std.proofs.Common.{◌≡◌, ℕ, ◌≤◌, false, List, [], length, refl, sym, ◌∙◌, ap, subst, inl, inr, ⊎_elim, IsTrue}
 use Rattle.std.proofs.lemmas.Bool.{cases_Bool}
-use Rattle.model_disk.specs.Disk.{Image, DiskState, IsDisk, Follows, Within, Only}
-use Rattle.model_disk.proofs.Words.{within_where, leaves_none}
+use Rattle.tm_disk.specs.Disk.{Image, DiskState, IsDisk, Follows, Within, Only}
+use Rattle.tm_disk.proofs.Words.{within_where, leaves_none}
 use Rattle.model_system.specs.System.{System}
 use Rattle.model_machine.specs.Machine.{LastingState}
 use Rattle.restart_data.specs.declared.restart.RestartSector.{RestartSector}
 use Rattle.model_image.specs.Text.{text_in}
 use Rattle.model_image.specs.Areas.{snapshot_area}
 use Rattle.model_image.specs.Holding.{HoldsStores}
-use Rattle.snapshot_records.specs.Records.{snapshot_records}
-use Rattle.renewal.specs.Given.{Given}
-use Rattle.renewal.specs.Writing.{IsRewritten, Rewrites}
-use Rattle.renewal.proofs.Behind.{rows_found}
-use Rattle.renewal.proofs.Recovering.{IsNextLife}
-use Rattle.renewal.proofs.Stored.{stores_held}
-use Rattle.opening_parts.specs.Parts.{OpeningParts}
+use Rattle.checkpointing.specs.Records.{snapshot_records}
+use Rattle.tm_restart.specs.Given.{Given}
+use Rattle.tm_restart.specs.Writing.{IsRewritten, Rewrites}
+use Rattle.tm_restart.proofs.Behind.{rows_found}
+use Rattle.tm_restart.proofs.Recovering.{IsNextLife}
+use Rattle.tm_restart.proofs.Stored.{stores_held}
+use Rattle.openings.specs.Parts.{OpeningParts}
 use Rattle.checkpointing.specs.Texts.{HasText}
 use Rattle.checkpointing.specs.Counts.{RaisesCounts}
 use Rattle.checkpointing.proofs.Counted.{alike_raises}
-use Rattle.opening_answers.proofs.Counted.{reopened_raises}
-use Rattle.renewal.proofs.Unreading.{unread_images}
-use Rattle.opening_answers.specs.Keeping.{KeepsImage}
-use Rattle.opening_answers.specs.Renewal.{IsRenewed}
+use Rattle.openings.proofs.Counted.{reopened_raises}
+use Rattle.tm_restart.proofs.Unreading.{unread_images}
+use Rattle.openings.specs.Keeping.{KeepsImage}
+use Rattle.openings.specs.Renewal.{IsRenewed}
 use Rattle.tm_restart.specs.Prepared.{IsPrepared, IsMadeOf}
 use Rattle.tm_restart.proofs.Reopened.{is_renewed, names_none, rewrites_recover, unread_text}
 use Rattle.tm_restart.proofs.Renewed.{same_restart}

@@ -1,3 +1,21 @@
+pub mod Replayed
+pub mod RenewalFinding
+pub mod AllPut
+pub mod Unreading
+pub mod Rewriting
+pub mod Same
+pub mod Behind
+pub mod RenewalFound
+pub mod Recovering
+pub mod Stored
+pub mod Judged
+pub mod Stores
+pub mod NamedSlots
+pub mod Rereading
+pub mod LookedAt
+mod LogAreas
+pub mod FoundBehind
+pub mod Seen
 pub mod Limits
 pub mod GivenSlots
 pub mod ShownIn
@@ -5,4 +23,4 @@ pub mod MadeReady
 pub mod Renewed
 pub mod Reopened
 pub mod Laid
-pub mod Recovering
+pub mod TmRestartRecovering

@@ -2,7 +2,7 @@
 use Rattle.std.proofs.Common.{◌≡◌, ℕ, ◌+◌, ◌-◌, ◌<◌, ◌≤◌, Bool, not, ◌&&◌, List, [], length, map, refl, sym, ◌∙◌, ap, subst, arith, None, Ok, nat_lt}
 use Rattle.std.specs.List.{AllByRecursion}
 use Rattle.std.proofs.lemmas.Bool.{lt-ltb, ne_eqb}
-use Rattle.model_disk.specs.Disk.{Image}
+use Rattle.tm_disk.specs.Disk.{Image}
 use Rattle.model_system.specs.System.{System}
 use Rattle.model_machine.specs.declared.counts.Counter.{Counter}
 use Rattle.model_machine.specs.Machine.{LastingState}
@@ -14,26 +14,26 @@ use Rattle.system_types.specs.Valid.{IsSystem}
 use Rattle.model_image.specs.Areas.{snapshot_area}
 use Rattle.model_image.specs.Counters.{next_sequence}
 use Rattle.model_image.specs.Recovered.{log_in, Recovers}
-use Rattle.count_law.specs.Counted.{IsCounted}
-use Rattle.snapshot_records.specs.Records.{snapshot_records, IsOfSystem}
-use Rattle.snapshot_records.specs.Spelled.{Adds, IsWritable}
-use Rattle.snapshot_records.specs.Touches.{HasOneSector}
-use Rattle.snapshot_records.proofs.Fits.{writable}
-use Rattle.snapshot_records.proofs.Judged.{AreCounts}
-use Rattle.snapshot_records.proofs.Read.{no_changes}
-use Rattle.snapshot_records.proofs.Whole.{IsWhole, whole}
+use Rattle.image_law.specs.Counted.{IsCounted}
+use Rattle.checkpointing.specs.Records.{snapshot_records, IsOfSystem}
+use Rattle.checkpointing.specs.Spelled.{Adds, IsWritable}
+use Rattle.checkpointing.specs.Touches.{HasOneSector}
+use Rattle.checkpointing.proofs.Fits.{writable}
+use Rattle.checkpointing.proofs.Judged.{AreCounts}
+use Rattle.checkpointing.proofs.Read.{no_changes}
+use Rattle.checkpointing.proofs.Whole.{IsWhole, whole}
 use Rattle.image_records.specs.Kept.{KeptState, Keeps, kept_of}
-use Rattle.image_look.proofs.NamedSlots.{given_named}
-use Rattle.renewal.specs.Given.{AreGiven}
-use Rattle.renewal.specs.Before.{IsBefore}
-use Rattle.renewal.specs.Loaded.{AreLoaded}
-use Rattle.renewal.proofs.Rewriting.{sectors_fit}
-use Rattle.opening_parts.specs.Parts.{OpeningParts, AreOpeningParts}
-use Rattle.opening_parts.specs.Shown.{shown}
-use Rattle.opening_parts.proofs.Made.{shown_back, kept_again, rows_stored}
-use Rattle.opening_answers.specs.Opening.{counters, first_spent, IsFound, IsReopened, MayBegin}
-use Rattle.image_finding.specs.declared.finding.Found.{Found}
-use Rattle.image_finding.specs.Found.{IsJudged, IsSeen}
+use Rattle.tm_restart.proofs.NamedSlots.{given_named}
+use Rattle.tm_restart.specs.Given.{AreGiven}
+use Rattle.tm_restart.specs.Before.{IsBefore}
+use Rattle.tm_restart.specs.Loaded.{AreLoaded}
+use Rattle.tm_restart.proofs.Rewriting.{sectors_fit}
+use Rattle.openings.specs.Parts.{OpeningParts, AreOpeningParts}
+use Rattle.openings.specs.Shown.{shown}
+use Rattle.openings.proofs.OpeningPartsMade.{shown_back, kept_again, rows_stored}
+use Rattle.openings.specs.Opening.{counters, first_spent, IsFound, IsReopened, MayBegin}
+use Rattle.tm_restart.specs.declared.finding.Found.{Found}
+use Rattle.tm_restart.specs.Found.{IsJudged, IsSeen}
 use Rattle.tm_restart.specs.Prepared.{state_in, sector_behind, IsPrepared, IsMadeOf}
 use Rattle.tm_restart.proofs.Limits.{all_below}
 use Rattle.tm_restart.proofs.GivenSlots.{are_given, are_images}

@@ -1,120 +1,116 @@
--- What a call leaves that reads an image, and then opens it or begins it cold.
-use Rattle.std.proofs.Common.{◌≡◌, ℕ, false, sym, subst, refl, inl, inr, ⊎_elim, arith, None, Ok, Err, IsTrue}
-use Rattle.std.specs.Prelude.{Option, Some, Result, List}
-use Rattle.std.proofs.lemmas.Bool.{cases_Bool}
-use Rattle.model_disk.specs.Disk.{Image, DiskState, IsDisk, ComesFrom, Within, Only, Keeps}
-use Rattle.model_disk.proofs.Words.{leaves_none}
+-- Once the restart sector is written, the image recovers to the same state, with an empty log.
+use Rattle.std.proofs.Common.{◌≡◌, ℕ, ◌+◌, ◌*◌, ◌≤◌, true, List, [], length, map, refl, sym, ◌∙◌, ap, subst, arith, Some, None, Ok}
+use Rattle.std.specs.Prelude.{Option, Result}
+use Rattle.std.specs.Option.{option_map}
+use Rattle.tm_disk.specs.Disk.{Image, sector_at}
+use Rattle.model_data.specs.declared.row.Row.{Row}
 use Rattle.model_system.specs.System.{System}
-use Rattle.model_machine.specs.Machine.{LastingState, empty_state}
+use Rattle.model_machine.specs.Machine.{LastingState}
+use Rattle.log_records.specs.declared.record.Record.{Record}
+use Rattle.log_records.specs.Reading.{◌>>=◌}
+use Rattle.log_sectors.specs.Chain.{joined}
 use Rattle.restart_data.specs.declared.restart.RestartSector.{RestartSector}
-use Rattle.restart_data.specs.Restart.{restart_in}
-use Rattle.checkpointing.specs.Texts.{HasText}
-use Rattle.model_image.specs.Alike.{RecoversAlike}
-use Rattle.model_image.specs.Areas.{snapshot_area}
-use Rattle.model_image.specs.Faults.{Fault}
-use Rattle.model_image.specs.Recovered.{Recovers}
-use Rattle.model_image.proofs.Answers.{one_answer_of, zeros_are_empty}
-use Rattle.checkpointing.specs.Counts.{RaisesCounts}
-use Rattle.checkpointing.proofs.Counted.{same_raises}
-use Rattle.opening_answers.specs.Keeping.{KeepsImage, IsEmptied, KeepsOrEmpties}
-use Rattle.opening_answers.specs.declared.refusals.OpenError.{OpenError}
-use Rattle.opening_answers.specs.declared.refusals.OpenError.TheVariants.{BadImage, WrongDefinition, TooSmall, Spent, Disk, Memory}
-use Rattle.opening_parts.specs.Parts.{OpeningParts}
-use Rattle.opening_answers.specs.Opening.{TellsCold, TellsOpening}
+use Rattle.restart_data.specs.Rules.{unless_broken}
+use Rattle.restart_data.specs.Restart.{IsRestart, restart_in}
+use Rattle.restart_data.specs.Snapshot.{sectors_of, snapshot_in}
+use Rattle.model_image.specs.Ahead.{NoneAhead}
+use Rattle.model_image.specs.Areas.{snapshot_area, snapshot_first, log_first}
+use Rattle.model_image.specs.Cut.{Cut, cut_of, records_of, IsCutOff}
+use Rattle.model_image.specs.Faults.{Fault, in_sector, unless_any, or_fault, unless_fault}
+use Rattle.model_image.specs.Snapshot.{snapshot_rules}
+use Rattle.model_image.specs.Slots.{rows_from}
+use Rattle.model_image.specs.Recovered.{is_later, first_later, snapshot_from, log_in, log_from, state_from, later_sector, state_with, state_by, rest_by, log_rest, Recovers}
+use Rattle.model_image.proofs.Ahead.{later_ahead, ahead_same, ahead_empty}
+use Rattle.model_image.proofs.Answers.{nothing_cut_off}
+use Rattle.model_image.proofs.Later.{none_later, each_not_later, not_later}
+use Rattle.model_image.proofs.Places.{both_logs}
+use Rattle.tm_restart.specs.Given.{Given}
+use Rattle.tm_restart.specs.Before.{IsBefore}
+use Rattle.tm_restart.specs.Telling.{TellsState}
+use Rattle.tm_restart.specs.Writing.{IsRewritten}
+use Rattle.tm_restart.proofs.Behind.{rows_found, later_more}
+use Rattle.tm_restart.proofs.RenewalFound.{logs_stay, rows_again}
 
--- ---- what is left
+nothing_cut : cut_of [] ≡ record { records = []; rest = [] }
+unfolding cut_of
+nothing_cut = refl
 
--- what each image has by itself, a reading leaves
-module _ (step : Image → Image → Type 0) (still : (image : Image) → step image image) (old mid : DiskState) (keeps : Keeps old mid) where
-  pub reads : Within step old mid
-  reads = record {
-    later = keeps.elapses.later;
-    from = λ time image early left.
-        ⊎_elim (λ past. inl past) (λ now. inr (record { before = image; left = keeps.no_more image now; by = still image })) (keeps.elapses.nothing_else time image early left);
-    keeps = λ time image early left. keeps.elapses.keeps time image early left;
-  }
+bind_is : {A B : Type 0} (a : Result A Fault) (f : A → Result B Fault) (x : A) → a ≡ Ok x → (a >>= f) ≡ f x
+bind_is a f x is = ap (λ r. r >>= f) is
 
-  -- and what is done behind it
-  pub reads_then : (new : DiskState) → Within step mid new → Within step old new
-  reads_then new after = record {
-    later = omega (arith, keeps.elapses.later, after.later);
-    from = λ time image early left.
-        ⊎_elim
-        (λ past. ⊎_elim (λ older. inl older) (λ now. inr (record { before = image; left = keeps.no_more image now; by = still image })) (keeps.elapses.nothing_else time image early past))
-        (λ (w : ComesFrom step mid image). inr (record { before = w.before; left = keeps.no_more w.before w.left; by = w.by }))
-        (after.from time image (omega (arith, early, keeps.elapses.later)) left);
-    keeps = λ time image early left. after.keeps time image (omega (arith, early, keeps.elapses.later)) (keeps.elapses.keeps time image early left);
-  }
+-- what is left of the recovery, step by step
+abbrev of_rows : System → Image → RestartSector → LastingState → List (List Row) → Result LastingState Fault
+of_rows system image now lasting rows = unless_fault (later_sector system image now) (record lasting { rows = rows })
 
-module _ (system : System) (text : List ℕ) (old mid : DiskState) (keeps : Keeps old mid) where
-  -- the same image
-  same_image : (image : Image) → KeepsImage system text image image
-  same_image image = record { alike = λ answer is. is; texts = inl refl }
+abbrev of_state : System → Image → RestartSector → List Record → List Record → LastingState → Result LastingState Fault
+of_state system image now records log lasting = rows_from system image records log >>= λ rows. of_rows system image now lasting rows
 
-  -- reading leaves what was there
-  pub read_within : Within (KeepsImage system text) old mid
-  read_within = reads (KeepsImage system text) same_image old mid keeps
+abbrev of_log : System → Image → RestartSector → List Record → List Record → Result LastingState Fault
+of_log system image now records log = state_from system now records log >>= λ lasting. of_state system image now records log lasting
 
-  -- what recovers alike behind a reading does so before
-  pub read_then : (new : DiskState) → Within (KeepsImage system text) mid new → Within (KeepsImage system text) old new
-  read_then new after = reads_then (KeepsImage system text) same_image old mid keeps new after
+abbrev of_snapshot : System → Image → RestartSector → List Record → Result LastingState Fault
+of_snapshot system image now records = log_from system image now true >>= λ log. of_log system image now records log
 
-  -- so it is of what is counted on
-  pub read_counts : Within (RaisesCounts 1 system) old mid
-  read_counts = reads (RaisesCounts 1 system) (λ image. same_raises 1 system image image refl) old mid keeps
+-- The restart sector of the next life, for this snapshot.
+pub record IsNextLife (system : System) (r now : RestartSector) (bytes : List ℕ) : Type 0 where
+  pub is : IsRestart now
+  pub epoch : now.epoch ≡ r.epoch + 1
+  pub sectors : now.sectors ≡ sectors_of (length bytes)
+  pub fits : now.sectors ≤ snapshot_area system
 
-  pub read_counts_then : (new : DiskState) → Within (RaisesCounts 1 system) mid new → Within (RaisesCounts 1 system) old new
-  read_counts_then new after = reads_then (RaisesCounts 1 system) (λ image. same_raises 1 system image image refl) old mid keeps new after
+module _ (system : System) (r : RestartSector) (snapshot : List Record) (given : Given) (bytes : List ℕ) (now : RestartSector) (a e : Image)
+    (before : IsBefore system r snapshot given now a) (done : IsRewritten system given bytes now a e) (next : IsNextLife system r now bytes)
+    (records : List Record) (state : LastingState) (tells : TellsState system bytes records state) (recovers : Recovers system a (Ok state)) where
+  pub renewed_restart : restart_in (snapshot_area system) e ≡ Ok (Some now)
+  renewed_restart = done.restart (snapshot_area system) next.fits
 
-  module _ (new : DiskState) (is_disk : IsDisk old) (only : Only old.shown old) (zeros : IsTrue old.tells → restart_in (snapshot_area system) old.shown ≡ Ok None) where
-    emptied : (a e : Image) → old.may_leave a → Recovers system e (Ok (empty_state system)) → RecoversAlike system a e
-    emptied a e left empty answer is =
-        ⊎_elim
-        (λ (tells : IsTrue old.tells).
-        subst (λ (found : Result LastingState Fault). Recovers system e found)
-        (one_answer_of system a (Ok (empty_state system)) answer (zeros_are_empty system a (subst (λ (i : Image). restart_in (snapshot_area system) i ≡ Ok None) (sym (only a left)) (zeros tells))) is)
-        empty)
-        (λ (silent : old.tells ≡ false). absurd (leaves_none old is_disk silent a left))
-        (cases_Bool old.tells)
+  pub renewed_snapshot : snapshot_from system e now ≡ Ok records
+  renewed_snapshot =
+      let first : ℕ = snapshot_first system now.snapshot in
+      let read : snapshot_in now.sectors e first now.checkpoint ≡ Ok bytes = ap (λ n. snapshot_in n e first now.checkpoint) next.sectors ∙ done.snapshot in
+      ap (λ (read : Result (List ℕ) Fault). read >>= λ bytes. or_fault (10, first) (records_of bytes) >>= λ found. unless_any first (snapshot_rules system found) found) read
+      ∙ ap (λ (found : Option (List Record)). or_fault (10, first) found >>= λ found. unless_any first (snapshot_rules system found) found) tells.reads
+      ∙ ap (λ (broken : Option ℕ). in_sector first (unless_broken broken records)) tells.keep_rules
 
-    -- one without a restart sector is of any text
-    no_restart : {F : Type 0} (restart : RestartSector) (found : Result (Option RestartSector) F) → found ≡ Ok None → found ≡ Ok (Some restart) → ⊥
-    no_restart restart found none other = cc
+  -- no sector of the logs was of a later life
+  not_before : first_later (2 * system.logs) a (log_first system 0) r.epoch ≡ None
+  not_before = not_later system a r state before.restart recovers
 
-    none_text : (a : Image) → old.may_leave a → HasText system text a
-    none_text a left restart found =
-        ⊎_elim
-        (λ (tells : IsTrue old.tells).
-        absurd (no_restart restart (restart_in (snapshot_area system) a) (subst (λ (i : Image). restart_in (snapshot_area system) i ≡ Ok None) (sym (only a left)) (zeros tells)) found))
-        (λ (silent : old.tells ≡ false). absurd (leaves_none old is_disk silent a left))
-        (cases_Bool old.tells)
+  pub renewed_ahead : NoneAhead system e now.epoch now.sequence
+  renewed_ahead =
+      ahead_same system a e now.epoch now.sequence (logs_stay system r snapshot given bytes now a e before done)
+      (later_ahead system a r.epoch now.epoch now.sequence (omega (arith, next.epoch)) (omega (arith, next.is.epoch.1)) not_before)
 
-    alike : (a e : Image) → old.may_leave a → KeepsOrEmpties system text a e → KeepsImage system text a e
-    alike a e left by =
-        ⊎_elim
-        (λ (same : e ≡ a). record { alike = λ (answer : Result LastingState Fault) (is : Recovers system a answer). subst (λ (i : Image). Recovers system i answer) (sym same) is; texts = inl same })
-        (λ (empty : IsEmptied system text e). record { alike = emptied a e left empty.recovers; texts = inr (none_text a left, empty.has_text) })
-        by
+  log_is : log_in system e now ≡ record { records = []; rest = [] }
+  log_is =
+      ap (λ (payloads : List (List ℕ)). cut_of (joined payloads)) (ahead_empty system e now.epoch now.sequence now.log renewed_ahead next.is.log (omega (arith, next.is.sequence.1)))
+      ∙ nothing_cut
 
-    -- an image of zeros that was read, and begun cold, recovers alike
-    pub cold_within : Within (KeepsOrEmpties system text) mid new → Within (KeepsImage system text) old new
-    cold_within after = record {
-      later = omega (arith, keeps.elapses.later, after.later);
-      from = λ time image early left.
-          ⊎_elim
-          (λ past. ⊎_elim (λ older. inl older) (λ now. inr (record { before = image; left = keeps.no_more image now; by = same_image image })) (keeps.elapses.nothing_else time image early past))
-          (λ (w : ComesFrom (KeepsOrEmpties system text) mid image). inr (record { before = w.before; left = keeps.no_more w.before w.left; by = alike w.before image (keeps.no_more w.before w.left) w.by }))
-          (after.from time image (omega (arith, early, keeps.elapses.later)) left);
-      keeps = λ time image early left. after.keeps time image (omega (arith, early, keeps.elapses.later)) (keeps.elapses.keeps time image early left);
-    }
+  none_is_later : later_sector system e now ≡ None
+  none_is_later =
+      ap (option_map (λ sector. (24, sector)))
+      (none_later (2 * system.logs) e (log_first system 0) now.epoch (λ k low high.
+      ap (is_later now.epoch) (logs_stay system r snapshot given bytes now a e before done k low (omega (arith, high, both_logs system)))
+      ∙ later_more r.epoch now.epoch (sector_at a k) (omega (arith, next.epoch)) (each_not_later (2 * system.logs) a (log_first system 0) r.epoch not_before k low high)))
 
--- ---- what is told
+  rows_are : rows_from system e records [] ≡ Ok state.rows
+  rows_are = rows_again system r snapshot given bytes now a e before done records tells.unnamed state.rows (rows_found system a r snapshot state before.restart before.has_snapshot recovers)
 
-pub cold_tells : (system : System) (text : List ℕ) (image : Image) (result : Result (OpeningParts × LastingState) OpenError) → restart_in (snapshot_area system) image ≡ Ok None → TellsCold system result → TellsOpening system text image result
-cold_tells system text image (Ok opened) zeros tells = inr (record { zeros = zeros; begun = tells })
-cold_tells system text image (Err (TooSmall needed has)) zeros tells = tt
-cold_tells system text image (Err (BadImage rule sector)) zeros tells = absurd tells
-cold_tells system text image (Err (WrongDefinition place)) zeros tells = absurd tells
-cold_tells system text image (Err (Spent counter)) zeros tells = absurd tells
-cold_tells system text image (Err Disk) zeros tells = tt
-cold_tells system text image (Err Memory) zeros tells = tt
+  state_is : state_with system e true now ≡ Ok state
+  state_is =
+      let bare : LastingState = record state { rows = map (λ dbd. []) system.databases } in
+      bind_is (snapshot_from system e now) (of_snapshot system e now) records renewed_snapshot
+      ∙ bind_is (log_from system e now true) (of_log system e now records) [] (ap (λ (cut : Cut). Ok cut.records) log_is)
+      ∙ ap (of_state system e now records []) tells.told
+      ∙ bind_is (rows_from system e records []) (of_rows system e now bare) state.rows rows_are
+      ∙ ap (λ (fault : Option Fault). unless_fault fault state) none_is_later
+
+  -- It recovers to the same state.
+  pub renewed_recovers : Recovers system e (Ok state)
+  renewed_recovers =
+      let rest : log_rest system e ≡ [] = ap (rest_by system e) renewed_restart ∙ ap (λ (cut : Cut). cut.rest) log_is in
+      record {
+        is_cut_off = true;
+        decides = (λ _. subst (λ (l : List ℕ). IsCutOff l) (sym rest) nothing_cut_off, λ _. refl);
+        is = ap (λ (read : Result (Option RestartSector) ℕ). in_sector 0 read >>= λ restart. state_by system e true restart) renewed_restart ∙ state_is;
+      }

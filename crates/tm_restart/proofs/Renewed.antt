@@ -5,12 +5,12 @@ use Rattle.std.specs.Option.{option_map}
 use Rattle.std.specs.Int.{w16, from_be_bytes}
 use Rattle.std.proofs.lemmas.Option.{none-some, same_Some}
 use Rattle.tm_types.specs.declared.dbd.Dbd.{Dbd}
-use Rattle.model_rows.specs.declared.row.Row.{Row}
-use Rattle.model_rows.specs.Record.{spelling}
-use Rattle.model_disk.specs.Disk.{Image, DiskState, sector_at, Within, Follows}
-use Rattle.model_disk.proofs.Words.{within_where}
+use Rattle.model_data.specs.declared.row.Row.{Row}
+use Rattle.model_data.specs.Record.{spelling}
+use Rattle.tm_disk.specs.Disk.{Image, DiskState, sector_at, Within, Follows}
+use Rattle.tm_disk.proofs.Words.{within_where}
 use Rattle.tm_disk.specs.Sector.{zeros, blank}
-use Rattle.model_queues.specs.Outputs.{fresh_terminal}
+use Rattle.model_messages.specs.Outputs.{fresh_terminal}
 use Rattle.model_system.specs.System.{System}
 use Rattle.model_machine.specs.Machine.{LastingState, empty_state}
 use Rattle.log_records.specs.declared.record.Record.{Record}
@@ -31,27 +31,27 @@ use Rattle.model_image.specs.Slots.Source.{Spelled}
 use Rattle.model_image.specs.Recovered.{snapshot_from}
 use Rattle.model_image.proofs.Answers.{zeros_are_empty}
 use Rattle.model_image.proofs.Places.{slot_above, slot_below, both_logs}
-use Rattle.snapshot_records.specs.Records.{snapshot_records}
-use Rattle.cold_start.specs.FirstImage.{IsFirst, IsFirstImage, BeginsImage, first_records}
-use Rattle.snapshot_records.specs.Spelled.{Adds}
-use Rattle.snapshot_records.proofs.Read.{no_changes, read_from}
-use Rattle.cold_start.proofs.Emptied.{empty_is, empty_sound}
-use Rattle.cold_start.proofs.Names.{codes_apart}
-use Rattle.cold_start.proofs.FirstWritten.{has_first, first_recovers}
+use Rattle.checkpointing.specs.Records.{snapshot_records}
+use Rattle.openings.specs.FirstImage.{IsFirst, IsFirstImage, BeginsImage, first_records}
+use Rattle.checkpointing.specs.Spelled.{Adds}
+use Rattle.checkpointing.proofs.Read.{no_changes, read_from}
+use Rattle.openings.proofs.Emptied.{empty_is, empty_sound}
+use Rattle.openings.proofs.Names.{codes_apart}
+use Rattle.openings.proofs.FirstWritten.{has_first, first_recovers}
 use Rattle.model_machine.specs.declared.counts.Counter.{Counter}
 use Rattle.model_machine.specs.declared.counts.Counter.TheVariants as counter
 use Rattle.model_image.specs.Text.{text_in}
-use Rattle.count_law.proofs.Told.{empty_counted}
-use Rattle.first_parts.specs.Made.{IsMade}
+use Rattle.image_law.proofs.Told.{empty_counted}
+use Rattle.openings.specs.Made.{IsMade}
 use Rattle.checkpointing.specs.Texts.{HasText}
 use Rattle.checkpointing.specs.Counts.{RaisesCounts}
 use Rattle.checkpointing.proofs.Counted.{same_raises}
-use Rattle.opening_answers.proofs.Counted.{renewed_up_to}
-use Rattle.opening_answers.specs.Keeping.{KeepsOrEmpties}
-use Rattle.opening_answers.specs.Opening.{IsBegun, MayBegin, counters, first_spent}
-use Rattle.opening_parts.specs.Parts.{OpeningParts}
-use Rattle.opening_answers.specs.Renewal.{IsRenewed}
-use Rattle.first_parts.proofs.TextBack.{text_back}
+use Rattle.openings.proofs.Counted.{renewed_up_to}
+use Rattle.openings.specs.Keeping.{KeepsOrEmpties}
+use Rattle.openings.specs.Opening.{IsBegun, MayBegin, counters, first_spent}
+use Rattle.openings.specs.Parts.{OpeningParts}
+use Rattle.openings.specs.Renewal.{IsRenewed}
+use Rattle.openings.proofs.TextBack.{text_back}
 
 -- ---- restart sectors
 

@@ -4,7 +4,7 @@ use Rattle.std.specs.Prelude.{Option, Result, if◌then◌else◌, ◌==◌}
 use Rattle.std.specs.Option.{option_map}
 use Rattle.std.specs.List.{flat_map}
 use Rattle.std.proofs.lemmas.Bool.{eqb-true}
-use Rattle.model_disk.specs.Disk.{Image, sector_at}
+use Rattle.tm_disk.specs.Disk.{Image, sector_at}
 use Rattle.model_system.specs.System.{System}
 use Rattle.model_machine.specs.Machine.{LastingState}
 use Rattle.log_records.specs.declared.record.Record.{Record}
@@ -20,18 +20,18 @@ use Rattle.model_image.specs.Recovered.{Recovers}
 use Rattle.model_image.specs.Slots.{named_by}
 use Rattle.model_image.specs.Text.{bytes_from, text_in, first_difference}
 use Rattle.model_image.proofs.Places.{slot_above, log_above}
-use Rattle.snapshot_records.specs.Records.{snapshot_records}
-use Rattle.snapshot_records.proofs.Plain.{none_named}
-use Rattle.snapshot_records.proofs.Read.{IsRead}
+use Rattle.checkpointing.specs.Records.{snapshot_records}
+use Rattle.checkpointing.proofs.Plain.{none_named}
+use Rattle.checkpointing.proofs.Read.{IsRead}
 use Rattle.checkpointing.specs.Checkpoint.{InArea}
 use Rattle.checkpointing.specs.Texts.{HasText}
-use Rattle.renewal.specs.Given.{Given, IsGiven}
-use Rattle.renewal.specs.Before.{IsBefore}
-use Rattle.renewal.specs.Telling.{TellsState}
-use Rattle.renewal.specs.Writing.{ChangesUnread, IsRewritten, Rewrites}
-use Rattle.renewal.proofs.Unreading.{named_slot, unread_recovers}
-use Rattle.renewal.proofs.Recovering.{IsNextLife, renewed_restart, renewed_snapshot, renewed_ahead, renewed_recovers}
-use Rattle.opening_answers.specs.Renewal.{IsRenewed}
+use Rattle.tm_restart.specs.Given.{Given, IsGiven}
+use Rattle.tm_restart.specs.Before.{IsBefore}
+use Rattle.tm_restart.specs.Telling.{TellsState}
+use Rattle.tm_restart.specs.Writing.{ChangesUnread, IsRewritten, Rewrites}
+use Rattle.tm_restart.proofs.Unreading.{named_slot, unread_recovers}
+use Rattle.tm_restart.proofs.Recovering.{IsNextLife, renewed_restart, renewed_snapshot, renewed_ahead, renewed_recovers}
+use Rattle.openings.specs.Renewal.{IsRenewed}
 use Rattle.tm_restart.proofs.Renewed.{same_restart}
 
 -- ---- texts

@@ -5,18 +5,18 @@ use Rattle.std.specs.List.{AllByRecursion}
 use Rattle.std.proofs.lemmas.List.{length-map}
 use Rattle.std.proofs.lemmas.List.Elements.{All-head, All-tail}
 use Rattle.tm_types.specs.declared.dbd.Dbd.{Dbd}
-use Rattle.model_queues.specs.Queue.{QueuesState, messages_of}
+use Rattle.model_messages.specs.Queue.{QueuesState, messages_of}
 use Rattle.model_system.specs.declared.code.Code.{Code}
 use Rattle.model_system.specs.declared.code_state.CodeState.{CodeState}
 use Rattle.model_system.specs.System.{System}
 use Rattle.model_machine.specs.Machine.{LastingState, setting_of, states_of, start_of, raised_now, waiting_now}
 use Rattle.seg_store.specs.Slots.{Stored}
 use Rattle.system_types.specs.Valid.{IsSystem, IsDatabase}
-use Rattle.snapshot_records.specs.Records.{IsOfSystem}
-use Rattle.snapshot_records.specs.Spelled.{IsWritable}
-use Rattle.snapshot_records.specs.Touches.{HasOneSector}
-use Rattle.snapshot_records.proofs.Viewed.{free_messages, settings_shown}
-use Rattle.opening_parts.specs.Parts.{OpeningParts, AreOpeningParts}
+use Rattle.checkpointing.specs.Records.{IsOfSystem}
+use Rattle.checkpointing.specs.Spelled.{IsWritable}
+use Rattle.checkpointing.specs.Touches.{HasOneSector}
+use Rattle.checkpointing.proofs.Viewed.{free_messages, settings_shown}
+use Rattle.openings.specs.Parts.{OpeningParts, AreOpeningParts}
 use Rattle.tm_restart.specs.Prepared.{state_in}
 
 flags_length : (waiting : List ℕ → ℕ) (codes : List Code) → length (raised_now waiting codes (map {A = Code} {B = Bool} (λ _. false) codes)) ≡ length codes

@@ -1,1 +1,10 @@
+pub mod Given
+pub mod Before
+pub mod Writing
+pub mod Telling
+pub mod Loaded
+pub mod Databases
+pub mod Replayed
+pub mod Looked
+pub mod Found
 pub mod Prepared

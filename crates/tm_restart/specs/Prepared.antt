@@ -1,7 +1,7 @@
 -- What is made of an image that was found, before anything is written.
 use Rattle.std.specs.Prelude.{◌≡◌, ℕ, ◌+◌, ◌-◌, List, [], length, map, None, Ok}
-use Rattle.model_disk.specs.Disk.{Image}
-use Rattle.model_queues.specs.Queue.{messages_of}
+use Rattle.tm_disk.specs.Disk.{Image}
+use Rattle.model_messages.specs.Queue.{messages_of}
 use Rattle.model_system.specs.System.{System}
 use Rattle.model_machine.specs.Machine.{LastingState, setting_of}
 use Rattle.log_records.specs.declared.record.Record.{Record}
@@ -10,12 +10,12 @@ use Rattle.restart_data.specs.Restart.{IsRestart}
 use Rattle.restart_data.specs.Snapshot.{sectors_of}
 use Rattle.model_image.specs.Recovered.{log_in, Recovers}
 use Rattle.model_image.specs.Text.{text_in, first_difference}
-use Rattle.snapshot_records.proofs.Whole.{IsWhole}
-use Rattle.renewal.specs.Given.{Given, AreGiven}
-use Rattle.renewal.specs.Before.{IsBefore}
-use Rattle.renewal.specs.Loaded.{AreLoaded}
-use Rattle.opening_parts.specs.Parts.{OpeningParts, AreOpeningParts}
-use Rattle.opening_answers.specs.Opening.{MayBegin, IsReopened}
+use Rattle.checkpointing.proofs.Whole.{IsWhole}
+use Rattle.tm_restart.specs.Given.{Given, AreGiven}
+use Rattle.tm_restart.specs.Before.{IsBefore}
+use Rattle.tm_restart.specs.Loaded.{AreLoaded}
+use Rattle.openings.specs.Parts.{OpeningParts, AreOpeningParts}
+use Rattle.openings.specs.Opening.{MayBegin, IsReopened}
 
 -- the state that the tables of a life show, but for its rows
 abbrev pub state_in : OpeningParts → LastingState

@@ -1,24 +1,22 @@
 //! An image that was found is opened.
 ghost use Rattle.std.specs.Prelude.{◌≤◌, length, IsTrue, IfOk, OnOk};
-ghost use Rattle.model_disk.specs.Disk.{Image, Stays, Within, Only};
+ghost use Rattle.tm_disk.specs.Disk.{Image, Stays, Within, Only};
 ghost use Rattle.model_image.specs.Holding.{HoldsStores};
-ghost use Rattle.cold_start.specs.FirstImage.{sectors_needed};
-ghost use Rattle.opening_parts.specs.Parts.{AreOpeningParts};
+ghost use Rattle.openings.specs.FirstImage.{sectors_needed};
+ghost use Rattle.openings.specs.Parts.{AreOpeningParts};
 ghost use Rattle.checkpointing.specs.Counts.{RaisesCounts};
-ghost use Rattle.opening_answers.specs.Keeping.{KeepsImage};
-ghost use Rattle.opening_answers.specs.Renewal.{IsRenewed};
-ghost use Rattle.opening_answers.specs.Opening.{SizeFirst, TellsOpening, MayBegin, OpeningCause};
-ghost use Rattle.image_finding.specs.Found.{IsJudged, IsSeen};
+ghost use Rattle.openings.specs.Keeping.{KeepsImage};
+ghost use Rattle.openings.specs.Renewal.{IsRenewed};
+ghost use Rattle.openings.specs.Opening.{SizeFirst, TellsOpening, MayBegin, OpeningCause};
+ghost use Rattle.tm_restart.specs.Found.{IsJudged, IsSeen};
 ghost use Rattle.tm_restart.specs.Prepared.{IsPrepared, IsMadeOf};
 
 use crate::preparing::{Prepared, prepare};
-use image_finding::Found;
+use crate::{Found, renew};
+use image_loading::Slots;
 use model_machine::Lasting;
-use opening_answers::OpenError;
-use opening_parts::Parts;
-use renewal::renew;
+use openings::{OpenError, Parts};
 use restart_data::RestartSector;
-use slot_loading::Slots;
 use std::alloc::Global;
 use system_types::System;
 use tm_disk::Disk;

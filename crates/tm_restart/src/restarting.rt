@@ -1,20 +1,19 @@
 //! Restarts.
 ghost use Rattle.std.specs.Prelude.{◌≤◌, length, IsTrue, IfOk, OnOk};
-ghost use Rattle.model_disk.specs.Disk.{Image, Stays, Within, Only};
+ghost use Rattle.tm_disk.specs.Disk.{Image, Stays, Within, Only};
 ghost use Rattle.model_image.specs.Holding.{HoldsStores};
-ghost use Rattle.opening_parts.specs.Parts.{AreOpeningParts};
+ghost use Rattle.openings.specs.Parts.{AreOpeningParts};
 ghost use Rattle.checkpointing.specs.Counts.{RaisesCounts};
-ghost use Rattle.opening_answers.specs.Keeping.{KeepsImage};
-ghost use Rattle.opening_answers.specs.Renewal.{IsRenewed};
-ghost use Rattle.opening_answers.specs.Opening.{SizeFirst, TellsOpening, MayBegin, OpeningCause};
+ghost use Rattle.openings.specs.Keeping.{KeepsImage};
+ghost use Rattle.openings.specs.Renewal.{IsRenewed};
+ghost use Rattle.openings.specs.Opening.{SizeFirst, TellsOpening, MayBegin, OpeningCause};
 
+use crate::find;
 use crate::reopening::reopen;
 use crate::starting::cold;
-use image_areas::sectors_needed;
-use image_finding::find;
+use image_loading::sectors_needed;
 use model_machine::Lasting;
-use opening_answers::OpenError;
-use opening_parts::Parts;
+use openings::{OpenError, Parts};
 use std::alloc::Global;
 use system_types::System;
 use tm_disk::Disk;

@@ -1,21 +1,18 @@
 //! Cold starts.
 ghost use Rattle.std.specs.Prelude.{◌≤◌, length, IfOk, OnOk};
-ghost use Rattle.model_disk.specs.Disk.{Image, Stays, Within, Only};
+ghost use Rattle.tm_disk.specs.Disk.{Image, Stays, Within, Only};
 ghost use Rattle.model_image.specs.Holding.{HoldsStores};
-ghost use Rattle.cold_start.specs.FirstImage.{sectors_needed};
+ghost use Rattle.openings.specs.FirstImage.{sectors_needed};
 ghost use Rattle.checkpointing.specs.Counts.{RaisesCounts};
-ghost use Rattle.opening_answers.specs.Keeping.{KeepsOrEmpties};
-ghost use Rattle.first_parts.specs.Made.{IsMade};
-ghost use Rattle.opening_parts.specs.Parts.{AreOpeningParts};
-ghost use Rattle.opening_answers.specs.Renewal.{IsRenewed};
-ghost use Rattle.opening_answers.specs.Opening.{SizeFirst, TellsCold, MayBegin, OpeningCause};
+ghost use Rattle.openings.specs.Keeping.{KeepsOrEmpties};
+ghost use Rattle.openings.specs.Made.{IsMade};
+ghost use Rattle.openings.specs.Parts.{AreOpeningParts};
+ghost use Rattle.openings.specs.Renewal.{IsRenewed};
+ghost use Rattle.openings.specs.Opening.{SizeFirst, TellsCold, MayBegin, OpeningCause};
 
-use cold_start::write_image;
-use first_parts::{Made, make};
-use image_areas::sectors_needed;
+use image_loading::sectors_needed;
 use model_machine::Lasting;
-use opening_answers::OpenError;
-use opening_parts::Parts;
+use openings::{Made, OpenError, Parts, make, write_image};
 use restart_data::RestartSector;
 use std::alloc::Global;
 use system_types::System;

@@ -2,7 +2,7 @@
 use Rattle.std.proofs.Common.{◌≡◌, ◌⊎◌, ℕ, ◌+◌, ◌≤◌, Bool, true, false, List, [], ◌∷◌, map, sym, ◌∙◌, subst, refl, arith, inl, inr, ⊎_elim}
 use Rattle.std.specs.Prelude.{Option, Some, None}
 use Rattle.std.specs.Option.{is_some}
-use Rattle.model_disk.specs.Disk.{DiskState, IsDisk, Rose}
+use Rattle.tm_disk.specs.Disk.{DiskState, IsDisk, Rose}
 use Rattle.model_system.specs.System.{System}
 use Rattle.model_session.specs.declared.asked.ImageRefused.{ImageRefused}
 use Rattle.model_session.specs.Blocks.{Block}
@@ -12,9 +12,9 @@ use Rattle.model_session.specs.Standing.Standing.{Up, Down}
 use Rattle.model_session.specs.Session.{Begins}
 use Rattle.model_session.proofs.Growing.{HasStop, stop_stays, failed_told}
 use Rattle.model_session.proofs.Stopping.{HasStops, stops_told, stops_begun}
-use Rattle.control_life.specs.declared.how.How.TheVariants.{Found}
-use Rattle.control_life.specs.Opened.{Refuses}
-use Rattle.control_life.specs.declared.life.Life.{Life}
+use Rattle.openings.specs.declared.how.How.TheVariants.{Found}
+use Rattle.openings.specs.Opened.{Refuses}
+use Rattle.openings.specs.declared.life.Life.{Life}
 use Rattle.tm_edge.specs.Lines.{lines_of}
 use Rattle.sysdef_text.specs.Ends.{definition_lines}
 use Rattle.session_lives.specs.Running.{life_of, setting_of, error_of}

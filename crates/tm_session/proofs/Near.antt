@@ -1,20 +1,20 @@
 -- A session ends with a spent counter only where the disk handed in was near that.
 use Rattle.std.proofs.Common.{ℕ, zero, suc, ◌≤◌, List, [], ◌∷◌, map, sym, subst, refl, arith, inr}
 use Rattle.std.specs.Prelude.{Option}
-use Rattle.model_disk.specs.Disk.{DiskState, IsDisk}
+use Rattle.tm_disk.specs.Disk.{DiskState, IsDisk}
 use Rattle.model_system.specs.System.{System}
 use Rattle.model_session.specs.Lives.{LifeState}
 use Rattle.model_session.specs.Blocks.{Block}
 use Rattle.model_session.specs.Standing.{SessionState, Setting, Stop}
 use Rattle.checkpointing.specs.Counts.{AreUpTo}
 use Rattle.checkpointing.proofs.Counted.{up_to_more}
-use Rattle.opening_answers.specs.Opening.{IsSpent}
+use Rattle.openings.specs.Opening.{IsSpent}
 use Rattle.model_image.specs.Counters.{next_sequence}
-use Rattle.control_life.specs.declared.life.Life.{Life}
-use Rattle.counter_law.specs.Measures.{near_limit}
-use Rattle.counter_law.specs.Spent.{IsSpentAt}
-use Rattle.counter_law.proofs.Lasting.{lasts_higher}
-use Rattle.counter_law.proofs.Spent.{spent_above, near_at_end}
+use Rattle.openings.specs.declared.life.Life.{Life}
+use Rattle.session_law.specs.Measures.{near_limit}
+use Rattle.session_law.specs.Spent.{IsSpentAt}
+use Rattle.session_law.proofs.Lasting.{lasts_higher}
+use Rattle.session_law.proofs.Spent.{spent_above, near_at_end}
 use Rattle.session_lives.specs.Running.{life_of, setting_of, CountsDisk}
 use Rattle.tm_session.specs.declared.outcome.Ended.TheVariants.{Spent}
 use Rattle.tm_session.specs.Outcome.{UndoneAs}

@@ -3,23 +3,23 @@ use Rattle.std.proofs.Common.{◌≡◌, ◌≢◌, ◌⊎◌, ℕ, ◌+◌, ◌
 use Rattle.std.proofs.lemmas.List.{append-nil}
 use Rattle.std.specs.Prelude.{Option, Some, None, IfSome}
 use Rattle.std.specs.Option.{option_map, is_some}
-use Rattle.model_disk.specs.Disk.{DiskState, IsDisk, IsSameDisk, Only}
-use Rattle.model_disk.proofs.Words.{same_itself}
+use Rattle.tm_disk.specs.Disk.{DiskState, IsDisk, IsSameDisk, Only}
+use Rattle.tm_disk.proofs.Words.{same_itself}
 use Rattle.model_system.specs.System.{System}
 use Rattle.system_types.specs.Valid.{IsSystem}
 use Rattle.checkpointing.proofs.Counted.{up_to_more}
-use Rattle.counter_law.specs.Measures.{call_raises, measure}
+use Rattle.session_law.specs.Measures.{call_raises, measure}
 use Rattle.model_session.specs.Blocks.{Block}
 use Rattle.model_session.specs.Lives.{AreLegal}
 use Rattle.model_session.specs.Standing.{SessionState, Standing, Stop, AreStops, LastAnswered, no_life, unbegun, is_stopped, last_life}
 use Rattle.model_session.specs.Standing.Standing.{Down as StandsDown}
 use Rattle.model_session.specs.Session.{Begins, AreServed, IsBegun, Opens as OpensLife, FailsToOpen}
-use Rattle.opening_answers.specs.Opening.{WroteNothing}
-use Rattle.control_life.specs.declared.how.How.TheVariants.{Found}
-use Rattle.control_life.specs.Opened.{Refuses}
-use Rattle.opening_answers.specs.declared.refusals.OpenError.{OpenError}
-use Rattle.opening_answers.specs.declared.refusals.OpenError.TheVariants.{Spent as NoCounter}
-use Rattle.control_life.specs.declared.life.Life.{Life}
+use Rattle.openings.specs.Opening.{WroteNothing}
+use Rattle.openings.specs.declared.how.How.TheVariants.{Found}
+use Rattle.openings.specs.Opened.{Refuses}
+use Rattle.openings.specs.declared.refusals.OpenError.{OpenError}
+use Rattle.openings.specs.declared.refusals.OpenError.TheVariants.{Spent as NoCounter}
+use Rattle.openings.specs.declared.life.Life.{Life}
 use Rattle.tm_edge.specs.Lines.{unread, lines_of}
 use Rattle.sysdef_text.specs.Ends.{definition_lines}
 use Rattle.session_lives.specs.declared.called.Opening.{Opening}

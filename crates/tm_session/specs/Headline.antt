@@ -2,7 +2,7 @@
 use Rattle.std.specs.Prelude.{◌≡◌, ◌≢◌, ◌⊎◌, ℕ, ◌≤◌, true, Option, IfSome, Ok, Err, List, [], length, map, IsTrue}
 use Rattle.std.specs.Option.{is_some}
 use Rattle.std.specs.List.{AllByRecursion}
-use Rattle.model_disk.specs.Disk.{Image, DiskState}
+use Rattle.tm_disk.specs.Disk.{Image, DiskState}
 use Rattle.model_system.specs.System.{System}
 use Rattle.system_types.specs.Valid.{IsSystem}
 use Rattle.model_machine.specs.Machine.{LastingState}
@@ -14,12 +14,12 @@ use Rattle.model_session.specs.Standing.{SessionState, Standing, Stop, AreAllLiv
 use Rattle.model_session.specs.Standing.Standing.{Up, Down}
 use Rattle.model_session.specs.Session.{Begins, AreServed}
 use Rattle.tm_edge.specs.Lines.{lines_of}
-use Rattle.control_life.specs.declared.how.How.TheVariants.{Found}
+use Rattle.openings.specs.declared.how.How.TheVariants.{Found}
 use Rattle.model_machine.specs.declared.counts.Counter.{Counter}
-use Rattle.opening_answers.specs.declared.refusals.OpenError.TheVariants.{Spent as SpentCounter}
-use Rattle.opening_answers.specs.Opening.{WroteNothing}
-use Rattle.control_life.specs.Opened.{Refuses}
-use Rattle.control_life.specs.declared.life.Life.{Life}
+use Rattle.openings.specs.declared.refusals.OpenError.TheVariants.{Spent as SpentCounter}
+use Rattle.openings.specs.Opening.{WroteNothing}
+use Rattle.openings.specs.Opened.{Refuses}
+use Rattle.openings.specs.declared.life.Life.{Life}
 use Rattle.tm_session.specs.declared.outcome.Ended.{Ended}
 use Rattle.tm_session.specs.declared.outcome.Ended.TheVariants.{BadLine, BadCross, Read, Memory, Limit, Image as BadImage, Spent}
 use Rattle.sysdef_text.specs.Ends.{definition_lines}

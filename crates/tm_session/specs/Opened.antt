@@ -1,9 +1,9 @@
 -- A definition that was read, a session that has begun, and one that has ended.
 use Rattle.std.specs.Prelude.{◌≡◌, ℕ, Bool, true, false, List, [], length, Option, Some, None, IfSome}
-use Rattle.model_disk.specs.Disk.{DiskState}
+use Rattle.tm_disk.specs.Disk.{DiskState}
 use Rattle.model_system.specs.System.{System}
 use Rattle.system_types.specs.Valid.{IsSystem}
-use Rattle.control_life.specs.declared.life.Life.{Life}
+use Rattle.openings.specs.declared.life.Life.{Life}
 use Rattle.session_lives.specs.declared.called.Opening.{Opening}
 use Rattle.session_lives.specs.declared.called.Opening.TheVariants.{Opened, Broke, Refused, Memory as NoMemory, Spent as SpentCounter}
 use Rattle.tm_session.specs.declared.outcome.Ended.{Ended}

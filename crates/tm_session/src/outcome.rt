@@ -1,8 +1,8 @@
 //! How a session ended, and what it came to.
 ghost use Rattle.std.specs.Prelude.{◌≡◌};
 
-use control_life::Life;
 use model_session::ImageRefused;
+use openings::Life;
 use std::marker::Model;
 use tm_disk::Disk;
 
@@ -42,7 +42,7 @@ pub struct Lives {
 
 impl Model for Lives {
     ghost use Rattle.std.specs.Prelude.{List};
-    ghost use Rattle.control_life.specs.declared.life.Life.{Life};
+    ghost use Rattle.openings.specs.declared.life.Life.{Life};
 
     ghost Value = { List Life };
 

@@ -1,6 +1,6 @@
 //! A whole session.
 ghost use Rattle.std.specs.Prelude.{◌≡◌, ◌≤◌, length, IfOk, IfErr, OnOk};
-ghost use Rattle.model_disk.specs.Disk.{Only};
+ghost use Rattle.tm_disk.specs.Disk.{Only};
 ghost use Rattle.tm_edge.specs.Lines.{unread};
 ghost use Rattle.model_session.specs.Standing.{is_stopped};
 ghost use Rattle.tm_session.specs.Opened as spec;

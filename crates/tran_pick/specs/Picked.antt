@@ -1,8 +1,8 @@
 -- A region's pick in the words of the rule.
 use Rattle.std.specs.Prelude.{◌≡◌, ℕ, false, ◌⊎◌, List, [], ◌∷◌, Option, Some, None, IsSomeAnd}
 use Rattle.std.specs.List.{AllByRecursion}
-use Rattle.model_queues.specs.declared.queued.Queued.{Queued}
-use Rattle.model_queues.specs.Queue.{AreInOrder, first_free, queued_at}
+use Rattle.model_messages.specs.declared.queued.Queued.{Queued}
+use Rattle.model_messages.specs.Queue.{AreInOrder, first_free, queued_at}
 use Rattle.model_system.specs.declared.code.Code.{Code}
 use Rattle.model_system.specs.declared.code_state.CodeState.{CodeState}
 use Rattle.model_machine.specs.Pick.{Candidate, candidate_of, goes_first}

@@ -1,6 +1,6 @@
 //! Codes that a region may serve.
 ghost use Rattle.std.specs.Prelude.{◌≡◌, if◌then◌else◌, IfSome};
-ghost use Rattle.model_queues.specs.Queue.{first_free};
+ghost use Rattle.model_messages.specs.Queue.{first_free};
 ghost use Rattle.tran_pick.specs.Picked.{IsFirstFree};
 ghost use Rattle.model_machine.specs.Pick.{current_priority, is_served, candidate_of, better, goes_first};
 

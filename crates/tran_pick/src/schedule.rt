@@ -1,7 +1,7 @@
 //! The first class with a code that may be served.
 ghost use Rattle.std.specs.Prelude.{◌≡◌, ◌≤◌, ◌-◌, [], length, slice_index_or, IfSome, IfNone};
 ghost use Rattle.std.specs.Option.{option_map, IsSome};
-ghost use Rattle.model_queues.specs.Queue.{first_free};
+ghost use Rattle.model_messages.specs.Queue.{first_free};
 ghost use Rattle.model_system.specs.Codes.{code_at};
 ghost use Rattle.model_machine.specs.Pick.{Candidate, best_of, pick_among, pick_of};
 ghost use Rattle.tran_pick.specs.Picked.{IsFirstFree, IsPicked, NonePicked};

@@ -5,9 +5,9 @@ use Rattle.std.specs.Ordering.{is_eq}
 use Rattle.std.proofs.lemmas.Bool.{false≢true, eq-eqb, ne_eqb, cases_eq}
 use Rattle.std.proofs.lemmas.List.{length-set}
 use Rattle.std.proofs.lemmas.Option.{slice_get_within}
-use Rattle.model_rows.specs.declared.row.Row.{Row}
-use Rattle.model_rows.specs.Path.{key_cmp}
-use Rattle.model_rows.proofs.Lists.{all_then, all_front, all_back}
+use Rattle.model_data.specs.declared.row.Row.{Row}
+use Rattle.model_data.specs.Path.{key_cmp}
+use Rattle.model_data.proofs.Lists.{all_then, all_front, all_back}
 use Rattle.seg_store.specs.Slots.{Stored, has_root, is_free, without_root}
 use Rattle.seg_store.proofs.Places as places
 use Rattle.seg_store.proofs.SlotRows.{rooted, record_has, set_itself}

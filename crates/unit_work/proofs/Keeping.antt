@@ -3,8 +3,8 @@ use Rattle.std.proofs.Common.{◌≡◌, ℕ, ◌+◌, ◌≤◌, ◌<◌, ◌++
 use Rattle.std.specs.List.{AllByRecursion, prefix_len, slice_get, insert, list_any}
 use Rattle.std.proofs.lemmas.Bool.{false≢true, leb-false}
 use Rattle.std.proofs.lemmas.List.{length_push}
-use Rattle.model_rows.proofs.Lists.{all_append, all_front, all_back}
-use Rattle.model_rows.specs.declared.row.Row.{Row}
+use Rattle.model_data.proofs.Lists.{all_append, all_front, all_back}
+use Rattle.model_data.specs.declared.row.Row.{Row}
 use Rattle.unit_work.specs.declared.change.Change.{Change}
 use Rattle.unit_work.specs.Changes.{is_of, is_changed, is_before, is_slot, is_seen, with_change, with_slot, AreOther, Pairs, AreKept, is_full}
 

@@ -6,14 +6,14 @@ use Rattle.std.specs.Option.{option_map_or}
 use Rattle.std.proofs.lemmas.Bool.{false≢true, eqb-true, eq-eqb, cases_eq}
 use Rattle.std.proofs.lemmas.List.Folds.{list_any_at}
 use Rattle.std.proofs.lemmas.Option.{slice_get-get_or, slice_get_within}
-use Rattle.model_rows.specs.declared.row.Row.{Row}
+use Rattle.model_data.specs.declared.row.Row.{Row}
 use Rattle.seg_store.specs.Slots.{Stored, has_root, is_free, slot_of, with_root}
 use Rattle.seg_store.specs.Changed.{Kept, AllStores, stored, with_number, with_changed}
 use Rattle.seg_store.specs.Stores.{IsStoreOf, with_store}
 use Rattle.seg_store.proofs.Places.{place_passes}
 use Rattle.seg_store.proofs.SlotRows.{root_there, root_absent}
-use Rattle.change_records.specs.Images.{image_at}
-use Rattle.change_records.specs.Marks.{is_marked, AreMarked, AreAllMarked}
+use Rattle.unit_work.specs.Images.{image_at}
+use Rattle.unit_work.specs.Marks.{is_marked, AreMarked, AreAllMarked}
 use Rattle.unit_work.specs.declared.change.Change.{Change}
 use Rattle.unit_work.specs.BackOut.{is_touched, was_in, backs, cleared_slots, cleared_from, cleared}
 use Rattle.unit_work.proofs.Backing.{get_set_other, get_set_same, nothing_touched, was_not_there}

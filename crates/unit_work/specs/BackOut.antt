@@ -1,8 +1,8 @@
 -- What backing out needs, and what it leaves in the stores.
 use Rattle.std.specs.Prelude.{◌≡◌, ℕ, ◌-◌, ◌≤◌, ◌⊎◌, Bool, true, ◌==◌, ◌&&◌, ◌||◌, not, List, [], ◌∷◌, Option, None, Some, if◌then◌else◌, length, suc, slice_get, slice_set}
 use Rattle.std.specs.List.{AllByRecursion, list_any}
-use Rattle.model_rows.specs.declared.row.Row.{Row}
-use Rattle.model_rows.specs.Record.{IsRecord}
+use Rattle.model_data.specs.declared.row.Row.{Row}
+use Rattle.model_data.specs.Record.{IsRecord}
 use Rattle.seg_store.specs.Slots.{Stored, has_root, is_free, slot_of}
 use Rattle.unit_work.specs.declared.change.Change.{Change}
 use Rattle.unit_work.specs.Changes.{Pairs}

@@ -2,7 +2,7 @@
 use Rattle.std.specs.Prelude.{◌≡◌, ◌≤◌, ℕ, Bool, true, false, ◌==◌, ◌&&◌, ◌||◌, nat_lt, nat_le, List, [], ◌∷◌, ◌++◌, if◌then◌else◌, length}
 use Rattle.std.specs.List.{AllByRecursion, list_any}
 use Rattle.std.specs.Ordering.{is_eq}
-use Rattle.model_rows.specs.Path.{key_cmp}
+use Rattle.model_data.specs.Path.{key_cmp}
 use Rattle.unit_work.specs.declared.change.Change.{Change}
 
 -- the changed records in the order in which they were first touched, each with its first slot and

@@ -3,3 +3,6 @@ pub mod Shown
 pub mod TouchRefused
 pub mod BackOut
 pub mod Touching
+pub mod Images
+pub mod Told
+pub mod Marks

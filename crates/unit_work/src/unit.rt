@@ -2,8 +2,8 @@
 ghost use Rattle.std.specs.Prelude.{◌≡◌, false, [], length, slice_get, IfOk, IfErr, OnOk, OnErr};
 ghost use Rattle.std.specs.Option.{option_map};
 ghost use Rattle.std.specs.List.{AllByRecursion, list_any};
-ghost use Rattle.change_records.specs.Images.{image_at};
-ghost use Rattle.change_records.specs.Marks.{AreMarked, AreAllMarked};
+ghost use Rattle.unit_work.specs.Images.{image_at};
+ghost use Rattle.unit_work.specs.Marks.{AreMarked, AreAllMarked};
 ghost use Rattle.unit_work.specs.Changes.{is_full, AreInOrder, AreOnce, Pairs};
 ghost use Rattle.unit_work.specs.BackOut.{IsStored, CanGoBack, AreApart, CanBackOut, is_touched, was_in, backs, cleared, backed_from, backed_out, with_record_back};
 ghost use Rattle.unit_work.specs.TouchRefused.{RefusesTouch};

@@ -1,2 +1,4 @@
 mod Numbers
 mod Sending
+pub mod Counting
+pub mod Printed

@@ -3,3 +3,6 @@ pub mod Definition
 pub mod Draws
 pub mod Session
 pub mod Workload
+pub mod Counts
+pub mod Shown
+pub mod Summary

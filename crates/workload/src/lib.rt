@@ -2,20 +2,32 @@
 //! seed. The same seed and count give the same text.
 //!
 //! The text is the definition `workload_text` (specs/Workload.antt).
+//!
+//! What a session is summed up in: how many inputs were accepted, completed and abended, how often a region gave way, and the
+//! reply that was shown last.
+//!
+//! The counts are taken from the entries of the session's lives (specs/Counts.antt), and the reply from what was printed
+//! (specs/Shown.antt). The text is the definition `summary_text` (specs/Summary.antt).
 #![tactic(auto)]
 
-ghost use Rattle.std.specs.Prelude.{◌≡◌, ◌≤◌, IfOk};
-ghost use Rattle.workload.specs.Workload.{workload_text};
-
-use definition::add_definition;
-use session::{add_openings, add_transfers};
-use std::alloc::Global;
-use tm_types::{Bytes, Memory};
-
+mod counts;
 mod definition;
 mod draws;
 mod programs;
 mod session;
+mod shown;
+mod text;
+
+ghost use Rattle.std.specs.Prelude.{◌≡◌, ◌≤◌, IfOk};
+ghost use Rattle.workload.specs.Workload.{workload_text};
+
+pub use counts::{Counts, count_lives};
+use definition::add_definition;
+use session::{add_openings, add_transfers};
+pub use shown::last_shown;
+use std::alloc::Global;
+pub use text::summary;
+use tm_types::{Bytes, Memory};
 
 /// The text of the workload with this seed and this many transfers, 10,000 at most: a definition with 100
 /// accounts and four regions, and a session that opens the accounts from T9, moves money between them from

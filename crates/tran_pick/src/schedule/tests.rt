@@ -1,6 +1,6 @@
 //! The rules of scheduling, by rows.
 ghost use Rattle.std.specs.Prelude.{◌≡◌, ◌<◌, IfOk};
-ghost use Rattle.model_queues.specs.Room.{message_bytes};
+ghost use Rattle.model_messages.specs.Room.{message_bytes};
 
 use super::*;
 use model_system::{SegmentKind, Transaction};

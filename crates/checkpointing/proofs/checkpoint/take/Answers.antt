@@ -1,5 +1,5 @@
 use Rattle.std.proofs.Common.{arith, ◌≡◌, refl, sym, ◌∙◌, ap, subst}
-use Rattle.model_disk.specs.Disk.{Within, Follows, MayWrite}
+use Rattle.tm_disk.specs.Disk.{Within, Follows, MayWrite}
 use Rattle.log_sectors.proofs.Links.{at_ok}
 use Rattle.restart_data.specs.declared.restart.RestartSector.{RestartSector}
 use Rattle.restart_data.specs.Restart.{restart_sector}

@@ -1,5 +1,5 @@
 use Rattle.std.proofs.Common.{length, sym, subst}
-use Rattle.model_disk.specs.Disk.{Within, Follows}
+use Rattle.tm_disk.specs.Disk.{Within, Follows}
 use Rattle.log_sectors.proofs.Links.{at_ok}
 use Rattle.restart_data.specs.Snapshot as snapshot
 use Rattle.log_writer.specs.Log.{AddsAll}

@@ -1,6 +1,6 @@
 use Rattle.std.proofs.Common.{◌≡◌, sym, ap, ◌∙◌, Some, None}
 use Rattle.std.specs.Prelude.{position}
-use Rattle.model_conversation.specs.Terminals.{with_conversation, is_of}
+use Rattle.model_messages.specs.Terminals.{with_conversation, is_of}
 use Rattle.conversation.proofs.Terminals.{place_changed, none_changed}
 use Rattle.conversation.proofs.table.set.Goals as goal
 

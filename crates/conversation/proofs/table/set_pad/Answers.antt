@@ -1,6 +1,6 @@
 use Rattle.std.proofs.Common.{◌≡◌, sym, ap, ◌∙◌, Some, None}
 use Rattle.std.specs.Prelude.{position}
-use Rattle.model_conversation.specs.Terminals.{is_of}
+use Rattle.model_messages.specs.Terminals.{is_of}
 use Rattle.conversation.specs.Changes.{with_new_pad}
 use Rattle.conversation.proofs.Terminals.{place_changed, none_changed}
 use Rattle.conversation.proofs.table.set_pad.Goals as goal

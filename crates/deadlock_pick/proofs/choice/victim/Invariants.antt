@@ -1,6 +1,6 @@
 use Rattle.std.proofs.Common.{◌≡◌, drop}
 use Rattle.std.specs.Prelude.{fold}
-use Rattle.model_enqueue.specs.Cycle.{gives_way}
+use Rattle.model_data.specs.Cycle.{gives_way}
 use Rattle.deadlock_pick.specs.Weighed.{IsWeighed}
 use Rattle.deadlock_pick.proofs.choice.victim.Given as goal
 

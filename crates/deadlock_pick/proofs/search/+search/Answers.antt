@@ -1,6 +1,6 @@
 use Rattle.std.proofs.Common.{◌≡◌, ◌<◌, ◌+◌, ◌∷◌, [], sym, ◌∙◌, arith, ap, subst, length, length-append}
 use Rattle.deadlock_pick.proofs.Ways.{ring_here, none_outside, none_skipped, way_longer, fits, none_from, none_to, least_from}
-use Rattle.model_enqueue.specs.Cycle.{IsRegion}
+use Rattle.model_data.specs.Cycle.{IsRegion}
 use Rattle.deadlock_pick.specs.Way.{HasNoneOf}
 use Rattle.deadlock_pick.proofs.search.+search.Goals as goal
 use Rattle.deadlock_pick.proofs.search.+search.Goals.{then-goes_on+in-None, else-goes_on}

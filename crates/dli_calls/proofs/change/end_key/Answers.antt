@@ -1,5 +1,5 @@
 use Rattle.std.proofs.Common.{ℕ, ◌≡◌, ◌+◌, ◌-◌, List, length, sym, ap, ◌∙◌, arith}
-use Rattle.model_rows.specs.Path.{end_key}
+use Rattle.model_data.specs.Path.{end_key}
 use Rattle.dli_calls.proofs.Asking.{end_key_at}
 use Rattle.dli_calls.proofs.change.end_key.Goals as goal
 

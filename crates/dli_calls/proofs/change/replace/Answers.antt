@@ -1,7 +1,7 @@
 use Rattle.std.proofs.Common.{◌≡◌, true, subst, sym, ap, ◌∙◌}
 use Rattle.std.specs.List.{list_all}
 use Rattle.tm_types.specs.Segment.{is_printable}
-use Rattle.model_rows.specs.Rows.{AreRows}
+use Rattle.model_data.specs.Rows.{AreRows}
 use Rattle.dli_calls.specs.declared.planned.Planned.{Planned}
 use Rattle.dli_calls.proofs.NewRows.{replace_is_row}
 use Rattle.dli_calls.proofs.Removing.{held_there, kept_there, plan_there}

@@ -1,8 +1,8 @@
 use Rattle.std.proofs.Common.{◌≡◌, ℕ, List, subst, ap, ◌∙◌}
-use Rattle.model_rows.specs.Path.{end_type}
-use Rattle.model_rows.specs.Rows.{record_of, AreRows}
-use Rattle.model_dli.specs.Search.{fitted, data_length}
-use Rattle.model_dli.specs.Change.{with_data}
+use Rattle.model_data.specs.Path.{end_type}
+use Rattle.model_data.specs.Rows.{record_of, AreRows}
+use Rattle.model_data.specs.Search.{fitted, data_length}
+use Rattle.model_data.specs.Change.{with_data}
 use Rattle.dli_calls.proofs.Edits.{row_changed, under_changed, image_changed}
 use Rattle.dli_calls.proofs.Setting.{edits}
 use Rattle.dli_calls.proofs.change.with_data.Goals as goal

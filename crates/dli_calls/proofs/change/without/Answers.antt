@@ -1,6 +1,6 @@
 use Rattle.std.proofs.Common.{subst, ap}
-use Rattle.model_rows.specs.Rows.{record_of, AreRows}
-use Rattle.model_dli.specs.Change.{without}
+use Rattle.model_data.specs.Rows.{record_of, AreRows}
+use Rattle.model_data.specs.Change.{without}
 use Rattle.dli_calls.proofs.Edits.{rows_removed, under_removed, image_removed}
 use Rattle.dli_calls.proofs.Setting.{edits}
 use Rattle.dli_calls.proofs.change.without.Goals as goal

@@ -1,6 +1,6 @@
 use Rattle.std.proofs.Common.{◌≡◌, ◌++◌, drop, filter}
 use Rattle.std.specs.Ordering.{is_gt}
-use Rattle.model_rows.specs.Path.{path_cmp}
+use Rattle.model_data.specs.Path.{path_cmp}
 use Rattle.dli_calls.proofs.edit.push_before.Given as goal
 
 abbrev pub invariant-loop-row : goal.invariant-loop-row

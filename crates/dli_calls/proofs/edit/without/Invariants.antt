@@ -1,5 +1,5 @@
 use Rattle.std.proofs.Common.{◌≡◌, ◌++◌, drop}
-use Rattle.model_dli.specs.Change.{without}
+use Rattle.model_data.specs.Change.{without}
 use Rattle.dli_calls.proofs.edit.without.Given as goal
 
 abbrev pub invariant-loop-row : goal.invariant-loop-row

@@ -3,9 +3,9 @@ use Rattle.std.specs.Option.{option_copied, IfSome}
 use Rattle.std.specs.Prelude.{is_some}
 use Rattle.std.proofs.lemmas.List.{append-nil}
 use Rattle.tm_types.specs.declared.resource.Mode.TheVariants.{Shared}
-use Rattle.model_rows.specs.Rows.{record_of, roots, AreRows}
-use Rattle.model_dli.specs.Footprint.{record_need, sequence_need}
-use Rattle.model_dli.specs.Search.{first_after}
+use Rattle.model_data.specs.Rows.{record_of, roots, AreRows}
+use Rattle.model_data.specs.Footprint.{record_need, sequence_need}
+use Rattle.model_data.specs.Search.{first_after}
 use Rattle.row_search.specs.Lent.{lent_root, IsLentOf}
 use Rattle.row_search.specs.Walk.{roots_left}
 use Rattle.row_search.proofs.Needing.{walk, next_fits}

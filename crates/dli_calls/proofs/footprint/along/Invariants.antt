@@ -1,8 +1,8 @@
 -- while a record is left, the records from it on are still to be named
 use Rattle.std.proofs.Common.{◌≡◌, ◌++◌}
 use Rattle.std.specs.Option.{option_copied, IfSome}
-use Rattle.model_rows.specs.Rows.{roots, AreRows}
-use Rattle.model_dli.specs.Search.{first_after}
+use Rattle.model_data.specs.Rows.{roots, AreRows}
+use Rattle.model_data.specs.Search.{first_after}
 use Rattle.row_search.specs.Lent.{lent_root, IsLentOf}
 use Rattle.row_search.specs.Walk.{roots_left}
 use Rattle.row_search.proofs.Needing.{walk, next_fits}

@@ -1,7 +1,7 @@
 use Rattle.std.proofs.Common.{sym, ap, refl, ◌∙◌, subst}
 use Rattle.std.specs.Option.{option_copied}
-use Rattle.model_rows.specs.Rows.{AreRows, record_of}
-use Rattle.model_dli.specs.Search.{first_after}
+use Rattle.model_data.specs.Rows.{AreRows, record_of}
+use Rattle.model_data.specs.Search.{first_after}
 use Rattle.row_search.proofs.Walking.{as_asked, asked_alone}
 use Rattle.dli_calls.proofs.footprint.needed_row.Goals as goal
 

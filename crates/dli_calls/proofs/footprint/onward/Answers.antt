@@ -1,8 +1,8 @@
 use Rattle.std.proofs.Common.{sym, ap, ◌∙◌, ◌++◌, ◌∷◌, [], subst}
 use Rattle.std.specs.Option.{option_copied, IfSome}
 use Rattle.std.specs.Prelude.{is_some}
-use Rattle.model_rows.specs.Path.{IsPath}
-use Rattle.model_rows.specs.Rows.{AreRows}
+use Rattle.model_data.specs.Path.{IsPath}
+use Rattle.model_data.specs.Rows.{AreRows}
 use Rattle.dli_calls.proofs.Naming.{onward_none, onward_here, onward_goes, found_all, found_there, found_later, ok_both}
 use Rattle.dli_calls.proofs.footprint.onward.Goals as goal
 

@@ -2,8 +2,8 @@ use Rattle.std.proofs.Common.{subst, sym, ap, ◌∙◌}
 use Rattle.std.specs.Prelude.{IfSome, OnSome}
 use Rattle.std.specs.Option.{option_copied}
 use Rattle.tm_types.specs.Segment.{IsSegmentText}
-use Rattle.model_rows.specs.Rows.{AreRows}
-use Rattle.model_dli.specs.Conditions.{IsPosition}
+use Rattle.model_data.specs.Rows.{AreRows}
+use Rattle.model_data.specs.Conditions.{IsPosition}
 use Rattle.dli_calls.proofs.Standing.{reached_path, reached_text, stands_at, stands_missed, as_planned}
 use Rattle.dli_calls.proofs.get.get_found.Goals as goal
 

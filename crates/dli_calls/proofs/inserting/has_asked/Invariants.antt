@@ -1,6 +1,6 @@
 use Rattle.std.proofs.Common.{◌≡◌, drop}
-use Rattle.model_dli.specs.Search.{is_there}
-use Rattle.model_dli.specs.Change.{insert_path}
+use Rattle.model_data.specs.Search.{is_there}
+use Rattle.model_data.specs.Change.{insert_path}
 use Rattle.dli_calls.proofs.inserting.has_asked.Given as goal
 
 abbrev pub invariant-loop-row : goal.invariant-loop-row

@@ -1,8 +1,8 @@
 use Rattle.std.proofs.Common.{sym, ap, ◌∙◌}
 use Rattle.std.specs.Prelude.{ℕ, List}
 use Rattle.tm_types.specs.declared.ssa.Ssa.{Ssa}
-use Rattle.model_dli.specs.Search.{is_there}
-use Rattle.model_dli.specs.Change.{asked_pair, insert_path}
+use Rattle.model_data.specs.Search.{is_there}
+use Rattle.model_data.specs.Change.{asked_pair, insert_path}
 use Rattle.dli_calls.proofs.Asking.{insert_first, asked_in_record}
 use Rattle.dli_calls.proofs.inserting.is_asked_there.Goals as goal
 

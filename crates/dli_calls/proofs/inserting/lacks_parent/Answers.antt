@@ -1,8 +1,8 @@
 use Rattle.std.proofs.Common.{◌≡◌, ◌-◌, length, eqb, not, ◌&&◌, false, sym, ap, ◌∙◌, arith}
 use Rattle.std.proofs.lemmas.Bool.{ne_eqb}
-use Rattle.model_rows.specs.Path.{parent_path}
-use Rattle.model_dli.specs.Search.{is_there}
-use Rattle.model_dli.specs.Change.{insert_path}
+use Rattle.model_data.specs.Path.{parent_path}
+use Rattle.model_data.specs.Search.{is_there}
+use Rattle.model_data.specs.Change.{insert_path}
 use Rattle.dli_calls.proofs.Asking.{insert_named, insert_some, insert_length, insert_parent, named_front}
 use Rattle.dli_calls.proofs.inserting.lacks_parent.Goals as goal
 

@@ -1,6 +1,6 @@
 use Rattle.std.proofs.Common.{◌≡◌, ◌+◌, List, sym, ◌∙◌, ap, subst, IsTrue, true, false}
-use Rattle.model_disk.specs.Disk.{Image, sector_at}
-use Rattle.model_disk.proofs.Words.{keeps_on}
+use Rattle.tm_disk.specs.Disk.{Image, sector_at}
+use Rattle.tm_disk.proofs.Words.{keeps_on}
 use Rattle.log_sectors.proofs.Links.{at_ok}
 use Rattle.model_image.specs.Recovered.{is_later, first_later}
 use Rattle.image_reading.proofs.Sectors.{later_next, later_here}

@@ -1,5 +1,5 @@
 use Rattle.std.proofs.Common.{◌≡◌, ◌+◌, ◌-◌, IsTrue}
-use Rattle.model_disk.specs.Disk.{Keeps}
+use Rattle.tm_disk.specs.Disk.{Keeps}
 use Rattle.model_image.specs.Recovered.{first_later}
 use Rattle.image_reading.proofs.later.first_later.Given as goal
 

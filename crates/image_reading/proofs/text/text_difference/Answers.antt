@@ -1,6 +1,6 @@
 use Rattle.std.proofs.Common.{◌≡◌, ◌+◌, drop, sym, ◌∙◌, ap, subst, arith, IsTrue}
-use Rattle.model_disk.specs.Disk.{Image, sector_at}
-use Rattle.model_disk.proofs.Words.{keeps_on}
+use Rattle.tm_disk.specs.Disk.{Image, sector_at}
+use Rattle.tm_disk.proofs.Words.{keeps_on}
 use Rattle.log_sectors.proofs.Links.{at_ok}
 use Rattle.model_image.specs.Text.{text_in, first_difference}
 use Rattle.image_reading.proofs.Differing.{moved}

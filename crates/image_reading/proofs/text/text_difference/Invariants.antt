@@ -1,5 +1,5 @@
 use Rattle.std.proofs.Common.{◌≡◌, ◌-◌, ◌*◌, ◌≤◌, length, drop, min, IsTrue}
-use Rattle.model_disk.specs.Disk.{Keeps}
+use Rattle.tm_disk.specs.Disk.{Keeps}
 use Rattle.model_image.specs.Text.{text_in, first_difference}
 use Rattle.image_reading.proofs.Differing.{moved}
 use Rattle.image_reading.proofs.Pieces.{left_at}

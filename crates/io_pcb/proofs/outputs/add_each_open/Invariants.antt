@@ -1,6 +1,6 @@
 use Rattle.std.proofs.Common.{◌≡◌, ◌++◌, drop}
 use Rattle.std.specs.List.{flat_map}
-use Rattle.model_message.specs.Work.{ended_by}
+use Rattle.model_messages.specs.Work.{ended_by}
 use Rattle.io_pcb.proofs.outputs.add_each_open.Given as goal
 
 abbrev pub invariant-loop-opened : goal.invariant-loop-opened

@@ -1,5 +1,5 @@
 use Rattle.std.proofs.Common.{◌≡◌, ◌+◌, drop, length}
-use Rattle.model_rows.specs.Record.{spelling}
+use Rattle.model_data.specs.Record.{spelling}
 use Rattle.log_records.proofs.images.image_length.Given as goal
 
 abbrev pub invariant-loop-row : goal.invariant-loop-row

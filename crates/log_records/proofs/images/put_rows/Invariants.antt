@@ -1,5 +1,5 @@
 use Rattle.std.proofs.Common.{◌≡◌, ◌++◌, drop}
-use Rattle.model_rows.specs.Record.{spelling}
+use Rattle.model_data.specs.Record.{spelling}
 use Rattle.log_records.proofs.Kept.{Keeps}
 use Rattle.log_records.proofs.images.put_rows.Given as goal
 

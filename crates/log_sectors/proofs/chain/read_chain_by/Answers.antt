@@ -1,7 +1,7 @@
 use Rattle.std.proofs.Common.{◌≡◌, ℕ, ◌+◌, ◌-◌, List, ◌∷◌, ◌++◌, length, sym, ◌∙◌, ap, subst, arith, Some, None, IsTrue}
 use Rattle.std.proofs.lemmas.List.{append-nil}
-use Rattle.model_disk.specs.Disk.{Image, sector_at}
-use Rattle.model_disk.proofs.Words.{keeps_on}
+use Rattle.tm_disk.specs.Disk.{Image, sector_at}
+use Rattle.tm_disk.proofs.Words.{keeps_on}
 use Rattle.log_sectors.specs.Sealed.{opened}
 use Rattle.log_sectors.specs.Chain.{chain, joined}
 use Rattle.log_sectors.proofs.Links.{chain_none, chain_some, at_ok, joined_next}

@@ -1,5 +1,5 @@
 use Rattle.std.proofs.Common.{◌≡◌, ◌+◌, ◌-◌, ◌++◌, length, IsTrue}
-use Rattle.model_disk.specs.Disk.{Keeps}
+use Rattle.tm_disk.specs.Disk.{Keeps}
 use Rattle.log_sectors.specs.Chain.{chain, joined}
 use Rattle.log_sectors.proofs.chain.read_chain_by.Given as goal
 

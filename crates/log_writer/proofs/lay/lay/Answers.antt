@@ -1,6 +1,6 @@
 use Rattle.std.proofs.Common.{◌≡◌, ℕ, ◌+◌, List, length, refl, sym, ◌∙◌, ap, subst, arith, IsTrue}
-use Rattle.model_disk.specs.Disk.{HasWritten}
-use Rattle.model_disk.proofs.Words.{stays_on}
+use Rattle.tm_disk.specs.Disk.{HasWritten}
+use Rattle.tm_disk.proofs.Words.{stays_on}
 use Rattle.log_sectors.specs.Sealed.{sealed}
 use Rattle.log_sectors.proofs.Links.{at_ok}
 use Rattle.log_writer.specs.Log.{sectors_of, pieces, piece}

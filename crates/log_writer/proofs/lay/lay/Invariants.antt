@@ -1,5 +1,5 @@
 use Rattle.std.proofs.Common.{◌≡◌, ◌+◌, ◌≤◌, length, IsTrue}
-use Rattle.model_disk.specs.Disk.{Stays, Within, Follows}
+use Rattle.tm_disk.specs.Disk.{Stays, Within, Follows}
 use Rattle.log_writer.specs.Log.{sectors_of, pieces, Lays, HasLaid}
 use Rattle.log_writer.proofs.lay.lay.Given as goal
 

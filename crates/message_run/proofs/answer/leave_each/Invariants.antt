@@ -1,5 +1,5 @@
 use Rattle.std.proofs.Common.{◌≡◌, length, replicate, take}
-use Rattle.model_dli.specs.Data.{nowhere}
+use Rattle.model_data.specs.Data.{nowhere}
 use Rattle.message_run.proofs.answer.leave_each.Given as goal
 
 abbrev pub invariant-loop-position : goal.invariant-loop-position

@@ -1,5 +1,5 @@
 use Rattle.std.proofs.Common.{◌≡◌, replicate}
-use Rattle.model_dli.specs.Data.{nowhere}
+use Rattle.model_data.specs.Data.{nowhere}
 use Rattle.message_run.proofs.progress.standing_nowhere.Given as goal
 
 abbrev pub invariant-loop-pcb : goal.invariant-loop-pcb

@@ -1,7 +1,7 @@
 use Rattle.std.proofs.Common.{◌≡◌, refl}
 use Rattle.std.specs.Prelude.{Some, slice_get, length}
 use Rattle.std.proofs.lemmas.Option.{slice_get_read}
-use Rattle.model_format.specs.declared.fields.FieldValue.{FieldValue}
+use Rattle.model_system.specs.declared.fields.FieldValue.{FieldValue}
 use Rattle.mfs_edit.specs.Indexes.{place_in}
 use Rattle.mfs_edit.proofs.Placing.{placed}
 use Rattle.mfs_edit.proofs.indexes.values_by_name.Goals as goal

@@ -1,7 +1,7 @@
 use Rattle.std.proofs.Common.{ap, ◌∙◌}
 use Rattle.std.specs.Prelude.{is_some}
 use Rattle.std.specs.Str.{bytes_eq}
-use Rattle.model_format.specs.declared.device_field.DeviceField.{DeviceField}
+use Rattle.model_system.specs.declared.device_field.DeviceField.{DeviceField}
 use Rattle.mfs_edit.proofs.Names.{found_backwards}
 use Rattle.mfs_edit.proofs.input.is_field.Goals as goal
 

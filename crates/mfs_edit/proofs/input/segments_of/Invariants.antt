@@ -1,7 +1,7 @@
 use Rattle.std.proofs.Common.{◌≡◌, ◌++◌, drop, map}
 use Rattle.std.specs.Prelude.{IsTrue}
 use Rattle.std.specs.List.{list_all}
-use Rattle.model_format.specs.Entering as spec
+use Rattle.model_system.specs.Entering as spec
 use Rattle.mfs_edit.specs.Texts.{is_text}
 use Rattle.mfs_edit.proofs.input.segments_of.Given as goal
 

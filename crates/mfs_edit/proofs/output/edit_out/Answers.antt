@@ -1,11 +1,11 @@
 use Rattle.std.proofs.Common.{◌≡◌, List, [], ◌++◌, length, take, ap, sym, ◌∙◌, refl, add-one}
 use Rattle.std.specs.Prelude.{Some, slice_get}
 use Rattle.std.proofs.lemmas.Option.{slice_get_read}
-use Rattle.model_format.specs.declared.device_field.DeviceField.{DeviceField}
-use Rattle.model_format.specs.declared.message_field.MessageFieldLine.{MessageFieldLine}
-use Rattle.model_format.specs.declared.segment_line.SegmentLine.{SegmentLine}
-use Rattle.model_format.specs.Breaks.{clashing_field}
-use Rattle.model_format.specs.Showing.{page_of, pieces_of, all_pieces, shown}
+use Rattle.model_system.specs.declared.device_field.DeviceField.{DeviceField}
+use Rattle.model_system.specs.declared.message_field.MessageFieldLine.{MessageFieldLine}
+use Rattle.model_system.specs.declared.segment_line.SegmentLine.{SegmentLine}
+use Rattle.model_system.specs.Breaks.{clashing_field}
+use Rattle.model_system.specs.Showing.{page_of, pieces_of, all_pieces, shown}
 use Rattle.mfs_edit.proofs.Pieces.{segment_more, segment_past}
 use Rattle.mfs_edit.proofs.Rules.{no_clash}
 use Rattle.mfs_edit.proofs.output.edit_out.Goals as goal

@@ -1,11 +1,11 @@
 use Rattle.std.proofs.Common.{◌≡◌, sym, ◌∙◌, subst}
 use Rattle.std.specs.Str.{bytes_eq}
 use Rattle.std.proofs.lemmas.Slice.Eq.{bytes_eq-Decides}
-use Rattle.model_format.specs.declared.device_field.DeviceField.{DeviceField}
-use Rattle.model_format.specs.Fitting.{fitted}
-use Rattle.model_format.specs.Pages.{IsPage}
-use Rattle.model_format.specs.Showing.{Piece}
-use Rattle.model_format.specs.Valid.{is_on_page}
+use Rattle.model_system.specs.declared.device_field.DeviceField.{DeviceField}
+use Rattle.model_system.specs.Fitting.{fitted}
+use Rattle.model_system.specs.Pages.{IsPage}
+use Rattle.model_system.specs.Showing.{Piece}
+use Rattle.model_system.specs.Valid.{is_on_page}
 use Rattle.mfs_edit.proofs.Clashes.{found_back, fields_apart, all_in}
 use Rattle.mfs_edit.proofs.Printable.{fitted_length}
 use Rattle.mfs_edit.proofs.Setting.{on_page, page_set, page_same, still_page}

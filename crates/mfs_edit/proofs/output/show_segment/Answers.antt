@@ -1,7 +1,7 @@
 use Rattle.std.proofs.Common.{◌≡◌, ◌+◌, ◌++◌, ◌∷◌, [], take, ap, sym, ◌∙◌, append_assoc}
 use Rattle.std.proofs.lemmas.List.{take_more}
-use Rattle.model_format.specs.declared.message_field.MessageFieldLine.{MessageFieldLine}
-use Rattle.model_format.specs.Showing.{page_of, pieces_of}
+use Rattle.model_system.specs.declared.message_field.MessageFieldLine.{MessageFieldLine}
+use Rattle.model_system.specs.Showing.{page_of, pieces_of}
 use Rattle.mfs_edit.specs.Pieces.{left_by, piece_of}
 use Rattle.mfs_edit.proofs.Pieces.{rest_more, pieces_more}
 use Rattle.mfs_edit.proofs.output.show_segment.Goals as goal

@@ -1,6 +1,6 @@
 -- what was read, before what is still to be read
 use Rattle.std.proofs.Common.{◌≡◌, ◌+◌, drop}
-use Rattle.model_format.specs.Valid.{IsFormat}
+use Rattle.model_system.specs.Valid.{IsFormat}
 use Rattle.mfs_text.specs.Built.{lines_in}
 use Rattle.mfs_text.specs.Formats.{format_of, lines_from}
 use Rattle.mfs_text.proofs.Joining.{finished}

@@ -1,7 +1,7 @@
 use Rattle.std.proofs.Common.{◌≡◌, Some, None, ◌+◌, sym, ap, ◌∙◌}
 use Rattle.std.specs.Option.{option_map, unwrap_or}
-use Rattle.model_queues.specs.Room.{message_bytes, messages_bytes}
-use Rattle.model_queues.specs.Queue.{queued_at, messages_of}
+use Rattle.model_messages.specs.Room.{message_bytes, messages_bytes}
+use Rattle.model_messages.specs.Queue.{queued_at, messages_of}
 use Rattle.std.specs.Map.{values_of}
 use Rattle.msg_queues.proofs.ById.{found_is, removed, keyed_removed, bytes_removed}
 use Rattle.msg_queues.proofs.entries.remove.Goals as goal

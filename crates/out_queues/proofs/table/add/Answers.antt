@@ -1,5 +1,5 @@
 use Rattle.std.proofs.lemmas.Result.{IfOk-weaker}
-use Rattle.model_queues.specs.Outputs.{with_reply}
+use Rattle.model_messages.specs.Outputs.{with_reply}
 use Rattle.out_queues.proofs.Terminals.{place_changed}
 use Rattle.out_queues.proofs.table.add.Goals as goal
 

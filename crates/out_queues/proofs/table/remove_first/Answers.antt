@@ -1,4 +1,4 @@
-use Rattle.model_queues.specs.Outputs.{without_first}
+use Rattle.model_messages.specs.Outputs.{without_first}
 use Rattle.out_queues.proofs.Terminals.{place_changed}
 use Rattle.out_queues.proofs.table.remove_first.Goals as goal
 

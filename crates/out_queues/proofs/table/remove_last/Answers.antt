@@ -1,4 +1,4 @@
-use Rattle.model_queues.specs.Outputs.{without_last}
+use Rattle.model_messages.specs.Outputs.{without_last}
 use Rattle.out_queues.proofs.Terminals.{place_changed}
 use Rattle.out_queues.proofs.table.remove_last.Goals as goal
 

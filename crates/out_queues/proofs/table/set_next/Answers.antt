@@ -1,4 +1,4 @@
-use Rattle.model_queues.specs.Outputs.{with_next}
+use Rattle.model_messages.specs.Outputs.{with_next}
 use Rattle.out_queues.proofs.Terminals.{place_changed}
 use Rattle.out_queues.proofs.table.set_next.Goals as goal
 

@@ -1,6 +1,6 @@
 use Rattle.std.proofs.Common.{sym, ◌∙◌}
 use Rattle.pi_enqueue.proofs.Keys.{runs, against_is, passed, met, met_none}
-use Rattle.model_enqueue.specs.Table.{holders_against}
+use Rattle.model_data.specs.Table.{holders_against}
 use Rattle.std.specs.Prelude.{slice_get}
 use Rattle.pi_enqueue.proofs.holds.first_against.Goals as goal
 

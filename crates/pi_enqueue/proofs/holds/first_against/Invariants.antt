@@ -1,5 +1,5 @@
 use Rattle.std.proofs.Common.{◌≡◌, filter, map, slice_get}
-use Rattle.model_enqueue.specs.Table.{holders_against}
+use Rattle.model_data.specs.Table.{holders_against}
 use Rattle.pi_enqueue.proofs.Keys.{is_other}
 use Rattle.pi_enqueue.proofs.holds.first_against.Given as goal
 

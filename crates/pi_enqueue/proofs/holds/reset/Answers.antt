@@ -1,6 +1,6 @@
 use Rattle.std.proofs.Common.{sym, ap, ◌∙◌}
 use Rattle.std.specs.BTreeMap.{is_at}
-use Rattle.model_enqueue.specs.Modes.{holder_cmp}
+use Rattle.model_data.specs.Modes.{holder_cmp}
 use Rattle.pi_enqueue.proofs.Holding.{reset_absent}
 use Rattle.pi_enqueue.proofs.holds.reset.Goals as goal
 

@@ -1,6 +1,6 @@
 use Rattle.std.proofs.Common.{◌≡◌, drop}
 use Rattle.std.specs.Prelude.{slice_get}
-use Rattle.model_enqueue.specs.Table.{ahead}
+use Rattle.model_data.specs.Table.{ahead}
 use Rattle.pi_enqueue.proofs.queue.first_ahead.Given as goal
 
 abbrev pub invariant-loop-waiter : goal.invariant-loop-waiter

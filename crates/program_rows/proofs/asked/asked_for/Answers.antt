@@ -1,6 +1,6 @@
 use Rattle.std.proofs.Common.{◌≡◌, List, sym, subst}
 use Rattle.std.specs.List.{AllByRecursion}
-use Rattle.model_enqueue.specs.declared.request.Request.{Request}
+use Rattle.model_data.specs.declared.request.Request.{Request}
 use Rattle.program_rows.proofs.Blocking.{own_requests}
 use Rattle.program_rows.proofs.asked.asked_for.Goals as goal
 

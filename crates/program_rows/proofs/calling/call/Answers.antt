@@ -1,10 +1,10 @@
 use Rattle.std.proofs.Common.{◌≡◌, ◌-◌, ◌≤◌, List, [], None, refl, sym, ap, ◌∙◌, subst, arith, length, map}
 use Rattle.std.specs.List.{AllByRecursion}
 use Rattle.std.proofs.lemmas.List.{length-map}
-use Rattle.model_rows.specs.declared.row.Row.{Row}
-use Rattle.model_dli.specs.Footprint.{footprint}
-use Rattle.model_enqueue.specs.declared.request.Request.{Request}
-use Rattle.model_enqueue.specs.Ask.{first_blocked}
+use Rattle.model_data.specs.declared.row.Row.{Row}
+use Rattle.model_data.specs.Footprint.{footprint}
+use Rattle.model_data.specs.declared.request.Request.{Request}
+use Rattle.model_data.specs.Ask.{first_blocked}
 use Rattle.seg_store.specs.Slots.{rows_of_slots}
 use Rattle.unit_work.specs.Changes.{Changes}
 use Rattle.dli_calls.specs.Plans.{IsThere}
@@ -69,7 +69,7 @@ returns-then-is_some-clause-done c =
     waited c.args.opened.now c.requires.open c.args.region c.args.number c.requires.first last c.requires.number c.args.dbd.now c.args.call.now c.args.at.now c.requires.position c.requires.call
     (stored c.store.result.now) c.store.ensures.stored_is (dbd_there c.args.opened.now.stores.stores (c.args.number - 1) (stored c.store.result.now) c.args.dbd.now c.store.ensures.stored_is c.requires.database)
     (record { units = c.args.opened.now.units; stores = c.args.opened.now.stores; table = c.wait.new.table }) c.wait.result c.in_ok-asked.asked.requests.items requests refl refl refl refl
-    c.wait.ensures.waits (subst (λ n. Rattle.std.specs.Prelude.OnOk c.wait.result (c.wait.new.table ≡ Rattle.model_enqueue.specs.Ask.after_asks n c.in_ok-asked.asked.requests.items c.args.opened.now.table)) c.in_ok-asked.ensures.region c.wait.ensures.table)
+    c.wait.ensures.waits (subst (λ n. Rattle.std.specs.Prelude.OnOk c.wait.result (c.wait.new.table ≡ Rattle.model_data.specs.Ask.after_asks n c.in_ok-asked.asked.requests.items c.args.opened.now.table)) c.in_ok-asked.ensures.region c.wait.ensures.table)
     c.wait.ensures.held
 
 pub returns-clause-done : goal.returns-clause-done
@@ -145,7 +145,7 @@ returns-then-is_some-clause-tells c =
     (waits_told c.args.opened.now c.requires.open c.args.region c.args.number c.requires.first last c.requires.number c.args.dbd.now c.args.call.now c.args.at.now c.requires.position c.requires.call
     (stored c.store.result.now) c.store.ensures.stored_is (dbd_there c.args.opened.now.stores.stores (c.args.number - 1) (stored c.store.result.now) c.args.dbd.now c.store.ensures.stored_is c.requires.database)
     (record { units = c.args.opened.now.units; stores = c.args.opened.now.stores; table = c.wait.new.table }) c.args.unit c.requires.touched c.wait.result c.in_ok-asked.asked.requests.items requests refl refl refl refl
-    c.wait.ensures.waits (subst (λ n. Rattle.std.specs.Prelude.OnOk c.wait.result (c.wait.new.table ≡ Rattle.model_enqueue.specs.Ask.after_asks n c.in_ok-asked.asked.requests.items c.args.opened.now.table)) c.in_ok-asked.ensures.region c.wait.ensures.table)
+    c.wait.ensures.waits (subst (λ n. Rattle.std.specs.Prelude.OnOk c.wait.result (c.wait.new.table ≡ Rattle.model_data.specs.Ask.after_asks n c.in_ok-asked.asked.requests.items c.args.opened.now.table)) c.in_ok-asked.ensures.region c.wait.ensures.table)
     c.wait.ensures.held)
 
 pub returns-then-is_some-clause-slots : goal.returns-then-is_some-clause-slots
@@ -157,7 +157,7 @@ returns-then-is_some-clause-slots c =
     (waits_told c.args.opened.now c.requires.open c.args.region c.args.number c.requires.first last c.requires.number c.args.dbd.now c.args.call.now c.args.at.now c.requires.position c.requires.call
     (stored c.store.result.now) c.store.ensures.stored_is (dbd_there c.args.opened.now.stores.stores (c.args.number - 1) (stored c.store.result.now) c.args.dbd.now c.store.ensures.stored_is c.requires.database)
     (record { units = c.args.opened.now.units; stores = c.args.opened.now.stores; table = c.wait.new.table }) c.args.unit c.requires.touched c.wait.result c.in_ok-asked.asked.requests.items requests refl refl refl refl
-    c.wait.ensures.waits (subst (λ n. Rattle.std.specs.Prelude.OnOk c.wait.result (c.wait.new.table ≡ Rattle.model_enqueue.specs.Ask.after_asks n c.in_ok-asked.asked.requests.items c.args.opened.now.table)) c.in_ok-asked.ensures.region c.wait.ensures.table)
+    c.wait.ensures.waits (subst (λ n. Rattle.std.specs.Prelude.OnOk c.wait.result (c.wait.new.table ≡ Rattle.model_data.specs.Ask.after_asks n c.in_ok-asked.asked.requests.items c.args.opened.now.table)) c.in_ok-asked.ensures.region c.wait.ensures.table)
     c.wait.ensures.held)
 
 pub returns-then-is_some-clause-touched : goal.returns-then-is_some-clause-touched
@@ -169,7 +169,7 @@ returns-then-is_some-clause-touched c =
     (waits_told c.args.opened.now c.requires.open c.args.region c.args.number c.requires.first last c.requires.number c.args.dbd.now c.args.call.now c.args.at.now c.requires.position c.requires.call
     (stored c.store.result.now) c.store.ensures.stored_is (dbd_there c.args.opened.now.stores.stores (c.args.number - 1) (stored c.store.result.now) c.args.dbd.now c.store.ensures.stored_is c.requires.database)
     (record { units = c.args.opened.now.units; stores = c.args.opened.now.stores; table = c.wait.new.table }) c.args.unit c.requires.touched c.wait.result c.in_ok-asked.asked.requests.items requests refl refl refl refl
-    c.wait.ensures.waits (subst (λ n. Rattle.std.specs.Prelude.OnOk c.wait.result (c.wait.new.table ≡ Rattle.model_enqueue.specs.Ask.after_asks n c.in_ok-asked.asked.requests.items c.args.opened.now.table)) c.in_ok-asked.ensures.region c.wait.ensures.table)
+    c.wait.ensures.waits (subst (λ n. Rattle.std.specs.Prelude.OnOk c.wait.result (c.wait.new.table ≡ Rattle.model_data.specs.Ask.after_asks n c.in_ok-asked.asked.requests.items c.args.opened.now.table)) c.in_ok-asked.ensures.region c.wait.ensures.table)
     c.wait.ensures.held)
 
 pub returns-then-is_some-clause-touch : goal.returns-then-is_some-clause-touch
@@ -181,7 +181,7 @@ returns-then-is_some-clause-touch c =
     (waits_told c.args.opened.now c.requires.open c.args.region c.args.number c.requires.first last c.requires.number c.args.dbd.now c.args.call.now c.args.at.now c.requires.position c.requires.call
     (stored c.store.result.now) c.store.ensures.stored_is (dbd_there c.args.opened.now.stores.stores (c.args.number - 1) (stored c.store.result.now) c.args.dbd.now c.store.ensures.stored_is c.requires.database)
     (record { units = c.args.opened.now.units; stores = c.args.opened.now.stores; table = c.wait.new.table }) c.args.unit c.requires.touched c.wait.result c.in_ok-asked.asked.requests.items requests refl refl refl refl
-    c.wait.ensures.waits (subst (λ n. Rattle.std.specs.Prelude.OnOk c.wait.result (c.wait.new.table ≡ Rattle.model_enqueue.specs.Ask.after_asks n c.in_ok-asked.asked.requests.items c.args.opened.now.table)) c.in_ok-asked.ensures.region c.wait.ensures.table)
+    c.wait.ensures.waits (subst (λ n. Rattle.std.specs.Prelude.OnOk c.wait.result (c.wait.new.table ≡ Rattle.model_data.specs.Ask.after_asks n c.in_ok-asked.asked.requests.items c.args.opened.now.table)) c.in_ok-asked.ensures.region c.wait.ensures.table)
     c.wait.ensures.held)
 
 pub returns-then-is_some-clause-full : goal.returns-then-is_some-clause-full

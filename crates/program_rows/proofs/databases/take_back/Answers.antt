@@ -1,6 +1,6 @@
 use Rattle.std.proofs.Common.{◌-◌, List, sym, ap, subst, ◌∙◌}
-use Rattle.change_records.specs.Images.{image_at}
-use Rattle.change_records.specs.Marks.{AreMarked, AreAllMarked}
+use Rattle.unit_work.specs.Images.{image_at}
+use Rattle.unit_work.specs.Marks.{AreMarked, AreAllMarked}
 use Rattle.unit_work.specs.declared.change.Change.{Change}
 use Rattle.unit_work.specs.Changes.{no_changes}
 use Rattle.unit_work.specs.BackOut.{backed_out, backs}

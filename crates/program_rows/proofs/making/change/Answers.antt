@@ -1,9 +1,9 @@
 use Rattle.std.proofs.Common.{◌≡◌, List, Some, None, sym, subst, ap, ◌∙◌}
 use Rattle.std.specs.Prelude.{IfSome}
-use Rattle.model_rows.specs.Rows.{IsImage}
+use Rattle.model_data.specs.Rows.{IsImage}
 use Rattle.seg_rows.specs.StoreRefused.{set_refusal}
 use Rattle.seg_store.specs.Slots.{rows_of_slots}
-use Rattle.model_rows.specs.declared.row.Row.{Row}
+use Rattle.model_data.specs.declared.row.Row.{Row}
 use Rattle.dli_calls.specs.Plans.{IsThere, limit_of}
 use Rattle.seg_store.specs.Changed.{stored}
 use Rattle.program_rows.specs.Making.{TakesSlot, changed_in}

@@ -1,5 +1,5 @@
 use Rattle.std.proofs.Common.{◌<◌, ◌≤◌, length, refl, sym, subst}
-use Rattle.model_rows.specs.Record.{spelling, record_limit}
+use Rattle.model_data.specs.Record.{spelling, record_limit}
 use Rattle.seg_rows.proofs.Kept.{passed}
 use Rattle.seg_store.specs.Slots.{AreSlots}
 use Rattle.program_rows.proofs.Limits.{past_slots, past_length, within_limits}

@@ -1,5 +1,5 @@
 use Rattle.std.proofs.Common.{length, ap, ◌∙◌}
-use Rattle.model_queues.specs.Queue.{free_count}
+use Rattle.model_messages.specs.Queue.{free_count}
 use Rattle.model_machine.specs.Flags.{followed}
 use Rattle.model_machine.proofs.Flags.{followed_length}
 use Rattle.region_work.proofs.Following.{follow_step}

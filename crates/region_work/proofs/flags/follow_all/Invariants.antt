@@ -1,5 +1,5 @@
 use Rattle.std.proofs.Common.{◌≡◌, drop, length}
-use Rattle.model_queues.specs.Queue.{free_count}
+use Rattle.model_messages.specs.Queue.{free_count}
 use Rattle.model_machine.specs.Flags.{all_followed}
 use Rattle.region_work.proofs.flags.follow_all.Given as goal
 

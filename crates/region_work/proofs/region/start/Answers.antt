@@ -1,5 +1,5 @@
 use Rattle.std.proofs.Common.{ap, ◌∙◌}
-use Rattle.model_queues.specs.Queue.{message_at}
+use Rattle.model_messages.specs.Queue.{message_at}
 use Rattle.region_work.proofs.Going.{pad_found}
 use Rattle.region_work.proofs.region.start.Goals as goal
 

@@ -1,6 +1,6 @@
 use Rattle.std.proofs.Common.{◌≡◌, ℕ, List, sym, ◌∙◌, ap, arith}
-use Rattle.model_disk.specs.Disk.{HasWritten, with_sector, Only}
-use Rattle.model_disk.proofs.Words.{follows_shown}
+use Rattle.tm_disk.specs.Disk.{HasWritten, with_sector, Only}
+use Rattle.tm_disk.proofs.Words.{follows_shown}
 use Rattle.restart_data.specs.Restart.{restart_sector}
 use Rattle.restart_data.specs.Images.{Restarts}
 use Rattle.restart_data.proofs.ImageLaws.{restarts}

@@ -1,6 +1,6 @@
 use Rattle.std.proofs.Common.{◌≡◌, ℕ, ◌+◌, ◌-◌, List, sym, ◌∙◌, ap, subst, IsTrue}
-use Rattle.model_disk.specs.Disk.{Image, sector_at}
-use Rattle.model_disk.proofs.Words.{keeps_on}
+use Rattle.tm_disk.specs.Disk.{Image, sector_at}
+use Rattle.tm_disk.proofs.Words.{keeps_on}
 use Rattle.restart_data.specs.Snapshot.{part_of, part_in, and_then, parts_in, snapshot_in}
 use Rattle.restart_data.specs.Gathering.{so_far}
 use Rattle.restart_data.proofs.Answering.{at_ok}

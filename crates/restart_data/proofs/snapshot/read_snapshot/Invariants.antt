@@ -1,5 +1,5 @@
 use Rattle.std.proofs.Common.{◌≡◌, ◌+◌, ◌-◌, IsTrue}
-use Rattle.model_disk.specs.Disk.{Keeps}
+use Rattle.tm_disk.specs.Disk.{Keeps}
 use Rattle.restart_data.specs.Snapshot.{and_then, parts_in, snapshot_in}
 use Rattle.restart_data.specs.Gathering.{so_far}
 use Rattle.restart_data.proofs.snapshot.read_snapshot.Given as goal

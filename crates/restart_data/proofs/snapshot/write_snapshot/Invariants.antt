@@ -1,5 +1,5 @@
 use Rattle.std.proofs.Common.{◌≡◌, ◌+◌, ◌≤◌, length, IsTrue}
-use Rattle.model_disk.specs.Disk.{Stays, Within, Follows}
+use Rattle.tm_disk.specs.Disk.{Stays, Within, Follows}
 use Rattle.restart_data.specs.Snapshot.{sectors_of}
 use Rattle.restart_data.specs.Images.{ChangesOnly}
 use Rattle.restart_data.proofs.Laying.{HoldsFront}

@@ -1,6 +1,6 @@
 use Rattle.std.proofs.Common.{◌≡◌, ◌+◌, ◌-◌, length, sym, ap, ◌∙◌, arith}
 use Rattle.tm_types.specs.declared.ssa.Ssa.{Ssa}
-use Rattle.model_dli.specs.Search.{number_named}
+use Rattle.model_data.specs.Search.{number_named}
 use Rattle.row_search.proofs.Fitting.{asked_number_at}
 use Rattle.row_search.proofs.asked.asked_number.Goals as goal
 

@@ -1,5 +1,5 @@
 use Rattle.std.proofs.Common.{◌≡◌, drop}
-use Rattle.model_dli.specs.Search.{meets_ssa}
+use Rattle.model_data.specs.Search.{meets_ssa}
 use Rattle.std.specs.List.{list_all}
 use Rattle.row_search.proofs.asked.meets_all.Given as goal
 

@@ -1,5 +1,5 @@
 use Rattle.std.proofs.Common.{◌≡◌, drop}
-use Rattle.model_dli.specs.Search.{first_below}
+use Rattle.model_data.specs.Search.{first_below}
 use Rattle.std.specs.Option.{option_copied}
 use Rattle.row_search.proofs.search.first_below.Given as goal
 

@@ -1,7 +1,7 @@
 use Rattle.std.proofs.Common.{◌≡◌, ◌<◌, None, Some, refl, sym, subst, ap, ◌∙◌}
 use Rattle.std.specs.Option.{option_copied, IfSome}
-use Rattle.model_rows.specs.Rows.{AreRows, record_of}
-use Rattle.model_dli.specs.Search.{first_after}
+use Rattle.model_data.specs.Rows.{AreRows, record_of}
+use Rattle.model_data.specs.Search.{first_after}
 use Rattle.row_search.specs.Lent.{lent_root, IsLentOf}
 use Rattle.row_search.specs.Walk.{rows_from, roots_left}
 use Rattle.row_search.proofs.Walking.{as_asked, asked_alone, search_starts, search_ends, search_goes, fewer_left}

@@ -1,8 +1,8 @@
 -- while a record is left, the row stands in the records from it on
 use Rattle.std.proofs.Common.{◌≡◌}
 use Rattle.std.specs.Option.{option_copied, IfSome}
-use Rattle.model_rows.specs.Rows.{AreRows}
-use Rattle.model_dli.specs.Search.{first_after}
+use Rattle.model_data.specs.Rows.{AreRows}
+use Rattle.model_data.specs.Search.{first_after}
 use Rattle.row_search.specs.Lent.{lent_root, IsLentOf}
 use Rattle.row_search.specs.Walk.{rows_from, roots_left}
 use Rattle.row_search.proofs.search.first_row.Given as goal

@@ -1,7 +1,7 @@
 use Rattle.std.proofs.Common.{refl, ap, ◌∙◌}
 use Rattle.std.specs.Option.{option_copied}
-use Rattle.model_rows.specs.Rows.{record_of}
-use Rattle.model_dli.specs.Search.{first_below}
+use Rattle.model_data.specs.Rows.{record_of}
+use Rattle.model_data.specs.Search.{first_below}
 use Rattle.row_search.proofs.Places.{below_in_record}
 use Rattle.row_search.proofs.search.first_row_below.Goals as goal
 

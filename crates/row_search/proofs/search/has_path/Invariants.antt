@@ -1,5 +1,5 @@
 use Rattle.std.proofs.Common.{◌≡◌, drop}
-use Rattle.model_dli.specs.Search.{is_there}
+use Rattle.model_data.specs.Search.{is_there}
 use Rattle.row_search.proofs.search.has_path.Given as goal
 
 abbrev pub invariant-loop-row : goal.invariant-loop-row

@@ -1,6 +1,6 @@
 use Rattle.std.proofs.Common.{refl, sym, ap, ◌∙◌}
-use Rattle.model_rows.specs.Rows.{record_of}
-use Rattle.model_dli.specs.Search.{is_there}
+use Rattle.model_data.specs.Rows.{record_of}
+use Rattle.model_data.specs.Search.{is_there}
 use Rattle.row_search.proofs.Places.{there_in_record}
 use Rattle.row_search.proofs.search.is_there.Goals as goal
 

@@ -1,7 +1,7 @@
 use Rattle.std.proofs.Common.{sym, ap, ◌∙◌}
 use Rattle.std.specs.Option.{option_copied}
 use Rattle.std.proofs.lemmas.Option.{same_Some, none-some}
-use Rattle.model_rows.specs.Rows.{record_of}
+use Rattle.model_data.specs.Rows.{record_of}
 use Rattle.row_search.proofs.Nexts.{next_is}
 use Rattle.row_search.proofs.search.next_record.Goals as goal
 

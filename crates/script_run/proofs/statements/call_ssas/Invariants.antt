@@ -1,6 +1,6 @@
 -- the arguments so far
 use Rattle.std.proofs.Common.{◌≡◌, take, map}
-use Rattle.model_script.specs.Script.{call_ssa}
+use Rattle.model_system.specs.Script.{call_ssa}
 use Rattle.script_run.specs.Running.{AreKeyTexts}
 use Rattle.script_run.proofs.statements.call_ssas.Given as goal
 

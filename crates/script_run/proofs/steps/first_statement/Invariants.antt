@@ -1,6 +1,6 @@
 -- the labels from here on are those that are left
 use Rattle.std.proofs.Common.{◌≡◌, ◌+◌, ◌-◌, drop, length}
-use Rattle.model_script.specs.Script.{labels_first}
+use Rattle.model_system.specs.Script.{labels_first}
 use Rattle.script_run.proofs.steps.first_statement.Given as goal
 
 abbrev pub invariant-loop-here : goal.invariant-loop-here

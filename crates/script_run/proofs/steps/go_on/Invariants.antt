@@ -1,6 +1,6 @@
 -- the script settles as it would have from its start
 use Rattle.std.proofs.Common.{◌≡◌, ◌-◌}
-use Rattle.model_script.specs.Script.{settled}
+use Rattle.model_system.specs.Script.{settled}
 use Rattle.script_run.proofs.steps.go_on.Given as goal
 
 abbrev pub invariant-loop-need : goal.invariant-loop-need

@@ -1,6 +1,6 @@
 use Rattle.std.proofs.Common.{◌≡◌, ℕ, List, ◌-◌, length, take, drop, ap, sym, subst, ◌∙◌, arith, length-drop}
 use Rattle.std.proofs.lemmas.List.{take_all}
-use Rattle.model_script.specs.Texts.{words}
+use Rattle.model_system.specs.Texts.{words}
 use Rattle.tm_types.specs.Segment.{IsSegmentText}
 use Rattle.script_run.specs.Runs.{blanks_before, word_length}
 use Rattle.script_run.proofs.Words.{split_first, split_behind, word_taken, word_size}

@@ -1,7 +1,7 @@
 -- the words behind those that were passed
 use Rattle.std.proofs.Common.{◌≡◌, ◌-◌, drop}
 use Rattle.tm_types.specs.Segment.{IsSegmentText}
-use Rattle.model_script.specs.Texts.{words}
+use Rattle.model_system.specs.Texts.{words}
 use Rattle.script_run.proofs.texts.word.Given as goal
 
 abbrev pub invariant-loop-passed : goal.invariant-loop-passed

@@ -2,7 +2,7 @@ use Rattle.std.proofs.Common.{◌≡◌, ◌+◌, ◌++◌, ◌∷◌, [], lengt
 use Rattle.text_rows.specs.Lines.{is_passed_over}
 use Rattle.text_rows.specs.Refusals.{behind}
 use Rattle.text_rows.proofs.Reading.{line_at}
-use Rattle.model_script.specs.declared.program.ScriptLine.{ScriptLine}
+use Rattle.model_system.specs.declared.program.ScriptLine.{ScriptLine}
 use Rattle.script_text.specs.Good.{places_in, IsKept}
 use Rattle.script_text.specs.Kept.{AreKept}
 use Rattle.script_text.specs.Scripts.{is_last, statement_line, counted, script}

@@ -2,7 +2,7 @@ use Rattle.std.proofs.Common.{◌≡◌, ◌∷◌, true, ap, sym, ◌∙◌, su
 use Rattle.std.specs.List.{list_all}
 use Rattle.tm_types.specs.Segment.{is_printable}
 use Rattle.text_rows.specs.Lowest.{both}
-use Rattle.model_script.specs.Programs.{is_plain}
+use Rattle.model_system.specs.Programs.{is_plain}
 use Rattle.script_text.specs.Good.{are_printable}
 use Rattle.script_text.specs.Values.{texts_of, with_text}
 use Rattle.script_text.specs.WordLists.{and_last, and_more}

@@ -2,7 +2,7 @@
 use Rattle.std.proofs.Common.{◌≡◌, ◌∷◌, IfOk}
 use Rattle.std.specs.Prelude.{IsTrue}
 use Rattle.std.specs.List.{list_all}
-use Rattle.model_script.specs.Programs.{is_plain}
+use Rattle.model_system.specs.Programs.{is_plain}
 use Rattle.script_text.specs.Good.{are_printable}
 use Rattle.script_text.specs.WordLists.{and_more}
 use Rattle.script_text.specs.Values as spec

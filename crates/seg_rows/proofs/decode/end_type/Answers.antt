@@ -1,5 +1,5 @@
 use Rattle.std.proofs.Common.{ℕ, ◌≡◌, ◌+◌, ◌-◌, List, length, sym, ap, ◌∙◌, arith}
-use Rattle.model_rows.proofs.Paths.{end_type_at}
+use Rattle.model_data.proofs.Paths.{end_type_at}
 use Rattle.seg_rows.proofs.decode.end_type.Goals as goal
 
 pub returns-in-len1-up : goal.returns-in-len1-up

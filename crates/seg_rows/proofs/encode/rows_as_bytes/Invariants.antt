@@ -1,5 +1,5 @@
 use Rattle.std.proofs.Common.{◌≡◌, ◌++◌, drop}
-use Rattle.model_rows.specs.Record.{spelling}
+use Rattle.model_data.specs.Record.{spelling}
 use Rattle.seg_rows.proofs.encode.rows_as_bytes.Given as goal
 
 abbrev pub invariant-loop-row : goal.invariant-loop-row

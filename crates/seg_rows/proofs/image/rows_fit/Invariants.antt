@@ -1,5 +1,5 @@
 use Rattle.std.proofs.Common.{◌≡◌, ◌+◌, drop, length}
-use Rattle.model_rows.specs.Record.{spelling}
+use Rattle.model_data.specs.Record.{spelling}
 use Rattle.seg_rows.proofs.image.rows_fit.Given as goal
 
 -- what is left of the rows fits into the room that is left where the rows fit into the limit

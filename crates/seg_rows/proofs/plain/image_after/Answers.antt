@@ -1,5 +1,5 @@
 use Rattle.std.specs.Ordering.{is_lt}
-use Rattle.model_rows.specs.Path.{key_cmp}
+use Rattle.model_data.specs.Path.{key_cmp}
 use Rattle.seg_rows.proofs.Kept.{range_entry, range_none}
 use Rattle.seg_rows.proofs.plain.image_after.Goals as goal
 

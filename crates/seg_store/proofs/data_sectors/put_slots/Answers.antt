@@ -1,7 +1,7 @@
 use Rattle.std.proofs.Common.{◌≡◌, ◌+◌, get_or, sym, ◌∙◌, ap, subst, arith, IsTrue}
-use Rattle.model_disk.specs.Disk.{HasWritten}
-use Rattle.model_disk.proofs.Words.{stays_on}
-use Rattle.model_rows.specs.Record.{spelling}
+use Rattle.tm_disk.specs.Disk.{HasWritten}
+use Rattle.tm_disk.proofs.Words.{stays_on}
+use Rattle.model_data.specs.Record.{spelling}
 use Rattle.seg_store.specs.DataSectors.{data_sector, bytes_of}
 use Rattle.seg_store.proofs.Putting.{at_ok, number_within, given_number, has_number, front_step, put_follows, put_within}
 use Rattle.seg_store.proofs.data_sectors.put_slots.Goals as goal

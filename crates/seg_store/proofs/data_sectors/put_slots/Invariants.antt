@@ -1,5 +1,5 @@
 use Rattle.std.proofs.Common.{◌≡◌, ◌+◌, ◌≤◌, take, IsTrue}
-use Rattle.model_disk.specs.Disk.{Stays, Within, Follows}
+use Rattle.tm_disk.specs.Disk.{Stays, Within, Follows}
 use Rattle.seg_store.specs.DataSectors.{bytes_of, MayPut, HasPut}
 use Rattle.seg_store.proofs.data_sectors.put_slots.Given as goal
 

@@ -1,6 +1,6 @@
 use Rattle.std.proofs.Common.{◌≡◌, ◌+◌, ◌-◌, ◌++◌, length, take}
 use Rattle.tm_disk.specs.Sector.{zeros}
-use Rattle.model_rows.specs.Record.{spelling}
+use Rattle.model_data.specs.Record.{spelling}
 use Rattle.seg_store.proofs.data_sectors.seal_rows.Given as goal
 
 abbrev pub invariant-loop-row : goal.invariant-loop-row

@@ -1,7 +1,7 @@
 use Rattle.std.proofs.Common.{◌+◌, ◌<◌, ◌/◌, ◌-◌, ℕ, length, ap, sym, ◌∙◌, arith}
 use Rattle.std.specs.Ordering.{is_lt}
 use Rattle.std.proofs.lemmas.List.{get_or_default}
-use Rattle.model_rows.specs.Path.{key_cmp}
+use Rattle.model_data.specs.Path.{key_cmp}
 use Rattle.seg_store.proofs.Places.{prefix_is}
 use Rattle.seg_store.proofs.Entries.{front_more, back_more}
 use Rattle.seg_store.proofs.index.place_among.Goals as goal

@@ -1,6 +1,6 @@
 use Rattle.std.proofs.Common.{◌≡◌, ◌≤◌, ◌<◌, ◌-◌, ℕ, List, length, true, false, get_or}
 use Rattle.std.specs.Ordering.{is_lt}
-use Rattle.model_rows.specs.Path.{key_cmp}
+use Rattle.model_data.specs.Path.{key_cmp}
 use Rattle.seg_store.proofs.index.place_among.Given as goal
 
 abbrev pub invariant-loop-low : goal.invariant-loop-low

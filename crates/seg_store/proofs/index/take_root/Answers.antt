@@ -2,7 +2,7 @@ use Rattle.std.proofs.Common.{◌≡◌, Some, ap, sym, ◌∙◌, arith, length
 use Rattle.std.specs.List.{remove}
 use Rattle.std.specs.BTreeMap.{is_at}
 use Rattle.std.specs.Map.{lookup}
-use Rattle.model_rows.specs.Path.{key_cmp}
+use Rattle.model_data.specs.Path.{key_cmp}
 use Rattle.seg_store.proofs.Entries.{remove_none, remove_at, found_within, place_in}
 use Rattle.seg_store.proofs.index.take_root.Goals as goal
 

@@ -4,7 +4,7 @@ use Rattle.model_machine.specs.declared.entry.Entry.TheVariants.{Acked}
 use Rattle.model_session.specs.Text.{ack_text}
 use Rattle.session_lives.proofs.Asked.{asked_call}
 use Rattle.model_machine.specs.declared.entry.Entry.{Entry}
-use Rattle.control_life.specs.Faults.{fault_in}
+use Rattle.openings.specs.Faults.{fault_in}
 use Rattle.session_lives.proofs.Counting.{pace_call}
 use Rattle.session_lives.proofs.asking.answer_acknowledge.Goals as goal
 

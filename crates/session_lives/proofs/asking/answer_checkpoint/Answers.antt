@@ -3,7 +3,7 @@ use Rattle.std.proofs.Common.{◌≡◌, rules, arith}
 use Rattle.model_session.specs.Text.{checkpoint_text}
 use Rattle.session_lives.proofs.Asked.{asked_checkpoint}
 use Rattle.model_machine.specs.declared.entry.Entry.{Entry}
-use Rattle.control_life.specs.Faults.{fault_in}
+use Rattle.openings.specs.Faults.{fault_in}
 use Rattle.session_lives.proofs.Counting.{pace_call}
 use Rattle.model_machine.specs.declared.entry.Entry.TheVariants.{Checked}
 use Rattle.session_lives.proofs.asking.answer_checkpoint.Goals as goal

@@ -1,11 +1,11 @@
 -- the text that was made before is that of the answer
 use Rattle.std.proofs.Common.{◌≡◌, ◌++◌, ◌∙◌, ap, ◌*◌, arith}
-use Rattle.model_machine.specs.Commands.{command_answer}
+use Rattle.model_machine.specs.ModelMachineCommands.{command_answer}
 use Rattle.model_machine.specs.History.{now_of}
 use Rattle.model_session.specs.Text.{command_text}
 use Rattle.session_lives.proofs.Asked.{asked_command}
 use Rattle.model_machine.specs.declared.entry.Entry.{Entry}
-use Rattle.control_life.specs.Faults.{fault_in}
+use Rattle.openings.specs.Faults.{fault_in}
 use Rattle.session_lives.proofs.Counting.{pace_call}
 use Rattle.model_machine.specs.declared.entry.Entry.TheVariants.{Commanded}
 use Rattle.session_lives.proofs.asking.answer_command.Goals as goal

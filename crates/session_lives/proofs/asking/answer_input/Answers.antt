@@ -5,7 +5,7 @@ use Rattle.model_machine.specs.Lasting.{code_word}
 use Rattle.model_session.specs.Text.{input_text, shown_word}
 use Rattle.session_lives.proofs.Asked.{asked_call}
 use Rattle.model_machine.specs.declared.entry.Entry.{Entry}
-use Rattle.control_life.specs.Faults.{fault_in}
+use Rattle.openings.specs.Faults.{fault_in}
 use Rattle.session_lives.proofs.Counting.{pace_call}
 use Rattle.session_lives.proofs.asking.answer_input.Goals as goal
 

@@ -5,7 +5,7 @@ use Rattle.model_machine.specs.declared.entry.Entry.TheVariants.{Turn}
 use Rattle.model_session.specs.Text.{turned_text}
 use Rattle.session_lives.proofs.Asked.{asked_fault}
 use Rattle.model_machine.specs.declared.entry.Entry.{Entry}
-use Rattle.control_life.specs.Faults.{fault_in}
+use Rattle.openings.specs.Faults.{fault_in}
 use Rattle.session_lives.proofs.Counting.{pace_call}
 use Rattle.session_lives.proofs.asking.answer_turn.Goals as goal
 

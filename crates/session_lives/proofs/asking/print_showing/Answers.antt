@@ -2,7 +2,7 @@
 use Rattle.std.proofs.Common.{◌≡◌, ◌++◌, List, ℕ, sym, ◌∙◌, ap, subst}
 use Rattle.std.specs.Prelude.{OnOk}
 use Rattle.model_machine.specs.History.{now_of}
-use Rattle.model_system.specs.Formats.{format_of}
+use Rattle.model_system.specs.ModelSystemFormats.{format_of}
 use Rattle.model_session.specs.Text.{shown_text}
 use Rattle.session_lives.proofs.Replies.{reply_shown}
 use Rattle.session_lives.proofs.asking.print_showing.Goals as goal

@@ -1,7 +1,7 @@
 -- by the refusal
 use Rattle.std.proofs.Common.{◌≡◌, ◌∙◌, ap, subst, refl}
-use Rattle.model_disk.proofs.Words.{keeps_same}
-use Rattle.control_life.specs.Opened.{HandsBack}
+use Rattle.tm_disk.proofs.Words.{keeps_same}
+use Rattle.openings.specs.Opened.{HandsBack}
 use Rattle.model_machine.specs.Machine.{start_of}
 use Rattle.model_machine.specs.History.{moment_after}
 use Rattle.tm_control.specs.Closed.{Opens}

@@ -1,6 +1,6 @@
 use Rattle.std.proofs.Common.{◌≡◌, ℕ, ◌+◌, ◌-◌, ◌<◌, List, [], ◌∷◌, length, take, drop, get_or, sym, ◌∙◌, ap, arith}
 use Rattle.std.proofs.lemmas.List.{ext_get_or, take_rest}
-use Rattle.model_disk.specs.Disk.{sector_at}
+use Rattle.tm_disk.specs.Disk.{sector_at}
 use Rattle.tm_disk.specs.Moments.{writes_to, picked, digits}
 use Rattle.tm_disk.specs.MomentLaws.{length-picked}
 use Rattle.tm_disk.specs.Numbered.{image_by}

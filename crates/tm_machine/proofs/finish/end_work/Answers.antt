@@ -1,10 +1,10 @@
 use Rattle.std.proofs.Common.{rules, ◌-◌, ◌∷◌, ◌≡◌, ◌∙◌, ap, sym, subst}
 use Rattle.std.specs.Prelude.{IsSome}
-use Rattle.model_queues.specs.Queue.{queued_at}
+use Rattle.model_messages.specs.Queue.{queued_at}
 use Rattle.model_machine.specs.Lasting.{LastingStep}
 use Rattle.model_machine.specs.Lasting.LastingStep.{Completes}
 use Rattle.program_rows.specs.State.{region_at}
-use Rattle.step_telling.specs.Ranges.{HaveCounts}
+use Rattle.lasting_state.specs.Ranges.{HaveCounts}
 use Rattle.lasting_state.specs.Telling.{IsLonger, Tells}
 use Rattle.tm_machine.proofs.Full.{err_where}
 use Rattle.region_work.specs.declared.region.Busy.{Busy}

@@ -2,10 +2,10 @@ use Rattle.std.proofs.Common.{ℕ, ◌≤◌, List, [], length, map, ◌∙◌, 
 use Rattle.restart_data.specs.declared.restart.RestartSector.{RestartSector}
 use Rattle.seg_store.specs.Slots.{rows_of_slots}
 use Rattle.seg_store.specs.Changed.{Kept, all_stores}
-use Rattle.snapshot_records.specs.Records.{snapshot_records}
-use Rattle.snapshot_records.specs.Spelled.{Adds}
-use Rattle.opening_parts.specs.Shown.{shown}
-use Rattle.opening_parts.proofs.Made.{dbds_made, none_changed_made}
+use Rattle.checkpointing.specs.Records.{snapshot_records}
+use Rattle.checkpointing.specs.Spelled.{Adds}
+use Rattle.openings.specs.Shown.{shown}
+use Rattle.openings.proofs.OpeningPartsMade.{dbds_made, none_changed_made}
 use Rattle.tm_restart.specs.Prepared.{state_in, sector_behind}
 use Rattle.tm_restart.proofs.MadeReady.{epoch_below, checkpoint_below, unit_below, tabled, spelled_in, one_sector, few_bytes, prepared, made_by}
 use Rattle.tm_restart.proofs.preparing.prepare.Goals as goal

@@ -1,5 +1,5 @@
 use Rattle.std.proofs.Common.{sym, subst}
-use Rattle.renewal.specs.Given.{Given}
+use Rattle.tm_restart.specs.Given.{Given}
 use Rattle.tm_restart.specs.Prepared.{IsMadeOf}
 use Rattle.tm_restart.proofs.reopening.reopen.Goals as goal
 

@@ -1,7 +1,7 @@
 use Rattle.std.proofs.Common.{sym}
-use Rattle.model_disk.specs.Disk.{Follows}
+use Rattle.tm_disk.specs.Disk.{Follows}
 use Rattle.log_sectors.proofs.Links.{at_ok}
-use Rattle.cold_start.specs.FirstImage.{IsFirstImage}
+use Rattle.openings.specs.FirstImage.{IsFirstImage}
 use Rattle.tm_restart.proofs.Renewed.{begun, may_begin, empties_within, raises_within, all_renewed, all_hold}
 use Rattle.tm_restart.proofs.starting.lay.Goals as goal
 

@@ -3,7 +3,7 @@ use Rattle.std.specs.Option.{IfSome}
 use Rattle.std.specs.Slice.Iter.{iter_rest}
 use Rattle.std.specs.Iterator.Adapters.{zip_first, zip_second}
 use Rattle.std.proofs.lemmas.Slice.Zip.{Zip-more, either_empty_from_Zip}
-use Rattle.model_queues.specs.Queue.{first_free}
+use Rattle.model_messages.specs.Queue.{first_free}
 use Rattle.tran_pick.proofs.Better.{best_more, best_all}
 use Rattle.tran_pick.proofs.Found.{better_keeps}
 use Rattle.tran_pick.specs.Picked.{IsFirstFree}

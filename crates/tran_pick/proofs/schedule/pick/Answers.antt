@@ -1,6 +1,6 @@
 use Rattle.std.proofs.Common.{◌-◌, [], sym, ◌∙◌, subst, slice_index_or}
 use Rattle.std.specs.Option.{IfSome, IsSome}
-use Rattle.model_queues.specs.Queue.{first_free}
+use Rattle.model_messages.specs.Queue.{first_free}
 use Rattle.model_system.specs.Codes.{code_at}
 use Rattle.tran_pick.proofs.Found.{picked_code}
 use Rattle.tran_pick.proofs.Law.{picked_from, nothing_from}

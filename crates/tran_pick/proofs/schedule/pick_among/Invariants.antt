@@ -1,5 +1,5 @@
 use Rattle.std.proofs.Common.{◌≡◌, drop}
-use Rattle.model_queues.specs.Queue.{first_free}
+use Rattle.model_messages.specs.Queue.{first_free}
 use Rattle.model_machine.specs.Pick.{pick_among}
 use Rattle.tran_pick.proofs.schedule.pick_among.Given as goal
 

@@ -1,5 +1,5 @@
 use Rattle.std.proofs.Common.{[], sym, ap, ◌∙◌, cond, refl, List}
-use Rattle.model_rows.specs.declared.row.Row.{Row}
+use Rattle.model_data.specs.declared.row.Row.{Row}
 use Rattle.unit_work.specs.Changes.{has_place, is_seen, with_slot}
 use Rattle.unit_work.proofs.Keeping.{slot_image}
 use Rattle.unit_work.proofs.change.ready.Goals as goal

@@ -1,6 +1,6 @@
 use Rattle.std.proofs.Common.{◌≡◌, ℕ, true, length}
 use Rattle.std.specs.List.{list_any}
-use Rattle.change_records.specs.Marks.{AreMarked}
+use Rattle.unit_work.specs.Marks.{AreMarked}
 use Rattle.unit_work.specs.BackOut.{was_in, backed_from}
 use Rattle.unit_work.proofs.Backing.{CanPut}
 use Rattle.unit_work.proofs.Marking.{AreToMark}

@@ -1,10 +1,10 @@
 use Rattle.std.proofs.Common.{◌≡◌, ◌+◌, ◌-◌, ◌∷◌, List, true, refl, sym, ap, ◌∙◌, subst, arith, drop}
 use Rattle.std.proofs.lemmas.List.{length-set, drop_more}
 use Rattle.unit_work.specs.declared.change.Change.{Change}
-use Rattle.model_rows.specs.declared.row.Row.{Row}
+use Rattle.model_data.specs.declared.row.Row.{Row}
 use Rattle.seg_store.specs.Changed.{stored}
 use Rattle.seg_store.specs.Slots.{has_root}
-use Rattle.change_records.specs.Images.{image_at}
+use Rattle.unit_work.specs.Images.{image_at}
 use Rattle.unit_work.specs.BackOut.{cleared, is_touched, IsStored}
 use Rattle.unit_work.proofs.Marking.{among_these, marks_then, removed_marks, removed_partly, all_removed}
 use Rattle.unit_work.proofs.Backing.{step_cleared, none_cleared, all_at, drop_past}

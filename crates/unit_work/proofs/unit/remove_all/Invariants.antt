@@ -1,6 +1,6 @@
 use Rattle.std.proofs.Common.{◌≡◌, length, drop}
-use Rattle.change_records.specs.Images.{image_at}
-use Rattle.change_records.specs.Marks.{AreMarked}
+use Rattle.unit_work.specs.Images.{image_at}
+use Rattle.unit_work.specs.Marks.{AreMarked}
 use Rattle.unit_work.specs.BackOut.{cleared, is_touched}
 use Rattle.unit_work.proofs.Marking.{ArePartly}
 use Rattle.unit_work.proofs.unit.remove_all.Given as goal

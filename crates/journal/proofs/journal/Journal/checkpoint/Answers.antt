@@ -1,10 +1,10 @@
 use Rattle.std.proofs.Common.{ap, subst, List}
-use Rattle.model_disk.specs.Disk.{Follows}
+use Rattle.tm_disk.specs.Disk.{Follows}
 use Rattle.log_records.specs.declared.record.Record.{Record}
-use Rattle.slot_law.specs.Committed.{Touches}
+use Rattle.disk_law.specs.Committed.{Touches}
 use Rattle.checkpointing.specs.Parts.{CheckpointParts}
 use Rattle.checkpointing.specs.Checkpoint.{IsCheckpointed}
-use Rattle.checkpoint_law.specs.Checkpointing.{after_checkpoint}
+use Rattle.disk_law.specs.Checkpointing.{after_checkpoint}
 use Rattle.disk_law.specs.Life.{LifeOnDisk}
 use Rattle.disk_law.specs.Kept.{AreKept}
 use Rattle.disk_law.specs.Journal.{JournalState}

@@ -1,8 +1,8 @@
-use Rattle.model_disk.specs.Disk.{Follows}
+use Rattle.tm_disk.specs.Disk.{Follows}
 use Rattle.log_writer.specs.Log.{AddsAll}
 use Rattle.disk_law.specs.Life.{LifeOnDisk}
 use Rattle.disk_law.specs.Kept.{AreKept}
-use Rattle.step_law.specs.Steps.{StepOnDisk, after_step}
+use Rattle.disk_law.specs.Steps.{StepOnDisk, after_step}
 use Rattle.journal.specs.State.{IsStepOf}
 use Rattle.journal.proofs.Stepping.{within_recovers, follows_kept, when_done}
 use Rattle.journal.proofs.journal.Journal.force.Goals as goal

@@ -4,7 +4,7 @@ use Rattle.tm_types.specs.Commands as command_text
 use Rattle.log_records.specs.declared.record.Record.TheVariants.{Command}
 use Rattle.log_records.specs.Telling.{IsUntold}
 use Rattle.model_machine.specs.Lasting.LastingStep.{Commands}
-use Rattle.step_telling.specs.Untold.{WhereFull}
+use Rattle.lasting_state.specs.Untold.{WhereFull}
 use Rattle.lasting_state.specs.Telling.{IsLonger}
 use Rattle.lasting_state.proofs.Commanded.{applies_command}
 use Rattle.lasting_state.proofs.Told.{tells, longer}

@@ -5,8 +5,8 @@ use Rattle.log_records.specs.Telling.{IsUntold, Tells as RecordsTell}
 use Rattle.model_machine.specs.Lasting.LastingStep.{Completes}
 use Rattle.model_machine.specs.Machine.{LastingState}
 use Rattle.program_rows.specs.State.{region_at}
-use Rattle.step_records.specs.Records.{completion_records}
-use Rattle.step_telling.specs.Untold.{WhereFull}
+use Rattle.model_image.specs.Records.{completion_records}
+use Rattle.lasting_state.specs.Untold.{WhereFull}
 use Rattle.lasting_state.specs.Tables.{lasting_of, TablesState}
 use Rattle.lasting_state.specs.Telling.{IsLonger}
 use Rattle.lasting_state.proofs.Told.{completion_are, cut_back, err_is, longer, tells}

@@ -4,7 +4,7 @@ use Rattle.log_records.specs.declared.record.Record.{Record}
 use Rattle.log_records.specs.declared.record.Record.TheVariants.{Discarded}
 use Rattle.log_records.specs.Telling.{IsUntold, Tells as RecordsTell}
 use Rattle.model_machine.specs.Lasting.LastingStep.{Discards}
-use Rattle.step_telling.specs.Untold.{WhereFull}
+use Rattle.lasting_state.specs.Untold.{WhereFull}
 use Rattle.lasting_state.specs.Tables.{TablesState}
 use Rattle.lasting_state.specs.Telling.{IsLonger}
 use Rattle.lasting_state.proofs.Told.{discarding_are, longer, tells}

@@ -1,6 +1,6 @@
 use Rattle.std.proofs.Common.{sym, subst}
 use Rattle.std.specs.Prelude.{IsSome}
-use Rattle.model_queues.specs.Queue.{queued_at}
+use Rattle.model_messages.specs.Queue.{queued_at}
 use Rattle.lasting_state.specs.Sending.{switches, switched_messages}
 use Rattle.lasting_state.proofs.Finished.{finished_is, finished_new, found_below, still_found}
 use Rattle.lasting_state.proofs.tables.Tables.finish.Goals as goal

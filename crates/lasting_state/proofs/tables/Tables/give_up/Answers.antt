@@ -1,7 +1,7 @@
 use Rattle.std.proofs.Common.{sym, ap, subst}
 use Rattle.std.specs.Prelude.{None}
-use Rattle.model_queues.specs.Queue.{IsNewId}
-use Rattle.model_queues.proofs.Laws.{new_id_held}
+use Rattle.model_messages.specs.Queue.{IsNewId}
+use Rattle.model_messages.proofs.Laws.{new_id_held}
 use Rattle.lasting_state.proofs.tables.Tables.give_up.Goals as goal
 
 pub invariant_of-self : goal.invariant_of-self

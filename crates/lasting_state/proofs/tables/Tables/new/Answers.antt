@@ -1,6 +1,6 @@
 use Rattle.std.proofs.Common.{◌∙◌, ap, map}
-use Rattle.model_conversation.specs.Terminals.{without_conversation}
-use Rattle.model_queues.specs.Outputs.{fresh_terminal}
+use Rattle.model_messages.specs.Terminals.{without_conversation}
+use Rattle.model_messages.specs.Outputs.{fresh_terminal}
 use Rattle.model_machine.specs.Machine.{fresh_terminal_state}
 use Rattle.seg_store.specs.Stores.{empty_stores}
 use Rattle.lasting_state.proofs.Fresh.{fresh_is, fresh_dbds}

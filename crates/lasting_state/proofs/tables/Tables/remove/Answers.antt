@@ -5,7 +5,7 @@ use Rattle.log_records.specs.declared.record.Record.TheVariants.{Acknowledged}
 use Rattle.log_records.specs.Telling.{IsUntold, Tells as RecordsTell}
 use Rattle.model_machine.specs.Machine.{output_at}
 use Rattle.model_machine.specs.Lasting.LastingStep.{Acknowledges}
-use Rattle.step_telling.specs.Untold.{WhereFull}
+use Rattle.lasting_state.specs.Untold.{WhereFull}
 use Rattle.lasting_state.specs.Telling.{WouldAcknowledge}
 use Rattle.lasting_state.proofs.Told.{acknowledged_are, removed_told, removes_so, tells, longer, where_full}
 use Rattle.lasting_state.proofs.tables.Tables.remove.Goals as goal

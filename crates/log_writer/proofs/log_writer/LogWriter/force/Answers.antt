@@ -1,5 +1,5 @@
 use Rattle.std.proofs.Common.{◌≡◌, ℕ, ◌+◌, ◌≤◌, List, length, sym, ◌∙◌, ap, subst, arith, IsTrue}
-use Rattle.model_disk.specs.Disk.{Image, Within, Follows, Only}
+use Rattle.tm_disk.specs.Disk.{Image, Within, Follows, Only}
 use Rattle.log_sectors.proofs.Links.{at_ok}
 use Rattle.log_writer.specs.Writer.{Writer}
 use Rattle.log_writer.specs.Log.{sectors_of, pieces, Lays, HasLaid, IsReady, IsAtEnd, AddsFront, AddsAll}

@@ -1,7 +1,7 @@
 -- as callers see it
 use Rattle.std.proofs.Common.{◌*◌, arith}
 use Rattle.model_machine.specs.declared.entry.Entry.TheVariants.{Checked}
-use Rattle.control_life.specs.Faults.{fault_in}
+use Rattle.openings.specs.Faults.{fault_in}
 use Rattle.logged_machine.proofs.Doing.{counted, crashes, goes}
 use Rattle.logged_machine.proofs.Unspent.{counted_now}
 use Rattle.logged_machine.proofs.logged.LoggedMachine.checkpoint.Goals as goal

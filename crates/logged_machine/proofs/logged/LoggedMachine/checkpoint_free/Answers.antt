@@ -4,7 +4,7 @@ use Rattle.model_machine.specs.declared.entry.CheckpointRefused.{CheckpointRefus
 use Rattle.model_machine.specs.declared.entry.CheckpointRefused.TheVariants.{Fault}
 use Rattle.model_machine.specs.declared.entry.Entry.TheVariants.{Checked}
 use Rattle.logged_machine.specs.Doing.{Did}
-use Rattle.control_life.specs.Faults.{fault_in}
+use Rattle.openings.specs.Faults.{fault_in}
 use Rattle.logged_machine.specs.Taken.{IsTaken, LeavesSettled, StaysUntaken}
 use Rattle.logged_machine.proofs.Checked.{is_taken, leaves_settled, stays_untaken, taken_did, untaken_most}
 use Rattle.logged_machine.proofs.Checkpointed.{unrefreshed}

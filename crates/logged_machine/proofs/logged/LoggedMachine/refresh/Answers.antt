@@ -1,7 +1,7 @@
 -- a checkpoint, by what it wrote
 use Rattle.std.proofs.Common.{◌∙◌, sym, ap, subst, List, ℕ}
-use Rattle.machine_life.specs.Counted.{IsCounted}
-use Rattle.parts_life.specs.Logged.{IsLogged}
+use Rattle.journal.specs.Counted.{IsCounted}
+use Rattle.logged_machine.specs.PartsLifeLogged.{IsLogged}
 use Rattle.logged_machine.specs.Logged.{LoggedState}
 use Rattle.logged_machine.proofs.Checkpointed.{logged_by, refreshed, unrefreshed_by}
 use Rattle.logged_machine.proofs.logged.LoggedMachine.refresh.Goals as goal

@@ -4,9 +4,9 @@ use Rattle.std.specs.Prelude.{Option}
 use Rattle.model_machine.specs.History.{IsCall}
 use Rattle.model_machine.specs.declared.entry.ControlCall.{ControlCall}
 use Rattle.model_machine.specs.declared.entry.ControlFault.{ControlFault}
-use Rattle.control_life.specs.Faults.{fault_in}
-use Rattle.machine_telling.specs.Calls.{own_bytes}
-use Rattle.machine_telling.specs.Telling.{IsAllBut, StayFree}
+use Rattle.openings.specs.Faults.{fault_in}
+use Rattle.logged_machine.specs.Calls.{own_bytes}
+use Rattle.logged_machine.specs.Telling.{IsAllBut, StayFree}
 use Rattle.logged_machine.specs.Doing.{DoneFrugally}
 use Rattle.logged_machine.specs.Logged.{LoggedState}
 use Rattle.logged_machine.proofs.Checkpointed.{counted_more, counted_same, served_same}

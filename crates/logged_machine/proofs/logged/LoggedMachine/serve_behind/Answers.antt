@@ -1,13 +1,13 @@
 -- behind a checkpoint
 use Rattle.std.proofs.Common.{◌∙◌, sym, ap, subst, refl, List, ℕ, true, false}
 use Rattle.model_machine.specs.declared.entry.ControlFault.TheVariants.{Disk}
-use Rattle.machine_life.specs.Counted.{IsCounted}
-use Rattle.parts_life.specs.Logged.{IsLogged}
+use Rattle.journal.specs.Counted.{IsCounted}
+use Rattle.logged_machine.specs.PartsLifeLogged.{IsLogged}
 use Rattle.logged_machine.specs.Forcing.{IsForced}
 use Rattle.logged_machine.specs.Logged.{LoggedState}
 use Rattle.logged_machine.proofs.Attempts.{after_broken}
-use Rattle.logged_machine.proofs.Behind.{behind_call, done_off, done_on, logged_behind, may_force_behind}
-use Rattle.logged_machine.proofs.Due.{done_refused}
+use Rattle.logged_machine.proofs.LoggedMachineBehind.{behind_call, done_off, done_on, logged_behind, may_force_behind}
+use Rattle.logged_machine.proofs.LoggedMachineDue.{done_refused}
 use Rattle.logged_machine.proofs.logged.LoggedMachine.serve_behind.Goals as goal
 
 pub due-done-requires-clause-logged : goal.due-done-requires-clause-logged

@@ -1,7 +1,7 @@
 -- an attempt, by what it told
 use Rattle.std.proofs.Common.{◌∙◌, sym, ap, subst, refl, true, false}
 use Rattle.model_machine.specs.declared.entry.ControlFault.TheVariants.{Disk}
-use Rattle.machine_life.specs.Counted.{IsCounted}
+use Rattle.journal.specs.Counted.{IsCounted}
 use Rattle.logged_machine.specs.Forcing.{IsForced}
 use Rattle.logged_machine.specs.Logged.{LoggedState}
 use Rattle.logged_machine.proofs.Attempts.{after_broken, attempt, logged_on, may_force, tried_off, tried_on}

@@ -1,7 +1,7 @@
 use Rattle.std.proofs.Common.{◌≡◌, ◌-◌, List, Some, sym, ap, refl, ◌∙◌}
 use Rattle.std.specs.Prelude.{slice_get}
 use Rattle.model_system.specs.declared.pcb.Pcb.TheVariants.{Database}
-use Rattle.model_dli.specs.declared.call.Position.{Position}
+use Rattle.model_data.specs.declared.call.Position.{Position}
 use Rattle.message_run.specs.RunState.{RunState}
 use Rattle.message_run.proofs.Database.{is_db_call, is_numbered, few_types, short_types, one_sector, has_position, leads, are_free, are_granted, are_blocked, answers, tells_so, told_stand}
 use Rattle.message_run.proofs.NextTold.{quiet_abend, quiet_blocked}

@@ -1,5 +1,5 @@
 use Rattle.std.proofs.Common.{ℕ, replicate, ap, refl, ◌∙◌}
-use Rattle.model_dli.specs.Data.{nowhere}
+use Rattle.model_data.specs.Data.{nowhere}
 use Rattle.system_types.specs.Jobs.{lent_job}
 use Rattle.std.specs.Option.{option_copied}
 use Rattle.message_run.specs.Ahead.{given_with}

@@ -1,6 +1,6 @@
 use Rattle.std.proofs.Common.{ap, ◌∙◌, arith}
 use Rattle.std.proofs.lemmas.Grind.{common_steps}
-use Rattle.model_queues.specs.Outputs.{with_terminal, without_first}
+use Rattle.model_messages.specs.Outputs.{with_terminal, without_first}
 use Rattle.out_queues.proofs.Counted.{kept_removed}
 use Rattle.out_queues.proofs.outputs.Outputs.acknowledge.Goals as goal
 

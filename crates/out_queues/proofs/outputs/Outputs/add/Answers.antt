@@ -1,6 +1,6 @@
 use Rattle.std.proofs.Common.{◌<◌, ◌^◌, ap, ◌∙◌, arith}
 use Rattle.std.proofs.lemmas.Grind.{common_steps}
-use Rattle.model_queues.specs.Outputs.{with_terminal, with_reply, replies_at}
+use Rattle.model_messages.specs.Outputs.{with_terminal, with_reply, replies_at}
 use Rattle.out_queues.proofs.Counted.{kept_added, there_by}
 use Rattle.out_queues.proofs.outputs.Outputs.add.Goals as goal
 

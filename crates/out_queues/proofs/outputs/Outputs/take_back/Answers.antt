@@ -1,7 +1,7 @@
 use Rattle.std.proofs.Common.{◌≤◌, ap, sym, subst, ◌∙◌, arith}
 use Rattle.std.specs.Prelude.{IsSomeAnd}
 use Rattle.std.proofs.lemmas.Grind.{common_steps}
-use Rattle.model_queues.specs.Outputs.{with_terminal, without_last, replies_at}
+use Rattle.model_messages.specs.Outputs.{with_terminal, without_last, replies_at}
 use Rattle.out_queues.proofs.Counted.{kept_taken, next_given}
 use Rattle.out_queues.proofs.outputs.Outputs.take_back.Goals as goal
 

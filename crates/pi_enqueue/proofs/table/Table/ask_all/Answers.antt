@@ -1,5 +1,5 @@
 use Rattle.std.proofs.Common.{sym, subst}
-use Rattle.model_enqueue.specs.Cycle.{IsRegion}
+use Rattle.model_data.specs.Cycle.{IsRegion}
 use Rattle.pi_enqueue.proofs.Asking.{kept_asked}
 use Rattle.pi_enqueue.proofs.table.Table.ask_all.Goals as goal
 

@@ -1,7 +1,7 @@
 use Rattle.std.proofs.Common.{sym, ap, subst, ◌∙◌}
 use Rattle.std.specs.Option.{option_map}
-use Rattle.model_enqueue.specs.Ask.{first_blocked}
-use Rattle.model_enqueue.specs.Cycle.{IsRegion}
+use Rattle.model_data.specs.Ask.{first_blocked}
+use Rattle.model_data.specs.Cycle.{IsRegion}
 use Rattle.pi_enqueue.specs.Lists.{seen}
 use Rattle.pi_enqueue.specs.Grant.{told}
 use Rattle.pi_enqueue.proofs.Asking.{told_is, told_none}

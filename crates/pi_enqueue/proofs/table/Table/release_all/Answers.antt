@@ -1,5 +1,5 @@
 use Rattle.std.proofs.Common.{refl}
-use Rattle.model_enqueue.specs.Ask.{released}
+use Rattle.model_data.specs.Ask.{released}
 use Rattle.pi_enqueue.specs.Lists.{seen}
 use Rattle.pi_enqueue.proofs.Keeping.{kept_lists, kept_released}
 use Rattle.pi_enqueue.proofs.table.Table.release_all.Goals as goal

@@ -1,5 +1,5 @@
 use Rattle.std.proofs.Common.{refl, ap, length}
-use Rattle.model_enqueue.specs.Ask.{waits_for_nothing}
+use Rattle.model_data.specs.Ask.{waits_for_nothing}
 use Rattle.pi_enqueue.specs.Lists.{seen}
 use Rattle.pi_enqueue.proofs.Keeping.{kept_lists, kept_waits_for_nothing, same_listed}
 use Rattle.pi_enqueue.proofs.table.Table.stop_waiting.Goals as goal

@@ -1,6 +1,6 @@
 use Rattle.std.proofs.Common.{◌≡◌, ◌&&◌, take, map, sym, subst, ap, ◌∙◌}
 use Rattle.std.specs.List.{list_all}
-use Rattle.model_dli.specs.Search.{meets_ssa}
+use Rattle.model_data.specs.Search.{meets_ssa}
 use Rattle.row_search.specs.Arguments.{Arguments}
 use Rattle.row_search.specs.Asked.{looked_up, is_met}
 use Rattle.row_search.proofs.LookedUp.{all_is}

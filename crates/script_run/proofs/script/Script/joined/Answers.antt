@@ -1,5 +1,5 @@
 use Rattle.std.proofs.Common.{◌++◌, take, ap, ◌∙◌}
-use Rattle.model_script.specs.Script.{text_of}
+use Rattle.model_system.specs.Script.{text_of}
 use Rattle.script_run.proofs.Joining.{joined_more}
 use Rattle.script_run.proofs.script.Script.joined.Goals as goal
 

@@ -2,7 +2,7 @@
 use Rattle.std.proofs.Common.{◌≡◌, take}
 use Rattle.std.specs.List.{flat_map}
 use Rattle.tm_types.specs.Segment.{IsSegmentText}
-use Rattle.model_script.specs.Script.{text_of}
+use Rattle.model_system.specs.Script.{text_of}
 use Rattle.script_run.proofs.script.Script.joined.Given as goal
 
 abbrev pub invariant-loop-text : goal.invariant-loop-text

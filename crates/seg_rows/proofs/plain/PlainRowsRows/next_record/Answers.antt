@@ -1,6 +1,6 @@
 use Rattle.std.proofs.Common.{Some, None, subst, sym, ap, ◌∙◌}
 use Rattle.std.specs.Option.{option_copied}
-use Rattle.model_rows.specs.Rows.{Database, AreRows}
+use Rattle.model_data.specs.Rows.{Database, AreRows}
 use Rattle.seg_rows.specs.NextRecord.{next_record}
 use Rattle.seg_rows.proofs.Kept.{kept_rows, kept_next, kept_first}
 use Rattle.seg_rows.proofs.plain.PlainRowsRows.next_record.Goals as goal

@@ -2,8 +2,8 @@ use Rattle.std.proofs.Common.{Some, None, subst, sym, ap, ◌∙◌}
 use Rattle.std.specs.Option.{option_copied}
 use Rattle.std.specs.List.{find, slice_get}
 use Rattle.std.specs.Ordering.{is_lt}
-use Rattle.model_rows.specs.Path.{key_cmp}
-use Rattle.model_rows.specs.Rows.{Database, next_root, AreRows}
+use Rattle.model_data.specs.Path.{key_cmp}
+use Rattle.model_data.specs.Rows.{Database, next_root, AreRows}
 use Rattle.seg_rows.proofs.Kept.{kept_rows, kept_roots}
 use Rattle.seg_rows.proofs.plain.PlainRowsRows.next_root.Goals as goal
 

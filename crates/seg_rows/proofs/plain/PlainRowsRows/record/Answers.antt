@@ -1,6 +1,6 @@
 use Rattle.std.proofs.Common.{◌≡◌, ◌↔◌, [], subst}
 use Rattle.std.specs.Option.{IfSome, IsNone}
-use Rattle.model_rows.specs.Rows.{Database, record_of, AreRows}
+use Rattle.model_data.specs.Rows.{Database, record_of, AreRows}
 use Rattle.seg_rows.proofs.Kept.{kept_rows, shows_record, shows_none}
 use Rattle.seg_rows.proofs.plain.PlainRowsRows.record.Goals as goal
 

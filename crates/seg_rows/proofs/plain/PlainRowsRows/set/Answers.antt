@@ -1,6 +1,6 @@
 use Rattle.std.proofs.Common.{◌≡◌, ◌≢◌, ◌≤◌, ◌<◌, [], Some, None, length, subst, sym, ap, ◌∙◌, arith}
-use Rattle.model_rows.specs.Record.{spelling, record_limit}
-use Rattle.model_rows.specs.Rows.{Database, with_record, rows_of, IsImage, AreRows}
+use Rattle.model_data.specs.Record.{spelling, record_limit}
+use Rattle.model_data.specs.Rows.{Database, with_record, rows_of, IsImage, AreRows}
 use Rattle.seg_rows.specs.StoreRefused.{set_refusal}
 use Rattle.seg_rows.specs.declared.rows.StoreRefused.TheVariants.{RootLimit, RecordTooLong}
 use Rattle.seg_rows.proofs.Kept.{kept_rows, kept_remove, rows_inserted, rows_removed, due_roots, due_length, due_none, kept_set, passed}

@@ -1,6 +1,6 @@
 use Rattle.std.proofs.Common.{◌≡◌, ◌≤◌, ◌<◌, [], Some, None, length, sym, subst, ap, ◌∙◌}
 use Rattle.std.specs.List.{slice_get}
-use Rattle.model_rows.specs.Record.{spelling, record_limit}
+use Rattle.model_data.specs.Record.{spelling, record_limit}
 use Rattle.seg_rows.specs.StoreRefused.{set_refusal}
 use Rattle.seg_rows.specs.declared.rows.StoreRefused.TheVariants.{RootLimit, RecordTooLong}
 use Rattle.seg_rows.proofs.Kept.{passed}

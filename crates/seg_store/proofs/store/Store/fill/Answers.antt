@@ -7,9 +7,9 @@ use Rattle.std.specs.Ordering.{nat_cmp}
 use Rattle.std.proofs.lemmas.Option.{slice_get_within}
 use Rattle.seg_store.specs.Changed.{Kept}
 use Rattle.seg_store.specs.Slots.{slot_of, rows_of_slots}
-use Rattle.model_rows.specs.Rows.{with_record}
+use Rattle.model_data.specs.Rows.{with_record}
 use Rattle.seg_store.proofs.SlotRows.{rows_filled}
-use Rattle.model_rows.specs.Record.{IsRecord}
+use Rattle.model_data.specs.Record.{IsRecord}
 use Rattle.seg_store.proofs.Indexed.{index_room, free_there, indexed_new}
 use Rattle.seg_store.proofs.Numbers.{numbers_sorted}
 use Rattle.seg_store.proofs.store.Store.fill.Goals as goal

@@ -2,7 +2,7 @@ use Rattle.std.proofs.Common.{ap, ◌∙◌}
 use Rattle.std.specs.Option.{is_some}
 use Rattle.std.specs.BTreeMap.{is_at}
 use Rattle.std.specs.Map.{lookup}
-use Rattle.model_rows.specs.Path.{key_cmp}
+use Rattle.model_data.specs.Path.{key_cmp}
 use Rattle.seg_store.specs.Slots.{slot_of}
 use Rattle.seg_store.specs.Changed.{Kept}
 use Rattle.seg_store.proofs.store.Store.has_record.Goals as goal

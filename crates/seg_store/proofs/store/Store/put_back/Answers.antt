@@ -1,5 +1,5 @@
 use Rattle.std.proofs.Common.{sym, ap, ◌∙◌}
-use Rattle.model_rows.specs.Rows.{with_record}
+use Rattle.model_data.specs.Rows.{with_record}
 use Rattle.seg_store.specs.Slots.{rows_of_slots}
 use Rattle.seg_store.proofs.SlotRows.{root_is}
 use Rattle.seg_store.proofs.store.Store.put_back.Goals as goal

@@ -3,7 +3,7 @@ use Rattle.seg_store.proofs.Changes.{changed_more, changed_room}
 use Rattle.std.proofs.Common.{◌<◌, arith, ◌≡◌, [], Some, sym, subst, ap, ◌∙◌, set}
 use Rattle.std.specs.List.Sorted.{IsStrictlySortedBy}
 use Rattle.std.specs.Ordering.{nat_cmp}
-use Rattle.model_rows.specs.Rows.{with_record}
+use Rattle.model_data.specs.Rows.{with_record}
 use Rattle.seg_store.specs.Changed.{Kept}
 use Rattle.seg_store.specs.Slots.{without_root, slot_of, with_root, rows_of_slots}
 use Rattle.seg_store.proofs.Entries.{remove_none}

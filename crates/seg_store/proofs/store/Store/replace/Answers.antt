@@ -1,8 +1,8 @@
 use Rattle.std.specs.Vec.{vec_capacity}
 use Rattle.seg_store.proofs.Changes.{changed_more, changed_room}
 use Rattle.std.proofs.Common.{arith, ◌≡◌, ◌≤◌, ◌<◌, Some, None, length, sym, subst, ap, ◌∙◌}
-use Rattle.model_rows.specs.Record.{IsLongRecord, spelling, record_limit}
-use Rattle.model_rows.specs.Rows.{with_record}
+use Rattle.model_data.specs.Record.{IsLongRecord, spelling, record_limit}
+use Rattle.model_data.specs.Rows.{with_record}
 use Rattle.seg_rows.specs.StoreRefused.{set_refusal}
 use Rattle.seg_rows.specs.declared.rows.StoreRefused.TheVariants.{RecordTooLong}
 use Rattle.seg_rows.proofs.Kept.{passed}

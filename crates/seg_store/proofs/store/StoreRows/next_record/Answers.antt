@@ -1,6 +1,6 @@
 use Rattle.std.proofs.Common.{◌≡◌, ◌<◌, Some, None, subst, sym, ap, ◌∙◌, length, arith}
 use Rattle.std.specs.Option.{option_copied}
-use Rattle.model_rows.specs.Rows.{AreRows}
+use Rattle.model_data.specs.Rows.{AreRows}
 use Rattle.seg_rows.specs.NextRecord.{next_record}
 use Rattle.seg_store.specs.Changed.{Kept}
 use Rattle.seg_store.specs.Slots.{rows_of_slots}

@@ -1,5 +1,5 @@
 use Rattle.std.proofs.Common.{◌≡◌, ◌≢◌, ◌<◌, [], Some, None, subst, sym, ◌∙◌, refl, arith, length, rules}
-use Rattle.model_rows.specs.Rows.{AreRows, record_of}
+use Rattle.model_data.specs.Rows.{AreRows, record_of}
 use Rattle.seg_store.specs.Changed.{Kept}
 use Rattle.seg_store.specs.Slots.{rows_of_slots, slot_of}
 use Rattle.seg_store.proofs.SlotRows.{slots_are_rows, slot_within, record_there, record_some, record_none}

@@ -1,7 +1,7 @@
 use Rattle.std.proofs.Common.{◌≡◌, ℕ, ◌≤◌, List, sym, ◌∙◌, ap, subst, IsTrue}
 use Rattle.std.specs.Prelude.{OnOk, OnErr}
 use Rattle.std.specs.List.{AllByRecursion}
-use Rattle.model_disk.specs.Disk.{Within, Follows}
+use Rattle.tm_disk.specs.Disk.{Within, Follows}
 use Rattle.seg_store.specs.Slots.{Stored}
 use Rattle.seg_store.specs.Changed.{Kept, AllStores}
 use Rattle.seg_store.specs.DataSectors.{MayPut, HasPut, PutsFront}

@@ -1,6 +1,6 @@
 use Rattle.std.proofs.Common.{◌≡◌, ◌∙◌, ap, rules}
 use Rattle.std.specs.Prelude.{OnOk}
-use Rattle.model_format.specs.declared.fields.FieldValue.{FieldValue}
+use Rattle.model_system.specs.declared.fields.FieldValue.{FieldValue}
 use Rattle.model_session.specs.Blocks.{Block, and_field, first_values, put_value}
 use Rattle.session_lines.proofs.FieldLines.{field_put, on_ok}
 use Rattle.session_lines.proofs.block.Block.push_field.Goals as goal

@@ -1,6 +1,6 @@
 use Rattle.std.proofs.Common.{◌<◌, List, length, arith, sym, ◌∙◌, ap}
 use Rattle.std.proofs.lemmas.List.{get_or_read}
-use Rattle.model_disk.specs.Disk.{Image, sector_at}
+use Rattle.tm_disk.specs.Disk.{Image, sector_at}
 use Rattle.tm_disk.specs.Numbered.{made_by}
 use Rattle.tm_disk.specs.declared.record.Written.{Written}
 use Rattle.tm_disk.proofs.Numbers.{length_image_by, sector_at-image_by}

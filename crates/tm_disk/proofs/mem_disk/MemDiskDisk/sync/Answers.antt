@@ -1,5 +1,5 @@
 use Rattle.std.proofs.Common.{sym, subst}
-use Rattle.model_disk.specs.Disk.{Keeps}
+use Rattle.tm_disk.specs.Disk.{Keeps}
 use Rattle.tm_disk.specs.Contents.{now_of, past_of}
 use Rattle.tm_disk.specs.MemState.{mem_state}
 use Rattle.tm_disk.specs.declared.plan.Plan.{Plan}

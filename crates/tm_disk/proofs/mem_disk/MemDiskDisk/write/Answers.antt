@@ -1,5 +1,5 @@
 use Rattle.std.proofs.Common.{arith, sym, ◌∙◌, ap, subst}
-use Rattle.model_disk.specs.Disk.{MayHaveWritten, HasWritten, one_less}
+use Rattle.tm_disk.specs.Disk.{MayHaveWritten, HasWritten, one_less}
 use Rattle.tm_disk.specs.Contents.{now_of, past_of, GoesOn}
 use Rattle.tm_disk.specs.Moments.{after_write}
 use Rattle.tm_disk.specs.Count.{raised}

@@ -3,7 +3,7 @@ use Rattle.std.specs.Prelude.{Some, slice_get, slice_set}
 use Rattle.std.proofs.lemmas.Option.{slice_get-get_or}
 use Rattle.lasting_state.specs.Tables.{lasting_of}
 use Rattle.tm_machine.specs.Parts.{slots_of, settings_of, flags_of}
-use Rattle.model_queues.specs.Queue.{messages_of}
+use Rattle.model_messages.specs.Queue.{messages_of}
 use Rattle.tm_machine.proofs.Conversing.{have_pads}
 use Rattle.tm_machine.proofs.Stepped.{queued_work, parts_step}
 use Rattle.message_run.specs.Telling.{TellsNext}

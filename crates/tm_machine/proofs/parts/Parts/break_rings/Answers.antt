@@ -1,7 +1,7 @@
 use Rattle.std.proofs.Common.{◌≡◌, ◌+◌, ◌-◌, ◌++◌, ◌∷◌, [], length, sym, ap, subst, ◌∙◌, arith, length-append}
 use Rattle.std.specs.Prelude.{None, slice_set}
 use Rattle.std.proofs.lemmas.List.{append-nil}
-use Rattle.model_enqueue.specs.Cycle.{Breaks}
+use Rattle.model_data.specs.Cycle.{Breaks}
 use Rattle.model_machine.specs.Machine.{busy_slots}
 use Rattle.tm_machine.specs.OnSlots.{slots_now, VictimsGiveUp}
 use Rattle.tm_machine.specs.Victims.{all_gave_way, gave_way}

@@ -1,6 +1,6 @@
 use Rattle.std.proofs.Common.{◌≡◌, ◌+◌, ◌≤◌, ◌++◌, List, length}
-use Rattle.model_enqueue.specs.declared.victim.Victim.{Victim}
-use Rattle.model_enqueue.specs.Cycle.{Breaks}
+use Rattle.model_data.specs.declared.victim.Victim.{Victim}
+use Rattle.model_data.specs.Cycle.{Breaks}
 use Rattle.model_machine.specs.Machine.{busy_slots}
 use Rattle.tm_machine.specs.OnSlots.{slots_now, VictimsGiveUp}
 use Rattle.tm_machine.specs.Victims.{all_gave_way}

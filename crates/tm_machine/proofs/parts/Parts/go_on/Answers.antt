@@ -2,7 +2,7 @@ use Rattle.std.proofs.Common.{rules, ◌≡◌, ◌+◌, ◌-◌, ◌∷◌, ref
 use Rattle.std.specs.Prelude.{Some, None, slice_get, slice_set}
 use Rattle.std.specs.List.{count_by}
 use Rattle.std.specs.Option.{is_some}
-use Rattle.model_queues.specs.Queue.{free_count}
+use Rattle.model_messages.specs.Queue.{free_count}
 use Rattle.model_machine.specs.Flags.{all_followed}
 use Rattle.program_rows.specs.OnSlots.{slots_in, CommitsSo}
 use Rattle.region_work.specs.Ends.{destinations}

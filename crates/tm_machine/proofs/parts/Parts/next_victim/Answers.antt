@@ -1,5 +1,5 @@
 use Rattle.std.proofs.Common.{◌≡◌, ◌≤◌, ◌∙◌, length, sym, ap, subst}
-use Rattle.model_enqueue.specs.Cycle.{IsLeastCycle, IsRegion}
+use Rattle.model_data.specs.Cycle.{IsLeastCycle, IsRegion}
 use Rattle.tm_machine.proofs.Giving.{few_table, some_ring, table_region, victim_busy, weighed}
 use Rattle.tm_machine.proofs.parts.Parts.next_victim.Goals as goal
 

@@ -1,7 +1,7 @@
 use Rattle.std.proofs.Common.{◌≡◌, ◌∙◌, [], ap, sym, subst, length, replicate}
 use Rattle.model_machine.specs.Machine.{Moment, empty_state, start_of}
 use Rattle.seg_store.specs.Stores.{no_changed}
-use Rattle.opening_parts.specs.Parts.{OpeningParts}
+use Rattle.openings.specs.Parts.{OpeningParts}
 use Rattle.program_rows.specs.State.{clean_region, rows_of}
 use Rattle.program_rows.specs.OnSlots.{SlotsState}
 use Rattle.lasting_state.specs.Tables.{TablesState}

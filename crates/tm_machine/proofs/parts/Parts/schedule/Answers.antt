@@ -1,7 +1,7 @@
 use Rattle.std.proofs.Common.{◌≡◌, ◌-◌, ◌<◌, length, sym, ap, refl, ◌∙◌, subst, arith}
 use Rattle.std.specs.Prelude.{Some, None, slice_get}
 use Rattle.std.proofs.lemmas.Option.{slice_get-get_or}
-use Rattle.model_queues.specs.Queue.{free_count}
+use Rattle.model_messages.specs.Queue.{free_count}
 use Rattle.model_machine.specs.declared.entry.Turned.TheVariants.{Scheduled}
 use Rattle.lasting_state.specs.Tables.{lasting_of}
 use Rattle.program_rows.specs.OnSlots.{slots_in}

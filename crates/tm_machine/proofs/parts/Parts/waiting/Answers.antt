@@ -1,5 +1,5 @@
 use Rattle.std.proofs.Common.{sym, ap, ◌∙◌}
-use Rattle.model_queues.specs.Queue.{QueuesState, free_count}
+use Rattle.model_messages.specs.Queue.{QueuesState, free_count}
 use Rattle.model_machine.specs.Machine.{waiting_now}
 use Rattle.tm_machine.specs.Parts.{PartsState, slots_of}
 use Rattle.tm_machine.proofs.Linked.{free_count_is}

@@ -1,7 +1,7 @@
 use Rattle.std.proofs.Common.{List, sym, subst}
 use Rattle.std.specs.List.{AllByRecursion}
-use Rattle.change_records.specs.Images.{image_at}
-use Rattle.change_records.specs.Marks.{AreMarked, AreAllMarked}
+use Rattle.unit_work.specs.Images.{image_at}
+use Rattle.unit_work.specs.Marks.{AreMarked, AreAllMarked}
 use Rattle.unit_work.specs.declared.change.Change.{Change}
 use Rattle.unit_work.specs.Changes.{Changes}
 use Rattle.unit_work.specs.BackOut.{is_touched, backs, IsStored}

@@ -1,3 +1,0 @@
-pub mod Checkpointing
-pub mod Opening
-pub mod Counted

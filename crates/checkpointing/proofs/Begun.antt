@@ -1,0 +1,267 @@
+-- An image with a snapshot of the empty state, and zeros in the log areas and the data, recovers to the empty state.
+use Rattle.std.proofs.Common.{◌≡◌, ℕ, zero, suc, ◌+◌, ◌-◌, ◌*◌, ◌<◌, ◌≤◌, Bool, true, false, not, ◌||◌, List, [], ◌∷◌, ◌++◌, length, take, drop, map, refl, sym, ◌∙◌, ap, subst, arith, Some, None, Ok, nat_le, nat_lt}
+use Rattle.std.specs.Prelude.{Option, Result, if◌then◌else◌, filter, find, slice_get}
+use Rattle.std.specs.Option.{option_map, unwrap_or}
+use Rattle.std.specs.List.{list_any, AllByRecursion, flat_map}
+use Rattle.std.specs.Int.{w16, from_be_bytes}
+use Rattle.std.specs.Str.{bytes_eq}
+use Rattle.std.proofs.lemmas.Bool.Decides.{nat_tests}
+use Rattle.tm_types.specs.declared.dbd.Dbd.{Dbd}
+use Rattle.model_data.specs.declared.row.Row.{Row}
+use Rattle.model_data.specs.Record.{record_limit}
+use Rattle.tm_disk.specs.Disk.{Image, sector_at}
+use Rattle.tm_disk.specs.Sector.{zeros, blank}
+use Rattle.model_system.specs.System.{System}
+use Rattle.model_machine.specs.Machine.{LastingState}
+use Rattle.log_records.specs.declared.record.Record.{Record}
+use Rattle.log_records.specs.Spelling.{spelling, IsRecord}
+use Rattle.log_records.specs.Reading.{◌>>=◌}
+use Rattle.log_sectors.specs.Sealed.{opened}
+use Rattle.log_sectors.specs.Chain.{before, chain, joined}
+use Rattle.log_sectors.proofs.Sealing.{opened-blank}
+use Rattle.restart_data.specs.declared.restart.RestartSector.{RestartSector}
+use Rattle.restart_data.specs.Fields.{number2_at, are_zeros}
+use Rattle.restart_data.specs.Restart.{restart_in}
+use Rattle.restart_data.specs.Snapshot.{snapshot_in}
+use Rattle.restart_data.proofs.Zeros.{blank_is, take-zeros, drop-zeros, are_zeros-zeros}
+use Rattle.model_image.specs.Areas.{snapshot_area, snapshot_first, log_first, data_first}
+use Rattle.model_image.specs.Cut.{Cut, cut_of, IsCutOff}
+use Rattle.model_image.specs.Faults.{Fault, in_sector, unless_fault}
+use Rattle.model_image.specs.Slots.{Slot, Source, source_of, slots_by, slot_in, named_by, is_change_of, all_slots, slot_fault, rows_of, rows_from, rows_of_bytes, rows_by, used_in, bytes_in, is_wrong_length, has_wrong_length, has_no_record, rows_in, have_one_root, first_shared, first_in, is_image}
+use Rattle.model_image.specs.Slots.Source.{Spelled}
+use Rattle.model_image.specs.Recovered.{is_later, snapshot_from, log_in, log_from, state_from, later_sector, state_with, state_by, rest_by, log_rest, Recovers}
+use Rattle.model_image.specs.States.{breaks_a_rule}
+use Rattle.model_image.proofs.Later.{none_later}
+use Rattle.model_image.proofs.Answers.{nothing_cut_off}
+use Rattle.model_image.proofs.Places.{slot_above, slot_below, both_logs, log_above, log_below}
+use Rattle.model_image.proofs.Alike.{IsSlotOf}
+use Rattle.seg_store.specs.Slots.{rows_of_slots, with_rows}
+use Rattle.checkpointing.specs.Records.{snapshot_records, code_names, AreApart, IsOfSystem}
+use Rattle.checkpointing.proofs.Told.{without_rows, state_told}
+use Rattle.checkpointing.proofs.Plain.{none_named}
+use Rattle.checkpointing.proofs.Judged.{AreCounts}
+use Rattle.checkpointing.proofs.Read.{no_changes, read_from}
+
+-- ---- a blank sector
+
+front_blank : (at count : ℕ) → at + count ≤ 4096 → take count (drop at blank) ≡ zeros count
+front_blank at count fits =
+    ap (λ (l : List ℕ). take count (drop at l)) blank_is ∙ ap (take count) (drop-zeros at 4096) ∙ take-zeros count (4096 - at) (omega (arith, fits))
+
+two_zeros : from_be_bytes w16 (zeros 2) ≡ 0
+unfolding zeros
+two_zeros = refl
+
+used_blank : used_in blank ≡ 0
+unfolding number2_at
+used_blank = ap (from_be_bytes w16) (front_blank 0 2 (omega arith)) ∙ two_zeros
+
+other_letters : bytes_eq (zeros 4) (73 ∷ 77 ∷ 83 ∷ 76 ∷ []) ≡ false
+unfolding zeros
+other_letters = refl
+
+pub blank_not_later : (epoch : ℕ) → is_later epoch blank ≡ false
+blank_not_later epoch = rw (front_blank 0 4 (omega arith), other_letters) refl
+
+none_used : bytes_in blank ≡ []
+none_used = ap (λ (n : ℕ). take n (drop 2 blank)) used_blank
+
+right_length : is_wrong_length (Spelled blank) ≡ false
+right_length =
+    rw (used_blank) (ap (λ (b : Bool). nat_lt 4000 0 || not b) (ap are_zeros (ap (drop 2) blank_is ∙ drop-zeros 2 4096) ∙ are_zeros-zeros 4094))
+
+least : (n : ℕ) → nat_le 0 n ≡ true
+least n = grind (arith, nat_tests)
+
+no_rows : (dbd : Dbd) → rows_of_bytes dbd [] ≡ Some []
+unfolding rows_of_bytes
+no_rows dbd = ap (λ (b : Bool). if b then rows_by 0 dbd.types [] [] else None) (least (record_limit dbd))
+
+-- ---- free slots
+
+pub record IsFreeSlot (slot : Slot) : Type 0 where
+  pub right : has_wrong_length slot ≡ false
+  pub spells : has_no_record slot ≡ false
+  pub none : rows_in slot ≡ []
+
+blank_free : (dbd : Dbd) (place : ℕ) → IsFreeSlot (record { dbd = dbd; place = place; source = Spelled blank })
+blank_free dbd place = record {
+  right = right_length;
+  spells = ap (λ (l : List ℕ). not (is_image dbd l)) none_used ∙ ap (λ (r : Option (List Row)). not (Rattle.std.specs.Option.is_some r)) (no_rows dbd);
+  none = ap (λ (l : List ℕ). unwrap_or (rows_of_bytes dbd l) []) none_used ∙ ap (λ (r : Option (List Row)). unwrap_or r []) (no_rows dbd);
+}
+
+abbrev AreFree : List Slot → Type 0
+AreFree slots = AllByRecursion IsFreeSlot slots
+
+found_none : (test : Slot → Bool) (slots : List Slot) → AllByRecursion (λ s. test s ≡ false) slots → find test slots ≡ None
+found_none test [] none = refl
+found_none test (s ∷ slots) none = ap (λ (b : Bool). if b then Some s else find test slots) none.0 ∙ found_none test slots none.1
+
+rights : (slots : List Slot) → AreFree slots → AllByRecursion (λ s. has_wrong_length s ≡ false) slots
+rights [] free = tt
+rights (s ∷ slots) free = (free.0.right, rights slots free.1)
+
+spelleds : (slots : List Slot) → AreFree slots → AllByRecursion (λ s. has_no_record s ≡ false) slots
+spelleds [] free = tt
+spelleds (s ∷ slots) free = (free.0.spells, spelleds slots free.1)
+
+alone : (s other : Slot) → IsFreeSlot s → have_one_root s other ≡ false
+alone s other free = rw (free.none) refl
+
+none_alike : (s : Slot) (slots : List Slot) → IsFreeSlot s → list_any (have_one_root s) slots ≡ false
+none_alike s [] free = refl
+none_alike s (other ∷ slots) free = rw (alone s other free, none_alike s slots free) refl
+
+none_shared : (slots : List Slot) → AreFree slots → first_shared slots ≡ None
+none_shared [] free = refl
+none_shared (s ∷ slots) free = ap (λ (b : Bool). if b then Some s else first_shared slots) (none_alike s slots free.0) ∙ none_shared slots free.1
+
+abbrev AreAllFree : List (List Slot) → Type 0
+AreAllFree databases = AllByRecursion AreFree databases
+
+first_none : (test : List Slot → Option Slot) (databases : List (List Slot)) → AllByRecursion (λ slots. test slots ≡ None) databases → first_in test databases ≡ None
+first_none test [] none = refl
+first_none test (slots ∷ databases) none = rw (none.0) (first_none test databases none.1)
+
+each_right : (databases : List (List Slot)) → AreAllFree databases → AllByRecursion (λ slots. find has_wrong_length slots ≡ None) databases
+each_right [] free = tt
+each_right (slots ∷ databases) free = (found_none has_wrong_length slots (rights slots free.0), each_right databases free.1)
+
+each_spelled : (databases : List (List Slot)) → AreAllFree databases → AllByRecursion (λ slots. find has_no_record slots ≡ None) databases
+each_spelled [] free = tt
+each_spelled (slots ∷ databases) free = (found_none has_no_record slots (spelleds slots free.0), each_spelled databases free.1)
+
+each_apart : (databases : List (List Slot)) → AreAllFree databases → AllByRecursion (λ slots. first_shared slots ≡ None) databases
+each_apart [] free = tt
+each_apart (slots ∷ databases) free = (none_shared slots free.0, each_apart databases free.1)
+
+pub no_fault : (databases : List (List Slot)) → AreAllFree databases → slot_fault databases ≡ None
+no_fault databases free =
+    rw (first_none (find has_wrong_length) databases (each_right databases free), first_none (find has_no_record) databases (each_spelled databases free), first_none first_shared databases (each_apart databases free)) refl
+
+rows_free : (slots : List Slot) → AreFree slots → rows_of_slots (map rows_in slots) ≡ []
+rows_free [] free = refl
+rows_free (s ∷ slots) free =
+    ap (λ (image : List Row). with_rows image (rows_of_slots (map rows_in slots))) free.0.none ∙ rows_free slots free.1
+
+free_by : (slot : ℕ → Slot) (n number : ℕ) → ((k : ℕ) → k < n → IsFreeSlot (slot (number + k))) → AreFree (slots_by slot n number)
+free_by slot zero number free = tt
+free_by slot (suc n) number free = (
+  subst (λ (k : ℕ). IsFreeSlot (slot k)) (omega arith) (free 0 (omega arith)),
+  free_by slot n (number + 1) (λ k lt. subst (λ (j : ℕ). IsFreeSlot (slot j)) (omega arith) (free (k + 1) (omega (arith, lt)))),
+)
+
+-- ---- the databases
+
+-- the sectors of the logs and of the data are blank
+pub record AreBlank (system : System) (image : Image) : Type 0 where
+  pub each : (k : ℕ) → log_first system 0 ≤ k → k < data_first system (length system.databases) → sector_at image k ≡ blank
+
+module _ (system : System) (image : Image) (records : List Record) (unnamed : (database slot : ℕ) → filter (is_change_of database slot) (records ++ []) ≡ []) (blank_all : AreBlank system image) where
+  not_named : (database slot : ℕ) → named_by records [] database slot ≡ None
+  unfolding named_by
+  not_named database slot = rw (unnamed database slot) refl
+
+  one_free : (dbd : Dbd) (place number : ℕ) → IsSlotOf system place number → IsFreeSlot (slot_in image records [] dbd (data_first system place) (place + 1) number)
+  one_free dbd place number is =
+      let at : ℕ = data_first system place + number in
+      let is_blank : sector_at image at ≡ blank = blank_all.each at (omega (arith, slot_above system place number, both_logs system)) (slot_below system place number is) in
+      let spelled : source_of (named_by records [] (place + 1) number) (sector_at image at) ≡ Spelled blank =
+      ap (λ (named : Option (List ℕ)). source_of named (sector_at image at)) (not_named (place + 1) number) ∙ ap Spelled is_blank in
+      subst (λ (source : Source). IsFreeSlot (record { dbd = dbd; place = at; source = source })) (sym spelled) (blank_free dbd at)
+
+  all_free : (place : ℕ) (dbds : List Dbd) → ((j : ℕ) → slice_get dbds j ≡ slice_get system.databases (place + j)) → AreAllFree (all_slots system image records [] place dbds)
+  unfolding all_slots
+  all_free place [] same = tt
+  all_free place (dbd ∷ dbds) same =
+      let found : slice_get system.databases place ≡ Some dbd = ap (slice_get system.databases) (omega arith) ∙ sym (same 0) in (
+        free_by (slot_in image records [] dbd (data_first system place) (place + 1)) dbd.roots 0 (λ k lt. one_free dbd place (0 + k) (record { dbd = dbd; found = found; below = omega (arith, lt) })),
+        all_free (place + 1) dbds (λ j. same (suc j) ∙ ap (slice_get system.databases) (omega arith)),
+      )
+
+  all_rows : (place : ℕ) (dbds : List Dbd) → ((j : ℕ) → slice_get dbds j ≡ slice_get system.databases (place + j)) → rows_of (all_slots system image records [] place dbds) ≡ map (λ _. []) dbds
+  unfolding all_slots
+  all_rows place [] same = refl
+  all_rows place (dbd ∷ dbds) same =
+      let free = all_free place (dbd ∷ dbds) same in
+      ap (λ (rows : List Row). rows ∷ rows_of (all_slots system image records [] (place + 1) dbds)) (rows_free (slots_by (slot_in image records [] dbd (data_first system place) (place + 1)) dbd.roots 0) free.0)
+      ∙ ap (λ (others : List (List Row)). [] ∷ others) (all_rows (place + 1) dbds (λ j. same (suc j) ∙ ap (slice_get system.databases) (omega arith)))
+
+  no_rows_there : rows_from system image records [] ≡ Ok (map (λ _. []) system.databases)
+  no_rows_there =
+      let same : (j : ℕ) → slice_get system.databases j ≡ slice_get system.databases (0 + j) = λ j. ap (slice_get system.databases) (omega arith) in
+      ap (λ (fault : Option Fault). unless_fault fault (rows_of (all_slots system image records [] 0 system.databases))) (no_fault (all_slots system image records [] 0 system.databases) (all_free 0 system.databases same))
+      ∙ ap (λ (rows : List (List Row)). Ok rows) (all_rows 0 system.databases same)
+
+-- ---- the log
+
+chain_none : (count : ℕ) (image : Image) (at sequence epoch : ℕ) → ((k : ℕ) → at ≤ k → k < at + count → sector_at image k ≡ blank) → chain count image at sequence epoch ≡ []
+chain_none zero image at sequence epoch blanks = refl
+chain_none (suc n) image at sequence epoch blanks =
+    ap (λ (s : List ℕ). before (opened epoch sequence s) (chain n image (at + 1) (sequence + 1) epoch)) (blanks at (omega arith) (omega arith))
+    ∙ ap (λ (payload : Option (List ℕ)). before payload (chain n image (at + 1) (sequence + 1) epoch)) (opened-blank epoch sequence)
+
+nothing_cut : cut_of [] ≡ record { records = []; rest = [] }
+unfolding cut_of
+nothing_cut = refl
+
+bind_is : {A B : Type 0} (a : Result A Fault) (f : A → Result B Fault) (x : A) → a ≡ Ok x → (a >>= f) ≡ f x
+bind_is a f x is = ap (λ r. r >>= f) is
+
+-- what is left of the recovery, once the records are there
+abbrev of_rows : System → Image → RestartSector → LastingState → List (List Row) → Result LastingState Fault
+of_rows system image now lasting rows = unless_fault (later_sector system image now) (record lasting { rows = rows })
+
+abbrev of_state : System → Image → RestartSector → List Record → List Record → LastingState → Result LastingState Fault
+of_state system image now records log lasting = rows_from system image records log >>= λ rows. of_rows system image now lasting rows
+
+abbrev of_log : System → Image → RestartSector → List Record → List Record → Result LastingState Fault
+of_log system image now records log = state_from system now records log >>= λ lasting. of_state system image now records log lasting
+
+abbrev of_snapshot : System → Image → RestartSector → List Record → Result LastingState Fault
+of_snapshot system image now records = log_from system image now true >>= λ log. of_log system image now records log
+
+-- The image has this restart sector, and the bytes of these records as its snapshot; the logs and the data are blank.
+pub record HasSnapshot (system : System) (now : RestartSector) (records : List Record) (image : Image) : Type 0 where
+  pub restart : restart_in (snapshot_area system) image ≡ Ok (Some now)
+  pub log : now.log ≤ 1
+  pub read : snapshot_in now.sectors image (snapshot_first system now.snapshot) now.checkpoint ≡ Ok (flat_map spelling records)
+  pub valid : AllByRecursion IsRecord records
+  pub blanks : AreBlank system image
+
+module _ (system : System) (state : LastingState) (checkpoint unit : ℕ) (terminals_apart : AreApart system.terminals) (codes_apart : AreApart (code_names system)) (is : IsOfSystem system state) (counts : AreCounts checkpoint unit) (sound : breaks_a_rule system state ≡ false) (now : RestartSector) (image : Image) (has : HasSnapshot system now (snapshot_records checkpoint unit state []) image) where
+  snapshot_is : snapshot_from system image now ≡ Ok (snapshot_records checkpoint unit state [])
+  snapshot_is = read_from system state checkpoint unit terminals_apart codes_apart is counts sound [] (no_changes system) has.valid now image has.read
+
+  log_is : log_in system image now ≡ record { records = []; rest = [] }
+  log_is =
+      ap (λ (payloads : List (List ℕ)). cut_of (joined payloads))
+      (chain_none system.logs image (log_first system now.log) now.sequence now.epoch (λ k low high.
+      has.blanks.each k (omega (arith, low, log_above system now.log)) (omega (arith, high, log_below system now.log has.log, slot_above system (length system.databases) 0))))
+      ∙ nothing_cut
+
+  none_is_later : later_sector system image now ≡ None
+  none_is_later =
+      ap (option_map (λ sector. (24, sector)))
+      (none_later (2 * system.logs) image (log_first system 0) now.epoch (λ k low high.
+      ap (is_later now.epoch) (has.blanks.each k low (omega (arith, high, both_logs system, slot_above system (length system.databases) 0))) ∙ blank_not_later now.epoch))
+
+  state_is : state_with system image true now ≡ Ok (without_rows system state)
+  state_is =
+      let records : List Record = snapshot_records checkpoint unit state [] in
+      bind_is (snapshot_from system image now) (of_snapshot system image now) records snapshot_is
+      ∙ bind_is (log_from system image now true) (of_log system image now records) [] (ap (λ (cut : Cut). Ok cut.records) log_is)
+      ∙ ap (of_state system image now records []) (state_told system state terminals_apart codes_apart is checkpoint unit [] tt)
+      ∙ bind_is (rows_from system image records []) (of_rows system image now (without_rows system state)) (map (λ _. []) system.databases) (no_rows_there system image records (none_named system checkpoint unit state) has.blanks)
+      ∙ ap (λ (fault : Option Fault). unless_fault fault (without_rows system state)) none_is_later
+
+  -- it recovers to that state, without rows
+  pub recovers_begun : Recovers system image (Ok (without_rows system state))
+  recovers_begun =
+      let rest : log_rest system image ≡ [] = ap (rest_by system image) has.restart ∙ ap (λ (cut : Cut). cut.rest) log_is in
+      record {
+        is_cut_off = true;
+        decides = (λ _. subst (λ (l : List ℕ). IsCutOff l) (sym rest) nothing_cut_off, λ _. refl);
+        is = ap (λ (read : Result (Option RestartSector) ℕ). in_sector 0 read >>= λ restart. state_by system image true restart) has.restart ∙ state_is;
+      }

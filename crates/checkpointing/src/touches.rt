@@ -1,0 +1,90 @@
+//! The changes of open units in a snapshot.
+ghost use Rattle.std.specs.Prelude.{◌≡◌, ◌≤◌, ◌++◌, length, OnOk};
+ghost use Rattle.std.specs.List.{AllByRecursion};
+ghost use Rattle.model_data.specs.Record.{spelling as rows_spelling};
+ghost use Rattle.log_records.specs.Spelling.{spelling, IsRecord};
+ghost use Rattle.unit_work.specs.Shown.{shown};
+ghost use Rattle.checkpointing.specs.Spelled.{Adds};
+ghost use Rattle.checkpointing.specs.Touches.{image_in, touch_record, touch_records, changes_of, HasOneSector, IsSpelled, AreSpelled, AreAllSpelled};
+
+use log_records::append_change;
+use model_data::Row;
+use seg_store::Stores;
+use tm_types::Memory;
+use unit_work::{Unit, UnitSlot};
+
+/// A unit of work that isn't done, with its number.
+#[derive(Clone, Copy, Debug)]
+pub struct OpenUnit<'a> {
+    pub number: u64,
+    pub work: &'a Unit,
+}
+
+// The rows of what stands in a slot now.
+fn present_rows(stores: &Stores, db: u8, slot: u16) -> &[Row]
+    requires least { 1 ≤ db }
+    requires most { db ≤ length stores.now.stores }
+    requires one_sector { AllByRecursion HasOneSector stores.now.stores }
+    ensures value { result.now ≡ image_in stores.now.stores db slot }
+    ensures short { length (rows_spelling (image_in stores.now.stores db slot)) ≤ 4000 }
+{
+    match stores.store(db).image(slot) {
+        Some(image) => image.as_slice(),
+        None => &[],
+    }
+}
+
+// Appends the record of a slot that a unit touched: its first image, and what stands there now.
+fn append_touch(
+    out: &mut Vec<u8>,
+    number: u64,
+    slot: &UnitSlot,
+    stores: &Stores,
+) -> Result<(), Memory>
+    requires spelled { IsSpelled stores.now.stores (shown slot.now) }
+    requires one_sector { AllByRecursion HasOneSector stores.now.stores }
+    ensures ok { OnOk result (out.new.items ≡ out.old.items ++ spelling (touch_record number stores.entry.now.stores (shown slot.entry.now))) }
+    ensures valid { OnOk result (IsRecord (touch_record number stores.entry.now.stores (shown slot.entry.now))) }
+{
+    let after = present_rows(stores, slot.db, slot.slot);
+    append_change(
+        out,
+        number,
+        slot.db,
+        slot.slot,
+        slot.before.as_slice(),
+        after,
+    )
+}
+
+// Appends the records of a unit, by database and slot.
+fn append_unit(out: &mut Vec<u8>, unit: &OpenUnit, stores: &Stores) -> Result<(), Memory>
+    requires spelled { AreSpelled stores.now.stores unit.now.work.now.slots }
+    requires one_sector { AllByRecursion HasOneSector stores.now.stores }
+    ensures { OnOk result (Adds (touch_records unit.entry.now.number stores.entry.now.stores unit.entry.now.work.now.slots) out.old.items out.new.items) }
+{
+    let mut place = 0;
+    while let Some(slot) = unit.work.slot(place) {
+        append_touch(out, unit.number, &slot, stores)?;
+        place += 1;
+    }
+    Ok(())
+}
+
+// Appends the records of the slots that open units changed, in the order of the units, and of each by database and slot:
+// the slot's first image before the unit, and the image that stands there now. A record has one sector. After `Memory` a
+// part of them may be appended.
+pub(crate) fn append_touches(
+    out: &mut Vec<u8>,
+    units: &[OpenUnit],
+    stores: &Stores,
+) -> Result<(), Memory>
+    requires spelled { AreAllSpelled stores.now.stores units.now }
+    requires one_sector { AllByRecursion HasOneSector stores.now.stores }
+    ensures { OnOk result (Adds (changes_of stores.entry.now.stores units.entry.now) out.old.items out.new.items) }
+{
+    for unit in units {
+        append_unit(out, unit, stores)?;
+    }
+    Ok(())
+}

@@ -1,2 +1,0 @@
-pub mod FirstImage
-pub mod Filling

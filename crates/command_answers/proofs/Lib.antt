@@ -1,4 +1,0 @@
-pub mod Dequeued
-pub mod Ended
-pub mod Regions
-pub mod Performed

@@ -1,4 +1,0 @@
-pub mod Cut
-pub mod Kept
-pub mod Told
-pub mod Replayed

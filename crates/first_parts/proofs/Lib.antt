@@ -1,2 +1,0 @@
-pub mod TextBack
-pub mod FirstParts

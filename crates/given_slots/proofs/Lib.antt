@@ -1,3 +1,0 @@
-pub mod Given
-pub mod Taken
-pub mod Right

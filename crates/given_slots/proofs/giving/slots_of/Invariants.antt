@@ -1,6 +1,0 @@
-use Rattle.std.proofs.Common.{◌≡◌, take}
-use Rattle.given_slots.specs.Giving.{of_database}
-use Rattle.given_slots.proofs.giving.slots_of.Given as goal
-
-abbrev pub invariant-loop-slot : goal.invariant-loop-slot
-invariant-loop-slot l = l.slots ≡ of_database l.database (take l.slot-index l.named)

@@ -1,2 +1,0 @@
-pub mod FoundBehind
-pub mod Seen

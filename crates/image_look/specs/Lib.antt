@@ -1,3 +1,0 @@
-pub mod Databases
-pub mod Replayed
-pub mod Looked

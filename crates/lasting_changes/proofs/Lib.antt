@@ -1,0 +1,3 @@
+pub mod Dequeued
+pub mod Abended
+mod Counting

@@ -1,2 +1,0 @@
-mod Areas
-mod Logs

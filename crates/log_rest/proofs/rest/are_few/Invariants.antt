@@ -1,7 +1,0 @@
-use Rattle.std.proofs.Common.{◌≡◌, drop}
-use Rattle.std.specs.Prelude.{nat_le}
-use Rattle.log_rest.specs.Parts.{leasts}
-use Rattle.log_rest.proofs.rest.are_few.Given as goal
-
-abbrev pub invariant-loop-part : goal.invariant-loop-part
-invariant-loop-part l = nat_le (leasts (drop l.part-index l.parts)) l.left ≡ nat_le (leasts l.parts) l.size

@@ -1,7 +1,0 @@
-use Rattle.std.proofs.Common.{◌≡◌, drop}
-use Rattle.std.specs.Prelude.{nat_le}
-use Rattle.log_rest.specs.Parts.{mosts}
-use Rattle.log_rest.proofs.rest.are_many.Given as goal
-
-abbrev pub invariant-loop-part : goal.invariant-loop-part
-invariant-loop-part l = nat_le l.left (mosts (drop l.part-index l.parts)) ≡ nat_le l.size (mosts l.parts)

@@ -1,7 +1,0 @@
-use Rattle.std.proofs.Common.{◌≡◌}
-use Rattle.std.specs.Prelude.{drop}
-use Rattle.machine_life.specs.Turning.{without_units}
-use Rattle.machine_telling.proofs.units.leave_all.Given as goal
-
-abbrev pub invariant-loop-victim : goal.invariant-loop-victim
-invariant-loop-victim l = without_units (drop l.victim-index l.victims) l.units.items ≡ without_units l.victims l.initial.units.items

@@ -1,3 +1,0 @@
-pub mod Terminals
-pub mod Pads
-pub mod Input

@@ -1,6 +1,0 @@
-pub mod Padded
-pub mod Nobody
-pub mod Modes
-pub mod Table
-pub mod Ask
-pub mod Cycle

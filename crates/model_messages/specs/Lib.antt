@@ -1,0 +1,9 @@
+pub mod Room
+pub mod Waiting
+pub mod Queue
+pub mod Outputs
+pub mod Terminals
+pub mod Pads
+pub mod Input
+pub mod Work
+pub mod Calls

@@ -1,4 +1,0 @@
-pub mod Room
-pub mod Waiting
-pub mod Queue
-pub mod Outputs

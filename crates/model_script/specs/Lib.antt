@@ -1,4 +1,0 @@
-pub mod Programs
-pub mod Texts
-pub mod Arithmetic
-pub mod Script

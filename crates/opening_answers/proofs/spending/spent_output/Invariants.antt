@@ -1,6 +1,0 @@
-use Rattle.std.proofs.Common.{◌≡◌, drop}
-use Rattle.opening_answers.specs.Opening.{first_spent, output_counters}
-use Rattle.opening_answers.proofs.spending.spent_output.Given as goal
-
-abbrev pub invariant-loop-terminal : goal.invariant-loop-terminal
-invariant-loop-terminal l = first_spent (output_counters l.outputs) ≡ first_spent (output_counters (drop l.terminal-index l.outputs))

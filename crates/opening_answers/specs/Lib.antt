@@ -1,3 +1,0 @@
-pub mod Renewal
-pub mod Opening
-pub mod Keeping

@@ -1,0 +1,13 @@
+pub mod Laying
+pub mod ThreeSteps
+pub mod Emptied
+pub mod Names
+pub mod FirstSnapshot
+pub mod FirstWritten
+pub mod OpeningPartsMade
+pub mod Opened
+pub mod Walked
+pub mod Reading
+pub mod Counted
+pub mod TextBack
+pub mod FirstParts

@@ -1,0 +1,10 @@
+pub mod FirstImage
+pub mod Filling
+pub mod Parts
+pub mod Shown
+pub mod Renewal
+pub mod Opening
+pub mod Keeping
+pub mod Opened
+pub mod Faults
+pub mod Made

@@ -1,0 +1,28 @@
+//! The first restart sector.
+ghost use Rattle.std.specs.Prelude.{◌≡◌, ◌<◌, ◌≤◌};
+ghost use Rattle.restart_data.specs.Restart.{IsRestart};
+ghost use Rattle.restart_data.specs.Snapshot.{sectors_of};
+ghost use Rattle.openings.specs.FirstImage.{IsFirst};
+
+use restart_data::RestartSector;
+
+/// The first restart sector, for a snapshot and a text of so many bytes.
+pub fn first_restart(snapshot: usize, text: u32) -> RestartSector
+    requires some { 0 < snapshot }
+    requires few { snapshot ≤ 8192 }
+    requires text { text ≤ 262144 }
+    ensures begins { IsFirst result }
+    ensures valid { IsRestart result }
+    ensures sectors { result.sectors ≡ sectors_of snapshot }
+    ensures text { result.text ≡ text }
+{
+    RestartSector {
+        epoch: 1,
+        snapshot: 0,
+        log: 0,
+        sectors: snapshot.div_ceil(4064) as u32,
+        sequence: 1,
+        checkpoint: 1,
+        text,
+    }
+}

@@ -1,9 +1,0 @@
-pub mod Finding
-pub mod AllPut
-pub mod Unreading
-pub mod Rewriting
-pub mod Same
-pub mod Behind
-pub mod Found
-pub mod Recovering
-pub mod Stored

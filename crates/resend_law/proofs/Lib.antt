@@ -1,6 +1,0 @@
-pub mod Sessions
-pub mod Steps
-pub mod Inputs
-pub mod Again
-pub mod Replies
-pub mod Long

@@ -1,2 +1,0 @@
-pub mod Resending
-pub mod Long

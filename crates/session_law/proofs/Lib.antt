@@ -1,0 +1,13 @@
+pub mod Sessions
+pub mod Steps
+pub mod Inputs
+pub mod Again
+pub mod Replies
+pub mod Long
+pub mod Outputs
+pub mod Lasting
+pub mod Entries
+pub mod Blocks
+pub mod CounterLawSessions
+pub mod Standing
+pub mod Spent

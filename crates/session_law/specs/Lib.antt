@@ -1,0 +1,5 @@
+pub mod Resending
+pub mod Long
+pub mod Counts
+pub mod Measures
+pub mod Spent

@@ -1,6 +1,0 @@
-use Rattle.std.proofs.Common.{◌≡◌, take}
-use Rattle.session_summary.specs.Counts.{counts_of, entries_of}
-use Rattle.session_summary.proofs.counts.count_lives.Given as goal
-
-abbrev pub invariant-loop-life : goal.invariant-loop-life
-invariant-loop-life l = l.counts ≡ counts_of (entries_of (take l.life-index l.lives))

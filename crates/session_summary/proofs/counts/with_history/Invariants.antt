@@ -1,9 +1,0 @@
-use Rattle.std.proofs.Common.{◌≡◌, ◌≤◌, length, take}
-use Rattle.session_summary.specs.Counts.{plus, counts_of}
-use Rattle.session_summary.proofs.counts.with_history.Given as goal
-
-abbrev pub invariant-loop-place : goal.invariant-loop-place
-invariant-loop-place l = record {
-  counts : l.counts ≡ plus l.fn.before (counts_of (take l.place l.history));
-  within : l.place ≤ length l.history;
-}

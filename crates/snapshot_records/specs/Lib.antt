@@ -1,5 +1,0 @@
-pub mod Records
-pub mod Changes
-pub mod Spelled
-pub mod Touches
-pub mod View

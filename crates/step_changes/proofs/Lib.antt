@@ -1,2 +1,0 @@
-pub mod Abended
-mod Counting

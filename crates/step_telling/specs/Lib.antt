@@ -1,3 +1,0 @@
-pub mod Untold
-pub mod Counted
-pub mod Ranges

@@ -1,4 +1,0 @@
-pub mod Places
-pub mod Capped
-pub mod Named
-pub mod Taking

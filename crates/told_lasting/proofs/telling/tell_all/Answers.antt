@@ -1,5 +1,0 @@
-use Rattle.told_lasting.proofs.Named.{named_empty}
-use Rattle.told_lasting.proofs.telling.tell_all.Goals as goal
-
-pub tell_behind-requires : goal.tell_behind-requires
-tell_behind-requires c = named_empty c.args.system.now c.in_ok-empty.empty c.in_ok-empty.ensures

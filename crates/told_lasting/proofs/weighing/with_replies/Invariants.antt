@@ -1,7 +1,0 @@
-use Rattle.std.proofs.Common.{◌≡◌, ◌+◌, take}
-use Rattle.model_queues.specs.Room.{replies_bytes}
-use Rattle.told_lasting.specs.Weighing.{capped}
-use Rattle.told_lasting.proofs.weighing.with_replies.Given as goal
-
-abbrev pub invariant-loop-place : goal.invariant-loop-place
-invariant-loop-place l = l.content ≡ capped (l.start + replies_bytes (take l.place l.replies))
