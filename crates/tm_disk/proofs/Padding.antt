@@ -3,7 +3,7 @@ use Rattle.std.proofs.Common.{◌≡◌, ℕ, ◌+◌, ◌-◌, ◌<◌, ◌≤�
 use Rattle.std.specs.Prelude.{replicate}
 use Rattle.std.proofs.lemmas.List.{take_more, take-append-drop, take-take, drop-take, drop-replicate, replicate-append-replicate, length-take-le, length-drop, append_assoc, append-nil, take_all}
 use Rattle.tm_disk.specs.Sector.{blank, zeros}
-use Rattle.tm_disk.specs.Record.{padded}
+use Rattle.tm_disk.specs.Record.{sector_of}
 
 pub replicate-more : (n : ℕ) → ◌++◌ {A = ℕ} (replicate n 0) (0 ∷ []) ≡ replicate (n + 1) 0
 replicate-more n = replicate-append-replicate n 1 0
@@ -17,9 +17,9 @@ unfolding blank zeros
 blank-from n = drop-replicate n 4096 0
 
 -- what is kept, with zeros behind it: it may be kept shorter by as many bytes as are zero at its end
-pub padded-shorter : (xs : List ℕ) (len step : ℕ) → step ≤ len → len ≤ length xs → length xs ≡ 4096 → padded (take len xs) ≡ xs
-    → take (len - (len - step)) (drop (len - step) xs) ≡ replicate (length (take (len - (len - step)) (drop (len - step) xs))) 0 → padded (take (len - step) xs) ≡ xs
-padded-shorter xs len step less within size is none =
+pub sector_of-shorter : (xs : List ℕ) (len step : ℕ) → step ≤ len → len ≤ length xs → length xs ≡ 4096 → sector_of (take len xs) ≡ xs
+    → take (len - (len - step)) (drop (len - step) xs) ≡ replicate (length (take (len - (len - step)) (drop (len - step) xs))) 0 → sector_of (take (len - step) xs) ≡ xs
+sector_of-shorter xs len step less within size is none =
     let n = len - step in
     let up : n + step ≡ len = omega (arith, less) in
     let back : len - n ≡ step = omega (arith, less) in
@@ -42,8 +42,8 @@ padded-shorter xs len step less within size is none =
     ∙ whole
 
 -- all of it is kept at first
-pub padded-whole : (xs : List ℕ) → length xs ≡ 4096 → padded (take 4096 xs) ≡ xs
-padded-whole xs size =
+pub sector_of-whole : (xs : List ℕ) → length xs ≡ 4096 → sector_of (take 4096 xs) ≡ xs
+sector_of-whole xs size =
     let all : take 4096 xs ≡ xs = take_all 4096 xs (omega (arith, size)) in
     let none : replicate (4096 - 4096) 0 ≡ [] = ap (λ k. replicate k 0) (let z : 4096 - 4096 ≡ 0 = omega arith in z) in
     ap (λ l. l ++ drop (length l) blank) all ∙ ap (λ k. xs ++ drop k blank) size ∙ ap (λ l. xs ++ l) (blank-from 4096 ∙ none) ∙ append-nil xs

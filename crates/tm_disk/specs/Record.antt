@@ -3,20 +3,20 @@ use Rattle.std.specs.Prelude.{◌⊎◌, ◌≤◌, ◌<◌, ◌+◌, ℕ, List,
 use Rattle.tm_disk.specs.Sector.{blank}
 use Rattle.tm_disk.specs.Written.{Written}
 use Rattle.tm_disk.specs.declared.record.Before.TheVariants.{Nothing}
-use Rattle.tm_disk.specs.declared.record.Kept.{Kept}
+use Rattle.tm_disk.specs.declared.record.KeptWrite.{KeptWrite}
 
 -- the bytes, and zeros up to a sector's end
-abbrev pub padded : List ℕ → List ℕ
-padded bytes = bytes ++ drop (length bytes) blank
+abbrev pub sector_of : List ℕ → List ℕ
+sector_of bytes = bytes ++ drop (length bytes) blank
 
-abbrev pub written_of : List ℕ → Kept → Written
-written_of bytes kept = record { at = kept.at; content = padded (take kept.len (drop kept.start bytes)); before = kept.before }
+abbrev pub written_of : List ℕ → KeptWrite → Written
+written_of bytes kept = record { at = kept.at; content = sector_of (take kept.len (drop kept.start bytes)); before = kept.before }
 
-abbrev pub writes_of : List ℕ → List Kept → List Written
+abbrev pub writes_of : List ℕ → List KeptWrite → List Written
 writes_of bytes kept = map (written_of bytes) kept
 
 -- its bytes stand among so many
-abbrev pub StandsIn : ℕ → Kept → Type 0
+abbrev pub StandsIn : ℕ → KeptWrite → Type 0
 StandsIn count kept = (kept.start + kept.len ≤ count) × (kept.len ≤ 4096)
 
 -- The writes; for how many there is room, how many bytes are kept of them, and for how many there is room.

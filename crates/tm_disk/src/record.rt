@@ -1,7 +1,7 @@
 //! The record of the writes of a disk in memory. Of each write the bytes are kept without the zeros at its end, to within 16, and those of
 //! all writes stand one behind the other: a write of a few bytes takes a few bytes, and asks for memory only where the record grows.
 ghost use Rattle.std.specs.Prelude.{◌≡◌, ◌≤◌, ◌<◌, ◌+◌, IsTrue, IsFalse, length, take, replicate};
-ghost use Rattle.tm_disk.specs.Record.{padded};
+ghost use Rattle.tm_disk.specs.Record.{sector_of};
 
 use crate::{SECTOR_BYTES, Sector};
 use std::alloc::{AllocError, Global};
@@ -17,7 +17,7 @@ pub enum Before {
 
 /// A write that was made, or failed and may have been made: where it went, what came before it, and where its bytes stand.
 #[derive(Clone, Copy, Drop)]
-pub struct Kept {
+pub struct KeptWrite {
     at: u32,
     before: Before,
     start: usize,
@@ -27,7 +27,7 @@ pub struct Kept {
 /// The writes in their order.
 #[derive(Drop)]
 pub struct Record {
-    kept: Vec<Kept>,
+    kept: Vec<KeptWrite>,
     bytes: Vec<u8>,
 }
 
@@ -57,9 +57,9 @@ fn has_any(bytes: &[u8]) -> bool
 fn shorter(bytes: &[u8], len: usize, step: usize) -> usize
     requires within { len ≤ length bytes.now }
     requires size { length bytes.now ≡ 4096 }
-    requires zeros { padded (take len bytes.now) ≡ bytes.now }
+    requires zeros { sector_of (take len bytes.now) ≡ bytes.now }
     ensures within { result ≤ length bytes.now }
-    ensures zeros { padded (take result bytes.now) ≡ bytes.now }
+    ensures zeros { sector_of (take result bytes.now) ≡ bytes.now }
 {
     if len < step || has_any(&bytes[len - step..len]) {
         return len;
@@ -70,7 +70,7 @@ fn shorter(bytes: &[u8], len: usize, step: usize) -> usize
 // How many bytes of a sector are kept, so that those behind them are zero.
 fn kept_len(sector: &Sector) -> usize
     ensures within { result ≤ 4096 }
-    ensures zeros { padded (take result sector.now) ≡ sector.now }
+    ensures zeros { sector_of (take result sector.now) ≡ sector.now }
 {
     let bytes = sector.bytes();
     let mut len = SECTOR_BYTES;
@@ -132,7 +132,7 @@ impl Record {
         let len = kept_len(content);
         let start = self.bytes.len();
         self.bytes.extend_from_slice(&content.bytes()[..len])?;
-        self.kept.push_reserved(Kept {
+        self.kept.push_reserved(KeptWrite {
             at,
             before,
             start,

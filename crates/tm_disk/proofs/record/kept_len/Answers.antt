@@ -1,5 +1,5 @@
 use Rattle.std.proofs.Common.{length, arith, ◌∙◌, ap, ℕ}
-use Rattle.tm_disk.proofs.Padding.{padded-whole}
+use Rattle.tm_disk.proofs.Padding.{sector_of-whole}
 use Rattle.tm_disk.proofs.record.kept_len.Goals as goal
 
 pub loop-step-init : goal.loop-step-init
@@ -7,5 +7,5 @@ loop-step-init c =
     let size = ap (length {A = ℕ}) c.bytes-bytes.ensures.value ∙ c.bytes-bytes.ensures.size in
     record {
       within = omega (arith, size);
-      zeros = padded-whole c.bytes-bytes.result.now size;
+      zeros = sector_of-whole c.bytes-bytes.result.now size;
     }
