@@ -76,6 +76,3 @@ fn best_of(class: u8, codes: &[Code], states: &[CodeState], queues: &Queues) -> 
     }
     best
 }
-
-#[cfg(test)]
-mod tests;
