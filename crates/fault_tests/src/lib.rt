@@ -1,4 +1,4 @@
-//! Tests of the low crates through their public calls: what no clause says, as worked rows and printed texts.
+//! Tests of the low crates through their public calls: what no clause says and no session reaches, as worked rows.
 //!
 //! They stand beside those crates, which so are proved once. A module has the tests of one crate.
 #![tactic(auto)]

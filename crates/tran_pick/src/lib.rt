@@ -1,8 +1,9 @@
 //! Scheduling: which message a region takes.
 //!
-//! `pick` answers what `specs/Pick.antt` of model_machine says of the states of the codes and of the
-//! messages that wait. `specs/Picked.antt` says the same in the words of the rule, and the answer is
-//! proved to be that too.
+//! Proved: `pick` answers what specs/Pick of `model_machine` says of the states of the codes and of the messages that
+//! wait: the first class with an eligible code, in it the highest priority that counts, on a tie the lowest id; none
+//! exactly where no code is eligible. `specs/Picked` says the same in the words of the rule, and the answer is proved
+//! to be that too.
 #![tactic(auto)]
 
 pub use candidate::current_priority;
