@@ -9,7 +9,7 @@
 //!   the record that began its message, and what a snapshot tells of was so before.
 //! - What the work on a message sends counts at most 65,536 bytes, and goes to terminals and to codes without
 //!   conversations; each message that it sends has 1 to 32 segments, and an abend's number is one from 1 to 4,095
-//!   (specs/Sending, proofs/Trials). So every call of the machine leaves the room that it found: what messages and
+//!   (specs/SentMessages, proofs/Trials). So every call of the machine leaves the room that it found: what messages and
 //!   replies count, with 65,536 bytes for each busy region, is no more than the queues may hold. And what it leaves
-//!   breaks no rule of a state, where its pads are right and its counts are small (specs/Rooms, proofs/Steps).
+//!   breaks no rule of a state, where its pads are right and its counts are small (specs/SoundMachine, proofs/Steps).
 #![tactic(auto)]

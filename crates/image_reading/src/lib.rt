@@ -8,7 +8,7 @@
 //!   log. Each sector of the area is read once, and its bytes are cut into records once.
 //! - `rest`, `parts`: whether what is left of a log behind its last record is the front of the one spelling of some
 //!   record, without its end, is decided exactly. A record's layout is a list of parts; each byte leads to what may
-//!   stand behind it (specs/Parts), and what is missing has one of the lengths that are left.
+//!   stand behind it (specs/RecordParts), and what is missing has one of the lengths that are left.
 //! - `giving`: what the records say of each slot, by database (proofs/Given).
 //!
 //! That the rest is decided, and that a snapshot's records keep their rules, holds on every disk; the former is needed

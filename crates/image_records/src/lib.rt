@@ -8,7 +8,7 @@
 //! up by the index of the system. Rules 16 and 17 are judged exactly, whatever the bytes of messages and replies come
 //! to. A snapshot is read whole (`read_records`): of any bytes the answer is the tables of what lasts, the changes of
 //! open units and the next unit, or the lowest rule of 10 to 17 that is broken; what is kept breaks no rule of a state.
-//! What doing a log again is to answer is stated here (specs/Answers); `log_replay` does it.
+//! What doing a log again is to answer is stated here (specs/RecordAnswers); `log_replay` does it.
 #![tactic(auto)]
 
 mod cutting;

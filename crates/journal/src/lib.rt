@@ -8,13 +8,13 @@
 //! behind it; meanwhile a front of its steps was done. `insert` (module `inserting`) puts an open unit among others
 //! that stand by their numbers, at its place, for a snapshot.
 //!
-//! Laws: a life goes with a machine (`IsCarriedBy` of specs/Carried) where it has the machine's system and what lasts,
-//! its slots are those of the stores, its committed slots those that are committed, and its open units those of the
-//! regions, each with a number of its own (specs/Turning). Then each call that is answered leaves a life that goes with
-//! the machine behind it (specs/Going): an input that is kept, a reply that is acknowledged, a command that lasts and a
-//! message that is completed or discarded are a lasting step of it, by the records that are told; a call on the
-//! databases is changes of its slots, also one that rolls back; victims end their units; all else leaves it
-//! (proofs/Answered, Commanding, Turns). A checkpoint of the machine is one of the life (specs/Opens,
+//! Laws: a life goes with a machine (`IsCarriedBy` of specs/CarriedLife) where it has the machine's system and what
+//! lasts, its slots are those of the stores, its committed slots those that are committed, and its open units those of
+//! the regions, each with a number of its own (specs/UnitNumbers). Then each call that is answered leaves a life that
+//! goes with the machine behind it (specs/LifeByCall): an input that is kept, a reply that is acknowledged, a command
+//! that lasts and a message that is completed or discarded are a lasting step of it, by the records that are told; a
+//! call on the databases is changes of its slots, also one that rolls back; victims end their units; all else leaves it
+//! (proofs/Answered, Commanding, Turns). A checkpoint of the machine is one of the life (specs/OpenUnits,
 //! proofs/Checkpoints), and a life that an opening leaves goes with the machine as it starts (proofs/Openings). A
 //! unit's slot stays its own while its region holds the record that stood there, or the sequence where it was free.
 #![tactic(auto)]

@@ -1,5 +1,5 @@
-//! The log on sectors: a sector is sealed with the epoch and the sequence that belong to it (specs/Sealed), and a chain
-//! of them (specs/Chain) is read up to the first sector that isn't of it.
+//! The log on sectors: a sector is sealed with the epoch and the sequence that belong to it (specs/SealedSector), and a
+//! chain of them (specs/Chain) is read up to the first sector that isn't of it.
 //!
 //! Proved: that reading is exact; each fault of the disk is told as such, and want of memory hides none.
 #![tactic(auto)]

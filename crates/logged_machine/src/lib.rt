@@ -9,33 +9,35 @@
 //!   has a unit, what the unit touched. Want of memory comes before any write and changes nothing; `Disk` comes exactly
 //!   where the disk failed. Whenever a crash comes, the image recovers to what lasts. Once it has answered, the machine
 //!   stands where it stood, no slot counts as changed, the restart sector has the next number, the log is empty, and a
-//!   life is on the disk that goes with the machine (specs/Taking).
-//! - `due`: a call with a checkpoint before it (specs/Due). It takes all memory first: the snapshot is spelled, the
-//!   machine does the call with its records told apart from the journal, and only then is the checkpoint written, as
-//!   all stood before the call, with the call's records behind it. The only other refusal is a disk that failed.
+//!   life is on the disk that goes with the machine (specs/UntakenCheckpoint).
+//! - `due`: a call with a checkpoint before it (specs/DueCheckpoint). It takes all memory first: the snapshot is
+//!   spelled, the machine does the call with its records told apart from the journal, and only then is the checkpoint
+//!   written, as all stood before the call, with the call's records behind it. The only other refusal is a disk that
+//!   failed.
 //! - `opening`, `looking`: the parts of an empty machine are opened with what the disk recovers to, or cold. A refusal
 //!   has its cause in the image, has written nothing unless the disk failed, and leaves the parts as they were.
 //!   Whenever a crash comes, the image recovers as before, and in a cold start so or to the empty state. Once it has
-//!   answered, the machine stands where that state begins, and a life is on the disk that goes with it (specs/Opened).
+//!   answered, the machine stands where that state begins, and a life is on the disk that goes with it
+//!   (specs/MachineOpening).
 //! - `logged`, `step`, `forcing`, `checking`, `refreshing`, `spending`: `LoggedMachine`. While calls are served, each
 //!   image that a crash may leave is of the definition's text and recovers to what lasts; at any moment of a call it
-//!   recovers to what lasted before, or to that with the call's step (specs/Goes). Once the disk has failed, nothing is
-//!   served any more, and what a crash leaves is still one of the two. Want of memory has changed nothing and written
-//!   nothing, also where a checkpoint was due. A freeze that a region's work forbids has changed nothing and written
-//!   nothing. The first counter that is spent is told exactly.
+//!   recovers to what lasted before, or to that with the call's step (specs/CallOutcome). Once the disk has failed,
+//!   nothing is served any more, and what a crash leaves is still one of the two. Want of memory has changed nothing
+//!   and written nothing, also where a checkpoint was due. A freeze that a region's work forbids has changed nothing
+//!   and written nothing. The first counter that is spent is told exactly.
 //!
-//! How much is written (specs/Frugal): no checkpoint is due before a call that has no records of its own, or leaves 32
-//! sectors of the area free with them: it writes to the log alone, and only where a step lasts of it. Any other takes
-//! one checkpoint, and from there does the same, or the disk failed in the checkpoint, which writes no more sectors
-//! than those of what was appended, one of each slot that counts as changed, those of a snapshot's area and the restart
-//! sector. Where the machine's own counters (the epoch, the log's next sequence, the checkpoint, the next unit) stand
-//! up to a bound, whatever a crash leaves at any moment of a call counts further by twice the sectors of a log area at
-//! most.
+//! How much is written (specs/CallWrites): no checkpoint is due before a call that has no records of its own, or leaves
+//! 32 sectors of the area free with them: it writes to the log alone, and only where a step lasts of it. Any other
+//! takes one checkpoint, and from there does the same, or the disk failed in the checkpoint, which writes no more
+//! sectors than those of what was appended, one of each slot that counts as changed, those of a snapshot's area and the
+//! restart sector. Where the machine's own counters (the epoch, the log's next sequence, the checkpoint, the next unit)
+//! stand up to a bound, whatever a crash leaves at any moment of a call counts further by twice the sectors of a log
+//! area at most.
 //!
-//! Laws (`IsCarried` of specs/Carried; proofs/Turning, Answering, Closing, Storing): a life goes with the machine's
-//! parts where it goes with their machine and slots. What the parts promise of each call carries it on: by a lasting
-//! step exactly where the answer tells of one. Records that a call tells are of its region's unit or of none, so no
-//! record on the disk is of a unit to come.
+//! Laws (`IsCarried` of specs/CarriedParts; proofs/Turning, Answering, Closing, Storing): a life goes with the
+//! machine's parts where it goes with their machine and slots. What the parts promise of each call carries it on: by a
+//! lasting step exactly where the answer tells of one. Records that a call tells are of its region's unit or of none,
+//! so no record on the disk is of a unit to come.
 #![tactic(auto)]
 
 mod beginning;

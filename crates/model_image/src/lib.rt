@@ -1,9 +1,9 @@
 //! The definitions of an image of a system's disk: what it recovers to, or the lowest rule that it breaks.
 //!
-//! `specs/Recovered` says it in few lines, and the other files say what they speak of: where the areas stand (Areas),
-//! how bytes are cut into records (Cut), what each record does (Replay), which record speaks for a slot (Slots), and
-//! the rules of a state (States). `specs/Records` says which records tell of a lasting step of the machine, in the
-//! order in which they stand in the log. There is no code.
+//! `specs/RecoveredState` says it in few lines, and the other files say what they speak of: where the areas stand
+//! (specs/Areas), how bytes are cut into records (specs/CutRecords), what each record does (specs/Replay), which record
+//! speaks for a slot (specs/Slots), and the rules of a state (specs/States). `specs/StepRecords` says which records
+//! tell of a lasting step of the machine, in the order in which they stand in the log. There is no code.
 //!
 //! Proved: an image has one such answer (proofs/Answers). Images that agree on the restart sector, on what it names and
 //! on the data sectors of slots that no record names have the same (proofs/Alike). An image with zeros in sector 0 has

@@ -4,12 +4,13 @@
 //! The crate holds definitions and the small types that they speak of, and almost no code. A control region is proved
 //! to be this machine: each of its calls adds one entry to its history, and the history is legal.
 //!
-//! - What lasts and a moment of the machine (specs/Machine, Lasting, Flags); which message a region takes (specs/Pick);
-//!   the work on one message (specs/Trial, Work); what a region asks for before its next call (specs/Requests).
-//! - What each call is answered at a moment, and what it leaves (specs/Steps, Answers); what an operator's commands are
-//!   answered, and which of them last; legal histories (specs/History).
+//! - What lasts and a moment of the machine (specs/Machine, LastingSteps, Flags); which message a region takes
+//!   (specs/Pick); the work on one message (specs/Trial, WorkSoFar); what a region asks for before its next call
+//!   (specs/Requests).
+//! - What each call is answered at a moment, and what it leaves (specs/MachineCalls); what an operator's commands are
+//!   answered, and which of them last (specs/CommandAnswers); legal histories (specs/History).
 //! - What a text commands of the system, or the lowest rule that it breaks, and what is printed for the answer to a
-//!   command, which `oper_cmds` carries out.
+//!   command (specs/CommandText, AnswerText), which `oper_cmds` carries out.
 //!
 //! Proved: where the flags that moved are put by the rule, all stand where it puts them, and the rule done twice is the
 //! rule (proofs/Flags); a history with one entry more leads on from the moment that the others lead to

@@ -3,11 +3,11 @@
 //! The crate holds definitions, the small types that they speak of, and what is asked of a pad's bytes.
 //!
 //! - Queues: messages in the order of their ids, each with the region that has it, the replies of each terminal, and
-//!   the room that messages, replies and busy regions take (specs/Queue, Outputs, Room, Input).
+//!   the room that messages, replies and busy regions take (specs/Queue, Outputs, Room).
 //! - Conversations: a code, a terminal, and a scratch pad that lasts from one input to the next (specs/Terminals,
-//!   Waiting, Pads).
+//!   Waiting, Pads, ConversationInput).
 //! - Message calls: what a program is answered by the calls on PCB 0 and on its output PCBs, and what is sent at the
-//!   end (specs/Work, Calls).
+//!   end (specs/MessageWork, MessageCalls).
 //!
 //! Proved: of a pad's bytes it is told exactly whether they may be given back; a reply that was added and taken back
 //! leaves what was there (proofs/TakenBack).

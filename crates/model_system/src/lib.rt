@@ -8,7 +8,8 @@
 //! - Scripts: what the lines of a program are, what each of them does, and what a script needs next (specs/Programs,
 //!   Texts, Arithmetic, Script). A `Program` keeps by its type that it breaks no rule.
 //! - Formats: what the lines of a format are, which rule one breaks by itself, what a screen's fields become as an
-//!   input, and what a reply becomes as a page (specs/Formats, Entering, Fitting, Pages, Showing).
+//!   input, and what a reply becomes as a page (specs/FormatLines, FormatRule, ValidFormat, ScreenInput, FittedValues,
+//!   Pages, ScreenPage).
 //!
 //! Proved: where a step of a script goes on both settle alike, and where it needs something it has settled
 //! (proofs/Settled).

@@ -1,8 +1,8 @@
 //! The enqueue table: which regions hold which resources, which wait for one, and who blocks them.
 //!
-//! The definitions are those of `model_data` (specs/Table and Ask). Holders are kept in one map in their order, so a
-//! request looks at the holders of its own resource and at the waiters alone. Besides, each region has the list of the
-//! resources that it holds, so a release costs by these and by the waiters.
+//! The definitions are specs/Table and EnqueueRequests of `model_data`. Holders are kept in one map in their order, so
+//! a request looks at the holders of its own resource and at the waiters alone. Besides, each region has the list of
+//! the resources that it holds, so a release costs by these and by the waiters.
 //!
 //! Proved: each request, all requests of a call, a release and the end of a wait leave the table as defined; who holds
 //! a resource, what a region waits for and who blocks it are told exactly. Want of memory changes nothing; a release

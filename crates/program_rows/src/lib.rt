@@ -11,12 +11,12 @@
 //! there. `tell_back` tells the same of each slot that the region has touched, which are all that backing it out
 //! changes. What is longer than the room given is refused as `Full`, exactly there, and nothing has changed.
 //!
-//! Slots (specs/OnSlots): each call tells what it does to the slots, to those that its region has touched, and to which
-//! of them count as changed; the records tell just the slots that it changes. A slot that a call sets, or that is put
-//! back or taken out, counts as changed, also where it has the same again. At any time a region's touched slots ascend,
-//! are at most 64 and had what is committed in them, no other region has touched them, and a slot that none has touched
-//! is as it was committed (`AreOnSlots`). Stores with the same slots can take the place of its own, without memory:
-//! what counts as changed is then what they tell, and nothing else changes.
+//! Slots (specs/SlotsState): each call tells what it does to the slots, to those that its region has touched, and to
+//! which of them count as changed; the records tell just the slots that it changes. A slot that a call sets, or that is
+//! put back or taken out, counts as changed, also where it has the same again. At any time a region's touched slots
+//! ascend, are at most 64 and had what is committed in them, no other region has touched them, and a slot that none has
+//! touched is as it was committed (`AreOnSlots`). Stores with the same slots can take the place of its own, without
+//! memory: what counts as changed is then what they tell, and nothing else changes.
 #![tactic(auto)]
 
 pub use answer::{Answered, Blocked, DataAnswer};

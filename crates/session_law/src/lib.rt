@@ -1,6 +1,6 @@
 //! Laws over the machine and sessions, without code: what is sent again behind a stop, and how far counters rise.
 //!
-//! What is sent again (specs/Resending; proofs/Inputs, Again, Replies). No call lets a terminal's last input number
+//! What is sent again (specs/ResentInputs; proofs/Inputs, Again, Replies). No call lets a terminal's last input number
 //! fall, and an input under a number up to it is never accepted: it is told that it was accepted before, unless its
 //! terminal is stopped. Over a disk that tells its contents: once an input was answered as accepted, whatever a stop
 //! leaves behind any further lines and restarts, a cold start apart, has its number as used. Where the disk failed in
@@ -11,13 +11,13 @@
 //! is what the terminal is shown. An input is answered, and leaves what lasts, by its first 17 texts and by how many it
 //! has (proofs/Long).
 //!
-//! Counters (specs/Counts, Measures, Spent; proofs/Entries, Blocks, Spent). A unit sends at most 32 outputs, so an
-//! entry raises the next id, each terminal's next reply and the lasting steps by at most 32. Lines make no more blocks
-//! than they are; a block adds one entry and one stop to a session at most, or an opening or a stop, and a `QUIET` one
-//! entry for each of its turns, which are at most a million. So what lasts of a session over a disk that tells its
-//! contents, wherever a stop came, counts up to what the disk handed in had, and 32 more for each opening, entry and
-//! stop; and what a session of at most a million blocks does, at 4,096 each, brings no counter to 10^18 that was below
-//! 9*10^17. `IsSpentAt` says when a session may be told that a counter is spent: one of what lasts is, or one of the
-//! disk's own, where these stand no higher than the disk handed in counts and 4,096 for each opening, entry and stop.
-//! Over a disk that tells its contents a bound of its counters is then never below 9*10^17.
+//! Counters (specs/Counts, Measures, SpentCounters; proofs/Entries, Blocks, Spent). A unit sends at most 32 outputs, so
+//! an entry raises the next id, each terminal's next reply and the lasting steps by at most 32. Lines make no more
+//! blocks than they are; a block adds one entry and one stop to a session at most, or an opening or a stop, and a
+//! `QUIET` one entry for each of its turns, which are at most a million. So what lasts of a session over a disk that
+//! tells its contents, wherever a stop came, counts up to what the disk handed in had, and 32 more for each opening,
+//! entry and stop; and what a session of at most a million blocks does, at 4,096 each, brings no counter to 10^18 that
+//! was below 9*10^17. `IsSpentAt` says when a session may be told that a counter is spent: one of what lasts is, or one
+//! of the disk's own, where these stand no higher than the disk handed in counts and 4,096 for each opening, entry and
+//! stop. Over a disk that tells its contents a bound of its counters is then never below 9*10^17.
 #![tactic(auto)]

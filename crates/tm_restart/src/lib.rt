@@ -15,16 +15,16 @@
 //! are all up to a bound, those of whatever a stop leaves of either are up to one above it (`Counts` of
 //! `checkpointing`).
 //!
-//! - `finding` (`find`, specs/Found): what a disk has, before anything is written: zeros, another text, an image that
-//!   breaks a rule, a counter that is spent, or what it recovers to, where it tells its contents; a fault of the disk
-//!   has its cause.
+//! - `finding` (`find`, specs/FoundImage): what a disk has, before anything is written: zeros, another text, an image
+//!   that breaks a rule, a counter that is spent, or what it recovers to, where it tells its contents; a fault of the
+//!   disk has its cause.
 //! - `looking` (`look`): all of an image behind its text: the snapshot and the log, done again, and all databases, with
 //!   the slots that records name; it recovers to what these come to, or to the lowest rule that is broken, and of it
 //!   the lowest sector. Each sector is read once.
-//! - `renewing` (`renew`, specs/Writing): the writes of a restart: each slot that a record names, the snapshot into the
-//!   other area, the restart sector of the next life, each synced. Until that sector is written each image that a crash
-//!   may leave recovers alike, whatever it recovered to; then each recovers to the same state, its log is empty, and
-//!   the stores stand in their sectors (proofs/Recovering).
+//! - `renewing` (`renew`, specs/LifeWrites): the writes of a restart: each slot that a record names, the snapshot into
+//!   the other area, the restart sector of the next life, each synced. Until that sector is written each image that a
+//!   crash may leave recovers alike, whatever it recovered to; then each recovers to the same state, its log is empty,
+//!   and the stores stand in their sectors (proofs/Recovering).
 //! - Law: the terminals and codes of each state that an image tells of are those of the definition, in its order.
 #![tactic(auto)]
 

@@ -1,8 +1,8 @@
 //! Before images of the records that a unit of work changes.
 //!
 //! `unit` has `Unit`: of each of at most 32 records the image before the unit is kept, and of each slot that it
-//! touched. `specs/Told` and `specs/Marks` say what is told of the slots that a step changes, each by its bytes before
-//! and behind it, where all others stay, and which slots count as changed then.
+//! touched. `specs/ToldChanges` and `specs/Marks` say what is told of the slots that a step changes, each by its bytes
+//! before and behind it, where all others stay, and which slots count as changed then.
 //!
 //! Proved: a touch can be made ready with all its memory and then kept or left without any. Backing out removes the
 //! records that came and puts each one that was there back into the slot that it had (specs/BackOut); no other record

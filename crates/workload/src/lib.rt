@@ -6,7 +6,7 @@
 //! replies (`session`), the draws in their order (`draws`). The counts are those of the entries of the session's lives
 //! (`counts`, specs/Counts): inputs accepted as new ones, completions, at the end of a script and at a further GU,
 //! abends, and regions that gave way, which are neither. The last reply is the one on the last line of the transcript
-//! that shows one (`shown`, specs/Shown). The text of a summary is the lines of these (`text`, specs/Summary).
+//! that shows one (`shown`, specs/ShownReply). The text of a summary is the lines of these (`text`, specs/Summary).
 #![tactic(auto)]
 
 mod counts;
