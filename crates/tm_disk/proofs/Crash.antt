@@ -7,7 +7,7 @@ use Rattle.std.proofs.lemmas.List.Elements.{Contains-get_or, Contains-append_lef
 use Rattle.tm_disk.specs.Disk.{Image, sector_at, with_sector, MayWrite}
 use Rattle.tm_disk.specs.Moments.{Moment, writes_to, IsLeft, picked, after_write}
 use Rattle.tm_disk.specs.MomentLaws.{length-picked, Contains-first, Contains-cons_cases, writes_to-same, writes_to-other, sector_at-same, sector_at-other}
-use Rattle.tm_disk.specs.declared.record.Written.{Written}
+use Rattle.tm_disk.specs.Written.{Written}
 
 pub writes_to-push-same : (at : ℕ) (writes : List Written) (write : Written) → write.at ≡ at → writes_to at (writes ++ write ∷ []) ≡ writes_to at writes ++ write.content ∷ []
 writes_to-push-same at [] write e = writes_to-same at write [] e

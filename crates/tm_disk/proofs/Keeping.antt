@@ -7,7 +7,7 @@ use Rattle.tm_disk.specs.Disk.{Image, with_sector}
 use Rattle.tm_disk.specs.Moments.{Moment, zero_disk, shown_of, picked, settled_by, after_write, moment_now, moments_past, IsSound}
 use Rattle.tm_disk.specs.MomentLaws.{length-shown_of, length-picked}
 use Rattle.tm_disk.proofs.Past.{after-push, past-write, past-synced, past-cut}
-use Rattle.tm_disk.specs.declared.record.Written.{Written}
+use Rattle.tm_disk.specs.Written.{Written}
 use Rattle.tm_disk.specs.declared.record.Before.{Before}
 use Rattle.tm_disk.specs.declared.record.Before.TheVariants.{Nothing, Synced, Cut}
 

@@ -5,3 +5,5 @@ pub mod Keeping
 pub mod Past
 pub mod States
 pub mod Numbers
+pub mod Padding
+pub mod Recording

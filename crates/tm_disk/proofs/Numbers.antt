@@ -9,7 +9,7 @@ use Rattle.tm_disk.specs.Sector.{blank}
 use Rattle.tm_disk.specs.Moments.{Moment, zero_disk, writes_to, picked, settled_by, after_write, moments_past, IsSound}
 use Rattle.tm_disk.specs.MomentLaws.{writes_to-same, writes_to-other}
 use Rattle.tm_disk.specs.Numbered.{content_of, made_by, image_by, AreNumbers, chosen_by}
-use Rattle.tm_disk.specs.declared.record.Written.{Written}
+use Rattle.tm_disk.specs.Written.{Written}
 use Rattle.tm_disk.specs.declared.record.Before.{Before}
 use Rattle.tm_disk.specs.declared.record.Before.TheVariants.{Nothing, Synced, Cut}
 use Rattle.tm_disk.proofs.Crash.{writes_to-push-same, writes_to-push-other}

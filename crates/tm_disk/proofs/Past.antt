@@ -3,7 +3,7 @@ use Rattle.std.proofs.Common.{◌≡◌, ◌⊎◌, ℕ, ◌≤◌, List, [], �
 use Rattle.std.proofs.lemmas.List.{append-nil, drop-append-le}
 use Rattle.tm_disk.specs.Disk.{Image}
 use Rattle.tm_disk.specs.Moments.{Moment, IsLeft, settled_by, waiting, after_write, after, moments, moment_now, moments_past, WasLeft}
-use Rattle.tm_disk.specs.declared.record.Written.{Written}
+use Rattle.tm_disk.specs.Written.{Written}
 use Rattle.tm_disk.specs.declared.record.Before.TheVariants.{Nothing, Synced, Cut}
 
 pub after-push : (start : Moment) (writes : List Written) (write : Written) → after start (writes ++ write ∷ []) ≡ after_write write (settled_by write.before (after start writes))

@@ -10,7 +10,7 @@ use Rattle.tm_disk.specs.Moments.{Moment, shown_of, IsLeft, WasLeft, settled_by,
 use Rattle.tm_disk.specs.MomentLaws.{length-shown_of, length-picked, shown_is_left}
 use Rattle.tm_disk.specs.MemState.{mem_state}
 use Rattle.tm_disk.specs.declared.contents.Contents.{Contents}
-use Rattle.tm_disk.specs.declared.record.Written.{Written}
+use Rattle.tm_disk.specs.Written.{Written}
 use Rattle.tm_disk.specs.declared.record.Before.TheVariants.{Synced, Cut}
 use Rattle.tm_disk.proofs.Crash.{write_without, write_with, write_comes, synced_alone, picked_is_left}
 use Rattle.tm_disk.proofs.Past.{since_cases, since_kept}

@@ -8,4 +8,6 @@ pub mod MomentLaws
 pub mod Moments
 pub mod Numbered
 pub mod Plan
+pub mod Record
 pub mod Sector
+pub mod Written

@@ -1,5 +1,5 @@
 -- What a disk in memory shows of itself.
-use Rattle.std.specs.Prelude.{◌≡◌, ◌⊎◌, ℕ, ◌+◌, ◌≤◌, List, length, Bool, IsTrue, if◌then◌else◌, vec_capacity}
+use Rattle.std.specs.Prelude.{◌≡◌, ◌⊎◌, ℕ, ◌+◌, List, length, Bool, IsTrue, if◌then◌else◌}
 use Rattle.std.proofs.Common.{sym, ◌∙◌}
 use Rattle.std.proofs.lemmas.List.{length-map, length-replicate}
 use Rattle.tm_disk.specs.Disk.{DiskState, IsDisk, is_due, is_stopped}
@@ -11,6 +11,7 @@ use Rattle.tm_disk.specs.declared.record.Before.{Before}
 use Rattle.tm_disk.specs.MomentLaws.{size-moments_past}
 use Rattle.tm_disk.specs.Contents.{now_of, past_of}
 use Rattle.tm_disk.specs.Plan.{IsListed}
+use Rattle.tm_disk.specs.Record.{HasNoRoom}
 use Rattle.tm_disk.specs.MemState.{mem_state, mem_is_disk}
 use Rattle.tm_disk.specs.declared.mem_disk.MemDisk.{MemDisk}
 
@@ -36,9 +37,9 @@ starved_of disk = disk.plan.starved
 abbrev pub recorded : MemDisk → ℕ
 recorded disk = length disk.contents.writes.items
 
--- how many writes its record has room for before it has to grow
-abbrev pub record_room : MemDisk → ℕ
-record_room disk = vec_capacity disk.contents.writes
+-- its record has no room for one write more, or for a sector's bytes
+abbrev pub MustGrow : MemDisk → Type 0
+MustGrow disk = HasNoRoom disk.contents.writes
 
 -- the next call is listed, or the disk has stopped
 abbrev pub MustFail : MemDisk → Type 0
@@ -73,7 +74,7 @@ pub record AddsNothing (old new : MemDisk) : Type 0 where
 
 -- The write met want of memory, its record having no room: nothing was added, and it is counted.
 pub record Starves (old new : MemDisk) : Type 0 where
-  pub no_room : record_room old ≤ recorded old
+  pub no_room : MustGrow old
   pub moment : moment_of new ≡ moment_of old
   pub recorded : recorded new ≡ recorded old
   pub starved : starved_of new ≡ raised (starved_of old)

@@ -6,7 +6,7 @@ use Rattle.std.proofs.lemmas.Bool.{eq-eqb, ne_eqb, cases_lt, cases_eq}
 use Rattle.std.proofs.lemmas.List.{get_or_past}
 use Rattle.tm_disk.specs.Disk.{Image, sector_at, with_sector}
 use Rattle.tm_disk.specs.Moments.{Moment, shown_of, writes_to, IsLeft, picked, settled_by, waiting, after_write, after, moments, moments_past, WasLeft}
-use Rattle.tm_disk.specs.declared.record.Written.{Written}
+use Rattle.tm_disk.specs.Written.{Written}
 use Rattle.tm_disk.specs.declared.record.Before.{Before}
 use Rattle.tm_disk.specs.declared.record.Before.TheVariants.{Nothing, Synced, Cut}
 

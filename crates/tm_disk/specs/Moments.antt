@@ -2,7 +2,7 @@
 use Rattle.std.specs.Prelude.{◌≡◌, ◌⊎◌, ℕ, ◌+◌, ◌/◌, ◌%◌, List, [], ◌∷◌, ◌++◌, length, ◌==◌, Contains, if◌then◌else◌, slice_index_or, replicate, ◌<◌, ◌≤◌, ◌^◌, All, drop}
 use Rattle.tm_disk.specs.Disk.{Image, sector_at, with_sector}
 use Rattle.tm_disk.specs.Sector.{blank}
-use Rattle.tm_disk.specs.declared.record.Written.{Written}
+use Rattle.tm_disk.specs.Written.{Written}
 use Rattle.tm_disk.specs.declared.record.Before.{Before}
 use Rattle.tm_disk.specs.declared.record.Before.TheVariants.{Nothing, Synced, Cut}
 

@@ -2,7 +2,7 @@
 use Rattle.std.specs.Prelude.{◌≡◌, ℕ, ◌≤◌, List, [], ◌∷◌, length, map, drop, All, slice_index_or, slice_set, ◌==◌, if◌then◌else◌}
 use Rattle.tm_disk.specs.Disk.{Image}
 use Rattle.tm_disk.specs.Sector.{blank}
-use Rattle.tm_disk.specs.declared.record.Written.{Written}
+use Rattle.tm_disk.specs.Written.{Written}
 use Rattle.tm_disk.specs.Moments.{writes_to}
 
 abbrev pub content_of : Written → List ℕ

@@ -11,7 +11,7 @@ pub invariant_of-result-clause-numbers : goal.invariant_of-result-clause-numbers
 invariant_of-result-clause-numbers c =
     let shown : c.in_ok-vec.field-0.items ≡ replicate c.args.sectors 0 = search rules in
     let synced : c.in_ok-vec-2.field-0.items ≡ replicate c.args.sectors 0 = search rules in
-    let writes : c.new.result.items ≡ [] = c.new.ensures.items in
+    let writes : c.new.result.items ≡ [] = c.new.ensures in
     subst (λ l. AreNumbers c.in_ok-vec.field-0.items c.in_ok-vec-2.field-0.items l 0) (sym writes)
     (subst (λ l. AreNumbers l c.in_ok-vec-2.field-0.items [] 0) (sym shown) (subst (λ l. AreNumbers (replicate c.args.sectors 0) l [] 0) (sym synced) (numbers-start c.args.sectors)))
 
@@ -19,7 +19,7 @@ pub invariant_of-result-clause-sound : goal.invariant_of-result-clause-sound
 invariant_of-result-clause-sound c =
     let shown : c.in_ok-vec.field-0.items ≡ replicate c.args.sectors 0 = search rules in
     let synced : c.in_ok-vec-2.field-0.items ≡ replicate c.args.sectors 0 = search rules in
-    let writes : c.new.result.items ≡ [] = c.new.ensures.items in
+    let writes : c.new.result.items ≡ [] = c.new.ensures in
     subst (λ l. IsSound (image_by l c.in_ok-vec.field-0.items) (image_by l c.in_ok-vec-2.field-0.items) l 0 Nothing) (sym writes)
     (subst (λ l. IsSound (image_by [] l) (image_by [] c.in_ok-vec-2.field-0.items) [] 0 Nothing) (sym shown)
     (subst (λ l. IsSound (image_by [] (replicate c.args.sectors 0)) (image_by [] l) [] 0 Nothing) (sym synced) (numbered-start c.args.sectors (omega (arith, c.ranges.sectors.fits)))))

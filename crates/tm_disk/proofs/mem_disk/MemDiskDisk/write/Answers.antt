@@ -5,7 +5,7 @@ use Rattle.tm_disk.specs.Moments.{after_write}
 use Rattle.tm_disk.specs.Count.{raised}
 use Rattle.tm_disk.specs.Plan.{faulted}
 use Rattle.tm_disk.specs.MemState.{mem_state}
-use Rattle.tm_disk.specs.declared.record.Written.{Written}
+use Rattle.tm_disk.specs.Written.{Written}
 use Rattle.tm_disk.specs.declared.plan.Plan.{Plan}
 use Rattle.tm_disk.proofs.States.{write_tries, write_does, raised_more, at_ok}
 use Rattle.tm_disk.proofs.mem_disk.MemDiskDisk.write.Goals as goal
