@@ -278,7 +278,7 @@ module _ (system : System) (valid : IsSystem system) (n : ℕ) (moment : Moment)
   units_touched (u ∷ some) all =
       (subst (λ (cs : List Change). touching.AreTouched slots.stores cs) (sym all.0.keeps) (region_touched (touched_in all.0.region slots) (have.touched all.0.region)), units_touched some all.1)
 
-  -- so `snapshot_records` may write them
+  -- so a snapshot may have them
   pub are_open : touching.AreOpen slots.stores opens
   are_open = record { each = units_touched opens o.each; ascending = o.ascending }
 

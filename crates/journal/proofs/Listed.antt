@@ -1,4 +1,4 @@
--- Open units that are listed by their numbers, as `open_units` puts them together, are those of the regions.
+-- Open units that are listed by their numbers, as `insert` puts them together, are those of the regions.
 use Rattle.std.proofs.Common.{◌≡◌, ℕ, zero, suc, ◌-◌, ◌<◌, ◌≤◌, Bool, true, false, nat_lt, List, [], ◌∷◌, length, refl, sym, ◌∙◌, ap, subst, arith, Some, None}
 use Rattle.std.specs.Prelude.{map, slice_get, if◌then◌else◌}
 use Rattle.std.specs.List.{AllByRecursion}
