@@ -3,3 +3,4 @@ pub mod Hierarchy
 pub mod Places
 pub mod Commands
 pub mod DigitSteps
+pub mod KeyOrder
