@@ -156,7 +156,10 @@ fn lives(rt: HostRuntime) -> Result<(), Fail> {
         disk_of(alloc, 1517, &[])?,
     )?;
     assert_eq!(rt; report.lives.len(), 1);
-    assert!(rt; report.lives.first().is_some_and(|life| *life == (0, 0)));
+    for (history, kept) in &report.lives {
+        assert_eq!(rt; *history, 0);
+        assert_eq!(rt; *kept, 0);
+    }
     let there: &[u8] = b"LTERM T1 IN 1 OUT 1 KEPT 0 STARTED\n";
     let empty: &[u8] = b"LTERM T1 IN 0 OUT 0 KEPT 0 STARTED\n";
     let table: [(&[u8], &[u8]); 3] = [
@@ -178,7 +181,10 @@ fn lives(rt: HostRuntime) -> Result<(), Fail> {
         )?;
         assert_eq!(rt; report.status, 0);
         assert!(rt; report.printed.ends_with(shown));
-        assert_eq!(rt; report.lives.first().map_or(0, |life| life.1), 3);
+        let Some((_, kept)) = report.lives.first() else {
+            return Err("no life is told".into());
+        };
+        assert_eq!(rt; *kept, 3);
         assert_eq!(rt; report.stops, 1);
     }
     Ok(())
