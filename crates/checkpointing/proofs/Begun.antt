@@ -23,7 +23,7 @@ use Rattle.restart_data.specs.declared.restart.RestartSector.{RestartSector}
 use Rattle.restart_data.specs.Fields.{number2_at, are_zeros}
 use Rattle.restart_data.specs.Restart.{restart_in}
 use Rattle.restart_data.specs.Snapshot.{snapshot_in}
-use Rattle.restart_data.proofs.Zeros.{blank_is, take-zeros, drop-zeros, are_zeros-zeros}
+use Rattle.restart_data.proofs.Zeros.{are_zeros-zeros}
 use Rattle.model_image.specs.Areas.{snapshot_area, snapshot_first, log_first, data_first}
 use Rattle.model_image.specs.Cut.{Cut, cut_of, IsCutOff}
 use Rattle.model_image.specs.Faults.{Fault, in_sector, unless_fault}
@@ -41,6 +41,7 @@ use Rattle.checkpointing.proofs.Told.{without_rows, state_told}
 use Rattle.checkpointing.proofs.Plain.{none_named}
 use Rattle.checkpointing.proofs.Judged.{AreCounts}
 use Rattle.checkpointing.proofs.Read.{no_changes, read_from}
+use Rattle.tm_disk.proofs.Zeros.{blank_is, take-zeros, drop-zeros}
 
 -- ---- a blank sector
 

@@ -22,7 +22,8 @@ use Rattle.model_image.specs.Snapshot.{told, told_by, snapshot_state, with_kept}
 use Rattle.checkpointing.specs.Records.{terminal_records, code_record, message_record, reply_record, reply_records, snapshot_records, code_names, AreApart, IsOfSystem}
 use Rattle.checkpointing.specs.Changes.{IsChange}
 use Rattle.checkpointing.proofs.Changed.{changes_told}
-use Rattle.checkpointing.proofs.Named.{position_more, change_among, place_among, map_among, change_named, put_all, Pairs, Puts, put_each, regroup}
+use Rattle.checkpointing.proofs.Named.{change_among, place_among, map_among, change_named, put_all, Pairs, Puts, put_each, regroup}
+use Rattle.tm_types.proofs.Positions.{position_more}
 
 -- ---- records one after another
 

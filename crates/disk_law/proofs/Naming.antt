@@ -14,6 +14,7 @@ use Rattle.disk_law.proofs.Slots.{quiet_keeps}
 use Rattle.image_law.proofs.Bools.{first_of, second_of, neither_first, neither_second}
 use Rattle.image_law.proofs.Lists.{none_filter}
 use Rattle.disk_law.specs.Quiet.{is_quiet}
+use Rattle.model_image.proofs.Readings.{not_both}
 
 -- what the changes of a slot say, by which of them count
 abbrev named_of : (Record → Bool) → List Record → Option (List ℕ)
@@ -54,10 +55,6 @@ pub unnamed_before : (snapshot log more : List Record) (d s : ℕ) → named_by 
 unnamed_before snapshot log more d s none =
     unchanged_unnamed snapshot log d s
     (front_empty (changes_of (snapshot ++ log) d s) (changes_of more d s) (sym (all_behind snapshot log more d s) ∙ unnamed_changes snapshot (log ++ more) d s none))
-
-not_both : (o : Option (List ℕ)) → o ≡ None → IsSome o → ⊥
-not_both None e some = cc
-not_both (Some x) e some = cc
 
 -- and one that was named stays so
 pub named_stays : (snapshot log more : List Record) (d s : ℕ) → IsSome (named_by snapshot log d s) → IsSome (named_by snapshot (log ++ more) d s)

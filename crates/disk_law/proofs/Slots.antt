@@ -12,7 +12,8 @@ use Rattle.log_records.specs.declared.record.Record.TheVariants.{Input, Command,
 use Rattle.model_messages.specs.declared.conversation.PadChange.{PadChange}
 use Rattle.model_image.specs.Slots.{is_change_of, is_sync_point_of, is_synced, before_image, after_image, named_by}
 use Rattle.disk_law.specs.Committed.{Touch, Touches, Bytes, changes_of, last_change, is_by, IsLast, AreCommitted, IsTold, TellsTouches, is_place, touched, with_touch, without_touches, without_sync, synced}
-use Rattle.image_law.proofs.Bools.{both, first_of, second_of, neither_first, neither_second, not_true, not_of_false}
+use Rattle.image_law.proofs.Bools.{first_of, second_of, neither_first, neither_second, not_true, not_of_false}
+use Rattle.tm_types.proofs.Truths.{both}
 
 -- ---- numbers and places that are compared
 

@@ -13,7 +13,6 @@ use Rattle.tm_disk.specs.Disk.{Image}
 use Rattle.model_system.specs.System.{System}
 use Rattle.model_machine.specs.Machine.{LastingState, Slot}
 use Rattle.model_data.specs.Table.{EnqueueTable}
-use Rattle.pi_enqueue.proofs.Keys.{eqb_back}
 use Rattle.log_records.specs.declared.record.Record.{Record}
 use Rattle.log_records.specs.declared.record.Record.TheVariants as record_of
 use Rattle.log_records.specs.Spelling.{spelling, IsRecord}
@@ -43,6 +42,7 @@ use Rattle.journal.proofs.Holding.{one_holder}
 use Rattle.journal.proofs.Numbers.{same_or_apart}
 use Rattle.journal.proofs.Places.{is_among, IsAmong, among_holds}
 use Rattle.journal.proofs.Stores.{has_stores, stands_so, marked_so, stays_there, known_slot_of}
+use Rattle.tm_types.proofs.Ordered.{eqb_back}
 
 -- ---- slots as changes
 

@@ -12,7 +12,7 @@ pub changes_none : (at count : ℕ) (image : Image) → ChangesOnly at count ima
 changes_none at count image = record { size = refl; below = λ k lt. refl; above = λ k le. refl }
 
 -- a write within the area
-changes_write : (at count p : ℕ) (before mid : Image) (sector : List ℕ) → at ≤ p → p < at + count → ChangesOnly at count before mid → ChangesOnly at count before (with_sector mid p sector)
+pub changes_write : (at count p : ℕ) (before mid : Image) (sector : List ℕ) → at ≤ p → p < at + count → ChangesOnly at count before mid → ChangesOnly at count before (with_sector mid p sector)
 changes_write at count p before mid sector low high changes = record {
   size = length-set mid p sector ∙ changes.size;
   below = λ k lt. get_or-set_other mid p k sector [] (λ e. omega (arith, e, low, lt)) ∙ changes.below k lt;

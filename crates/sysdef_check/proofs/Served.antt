@@ -19,8 +19,9 @@ use Rattle.sysdef_rules.specs.declared.cross.CrossRule.TheVariants.{CodeTwice, P
 use Rattle.sysdef_rules.specs.Cross.{breaks_application, breaks_code, broken_line, first_line}
 use Rattle.sysdef_rules.specs.Lookups.{has, is_code, is_program, is_terminal}
 use Rattle.sysdef_check.specs.Systems.{and_then, code_in, codes_in, psb_after, pcbs_for, program_in, programs_in}
-use Rattle.sysdef_check.proofs.Kept.{neither, not_broken}
+use Rattle.sysdef_check.proofs.Kept.{not_broken}
 use Rattle.sysdef_check.proofs.Made.{either_false, made_holds, none_holds}
+use Rattle.tm_types.proofs.Truths.{neither}
 
 pub not_false : (b : Bool) → not b ≡ false → b ≡ true
 not_false true h = refl

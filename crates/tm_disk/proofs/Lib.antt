@@ -5,3 +5,4 @@ pub mod Keeping
 pub mod Past
 pub mod States
 pub mod Numbers
+pub mod Zeros

@@ -19,7 +19,7 @@ use Rattle.log_sectors.proofs.Sealing.{opened-blank}
 use Rattle.restart_data.specs.declared.restart.RestartSector.{RestartSector}
 use Rattle.restart_data.specs.Restart.{IsRestart, restart_in}
 use Rattle.restart_data.specs.Fields.{number2_at, are_zeros}
-use Rattle.restart_data.proofs.Zeros.{blank_is, take-zeros, drop-zeros, are_zeros-zeros}
+use Rattle.restart_data.proofs.Zeros.{are_zeros-zeros}
 use Rattle.seg_store.specs.Slots.{Stored, free_slots}
 use Rattle.seg_store.specs.Stores.{empty_store, empty_stores}
 use Rattle.system_types.specs.Valid.{IsSystem}
@@ -52,6 +52,7 @@ use Rattle.openings.specs.Opening.{IsBegun, MayBegin, counters, first_spent}
 use Rattle.openings.specs.Parts.{OpeningParts}
 use Rattle.openings.specs.Renewal.{IsRenewed}
 use Rattle.openings.proofs.TextBack.{text_back}
+use Rattle.tm_disk.proofs.Zeros.{blank_is, take-zeros, drop-zeros}
 
 -- ---- restart sectors
 

@@ -3,3 +3,7 @@ pub mod Hierarchy
 pub mod Places
 pub mod Commands
 pub mod DigitSteps
+pub mod Parted
+pub mod Positions
+pub mod Ordered
+pub mod Truths
