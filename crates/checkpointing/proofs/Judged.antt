@@ -25,7 +25,7 @@ use Rattle.checkpointing.specs.Records.{terminal_records, code_record, message_r
 use Rattle.checkpointing.specs.Changes.{IsChange, AreChanges}
 use Rattle.checkpointing.proofs.Changed.{changes_no_terminal, changes_no_code, changes_no_reply, named_before}
 use Rattle.checkpointing.proofs.Named.{regroup, place_among, position_map}
-use Rattle.checkpointing.proofs.Told.{AreOne, one_names, state_told}
+use Rattle.checkpointing.proofs.Told.{AreOne, one_names, state_told, of_output}
 use Rattle.checkpointing.proofs.Plain.{state_sections, ascend_more, le_is, are_both}
 
 -- ---- names
@@ -93,9 +93,6 @@ same_is [] = refl
 same_is (n ∷ ns) = are_both (bytes_eq n n) (are_same ns ns) ((bytes_eq-Decides n n).1 refl) (same_is ns)
 
 -- ---- the terminals of the replies
-
-abbrev of_output : TerminalReplies → List ℕ
-of_output o = o.terminal
 
 module _ (names : List (List ℕ)) (apart : AreApart names) where
   placed : (done : List TerminalReplies) (o : TerminalReplies) (rest : List TerminalReplies) → map of_output (done ++ o ∷ rest) ≡ names → position (λ other. bytes_eq other o.terminal) names ≡ Some (length done)

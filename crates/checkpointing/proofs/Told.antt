@@ -98,7 +98,7 @@ with_lists state ts os cs = record state { terminals = ts; outputs = os; convers
 abbrev name_of : TerminalState → List ℕ
 name_of t = t.name
 
-abbrev of_output : TerminalReplies → List ℕ
+abbrev pub of_output : TerminalReplies → List ℕ
 of_output o = o.terminal
 
 abbrev of_conversation : TerminalConversation → List ℕ

@@ -21,16 +21,9 @@ use Rattle.model_session.specs.Session.{AreServed, IsServedUp, IsServedDown, Ser
 use Rattle.session_law.specs.Resending.{HasAlways, IsKeptBy, asks_only, all_ask_only}
 use Rattle.tm_types.proofs.Truths.{both}
 use Rattle.model_session.proofs.Kept.{head_is, tail_is}
+use Rattle.image_law.proofs.Bools.{first_of, second_of}
 
 -- ---- Booleans and lists
-
-first_of : (a b : Bool) → a && b ≡ true → a ≡ true
-first_of true b x = refl
-first_of false b x = x
-
-second_of : (a b : Bool) → a && b ≡ true → b ≡ true
-second_of true b x = x
-second_of false b x = cc
 
 -- the last of a list belongs to its front or to its rest
 pub record EndsRest {X : Type 0} (xs : List X) (x : X) (front rest : List X) : Type 0 where

@@ -100,7 +100,7 @@ prefix_number before others name there =
     ap (λ o. option_map_or (λ place. place + 1) o 0)
     (position_from-zero test (before ++ others) ∙ prefix_from test 0 before others there ∙ sym (position_from-zero test before))
 
-not_false : (b : Bool) → not b ≡ false → b ≡ true
+pub not_false : (b : Bool) → not b ≡ false → b ≡ true
 not_false true h = refl
 not_false false h = absurd (false≢true (sym h))
 
