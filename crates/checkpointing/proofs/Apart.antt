@@ -6,8 +6,9 @@ use Rattle.std.proofs.lemmas.Option.{none-some, same_Some}
 use Rattle.model_system.specs.declared.code.Code.{Code}
 use Rattle.model_system.specs.System.{System}
 use Rattle.system_types.specs.Valid.{IsSystem}
-use Rattle.checkpointing.specs.Records.{code_names, AreApart}
+use Rattle.checkpointing.specs.Records.{AreApart}
 use Rattle.checkpointing.proofs.Named.{position_map}
+use Rattle.model_image.specs.Snapshot.{code_names}
 
 pub record Named (codes : List Code) (place : ℕ) (name : List ℕ) : Type 0 where
   pub code : Code

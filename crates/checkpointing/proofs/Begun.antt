@@ -36,12 +36,13 @@ use Rattle.model_image.proofs.Answers.{nothing_cut_off}
 use Rattle.model_image.proofs.Places.{slot_above, slot_below, both_logs, log_above, log_below}
 use Rattle.model_image.proofs.Alike.{IsSlotOf}
 use Rattle.seg_store.specs.Slots.{rows_of_slots, with_rows}
-use Rattle.checkpointing.specs.Records.{snapshot_records, code_names, AreApart, IsOfSystem}
+use Rattle.checkpointing.specs.Records.{snapshot_records, AreApart, IsOfSystem}
 use Rattle.checkpointing.proofs.Told.{without_rows, state_told}
 use Rattle.checkpointing.proofs.Plain.{none_named}
 use Rattle.checkpointing.proofs.Judged.{AreCounts}
 use Rattle.checkpointing.proofs.Read.{no_changes, read_from}
 use Rattle.tm_disk.proofs.Zeros.{blank_is, take-zeros, drop-zeros}
+use Rattle.model_image.specs.Snapshot.{code_names}
 
 -- ---- a blank sector
 

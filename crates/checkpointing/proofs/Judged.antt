@@ -19,9 +19,9 @@ use Rattle.log_records.specs.declared.record.Record.{Record}
 use Rattle.log_records.specs.declared.record.Record.TheVariants.{Checkpoint, Terminal}
 use Rattle.restart_data.specs.Rules.{first_broken}
 use Rattle.model_image.specs.States.{is_terminal, is_small, is_next, wrong_values, wrong_ids, unknown_messages, wrong_replies, over_full, breaks_a_rule}
-use Rattle.model_image.specs.Snapshot.{is_of_no_unit, terminal_name, code_name, reply_terminal, are_same, are_others_in_order, has_name, ascend_places, follow, snapshot_rules, out_of_order, missing_or_twice, wrong_record, reply_of_none, wrong_changes, begins_with_counts, ascend}
+use Rattle.model_image.specs.Snapshot.{is_of_no_unit, terminal_name, code_name, reply_terminal, are_same, are_others_in_order, has_name, ascend_places, follow, snapshot_rules, out_of_order, missing_or_twice, wrong_record, reply_of_none, wrong_changes, begins_with_counts, ascend, code_names}
 use Rattle.model_image.specs.Slots.{is_image_of}
-use Rattle.checkpointing.specs.Records.{terminal_records, code_record, message_record, reply_record, reply_records, snapshot_records, code_names, AreApart, IsOfSystem}
+use Rattle.checkpointing.specs.Records.{terminal_records, code_record, message_record, reply_record, reply_records, snapshot_records, AreApart, IsOfSystem}
 use Rattle.checkpointing.specs.Changes.{IsChange, AreChanges}
 use Rattle.checkpointing.proofs.Changed.{changes_no_terminal, changes_no_code, changes_no_reply, named_before}
 use Rattle.checkpointing.proofs.Named.{regroup, place_among, position_map}

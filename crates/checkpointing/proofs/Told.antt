@@ -18,8 +18,8 @@ use Rattle.model_machine.specs.declared.lasting.CodeSetting.{CodeSetting}
 use Rattle.model_machine.specs.Machine.{LastingState, empty_state, fresh_terminal_state, first_setting}
 use Rattle.log_records.specs.declared.record.Record.{Record}
 use Rattle.log_records.specs.declared.record.Record.TheVariants.{Terminal}
-use Rattle.model_image.specs.Snapshot.{told, told_by, snapshot_state, with_kept}
-use Rattle.checkpointing.specs.Records.{terminal_records, code_record, message_record, reply_record, reply_records, snapshot_records, code_names, AreApart, IsOfSystem}
+use Rattle.model_image.specs.Snapshot.{told, told_by, snapshot_state, with_kept, code_names}
+use Rattle.checkpointing.specs.Records.{terminal_records, code_record, message_record, reply_record, reply_records, snapshot_records, AreApart, IsOfSystem}
 use Rattle.checkpointing.specs.Changes.{IsChange}
 use Rattle.checkpointing.proofs.Changed.{changes_told}
 use Rattle.checkpointing.proofs.Named.{change_among, place_among, map_among, change_named, put_all, Pairs, Puts, put_each, regroup}

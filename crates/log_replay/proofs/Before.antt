@@ -14,9 +14,10 @@ use Rattle.image_law.proofs.Bools.{first_of, second_of}
 use Rattle.image_law.proofs.SoundLaws.{is_sound}
 use Rattle.image_law.proofs.Kept.{stands}
 use Rattle.log_replay.specs.Steps.{is_over}
-use Rattle.log_replay.specs.Judged.{lasting_in, is_run, KeepsRest, IsOrderly, AreFree, AreSound, AreSmall, Does, Leaves}
+use Rattle.log_replay.specs.Judged.{lasting_in, KeepsRest, IsOrderly, AreFree, AreSound, AreSmall, Does, Leaves}
 use Rattle.log_replay.proofs.Orders.{not_small}
 use Rattle.tm_types.proofs.Truths.{both}
+use Rattle.image_law.specs.Standing.{is_run}
 
 small_from : (outputs : List TerminalReplies) → list_all (λ t. is_next t.next) outputs ≡ true → list_any not_small outputs ≡ false
 small_from [] all = refl

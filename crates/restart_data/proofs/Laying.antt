@@ -2,10 +2,10 @@
 use Rattle.std.proofs.Common.{◌≡◌, ℕ, ◌+◌, ◌<◌, ◌≤◌, ◌^◌, List, [], length, refl, sym, ◌∙◌, ap, subst, ⊎_elim, arith}
 use Rattle.std.proofs.lemmas.Bool.{cases_lt}
 use Rattle.std.proofs.lemmas.List.{get_or-set_same, get_or-set_other, length-set}
-use Rattle.tm_disk.specs.Disk.{Image, DiskState, sector_at, with_sector, MayWrite, Elapses, Follows, Within}
+use Rattle.tm_disk.specs.Disk.{Image, DiskState, sector_at, with_sector, MayWrite, Elapses, Follows, Within, ChangesOnly}
 use Rattle.tm_disk.proofs.Words.{within_on, follows_on}
 use Rattle.restart_data.specs.Snapshot.{snapshot_sector, sectors_of, piece}
-use Rattle.restart_data.specs.Images.{ChangesOnly, Saves}
+use Rattle.restart_data.specs.Images.{Saves}
 use Rattle.restart_data.proofs.SnapshotBack.{needs_sectors, parts_back}
 
 pub changes_none : (at count : ℕ) (image : Image) → ChangesOnly at count image image
