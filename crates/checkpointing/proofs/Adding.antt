@@ -1,8 +1,8 @@
 -- Records that are appended, one after another.
-use Rattle.std.proofs.Common.{◌≡◌, ℕ, zero, suc, ◌+◌, ◌≤◌, List, [], ◌∷◌, ◌++◌, length, drop, arith, refl, sym, ◌∙◌, ap, subst, Some, None, append_assoc, append-nil, add-one}
+use Rattle.std.proofs.Common.{◌≡◌, ℕ, zero, suc, ◌+◌, ◌≤◌, List, [], ◌∷◌, ◌++◌, length, drop, arith, refl, sym, ◌∙◌, ap, subst, Some, None, append_assoc, append-nil}
 use Rattle.std.specs.Prelude.{slice_get}
 use Rattle.std.specs.List.{flat_map, AllByRecursion}
-use Rattle.std.proofs.lemmas.Option.{same_Some, none-some}
+use Rattle.std.proofs.lemmas.Option.{none-some}
 use Rattle.std.proofs.lemmas.List.Concat.{flat_map-cons, flat_map-append}
 use Rattle.model_messages.specs.declared.conversation.TerminalConversation.{TerminalConversation}
 use Rattle.model_messages.specs.declared.replies.TerminalReplies.{TerminalReplies}
@@ -12,13 +12,11 @@ use Rattle.log_records.specs.declared.record.Record.TheVariants.{Terminal}
 use Rattle.log_records.specs.Spelling.{spelling, IsRecord}
 use Rattle.checkpointing.specs.Records.{terminal_records}
 use Rattle.checkpointing.specs.Spelled.{Adds}
+use Rattle.log_records.proofs.Told.{all_both}
+use Rattle.tm_types.proofs.Parted.{drop_more}
 
 pub adds_none : (before : List ℕ) → Adds [] before before
 adds_none before = record { bytes = sym (append-nil before); valid = tt }
-
-all_both : (some more : List Record) → AllByRecursion IsRecord some → AllByRecursion IsRecord more → AllByRecursion IsRecord (some ++ more)
-all_both [] more a b = b
-all_both (r ∷ some) more a b = (a.0, all_both some more a.1 b)
 
 pub adds_both : (some more : List Record) (before middle after : List ℕ) → Adds some before middle → Adds more middle after → Adds (some ++ more) before after
 adds_both some more before middle after a b = record {
@@ -73,13 +71,6 @@ drop_beyond [] zero none = refl
 drop_beyond [] (suc i) none = refl
 drop_beyond (x ∷ xs) zero none = absurd (none-some x (sym none))
 drop_beyond (x ∷ xs) (suc i) none = drop_beyond xs i none
-
-pub drop_more : {X : Type 0} (xs : List X) (i : ℕ) (x : X) → slice_get xs i ≡ Some x → drop i xs ≡ x ∷ drop (i + 1) xs
-drop_more {X} xs i x is = rw add-one (go xs i x is) where
-  go : (ys : List X) (k : ℕ) (y : X) → slice_get ys k ≡ Some y → drop k ys ≡ y ∷ drop (suc k) ys
-  go [] k y e = absurd (none-some y e)
-  go (z ∷ ys) zero y e = ap (λ (w : X). w ∷ ys) (same_Some z y e)
-  go (z ∷ ys) (suc k) y e = go ys k y e
 
 pub terminals_more : (ts : List TerminalState) (os : List TerminalReplies) (cs : List TerminalConversation) (i : ℕ) (t : TerminalState) (o : TerminalReplies) (c : TerminalConversation) → slice_get ts i ≡ Some t → slice_get os i ≡ Some o → slice_get cs i ≡ Some c
     → terminal_records (drop i ts) (drop i os) (drop i cs) ≡ Terminal t.name t.last o.next t.stopped c.conversation ∷ terminal_records (drop (i + 1) ts) (drop (i + 1) os) (drop (i + 1) cs)

@@ -23,7 +23,7 @@ use Rattle.restart_data.specs.declared.restart.RestartSector.{RestartSector}
 use Rattle.restart_data.specs.Fields.{number2_at, are_zeros}
 use Rattle.restart_data.specs.Restart.{restart_in}
 use Rattle.restart_data.specs.Snapshot.{snapshot_in}
-use Rattle.restart_data.proofs.Zeros.{blank_is, take-zeros, drop-zeros, are_zeros-zeros}
+use Rattle.restart_data.proofs.Zeros.{are_zeros-zeros}
 use Rattle.model_image.specs.Areas.{snapshot_area, snapshot_first, log_first, data_first}
 use Rattle.model_image.specs.Cut.{Cut, cut_of, IsCutOff}
 use Rattle.model_image.specs.Faults.{Fault, in_sector, unless_fault}
@@ -36,11 +36,13 @@ use Rattle.model_image.proofs.Answers.{nothing_cut_off}
 use Rattle.model_image.proofs.Places.{slot_above, slot_below, both_logs, log_above, log_below}
 use Rattle.model_image.proofs.Alike.{IsSlotOf}
 use Rattle.seg_store.specs.Slots.{rows_of_slots, with_rows}
-use Rattle.checkpointing.specs.Records.{snapshot_records, code_names, AreApart, IsOfSystem}
+use Rattle.checkpointing.specs.Records.{snapshot_records, AreApart, IsOfSystem}
 use Rattle.checkpointing.proofs.Told.{without_rows, state_told}
 use Rattle.checkpointing.proofs.Plain.{none_named}
 use Rattle.checkpointing.proofs.Judged.{AreCounts}
 use Rattle.checkpointing.proofs.Read.{no_changes, read_from}
+use Rattle.tm_disk.proofs.Zeros.{blank_is, take-zeros, drop-zeros}
+use Rattle.model_image.specs.Snapshot.{code_names}
 
 -- ---- a blank sector
 
@@ -48,7 +50,7 @@ front_blank : (at count : ℕ) → at + count ≤ 4096 → take count (drop at b
 front_blank at count fits =
     ap (λ (l : List ℕ). take count (drop at l)) blank_is ∙ ap (take count) (drop-zeros at 4096) ∙ take-zeros count (4096 - at) (omega (arith, fits))
 
-two_zeros : from_be_bytes w16 (zeros 2) ≡ 0
+pub two_zeros : from_be_bytes w16 (zeros 2) ≡ 0
 unfolding zeros
 two_zeros = refl
 
@@ -202,24 +204,24 @@ chain_none (suc n) image at sequence epoch blanks =
     ap (λ (s : List ℕ). before (opened epoch sequence s) (chain n image (at + 1) (sequence + 1) epoch)) (blanks at (omega arith) (omega arith))
     ∙ ap (λ (payload : Option (List ℕ)). before payload (chain n image (at + 1) (sequence + 1) epoch)) (opened-blank epoch sequence)
 
-nothing_cut : cut_of [] ≡ record { records = []; rest = [] }
+pub nothing_cut : cut_of [] ≡ record { records = []; rest = [] }
 unfolding cut_of
 nothing_cut = refl
 
-bind_is : {A B : Type 0} (a : Result A Fault) (f : A → Result B Fault) (x : A) → a ≡ Ok x → (a >>= f) ≡ f x
+pub bind_is : {A B : Type 0} (a : Result A Fault) (f : A → Result B Fault) (x : A) → a ≡ Ok x → (a >>= f) ≡ f x
 bind_is a f x is = ap (λ r. r >>= f) is
 
 -- what is left of the recovery, once the records are there
-abbrev of_rows : System → Image → RestartSector → LastingState → List (List Row) → Result LastingState Fault
+abbrev pub of_rows : System → Image → RestartSector → LastingState → List (List Row) → Result LastingState Fault
 of_rows system image now lasting rows = unless_fault (later_sector system image now) (record lasting { rows = rows })
 
-abbrev of_state : System → Image → RestartSector → List Record → List Record → LastingState → Result LastingState Fault
+abbrev pub of_state : System → Image → RestartSector → List Record → List Record → LastingState → Result LastingState Fault
 of_state system image now records log lasting = rows_from system image records log >>= λ rows. of_rows system image now lasting rows
 
-abbrev of_log : System → Image → RestartSector → List Record → List Record → Result LastingState Fault
+abbrev pub of_log : System → Image → RestartSector → List Record → List Record → Result LastingState Fault
 of_log system image now records log = state_from system now records log >>= λ lasting. of_state system image now records log lasting
 
-abbrev of_snapshot : System → Image → RestartSector → List Record → Result LastingState Fault
+abbrev pub of_snapshot : System → Image → RestartSector → List Record → Result LastingState Fault
 of_snapshot system image now records = log_from system image now true >>= λ log. of_log system image now records log
 
 -- The image has this restart sector, and the bytes of these records as its snapshot; the logs and the data are blank.

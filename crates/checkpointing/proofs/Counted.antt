@@ -18,7 +18,7 @@ use Rattle.model_image.proofs.Ahead.{ahead_empty}
 use Rattle.model_image.proofs.Alike.{ImagesAlike, AreasAlike, snapshot_same, log_alike}
 use Rattle.checkpointing.specs.Counts.{AreUpTo, CountsUpTo, RaisesCounts}
 
-one_restart : {E : Type 0} (x : Result (Option RestartSector) E) (r s : RestartSector) → x ≡ Ok (Some r) → x ≡ Ok (Some s) → r ≡ s
+pub one_restart : {E : Type 0} (x : Result (Option RestartSector) E) (r s : RestartSector) → x ≡ Ok (Some r) → x ≡ Ok (Some s) → r ≡ s
 one_restart x r s one other = cc
 
 one_snapshot : {E : Type 0} (x : Result (List Record) E) (r s : List Record) → x ≡ Ok r → x ≡ Ok s → r ≡ s

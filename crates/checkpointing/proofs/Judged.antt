@@ -19,13 +19,13 @@ use Rattle.log_records.specs.declared.record.Record.{Record}
 use Rattle.log_records.specs.declared.record.Record.TheVariants.{Checkpoint, Terminal}
 use Rattle.restart_data.specs.Rules.{first_broken}
 use Rattle.model_image.specs.States.{is_terminal, is_small, is_next, wrong_values, wrong_ids, unknown_messages, wrong_replies, over_full, breaks_a_rule}
-use Rattle.model_image.specs.Snapshot.{is_of_no_unit, terminal_name, code_name, reply_terminal, are_same, are_others_in_order, has_name, ascend_places, follow, snapshot_rules, out_of_order, missing_or_twice, wrong_record, reply_of_none, wrong_changes, begins_with_counts, ascend}
+use Rattle.model_image.specs.Snapshot.{is_of_no_unit, terminal_name, code_name, reply_terminal, are_same, are_others_in_order, has_name, ascend_places, follow, snapshot_rules, out_of_order, missing_or_twice, wrong_record, reply_of_none, wrong_changes, begins_with_counts, ascend, code_names}
 use Rattle.model_image.specs.Slots.{is_image_of}
-use Rattle.checkpointing.specs.Records.{terminal_records, code_record, message_record, reply_record, reply_records, snapshot_records, code_names, AreApart, IsOfSystem}
+use Rattle.checkpointing.specs.Records.{terminal_records, code_record, message_record, reply_record, reply_records, snapshot_records, AreApart, IsOfSystem}
 use Rattle.checkpointing.specs.Changes.{IsChange, AreChanges}
 use Rattle.checkpointing.proofs.Changed.{changes_no_terminal, changes_no_code, changes_no_reply, named_before}
 use Rattle.checkpointing.proofs.Named.{regroup, place_among, position_map}
-use Rattle.checkpointing.proofs.Told.{AreOne, one_names, state_told}
+use Rattle.checkpointing.proofs.Told.{AreOne, one_names, state_told, of_output}
 use Rattle.checkpointing.proofs.Plain.{state_sections, ascend_more, le_is, are_both}
 
 -- ---- names
@@ -93,9 +93,6 @@ same_is [] = refl
 same_is (n ∷ ns) = are_both (bytes_eq n n) (are_same ns ns) ((bytes_eq-Decides n n).1 refl) (same_is ns)
 
 -- ---- the terminals of the replies
-
-abbrev of_output : TerminalReplies → List ℕ
-of_output o = o.terminal
 
 module _ (names : List (List ℕ)) (apart : AreApart names) where
   placed : (done : List TerminalReplies) (o : TerminalReplies) (rest : List TerminalReplies) → map of_output (done ++ o ∷ rest) ≡ names → position (λ other. bytes_eq other o.terminal) names ≡ Some (length done)

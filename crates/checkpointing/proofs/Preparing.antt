@@ -1,9 +1,8 @@
 -- All steps before the restart sector.
 use Rattle.std.proofs.Common.{◌≡◌, ◌⊎◌, ℕ, ◌+◌, ◌*◌, ◌<◌, ◌≤◌, ⊎_elim, inl, inr, ◌∙◌, arith}
 use Rattle.std.proofs.lemmas.Bool.{cases_lt}
-use Rattle.tm_disk.specs.Disk.{Image, DiskState, sector_at, Follows, Within}
+use Rattle.tm_disk.specs.Disk.{Image, DiskState, sector_at, Follows, Within, ChangesOnly}
 use Rattle.tm_disk.proofs.Words.{follows_on}
-use Rattle.restart_data.specs.Images.{ChangesOnly}
 use Rattle.restart_data.specs.Snapshot as snapshot
 use Rattle.log_writer.specs.Writer.{Writer}
 use Rattle.log_writer.specs.Log.{AddsFront, AddsAll}

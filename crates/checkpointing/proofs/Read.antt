@@ -16,10 +16,10 @@ use Rattle.model_image.specs.Counters.{told_unit}
 use Rattle.model_image.specs.Cut.{records_of}
 use Rattle.model_image.specs.Faults.{Fault, in_sector, unless_any, or_fault}
 use Rattle.model_image.specs.Recovered.{snapshot_from}
-use Rattle.model_image.specs.Snapshot.{snapshot_state, snapshot_rules}
+use Rattle.model_image.specs.Snapshot.{snapshot_state, snapshot_rules, code_names}
 use Rattle.model_image.specs.States.{breaks_a_rule}
 use Rattle.model_image.proofs.Cutting.{records_whole}
-use Rattle.checkpointing.specs.Records.{snapshot_records, code_names, AreApart, IsOfSystem}
+use Rattle.checkpointing.specs.Records.{snapshot_records, AreApart, IsOfSystem}
 use Rattle.checkpointing.specs.Changes.{AreChanges}
 use Rattle.checkpointing.proofs.Told.{without_rows, state_told}
 use Rattle.checkpointing.proofs.Judged.{AreCounts, no_rule_broken}

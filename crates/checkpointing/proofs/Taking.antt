@@ -1,11 +1,11 @@
 -- The whole of a checkpoint on a disk.
 use Rattle.std.proofs.Common.{◌≡◌, ℕ, ◌+◌, ◌*◌, ◌<◌, ◌≤◌, ◌^◌, [], refl, ap, length, ⊎_elim, inl, inr, ◌∙◌, arith, sym, subst}
-use Rattle.tm_disk.specs.Disk.{Image, DiskState, IsDisk, Follows, Within, MayWrite}
+use Rattle.tm_disk.specs.Disk.{Image, DiskState, IsDisk, Follows, Within, MayWrite, ChangesOnly}
 use Rattle.tm_disk.proofs.Words.{follows_on, follows_where, within_where}
 use Rattle.restart_data.specs.declared.restart.RestartSector.{RestartSector}
 use Rattle.restart_data.specs.Restart.{IsRestart, restart_sector}
 use Rattle.restart_data.specs.Snapshot as snapshot
-use Rattle.restart_data.specs.Images.{ChangesOnly, Restarts}
+use Rattle.restart_data.specs.Images.{Restarts}
 use Rattle.restart_data.proofs.ImageLaws.{restart_either}
 use Rattle.log_sectors.specs.Chain.{joined}
 use Rattle.log_writer.specs.Writer.{Writer}

@@ -18,11 +18,12 @@ use Rattle.model_machine.specs.declared.lasting.CodeSetting.{CodeSetting}
 use Rattle.model_machine.specs.Machine.{LastingState, empty_state, fresh_terminal_state, first_setting}
 use Rattle.log_records.specs.declared.record.Record.{Record}
 use Rattle.log_records.specs.declared.record.Record.TheVariants.{Terminal}
-use Rattle.model_image.specs.Snapshot.{told, told_by, snapshot_state, with_kept}
-use Rattle.checkpointing.specs.Records.{terminal_records, code_record, message_record, reply_record, reply_records, snapshot_records, code_names, AreApart, IsOfSystem}
+use Rattle.model_image.specs.Snapshot.{told, told_by, snapshot_state, with_kept, code_names}
+use Rattle.checkpointing.specs.Records.{terminal_records, code_record, message_record, reply_record, reply_records, snapshot_records, AreApart, IsOfSystem}
 use Rattle.checkpointing.specs.Changes.{IsChange}
 use Rattle.checkpointing.proofs.Changed.{changes_told}
-use Rattle.checkpointing.proofs.Named.{position_more, change_among, place_among, map_among, change_named, put_all, Pairs, Puts, put_each, regroup}
+use Rattle.checkpointing.proofs.Named.{change_among, place_among, map_among, change_named, put_all, Pairs, Puts, put_each, regroup}
+use Rattle.tm_types.proofs.Positions.{position_more}
 
 -- ---- records one after another
 
@@ -97,7 +98,7 @@ with_lists state ts os cs = record state { terminals = ts; outputs = os; convers
 abbrev name_of : TerminalState → List ℕ
 name_of t = t.name
 
-abbrev of_output : TerminalReplies → List ℕ
+abbrev pub of_output : TerminalReplies → List ℕ
 of_output o = o.terminal
 
 abbrev of_conversation : TerminalConversation → List ℕ

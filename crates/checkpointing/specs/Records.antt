@@ -11,6 +11,7 @@ use Rattle.model_machine.specs.Machine.{LastingState}
 use Rattle.log_records.specs.declared.record.Record.{Record}
 pub use Rattle.system_types.specs.Valid.{AreApart}
 use Rattle.log_records.specs.declared.record.Record.TheVariants as record_of
+use Rattle.model_image.specs.Snapshot.{code_names}
 
 -- a terminal with its next output and its conversation, in the order of the definition
 abbrev pub terminal_records : List TerminalState → List TerminalReplies → List TerminalConversation → List Record
@@ -43,9 +44,6 @@ snapshot_records checkpoint unit state changes =
     ++ (map message_record state.messages
     ++ (reply_records state.outputs
     ++ changes))))
-
-abbrev pub code_names : System → List (List ℕ)
-code_names system = map (λ code. code.transaction.code) system.codes
 
 -- what lasts has the terminals and codes of the system, in their order
 pub record IsOfSystem (system : System) (state : LastingState) : Type 0 where

@@ -1,9 +1,9 @@
 //! The parts of a checkpoint, each with the sync that makes it last.
 ghost use Rattle.std.specs.Prelude.{◌≡◌, ◌+◌, ◌*◌, ◌<◌, ◌≤◌, ◌^◌, length, IfOk, OnOk, OnErr};
 ghost use Rattle.std.specs.List.{AllByRecursion};
-ghost use Rattle.tm_disk.specs.Disk.{Stays, Within, Follows, Only, WritesAtMost, FailedSince};
+ghost use Rattle.tm_disk.specs.Disk.{Stays, Within, Follows, Only, WritesAtMost, FailedSince, ChangesOnly};
 ghost use Rattle.restart_data.specs.Snapshot as snapshot;
-ghost use Rattle.restart_data.specs.Images.{ChangesOnly, Saves};
+ghost use Rattle.restart_data.specs.Images.{Saves};
 ghost use Rattle.log_writer.specs.Log.{sectors_of, IsReady};
 ghost use Rattle.seg_store.specs.DataSectors.{MayPut, HasPut};
 ghost use Rattle.seg_store.specs.WriteBack.{slot_count, changed_count, changed_bytes};

@@ -12,12 +12,12 @@ use Rattle.model_data.specs.declared.request.Request.{Request}
 use Rattle.model_data.specs.Modes.{same_resource, serves, holder_cmp}
 use Rattle.model_data.specs.Table.{EnqueueTable, mode_held, is_upgrade, is_against, holders_against, is_own, ahead, blockers, blocked_by, wait_of, waits_for}
 use Rattle.model_data.specs.Ask.{asker, granted_mode, with_hold, placed, granted, waiting, waits_only_for, waits_for_nothing, released, after_asks}
-use Rattle.pi_enqueue.proofs.Keys.{holder_total, holder_exact, resource_exact}
 use Rattle.pi_enqueue.proofs.Ascending.{filter_inserted}
 use Rattle.pi_enqueue.proofs.Granting.{clash, and_split}
 use Rattle.pi_enqueue.proofs.Keeping.{held_released}
 use Rattle.pi_enqueue.proofs.Asking.{AreOf}
 use Rattle.pi_enqueue.proofs.Laws.{others_have}
+use Rattle.model_data.proofs.Holders.{holder_total, holder_exact, resource_exact}
 
 -- between other regions than this one, none waits in the new table for one for which it didn't before
 pub record Fewer (region : ℕ) (new old : EnqueueTable) : Type 0 where

@@ -1,11 +1,10 @@
 -- Ways along the waits, and the rings in which they may end.
-use Rattle.std.proofs.Common.{◌≡◌, ℕ, ◌<◌, ◌≤◌, ◌+◌, ◌∷◌, [], ◌++◌, List, refl, sym, ap, subst, ◌∙◌, arith, Bool, true, false, cond, not, ◌&&◌, ◌||◌, eqb, length, ⊎_elim, append_assoc, length-append}
+use Rattle.std.proofs.Common.{◌≡◌, ℕ, ◌<◌, ◌≤◌, ◌+◌, ◌∷◌, [], ◌++◌, List, refl, sym, ap, subst, ◌∙◌, arith, Bool, true, false, not, ◌&&◌, ◌||◌, eqb, length, ⊎_elim, append_assoc, length-append}
 use Rattle.std.specs.Prelude.{All, nat_eq, Option, None, Some, IfSome, IfNone}
 use Rattle.std.specs.List.{AllByRecursion, IsDistinct, list_any}
 use Rattle.std.specs.Cmp.Lexicographic.{slice_cmp}
 use Rattle.std.specs.Ordering.{nat_cmp, is_gt, ordering_then}
-use Rattle.std.specs.declared.cmp.Ordering.TheVariants.{Less, Equal, Greater}
-use Rattle.std.proofs.lemmas.Bool.{lt-ltb, eq-eqb, ne_eqb, eqb-true, cases_order}
+use Rattle.std.proofs.lemmas.Bool.{eq-eqb, ne_eqb, eqb-true, cases_order}
 use Rattle.std.proofs.lemmas.Cmp.{nat_cmp_total, tied_itself}
 use Rattle.std.proofs.lemmas.List.Elements.{All-cons, All-tail, All-push}
 use Rattle.std.proofs.lemmas.Map.Keys.{IsDistinct-head, IsDistinct-tail, IsDistinct-cons, IsDistinct-push}
@@ -14,9 +13,8 @@ use Rattle.std.proofs.lemmas.Cmp.{nat_eq_equiv}
 use Rattle.model_data.specs.Table.{EnqueueTable, waits_for}
 use Rattle.model_data.specs.Cycle.{IsRegion, WaitsAlong, IsRing, IsCycle, IsLeastCycle, HasNoCycle}
 use Rattle.deadlock_pick.specs.Way.{WaitsTo, IsWayOf, BeginsWith, IsLeastOf, HasNoneOf}
-
-clash : {P : Type 0} → true ≡ false → P
-clash h = absurd (cc)
+use Rattle.pi_enqueue.proofs.Granting.{clash}
+use Rattle.tm_types.proofs.Ordered.{less_from}
 
 -- ---- lists of numbers
 pub each : {A : Type 0} (P : A → Type 0) (xs : List A) → All P xs → AllByRecursion P xs
@@ -45,9 +43,6 @@ front_first (x ∷ xs) ys = ap (λ o. is_gt (ordering_then o (slice_cmp nat_cmp 
 same_front : (ws xs ys : List ℕ) → slice_cmp nat_cmp (ws ++ xs) (ws ++ ys) ≡ slice_cmp nat_cmp xs ys
 same_front [] xs ys = refl
 same_front (w ∷ ws) xs ys = ap (λ o. ordering_then o (slice_cmp nat_cmp (ws ++ xs) (ws ++ ys))) (tied_itself nat_cmp_total w) ∙ same_front ws xs ys
-
-less_from : (a b : ℕ) → a < b → nat_cmp a b ≡ Less
-less_from a b h = ap (λ t. cond t Less (cond (eqb a b) Equal Greater)) (lt-ltb a b h)
 
 append_nil : (xs : List ℕ) → xs ≡ xs ++ []
 append_nil [] = refl

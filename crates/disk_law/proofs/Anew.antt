@@ -9,10 +9,10 @@ use Rattle.log_records.specs.declared.record.Record.TheVariants.{Change}
 use Rattle.model_image.specs.Slots.{is_synced, before_image, after_image, named_by}
 use Rattle.disk_law.specs.Committed.{Touch, Touches, Bytes, changes_of, is_by, IsLast, AreCommitted, IsTold, TellsTouches}
 
-abbrev named_of : (Record → Bool) → List Record → Option (List ℕ)
+abbrev pub named_of : (Record → Bool) → List Record → Option (List ℕ)
 named_of test changes = option_or (option_map after_image (find test (reverse changes))) (option_map before_image (slice_get changes 0))
 
-named_is : (snapshot log : List Record) (database slot : ℕ) → named_by snapshot log database slot ≡ named_of (is_synced log) (changes_of (snapshot ++ log) database slot)
+pub named_is : (snapshot log : List Record) (database slot : ℕ) → named_by snapshot log database slot ≡ named_of (is_synced log) (changes_of (snapshot ++ log) database slot)
 unfolding named_by
 named_is snapshot log database slot = refl
 

@@ -40,13 +40,13 @@ use Rattle.checkpointing.proofs.Slots.{dirty_slot}
 use Rattle.disk_law.specs.Life.{LifeOnDisk, IsLife, EachSlot}
 use Rattle.disk_law.specs.Kept.{IsKept, StandsAt}
 use Rattle.disk_law.proofs.Naming.{unnamed_changes}
-use Rattle.disk_law.proofs.SlotsRead.{data_holds}
 use Rattle.disk_law.proofs.Recovering.{all_at}
 use Rattle.disk_law.proofs.Forcing.{text_same}
 use Rattle.disk_law.proofs.Front.{all_both, recovers, front_recovers}
 use Rattle.disk_law.specs.Checkpointing.{is_changed, parts_with, MayCheckpoint, after_checkpoint}
 use Rattle.disk_law.proofs.Anew.{begins_anew, none_told}
 use Rattle.disk_law.proofs.Stored.{store_of, bytes_of_store, slot_short, dirty_changed, changed_dirty}
+use Rattle.image_loading.proofs.Held.{data_holds}
 
 cut_is : (cut : Cut) (records : List Record) → where_none_left cut.rest cut.records ≡ Some records → cut.records ≡ records
 cut_is cut records is = by_rest cut.rest is where
@@ -60,7 +60,7 @@ read_as records = Ok records
 one_value : (a b : List Record) → read_as a ≡ read_as b → a ≡ b
 one_value a b e = cc
 
-no_bytes : IsBytes []
+pub no_bytes : IsBytes []
 no_bytes i = nothing i where
   nothing : (i : ℕ) → get_or [] i 0 < 256
   nothing i = omega arith

@@ -1,6 +1,6 @@
 -- What images count on while records are forced behind a life's log.
 use Rattle.std.proofs.Common.{◌≡◌, ℕ, zero, suc, ◌+◌, ◌-◌, ◌<◌, ◌≤◌, List, [], ◌∷◌, ◌++◌, length, get_or, take, max, refl, sym, ◌∙◌, ap, subst, inl, inr, arith, append_assoc, append-nil, Some, Ok}
-use Rattle.std.specs.Prelude.{Option, Result}
+use Rattle.std.specs.Prelude.{Result}
 use Rattle.std.specs.List.{flat_map, AllByRecursion}
 use Rattle.std.proofs.lemmas.Grind.{flat_map-append}
 use Rattle.tm_disk.specs.Disk.{Image}
@@ -22,7 +22,7 @@ use Rattle.checkpointing.specs.Counts.{AreUpTo, CountsUpTo}
 use Rattle.checkpointing.specs.Parts.{CheckpointParts, next_restart, next_writer}
 use Rattle.checkpointing.specs.Checkpoint.{IsCheckpointed}
 use Rattle.checkpointing.specs.Steps.{Takes}
-use Rattle.checkpointing.proofs.Counted.{alike_up_to, begun_up_to, sequence_most}
+use Rattle.checkpointing.proofs.Counted.{alike_up_to, begun_up_to, sequence_most, one_restart}
 use Rattle.checkpointing.proofs.Keeping.{all_front, is_checkpointed, next_restart_in, unread_images}
 use Rattle.seg_store.specs.Changed.{AllStores}
 use Rattle.disk_law.specs.Committed.{Touches}
@@ -89,9 +89,6 @@ none_cut = refl
 
 one_value : {E : Type 0} (x : Result (List Record) E) (r s : List Record) → x ≡ Ok r → x ≡ Ok s → r ≡ s
 one_value x r s one other = cc
-
-one_restart : {E : Type 0} (x : Result (Option RestartSector) E) (r s : RestartSector) → x ≡ Ok (Some r) → x ≡ Ok (Some s) → r ≡ s
-one_restart x r s one other = cc
 
 -- what a life has of its log
 abbrev pub log_kept : LifeOnDisk → Writer → JournalState

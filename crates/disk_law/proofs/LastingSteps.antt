@@ -27,7 +27,6 @@ use Rattle.model_image.specs.Replay.{replay_all}
 use Rattle.image_law.specs.Records.{is_change}
 use Rattle.image_law.specs.Sound.{Fits}
 use Rattle.image_law.specs.Steps.{EndsNoneWaiting, IsFree, PadFits}
-use Rattle.image_law.proofs.Bools.{both}
 use Rattle.image_law.proofs.Replayed.{all_take}
 use Rattle.image_law.proofs.Rows.{with_rows, at_rows, rows_aside}
 use Rattle.image_law.proofs.Laws.{accept_replayed, acknowledge_replayed, command_replayed, abend_replayed, completion_replayed, front_waits}
@@ -39,6 +38,7 @@ use Rattle.disk_law.specs.Steps.{done_to, Wait, IsTouched, IsStep}
 use Rattle.disk_law.specs.Lasting.{input_of, input_record, accepting, MayAccept, acknowledging, MayAcknowledge, command_record, commanding, MayCommand, discarding, MayDiscard, completing, MayComplete}
 use Rattle.disk_law.proofs.Naming.{all_quiet_keep, named_stays}
 use Rattle.disk_law.proofs.Changing.{touched_named, without_life}
+use Rattle.tm_types.proofs.Truths.{both}
 
 -- ---- rows stand aside
 

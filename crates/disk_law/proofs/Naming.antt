@@ -10,18 +10,12 @@ use Rattle.log_records.specs.declared.record.Record.{Record}
 use Rattle.log_records.specs.declared.record.Record.TheVariants.{Input, Command, Reply, Discarded, Completed, Acknowledged, SyncPoint, Checkpoint, Terminal, Code, Change}
 use Rattle.model_image.specs.Slots.{is_change_of, is_sync_point_of, is_synced, before_image, after_image, named_by}
 use Rattle.disk_law.specs.Committed.{Touches, Bytes, changes_of, AreCommitted}
-use Rattle.disk_law.proofs.Slots.{quiet_keeps}
+use Rattle.disk_law.proofs.Slots.{quiet_keeps, none_reverse}
 use Rattle.image_law.proofs.Bools.{first_of, second_of, neither_first, neither_second}
 use Rattle.image_law.proofs.Lists.{none_filter}
 use Rattle.disk_law.specs.Quiet.{is_quiet}
-
--- what the changes of a slot say, by which of them count
-abbrev named_of : (Record → Bool) → List Record → Option (List ℕ)
-named_of test changes = option_or (option_map after_image (find test (reverse changes))) (option_map before_image (slice_get changes 0))
-
-named_is : (snapshot log : List Record) (database slot : ℕ) → named_by snapshot log database slot ≡ named_of (is_synced log) (changes_of (snapshot ++ log) database slot)
-unfolding named_by
-named_is snapshot log database slot = refl
+use Rattle.model_image.proofs.Readings.{not_both}
+use Rattle.disk_law.proofs.Anew.{named_of, named_is}
 
 pub all_behind : (snapshot log more : List Record) (d s : ℕ) → changes_of (snapshot ++ (log ++ more)) d s ≡ changes_of (snapshot ++ log) d s ++ changes_of more d s
 all_behind snapshot log more d s =
@@ -55,10 +49,6 @@ unnamed_before snapshot log more d s none =
     unchanged_unnamed snapshot log d s
     (front_empty (changes_of (snapshot ++ log) d s) (changes_of more d s) (sym (all_behind snapshot log more d s) ∙ unnamed_changes snapshot (log ++ more) d s none))
 
-not_both : (o : Option (List ℕ)) → o ≡ None → IsSome o → ⊥
-not_both None e some = cc
-not_both (Some x) e some = cc
-
 -- and one that was named stays so
 pub named_stays : (snapshot log more : List Record) (d s : ℕ) → IsSome (named_by snapshot log d s) → IsSome (named_by snapshot (log ++ more) d s)
 named_stays snapshot log more d s some = by_named (named_by snapshot (log ++ more) d s) refl where
@@ -73,14 +63,6 @@ find_past test [] xs none = refl
 find_past test (y ∷ ys) xs none =
     ap (λ b. if b then Some y else find test (ys ++ xs)) (neither_first (test y) (list_any test ys) none)
     ∙ find_past test ys xs (neither_second (test y) (list_any test ys) none)
-
-none_reverse : (p : Record → Bool) (xs : List Record) → list_any p xs ≡ false → list_any p (reverse xs) ≡ false
-none_reverse p [] none = refl
-none_reverse p (x ∷ xs) none =
-    ap (list_any p) (reverse-append (x ∷ []) xs)
-    ∙ list_any-append p (reverse xs) (x ∷ [])
-    ∙ ap (λ b. b || (p x || false)) (none_reverse p xs (neither_second (p x) (list_any p xs) none))
-    ∙ ap (λ b. b || false) (neither_first (p x) (list_any p xs) none)
 
 find_behind : (test : Record → Bool) (xs ys : List Record) → list_any test ys ≡ false → find test (reverse (xs ++ ys)) ≡ find test (reverse xs)
 find_behind test xs ys none = ap (find test) (reverse-append xs ys) ∙ find_past test (reverse ys) (reverse xs) (none_reverse test ys none)

@@ -1,5 +1,5 @@
 -- A life begins: what an opening leaves is an image of it.
-use Rattle.std.proofs.Common.{◌≡◌, inl, ℕ, ◌+◌, ◌*◌, ◌<◌, true, List, [], ◌∷◌, map, get_or, refl, sym, ◌∙◌, ap, subst, arith, Some, None, Ok, append-nil}
+use Rattle.std.proofs.Common.{◌≡◌, inl, ℕ, ◌+◌, ◌*◌, ◌<◌, true, List, [], ◌∷◌, map, refl, sym, ◌∙◌, ap, subst, arith, Some, None, Ok, append-nil}
 use Rattle.std.specs.Prelude.{Result}
 use Rattle.tm_types.specs.declared.dbd.Dbd.{Dbd}
 use Rattle.tm_disk.specs.Disk.{Image}
@@ -8,7 +8,6 @@ use Rattle.model_system.specs.System.{System}
 use Rattle.model_machine.specs.Machine.{LastingState, empty_state}
 use Rattle.log_records.specs.declared.record.Record.{Record}
 use Rattle.log_records.specs.declared.record.Record.TheVariants.{Input, Command, Reply, Discarded, Completed, Acknowledged, SyncPoint, Checkpoint, Terminal, Code, Change}
-use Rattle.log_records.proofs.Takes.{IsBytes}
 use Rattle.log_sectors.specs.Chain.{chain, joined}
 use Rattle.restart_data.specs.declared.restart.RestartSector.{RestartSector}
 use Rattle.seg_store.specs.Slots.{Stored, rows_of_slots}
@@ -30,6 +29,8 @@ use Rattle.disk_law.proofs.Recovering.{IsReadAs, read_recovers}
 use Rattle.disk_law.specs.Opening.{bytes_in_stores, no_touches, opened_life, MayOpen, IsOpened}
 use Rattle.disk_law.proofs.Anew.{begins_anew}
 use Rattle.disk_law.proofs.Stored.{store_of, bytes_of_store}
+use Rattle.checkpointing.proofs.Begun.{nothing_cut}
+use Rattle.disk_law.proofs.Checkpointed.{no_bytes}
 
 -- ---- a snapshot says nothing of rows
 
@@ -53,20 +54,11 @@ told_rows (r ∷ records) lasting = told_rows records (told r lasting) ∙ one_r
 rows_back : (l : LastingState) (lines : List (List Row)) → l.rows ≡ lines → l ≡ record l { rows = lines }
 rows_back l lines is = ap (λ (rs : List (List Row)). record l { rows = rs }) is
 
-nothing_cut : cut_of [] ≡ record { records = []; rest = [] }
-unfolding cut_of
-nothing_cut = refl
-
 abbrev fine : LastingState → Result LastingState Fault
 fine state = Ok state
 
 one_state : (a b : LastingState) → fine a ≡ fine b → a ≡ b
 one_state a b e = cc
-
-no_bytes : IsBytes []
-no_bytes i = nothing i where
-  nothing : (i : ℕ) → get_or [] i 0 < 256
-  nothing i = omega arith
 
 module _ (system : System) (text : List ℕ) (now : RestartSector) (stores : List Stored) (state : LastingState) (records : List Record) (may : MayOpen system now stores state records) where
   abbrev life : LifeOnDisk

@@ -26,6 +26,7 @@ use Rattle.disk_law.specs.Life.{EachSlot, SpellRows, but_rows}
 use Rattle.disk_law.specs.Kept.{StandsAt, beginning}
 use Rattle.disk_law.proofs.Naming.{NamedAs}
 use Rattle.disk_law.proofs.SlotsRead.{IsRight, AreRight, slot_right, right_by, IsGood, rows_read}
+use Rattle.checkpointing.proofs.Begun.{bind_is}
 
 -- What is read of an image, so that it recovers to this state.
 pub record IsReadAs (system : System) (now : RestartSector) (snapshot records : List Record) (lasting : LastingState) (committed : Bytes) (image : Image) : Type 0 where
@@ -91,9 +92,6 @@ module _ (system : System) (image : Image) (snapshot records : List Record) (com
       ∙ ap (λ (l : List (List Row)). Ok l) spell.are
 
 -- ---- the whole
-
-bind_is : {A B : Type 0} (a : Result A Fault) (f : A → Result B Fault) (x : A) → a ≡ Ok x → (a >>= f) ≡ f x
-bind_is a f x is = ap (λ r. r >>= f) is
 
 module _ (system : System) (now : RestartSector) (snapshot records : List Record) (lasting : LastingState) (committed : Bytes) (image : Image) (r : IsReadAs system now snapshot records lasting committed image) where
   abbrev of_rows : LastingState → List (List Row) → Result LastingState Fault

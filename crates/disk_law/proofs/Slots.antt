@@ -12,7 +12,9 @@ use Rattle.log_records.specs.declared.record.Record.TheVariants.{Input, Command,
 use Rattle.model_messages.specs.declared.conversation.PadChange.{PadChange}
 use Rattle.model_image.specs.Slots.{is_change_of, is_sync_point_of, is_synced, before_image, after_image, named_by}
 use Rattle.disk_law.specs.Committed.{Touch, Touches, Bytes, changes_of, last_change, is_by, IsLast, AreCommitted, IsTold, TellsTouches, is_place, touched, with_touch, without_touches, without_sync, synced}
-use Rattle.image_law.proofs.Bools.{both, first_of, second_of, neither_first, neither_second, not_true, not_of_false}
+use Rattle.image_law.proofs.Bools.{first_of, second_of, neither_first, neither_second, not_true, not_of_false}
+use Rattle.tm_types.proofs.Truths.{both}
+use Rattle.disk_law.proofs.Anew.{named_of, named_is}
 
 -- ---- numbers and places that are compared
 
@@ -32,14 +34,6 @@ left_false true b is on = absurd (subst (λ (x : Bool). x ≡ false → ⊥) (sy
 left_false false b is on = refl
 
 -- ---- what the changes of a slot say
-
--- by which of them reached their sync points
-abbrev named_of : (Record → Bool) → List Record → Option (List ℕ)
-named_of test changes = option_or (option_map after_image (find test (reverse changes))) (option_map before_image (slice_get changes 0))
-
-named_is : (snapshot log : List Record) (database slot : ℕ) → named_by snapshot log database slot ≡ named_of (is_synced log) (changes_of (snapshot ++ log) database slot)
-unfolding named_by
-named_is snapshot log database slot = refl
 
 -- the changes of a slot with one record more
 more_changes : (snapshot log : List Record) (r : Record) (database slot : ℕ) → changes_of (snapshot ++ (log ++ r ∷ [])) database slot ≡ changes_of (snapshot ++ log) database slot ++ changes_of (r ∷ []) database slot
@@ -268,7 +262,7 @@ module _ (snapshot log : List Record) (may_sync : ℕ → Bool) (touches : Touch
 
 -- ---- a sync point
 
-none_reverse : (p : Record → Bool) (xs : List Record) → list_any p xs ≡ false → list_any p (reverse xs) ≡ false
+pub none_reverse : (p : Record → Bool) (xs : List Record) → list_any p xs ≡ false → list_any p (reverse xs) ≡ false
 none_reverse p [] none = refl
 none_reverse p (x ∷ xs) none =
     ap (list_any p) (reverse-append (x ∷ []) xs)

@@ -1,16 +1,12 @@
 -- Slots whose bytes spell the records of a store: they break no rule, and are read as these records.
-use Rattle.std.proofs.Common.{◌≡◌, ℕ, suc, ◌+◌, ◌-◌, ◌≤◌, Bool, true, false, not, ◌&&◌, ◌||◌, List, [], ◌∷◌, ◌++◌, length, take, drop, map, refl, sym, ◌∙◌, ap, subst, ⊎_elim, arith, Some, None, Ok, nat_lt, IsTrue}
+use Rattle.std.proofs.Common.{◌≡◌, ℕ, suc, ◌+◌, ◌≤◌, Bool, true, false, not, ◌&&◌, ◌||◌, List, [], ◌∷◌, length, map, refl, sym, ◌∙◌, ap, subst, ⊎_elim, arith, Some, None, Ok, IsTrue}
 use Rattle.std.specs.Prelude.{Option, if◌then◌else◌, find, slice_get}
 use Rattle.std.specs.Option.{option_map, option_or, unwrap_or, is_some}
 use Rattle.std.specs.List.{list_any}
 use Rattle.std.specs.Ordering.{is_eq}
-use Rattle.std.proofs.lemmas.Bool.{le-ltb}
 use Rattle.std.proofs.lemmas.Cmp.{tied_itself}
-use Rattle.std.proofs.lemmas.List.{take_at, drop_at, drop-drop}
-use Rattle.std.proofs.lemmas.Nat.{from_be_bytes-to_be_bytes_2}
 use Rattle.tm_types.specs.declared.dbd.Dbd.{Dbd}
 use Rattle.tm_types.specs.SegTypes.{IsHierarchy}
-use Rattle.tm_disk.specs.Sector.{zeros}
 use Rattle.tm_disk.specs.Disk.{Image}
 use Rattle.model_data.specs.declared.row.Row.{Row}
 use Rattle.model_data.specs.Path.{root_of}
@@ -18,14 +14,11 @@ use Rattle.model_data.specs.Record.{spelling, IsRecord}
 use Rattle.model_data.proofs.Order.{key_total}
 use Rattle.model_system.specs.System.{System}
 use Rattle.log_records.specs.declared.record.Record.{Record}
-use Rattle.restart_data.specs.Fields.{number2_at, are_zeros}
-use Rattle.restart_data.proofs.Zeros.{are_zeros-zeros}
 use Rattle.seg_store.specs.Slots.{Stored, IsSlot, AtMostOne, is_free, image_root, has_root, place_of, rows_of_slots}
-use Rattle.seg_store.specs.DataSectors.{data_sector}
 use Rattle.image_loading.proofs.Spelled.{spells_rows, no_bytes}
 use Rattle.model_image.specs.Areas.{data_first}
 use Rattle.model_image.specs.Faults.{Fault, unless_fault}
-use Rattle.model_image.specs.Slots.{Slot, Source, source_of, slots_by, slot_in, all_slots, slot_fault, rows_of, rows_from, rows_of_bytes, used_in, bytes_in, is_image, is_wrong_length, has_wrong_length, has_no_record, rows_in, have_one_root, first_shared, first_in}
+use Rattle.model_image.specs.Slots.{Slot, Source, source_of, slots_by, slot_in, all_slots, slot_fault, rows_of, rows_from, rows_of_bytes, is_image, has_wrong_length, has_no_record, rows_in, have_one_root, first_shared, first_in}
 use Rattle.model_image.specs.Slots.Source.{Named, Spelled}
 use Rattle.model_image.specs.Holding.{HoldsBytes}
 use Rattle.disk_law.proofs.Naming.{NamedAs}
@@ -51,36 +44,6 @@ image_fits dbd one image is =
     (λ (none : image ≡ []). omega (arith, ap (λ (rows : List Row). length (spelling rows)) none))
     (λ (whole : IsRecord dbd (image_root image) image). omega (arith, whole.within, one))
     is
-
-used_is : (bytes : List ℕ) → length bytes ≤ 4000 → used_in (data_sector bytes) ≡ length bytes
-unfolding data_sector number2_at
-used_is bytes fits = from_be_bytes-to_be_bytes_2 (length bytes) (omega (arith, fits))
-
-behind_two : (bytes : List ℕ) → drop 2 (data_sector bytes) ≡ bytes ++ zeros (4094 - length bytes)
-unfolding data_sector
-behind_two bytes = refl
-
-bytes_are : (bytes : List ℕ) → length bytes ≤ 4000 → bytes_in (data_sector bytes) ≡ bytes
-bytes_are bytes fits =
-    ap (λ n. take n (drop 2 (data_sector bytes))) (used_is bytes fits)
-    ∙ ap (λ (l : List ℕ). take (length bytes) l) (behind_two bytes)
-    ∙ take_at bytes (zeros (4094 - length bytes)) (length bytes) refl
-
-zeros_behind : (bytes : List ℕ) → length bytes ≤ 4000 → are_zeros (drop (2 + used_in (data_sector bytes)) (data_sector bytes)) ≡ true
-zeros_behind bytes fits =
-    ap (λ n. are_zeros (drop (2 + n) (data_sector bytes))) (used_is bytes fits)
-    ∙ ap are_zeros (sym (drop-drop (length bytes) 2 (data_sector bytes)) ∙ ap (λ (l : List ℕ). drop (length bytes) l) (behind_two bytes) ∙ drop_at bytes (zeros (4094 - length bytes)) (length bytes) refl)
-    ∙ are_zeros-zeros (4094 - length bytes)
-
-right_length : (bytes : List ℕ) → length bytes ≤ 4000 → is_wrong_length (Spelled (data_sector bytes)) ≡ false
-right_length bytes fits =
-    ap (λ n. nat_lt 4000 n || not (are_zeros (drop (2 + used_in (data_sector bytes)) (data_sector bytes)))) (used_is bytes fits)
-    ∙ ap (λ b. b || not (are_zeros (drop (2 + used_in (data_sector bytes)) (data_sector bytes)))) (le-ltb 4000 (length bytes) fits)
-    ∙ ap not (zeros_behind bytes fits)
-
--- a data sector with these bytes holds them
-pub data_holds : (bytes : List ℕ) → length bytes ≤ 4000 → HoldsBytes bytes (data_sector bytes)
-data_holds bytes fits = record { right = right_length bytes fits; spelled = bytes_are bytes fits }
 
 -- what is read of bytes that spell an image
 module _ (dbd : Dbd) (image : List Row) (bytes : List ℕ) (read : rows_of_bytes dbd bytes ≡ Some image) where

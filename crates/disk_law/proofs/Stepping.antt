@@ -27,7 +27,7 @@ use Rattle.model_image.specs.Replay.{Replay, replay_one, replay_all}
 use Rattle.model_image.specs.Recovered.{Recovers}
 use Rattle.model_image.proofs.Ahead.{opened_one}
 use Rattle.image_law.specs.Records.{is_change, without_changes}
-use Rattle.image_law.proofs.Bools.{both, first_of, second_of}
+use Rattle.image_law.proofs.Bools.{first_of, second_of}
 use Rattle.image_law.proofs.Lists.{all_imply}
 use Rattle.image_law.proofs.Replayed.{all_take, keeps_all, leaves_sound, appended}
 use Rattle.disk_law.specs.Committed.{Bytes, AreCommitted}
@@ -38,6 +38,7 @@ use Rattle.disk_law.proofs.Naming.{NamedAs, unnamed_before, named_stays, all_qui
 use Rattle.disk_law.proofs.Forcing.{restart_stays, snapshot_stays, text_stays, slots_stay, none_later_after}
 use Rattle.disk_law.proofs.Front.{all_both, cut, front_read, changes_last, changes_named}
 use Rattle.disk_law.proofs.Changing.{bytes_both, touched_named}
+use Rattle.tm_types.proofs.Truths.{both}
 
 -- ---- records that are no changes
 

@@ -19,7 +19,7 @@ use Rattle.model_data.specs.Rows.{record_of, rows_before, rows_after, with_recor
 use Rattle.model_data.proofs.Order.{key_total, path_total, exact_path, turned_less, turned_greater}
 use Rattle.model_data.proofs.Lists.{all_then, all_both, all_append, all_filter, sorted_append, sorted_filter}
 use Rattle.model_data.proofs.Filters.{filter_all, filter_none, filter_passes}
-use Rattle.model_data.proofs.Records.{is_eq-true, is_gt-true, is_lt-true}
+use Rattle.model_data.proofs.Records.{is_eq-true, is_gt-true}
 use Rattle.model_data.proofs.Paths.{path_parts}
 use Rattle.model_data.proofs.Under.{row_among, has_front, has_back}
 use Rattle.model_data.proofs.Whole.{has_filter, root_less}
@@ -27,6 +27,7 @@ use Rattle.model_data.specs.Search.{is_within}
 use Rattle.model_data.specs.Change.{with_row, row_with, with_data, without}
 use Rattle.row_search.proofs.Rising.{rows_rising, split_at_root, record_under}
 use Rattle.row_search.proofs.Within.{within_parts, within_append, within_root}
+use Rattle.model_data.proofs.Reading.{is_lt-true}
 
 regroup : (b g l a : List Row) (new : Row) → ((b ++ g) ++ []) ++ (new ∷ (([] ++ l) ++ a)) ≡ (b ++ (g ++ (new ∷ l))) ++ a
 regroup b g l a new = simp (append-nil, append_assoc)

@@ -19,7 +19,6 @@ use Rattle.model_data.specs.Rows.{record_of, roots, next_root, AreRows}
 use Rattle.model_data.proofs.Order.{key_total}
 use Rattle.model_data.proofs.Lists.{all_then, sorted_filter}
 use Rattle.model_data.proofs.Filters.{filter_all, filter_within, filter_passes, find_first}
-use Rattle.model_data.proofs.Records.{is_lt-true}
 use Rattle.model_data.specs.declared.need.Need.{Need}
 use Rattle.model_data.specs.Search.{first_after}
 use Rattle.model_data.specs.Footprint.{record_need, behind, along, onward}
@@ -27,6 +26,7 @@ use Rattle.row_search.proofs.Finding.{find_front, find_back}
 use Rattle.row_search.proofs.Keys.{roots_ascending, by_records}
 use Rattle.row_search.proofs.Needing.{walk, next_fits, walk_head, onward_is, found_here, found_behind}
 use Rattle.dli_calls.specs.Along.{keys_behind, keys_from, records_of}
+use Rattle.model_data.proofs.Reading.{is_lt-true}
 
 -- a key and those behind it are in order
 from_ascending : (key : List ℕ) (keys : List (List ℕ)) → IsStrictlySortedBy key_cmp keys → IsStrictlySortedBy key_cmp (key ∷ behind key keys)

@@ -71,10 +71,8 @@ fn search_needs<R: Rows>(
     ensures { IfOk result (λ needs. needs ≡ search_needs mode dbd.now call.now (option_copied place.entry) (R.rows rows.now)) }
 {
     let mut needs = Needs::new(alloc);
-    match needed_row(mode, dbd, call, place, rows, &mut needs) {
-        Ok(_) => Ok(needs),
-        Err(error) => Err(error),
-    }
+    needed_row(mode, dbd, call, place, rows, &mut needs)?;
+    Ok(needs)
 }
 
 /// The row that GU and GN find after a place, and what they need to find it: the one record for whose

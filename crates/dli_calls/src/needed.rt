@@ -108,13 +108,9 @@ fn search<R: Rows>(
     ensures no_edit { IfOk result (λ p. p.planned.edit ≡ None) }
 {
     let mut needs = Needs::new(alloc);
-    match needed_row(mode_of(hold), dbd, call, place, rows, &mut needs) {
-        Ok(row) => {
-            let planned = get_found(reach, hold, dbd, call, at, row, rows)?;
-            Ok(NeededPlan { needs, planned })
-        }
-        Err(error) => Err(error),
-    }
+    let row = needed_row(mode_of(hold), dbd, call, place, rows, &mut needs)?;
+    let planned = get_found(reach, hold, dbd, call, at, row, rows)?;
+    Ok(NeededPlan { needs, planned })
 }
 
 /// A get shares what it needs, but with hold has its records alone.

@@ -21,12 +21,13 @@ use Rattle.model_machine.specs.Machine.{LastingState}
 use Rattle.model_machine.specs.Lasting.{KeptInput, code_word, kept_alone, kept_first, kept_by_code, kept_by, kept_input, input_message, accepted}
 use Rattle.model_image.specs.States.{is_printable, is_terminal, is_code, is_pad_of, is_conversation, is_of_conversation, has_no_pad, is_known}
 use Rattle.image_law.specs.Steps.{has_room, HasPads, IsFree}
-use Rattle.image_law.proofs.Bools.{both, not_of_false, bytes_same}
+use Rattle.image_law.proofs.Bools.{not_of_false, bytes_same}
 use Rattle.image_law.proofs.Lists.{all_more, found_passes}
 use Rattle.image_law.proofs.Conversing.{put_at, itself_changed, none_converse}
 use Rattle.image_law.proofs.Ordered.{ascend_more, alone_more}
 use Rattle.image_law.proofs.Kept.{changes_stand}
 use Rattle.image_law.specs.Standing.{Stands}
+use Rattle.tm_types.proofs.Truths.{both}
 
 -- ---- a pad as it begins
 

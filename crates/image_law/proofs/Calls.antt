@@ -23,11 +23,12 @@ use Rattle.model_messages.specs.Work.{MessageWork, destination_by, destination_o
 use Rattle.model_messages.specs.Calls.{is_blank, destination_at, gives_back, segment_status, with_segment, segment_work, returned_pad, insert_work, purge_status, ended_at, purge_work, switched_to, destination_named, without_blanks, change_status, with_chosen, change_work, reset_pcb, reset_work, finish_work, work_by}
 use Rattle.model_image.specs.States.{is_terminal, is_code}
 use Rattle.image_law.specs.Steps.{takes_switched}
-use Rattle.image_law.proofs.Bools.{both, same_bytes, bytes_same}
+use Rattle.image_law.proofs.Bools.{same_bytes, bytes_same}
 use Rattle.image_law.proofs.Lists.{all_more, found_is_one}
 use Rattle.image_law.specs.Sending.{is_receiver, sends_well, is_short, is_well, ended_bytes, sent_bytes, open_count, open_segments, is_sent_well, SendsWithin}
 use Rattle.image_law.proofs.Changes.{all_changed, all_mapped, all_both, passes_at, sum_set, sum_same, sum_more, sum_mapped_zero}
 use Rattle.image_law.proofs.Ended.{has_receiver_part, has_short_part, has_kind_part, one_bytes, one_sent, all_bytes, all_well_sent}
+use Rattle.tm_types.proofs.Truths.{both}
 
 -- a PCB that is made of its parts
 made_well : (system : System) (p : OpenPcb) → sends_well system p.kind ≡ true → option_map_or (is_receiver system) (destination_of p) true ≡ true → list_all is_short p.segments ≡ true → is_well system p ≡ true

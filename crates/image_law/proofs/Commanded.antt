@@ -12,11 +12,12 @@ use Rattle.model_machine.specs.Machine.{LastingState, setting_place}
 use Rattle.model_machine.specs.Lasting.{commanded, stopped_code, with_stopped_code, with_stopped_terminal, without_replies}
 use Rattle.model_image.specs.States.{is_setting, run_up_to}
 use Rattle.image_law.specs.Steps.{EndsNoneWaiting}
-use Rattle.image_law.proofs.Bools.{both, first_of}
+use Rattle.image_law.proofs.Bools.{first_of}
 use Rattle.image_law.proofs.Lists.{all_changed}
 use Rattle.image_law.proofs.Ordered.{all_at}
 use Rattle.image_law.proofs.Kept.{acknowledged_stands, changes_stand}
 use Rattle.image_law.specs.Standing.{Stands, is_run}
+use Rattle.tm_types.proofs.Truths.{both}
 
 settings_stand : (stopped : Bool) (codes : List CodeSetting) (place : Option ℕ) → list_all is_setting codes ≡ true → list_all is_setting (change_at codes place (stopped_code stopped)) ≡ true
 settings_stand stopped codes None all = all

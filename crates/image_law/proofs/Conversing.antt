@@ -13,8 +13,9 @@ use Rattle.model_system.specs.System.{System}
 use Rattle.model_machine.specs.Machine.{LastingState, message_at}
 use Rattle.model_machine.specs.Lasting.{without_message}
 use Rattle.model_image.specs.States.{is_terminal, is_code, is_of_conversation, has_no_pad, is_known, are_alone}
-use Rattle.image_law.proofs.Bools.{both, first_of, second_of, neither_first, neither_second, not_true, other_false, same_bytes, bytes_same}
+use Rattle.image_law.proofs.Bools.{first_of, second_of, neither_first, neither_second, not_true, other_false, same_bytes, bytes_same}
 use Rattle.image_law.proofs.Lists.{none_filter, found_is_one}
+use Rattle.tm_types.proofs.Truths.{both}
 
 -- a terminal's conversation changed
 abbrev pub put : (Option Conversation → Option Conversation) → TerminalConversation → TerminalConversation

@@ -87,7 +87,7 @@ all_end n le (p ∷ pcbs) h = both_have (ended_by p) (flat_map ended_by pcbs) (e
 -- ---- calls
 
 -- a segment is inserted where fewer than the count were
-room_left : (there long full : Bool) → is_blank (if not there then A3 else if long then A6 else if full then A7 else Blank) ≡ true
+pub room_left : (there long full : Bool) → is_blank (if not there then A3 else if long then A6 else if full then A7 else Blank) ≡ true
     → full ≡ false
 room_left false long full e = cc
 room_left true true full e = cc

@@ -10,9 +10,10 @@ use Rattle.model_system.specs.System.{System}
 use Rattle.model_messages.specs.declared.ended_message.EndedMessage.{EndedMessage}
 use Rattle.model_messages.specs.declared.open_pcb.OpenPcb.{OpenPcb}
 use Rattle.model_messages.specs.Work.{destination_of, ended_to, ended_by}
-use Rattle.image_law.proofs.Bools.{both, first_of, second_of}
+use Rattle.image_law.proofs.Bools.{first_of, second_of}
 use Rattle.image_law.specs.Sending.{is_receiver, sends_well, is_short, is_well, ended_bytes, sent_bytes, open_count, open_segments, is_sent_well}
 use Rattle.image_law.proofs.Changes.{all_both}
+use Rattle.tm_types.proofs.Truths.{both}
 
 at_most : (a b : ℕ) → nat_le a b ≡ true → a ≤ b
 at_most a b is = grind (arith, nat_tests, is)

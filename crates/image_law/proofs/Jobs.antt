@@ -18,9 +18,9 @@ use Rattle.model_image.specs.States.{is_terminal, is_code}
 use Rattle.system_types.specs.Definitions.{IsTransaction}
 use Rattle.system_types.specs.Valid.{IsKnownTo, IsSentTo, IsSystem}
 use Rattle.image_law.specs.Steps.{takes_switched}
-use Rattle.image_law.proofs.Bools.{both}
 use Rattle.image_law.specs.Sending.{sends_well}
 use Rattle.image_law.proofs.Trials.{IsJob}
+use Rattle.tm_types.proofs.Truths.{both}
 
 -- what holds of all holds of what is found
 pub found_holds : {X : Type 0} (P : X → Type 0) (test : X → Bool) (xs : List X) (x : X) → All P xs → find test xs ≡ Some x → P x

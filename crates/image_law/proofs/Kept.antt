@@ -3,7 +3,7 @@ use Rattle.std.proofs.Common.{◌≡◌, Bool, true, false, not, ◌&&◌, List,
 use Rattle.std.specs.Prelude.{if◌then◌else◌, ◌==◌, Option}
 use Rattle.std.specs.List.{list_all, list_any}
 use Rattle.std.specs.Option.{is_some, option_map, option_map_or, option_and_then}
-use Rattle.std.proofs.lemmas.Bool.{ne_eqb, eqb-true}
+use Rattle.std.proofs.lemmas.Bool.{ne_eqb}
 use Rattle.tm_types.specs.declared.message.Message.{Message}
 use Rattle.model_messages.specs.declared.conversation.Conversation.{Conversation}
 use Rattle.model_messages.specs.declared.conversation.PadChange.{PadChange}
@@ -17,15 +17,17 @@ use Rattle.model_messages.specs.declared.ended_message.EndedMessage.{EndedMessag
 use Rattle.model_system.specs.Codes.{code_at}
 use Rattle.model_system.specs.System.{System}
 use Rattle.model_machine.specs.Machine.{LastingState, message_at, output_at}
-use Rattle.model_machine.specs.Lasting.{sent, all_sent, without_message, padded, with_text, finished_by, with_pad_by}
+use Rattle.model_machine.specs.Lasting.{sent, all_sent, padded, with_text, finished_by, with_pad_by}
 use Rattle.model_image.specs.States.{is_small, is_next, is_terminal, is_code, is_conversation, has_right_pad, is_of_conversation, has_no_pad, is_known, run_up_to}
 use Rattle.image_law.specs.Sound.{Fits, IsSound}
 use Rattle.image_law.specs.Standing.{is_run, Stands}
 use Rattle.image_law.specs.Steps.{takes_switched, has_receiver, PadFits}
-use Rattle.image_law.proofs.Bools.{both, first_of, second_of, not_of_false}
+use Rattle.image_law.proofs.Bools.{first_of, second_of, not_of_false}
 use Rattle.image_law.proofs.Lists.{all_more, all_imply, all_filter, found_passes}
 use Rattle.image_law.proofs.Conversing.{put, put_at, all_known_changed, all_put, none_else}
 use Rattle.image_law.proofs.Ordered.{ascend_more, ascend_filter, alone_more, alone_filter, run_more, run_drop, all_at, stays_there}
+use Rattle.model_image.proofs.Steps.{gone, has_its_id}
+use Rattle.tm_types.proofs.Truths.{both}
 
 all_runs : (outputs : List TerminalReplies) → list_all (λ t. is_next t.next) outputs ≡ true → list_all (λ t. run_up_to t.next t.replies) outputs ≡ true → list_all is_run outputs ≡ true
 all_runs [] numbers runs = refl
@@ -107,9 +109,6 @@ module _ (system : System) (origin : List ℕ) (from : is_terminal system origin
 
 -- ---- a message that is done with
 
-abbrev gone : ℕ → LastingState → LastingState
-gone id lasting = record lasting { messages = without_message lasting.messages id }
-
 abbrev pads_changed : PadChange → List ℕ → LastingState → LastingState
 pads_changed pad origin lasting = record lasting { conversations = padded pad origin lasting.conversations }
 
@@ -134,13 +133,6 @@ changes_stand system origin change lasting s none right = record {
   pads = all_put origin change (has_right_pad system) lasting.conversations s.pads right;
   known = all_known_changed origin change system lasting lasting.messages none s.known;
 }
-
-has_its_id : (id : ℕ) (messages : List Message) (message : Message) → message_at messages id ≡ Some message → message.id ≡ id
-has_its_id id [] message found = cc
-has_its_id id (first ∷ messages) message found = by_first (first.id == id) refl (has_its_id id messages message) found where
-  by_first : (b : Bool) → first.id == id ≡ b → (message_at messages id ≡ Some message → message.id ≡ id) → (if b then Some first else message_at messages id) ≡ Some message → message.id ≡ id
-  by_first true is later found = let e : first ≡ message = cc in ap (λ (m : Message). m.id) (sym e) ∙ eqb-true first.id id is
-  by_first false is later found = later found
 
 module _ (system : System) (id : ℕ) (message : Message) (lasting : LastingState) (found : message_at lasting.messages id ≡ Some message) (s : Stands system lasting) where
   pads_stand : (pad : PadChange) → PadFits system pad message lasting → Stands system (pads_changed pad message.origin (gone id lasting))

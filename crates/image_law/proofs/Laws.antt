@@ -32,7 +32,7 @@ use Rattle.model_image.proofs.Steps.{accepts_again, acknowledges_again, commands
 use Rattle.image_law.specs.Sound.{Fits}
 use Rattle.image_law.specs.Steps.{EndsNoneWaiting, HasPads, IsFree, PadFits, takes_switched, has_receiver}
 use Rattle.image_law.specs.Records.{without_changes, waits}
-use Rattle.image_law.proofs.Bools.{both, first_of, second_of}
+use Rattle.image_law.proofs.Bools.{first_of, second_of}
 use Rattle.image_law.proofs.Lists.{all_imply}
 use Rattle.image_law.proofs.SoundLaws.{breaks_none, is_sound}
 use Rattle.image_law.proofs.Ordered.{below_next}
@@ -41,6 +41,7 @@ use Rattle.image_law.specs.Standing.{Stands}
 use Rattle.image_law.proofs.Accepted.{accepted_stands}
 use Rattle.image_law.proofs.Commanded.{commanded_stands}
 use Rattle.image_law.proofs.Replayed.{all_take, keeps_all, drops_all, keeps_others, one_done, appended, all_wait, replay_more}
+use Rattle.tm_types.proofs.Truths.{both}
 
 -- one step more is counted
 counted_stands : (system : System) (steps : ℕ) (lasting : LastingState) → Stands system lasting → Stands system (record lasting { steps = steps })

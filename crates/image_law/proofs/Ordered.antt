@@ -14,8 +14,9 @@ use Rattle.model_messages.specs.declared.replies.TerminalReplies.{TerminalReplie
 use Rattle.model_messages.specs.Outputs.{is_of, replies_at, with_terminal}
 use Rattle.model_machine.specs.Machine.{message_at}
 use Rattle.model_image.specs.States.{ascend_below, are_alone, run_up_to}
-use Rattle.image_law.proofs.Bools.{both, first_of, second_of, neither_first, neither_second, not_true, not_of_false, other_false, same_bytes, bytes_same}
+use Rattle.image_law.proofs.Bools.{first_of, second_of, neither_first, neither_second, not_true, not_of_false, other_false, same_bytes, bytes_same}
 use Rattle.image_law.proofs.Lists.{none_filter}
+use Rattle.tm_types.proofs.Truths.{both}
 
 -- ---- ids
 

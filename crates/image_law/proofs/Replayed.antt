@@ -11,7 +11,8 @@ use Rattle.model_image.specs.States.{breaks_a_rule}
 use Rattle.model_image.specs.Slots.{is_image_of}
 use Rattle.model_image.specs.Replay.{Replay, with_waiting, replayed, is_known, unless_it_breaks, replay_one, replay_all}
 use Rattle.image_law.specs.Records.{is_change, without_changes, waits}
-use Rattle.image_law.proofs.Bools.{both, first_of, second_of}
+use Rattle.image_law.proofs.Bools.{first_of, second_of}
+use Rattle.tm_types.proofs.Truths.{both}
 
 pub all_take : {X : Type 0} (p : X → Bool) (n : ℕ) (xs : List X) → list_all p xs ≡ true → list_all p (take n xs) ≡ true
 all_take p zero xs all = refl

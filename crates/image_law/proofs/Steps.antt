@@ -51,7 +51,6 @@ use Rattle.model_machine.specs.Trial.WorkEnd.{Ends as ScriptEnds, Syncs, Abends}
 use Rattle.system_types.specs.Valid.{IsPadLength, IsSystem}
 use Rattle.image_law.specs.Steps.{EndsNoneWaiting, IsFree, PadFits, has_receiver, has_room, takes_switched}
 use Rattle.image_law.proofs.Accepted.{accepted_stands}
-use Rattle.image_law.proofs.Bools.{both}
 use Rattle.image_law.proofs.Commanded.{commanded_stands}
 use Rattle.image_law.proofs.Conversing.{itself_changed}
 use Rattle.image_law.proofs.Kept.{acknowledged_stands, finished_stands}
@@ -63,6 +62,7 @@ use Rattle.image_law.proofs.Pads.{Changes}
 use Rattle.image_law.proofs.Refused.{IsNew, is_new}
 use Rattle.image_law.proofs.Turns.{call_fits}
 use Rattle.image_law.proofs.Works.{SendsWell, origin_known, work_sends}
+use Rattle.tm_types.proofs.Truths.{both}
 
 -- what lasts has the terminals of the system, in their order
 pub record HasTerminals (system : System) (lasting : LastingState) : Type 0 where

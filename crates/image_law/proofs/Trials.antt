@@ -20,9 +20,10 @@ use Rattle.model_machine.specs.Trial.{Advance, Given, Outcome, Reached, Trial, a
 use Rattle.model_machine.specs.Trial.Advance.{Goes, Stops}
 use Rattle.model_machine.specs.Trial.WorkEnd.{Syncs}
 use Rattle.model_machine.specs.Trial.Reached.{Messages, Rows, Nothing}
-use Rattle.image_law.proofs.Bools.{both, first_of, second_of}
+use Rattle.image_law.proofs.Bools.{first_of, second_of}
 use Rattle.image_law.specs.Sending.{is_receiver, sends_well, is_well, is_sent_well, open_count, open_segments, sent_bytes, SendsWithin}
 use Rattle.image_law.proofs.Calls.{call_keeps, fresh_well, finished_bytes, finished_sent}
+use Rattle.tm_types.proofs.Truths.{both}
 
 -- what a job gives: limits within those of all codes, and PCBs that send to receivers
 pub record IsJob (job : Job) : Type 0 where

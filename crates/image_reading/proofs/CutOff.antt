@@ -19,6 +19,7 @@ use Rattle.image_reading.specs.Layouts as layouts
 use Rattle.image_reading.specs.Layouts.{messages, answers, tables, is_front_in, is_front_of_any}
 use Rattle.image_reading.proofs.Fronts.{AreParts, is_text, Missing, front_of, is_front_of, bytes_both, bytes_cons}
 use Rattle.image_reading.proofs.Shapes.{AnyFlag, IsTwo, Front, Lays, both, behind_byte, eight_lays, two_lays, one_lays, flag_lays, name_lays, abend_lays, text_lays, segs_lay, TwoBytes, two_bytes, two_is}
+use Rattle.log_records.proofs.LayoutLaws.{small80, small4000, command_values}
 
 -- a record of this content
 pub record Content (bytes : List ℕ) : Type 0 where
@@ -50,12 +51,6 @@ record_from {A = A} layout spell Fits make lays same fit bytes are is = by (lays
 text_from : {A : Type 0} (layout : List Part) (spell : A → List ℕ) (Fits : A → Type 0) → Lays layout A spell Fits → (v : A) → Fits v → is_text (layout ++ []) (spell v) ≡ true
 text_from layout spell Fits lays v fits = ap (is_text (layout ++ [])) (sym (append-nil (spell v))) ∙ lays.goes v [] [] fits
 
-small80 : 80 < 2 ^ 16
-small80 = omega arith
-
-small4000 : 4000 < 2 ^ 16
-small4000 = omega arith
-
 small0 : 0 < 2 ^ 16
 small0 = omega arith
 
@@ -84,9 +79,6 @@ input_has = record {
   valid = (omega arith, (tt, (tt, (tt, (tt, (tt, (tt, (tt, tt))))))));
   each = record_from layouts.input input_spelled input_fit (λ v. Input v.0 v.1.0 v.1.1.0 v.1.1.1.0 v.1.1.1.1.0 v.1.1.1.1.1.0 v.1.1.1.1.1.1) input_lays (λ v h. refl) (λ v h. h);
 }
-
-abbrev command_values : Type 0
-command_values = List ℕ
 
 abbrev command_spelled : command_values → List ℕ
 command_spelled v = 2 ∷ (text v)

@@ -76,7 +76,7 @@ abend_behind : (b : ℕ) (c : Bool) → Behind Abend (if c then Some Positive el
 abend_behind b true = record { few = omega arith; many = omega arith; valid = tt }
 abend_behind b false = record { few = omega arith; many = omega arith; valid = tt }
 
-within : (low high b : ℕ) → nat_le low b && nat_le b high ≡ true → (low ≤ b) × (b ≤ high)
+pub within : (low high b : ℕ) → nat_le low b && nat_le b high ≡ true → (low ≤ b) × (b ≤ high)
 within low high b e = let p = and_parts (nat_le low b) (nat_le b high) e in (leb-true low b p.0, leb-true b high p.1)
 
 -- the low byte of a length

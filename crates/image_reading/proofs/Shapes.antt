@@ -13,7 +13,7 @@ use Rattle.log_records.proofs.FieldLaws.{wide16, wide64, number2_length, number8
 use Rattle.image_reading.specs.declared.parts.Part.{Part}
 use Rattle.image_reading.specs.declared.parts.Part.TheVariants.{Exactly, Flag, Positive, Any, Names, Abend, Name, Text, TextLow, Segments, Segment, SegmentLow, SegmentBytes}
 use Rattle.image_reading.specs.Parts.{any_left, names_left, segments_left, segment_left, if_so, left_before, goes_on}
-use Rattle.image_reading.proofs.Ranges.{Split, split, low_tests, are_low}
+use Rattle.image_reading.proofs.Ranges.{Split, split, low_tests, are_low, within}
 use Rattle.image_reading.proofs.Fronts.{is_text, bytes_nil, bytes_cons, goes_before, not_empty}
 
 -- a text, and what stands behind it
@@ -190,9 +190,6 @@ so_goes false left others bytes is = cc
 so_back : (c : Bool) (left : Option Part) (others : List Part) (bytes : List ℕ) → goes_on (λ further. is_text further bytes) others (if_so c left) ≡ true → (c ≡ true) × (is_text (left_before left others) bytes ≡ true)
 so_back true left others bytes is = (refl, sym (goes_before (λ further. is_text further bytes) others left) ∙ is)
 so_back false left others bytes is = absurd cc
-
-within : (low high b : ℕ) → nat_le low b && nat_le b high ≡ true → (low ≤ b) × (b ≤ high)
-within low high b e = let p = and_parts (nat_le low b) (nat_le b high) e in (leb-true low b p.0, leb-true b high p.1)
 
 is_within : (low high n : ℕ) → low ≤ n → n ≤ high → nat_le low n && nat_le n high ≡ true
 is_within low high n l h = and_from (nat_le low n) (nat_le n high) (le-leb low n l) (le-leb n high h)

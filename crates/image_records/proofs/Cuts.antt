@@ -1,19 +1,16 @@
 -- Bytes are cut behind their first record as they are cut there alone.
 use Rattle.std.proofs.Common.{◌≡◌, ℕ, zero, suc, ◌+◌, ◌-◌, ◌≤◌, List, [], ◌∷◌, ◌++◌, length, take, drop, refl, sym, ◌∙◌, ap, subst, arith, Ok, Err, Some, None, append_assoc}
 use Rattle.std.specs.Prelude.{Result}
-use Rattle.std.proofs.lemmas.List.{length-append, length-take, length-drop, take-append-drop, append-nil, drop-drop}
+use Rattle.std.proofs.lemmas.List.{length-take, length-drop, take-append-drop, append-nil, drop-drop}
 use Rattle.std.proofs.Math.ListN.{drop_of_length-le}
 use Rattle.log_records.specs.declared.record.Record.{Record}
-use Rattle.log_records.specs.Spelling.{Spells, spelling, record_length, content, number2}
+use Rattle.log_records.specs.Spelling.{Spells, record_length}
 use Rattle.log_records.specs.Reading.{record_at, number_at}
 use Rattle.log_records.proofs.Takes.{IsBytes, IsBytes-drop}
 use Rattle.log_records.proofs.Laws.{record_takes, record_again}
-use Rattle.log_records.proofs.FieldLaws.{number2_length}
 use Rattle.model_image.specs.Cut.{Cut, none_of, and_others, from_first, cut_by, cut_of}
 use Rattle.image_records.specs.Cutting.{Begins}
-
-length_spelling : (r : Record) → length (spelling r) ≡ record_length r
-length_spelling r = length-append (number2 (record_length r)) (content r) ∙ ap (λ n. n + length (content r)) (number2_length (record_length r))
+use Rattle.model_image.proofs.Cutting.{length_spelling}
 
 -- how long a record is
 sizes : (bytes : List ℕ) (r : Record) (n : ℕ) → n ≤ length bytes → Spells (take n bytes) r → n ≡ record_length r

@@ -1,10 +1,8 @@
 -- The terminals and codes of a state stand in the order of the definition, so a name has the same place in all lists.
-use Rattle.std.proofs.Common.{◌≡◌, ℕ, zero, suc, ◌+◌, ◌<◌, Bool, true, false, List, [], ◌∷◌, length, get_or, map, refl, sym, ◌∙◌, ap, subst, arith, Some, None, cond, nat_lt}
+use Rattle.std.proofs.Common.{◌≡◌, ℕ, zero, suc, ◌<◌, Bool, true, false, List, [], ◌∷◌, length, get_or, map, refl, sym, ◌∙◌, ap, subst, arith, Some, None, cond}
 use Rattle.std.specs.Prelude.{Option, slice_get, slice_set, position}
 use Rattle.std.specs.Option.{option_map, option_map_or}
-use Rattle.std.specs.List.{position_or_len}
 use Rattle.std.specs.Str.{bytes_eq}
-use Rattle.std.proofs.lemmas.Bool.Decides.{nat_tests}
 use Rattle.std.proofs.lemmas.Option.{slice_get-get_or}
 use Rattle.model_messages.specs.declared.conversation.TerminalConversation.{TerminalConversation}
 use Rattle.model_messages.specs.Terminals as conversations
@@ -21,23 +19,9 @@ use Rattle.log_records.specs.declared.record.Record.{Record}
 use Rattle.log_records.specs.declared.record.Record.TheVariants.{Input, Command, Reply, Discarded, Completed, Acknowledged, SyncPoint, Checkpoint, Terminal, Code as CodeRecord, Change}
 use Rattle.model_image.specs.Snapshot.{code_names, told, with_kept}
 use Rattle.image_records.specs.Telling.{AreNamed, of_state, of_output, of_conversation, of_setting}
+use Rattle.tm_types.proofs.Positions.{found, position_more}
 
 -- ---- places
-
-less_more : (k n : ℕ) → nat_lt (1 + k) (suc n) ≡ nat_lt k n
-less_more k n = grind (arith, nat_tests)
-
-zero_less : (n : ℕ) → nat_lt 0 (suc n) ≡ true
-zero_less n = grind (arith, nat_tests)
-
-found : (a b : Bool) (k : ℕ) → a ≡ b → cond a (Some (1 + k)) None ≡ option_map (λ n. suc n) (cond b (Some k) None)
-found a true k is = ap (λ (t : Bool). cond t (Some (1 + k)) None) is ∙ ap (λ (n : ℕ). Some n) (omega arith)
-found a false k is = ap (λ (t : Bool). cond t (Some (1 + k)) None) is
-
-position_more : {X : Type 0} (p : X → Bool) (x : X) (xs : List X) (b : Bool) → p x ≡ b → position p (x ∷ xs) ≡ cond b (Some 0) (option_map (λ n. suc n) (position p xs))
-position_more {X} p x xs true h = rw (h) (ap (λ (t : Bool). cond t (Some 0) None) (zero_less (length xs)))
-position_more {X} p x xs false h =
-    rw (h) (found (nat_lt (1 + position_or_len p xs) (suc (length xs))) (nat_lt (position_or_len p xs) (length xs)) (position_or_len p xs) (less_more (position_or_len p xs) (length xs)))
 
 mapped : {X : Type 0} (name : X → List ℕ) (n : List ℕ) (x : X) (xs : List X) (b : Bool) → bytes_eq (name x) n ≡ b → position (λ y. bytes_eq (name y) n) xs ≡ position (λ m. bytes_eq m n) (map name xs)
     → position (λ y. bytes_eq (name y) n) (x ∷ xs) ≡ position (λ m. bytes_eq m n) (map name (x ∷ xs))

@@ -9,7 +9,7 @@ use system_types::System;
 use tm_types::Name;
 
 /// The text without the blanks at its end.
-#[tactic(auto, using(crate::proofs::Trimmed::trimmed_at))]
+#[tactic(auto, using(tm_types::proofs::Parted::trimmed_at))]
 pub fn without_blanks(text: &[u8]) -> &[u8]
     ensures { result.now ≡ without_blanks text.now }
 {

@@ -21,12 +21,13 @@ use Rattle.model_machine.specs.Lasting.{LastingStep, KeptInput, abend_outputs, a
 use Rattle.model_machine.specs.Lasting.LastingStep.{Accepts, Acknowledges, Commands, Completes, Discards}
 use Rattle.model_image.specs.States.{is_small, is_next}
 use Rattle.image_law.specs.Sound.{Fits}
-use Rattle.image_law.proofs.Bools.{both, first_of, second_of}
+use Rattle.image_law.proofs.Bools.{first_of, second_of}
 use Rattle.image_law.specs.Standing.{Stands, is_run}
 use Rattle.image_law.proofs.Lists.{all_imply}
 use Rattle.image_law.specs.Sending.{ended_bytes, sent_bytes}
 use Rattle.image_law.proofs.Changes.{all_changed}
 use Rattle.journal.specs.Counts.{AreUnspent}
+use Rattle.tm_types.proofs.Truths.{both}
 
 -- each terminal's next number is below this
 abbrev pub are_below : ℕ → List TerminalReplies → Bool

@@ -13,7 +13,6 @@ use Rattle.tm_disk.specs.Disk.{Image}
 use Rattle.model_system.specs.System.{System}
 use Rattle.model_machine.specs.Machine.{LastingState, Slot}
 use Rattle.model_data.specs.Table.{EnqueueTable}
-use Rattle.pi_enqueue.proofs.Keys.{eqb_back}
 use Rattle.log_records.specs.declared.record.Record.{Record}
 use Rattle.log_records.specs.declared.record.Record.TheVariants as record_of
 use Rattle.log_records.specs.Spelling.{spelling, IsRecord}
@@ -43,6 +42,8 @@ use Rattle.journal.proofs.Holding.{one_holder}
 use Rattle.journal.proofs.Numbers.{same_or_apart}
 use Rattle.journal.proofs.Places.{is_among, IsAmong, among_holds}
 use Rattle.journal.proofs.Stores.{has_stores, stands_so, marked_so, stays_there, known_slot_of}
+use Rattle.tm_types.proofs.Ordered.{eqb_back}
+use Rattle.disk_law.proofs.Touched.{both}
 
 -- ---- slots as changes
 
@@ -102,9 +103,6 @@ image_of_known system stores are valid d s known =
     subst (λ (dbd : Dbd). is_image dbd (bytes_at d s stores) ≡ true) of_.is
     (ap (λ (slots : List (List Row)). is_image of_.store.dbd (rows.spelling (slice_index_or slots s []))) here
     ∙ slot_image of_.store.dbd slots.types (slice_index_or of_.store.slots s []) (slot_at of_.store.dbd of_.store.slots s slots.each))
-
-both : (a b : Bool) → a ≡ true → b ≡ true → a && b ≡ true
-both a b h k = rw (h, k) refl
 
 images_known : (system : System) (unit d s : ℕ) (before after : List ℕ) (known : IsKnownSlot system d s) → is_image known.dbd before ≡ true → is_image known.dbd after ≡ true → is_image_of system (record_of.Change unit d s before after) ≡ true
 images_known system unit d s before after known first second =

@@ -1,5 +1,5 @@
 -- What a control region keeps of its disk.
-use Rattle.std.specs.Prelude.{◌≡◌, ℕ, ◌+◌, ◌≤◌, ◌↔◌, List, [], length, Option, Some, None}
+use Rattle.std.specs.Prelude.{◌≡◌, ℕ, ◌+◌, ◌≤◌, ◌↔◌, List, length, Option, Some, None}
 use Rattle.tm_disk.specs.Disk.{Image, DiskState}
 use Rattle.model_system.specs.System.{System}
 use Rattle.model_machine.specs.Machine.{LastingState}
@@ -12,10 +12,6 @@ use Rattle.log_writer.specs.Log.{sectors_of}
 -- the writer with these bytes appended, in place of others
 abbrev pub holding : List ℕ → Writer → Writer
 holding bytes log = record log { appended = bytes }
-
--- the writer once all that was appended is forced
-abbrev pub forced : Writer → Writer
-forced log = record log { place = log.place + sectors_of (length log.appended); appended = [] }
 
 -- With so many bytes more, at least 32 sectors of the log area stay free.
 abbrev pub LeavesSectors : Writer → ℕ → Type 0

@@ -14,11 +14,11 @@ ghost use Rattle.checkpointing.specs.Conditions.{HasRestart, NoneIsAhead, Change
 ghost use Rattle.log_writer.specs.Log.{sectors_of, IsReady, AddsFront, AddsAll};
 ghost use Rattle.disk_law.specs.Life.{LifeOnDisk};
 ghost use Rattle.disk_law.specs.Kept.{AreKept};
-ghost use Rattle.disk_law.specs.Steps.{StepOnDisk, after_step};
+ghost use Rattle.disk_law.specs.Steps.{StepOnDisk, after_step, forced};
 ghost use Rattle.log_records.specs.declared.record.Record.{Record};
 ghost use Rattle.disk_law.specs.Committed.{Touches};
 ghost use Rattle.disk_law.specs.Checkpointing.{after_checkpoint};
-ghost use Rattle.journal.specs.State.{TellsRoom, TellsAllRoom, holding, forced, IsStepOf, RecoverEither};
+ghost use Rattle.journal.specs.State.{TellsRoom, TellsAllRoom, holding, IsStepOf, RecoverEither};
 ghost use Rattle.journal.specs.Checkpoints.{parts_for, IsOf, CanCheckpoint};
 
 use checkpointing::{PartsView, take};

@@ -26,7 +26,7 @@ use Rattle.lasting_state.specs.Tables.{TablesState, lasting_of, closed, finished
 use Rattle.lasting_state.specs.Sending.{switches, switched_message, switched_messages, with_messages, with_replies, IsSent}
 use Rattle.lasting_state.proofs.Sent.{with_terminal_none, switches_still, switches_code, switches_terminal}
 
-abbrev waiting : Message → Queued
+abbrev pub waiting : Message → Queued
 waiting message = record { message = message; holder = None }
 
 -- ---- the messages behind all others

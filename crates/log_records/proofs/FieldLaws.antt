@@ -16,6 +16,7 @@ use Rattle.model_messages.specs.declared.conversation.Conversation.{Conversation
 use Rattle.log_records.specs.Spelling.{number1, number2, number8, flag, name, text, segs, pad_change, conversation_field, IsByte, IsNumber, AreSegments, IsAbend, IsText, IsPadChange, IsConversation}
 use Rattle.log_records.specs.Reading.{Gives, ◌>>=◌, byte_at, number_at, flag_at, bytes_at, unless_wrong, bytes_of_kind_at, number_within_at, byte_within_at, name_at, text_at, segment_at, segments_at, segs_at, pad_of_kind_at, pad_change_at, conversation_where_at, conversation_at}
 use Rattle.log_records.proofs.Takes.{IsBytes, IsBytes-drop, IsBytes-take, IsBytes-rest, bind_ok, failed_not, passed, ok_is, Takes, Takes-then, Field, ◌and◌, both_again, made_takes}
+use Rattle.tm_types.proofs.Printable.{all_from_prefix, none_from_cond}
 
 -- ---- numbers
 
@@ -176,19 +177,6 @@ bytes_again t rest =
     rw (long, take_at t rest (length t) refl, drop_at t rest (length t) refl) refl
 
 -- ---- bytes of a kind
-
-one_more : (p : ℕ → Bool) (x : ℕ) (xs : List ℕ) (b : Bool) → p x ≡ b → length (x ∷ xs) ≤ prefix_len (λ x. not (not (p x))) (x ∷ xs) →
-    (length xs ≤ prefix_len (λ x. not (not (p x))) xs → list_all p xs ≡ true) → list_all p (x ∷ xs) ≡ true
-one_more p x xs true e h rest = let more = rw e at h in rw e (rest (omega arith))
-one_more p x xs false e h rest = let none = rw e at h in absurd (omega arith)
-
-all_from_prefix : (p : ℕ → Bool) (xs : List ℕ) → length xs ≤ prefix_len (λ x. not (not (p x))) xs → list_all p xs ≡ true
-all_from_prefix p [] h = refl
-all_from_prefix p (x ∷ xs) h = one_more p x xs (p x) refl h (all_from_prefix p xs)
-
-none_from_cond : (b : Bool) (n : ℕ) → cond b (Some n) None ≡ None → b ≡ false
-none_from_cond true n h = cc
-none_from_cond false n h = refl
 
 pub all_from_position : (p : ℕ → Bool) (xs : List ℕ) → position (λ b. not (p b)) xs ≡ None → list_all p xs ≡ true
 all_from_position p xs none =

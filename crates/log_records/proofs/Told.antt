@@ -21,7 +21,7 @@ adds_one r before after is valid = record {
   valid = (valid, tt);
 }
 
-all_both : (some more : List Record) → AllByRecursion IsRecord some → AllByRecursion IsRecord more → AllByRecursion IsRecord (some ++ more)
+pub all_both : (some more : List Record) → AllByRecursion IsRecord some → AllByRecursion IsRecord more → AllByRecursion IsRecord (some ++ more)
 all_both [] more a b = b
 all_both (r ∷ some) more a b = (a.0, all_both some more a.1 b)
 

@@ -10,12 +10,14 @@ use Rattle.model_machine.specs.Machine.{LastingState}
 use Rattle.model_image.specs.States.{is_small, is_next, has_right_pad, run_up_to, breaks_a_rule}
 use Rattle.image_records.specs.Kept.{KeptState}
 use Rattle.image_law.specs.Sound.{IsSound}
-use Rattle.image_law.proofs.Bools.{both, first_of, second_of}
+use Rattle.image_law.proofs.Bools.{first_of, second_of}
 use Rattle.image_law.proofs.SoundLaws.{is_sound}
 use Rattle.image_law.proofs.Kept.{stands}
 use Rattle.log_replay.specs.Steps.{is_over}
-use Rattle.log_replay.specs.Judged.{lasting_in, is_run, KeepsRest, IsOrderly, AreFree, AreSound, AreSmall, Does, Leaves}
+use Rattle.log_replay.specs.Judged.{lasting_in, KeepsRest, IsOrderly, AreFree, AreSound, AreSmall, Does, Leaves}
 use Rattle.log_replay.proofs.Orders.{not_small}
+use Rattle.tm_types.proofs.Truths.{both}
+use Rattle.image_law.specs.Standing.{is_run}
 
 small_from : (outputs : List TerminalReplies) → list_all (λ t. is_next t.next) outputs ≡ true → list_any not_small outputs ≡ false
 small_from [] all = refl

@@ -14,13 +14,15 @@ use Rattle.model_machine.specs.Lasting.LastingStep.{Commands}
 use Rattle.model_machine.specs.Machine.{setting_place, terminal_place}
 use Rattle.model_image.specs.States.{has_right_pad, is_next, is_setting, is_small, run_up_to}
 use Rattle.image_records.specs.Kept.{KeptState}
-use Rattle.image_law.proofs.Bools.{both, first_of, second_of}
+use Rattle.image_law.proofs.Bools.{first_of, second_of}
 use Rattle.image_law.proofs.Conversing.{put}
 use Rattle.image_law.proofs.Lists.{all_changed}
 use Rattle.image_law.proofs.Ordered.{all_at, run_drop}
 use Rattle.log_replay.specs.Steps.{step_commands}
-use Rattle.log_replay.specs.Judged.{AreFree, AreSound, KeepsRest, is_run, lasting_in}
+use Rattle.log_replay.specs.Judged.{AreFree, AreSound, KeepsRest, lasting_in}
 use Rattle.log_replay.proofs.Before.{inputs_before, numbers_before, pads_before, rest_before}
+use Rattle.tm_types.proofs.Truths.{both}
+use Rattle.image_law.specs.Standing.{is_run}
 
 module _ (system : System) where
   pub commands_is : (command : LastingCommand) (kept : KeptState) → applied (Commands command) (lasting_in system kept) ≡ lasting_in system (step_commands command kept)

@@ -13,7 +13,6 @@ use Rattle.model_image.specs.Slots.{is_image_of}
 use Rattle.model_image.specs.States.{breaks_a_rule}
 use Rattle.log_replay.specs.Waiting.{of_unit}
 use Rattle.image_records.specs.Kept.{KeptState}
-use Rattle.image_law.proofs.Bools.{both}
 use Rattle.log_replay.specs.Judged.{lasting_in, AreFree, AreSound}
 use Rattle.model_messages.specs.Queue.{messages_of}
 use Rattle.log_replay.specs.Tallied.{Counts, Follows}
@@ -21,6 +20,7 @@ use Rattle.log_replay.proofs.Right.{follows_sound}
 use Rattle.log_replay.specs.Working.{WorkState, IsAt, Comes}
 use Rattle.log_replay.specs.Replaying.{Ends}
 use Rattle.log_replay.proofs.Tables.{kept_is}
+use Rattle.tm_types.proofs.Truths.{both}
 
 -- ---- the loop
 

@@ -14,12 +14,14 @@ use Rattle.log_records.specs.declared.record.Record.TheVariants.{Input, Command,
 use Rattle.model_image.specs.States.{is_small, ascend_below, run_up_to}
 use Rattle.model_image.specs.Snapshot.{message_of}
 use Rattle.image_records.specs.Kept.{KeptState}
-use Rattle.image_law.proofs.Bools.{both, first_of, second_of, not_of_false}
+use Rattle.image_law.proofs.Bools.{first_of, second_of, not_of_false}
 use Rattle.image_law.proofs.Lists.{all_more, all_filter}
 use Rattle.image_law.proofs.Ordered.{ascend_more, ascend_filter, run_more, all_at}
 use Rattle.log_replay.specs.Steps.{with_added, with_replied, with_gone, replies, switches, does, does_all, is_over}
-use Rattle.log_replay.specs.Judged.{KeepsRest, AreFree, has_no_holder, is_run}
+use Rattle.log_replay.specs.Judged.{KeepsRest, AreFree, has_no_holder}
 use Rattle.log_replay.proofs.Orders.{not_small, next_not_small, any_stays, messages_more, messages_without}
+use Rattle.tm_types.proofs.Truths.{both}
+use Rattle.image_law.specs.Standing.{is_run}
 
 -- what replies, added messages and messages that go keep
 module _ (P : KeptState → Type 0)

@@ -23,15 +23,17 @@ use Rattle.log_records.specs.declared.record.Record.{Record}
 use Rattle.model_image.specs.States.{is_small, is_next, is_conversation, has_right_pad, run_up_to}
 use Rattle.model_image.specs.Snapshot.{message_of}
 use Rattle.image_records.specs.Kept.{KeptState}
-use Rattle.image_law.proofs.Bools.{both, first_of, second_of}
+use Rattle.image_law.proofs.Bools.{first_of, second_of}
 use Rattle.image_law.proofs.Lists.{found_passes}
 use Rattle.image_law.proofs.Ordered.{run_drop, all_at}
 use Rattle.image_law.proofs.Conversing.{put}
 use Rattle.log_replay.specs.Steps.{with_added, with_replied, with_gone, with_counted, with_pad, with_told, with_accepted, with_discarded, begins_with, does_all, message_done, step_accepts, step_acknowledges, step_discards, step_syncs}
-use Rattle.log_replay.specs.Judged.{KeepsRest, AreFree, AreSound, is_run}
-use Rattle.log_replay.proofs.Placed.{position_more}
+use Rattle.log_replay.specs.Judged.{KeepsRest, AreFree, AreSound}
 use Rattle.log_replay.proofs.DoneSteps.{rest_replied, rest_added, rest_gone, rest_all, free_added, free_gone, free_all, all_keep}
 use Rattle.log_replay.proofs.Before.{rest_before, numbers_before, inputs_before, pads_before}
+use Rattle.tm_types.proofs.Truths.{both}
+use Rattle.tm_types.proofs.Positions.{position_more}
+use Rattle.image_law.specs.Standing.{is_run}
 
 -- ---- one of the pads, or of the last inputs, changes
 

@@ -8,7 +8,6 @@ pub mod Before
 pub mod Leaving
 pub mod Coming
 pub mod RecordReplayUnits
-pub mod Placed
 pub mod Stepped
 pub mod Talks
 pub mod Right

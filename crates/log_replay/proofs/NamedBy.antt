@@ -14,8 +14,9 @@ use Rattle.image_records.specs.declared.slots.NamedSlot.{NamedSlot}
 use Rattle.image_records.specs.NamedSlots.{is_at, bytes_at, IsBefore, Ascend, is_slot_by, is_slot_of, AreNamed}
 use Rattle.std.proofs.lemmas.List.{reverse-append}
 use Rattle.std.proofs.lemmas.List.Folds.{list_all-append}
-use Rattle.image_law.proofs.Bools.{both, first_of, second_of}
+use Rattle.image_law.proofs.Bools.{first_of, second_of}
 use Rattle.image_law.proofs.Lists.{found_passes}
+use Rattle.tm_types.proofs.Truths.{both}
 
 -- ---- a snapshot's changes say as much as all its records
 

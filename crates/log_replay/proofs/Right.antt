@@ -25,7 +25,7 @@ use Rattle.model_image.specs.States.{is_terminal, is_code, are_alone, breaks_a_r
 use Rattle.model_image.specs.Replay.{pad_size}
 use Rattle.model_image.specs.Snapshot.{message_of}
 use Rattle.image_records.specs.Kept.{KeptState}
-use Rattle.image_law.proofs.Bools.{both, first_of, second_of, same_bytes}
+use Rattle.image_law.proofs.Bools.{first_of, second_of, same_bytes}
 use Rattle.image_law.proofs.Conversing.{put, other_stays, all_known_changed, none_converse}
 use Rattle.image_law.proofs.Lists.{found_passes}
 use Rattle.image_law.proofs.SoundLaws.{is_sound}
@@ -37,6 +37,7 @@ use Rattle.log_replay.proofs.Lifted.{same_message}
 use Rattle.log_replay.proofs.Leaving.{accepted_by, acknowledged_by, synced_by, conversations_stay}
 use Rattle.log_replay.proofs.DoneSteps.{all_keep}
 use Rattle.log_replay.proofs.Talks.{taken_out, any_is, right_is, comes, goes}
+use Rattle.tm_types.proofs.Truths.{both}
 
 and_true : (b : Bool) → b && true ≡ b
 and_true true = refl

@@ -29,7 +29,7 @@ use Rattle.image_law.proofs.Bools.{neither_second}
 use Rattle.image_law.proofs.Lists.{found_passes}
 use Rattle.log_replay.proofs.Orders.{not_small, any_changed, orderly_gone}
 use Rattle.log_replay.proofs.DoneSteps.{all_keep, over_answer}
-use Rattle.log_replay.proofs.Placed.{position_more}
+use Rattle.tm_types.proofs.Positions.{position_more}
 
 -- the first that passes stands at its place
 pub found_at : {X : Type 0} (p : X → Bool) (xs : List X) → find p xs ≡ option_and_then (λ n. slice_get xs n) (position p xs)

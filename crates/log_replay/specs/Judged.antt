@@ -9,12 +9,12 @@ use Rattle.model_messages.specs.Terminals.{conversation_at}
 use Rattle.model_system.specs.Codes.{code_at}
 use Rattle.model_system.specs.System.{System}
 use Rattle.model_messages.specs.declared.queued.Queued.{Queued}
-use Rattle.model_messages.specs.declared.replies.TerminalReplies.{TerminalReplies}
 use Rattle.model_messages.specs.Queue.{messages_of}
 use Rattle.model_machine.specs.Machine.{LastingState}
-use Rattle.model_image.specs.States.{is_setting, ascend_below, run_up_to, is_terminal, is_code, are_alone, is_small, breaks_a_rule}
+use Rattle.model_image.specs.States.{is_setting, ascend_below, is_terminal, is_code, are_alone, is_small, breaks_a_rule}
 use Rattle.image_records.specs.Kept.{KeptState}
 use Rattle.log_replay.specs.Steps.{is_over}
+use Rattle.image_law.specs.Standing.{is_run}
 
 -- what lasts as the tables have it, with no row in any database
 abbrev pub lasting_in : System → KeptState → LastingState
@@ -55,10 +55,6 @@ knows system conversations message = knows_by system conversations message.origi
 abbrev pub are_right : System → KeptState → Bool
 are_right system kept =
     list_all (knows system kept.conversations) (messages_of kept.queues.queued) && are_alone (messages_of kept.queues.queued)
-
--- a terminal's replies follow one another up to its next number, which isn't 0
-abbrev pub is_run : TerminalReplies → Bool
-is_run t = not (t.next == 0) && run_up_to t.next t.replies
 
 -- What no record of a log can break: the settings, that ids ascend, and that replies follow one another.
 pub record KeepsRest (kept : KeptState) : Type 0 where

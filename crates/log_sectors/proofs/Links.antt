@@ -1,6 +1,5 @@
 -- A chain, one sector on.
 use Rattle.std.proofs.Common.{◌≡◌, ℕ, suc, ◌+◌, ◌-◌, ◌<◌, List, [], ◌∷◌, ◌++◌, sym, ◌∙◌, ap, arith, append_assoc, Option, Some, None}
-use Rattle.std.specs.Prelude.{Result, Ok, Err, is_err, OnOk, false}
 use Rattle.tm_disk.specs.Disk.{Image, sector_at}
 use Rattle.log_sectors.specs.Sealed.{opened}
 use Rattle.log_sectors.specs.Chain.{before, chain, joined}
@@ -23,11 +22,6 @@ chain_none count place image first sequence epoch lt none =
 pub chain_some : (count place : ℕ) (image : Image) (first sequence epoch : ℕ) (payload : List ℕ) → place < count → opened epoch (sequence + place) (sector_at image (first + place)) ≡ Some payload → chain (count - place) image (first + place) (sequence + place) epoch ≡ payload ∷ chain (count - (place + 1)) image (first + (place + 1)) (sequence + (place + 1)) epoch
 chain_some count place image first sequence epoch payload lt some =
     chain_step count place image first sequence epoch lt ∙ ap (λ (o : Option (List ℕ)). before o (chain (count - (place + 1)) image (first + (place + 1)) (sequence + (place + 1)) epoch)) some
-
--- what holds at Ok holds where there is no error
-pub at_ok : {T E : Type 0} (r : Result T E) (P : Type 0) → is_err r ≡ false → OnOk r P → P
-at_ok (Ok x) P e on = on
-at_ok (Err x) P e on = cc
 
 -- the bytes read so far, and those to come
 pub joined_next : (all so_far payload next : List ℕ) (rest : List (List ℕ)) (links : List (List ℕ)) → all ≡ so_far ++ joined links → links ≡ payload ∷ rest → next ≡ so_far ++ payload → all ≡ next ++ joined rest

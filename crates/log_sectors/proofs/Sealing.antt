@@ -5,22 +5,11 @@ use Rattle.std.specs.Str.{bytes_eq}
 use Rattle.std.specs.Prelude.{nat_lt, nat_le, if◌then◌else◌}
 use Rattle.std.proofs.lemmas.Bool.{lt-ltb, le-leb, ltb-true, leb-true, true≢false}
 use Rattle.std.proofs.lemmas.Nat.{from_be_bytes-to_be_bytes_2}
-use Rattle.std.proofs.lemmas.List.{length-replicate, take-replicate, get_or-replicate, replicate_more, drop-replicate, take_at, drop_at, length-drop, length-take, take-append-drop, drop-drop}
+use Rattle.std.proofs.lemmas.List.{get_or-replicate, replicate_more, take_at, drop_at, length-drop, length-take, take-append-drop, drop-drop}
 use Rattle.std.proofs.lemmas.Slice.Eq.{bytes_eq-Decides}
 use Rattle.tm_disk.specs.Sector.{zeros, blank}
 use Rattle.log_sectors.specs.Sealed.{header, sealed, used_of, payload_of, opened, Holds}
-
-pub length-zeros : (n : ℕ) → length (zeros n) ≡ n
-unfolding zeros
-length-zeros n = length-replicate n 0
-
-pub drop-zeros : (m n : ℕ) → drop m (zeros n) ≡ zeros (n - m)
-unfolding zeros
-drop-zeros m n = drop-replicate m n 0
-
-pub blank_is : blank ≡ zeros 4096
-unfolding blank
-blank_is = refl
+use Rattle.tm_disk.proofs.Zeros.{length-zeros, drop-zeros, blank_is, take-zeros}
 
 pub length-header : (epoch sequence used : ℕ) → length (header epoch sequence used) ≡ 32
 unfolding header
@@ -213,10 +202,6 @@ pub told_apart : (xs ys : List ℕ) → false ≡ bytes_eq xs ys → xs ≡ ys �
 told_apart xs ys e same = true≢false (sym ((bytes_eq-Decides xs ys).1 same) ∙ sym e)
 
 -- a sector of zeros is no log sector
-
-take-zeros : (m n : ℕ) → m ≤ n → take m (zeros n) ≡ zeros m
-unfolding zeros
-take-zeros m n le = take-replicate m n 0 le
 
 used_of-zeros : from_be_bytes w16 (zeros 2) ≡ 0
 unfolding zeros

@@ -1,6 +1,6 @@
 -- What forcing a log leaves on the disk.
 use Rattle.std.specs.Prelude.{◌≡◌, ◌⊎◌, ℕ, zero, suc, ◌+◌, ◌-◌, ◌*◌, ◌/◌, ◌<◌, ◌≤◌, List, [], ◌∷◌, ◌++◌, length, take, drop, slice_index_or, IsSome, None}
-use Rattle.tm_disk.specs.Disk.{Image, DiskState, sector_at}
+use Rattle.tm_disk.specs.Disk.{Image, DiskState, sector_at, ChangesOnly}
 use Rattle.log_sectors.specs.Sealed.{sealed, opened}
 use Rattle.log_sectors.specs.Chain.{chain, joined}
 use Rattle.log_writer.specs.Writer.{Writer}
@@ -26,12 +26,6 @@ pub record IsAtEnd (writer : Writer) (image : Image) : Type 0 where
 -- The writer is where the log ends in each image that a crash may leave.
 abbrev pub IsReady : Writer → DiskState → Type 0
 IsReady writer disk = (image : Image) → disk.may_leave image → IsAtEnd writer image
-
--- The sectors from a place on are others, so many of them, and all the rest stay.
-pub record ChangesOnly (at count : ℕ) (before after : Image) : Type 0 where
-  pub size : length after ≡ length before
-  pub below : (k : ℕ) → k < at → sector_at after k ≡ sector_at before k
-  pub above : (k : ℕ) → at + count ≤ k → sector_at after k ≡ sector_at before k
 
 -- a sector of the writer's area is as before, or a log sector of its epoch with the sequence that belongs to its place
 abbrev pub StaysOrLogs : Writer → Image → Image → ℕ → Type 0

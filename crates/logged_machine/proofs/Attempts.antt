@@ -34,7 +34,6 @@ use Rattle.log_writer.specs.Writer.{Writer}
 use Rattle.log_writer.specs.Log.{IsReady, AddsFront, sectors_of}
 use Rattle.disk_law.specs.Changes.{with_bytes}
 use Rattle.disk_law.specs.Journal.{JournalState}
-use Rattle.journal.specs.State.{forced}
 use Rattle.tm_machine.specs.Answers.{IsAnswered}
 use Rattle.tm_machine.specs.OnSlots.{HasSlots, TellByCall, TurnsSo, changes_told, slots_now, turn_records}
 use Rattle.tm_machine.specs.Parts.{PartsState}
@@ -65,6 +64,7 @@ use Rattle.logged_machine.proofs.Frugality.{area_is, writes_log}
 use Rattle.logged_machine.proofs.Logging.{area}
 use Rattle.logged_machine.specs.Forcing.{Forces, IsForced, MayForce}
 use Rattle.logged_machine.proofs.Once.{failed, is, is_broken, is_still, quiet, quiet_logged, was, wrote, wrote_logged}
+use Rattle.disk_law.specs.Steps.{forced}
 
 apart : false ≡ true → ⊥
 apart e = cc

@@ -1,7 +1,7 @@
 -- What a call writes, and how far it raises what is counted on.
 use Rattle.std.proofs.Common.{◌≡◌, ◌≤◌, ◌<◌, ◌+◌, ◌*◌, ℕ, Bool, true, false, List, [], ◌∷◌, length, refl, sym, ◌∙◌, ap, subst, arith, ⊎_elim, inl, inr}
 use Rattle.std.specs.Prelude.{Option, Some, None}
-use Rattle.tm_disk.specs.Disk.{DiskState, ComesFrom, Within, WritesAtMost}
+use Rattle.tm_disk.specs.Disk.{DiskState, ComesFrom, Within, WritesAtMost, ChangesOnly}
 use Rattle.model_system.specs.System.{System}
 use Rattle.model_machine.specs.History.{call_of}
 use Rattle.model_machine.specs.declared.entry.Entry.{Entry}
@@ -10,7 +10,7 @@ use Rattle.model_machine.specs.declared.entry.ControlFault.TheVariants.{Memory, 
 use Rattle.log_records.specs.declared.untold.Untold.{Untold}
 use Rattle.log_records.specs.declared.untold.Untold.TheVariants.{Full}
 use Rattle.log_writer.specs.Writer.{Writer}
-use Rattle.log_writer.specs.Log.{AddsFront, ChangesOnly, sectors_of}
+use Rattle.log_writer.specs.Log.{AddsFront, sectors_of}
 use Rattle.disk_law.specs.Changes.{with_bytes}
 use Rattle.disk_law.specs.Journal.{JournalState}
 use Rattle.lasting_state.specs.Untold.{WhereFull}

@@ -17,10 +17,10 @@ use Rattle.disk_law.specs.Changes.{with_bytes}
 use Rattle.disk_law.specs.Kept.{AreKept, RecoversEither}
 use Rattle.disk_law.proofs.Front.{recovers}
 use Rattle.disk_law.proofs.Forcing.{restart_stays, text_stays}
-use Rattle.disk_law.specs.Steps.{after_step, with_records}
+use Rattle.disk_law.specs.Steps.{after_step, with_records, forced}
 use Rattle.disk_law.proofs.Stepping.{step_front}
 use Rattle.disk_law.specs.Journal.{JournalState}
-use Rattle.journal.specs.State.{IsStepOf, forced}
+use Rattle.journal.specs.State.{IsStepOf}
 use Rattle.tm_machine.specs.OnSlots.{slots_now}
 use Rattle.tm_machine.specs.Parts.{PartsState}
 use Rattle.journal.specs.Carried.{IsCarriedBy}

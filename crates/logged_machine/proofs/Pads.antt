@@ -15,9 +15,7 @@ use Rattle.model_system.specs.Codes.{code_at}
 use Rattle.model_system.specs.System.{System}
 use Rattle.model_image.specs.States as states
 use Rattle.tm_machine.specs.Parts.{IsConversation}
-
-both : (a b : Bool) → a ≡ true → b ≡ true → a && b ≡ true
-both a b h k = rw (h, k) refl
+use Rattle.disk_law.proofs.Touched.{both}
 
 all_dropped : (n : ℕ) (bytes : List ℕ) → list_all is_printable bytes ≡ true → list_all states.is_printable (drop n bytes) ≡ true
 all_dropped zero bytes all = all

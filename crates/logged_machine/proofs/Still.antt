@@ -1,5 +1,5 @@
 -- Calls that leave the databases as they are.
-use Rattle.std.proofs.Common.{◌≡◌, ℕ, true, false, List, refl}
+use Rattle.std.proofs.Common.{◌≡◌, ℕ, false, List, refl}
 use Rattle.model_machine.specs.History.{call_of}
 use Rattle.model_machine.specs.declared.entry.ControlCall.{ControlCall}
 use Rattle.model_machine.specs.declared.entry.ControlCall.TheVariants.{Input, Receive, Acknowledge, Turn, Command, Checkpoint}
@@ -9,9 +9,7 @@ use Rattle.tm_machine.specs.Parts.{PartsState}
 use Rattle.logged_machine.specs.Taking.{settled_parts}
 use Rattle.logged_machine.specs.Calls.{ChangesBy, Does, DoesTo, may_change, own_records}
 use Rattle.logged_machine.proofs.Behind.{answered_settled, databases_settled}
-
-apart : true ≡ false → ⊥
-apart e = cc
+use Rattle.tm_types.proofs.Truths.{apart}
 
 pub still : (units : List ℕ) (entry : Entry) (old new : PartsState) → may_change (call_of entry) ≡ false → DoesTo units entry old new → new.databases ≡ old.databases
 still units (Accept terminal number segments answer) old new none does = does

@@ -6,8 +6,8 @@ use Rattle.log_writer.specs.Log.{AddsAll, AddsFront, IsReady, sectors_of}
 use Rattle.disk_law.specs.Journal.{JournalState}
 use Rattle.disk_law.specs.Life.{LifeOnDisk}
 use Rattle.disk_law.specs.Kept.{AreKept}
-use Rattle.disk_law.specs.Steps.{StepOnDisk, after_step}
-use Rattle.journal.specs.State.{IsStepOf, forced}
+use Rattle.disk_law.specs.Steps.{StepOnDisk, after_step, forced}
+use Rattle.journal.specs.State.{IsStepOf}
 
 -- The log's area is on the disk and its sequences are in their range, and behind its writer the area is free.
 pub record MayForce (log : Writer) (disk : DiskState) : Type 0 where

@@ -1,20 +1,21 @@
 -- What a call other than a checkpoint writes, and how far a call raises what is counted on.
 use Rattle.std.specs.Prelude.{◌≡◌, ◌⊎◌, ℕ, ◌+◌, ◌≤◌, Bool, true, false, List, [], length, Option, Some, None}
 use Rattle.std.specs.Option.{is_some}
-use Rattle.tm_disk.specs.Disk.{DiskState, Within, WritesAtMost}
+use Rattle.tm_disk.specs.Disk.{DiskState, Within, WritesAtMost, ChangesOnly}
 use Rattle.model_system.specs.System.{System}
 use Rattle.model_machine.specs.Steps.{lasting_step}
 use Rattle.model_machine.specs.declared.entry.ControlCall.{ControlCall}
 use Rattle.model_machine.specs.declared.entry.ControlFault.{ControlFault}
 use Rattle.model_machine.specs.declared.entry.ControlFault.TheVariants.{Memory, Disk, Spent}
 use Rattle.log_writer.specs.Writer.{Writer}
-use Rattle.log_writer.specs.Log.{ChangesOnly, sectors_of}
+use Rattle.log_writer.specs.Log.{sectors_of}
 use Rattle.disk_law.specs.Changes.{with_bytes}
 use Rattle.disk_law.specs.Journal.{JournalState}
-use Rattle.journal.specs.State.{LeavesSectors, forced}
+use Rattle.journal.specs.State.{LeavesSectors}
 use Rattle.tm_machine.specs.Parts.{PartsState}
 use Rattle.logged_machine.specs.Calls.{own_bytes}
 use Rattle.logged_machine.specs.Taking.{TakesNext, checkpoint_sectors}
+use Rattle.disk_law.specs.Steps.{forced}
 
 -- whether a step lasts of it
 abbrev pub has_lasting_step : PartsState → ControlCall → Bool

@@ -16,7 +16,8 @@ use Rattle.model_data.specs.Modes.{serves, stronger, holder_cmp}
 use Rattle.model_data.specs.Table.{EnqueueTable, is_asker, is_served, is_upgrade, mode_held, blocked_by}
 use Rattle.model_data.specs.Ask.{asker, granted, granted_mode, with_hold, waiting, waits_only_for, after_asks, first_blocked, placed}
 use Rattle.message_run.specs.Ahead.{IsHeld}
-use Rattle.message_run.proofs.Holders.{asker_is, holder_exact, holder_same}
+use Rattle.message_run.proofs.Holders.{asker_is, holder_same}
+use Rattle.model_data.proofs.Holders.{holder_exact}
 
 -- ---- look-ups behind a hold more
 -- a test passes just the holder that is inserted

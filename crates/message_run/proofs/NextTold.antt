@@ -41,10 +41,7 @@ use Rattle.message_run.specs.RunState.{AreStanding}
 use Rattle.message_run.specs.Answering.{IfAnswered, IsRolled, RollsBack}
 use Rattle.message_run.specs.declared.answer.CallEnd.{CallEnd}
 use Rattle.message_run.specs.declared.answer.CallEnd.TheVariants.{Answered, Abended, Waits}
-
-append_nil : (xs : List ℕ) → xs ++ [] ≡ xs
-append_nil [] = refl
-append_nil (x ∷ xs) = ap (λ ys. x ∷ ys) (append_nil xs)
+use Rattle.program_rows.proofs.Retold.{append_nil}
 
 -- nothing is told, and no slot has changed
 pub tells_nothing : (unit room region : ℕ) (before after : DatabasesState) (xs : List ℕ) → slots_in after ≡ slots_in before → TellsNext unit room region before after xs xs []

@@ -22,15 +22,8 @@ use Rattle.model_system.specs.Fitting.{fitted}
 use Rattle.model_system.specs.Formats.{FormatLines}
 use Rattle.model_system.specs.Valid.{IsFormat, is_message_field, is_segment}
 use Rattle.mfs_edit.specs.Texts.{is_text, values_printable}
-use Rattle.mfs_edit.proofs.Rules.{neither, not_if, kept_input}
-
-both_true : (a b : Bool) → a ≡ true → b ≡ true → (a && b) ≡ true
-both_true true b e f = f
-both_true false b e f = cc
-
-parts_true : (a b : Bool) → (a && b) ≡ true → (a ≡ true) × (b ≡ true)
-parts_true true b e = (refl, e)
-parts_true false b e = cc
+use Rattle.mfs_edit.proofs.Rules.{not_if, kept_input}
+use Rattle.tm_types.proofs.Truths.{both_true, parts_true, neither}
 
 module _ {A : Type 0} (p : A → Bool) where
   all_take : (n : ℕ) (xs : List A) → list_all p xs ≡ true → list_all p (take n xs) ≡ true

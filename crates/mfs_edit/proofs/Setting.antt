@@ -18,7 +18,8 @@ use Rattle.model_system.specs.Showing.{Piece, covers, shown_in, byte_in, byte_at
 use Rattle.model_system.specs.Valid.{is_on_page}
 use Rattle.mfs_edit.specs.Pieces.{OnPage, row_with}
 use Rattle.mfs_edit.proofs.Names.{found_backwards}
-use Rattle.mfs_edit.proofs.Clashes.{apart, parts_true, is_false, IsIn, all_in, other_name, one_covers}
+use Rattle.mfs_edit.proofs.Clashes.{apart, is_false, IsIn, all_in, other_name, one_covers}
+use Rattle.tm_types.proofs.Truths.{parts_true}
 
 -- what a piece shows in a field
 abbrev pub set_in : Piece → DeviceField → List ℕ

@@ -1,5 +1,5 @@
 -- A line more leaves a format whose lines keep their rules.
-use Rattle.std.proofs.Common.{ℕ, ◌≡◌, Bool, true, false, ◌&&◌, List, [], ◌∷◌, ◌++◌, Result, Ok, Err, refl, sym, subst, ◌∙◌}
+use Rattle.std.proofs.Common.{ℕ, ◌≡◌, Bool, true, ◌&&◌, List, [], ◌∷◌, ◌++◌, Result, Ok, Err, refl, sym, subst, ◌∙◌}
 use Rattle.std.specs.Prelude.{IsTrue, OnOk}
 use Rattle.std.specs.List.{list_all}
 use Rattle.std.proofs.lemmas.List.Folds.{list_all-append}
@@ -14,14 +14,7 @@ use Rattle.mfs_text.specs.declared.lines.FormatLine.{FormatLine}
 use Rattle.mfs_text.specs.declared.lines.FormatLine.TheVariants.{Nothing, Field, Message, Segment, MessageField, End}
 use Rattle.mfs_text.specs.Built.{with_last, added, segment_added, field_added}
 use Rattle.mfs_text.specs.Good.{is_good}
-
-both_true : (a b : Bool) → a ≡ true → b ≡ true → (a && b) ≡ true
-both_true true b e f = f
-both_true false b e f = cc
-
-parts_true : (a b : Bool) → (a && b) ≡ true → (a ≡ true) × (b ≡ true)
-parts_true true b e = (refl, e)
-parts_true false b e = cc
+use Rattle.tm_types.proofs.Truths.{both_true, parts_true}
 
 one_more : {A : Type 0} → (p : A → Bool) (xs : List A) (x : A) → list_all p xs ≡ true → p x ≡ true → list_all p (xs ++ x ∷ []) ≡ true
 one_more p xs x all one = list_all-append p xs (x ∷ []) ∙ both_true (list_all p xs) (p x && true) all (both_true (p x) true one refl)

@@ -192,10 +192,8 @@ fn numbered(number: u32, field: Result<MessageField, u8>) -> Result<FormatLine, 
     ensures value { result ≡ spec.numbered number field }
     ensures valid { IfOk result (λ line. IsTrue (is_good line)) }
 {
-    match field {
-        Ok(content) => Ok(FormatLine::MessageField(MessageFieldLine { number, content })),
-        Err(rule) => Err(rule),
-    }
+    let content = field?;
+    Ok(FormatLine::MessageField(MessageFieldLine { number, content }))
 }
 
 /// The line of a kind that has these operands and this number, or the lowest rule that their values

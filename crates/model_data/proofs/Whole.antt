@@ -19,7 +19,8 @@ use Rattle.model_data.proofs.Lists.{all_append, all_then, all_both, all_filter, 
 use Rattle.model_data.proofs.Filters.{filter_passes}
 use Rattle.model_data.proofs.Paths.{root_type}
 use Rattle.model_data.proofs.Under.{row_among, has_front, has_back}
-use Rattle.model_data.proofs.Records.{is_gt-true, is_lt-true, record_rooted, with_record_itself, with_record_other}
+use Rattle.model_data.proofs.Records.{is_gt-true, record_rooted, with_record_itself, with_record_other}
+use Rattle.model_data.proofs.Reading.{is_lt-true}
 
 -- a path that a test keeps is there behind the filter
 pub has_filter : (f : List (ℕ × List ℕ) → Bool) (rows : List Row) (path : List (ℕ × List ℕ)) → f path ≡ true → HasPath rows path → HasPath (filter (λ row. f row.path) rows) path

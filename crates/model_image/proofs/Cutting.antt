@@ -27,7 +27,7 @@ pub record CutsFront (records : List Record) (count : ℕ) (cut : Cut) : Type 0 
   pub rest : IsCutOff cut.rest
   pub most : (k : ℕ) → k ≤ length records → length (spelled (take k records)) ≤ count → k ≤ whole
 
-length_spelling : (r : Record) → length (spelling r) ≡ record_length r
+pub length_spelling : (r : Record) → length (spelling r) ≡ record_length r
 length_spelling r = length-append (number2 (record_length r)) (content r) ∙ ap (λ n. n + length (content r)) (number2_length (record_length r))
 
 -- a front of a record's spelling begins with no record

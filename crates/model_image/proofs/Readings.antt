@@ -61,7 +61,7 @@ epoch_at : (epoch sequence : ℕ) (payload : List ℕ) → epoch < 2 ^ 64 → nu
 unfolding sealed header number8_at
 epoch_at epoch sequence payload small = from_be_bytes-to_be_bytes_8 epoch small
 
-not_both : (o : Option (List ℕ)) → o ≡ None → IsSome o → ⊥
+pub not_both : (o : Option (List ℕ)) → o ≡ None → IsSome o → ⊥
 not_both None e some = cc
 not_both (Some x) e some = cc
 

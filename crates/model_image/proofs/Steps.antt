@@ -27,6 +27,7 @@ use Rattle.model_system.specs.Codes.{code_at}
 use Rattle.model_system.specs.System.{System}
 use Rattle.model_image.specs.Replay.{done, all_done, pad_size, kept_in_record, accepts, acknowledges, discards, commands, syncs, with_step, completed_id, completed_message}
 use Rattle.model_image.specs.Records.{output_record, output_records, completion_records}
+use Rattle.tm_types.proofs.Truths.{both}
 
 same : (n : ℕ) → (n == n) ≡ true
 same n = eq-eqb n n refl
@@ -34,11 +35,6 @@ same n = eq-eqb n n refl
 where_true : {A : Type 0} (b : Bool) (x : A) → b ≡ true → (if b then Some x else None) ≡ Some x
 where_true true x e = refl
 where_true false x e = cc
-
-both : (a b : Bool) → a ≡ true → b ≡ true → a && b ≡ true
-both true true x y = refl
-both true false x y = y
-both false b x y = x
 
 -- ---- steps that one record tells of
 
@@ -106,7 +102,7 @@ all_sent_again unit origin (output ∷ outputs) lasting more =
     ∙ all_sent_again unit origin outputs (sent origin output lasting) more
 
 -- the state without a message
-abbrev gone : ℕ → LastingState → LastingState
+abbrev pub gone : ℕ → LastingState → LastingState
 gone id lasting = record lasting { messages = without_message lasting.messages id }
 
 without_later : (id : ℕ) (message : Message) (messages : List Message) → (message.id ≡ id → ⊥) → without_message (messages ++ message ∷ []) id ≡ without_message messages id ++ message ∷ []
@@ -161,7 +157,7 @@ all_sent_steps origin (output ∷ outputs) lasting =
     all_sent_steps origin outputs (sent origin output lasting) ∙ sent_steps origin output lasting (is_some (output_at lasting.outputs output.to)) refl
 
 -- the message of an id has that id
-has_its_id : (id : ℕ) (messages : List Message) (message : Message) → message_at messages id ≡ Some message → message.id ≡ id
+pub has_its_id : (id : ℕ) (messages : List Message) (message : Message) → message_at messages id ≡ Some message → message.id ≡ id
 has_its_id id [] message found = cc
 has_its_id id (first ∷ messages) message found = by_first (first.id == id) refl (has_its_id id messages message) found where
   by_first : (b : Bool) → first.id == id ≡ b → (message_at messages id ≡ Some message → message.id ≡ id) → (if b then Some first else message_at messages id) ≡ Some message → message.id ≡ id

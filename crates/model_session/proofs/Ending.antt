@@ -7,13 +7,11 @@ use Rattle.model_machine.specs.Machine.{Moment}
 use Rattle.model_machine.specs.History.{AreSteps, IsEnd, IsLegal, after_entry, ended_by, is_fault}
 use Rattle.model_session.specs.Lives.{is_disk_fault}
 use Rattle.model_session.proofs.Unfaulted.{unfaulted}
+use Rattle.tm_types.proofs.Truths.{apart}
 
 last_fine : (system : System) (steps : List Entry) (entry : Entry) (moment : Moment) → AreSteps system moment (steps ++ entry ∷ []) → is_fault entry ≡ false
 last_fine system [] entry moment legal = unfaulted system moment entry legal.0
 last_fine system (step ∷ steps) entry moment legal = last_fine system steps entry (after_entry system moment step) legal.1
-
-apart : true ≡ false → ⊥
-apart e = cc
 
 none_left : (entry first : Entry) (entries : List Entry) → [] ≡ entries ++ entry ∷ [] → ⊥
 none_left entry first [] e = cc

@@ -2,24 +2,16 @@
 use Rattle.std.proofs.Common.{◌≡◌, ℕ, ◌+◌, ◌≤◌, Bool, true, false, ◌&&◌, List, [], ◌∷◌, ◌++◌, refl, sym, ◌∙◌, ap, subst, arith}
 use Rattle.std.specs.Prelude.{Option, Some, None}
 use Rattle.std.specs.List.{list_all}
-use Rattle.std.specs.Option.{option_map_or}
 use Rattle.model_machine.specs.declared.entry.Entry.{Entry}
 use Rattle.model_system.specs.System.{System}
 use Rattle.model_machine.specs.Machine.{LastingState, Moment, start_of}
-use Rattle.model_machine.specs.Lasting.{LastingStep, applied}
-use Rattle.model_machine.specs.Steps.{lasting_step}
-use Rattle.model_machine.specs.History.{AreSteps, after_entry, call_of, ended_by, is_fault, moment_after}
+use Rattle.model_machine.specs.History.{AreSteps, after_entry, ended_by, is_fault, moment_after}
 use Rattle.model_session.specs.Lives.{LastLife, HasAnswered, Leaves}
 use Rattle.model_session.proofs.Unfaulted.{unfaulted}
+use Rattle.tm_types.proofs.Truths.{apart}
+use Rattle.model_machine.proofs.Rising.{steps_rise}
 
 -- ---- lasting steps are counted on
-
-rises : (lasting : LastingState) (step : Option LastingStep) → lasting.steps ≤ (option_map_or (λ s. applied s lasting) step lasting).steps
-rises lasting None = omega arith
-rises lasting (Some step) = omega arith
-
-steps_rise : (system : System) (moment : Moment) (entry : Entry) → moment.lasting.steps ≤ (after_entry system moment entry).lasting.steps
-steps_rise system moment entry = rises moment.lasting (lasting_step system moment (call_of entry))
 
 on : (a b c : ℕ) → a ≤ b → b ≤ c → a ≤ c
 on a b c first second = omega (arith, first, second)
@@ -32,10 +24,10 @@ all_rise system (entry ∷ entries) moment =
 
 -- ---- a front that has every entry that was answered
 
-head_is : {X : Type 0} (x y : X) (xs ys : List X) → x ∷ xs ≡ y ∷ ys → x ≡ y
+pub head_is : {X : Type 0} (x y : X) (xs ys : List X) → x ∷ xs ≡ y ∷ ys → x ≡ y
 head_is x y xs ys e = cc
 
-tail_is : {X : Type 0} (x y : X) (xs ys : List X) → x ∷ xs ≡ y ∷ ys → xs ≡ ys
+pub tail_is : {X : Type 0} (x y : X) (xs ys : List X) → x ∷ xs ≡ y ∷ ys → xs ≡ ys
 tail_is x y xs ys e = cc
 
 ended_more : (entry : Entry) (entries : List Entry) (last : Option Entry) → ended_by (entry ∷ entries) last ≡ entry ∷ ended_by entries last
@@ -49,9 +41,6 @@ first_faulted entry entries (first ∷ rest) same all = ap is_fault (head_is ent
     of : (a b : Bool) → a && b ≡ true → a ≡ true
     of true b h = refl
     of false b h = h
-
-apart : true ≡ false → ⊥
-apart e = cc
 
 front_has : (system : System) (steps front rest : List Entry) (last : Option Entry) (moment : Moment) → AreSteps system moment steps → ended_by steps last ≡ front ++ rest
     → list_all is_fault rest ≡ true → (moment_after system moment steps).lasting.steps ≤ (moment_after system moment front).lasting.steps

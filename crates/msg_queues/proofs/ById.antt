@@ -17,7 +17,8 @@ use Rattle.model_messages.specs.declared.queued.Queued.{Queued}
 use Rattle.model_messages.specs.Room.{message_bytes, messages_bytes}
 use Rattle.model_messages.specs.Queue.{AreInOrder, ids_of, IsNewId, messages_of, has_id, queued_at, with_message, with_holder, without}
 use Rattle.msg_queues.specs.Kept.{AreKeyed}
-use Rattle.msg_queues.proofs.Keys.{at_key, key_is, greater_from, first_below, others_ascend}
+use Rattle.msg_queues.proofs.Keys.{at_key, key_is, first_below, others_ascend}
+use Rattle.tm_types.proofs.Ordered.{greater_from}
 
 -- each message is kept under its id
 abbrev pub AreOwn : List (ℕ × Queued) → Type 0

@@ -13,7 +13,8 @@ use Rattle.std.proofs.lemmas.Map.Entries.{sum_by-set_value, sum_by-remove_entry,
 use Rattle.std.proofs.lemmas.List.Sums.{sum_by_push, count_by-le-length}
 use Rattle.std.proofs.lemmas.List.{map-append}
 use Rattle.msg_queues.specs.Places.{IsBehind, with_flag, without_id, weight, open_count, AreCounted}
-use Rattle.msg_queues.proofs.Keys.{at_key, key_is, greater_from, first_below, others_ascend}
+use Rattle.msg_queues.proofs.Keys.{at_key, key_is, first_below, others_ascend}
+use Rattle.tm_types.proofs.Ordered.{greater_from}
 
 abbrev AreAbove : ℕ → List (ℕ × Bool) → Type 0
 AreAbove id es = AllByRecursion (λ k. nat_cmp id k ≡ Less) (keys_of es)

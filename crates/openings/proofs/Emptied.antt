@@ -17,11 +17,12 @@ use Rattle.restart_data.specs.Restart.{restart_of}
 use Rattle.restart_data.specs.Rules.{first_broken, unless_broken}
 use Rattle.restart_data.specs.Restart.{restart_rules, fields_of}
 use Rattle.restart_data.specs.Fields.{are_zeros}
-use Rattle.restart_data.proofs.Zeros.{blank_is, are_zeros-zeros}
+use Rattle.restart_data.proofs.Zeros.{are_zeros-zeros}
 use Rattle.model_image.specs.States.{is_small, is_next, has_right_pad, run_up_to, breaks_a_rule, is_setting}
 use Rattle.checkpointing.specs.Records.{IsOfSystem}
 use Rattle.system_types.specs.Definitions.{IsTransaction}
 use Rattle.system_types.specs.Valid.{IsSystem}
+use Rattle.tm_disk.proofs.Zeros.{blank_is}
 
 -- ---- the empty state keeps the rules
 

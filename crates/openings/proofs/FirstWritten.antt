@@ -17,7 +17,7 @@ use Rattle.openings.specs.declared.laying_cold.Places.{Places}
 use Rattle.openings.specs.FirstImage.{IsFirst, IsFirstImage, BeginsImage, first_records}
 use Rattle.openings.specs.Filling.{AreOf, IsWritten, Begins}
 use Rattle.openings.proofs.Emptied.{blank_restart, empty_is, empty_sound}
-use Rattle.openings.proofs.Names.{codes_apart}
+use Rattle.checkpointing.proofs.Apart.{codes_apart}
 
 module _ (system : System) (text bytes : List ℕ) (now : RestartSector) (valid : IsSystem system) (adds : Adds (first_records system) [] bytes) (first : IsFirst now) where
   -- the first image has the first snapshot

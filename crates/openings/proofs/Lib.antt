@@ -1,7 +1,6 @@
 pub mod Laying
 pub mod ThreeSteps
 pub mod Emptied
-pub mod Names
 pub mod FirstSnapshot
 pub mod FirstWritten
 pub mod OpeningPartsMade

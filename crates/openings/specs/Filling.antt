@@ -1,8 +1,7 @@
 -- What a cold start writes before its restart sector.
 use Rattle.std.specs.Prelude.{◌≡◌, ◌⊎◌, ◌≤◌, Some, ℕ, ◌+◌, ◌-◌, ◌*◌, ◌/◌, ◌<◌, List, ◌++◌, length, take, drop, Ok}
-use Rattle.tm_disk.specs.Disk.{Image, sector_at, with_sector}
+use Rattle.tm_disk.specs.Disk.{Image, sector_at, with_sector, ChangesOnly}
 use Rattle.tm_disk.specs.Sector.{zeros, blank}
-use Rattle.restart_data.specs.Images.{ChangesOnly}
 use Rattle.restart_data.specs.declared.restart.RestartSector.{RestartSector}
 use Rattle.restart_data.specs.Restart.{restart_in}
 use Rattle.restart_data.specs.Snapshot.{sectors_of, snapshot_in}

@@ -18,8 +18,10 @@ use Rattle.model_data.specs.Modes.{same_resource, excludes, serves, stronger, ho
 use Rattle.model_data.specs.Table.{EnqueueTable, holds_of, mode_held, is_against, holders_against, is_own, ahead, blockers, blocked_by}
 use Rattle.model_data.specs.Ask.{asker, granted_mode, with_hold, without_wait, granted}
 use Rattle.pi_enqueue.specs.Kept.{IsKept, Upgrades, held}
-use Rattle.pi_enqueue.proofs.Keys.{holder_total, lookup_alike, holder_exact, holder_ties, resource_exact, resource_back, eqb_back}
+use Rattle.pi_enqueue.proofs.Keys.{lookup_alike}
 use Rattle.pi_enqueue.proofs.Ascending.{all_map, all_filtered, filter_inserted, lookup_inserted}
+use Rattle.model_data.proofs.Holders.{holder_total, holder_exact, holder_ties, resource_exact, resource_back}
+use Rattle.tm_types.proofs.Ordered.{eqb_back}
 
 pub clash : {P : Type 0} → true ≡ false → P
 clash h = absurd (cc)

@@ -18,8 +18,9 @@ use Rattle.model_data.specs.Table.{mode_held, is_served}
 use Rattle.model_data.specs.Ask.{asker, granted_mode, with_hold}
 use Rattle.pi_enqueue.specs.declared.holds.Change.{Change}
 use Rattle.pi_enqueue.specs.Lists.{IsUpTo, is_on, is_listed, AreListed, StayListed, with_mode, before_all, is_more}
-use Rattle.pi_enqueue.proofs.Keys.{holder_total, held_is, holder_exact, holder_ties, resource_same}
+use Rattle.pi_enqueue.proofs.Keys.{held_is}
 use Rattle.pi_enqueue.proofs.Ascending.{all_map, all_keys_inserted, insert_same, reset_inserted, remove_inserted, filter_removed, none_removed}
+use Rattle.model_data.proofs.Holders.{holder_total, holder_exact, holder_ties, resource_same}
 
 -- ---- the mode
 pub serves_keeps : (a b : Mode) → serves a b ≡ true → stronger a b ≡ a

@@ -21,10 +21,11 @@ use Rattle.model_data.specs.Cycle.{IsRegion}
 use Rattle.pi_enqueue.specs.Kept.{IsKept, Upgrades, Waits, held}
 use Rattle.pi_enqueue.specs.declared.lists.Lists.{Lists}
 use Rattle.pi_enqueue.specs.Lists.{seen, AreKept, AreListed}
-use Rattle.pi_enqueue.proofs.Keys.{holder_total, resource_exact, resource_back, eqb_back}
 use Rattle.pi_enqueue.proofs.Ascending.{all_map, all_filtered, all_keys_filtered, all_keys_inserted, sorted_inserted, sorted_filtered}
 use Rattle.pi_enqueue.proofs.Holding.{serves_keeps, unserved_mode}
 use Rattle.pi_enqueue.proofs.Granting.{clash, and_split, at_holder, held_after, against_found, none_first, none_both}
+use Rattle.model_data.proofs.Holders.{holder_total, resource_exact, resource_back}
+use Rattle.tm_types.proofs.Ordered.{eqb_back}
 
 -- ---- lists
 pub all_passing : {A : Type 0} (P : A → Type 0) (p : A → Bool) (xs : List A) → AllByRecursion P xs → AllByRecursion (λ x. (p x ≡ true) × P x) (filter p xs)

@@ -13,10 +13,11 @@ use Rattle.model_data.specs.Modes.{serves, stronger, holder_cmp}
 use Rattle.model_data.specs.Table.{EnqueueTable, holds_of, mode_held, is_served, blocked_by}
 use Rattle.model_data.specs.Ask.{asker, granted_mode, with_hold, granted, waiting, waits_only_for, after_asks, first_blocked, released}
 use Rattle.pi_enqueue.specs.Kept.{IsKept, held}
-use Rattle.pi_enqueue.proofs.Keys.{resource_same, eqb_back, holder_exact}
 use Rattle.pi_enqueue.proofs.Granting.{clash, at_holder, held_after}
 use Rattle.pi_enqueue.proofs.Keeping.{held_released}
 use Rattle.pi_enqueue.proofs.Asking.{AreOf, holds_of_waiting}
+use Rattle.model_data.proofs.Holders.{resource_same, holder_exact}
+use Rattle.tm_types.proofs.Ordered.{eqb_back}
 
 -- whether a region holds a resource in a mode or a stronger one
 abbrev pub has : ℕ → Resource → Mode → List (Holder × Mode) → Bool

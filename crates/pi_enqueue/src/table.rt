@@ -2,13 +2,13 @@
 ghost use Rattle.std.specs.Prelude.{◌≡◌, ◌<◌, ◌^◌, IfOk, OnOk, OnErr};
 ghost use Rattle.std.specs.List.{AllByRecursion};
 ghost use Rattle.std.specs.Option.{option_map};
-ghost use Rattle.model_data.specs.Table.{empty_table, is_served, blocked_by, lowest_holder, wait_of, waits_by, waits_for};
+ghost use Rattle.model_data.specs.Table.{empty_table, blocked_by, lowest_holder, wait_of, waits_by, waits_for};
 ghost use Rattle.model_data.specs.Ask.{answer_to, after_ask, after_asks, first_blocked, released, waits_for_nothing};
 ghost use Rattle.model_data.specs.Cycle.{IsRegion};
 ghost use Rattle.pi_enqueue.specs.Kept.{IsKept, WaitsForNothingElse};
 ghost use Rattle.pi_enqueue.specs.Grant.{told};
 
-use crate::holds::{is_served, lowest, mode_held};
+use crate::holds::lowest;
 use crate::lists::{Lists, told};
 use model_data::{Asked, Request};
 use std::alloc::Global;
@@ -132,18 +132,6 @@ impl Table {
         ensures { self.new ≡ released region self.old }
     {
         self.lists.release_all(region);
-    }
-
-    /// Whether the region holds the resource in this or a stronger mode.
-    pub fn holds(&self, region: u32, resource: &Resource, mode: Mode) -> bool
-        ensures { result ≡ is_served (record { region = region; resource = resource.now; mode = mode }) self.now.holds }
-    {
-        let request = Request {
-            region,
-            resource: *resource,
-            mode,
-        };
-        is_served(mode_held(&self.lists.holds, &request), mode)
     }
 
     /// The lowest region that holds the resource; None where none does.

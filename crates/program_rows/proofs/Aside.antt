@@ -20,7 +20,7 @@ use Rattle.program_rows.specs.Open.{was_there}
 use Rattle.program_rows.proofs.Bools.{left_of, right_of}
 
 -- the store of a number, among cleared stores
-at_cleared : (records : List Change) (n i m : ℕ) (stores : List Stored) (s : Stored) → m ≡ n + i → slice_get stores i ≡ Some s
+pub at_cleared : (records : List Change) (n i m : ℕ) (stores : List Stored) (s : Stored) → m ≡ n + i → slice_get stores i ≡ Some s
     → slice_get (cleared_from records n stores) i ≡ Some (record { dbd = s.dbd; slots = cleared_slots records m s.slots })
 at_cleared records n i m [] s e g = let clash : None ≡ Some s = g in absurd (cc)
 at_cleared records n zero m (x ∷ stores) s e g =

@@ -26,7 +26,7 @@ pub empty_unit : (table : EnqueueTable) (stores : List Stored) (region : ℕ) �
 empty_unit table stores region =
     record { can = record { stored = tt; fits = tt; apart = tt }; kept = record { once = tt; few = omega arith }; alone = tt; sits = tt }
 
-some_free : (image : List Row) → image ≢ [] → is_free image ≡ false
+pub some_free : (image : List Row) → image ≢ [] → is_free image ≡ false
 some_free [] h = absurd (h refl)
 some_free (row ∷ image) h = refl
 

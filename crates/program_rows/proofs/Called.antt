@@ -63,7 +63,7 @@ use Rattle.program_rows.proofs.SetUnits.{Follows, IsSetIn, set_units, set_commit
 use Rattle.program_rows.proofs.Stepping.{own_image}
 use Rattle.std.proofs.lemmas.Bool.{cases_eq}
 
-set_there : {A : Type 0} (xs : List A) (i : ℕ) (x : A) → set xs i (get_or xs i x) ≡ xs
+pub set_there : {A : Type 0} (xs : List A) (i : ℕ) (x : A) → set xs i (get_or xs i x) ≡ xs
 set_there [] i x = refl
 set_there (y ∷ xs) zero x = refl
 set_there (y ∷ xs) (suc i) x = ap (λ ys. y ∷ ys) (set_there xs i x)

@@ -16,15 +16,12 @@ use Rattle.model_data.specs.Table.{holds_of, mode_held}
 use Rattle.model_data.specs.Ask.{asker, granted_mode, with_hold}
 use Rattle.pi_enqueue.specs.Kept.{held}
 use Rattle.pi_enqueue.proofs.Keys.{lookup_alike, asker_is}
-pub use Rattle.pi_enqueue.proofs.Keys.{holder_total, holder_exact, resource_same, resource_exact}
 use Rattle.pi_enqueue.proofs.Ascending.{lookup_inserted}
+use Rattle.tm_types.proofs.Ordered.{both_true}
+pub use Rattle.model_data.proofs.Holders.{holder_total, holder_exact, resource_same, resource_exact}
 
 asker_at : (k : ℕ) (r : Resource) (h : Holder) → is_at (holder_cmp (record { resource = r; region = k })) h ≡ (holds_of r h && eqb h.region k)
 asker_at k r h = asker_is (record { region = k; resource = r; mode = Exclusive }) h
-
-both_true : (a b : Bool) → a && b ≡ true → (a ≡ true) × (b ≡ true)
-both_true true b h = (refl, h)
-both_true false b h = absurd (cc)
 
 -- what is held after a request is granted
 pub held_granted : (k : ℕ) (r : Resource) (q : Request) (holds : List (Holder × Mode))

@@ -44,7 +44,7 @@ use Rattle.program_rows.specs.declared.answer.DataAnswer.{DataAnswer}
 use Rattle.program_rows.specs.declared.answer.DataAnswer.TheVariants.{Answered, Abend, Blocked}
 use Rattle.program_rows.specs.declared.asked.Asked.{Asked}
 use Rattle.program_rows.specs.declared.opened.Opened.{Opened}
-use Rattle.program_rows.proofs.Called.{same_asks, none_told, none_touched, led_told, edit_touched, edit_is_told, set_in, after_units, within}
+use Rattle.program_rows.proofs.Called.{same_asks, none_told, none_touched, led_told, edit_touched, edit_is_told, set_in, after_units, within, set_there}
 use Rattle.program_rows.proofs.Followed.{follows}
 use Rattle.program_rows.proofs.OneSlot.{OneSlot}
 use Rattle.program_rows.proofs.SetUnits.{one, set_committed}
@@ -67,11 +67,6 @@ blocked_told : (fb : Option (Request × ℕ)) (x : Resource × ℕ) (abend : Opt
 blocked_told None x abend records e = let clash : (let none : Option (Resource × ℕ) = None in none) ≡ Some x = e in absurd (cc)
 blocked_told (Some blocked) x None records e = refl
 blocked_told (Some blocked) x (Some code) records e = refl
-
-set_there : {A : Type 0} (xs : List A) (i : ℕ) (x : A) → set xs i (get_or xs i x) ≡ xs
-set_there [] i x = refl
-set_there (y ∷ xs) zero x = refl
-set_there (y ∷ xs) (suc i) x = ap (λ ys. y ∷ ys) (set_there xs i x)
 
 -- what is told of one slot
 pub one_told : (unit number slot : ℕ) (was image : List Row) (old new : List Stored) → OneSlot number slot was image old new
@@ -279,7 +274,7 @@ module _ (o : Opened) (h : AreUnits (records_of o.units.items) o.stores.stores o
     untold_so (Ok x) u = tt
     untold_so (Err e) u = untold_by e (subst (λ (q : Asked). IsUntoldEdit q dbd p.edit o unit room e) (λ i. record asked { region = er i; number = en i }) u)
 
-append_nil : (xs : List ℕ) → xs ++ [] ≡ xs
+pub append_nil : (xs : List ℕ) → xs ++ [] ≡ xs
 append_nil [] = refl
 append_nil (x ∷ xs) = ap (λ ys. x ∷ ys) (append_nil xs)
 

@@ -16,13 +16,15 @@ use Rattle.model_data.proofs.Lists.{all_then, all_append}
 use Rattle.model_data.proofs.Order.{key_total}
 use Rattle.seg_store.specs.Slots.{Stored, has_root, is_free, image_root, AtMostOne, IsSlot, AreSlots, slot_of, slot_for, lowest_free, first_of, rows_of_slots}
 use Rattle.seg_store.proofs.Places as places
-use Rattle.seg_store.proofs.SlotRows.{slots_record, rooted, record_has, same_key, set_itself, free_at, record_none}
+use Rattle.seg_store.proofs.SlotRows.{slots_record, record_has, same_key, set_itself, free_at, record_none}
 use Rattle.unit_work.specs.declared.change.Change.{Change}
 use Rattle.unit_work.specs.Changes.{is_of, is_changed, with_change, Pairs}
 use Rattle.unit_work.specs.BackOut.{is_touched, cleared_slot, cleared_slots, cleared_from, backed_from, cleared, backed_out, IsStored, FitsStore, FitsOption, CanGoBack, AreApart, CanBackOut, with_image_back, with_back, with_record_back}
 use Rattle.unit_work.proofs.Keeping.{pairs_push}
 use Rattle.unit_work.proofs.Backing.{get_set_other, get_set_same, next_back}
 use Rattle.program_rows.proofs.Bools.{left_of, right_of, no_right}
+use Rattle.program_rows.proofs.Aside.{at_cleared}
+use Rattle.program_rows.proofs.Beside.{touched_is}
 
 -- no rows, or a record of this root
 abbrev pub Own : List ℕ → List Row → Type 0
@@ -78,10 +80,6 @@ changed_now c records = by (is_changed c.db c.root records) refl
         ap (λ b. is_changed c.db c.root (cond b records (records ++ c ∷ []))) q
         ∙ (any_push (is_of c.db c.root) records c
         ∙ (ap (λ b. is_changed c.db c.root records || b) itself ∙ or_true (is_changed c.db c.root records)))
-
-touched_is : (records : List Change) (db : ℕ) (root : List ℕ) (image : List Row) → has_root root image ≡ true → is_touched records db image ≡ is_changed db root records
-touched_is [] db root image h = refl
-touched_is (c ∷ records) db root image h = λ t. (eqb c.db db && rooted root image h c.root t) || touched_is records db root image h t
 
 -- the image of a changed record is cleared, and that of another isn't
 pub own_gone : (records : List Change) (db : ℕ) (root : List ℕ) (image : List Row) → is_changed db root records ≡ true → Own root image → cleared_slot records db image ≡ []
@@ -147,16 +145,6 @@ step_cleared c records n zero (x ∷ stores) s new image e g has d w own =
 step_cleared c records n (suc i) (x ∷ stores) s new image e g has d w own =
     λ k. record { dbd = x.dbd; slots = apart_slots c records n x.slots (λ m y q. other_db c n y (λ q. absurd (omega arith))) k }
     ∷ step_cleared c records (suc n) i stores s new image (omega arith) g has d w own k
-
-at_cleared : (records : List Change) (n i m : ℕ) (stores : List Stored) (s : Stored) → m ≡ n + i → slice_get stores i ≡ Some s
-    → slice_get (cleared_from records n stores) i ≡ Some (record { dbd = s.dbd; slots = cleared_slots records m s.slots })
-at_cleared records n i m [] s e g = let clash : None ≡ Some s = g in absurd (cc)
-at_cleared records n zero m (x ∷ stores) s e g =
-    let same : Some x ≡ Some s = g in
-    let parts : x ≡ s = cc in
-    let here : n ≡ m = omega arith in
-    λ t. Some (record { dbd = (parts t).dbd; slots = cleared_slots records (here t) (parts t).slots })
-at_cleared records n (suc i) m (x ∷ stores) s e g = at_cleared records (suc n) i m stores s (omega arith) g
 
 slot_cleared : (records : List Change) (db : ℕ) (xs : List (List Row)) (i : ℕ) (y : List Row) → slice_get xs i ≡ Some y → slice_get (cleared_slots records db xs) i ≡ Some (cleared_slot records db y)
 slot_cleared records db [] i y e = let clash : None ≡ Some y = e in absurd (cc)

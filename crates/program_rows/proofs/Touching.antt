@@ -23,10 +23,10 @@ use Rattle.program_rows.proofs.Together.{backed_none, get_set, get_set_else}
 use Rattle.program_rows.proofs.OneSlot.{OneSlot, one_aside}
 use Rattle.program_rows.proofs.Stepping.{any_push, own_gone}
 use Rattle.program_rows.proofs.SetUnits.{Follows, IsSetIn, some_or_none, has, one, stepped, idle_was, idle_image}
-use Rattle.program_rows.proofs.BackUnits.{beside_mine}
+use Rattle.program_rows.proofs.BackUnits.{beside_mine, some_free}
 use Rattle.program_rows.proofs.Holders.{held_released}
 use Rattle.unit_work.proofs.Ordered.{all_with, seen_with}
-use Rattle.program_rows.proofs.Bools.{no_right, or_left, or_right}
+use Rattle.program_rows.proofs.Bools.{no_right, or_left, or_right, or_true}
 
 pub past : (xs : List (List Row)) (m : ℕ) → length xs ≤ m → get_or xs m [] ≡ []
 past [] m le = refl
@@ -120,10 +120,6 @@ follows_touched table then_table region records slots stores alone h =
       others = h.others;
     }
 
-or_true : (b : Bool) → (b || true) ≡ true
-or_true true = refl
-or_true false = refl
-
 -- a record that was in a slot still is among one more
 was_more : (c : Change) (records : List Change) (db slot : ℕ) → was_there records db slot ≡ true → was_there (with_change c records) db slot ≡ true
 was_more c records db slot w = by (is_changed c.db c.root records)
@@ -131,10 +127,6 @@ was_more c records db slot w = by (is_changed c.db c.root records)
     by : (b : Bool) → was_there (cond b records (records ++ c ∷ [])) db slot ≡ true
     by true = w
     by false = any_push (was_in db slot) records c ∙ ap (λ b. b || was_in db slot c) w
-
-some_free : (image : List Row) → image ≢ [] → is_free image ≡ false
-some_free [] h = absurd (h refl)
-some_free (row ∷ image) h = refl
 
 -- a unit sets a record
 module _ (units slots : List (List Change)) (stores : List Stored) (table after : EnqueueTable) (h : AreUnits units stores table) (f : Follows table after) (place : ℕ) (lt : place < length units)

@@ -1,11 +1,11 @@
 -- Which image has which restart sector and which snapshot: before, during and after.
 use Rattle.std.proofs.Common.{◌≡◌, ◌⊎◌, ℕ, zero, suc, ◌+◌, ◌<◌, ◌≤◌, ◌^◌, List, [], length, refl, ◌∙◌, ap, inl, inr, ⊎_elim, arith}
 use Rattle.std.proofs.lemmas.List.{get_or-set_same, get_or-set_other}
-use Rattle.tm_disk.specs.Disk.{Image, sector_at, with_sector, MayWrite}
+use Rattle.tm_disk.specs.Disk.{Image, sector_at, with_sector, MayWrite, ChangesOnly}
 use Rattle.restart_data.specs.declared.restart.RestartSector.{RestartSector}
 use Rattle.restart_data.specs.Restart.{restart_sector, IsRestart, restart_of, restart_in}
 use Rattle.restart_data.specs.Snapshot.{part_of, part_in, and_then, parts_in, snapshot_in}
-use Rattle.restart_data.specs.Images.{ChangesOnly, Restarts}
+use Rattle.restart_data.specs.Images.{Restarts}
 use Rattle.restart_data.proofs.RestartBack.{restart_back_is_read}
 
 -- the restart sector was set

@@ -2,17 +2,17 @@
 use Rattle.std.proofs.Common.{◌≡◌, ℕ, ◌+◌, ◌<◌, ◌≤◌, ◌^◌, List, [], length, refl, sym, ◌∙◌, ap, subst, ⊎_elim, arith}
 use Rattle.std.proofs.lemmas.Bool.{cases_lt}
 use Rattle.std.proofs.lemmas.List.{get_or-set_same, get_or-set_other, length-set}
-use Rattle.tm_disk.specs.Disk.{Image, DiskState, sector_at, with_sector, MayWrite, Elapses, Follows, Within}
+use Rattle.tm_disk.specs.Disk.{Image, DiskState, sector_at, with_sector, MayWrite, Elapses, Follows, Within, ChangesOnly}
 use Rattle.tm_disk.proofs.Words.{within_on, follows_on}
 use Rattle.restart_data.specs.Snapshot.{snapshot_sector, sectors_of, piece}
-use Rattle.restart_data.specs.Images.{ChangesOnly, Saves}
+use Rattle.restart_data.specs.Images.{Saves}
 use Rattle.restart_data.proofs.SnapshotBack.{needs_sectors, parts_back}
 
 pub changes_none : (at count : ℕ) (image : Image) → ChangesOnly at count image image
 changes_none at count image = record { size = refl; below = λ k lt. refl; above = λ k le. refl }
 
 -- a write within the area
-changes_write : (at count p : ℕ) (before mid : Image) (sector : List ℕ) → at ≤ p → p < at + count → ChangesOnly at count before mid → ChangesOnly at count before (with_sector mid p sector)
+pub changes_write : (at count p : ℕ) (before mid : Image) (sector : List ℕ) → at ≤ p → p < at + count → ChangesOnly at count before mid → ChangesOnly at count before (with_sector mid p sector)
 changes_write at count p before mid sector low high changes = record {
   size = length-set mid p sector ∙ changes.size;
   below = λ k lt. get_or-set_other mid p k sector [] (λ e. omega (arith, e, low, lt)) ∙ changes.below k lt;

@@ -1,6 +1,6 @@
 -- What writing a restart sector or a snapshot leaves, and what reading it tells.
-use Rattle.std.specs.Prelude.{◌≡◌, ℕ, ◌+◌, ◌<◌, ◌≤◌, List, length, Option, Some, Result, Ok, Err}
-use Rattle.tm_disk.specs.Disk.{Image, DiskState, FailedSince, sector_at, with_sector}
+use Rattle.std.specs.Prelude.{◌≡◌, ℕ, ◌≤◌, List, length, Option, Some, Result, Ok, Err}
+use Rattle.tm_disk.specs.Disk.{Image, DiskState, FailedSince, with_sector, ChangesOnly}
 use Rattle.restart_data.specs.declared.restart.RestartSector.{RestartSector}
 use Rattle.restart_data.specs.declared.restart.RestartFault.{RestartFault}
 use Rattle.restart_data.specs.declared.restart.RestartFault.TheVariants as restart_faults
@@ -8,12 +8,6 @@ use Rattle.restart_data.specs.declared.snapshot.SnapshotFault.{SnapshotFault}
 use Rattle.restart_data.specs.declared.snapshot.SnapshotFault.TheVariants as snapshot_faults
 use Rattle.restart_data.specs.Restart.{IsRestart, restart_sector, restart_in}
 use Rattle.restart_data.specs.Snapshot.{Fault, sectors_of, snapshot_in}
-
--- The sectors from a place on may be others, so many of them, and all the rest stay.
-pub record ChangesOnly (at count : ℕ) (before after : Image) : Type 0 where
-  pub size : length after ≡ length before
-  pub below : (k : ℕ) → k < at → sector_at after k ≡ sector_at before k
-  pub above : (k : ℕ) → at + count ≤ k → sector_at after k ≡ sector_at before k
 
 -- The restart sector is this one, and is read as such; all other sectors stay.
 pub record Restarts (value : RestartSector) (before after : Image) : Type 0 where

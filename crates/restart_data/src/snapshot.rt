@@ -1,8 +1,8 @@
 //! Snapshots on a disk.
 ghost use Rattle.std.specs.Prelude.{◌≡◌, ◌+◌, ◌*◌, ◌<◌, ◌≤◌, ◌^◌, length, IsTrue, IfOk, OnOk, OnErr};
-ghost use Rattle.tm_disk.specs.Disk.{Stays, Within, Follows, Keeps, WritesAtMost, FailedSince};
+ghost use Rattle.tm_disk.specs.Disk.{Stays, Within, Follows, Keeps, WritesAtMost, FailedSince, ChangesOnly};
 ghost use Rattle.restart_data.specs.Snapshot.{sectors_of, piece, snapshot_in};
-ghost use Rattle.restart_data.specs.Images.{ChangesOnly, Saves, TellsSnapshot, SnapshotCause};
+ghost use Rattle.restart_data.specs.Images.{Saves, TellsSnapshot, SnapshotCause};
 
 use crate::gathered::Gathered;
 use crate::snapshot_sector::{PAYLOAD_BYTES, seal};

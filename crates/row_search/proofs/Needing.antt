@@ -20,7 +20,7 @@ use Rattle.model_data.specs.Rows.{record_of, roots, AreRows}
 use Rattle.model_data.proofs.Order.{key_total, turned_less}
 use Rattle.model_data.proofs.Lists.{all_then, all_append}
 use Rattle.model_data.proofs.Filters.{filter_none, filter_passes}
-use Rattle.model_data.proofs.Records.{record_rooted, is_lt-true}
+use Rattle.model_data.proofs.Records.{record_rooted}
 use Rattle.model_data.specs.declared.need.Need.{Need}
 use Rattle.model_data.specs.Search.{is_after, fits, first_after}
 use Rattle.model_data.specs.Footprint.{record_need, sequence_need, up_to, behind, has_reached, along, onward}
@@ -28,6 +28,7 @@ use Rattle.row_search.proofs.Finding.{find_front, find_back, find_has}
 use Rattle.row_search.proofs.Places.{after_in_later}
 use Rattle.row_search.proofs.Rising.{rows_rising, from_root}
 use Rattle.row_search.proofs.Keys.{by_records, after_by_records}
+use Rattle.model_data.proofs.Reading.{is_lt-true}
 
 -- the first row that passes, record by record
 abbrev pub found : (Row → Bool) → List Row → List (List ℕ) → Option Row

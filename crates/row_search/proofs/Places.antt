@@ -20,7 +20,7 @@ use Rattle.model_data.specs.Path.{key_cmp, path_cmp, root_of, end_type, IsPath, 
 use Rattle.model_data.specs.Rows.{record_of}
 use Rattle.model_data.proofs.Order.{key_total, path_total, exact_path, turned_greater, not_less_itself}
 use Rattle.model_data.proofs.Lists.{all_then}
-use Rattle.model_data.proofs.Records.{is_eq-true, is_lt-true}
+use Rattle.model_data.proofs.Records.{is_eq-true}
 use Rattle.model_data.proofs.Paths.{child_greater}
 use Rattle.model_data.proofs.Whole.{root_less}
 use Rattle.model_data.specs.Search.{fitted, number_named, meets, meets_at, meets_ssa, asked_number, fits, is_after, is_below, row_at, is_there, first_after, first_below}
@@ -28,6 +28,7 @@ use Rattle.model_data.specs.Get.{key_asked, asked_root}
 use Rattle.row_search.specs.Walk.{rows_from}
 use Rattle.row_search.proofs.Finding.{find_within}
 use Rattle.row_search.proofs.Within.{both_true, within_root}
+use Rattle.model_data.proofs.Reading.{is_lt-true}
 
 pub each_of : {A : Type 0} (P : A → Type 0) → ((x : A) → P x) → (xs : List A) → AllByRecursion P xs
 each_of P h [] = tt

@@ -22,12 +22,13 @@ use Rattle.model_data.specs.Rows.{record_of, rows_before, rows_after, roots, nex
 use Rattle.model_data.proofs.Order.{key_total, path_total, turned_greater, not_less_itself}
 use Rattle.model_data.proofs.Lists.{all_then, all_both, all_filter, sorted_filter}
 use Rattle.model_data.proofs.Filters.{filter_all, filter_none, filter_within, filter_apart}
-use Rattle.model_data.proofs.Records.{is_eq-true, is_lt-true}
+use Rattle.model_data.proofs.Records.{is_eq-true}
 use Rattle.model_data.proofs.Prefixes.{none_under}
 use Rattle.model_data.proofs.Roots.{first_row}
 use Rattle.model_data.proofs.Whole.{record_is, root_less}
 use Rattle.row_search.specs.Walk.{rows_from}
 use Rattle.row_search.proofs.Finding.{find_head, find_passes, find_none, filter_twice}
+use Rattle.model_data.proofs.Reading.{is_lt-true}
 
 -- the roots of the rows never fall
 abbrev pub AreRising : List Row → Type 0

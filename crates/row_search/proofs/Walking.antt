@@ -14,7 +14,6 @@ use Rattle.model_data.specs.Rows.{record_of, rows_after, next_root, AreRows}
 use Rattle.model_data.proofs.Order.{key_total}
 use Rattle.model_data.proofs.Lists.{all_then}
 use Rattle.model_data.proofs.Filters.{filter_within}
-use Rattle.model_data.proofs.Records.{is_lt-true}
 use Rattle.model_data.specs.Search.{is_after, fits, first_after}
 use Rattle.model_data.specs.Get.{asked_root}
 use Rattle.row_search.specs.Arguments.{Arguments}
@@ -22,6 +21,7 @@ use Rattle.row_search.specs.Walk.{first_root, rows_from, roots_left}
 use Rattle.row_search.proofs.Finding.{find_front, find_back, find_head, find_passes}
 use Rattle.row_search.proofs.Rising.{rows_rising, from_root, after_root, all_from, next_is_first}
 use Rattle.row_search.proofs.Places.{after_in_later, asked_in_record}
+use Rattle.model_data.proofs.Reading.{is_lt-true}
 
 -- what the arguments ask for, by their database and by themselves
 pub as_asked : (asked : Arguments) (dbd : Dbd) (ssas : List Ssa) → asked.dbd ≡ dbd → asked.ssas ≡ ssas → (place : Option (List (ℕ × List ℕ))) (xs ys : List Row) → xs ≡ ys

@@ -1,7 +1,7 @@
 //! What the arguments of a call ask for.
 ghost use Rattle.std.specs.Prelude.{◌≡◌, ◌≤◌, ◌&&◌, Some, drop, length, map, min, take, IfOk};
 ghost use Rattle.std.specs.List.{list_all};
-ghost use Rattle.model_data.specs.Search.{fitted, place_named, number_named, key_length, data_length, meets_ssa, asked_number, fits};
+ghost use Rattle.model_data.specs.Search.{fitted, place_named, number_named, data_length, meets_ssa, asked_number, fits};
 ghost use Rattle.model_data.specs.Get.{key_asked, asked_root};
 ghost use Rattle.row_search.specs.Asked.{looked_up, asked_key, is_as_asked, is_met};
 
@@ -245,16 +245,6 @@ pub fn number_named(types: &SegTypes, name: &Name) -> u8
 {
     match place_named(types.as_slice(), name) {
         Some(place) => place as u8 + 1,
-        None => 0,
-    }
-}
-
-/// How many bytes a key of this type has.
-pub fn key_length(types: &SegTypes, number: u8) -> u8
-    ensures { result ≡ key_length types.now number }
-{
-    match types.numbered(number) {
-        Some(segment) => segment.key,
         None => 0,
     }
 }

@@ -12,7 +12,7 @@ use Rattle.model_system.specs.declared.statement.Statement.{Statement}
 use Rattle.script_text.specs.Good.{are_printable, IsGood, IsKept}
 use Rattle.script_text.specs.Scripts.{words, counted}
 use Rattle.script_text.specs.Statements.{has_label_word, label_in}
-use Rattle.script_text.proofs.Printable.{both_true, parts_true}
+use Rattle.tm_types.proofs.Truths.{both_true, parts_true}
 
 front_printable : (byte : ℕ) (ps : List (List ℕ)) → is_printable byte ≡ true → are_printable ps ≡ true → are_printable (with_front byte ps) ≡ true
 front_printable byte [] e all = both_true (is_printable byte && true) true (both_true (is_printable byte) true e refl) refl

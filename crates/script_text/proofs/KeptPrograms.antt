@@ -16,7 +16,7 @@ use Rattle.script_text.specs.Kept.{AreKept}
 use Rattle.script_text.specs.Scripts.{words, is_last, counted, first_or, label_from}
 use Rattle.script_text.specs.Statements.{has_label_word}
 use Rattle.script_text.proofs.LabelSteps.{from_passed, from_last, one_line, place_push}
-use Rattle.script_text.proofs.Printable.{both_true}
+use Rattle.tm_types.proofs.Truths.{both_true}
 
 -- nothing was read
 pub nothing_kept : (places : List ℕ → Option ℕ) (lines : List (List ℕ)) → AreKept places [] 0 lines lines

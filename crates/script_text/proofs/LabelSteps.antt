@@ -14,14 +14,11 @@ use Rattle.model_system.specs.declared.statement.Statement.TheVariants.{Label, S
 use Rattle.script_text.specs.Good.{label_name}
 use Rattle.script_text.specs.Scripts.{words, is_last, label_here, first_or, label_from}
 use Rattle.script_text.specs.Statements.{label_in}
+use Rattle.tm_types.proofs.Truths.{none_is}
 
 first_none : (found : Option ℕ) → found ≡ first_or found None
 first_none (Some place) = refl
 first_none None = refl
-
-none_is : (found : Option ℕ) → is_some found ≡ false → found ≡ None
-none_is (Some place) e = cc
-none_is None e = refl
 
 added_by : (f g : List ℕ → Option ℕ) (label name : List ℕ) (place : ℕ) (b : Bool) → bytes_eq label name ≡ b → f label ≡ None
     → g name ≡ cond b (Some place) (f name) → g name ≡ first_or (f name) (cond b (Some place) None)

@@ -298,12 +298,8 @@ fn if_with(
 fn if_made(parts: Result<((Text, Comparison), (Text, Target)), u8>) -> Result<Statement, u8>
     ensures { result ≡ spec.if_made parts }
 {
-    match parts {
-        Ok(((left, comparison), (right, target))) => {
-            Ok(Statement::If(left, comparison, right, target))
-        }
-        Err(rule) => Err(rule),
-    }
+    let ((left, comparison), (right, target)) = parts?;
+    Ok(Statement::If(left, comparison, right, target))
 }
 
 fn on_pcb(function: Function, pcb: Result<u8, u8>) -> Result<u8, u8>

@@ -61,10 +61,7 @@ fn named_text(word: &[u8]) -> Result<Text, u8>
     if is_word(word, b"STATUS") {
         return Ok(Text::Status);
     }
-    match variable_of(word) {
-        Ok(x) => Ok(Text::Variable(x)),
-        Err(rule) => Err(rule),
-    }
+    Ok(Text::Variable(variable_of(word)?))
 }
 
 /// A number from 1 or 0 to its limit that a byte holds: rule 7 where the word is none.

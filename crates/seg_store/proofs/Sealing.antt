@@ -1,21 +1,14 @@
 -- Bytes put into a sector of zeros, one behind the other.
 use Rattle.std.proofs.Common.{◌≡◌, ℕ, ◌+◌, ◌-◌, ◌≤◌, ◌<◌, ◌++◌, ◌∷◌, [], List, length, take, drop, refl, sym, ◌∙◌, ap, arith, append_assoc, append-nil, get_or}
 use Rattle.std.specs.Int.{w16, to_be_bytes}
-use Rattle.std.proofs.lemmas.List.{length-replicate, drop-replicate, drop_at, take_at, drop-drop, take-append-drop, length-append, take_more, take_all}
+use Rattle.std.proofs.lemmas.List.{drop_at, take_at, drop-drop, take-append-drop, length-append, take_more, take_all}
 use Rattle.std.proofs.lemmas.Grind.{flat_map-append}
 use Rattle.tm_disk.specs.Sector.{zeros, blank}
 use Rattle.model_data.specs.declared.row.Row.{Row}
 use Rattle.model_data.specs.Path.{end_type}
 use Rattle.model_data.specs.Record.{spelling, row_spelling}
 use Rattle.seg_store.specs.DataSectors.{data_sector}
-
-length-zeros : (n : ℕ) → length (zeros n) ≡ n
-unfolding zeros
-length-zeros n = length-replicate n 0
-
-drop-zeros : (m n : ℕ) → drop m (zeros n) ≡ zeros (n - m)
-unfolding zeros
-drop-zeros m n = drop-replicate m n 0
+use Rattle.tm_disk.proofs.Zeros.{length-zeros, drop-zeros}
 
 pub blank_is : blank ≡ zeros 2 ++ zeros 4094
 unfolding blank zeros

@@ -5,7 +5,6 @@ use Rattle.std.specs.List.{position_or_len}
 use Rattle.std.specs.Option.{is_some, option_map, option_map_or, option_and_then, option_or, unwrap_or}
 use Rattle.std.specs.Str.{bytes_eq}
 use Rattle.std.proofs.lemmas.Bool.{leb-false, ltb-false, le-leb}
-use Rattle.std.proofs.lemmas.Bool.Decides.{nat_tests}
 use Rattle.tm_types.specs.declared.message.Message.{Message}
 use Rattle.tm_types.specs.declared.command.LastingCommand.{LastingCommand}
 use Rattle.tm_types.specs.declared.command.LastingCommand.TheVariants.{StartTransaction, StopTransaction, StartTerminal, StopTerminal, DequeueFirst, DequeueAll, Exit}
@@ -39,6 +38,7 @@ use Rattle.model_session.specs.Standing.{Setting, SessionState, gone_on}
 use Rattle.model_session.specs.Session.{AreServed}
 use Rattle.session_law.specs.Resending.{last_of, HasAlways, IsKeptBy, any_call, all_ask_only}
 use Rattle.session_law.proofs.Sessions.{kept_over, leaves_with, up_has}
+use Rattle.tm_types.proofs.Positions.{less_more, zero_less, found}
 
 -- ---- the terminal of a name
 
@@ -47,16 +47,6 @@ named name t = bytes_eq t.name name
 
 abbrev pub last_in : List ℕ → List TerminalState → ℕ
 last_in name ts = option_map_or (λ t. t.last) (terminal_at ts name) 0
-
-less_more : (k n : ℕ) → nat_lt (1 + k) (suc n) ≡ nat_lt k n
-less_more k n = grind (arith, nat_tests)
-
-zero_less : (n : ℕ) → nat_lt 0 (suc n) ≡ true
-zero_less n = grind (arith, nat_tests)
-
-found : (a b : Bool) (k : ℕ) → a ≡ b → cond a (Some (1 + k)) None ≡ option_map (λ n. suc n) (cond b (Some k) None)
-found a true k is = ap (λ (t : Bool). cond t (Some (1 + k)) None) is ∙ ap (λ (n : ℕ). Some n) (omega arith)
-found a false k is = ap (λ (t : Bool). cond t (Some (1 + k)) None) is
 
 place_more : (p : TerminalState → Bool) (x : TerminalState) (xs : List TerminalState) (b : Bool) → p x ≡ b → position p (x ∷ xs) ≡ cond b (Some 0) (option_map (λ n. suc n) (position p xs))
 place_more p x xs true h = rw (h) (ap (λ (t : Bool). cond t (Some 0) None) (zero_less (length xs)))

@@ -1,5 +1,5 @@
 -- A unit sends at most 32 outputs.
-use Rattle.std.proofs.Common.{◌≡◌, ℕ, ◌+◌, ◌≤◌, Bool, true, false, not, ◌&&◌, List, [], ◌∷◌, ◌++◌, Option, Some, None, length, map, refl, arith}
+use Rattle.std.proofs.Common.{◌≡◌, ℕ, ◌+◌, ◌≤◌, Bool, true, false, ◌&&◌, List, [], ◌∷◌, ◌++◌, Option, Some, None, length, map, refl, arith}
 use Rattle.std.specs.Prelude.{if◌then◌else◌, nat_le, nat_lt, slice_get, slice_set}
 use Rattle.std.specs.List.{flat_map}
 use Rattle.std.specs.Option.{is_some, option_map_or}
@@ -8,7 +8,6 @@ use Rattle.std.proofs.lemmas.List.{length-append}
 use Rattle.std.proofs.lemmas.List.Sums.{sum_by-cons}
 use Rattle.tm_types.specs.declared.function.Function.{Function}
 use Rattle.tm_types.specs.declared.function.Function.TheVariants.{GU, GN, ISRT, PURG, CHNG, ROLB}
-use Rattle.tm_types.specs.declared.status.Status.TheVariants.{Blank, A3, A6, A7}
 use Rattle.tm_types.specs.Segment.{segment_length}
 use Rattle.model_data.specs.declared.row.Row.{Row}
 use Rattle.model_system.specs.declared.pcb.Pcb.{Pcb}
@@ -23,6 +22,7 @@ use Rattle.model_machine.specs.Trial.{Given, Trial, outputs_of, trial_of}
 use Rattle.image_law.specs.Sending.{open_count, open_segments}
 use Rattle.image_law.proofs.Changes.{sum_set, sum_more, sum_same, sum_mapped_zero}
 use Rattle.image_law.proofs.Trials.{IsJob, trial_has}
+use Rattle.image_law.proofs.Counts.{room_left}
 
 -- A unit inserts at most 32 segments, and each output that it has ended has one of them.
 record SendsFew (work : MessageWork) : Type 0 where
@@ -53,14 +53,6 @@ none_yet [] = refl
 none_yet (pcb ∷ pcbs) = omega (arith, sum_by-cons open_count (fresh_pcb pcb) (map fresh_pcb pcbs), none_yet pcbs)
 
 -- ---- calls
-
--- a segment is inserted where fewer than the count were
-room_left : (there long full : Bool) → is_blank (if not there then A3 else if long then A6 else if full then A7 else Blank) ≡ true
-    → full ≡ false
-room_left false long full e = cc
-room_left true true full e = cc
-room_left true false true e = cc
-room_left true false false e = refl
 
 segment_few : (work : MessageWork) (pcb : ℕ) (text : List ℕ) → SendsFew work → SendsFew (segment_work work pcb text)
 segment_few work pcb text s = by (is_blank (segment_status work pcb text)) refl where

@@ -19,33 +19,17 @@ use Rattle.model_session.specs.Standing.{Setting, SessionState, Outage, Standing
 use Rattle.model_session.specs.Standing.Standing.{Up, Down}
 use Rattle.model_session.specs.Session.{AreServed, IsServedUp, IsServedDown, ServedBy, IsRestarted, IsCalled, IsCutOff, IsTurned, IsTurnedOff}
 use Rattle.session_law.specs.Resending.{HasAlways, IsKeptBy, asks_only, all_ask_only}
+use Rattle.tm_types.proofs.Truths.{both}
+use Rattle.model_session.proofs.Kept.{head_is, tail_is}
+use Rattle.image_law.proofs.Bools.{first_of, second_of}
 
 -- ---- Booleans and lists
-
-first_of : (a b : Bool) → a && b ≡ true → a ≡ true
-first_of true b x = refl
-first_of false b x = x
-
-second_of : (a b : Bool) → a && b ≡ true → b ≡ true
-second_of true b x = x
-second_of false b x = cc
-
-both : (a b : Bool) → a ≡ true → b ≡ true → a && b ≡ true
-both true true x y = refl
-both true false x y = y
-both false b x y = x
 
 -- the last of a list belongs to its front or to its rest
 pub record EndsRest {X : Type 0} (xs : List X) (x : X) (front rest : List X) : Type 0 where
   pub others : List X
   pub before : xs ≡ front ++ others
   pub rest_is : rest ≡ others ++ x ∷ []
-
-head_is : {X : Type 0} (x y : X) (xs ys : List X) → x ∷ xs ≡ y ∷ ys → x ≡ y
-head_is x y xs ys e = cc
-
-tail_is : {X : Type 0} (x y : X) (xs ys : List X) → x ∷ xs ≡ y ∷ ys → xs ≡ ys
-tail_is x y xs ys e = cc
 
 none_left : {X : Type 0} (xs ys : List X) → [] ≡ xs ++ ys → xs ≡ []
 none_left [] ys e = refl

@@ -186,7 +186,7 @@ blocks_alike system kept all same few goes = by (is_command kept.line) (is_comma
 
 -- ---- the block that is kept, and all lines
 
-line_stays : (block : Block) (line : List ℕ) → (and_line block line).line ≡ block.line
+pub line_stays : (block : Block) (line : List ℕ) → (and_line block line).line ≡ block.line
 line_stays block line = by (is_screen block.line) where
   by : (b : Bool) → (if b then and_field block line else and_text block line).line ≡ block.line
   by true = refl

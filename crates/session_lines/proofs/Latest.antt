@@ -1,5 +1,5 @@
 -- A value that is put among the last values.
-use Rattle.std.proofs.Common.{◌≡◌, ◌∙◌, ℕ, ◌≤◌, Bool, true, false, ◌||◌, ◌&&◌, cond, nat_lt, ◌<◌, nat_eq, List, [], ◌∷◌, ◌++◌, length, take, length-append, is_some, ap, sym, refl, arith}
+use Rattle.std.proofs.Common.{◌≡◌, ◌∙◌, ℕ, ◌≤◌, Bool, true, false, ◌||◌, cond, nat_lt, ◌<◌, nat_eq, List, [], ◌∷◌, ◌++◌, length, take, length-append, is_some, ap, sym, refl, arith}
 use Rattle.std.specs.Prelude.{Option, Some}
 use Rattle.std.specs.List.{list_any}
 use Rattle.std.specs.Map.{lookup}
@@ -15,6 +15,7 @@ use Rattle.model_session.specs.Blocks.{first_values, put_value}
 use Rattle.mfs_edit.specs.Texts.{values_printable}
 use Rattle.session_lines.specs.Values.{is_kept, value_of, values_of}
 use Rattle.session_lines.proofs.Printable.{both_of}
+use Rattle.tm_types.proofs.Truths.{both_true}
 
 -- names are the same from both sides
 same_names : (one other : List ℕ) → bytes_eq one other ≡ bytes_eq other one
@@ -104,11 +105,6 @@ left_value name text entries few left = by (has_name name (values_of entries)) (
       sym (take_at (values_of entries) (value_of (name, text) ∷ []) 1921 full) ∙ ap (λ (l : List FieldValue). take 1921 l) (sym (put_behind (value_of (name, text)) (values_of entries) e))
   by true c e f h = cc
   by false true e f h = cc
-
--- the values stay printable
-both_true : (a b : Bool) → a ≡ true → b ≡ true → (a && b) ≡ true
-both_true true b e f = f
-both_true false b e f = cc
 
 put_printable : (value : FieldValue) (values : List FieldValue) → are_printable value.text ≡ true → values_printable values ≡ true → values_printable (put_value value values) ≡ true
 put_printable value [] h all = both_true (are_printable value.text) true h refl

@@ -10,9 +10,9 @@ ghost use Rattle.model_session.specs.Turns.{turns_text};
 
 use crate::Printed;
 use crate::isolation::{add_victims, add_waits};
-use model_machine::{AckRefused, Acked, InputRefused, Taken, Turned};
+use model_machine::{AckRefused, Acked, InputRefused, Taken, Turned, code_word};
 use model_session::InputStopped;
-use tm_types::{AbendCode, Dbd, Function, Name, Segments, Status, first_word, four_digits};
+use tm_types::{AbendCode, Dbd, Function, Name, Segments, Status, four_digits};
 
 /// The room that the line of an answer needs at most.
 pub const ANSWER_ROOM: usize = 128;
@@ -336,16 +336,6 @@ pub fn shown_word(segments: &Segments) -> &[u8]
         b"-"
     } else {
         &word[..word.len().min(WORD_ROOM)]
-    }
-}
-
-/// The first word of the first segment.
-fn code_word(segments: &Segments) -> &[u8]
-    ensures { result.now ≡ code_word segments.now }
-{
-    match segments.get(0) {
-        Some(segment) => first_word(segment.text()),
-        None => &[],
     }
 }
 

@@ -57,7 +57,7 @@ fn add_row(out: &mut Printed, number: u8, row: &[u8])
 }
 
 /// The row without the blanks at its end.
-#[tactic(auto, using(crate::proofs::Trimmed::trimmed_at))]
+#[tactic(auto, using(tm_types::proofs::Parted::trimmed_at))]
 fn without_blanks(row: &[u8]) -> &[u8]
     ensures value { result.now ≡ without_blanks row.now }
     ensures short { length result.now ≤ length row.now }

@@ -22,8 +22,9 @@ use Rattle.sysdef_rules.specs.Lookups.{behind, front, has, is_database, is_of, s
 use Rattle.sysdef_rules.specs.Segments.{broken_by_segment, broken_in, first_segment}
 use Rattle.sysdef_check.specs.Systems.{and_then, database_in, database_number, databases_in, type_in, types_in}
 use Rattle.sysdef_rules.proofs.Fronts.{front_all, front_holds}
-use Rattle.sysdef_check.proofs.Kept.{and_parts, kept_count, kept_database, neither}
+use Rattle.sysdef_check.proofs.Kept.{and_parts, kept_count, kept_database}
 use Rattle.sysdef_check.proofs.Made.{made_holds, none_holds, short_list}
+use Rattle.tm_types.proofs.Truths.{neither}
 
 -- each segment has a type
 type_counted : (before : List MacroLine) (content : Macro) (rest : List SegType) → is_of Segments content ≡ true → length (and_then (type_in before content) rest) ≡ suc (length rest)

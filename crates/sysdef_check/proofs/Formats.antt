@@ -9,8 +9,8 @@ use Rattle.sysdef_rules.specs.declared.cross.CrossRule.TheVariants.{OfFormats}
 use Rattle.sysdef_rules.specs.Cross.{breaks_format, broken_line, broken_within, first_line}
 use Rattle.sysdef_rules.specs.Segments.{own_line}
 use Rattle.sysdef_check.specs.Systems.{format_in, formats_in}
-use Rattle.sysdef_check.proofs.Kept.{neither}
 use Rattle.sysdef_check.proofs.Made.{made_holds, none_holds}
+use Rattle.tm_types.proofs.Truths.{neither}
 
 kept_within : (all before : List MacroLine) (line : MacroLine) (behind : List MacroLine) → broken_line OfFormats all before line behind ≡ None → broken_within line line.content ≡ None
 unfolding broken_line

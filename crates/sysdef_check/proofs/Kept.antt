@@ -1,7 +1,6 @@
 -- A rule that no macro breaks is kept by each.
 use Rattle.std.proofs.Common.{ℕ, zero, suc, ◌≡◌, ◌+◌, ◌-◌, ◌<◌, Bool, true, false, List, [], ◌∷◌, ◌++◌, length, take, drop, get_or, slice_get, All, Option, Some, None, Result, Ok, Err, IsTrue, refl, sym, subst, arith, length-drop, ◌&&◌}
 use Rattle.std.specs.List.{list_all}
-use Rattle.std.specs.Option.{option_or}
 use Rattle.std.proofs.lemmas.Bool.{false≢true}
 use Rattle.std.proofs.lemmas.List.{take_all}
 use Rattle.std.proofs.lemmas.List.Elements.{All-drop, All-take}
@@ -13,11 +12,7 @@ use Rattle.sysdef_rules.specs.declared.segments.SegmentRule.{SegmentRule}
 use Rattle.sysdef_rules.specs.Segments.{own_line, breaks_segment, broken_by_segment, first_segment}
 use Rattle.sysdef_rules.specs.Counts.{breaks_count, past_limit}
 use Rattle.sysdef_rules.specs.Cross.{before_others, broken_line, cross_rules, first_line, keeps, keeps_all, rules, unless_broken}
-
--- neither of two is there
-pub neither : (a b : Option ℕ) → option_or a b ≡ None → (a ≡ None) × (b ≡ None)
-neither None b h = (refl, h)
-neither (Some n) b h = cc
+use Rattle.tm_types.proofs.Truths.{neither}
 
 pub not_broken : (line : MacroLine) (b : Bool) → own_line line b ≡ None → b ≡ false
 not_broken line false h = refl

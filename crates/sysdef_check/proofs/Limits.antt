@@ -21,7 +21,8 @@ use Rattle.sysdef_rules.specs.Cross.{broken_line, first_line}
 use Rattle.sysdef_rules.specs.Lookups.{count, is_of}
 use Rattle.sysdef_check.specs.Systems.{and_then, code_in, codes_in, psb_after, database_in, databases_in, region_in, regions_in, format_in, formats_in, terminal_in, terminals_in, pcbs_for, program_in, programs_in, programs_with}
 use Rattle.sysdef_check.proofs.Made.{either_false}
-use Rattle.sysdef_check.proofs.Kept.{kept_count, neither}
+use Rattle.sysdef_check.proofs.Kept.{kept_count}
+use Rattle.tm_types.proofs.Truths.{neither}
 
 abbrev as_count : Bool → ℕ
 as_count b = cond b 1 0

@@ -14,9 +14,10 @@ use Rattle.sysdef_rules.specs.declared.cross.CrossRule.TheVariants.{DestinationU
 use Rattle.sysdef_rules.specs.Cross.{breaks_destination, breaks_pad, broken_line, first_line}
 use Rattle.sysdef_rules.specs.Lookups.{has, is_code, is_conversational, is_terminal, pcbs_of}
 use Rattle.sysdef_check.specs.Systems.{and_then, code_in, codes_in, psb_after, pcb_in, pcbs_in, pcbs_for, program_in, programs_in}
-use Rattle.sysdef_check.proofs.Kept.{neither, not_broken}
+use Rattle.sysdef_check.proofs.Kept.{not_broken}
 use Rattle.sysdef_check.proofs.Made.{either_false, made_holds, none_holds}
 use Rattle.sysdef_check.proofs.Servable.{pcbs_hold}
+use Rattle.tm_types.proofs.Truths.{neither}
 
 -- the length of a pad
 pad_length : (pad : ℕ) (none least most : Bool) → (pad == 0) ≡ none → nat_le 16 pad ≡ least → nat_le pad 1000 ≡ most → (not none && not (least && most)) ≡ false → IsPadLength pad

@@ -26,8 +26,9 @@ use Rattle.sysdef_rules.specs.Calls.{fill_levels, go_down, has_insert_form, is_b
 use Rattle.sysdef_rules.specs.Lookups.{has, is_of, is_segment, number_of, parent_at, parent_named}
 use Rattle.sysdef_rules.specs.Segments.{breaks_parent, breaks_segment, first_segment, own_line}
 use Rattle.sysdef_check.specs.Systems.{and_then, parent_number, type_in, types_in}
-use Rattle.sysdef_check.proofs.Kept.{and_parts, neither, not_broken}
+use Rattle.sysdef_check.proofs.Kept.{and_parts, not_broken}
 use Rattle.sysdef_check.proofs.Made.{none_holds}
+use Rattle.tm_types.proofs.Truths.{neither}
 
 abbrev AreSegments : List MacroLine → Type 0
 AreSegments lines = IsTrue (list_all (λ l. is_of Segments l.content) lines)
@@ -99,7 +100,7 @@ prefix_number before others name there =
     ap (λ o. option_map_or (λ place. place + 1) o 0)
     (position_from-zero test (before ++ others) ∙ prefix_from test 0 before others there ∙ sym (position_from-zero test before))
 
-not_false : (b : Bool) → not b ≡ false → b ≡ true
+pub not_false : (b : Bool) → not b ≡ false → b ≡ true
 not_false true h = refl
 not_false false h = absurd (false≢true (sym h))
 

@@ -20,8 +20,8 @@ use Rattle.sysdef_check.specs.Systems.{and_then, code_in, codes_in, psb_after, p
 use Rattle.sysdef_check.proofs.Kept.{and_parts}
 use Rattle.sysdef_check.proofs.Made.{either_false, made_holds, none_holds}
 use Rattle.sysdef_check.proofs.Pads.{KeepsDestination, keeps_in}
-use Rattle.sysdef_check.proofs.Served.{not_false}
 use Rattle.sysdef_check.proofs.Servable.{pcbs_hold}
+use Rattle.sysdef_check.proofs.Paths.{not_false}
 
 -- a terminal that stands in a macro has a place, the first of all having any
 found_from : (b more : Bool) (start : ℕ) (found : Option ℕ) → (more ≡ true → IsSome found) → (b || more) ≡ true → IsSome (cond b (Some start) found)

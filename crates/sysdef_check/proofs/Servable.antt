@@ -36,13 +36,10 @@ use Rattle.sysdef_rules.specs.Segments.{first_segment}
 use Rattle.sysdef_check.specs.Systems.{and_then, databases_in, pcb_in, pcbs_for, pcbs_in, program_in, programs_in, types_in}
 use Rattle.sysdef_check.proofs.Dbds.{database_found, database_numbered, parents_kept}
 use Rattle.sysdef_rules.proofs.Fronts.{front_all, front_holds}
-use Rattle.sysdef_check.proofs.Kept.{and_parts, kept_count, neither, not_broken}
+use Rattle.sysdef_check.proofs.Kept.{and_parts, kept_count, not_broken}
 use Rattle.sysdef_check.proofs.Made.{made_holds, none_holds, short_list}
-use Rattle.sysdef_check.proofs.Paths.{all_there, in_order, is_named}
-
-not_false : (b : Bool) → not b ≡ false → b ≡ true
-not_false true h = refl
-not_false false h = absurd (false≢true (sym h))
+use Rattle.sysdef_check.proofs.Paths.{all_there, in_order, is_named, not_false}
+use Rattle.tm_types.proofs.Truths.{neither}
 
 -- A program has at most 8 PCBs.
 few_by : (b : Bool) (lines more : List MacroLine) → (b ≡ true → length (front Pcbs lines) ≤ 8) → length (front Pcbs more) ≤ 8 → length (front Pcbs (cond b lines more)) ≤ 8

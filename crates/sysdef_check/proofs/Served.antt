@@ -1,5 +1,5 @@
 -- Each code has a program, and stands once.
-use Rattle.std.proofs.Common.{ℕ, zero, suc, ◌≡◌, ◌+◌, ◌||◌, cond, not, Bool, true, false, List, [], ◌∷◌, ◌++◌, get_or, slice_get, Option, Some, None, IfSome, IsSome, All, refl, sym, subst, ap, ◌∙◌, add-zero, zero-add, arith}
+use Rattle.std.proofs.Common.{ℕ, zero, suc, ◌≡◌, ◌+◌, ◌||◌, cond, Bool, true, false, List, [], ◌∷◌, ◌++◌, get_or, slice_get, Option, Some, None, IfSome, IsSome, All, refl, sym, subst, ap, ◌∙◌, add-zero, zero-add, arith}
 use Rattle.std.specs.List.{list_any, position_from}
 use Rattle.std.specs.Str.{bytes_eq}
 use Rattle.std.proofs.lemmas.Bool.{false≢true}
@@ -19,12 +19,10 @@ use Rattle.sysdef_rules.specs.declared.cross.CrossRule.TheVariants.{CodeTwice, P
 use Rattle.sysdef_rules.specs.Cross.{breaks_application, breaks_code, broken_line, first_line}
 use Rattle.sysdef_rules.specs.Lookups.{has, is_code, is_program, is_terminal}
 use Rattle.sysdef_check.specs.Systems.{and_then, code_in, codes_in, psb_after, pcbs_for, program_in, programs_in}
-use Rattle.sysdef_check.proofs.Kept.{neither, not_broken}
+use Rattle.sysdef_check.proofs.Kept.{not_broken}
 use Rattle.sysdef_check.proofs.Made.{either_false, made_holds, none_holds}
-
-pub not_false : (b : Bool) → not b ≡ false → b ≡ true
-not_false true h = refl
-not_false false h = absurd (false≢true (sym h))
+use Rattle.tm_types.proofs.Truths.{neither}
+use Rattle.sysdef_check.proofs.Paths.{not_false}
 
 -- the program of a name that a PROGRAM has is there
 there_by : (b more : Bool) (program : SystemProgram) (found : Option SystemProgram) → (more ≡ true → IsSome found) → (b || more) ≡ true → IsSome (cond b (Some program) found)

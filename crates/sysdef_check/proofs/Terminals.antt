@@ -12,9 +12,10 @@ use Rattle.sysdef_rules.specs.declared.cross.CrossRule.TheVariants.{TerminalTwic
 use Rattle.sysdef_rules.specs.Cross.{breaks_terminal, broken_line, first_line}
 use Rattle.sysdef_rules.specs.Lookups.{has, is_terminal}
 use Rattle.sysdef_check.specs.Systems.{and_then, terminal_in, terminals_in}
-use Rattle.sysdef_check.proofs.Kept.{neither, not_broken}
+use Rattle.sysdef_check.proofs.Kept.{not_broken}
 use Rattle.sysdef_check.proofs.Made.{either_false}
 use Rattle.sysdef_check.proofs.Served.{last_passes, same_code}
+use Rattle.tm_types.proofs.Truths.{neither}
 
 kept_terminal : (all before : List MacroLine) (line : MacroLine) (behind : List MacroLine) → broken_line TerminalTwice all before line behind ≡ None → breaks_terminal before line.content ≡ false
 unfolding broken_line

@@ -91,10 +91,8 @@ fn modify(operands: &Operands<'_>) -> Result<(), u8>
 fn judged<A: Drop>(value: Result<A, u8>) -> Result<(), u8>
     ensures { result ≡ spec.judged value }
 {
-    match value {
-        Ok(_) => Ok(()),
-        Err(rule) => Err(rule),
-    }
+    value?;
+    Ok(())
 }
 
 /// The name under a key, where it stands there.

@@ -16,10 +16,7 @@ use tm_types::processing::{DELETE, GET, INSERT, REPLACE};
 pub(crate) fn short_between(low: u16, high: u16, text: &[u8]) -> Result<u16, u8>
     ensures { result ≡ number_between low high text.now }
 {
-    match number_between(u32::from(low), u32::from(high), text) {
-        Ok(number) => Ok(number as u16),
-        Err(rule) => Err(rule),
-    }
+    Ok(number_between(u32::from(low), u32::from(high), text)? as u16)
 }
 
 #[tactic(auto, unfolding(crate::specs::Values::segment_kind_of))]
@@ -87,10 +84,7 @@ pub(crate) fn parent_of(text: &[u8]) -> Result<Option<Name>, u8>
     if is_word(text, b"0") {
         return Ok(None);
     }
-    match name_of(text) {
-        Ok(name) => Ok(Some(name)),
-        Err(rule) => Err(rule),
-    }
+    Ok(Some(name_of(text)?))
 }
 
 /// MODIFY: only YES is there.
@@ -243,11 +237,7 @@ fn with_last(classes: Result<Classes, u8>, count: u8, class: Result<u8, u8>) -> 
     ensures value { result ≡ spec.with_last (both classes class) }
     ensures counted { IfOk result (λ after. length after ≡ count + 1) }
 {
-    match both(classes, class) {
-        Ok((mut classes, class)) => {
-            classes.push(class);
-            Ok(classes)
-        }
-        Err(rule) => Err(rule),
-    }
+    let (mut classes, class) = both(classes, class)?;
+    classes.push(class);
+    Ok(classes)
 }

@@ -17,14 +17,11 @@ use Rattle.std.proofs.lemmas.Option.{slice_get_past}
 use Rattle.std.proofs.lemmas.Slice.Eq.{bytes_eq-Decides}
 use Rattle.tm_types.specs.Name.{IsName}
 use Rattle.system_types.specs.Indexes.{AreNamed, IsIndex, place_in}
+use Rattle.tm_types.proofs.Truths.{none_is}
 
 pub first_none : (found : Option ℕ) → found ≡ option_or found None
 first_none (Some place) = refl
 first_none None = refl
-
-none_is : (found : Option ℕ) → is_some found ≡ false → found ≡ None
-none_is (Some place) e = cc
-none_is None e = refl
 
 added_by : (f g : List ℕ → Option ℕ) (label name : List ℕ) (place : ℕ) (b : Bool) → bytes_eq label name ≡ b → f label ≡ None
     → g name ≡ cond b (Some place) (f name) → g name ≡ option_or (f name) (cond b (Some place) None)

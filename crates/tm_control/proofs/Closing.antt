@@ -30,7 +30,7 @@ use Rattle.tm_control.proofs.Rings.{no_ring}
 
 -- ---- an entry with a fault
 
-none_some : {A : Type 0} (x : A) → None ≡ Some x → ⊥
+pub none_some : {A : Type 0} (x : A) → None ≡ Some x → ⊥
 none_some x e = cc
 
 accept_faulted : (terminal : List ℕ) (number : ℕ) (segments : List (List ℕ)) (answer : Result Taken InputRefused) (fault : ControlFault) → fault_in (Accept terminal number segments answer) ≡ Some fault → is_fault (Accept terminal number segments answer) ≡ true

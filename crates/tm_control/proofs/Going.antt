@@ -1,7 +1,6 @@
 -- A call of a control region, by what it leaves of its machine.
 use Rattle.std.proofs.Common.{◌≡◌, ◌≤◌, ◌+◌, ◌*◌, ℕ, Bool, true, false, List, [], ◌∷◌, ◌++◌, refl, sym, ◌∙◌, ap, subst, arith}
 use Rattle.std.specs.Prelude.{Option, Some, None, Result, Ok, Err, IfErr, if◌then◌else◌}
-use Rattle.std.specs.Option.{option_map_or}
 use Rattle.tm_disk.specs.Disk.{Image, DiskState, IsDisk}
 use Rattle.model_system.specs.System.{System}
 use Rattle.model_machine.specs.declared.entry.CheckpointRefused.{CheckpointRefused}
@@ -11,8 +10,6 @@ use Rattle.model_machine.specs.declared.entry.Entry.TheVariants.{Checked}
 use Rattle.model_machine.specs.declared.entry.ControlFault.{ControlFault}
 use Rattle.model_machine.specs.declared.entry.ControlFault.TheVariants.{Memory, Disk, Spent}
 use Rattle.model_machine.specs.Machine.{LastingState, Moment, start_of}
-use Rattle.model_machine.specs.Lasting.{LastingStep, applied}
-use Rattle.model_machine.specs.Steps.{lasting_step}
 use Rattle.model_machine.specs.History.{after_entry, call_of, moment_after, AscendAbove, IsCall, May, AreSteps}
 use Rattle.model_machine.proofs.Histories.{moment_after-append, AreSteps-append}
 use Rattle.tm_machine.specs.Answers.{IsAnswered}
@@ -33,6 +30,7 @@ use Rattle.logged_machine.specs.Taken.{StaysUntaken}
 use Rattle.tm_control.specs.Calls.{StaysSo, CountsSince, StaysUndone, StaysUntaken as Untaken, AddsBy, CrashesSo, CrashesAlone, is_noted, noted, parts_now}
 use Rattle.tm_control.specs.Inside.{IsServed, Holds, HoldsBy, last_checked}
 use Rattle.tm_control.proofs.Numbers.{ascend_more, last_more, Numbers, Next, next_number, fault_ascends}
+use Rattle.model_machine.proofs.Rising.{steps_rise}
 
 -- a control region by its parts
 abbrev pub seen : {D : Type 0} → LoggedState D → LastingState → List Entry → ℕ → ℕ → ControlOnDisk D
@@ -82,13 +80,6 @@ lasts_open state machine opening history room began none moment served lasts =
     }))
 
 -- ---- lasting steps are counted on
-
-rises : (lasting : LastingState) (step : Option LastingStep) → lasting.steps ≤ (option_map_or (λ s. applied s lasting) step lasting).steps
-rises lasting None = omega arith
-rises lasting (Some step) = omega arith
-
-steps_rise : (system : System) (moment : Moment) (entry : Entry) → moment.lasting.steps ≤ (after_entry system moment entry).lasting.steps
-steps_rise system moment entry = rises moment.lasting (lasting_step system moment (call_of entry))
 
 -- what lasts with an entry more
 pub lasting_with : (system : System) (opening : LastingState) (before : List Entry) (entry : Entry) (moment : Moment)

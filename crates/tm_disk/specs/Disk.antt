@@ -9,6 +9,12 @@ Image = List (List ℕ)
 abbrev pub sector_at : Image → ℕ → List ℕ
 sector_at image at = slice_index_or image at []
 
+-- The sectors from a place on may be others, so many of them, and all the rest stay.
+pub record ChangesOnly (at count : ℕ) (before after : Image) : Type 0 where
+  pub size : length after ≡ length before
+  pub below : (k : ℕ) → k < at → sector_at after k ≡ sector_at before k
+  pub above : (k : ℕ) → at + count ≤ k → sector_at after k ≡ sector_at before k
+
 -- the image with another sector at a place
 abbrev pub with_sector : Image → ℕ → List ℕ → Image
 with_sector image at sector = slice_set image at sector

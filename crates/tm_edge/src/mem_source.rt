@@ -4,28 +4,28 @@ ghost use Rattle.std.specs.Io.KnownBytes.{prepend_known, IsAtEnd};
 ghost use Rattle.tm_edge.specs.Fault.{HasRisen};
 ghost use Rattle.tm_edge.specs.Feed.{Fails};
 
-use crate::{Failed, Source};
+use crate::{Failed, Source, TextSource};
 use std::marker::Model;
+use tm_types::Bytes;
 
 /// A source over bytes in memory, which it tells.
 #[derive(Debug, Drop)]
 pub struct MemSource {
-    bytes: Vec<u8>,
-    at: usize,
+    text: TextSource,
     calls: u64,
     faults: u64,
     fail_at: Vec<u64>,
 }
 
 impl Model for MemSource {
-    ghost use Rattle.std.specs.Prelude.{◌^◌, ◌≤◌, ◌<◌, vec_len, drop};
+    ghost use Rattle.std.specs.Prelude.{◌^◌, ◌≤◌, ◌<◌};
     ghost use Rattle.tm_edge.specs.Feed.{Feed};
 
     ghost Value = { Feed };
 
-    ghost view = { λ s. record { left = drop s.at s.bytes.items; calls = s.calls; faults = s.faults; fail_at = s.fail_at.items } };
+    ghost view = { λ s. record { left = s.text; calls = s.calls; faults = s.faults; fail_at = s.fail_at.items } };
 
-    ghost invariant = { λ s. (s.at ≤ vec_len s.bytes) × (s.faults ≤ s.calls) × (s.calls < 2 ^ 64) };
+    ghost invariant = { λ s. (s.faults ≤ s.calls) × (s.calls < 2 ^ 64) };
 }
 
 impl MemSource {
@@ -38,8 +38,7 @@ impl MemSource {
         ensures faults { result.faults ≡ 0 }
     {
         MemSource {
-            bytes,
-            at: 0,
+            text: TextSource::new(Bytes::from_vec(bytes)),
             calls: 0,
             faults: 0,
             fail_at,
@@ -89,9 +88,6 @@ impl Source for MemSource {
         if self.fails() {
             return Err(Failed);
         }
-        let n = into.len().min(self.bytes.len() - self.at);
-        into[..n].copy_from_slice(&self.bytes[self.at..self.at + n]);
-        self.at += n;
-        Ok(n)
+        self.text.take(into)
     }
 }

@@ -1,5 +1,5 @@
 //! A source over a text in memory.
-ghost use Rattle.std.specs.Prelude.{◌≡◌, ◌≤◌, ◌<◌, Some, length, take, IfOk, IsOk};
+ghost use Rattle.std.specs.Prelude.{◌≡◌, ◌≤◌, ◌<◌, min, Some, length, take, IfOk, IsOk};
 ghost use Rattle.std.specs.Io.KnownBytes.{prepend_known, IsAtEnd};
 
 use crate::{Failed, Source};
@@ -42,6 +42,8 @@ impl Source for TextSource {
         ensures taken { IfOk result (λ n. Some self.old ≡ prepend_known (take n into.new) (Some self.new)) }
         ensures ending { IfOk result (λ n. n ≡ 0 → 0 < length into.new → IsAtEnd (Some self.new)) }
         ensures never_fails { IsOk result }
+        // It gives as much as the buffer takes.
+        ensures filled { IfOk result (λ n. n ≡ min (length into.new) (length self.old)) }
     {
         let n = into.len().min(self.text.len() - self.at);
         into[..n].copy_from_slice(&self.text.as_slice()[self.at..self.at + n]);

@@ -30,6 +30,7 @@ use Rattle.tm_machine.specs.Parts.{PartsState}
 use Rattle.tm_machine.specs.Turns.{IsTurned, WaitsSo, gave_way_in, waited}
 use Rattle.tm_machine.specs.Victims.{BreaksRings, all_gave_way, gave_way}
 use Rattle.tm_machine.proofs.Leaving.{turn_leaves}
+use Rattle.tm_types.proofs.Ordered.{both_true}
 
 -- ---- flags that follow on more messages that wait
 raised_more : (transaction : Transaction) (w w' : ℕ) (raised : Bool) → w ≤ w' → (w ≡ 0 → raised ≡ false)
@@ -106,10 +107,6 @@ count_more p q (m ∷ messages) h = by (p m) refl (q m) refl (count_more p q mes
     by true e false f rest = absurd (clash (sym (h m e) ∙ f))
     by false e true f rest = omega (arith, rest)
     by false e false f rest = rest
-
-both_true : (a b : Bool) → a && b ≡ true → (a ≡ true) × (b ≡ true)
-both_true true b h = (refl, h)
-both_true false b h = absurd (cc)
 
 not_true : (b : Bool) → not b ≡ true → b ≡ false
 not_true true h = absurd (cc)

@@ -18,9 +18,7 @@ use Rattle.model_machine.specs.Machine.{Slot, is_held}
 use Rattle.lasting_state.specs.Sending.{is_switched, switches, switched_message, switched_messages, with_messages}
 use Rattle.region_work.specs.Ends.{destinations}
 use Rattle.tm_machine.specs.Parts.{IsTold}
-
-abbrev waiting : Message → Queued
-waiting message = record { message = message; holder = None }
+use Rattle.lasting_state.proofs.Finished.{waiting}
 
 pub or_none : (a b : Bool) → (a || b) ≡ false → (a ≡ false) × (b ≡ false)
 or_none true b e = cc

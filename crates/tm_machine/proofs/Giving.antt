@@ -4,7 +4,7 @@ use Rattle.std.specs.Prelude.{Option, Some, None, IsSome, IsSomeAnd, IsTrue, ◌
 use Rattle.std.specs.Option.{option_map, option_map_or, is_some}
 use Rattle.std.specs.List.{AllByRecursion, count_by, list_any}
 use Rattle.std.specs.Ordering.{nat_cmp}
-use Rattle.std.specs.declared.cmp.Ordering.TheVariants.{Less, Equal}
+use Rattle.std.specs.declared.cmp.Ordering.TheVariants.{Less}
 use Rattle.std.specs.Str.{bytes_eq}
 use Rattle.std.proofs.lemmas.Bool.{eqb-true}
 use Rattle.std.proofs.lemmas.List.Elements.{recursion_from_All}
@@ -15,7 +15,6 @@ use Rattle.tm_types.specs.declared.message.Message.{Message}
 use Rattle.model_messages.specs.declared.queued.Queued.{Queued}
 use Rattle.model_messages.specs.Queue.{AreInOrder, has_id, ids_of, message_at, messages_of, queued_at, with_holder, free_count}
 use Rattle.model_messages.proofs.Laws.{messages_held}
-use Rattle.msg_queues.proofs.Keys.{equal_from}
 use Rattle.model_data.specs.Table.{blockers, wait_of, waits_for}
 use Rattle.model_data.specs.Ask.{released}
 use Rattle.model_data.specs.Cycle.{IsRegion as IsTableRegion, IsCycle, WaitsAlong, changes_of, gives_way, victim_of}
@@ -43,12 +42,7 @@ use Rattle.tm_machine.proofs.Raising.{IsFollowed, followed_all, followed_settled
 use Rattle.tm_machine.proofs.Resting.{slots_length}
 use Rattle.tm_machine.proofs.Stepped.{slot_is, trial_is}
 use Rattle.tm_machine.proofs.Tried.{IsTried, unit_trial}
-
--- ---- the messages of an id
-none_above : (code : List ℕ) (id : ℕ) (qs : List Queued) → AllByRecursion (λ k. nat_cmp id k ≡ Less) (ids_of qs) → AllByRecursion (λ q. has_id id q ≡ true → q.message.code ≡ code) qs
-none_above code id [] below = tt
-none_above code id (q ∷ qs) below =
-    (λ same. let clash : Less ≡ Equal = sym below.0 ∙ equal_from id q.message.id (sym (eqb-true q.message.id id same)) in absurd (cc), none_above code id qs below.1)
+use Rattle.tran_pick.proofs.Found.{none_above}
 
 -- all messages that have the id of one are of its code
 same_code : (code : List ℕ) (id : ℕ) (qs : List Queued) → AreInOrder qs → IsSomeAnd (message_at id qs) (λ m. code ≡ m.code) → AllByRecursion (λ q. has_id id q ≡ true → q.message.code ≡ code) qs

@@ -16,7 +16,7 @@ use Rattle.model_data.specs.Modes.{same_resource, serves, holder_cmp}
 use Rattle.model_data.specs.Table.{EnqueueTable, holds_of, is_asker, is_own, is_upgrade, blocked_by, wait_of}
 use Rattle.model_data.specs.Ask.{asker, granted, granted_mode, without_wait, placed, waiting, waits_only_for, waits_for_nothing, after_asks, first_blocked, released}
 use Rattle.message_run.specs.Ahead.{IsHeld}
-use Rattle.message_run.proofs.Holders.{holder_exact}
+use Rattle.model_data.proofs.Holders.{holder_exact}
 
 -- all these requests are of this region
 abbrev pub AreOwn : ℕ → List Request → Type 0

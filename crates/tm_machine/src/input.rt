@@ -11,11 +11,10 @@ ghost use Rattle.tm_machine.specs.Answers.{IsAnswered};
 ghost use Rattle.tm_machine.specs.Inputs.{IsNewInput, IsRefusal, code_for, is_input_fault, way_by, kept_so};
 ghost use Rattle.tm_machine.specs.Told.{IsLonger, Tells};
 
-use crate::lookup::code_word;
 use crate::parts::Parts;
 use conversation::Busy;
 use lasting_state::{Enqueued, KeptInput, Untold, kept_first};
-use model_machine::{InputRefused, Taken};
+use model_machine::{InputRefused, Taken, code_word};
 use model_system::{Code, SegmentKind};
 use region_work::{count_busy, follow_at};
 use std::alloc::Global;

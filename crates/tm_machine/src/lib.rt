@@ -26,7 +26,6 @@ mod commanding;
 mod finish;
 mod input;
 mod lending;
-mod lookup;
 mod lookups;
 mod opening;
 mod output;

@@ -3,7 +3,6 @@ use Rattle.std.proofs.Common.{◌≡◌, ℕ, ◌+◌, ◌*◌, ◌≤◌, true,
 use Rattle.std.specs.Prelude.{Option, Result}
 use Rattle.std.specs.Option.{option_map}
 use Rattle.tm_disk.specs.Disk.{Image, sector_at}
-use Rattle.model_data.specs.declared.row.Row.{Row}
 use Rattle.model_system.specs.System.{System}
 use Rattle.model_machine.specs.Machine.{LastingState}
 use Rattle.log_records.specs.declared.record.Record.{Record}
@@ -19,7 +18,7 @@ use Rattle.model_image.specs.Cut.{Cut, cut_of, records_of, IsCutOff}
 use Rattle.model_image.specs.Faults.{Fault, in_sector, unless_any, or_fault, unless_fault}
 use Rattle.model_image.specs.Snapshot.{snapshot_rules}
 use Rattle.model_image.specs.Slots.{rows_from}
-use Rattle.model_image.specs.Recovered.{is_later, first_later, snapshot_from, log_in, log_from, state_from, later_sector, state_with, state_by, rest_by, log_rest, Recovers}
+use Rattle.model_image.specs.Recovered.{is_later, first_later, snapshot_from, log_in, log_from, later_sector, state_with, state_by, rest_by, log_rest, Recovers}
 use Rattle.model_image.proofs.Ahead.{later_ahead, ahead_same, ahead_empty}
 use Rattle.model_image.proofs.Answers.{nothing_cut_off}
 use Rattle.model_image.proofs.Later.{none_later, each_not_later, not_later}
@@ -30,26 +29,7 @@ use Rattle.tm_restart.specs.Telling.{TellsState}
 use Rattle.tm_restart.specs.Writing.{IsRewritten}
 use Rattle.tm_restart.proofs.Behind.{rows_found, later_more}
 use Rattle.tm_restart.proofs.RenewalFound.{logs_stay, rows_again}
-
-nothing_cut : cut_of [] ≡ record { records = []; rest = [] }
-unfolding cut_of
-nothing_cut = refl
-
-bind_is : {A B : Type 0} (a : Result A Fault) (f : A → Result B Fault) (x : A) → a ≡ Ok x → (a >>= f) ≡ f x
-bind_is a f x is = ap (λ r. r >>= f) is
-
--- what is left of the recovery, step by step
-abbrev of_rows : System → Image → RestartSector → LastingState → List (List Row) → Result LastingState Fault
-of_rows system image now lasting rows = unless_fault (later_sector system image now) (record lasting { rows = rows })
-
-abbrev of_state : System → Image → RestartSector → List Record → List Record → LastingState → Result LastingState Fault
-of_state system image now records log lasting = rows_from system image records log >>= λ rows. of_rows system image now lasting rows
-
-abbrev of_log : System → Image → RestartSector → List Record → List Record → Result LastingState Fault
-of_log system image now records log = state_from system now records log >>= λ lasting. of_state system image now records log lasting
-
-abbrev of_snapshot : System → Image → RestartSector → List Record → Result LastingState Fault
-of_snapshot system image now records = log_from system image now true >>= λ log. of_log system image now records log
+use Rattle.checkpointing.proofs.Begun.{nothing_cut, bind_is, of_rows, of_state, of_log, of_snapshot}
 
 -- The restart sector of the next life, for this snapshot.
 pub record IsNextLife (system : System) (r now : RestartSector) (bytes : List ℕ) : Type 0 where

@@ -19,7 +19,7 @@ use Rattle.log_sectors.proofs.Sealing.{opened-blank}
 use Rattle.restart_data.specs.declared.restart.RestartSector.{RestartSector}
 use Rattle.restart_data.specs.Restart.{IsRestart, restart_in}
 use Rattle.restart_data.specs.Fields.{number2_at, are_zeros}
-use Rattle.restart_data.proofs.Zeros.{blank_is, take-zeros, drop-zeros, are_zeros-zeros}
+use Rattle.restart_data.proofs.Zeros.{are_zeros-zeros}
 use Rattle.seg_store.specs.Slots.{Stored, free_slots}
 use Rattle.seg_store.specs.Stores.{empty_store, empty_stores}
 use Rattle.system_types.specs.Valid.{IsSystem}
@@ -36,7 +36,6 @@ use Rattle.openings.specs.FirstImage.{IsFirst, IsFirstImage, BeginsImage, first_
 use Rattle.checkpointing.specs.Spelled.{Adds}
 use Rattle.checkpointing.proofs.Read.{no_changes, read_from}
 use Rattle.openings.proofs.Emptied.{empty_is, empty_sound}
-use Rattle.openings.proofs.Names.{codes_apart}
 use Rattle.openings.proofs.FirstWritten.{has_first, first_recovers}
 use Rattle.model_machine.specs.declared.counts.Counter.{Counter}
 use Rattle.model_machine.specs.declared.counts.Counter.TheVariants as counter
@@ -52,6 +51,9 @@ use Rattle.openings.specs.Opening.{IsBegun, MayBegin, counters, first_spent}
 use Rattle.openings.specs.Parts.{OpeningParts}
 use Rattle.openings.specs.Renewal.{IsRenewed}
 use Rattle.openings.proofs.TextBack.{text_back}
+use Rattle.tm_disk.proofs.Zeros.{blank_is, take-zeros, drop-zeros}
+use Rattle.checkpointing.proofs.Begun.{two_zeros}
+use Rattle.checkpointing.proofs.Apart.{codes_apart}
 
 -- ---- restart sectors
 
@@ -84,10 +86,6 @@ unspent system = ap (option_map (λ (c : Counter × ℕ). c.0)) (none_replied sy
 
 front_blank : take 2 blank ≡ zeros 2
 front_blank = ap (take 2) blank_is ∙ take-zeros 2 4096 (omega arith)
-
-two_zeros : from_be_bytes w16 (zeros 2) ≡ 0
-unfolding zeros
-two_zeros = refl
 
 none_used : used_in blank ≡ 0
 unfolding number2_at

@@ -3,13 +3,13 @@ use Rattle.std.proofs.Common.{◌≡◌, ◌⊎◌, ℕ, zero, suc, ◌+◌, ◌
 use Rattle.std.specs.Prelude.{Result, Ok, Err, OnOk}
 use Rattle.std.proofs.lemmas.Bool.{cases_lt}
 use Rattle.std.proofs.lemmas.List.{length-set}
-use Rattle.tm_disk.specs.Disk.{Image, DiskState, IsDisk, sector_at, MayWrite, Within, Follows}
+use Rattle.tm_disk.specs.Disk.{Image, DiskState, IsDisk, sector_at, MayWrite, Within, Follows, ChangesOnly}
 use Rattle.tm_disk.proofs.Words.{within_more, follows_on}
 use Rattle.model_system.specs.System.{System}
 use Rattle.restart_data.specs.declared.restart.RestartSector.{RestartSector}
 use Rattle.restart_data.specs.Restart.{IsRestart, restart_sector}
 use Rattle.restart_data.specs.Snapshot.{sectors_of}
-use Rattle.restart_data.specs.Images.{ChangesOnly, Saves, Restarts}
+use Rattle.restart_data.specs.Images.{Saves, Restarts}
 use Rattle.restart_data.proofs.ImageLaws.{restart_either, others_stay, restart_keeps_snapshots}
 use Rattle.model_image.specs.Areas.{snapshot_area, snapshot_first, log_first, data_first}
 use Rattle.model_image.proofs.Places.{snapshot_below, log_above, slot_above}

@@ -1,6 +1,6 @@
 -- The definition, read line by line.
 use Rattle.std.proofs.Common.{◌≡◌, ℕ, suc, ◌+◌, ◌-◌, ◌≤◌, Bool, true, false, ◌&&◌, List, [], ◌∷◌, ◌++◌, length, map, sym, ◌∙◌, ap, subst, refl, arith, append_assoc, length-append, append-nil, inl, inr, ◌⊎◌}
-use Rattle.std.specs.Prelude.{Option, Some, None, IfSome, if◌then◌else◌}
+use Rattle.std.specs.Prelude.{Option, Some, None, IfSome}
 use Rattle.std.specs.List.{list_all}
 use Rattle.std.proofs.lemmas.List.Folds.{list_all-append}
 use Rattle.model_session.specs.Blocks.{Block, blocks_of}
@@ -17,6 +17,7 @@ use Rattle.tm_session.specs.Driving.{may_pass, ReadsSession, ReadsTold}
 use Rattle.tm_session.specs.Unread.{IsUnread}
 use Rattle.tm_session.specs.Opening.{ReadsLines, ReadsDefinition, IsCutShort, StopsBefore, ReadsSome, DefinitionSoFar}
 use Rattle.tm_session.proofs.Reading.{told_behind, texts_twice}
+use Rattle.tm_session.proofs.Steps.{choose, other}
 
 texts_line : (bytes rest line : List ℕ) (size : ℕ) → cut_lines bytes ≡ record { text = line; size = size } ∷ cut_lines rest → lines_of bytes ≡ line ∷ lines_of rest
 texts_line bytes rest line size cut = ap (map (λ (l : CutLine). l.text)) cut
@@ -24,14 +25,6 @@ texts_line bytes rest line size cut = ap (map (λ (l : CutLine). l.text)) cut
 pub reading_start : (told : Option (List ℕ)) → DefinitionSoFar told [] told false 262144
 reading_start (Some bytes) = record { cut = []; lines = refl; served = none_served bytes; definition = refl; session = λ more. refl }
 reading_start None = refl
-
-choose : {A : Type 0} (b : Bool) (x y : A) → b ≡ true → (if b then x else y) ≡ x
-choose true x y e = refl
-choose false x y e = cc
-
-other : {A : Type 0} (b : Bool) (x y : A) → b ≡ false → (if b then x else y) ≡ y
-other true x y e = cc
-other false x y e = refl
 
 one_cut : (cut : List CutLine) (texts : List (List ℕ)) (line : List ℕ) (size : ℕ) → texts_of cut ≡ texts
     → texts_of (cut ++ record { text = line; size = size } ∷ []) ≡ texts ++ line ∷ []

@@ -8,17 +8,18 @@ use Rattle.std.proofs.lemmas.Slice.Eq.{bytes_eq-Decides}
 use Rattle.text_rows.specs.Lines.{is_passed_over}
 use Rattle.tm_types.specs.Words.{first_word}
 use Rattle.model_session.specs.Standing.{Setting, SessionState}
-use Rattle.model_session.specs.Blocks.{Block, alone, and_field, and_line, and_text, is_further, is_screen, takes_further, open_before, line_before, blocks_behind, closed}
+use Rattle.model_session.specs.Blocks.{Block, alone, and_line, is_further, takes_further, open_before, line_before, blocks_behind, closed}
 use Rattle.tm_session.specs.declared.outcome.Ended.{Ended}
 use Rattle.tm_session.specs.declared.outcome.Ended.TheVariants.{Done, Memory}
 use Rattle.tm_session.specs.Driving.{Serves, FailsAt, Goes, Ends, EndsWhole, AreClosed, IsOpen, line_blocks, ahead_with, kept_blocks}
 use Rattle.tm_session.proofs.Driven.{serves_none, serves_twice, serves_stops, stops_none, stops_served}
+use Rattle.session_lines.proofs.Enough.{line_stays}
 
-choose : {A : Type 0} (b : Bool) (x y : A) → b ≡ true → (if b then x else y) ≡ x
+pub choose : {A : Type 0} (b : Bool) (x y : A) → b ≡ true → (if b then x else y) ≡ x
 choose true x y e = refl
 choose false x y e = cc
 
-other : {A : Type 0} (b : Bool) (x y : A) → b ≡ false → (if b then x else y) ≡ y
+pub other : {A : Type 0} (b : Bool) (x y : A) → b ≡ false → (if b then x else y) ≡ y
 other true x y e = cc
 other false x y e = refl
 
@@ -95,13 +96,6 @@ pub open_step : (setting : Setting) (line : List ℕ) (block : Block) (w : Optio
 open_step setting line block w a seen takes is = subst (λ x. Goes setting None line (Some x) w w a a) (sym is) (goes_open setting line w a seen takes)
 
 -- ---- a line behind one that may take `+` lines
-
--- a line with one more `+` line stays the same
-line_stays : (block : Block) (line : List ℕ) → (and_line block line).line ≡ block.line
-line_stays block line = by (is_screen block.line) where
-  by : (b : Bool) → (if b then and_field block line else and_text block line).line ≡ block.line
-  by true = refl
-  by false = refl
 
 pub stays_open : (block : Block) (line : List ℕ) → IsOpen block → IsOpen (and_line block line)
 stays_open block line takes = ap takes_further (line_stays block line) ∙ takes

@@ -4,3 +4,7 @@ pub mod Places
 pub mod Commands
 pub mod DigitSteps
 pub mod KeyOrder
+pub mod Parted
+pub mod Positions
+pub mod Ordered
+pub mod Truths

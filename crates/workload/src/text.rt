@@ -99,7 +99,7 @@ fn add_line(out: &mut Bytes, text: &[u8]) -> Result<(), Memory>
 }
 
 /// Adds a number's decimal digits.
-fn add_number(out: &mut Bytes, number: u64) -> Result<(), Memory>
+pub fn add_number(out: &mut Bytes, number: u64) -> Result<(), Memory>
     ensures { OnOk result (out.new ≡ out.old ++ decimal number) }
 {
     let mut digits = Buffer::new();

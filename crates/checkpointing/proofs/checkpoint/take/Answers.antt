@@ -1,6 +1,5 @@
 use Rattle.std.proofs.Common.{arith, ◌≡◌, refl, sym, ◌∙◌, ap, subst}
 use Rattle.tm_disk.specs.Disk.{Within, Follows, MayWrite}
-use Rattle.log_sectors.proofs.Links.{at_ok}
 use Rattle.restart_data.specs.declared.restart.RestartSector.{RestartSector}
 use Rattle.restart_data.specs.Restart.{restart_sector}
 use Rattle.restart_data.specs.Images.{Restarts}
@@ -12,6 +11,7 @@ use Rattle.checkpointing.specs.Checkpoint.{IsCheckpointed}
 use Rattle.checkpointing.proofs.Slots.{slots_end}
 use Rattle.checkpointing.proofs.Taking.{Asked, all_asked, next_of_forced, same_writer, begins_empty, prepared_within, taken_within, prepared_text, prepared_steps, taken_text, taken_steps, taken_follows, taken_ahead, taken_ready}
 use Rattle.checkpointing.proofs.checkpoint.take.Goals as goal
+use Rattle.tm_disk.proofs.States.{at_ok}
 
 pub prepare-requires-clause-area : goal.prepare-requires-clause-area
 prepare-requires-clause-area g c =

@@ -1,6 +1,5 @@
 use Rattle.std.proofs.Common.{length, sym, subst}
 use Rattle.tm_disk.specs.Disk.{Within, Follows}
-use Rattle.log_sectors.proofs.Links.{at_ok}
 use Rattle.restart_data.specs.Snapshot as snapshot
 use Rattle.log_writer.specs.Log.{AddsAll}
 use Rattle.checkpointing.specs.Parts.{parts_of}
@@ -9,6 +8,7 @@ use Rattle.seg_store.specs.WriteBack.{changed_bytes}
 use Rattle.model_image.specs.Areas.{data_first}
 use Rattle.checkpointing.proofs.Preparing.{sectors_fit, within_slots, follows_slots, within_snapshot}
 use Rattle.checkpointing.proofs.steps.prepare.Goals as goal
+use Rattle.tm_disk.proofs.States.{at_ok}
 
 pub returns-then-is_err-2-clause-any_moment : goal.returns-then-is_err-2-clause-any_moment
 returns-then-is_err-2-clause-any_moment g c =

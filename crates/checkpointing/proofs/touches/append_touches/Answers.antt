@@ -3,8 +3,9 @@ use Rattle.std.specs.Prelude.{slice_get}
 use Rattle.std.proofs.lemmas.Option.{slice_get_read}
 use Rattle.checkpointing.specs.declared.touches.OpenUnit.{OpenUnit}
 use Rattle.checkpointing.specs.Touches.{touch_records, changes_of, AreSpelled}
-use Rattle.checkpointing.proofs.Adding.{comes_some, comes_end, drop_more, drop_end, all_more}
+use Rattle.checkpointing.proofs.Adding.{comes_some, comes_end, drop_end, all_more}
 use Rattle.checkpointing.proofs.touches.append_touches.Goals as goal
+use Rattle.tm_types.proofs.Parted.{drop_more}
 
 pub loop-unit-preserved : goal.loop-unit-preserved
 loop-unit-preserved c =

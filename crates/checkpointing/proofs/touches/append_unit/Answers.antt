@@ -4,9 +4,10 @@ use Rattle.std.proofs.lemmas.Option.{slice_get_within}
 use Rattle.unit_work.specs.declared.change.Change.{Change}
 use Rattle.unit_work.specs.Shown.{shown}
 use Rattle.checkpointing.specs.Touches.{touch_record, touch_records, IsSpelled}
-use Rattle.checkpointing.proofs.Adding.{comes_more, comes_end, drop_more, drop_beyond, all_more}
+use Rattle.checkpointing.proofs.Adding.{comes_more, comes_end, drop_beyond, all_more}
 use Rattle.checkpointing.proofs.Shown.{none_shown}
 use Rattle.checkpointing.proofs.touches.append_unit.Goals as goal
+use Rattle.tm_types.proofs.Parted.{drop_more}
 
 pub loop-slot-preserved : goal.loop-slot-preserved
 loop-slot-preserved c =

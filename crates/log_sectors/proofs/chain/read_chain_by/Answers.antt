@@ -4,8 +4,9 @@ use Rattle.tm_disk.specs.Disk.{Image, sector_at}
 use Rattle.tm_disk.proofs.Words.{keeps_on}
 use Rattle.log_sectors.specs.Sealed.{opened}
 use Rattle.log_sectors.specs.Chain.{chain, joined}
-use Rattle.log_sectors.proofs.Links.{chain_none, chain_some, at_ok, joined_next}
+use Rattle.log_sectors.proofs.Links.{chain_none, chain_some, joined_next}
 use Rattle.log_sectors.proofs.chain.read_chain_by.Goals as goal
+use Rattle.tm_disk.proofs.States.{at_ok}
 
 pub returns-in-None-clause-payload : goal.returns-in-None-clause-payload
 returns-in-None-clause-payload g c tells =

@@ -2,11 +2,11 @@ use Rattle.std.proofs.Common.{◌≡◌, ℕ, ◌+◌, List, length, refl, sym, 
 use Rattle.tm_disk.specs.Disk.{HasWritten}
 use Rattle.tm_disk.proofs.Words.{stays_on}
 use Rattle.log_sectors.specs.Sealed.{sealed}
-use Rattle.log_sectors.proofs.Links.{at_ok}
 use Rattle.log_writer.specs.Log.{sectors_of, pieces, piece}
 use Rattle.log_writer.proofs.Laying.{has_laid_step}
 use Rattle.log_writer.proofs.Calls.{lays_follows, lays_within}
 use Rattle.log_writer.proofs.lay.lay.Goals as goal
+use Rattle.tm_disk.proofs.States.{at_ok}
 
 pub returns-then-is_err-clause-any_moment : goal.returns-then-is_err-clause-any_moment
 returns-then-is_err-clause-any_moment g c =

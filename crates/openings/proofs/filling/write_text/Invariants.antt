@@ -1,6 +1,5 @@
 use Rattle.std.proofs.Common.{◌≡◌, ◌+◌, ◌≤◌, length, IsTrue}
-use Rattle.tm_disk.specs.Disk.{Stays, Within, Follows}
-use Rattle.restart_data.specs.Images.{ChangesOnly}
+use Rattle.tm_disk.specs.Disk.{Stays, Within, Follows, ChangesOnly}
 use Rattle.openings.specs.Filling.{Fills, text_sectors, text_sector}
 use Rattle.openings.proofs.filling.write_text.Given as goal
 

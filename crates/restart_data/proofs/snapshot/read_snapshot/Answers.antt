@@ -3,9 +3,9 @@ use Rattle.tm_disk.specs.Disk.{Image, sector_at}
 use Rattle.tm_disk.proofs.Words.{keeps_on}
 use Rattle.restart_data.specs.Snapshot.{part_of, part_in, and_then, parts_in, snapshot_in}
 use Rattle.restart_data.specs.Gathering.{so_far}
-use Rattle.restart_data.proofs.Answering.{at_ok}
 use Rattle.restart_data.proofs.Gathering.{parts_next, gathers}
 use Rattle.restart_data.proofs.snapshot.read_snapshot.Goals as goal
+use Rattle.tm_disk.proofs.States.{at_ok}
 
 pub loop-place-preserved : goal.loop-place-preserved
 loop-place-preserved g c =

@@ -1,7 +1,6 @@
 use Rattle.std.proofs.Common.{◌≡◌, ◌+◌, ◌≤◌, length, IsTrue}
-use Rattle.tm_disk.specs.Disk.{Stays, Within, Follows}
+use Rattle.tm_disk.specs.Disk.{Stays, Within, Follows, ChangesOnly}
 use Rattle.restart_data.specs.Snapshot.{sectors_of}
-use Rattle.restart_data.specs.Images.{ChangesOnly}
 use Rattle.restart_data.proofs.Laying.{HoldsFront}
 use Rattle.restart_data.proofs.snapshot.write_snapshot.Given as goal
 

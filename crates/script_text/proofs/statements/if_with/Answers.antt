@@ -6,8 +6,9 @@ use Rattle.text_rows.specs.Lowest.{both, also}
 use Rattle.script_text.specs.Good.{are_printable, places_in, IsGood}
 use Rattle.script_text.specs.Statements.{if_made}
 use Rattle.script_text.proofs.GoodStatements.{if_value, if_good}
-use Rattle.script_text.proofs.Printable.{parts_true, plain_given}
+use Rattle.script_text.proofs.Printable.{plain_given}
 use Rattle.script_text.proofs.statements.if_with.Goals as goal
+use Rattle.tm_types.proofs.Truths.{parts_true}
 
 pub returns-clause-value : goal.returns-clause-value
 returns-clause-value c =

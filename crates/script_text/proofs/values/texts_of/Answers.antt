@@ -7,8 +7,9 @@ use Rattle.script_text.specs.Good.{are_printable}
 use Rattle.script_text.specs.Values.{texts_of, with_text}
 use Rattle.script_text.specs.WordLists.{and_last, and_more}
 use Rattle.script_text.proofs.Lists.{one_text}
-use Rattle.script_text.proofs.Printable.{parts_true, plain_more, plain_given}
+use Rattle.script_text.proofs.Printable.{plain_more, plain_given}
 use Rattle.script_text.proofs.values.texts_of.Goals as goal
+use Rattle.tm_types.proofs.Truths.{parts_true}
 
 pub loop-word-preserved : goal.loop-word-preserved
 loop-word-preserved c =

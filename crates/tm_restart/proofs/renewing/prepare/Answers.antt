@@ -1,7 +1,6 @@
 use Rattle.std.proofs.Common.{sym, subst}
-use Rattle.tm_disk.specs.Disk.{Within, Follows}
+use Rattle.tm_disk.specs.Disk.{Within, Follows, ChangesOnly}
 use Rattle.restart_data.specs.Snapshot.{sectors_of}
-use Rattle.restart_data.specs.Images.{ChangesOnly}
 use Rattle.model_image.specs.Areas.{snapshot_area}
 use Rattle.seg_store.proofs.Putting.{at_ok}
 use Rattle.tm_restart.specs.Given.{HasPutAll}

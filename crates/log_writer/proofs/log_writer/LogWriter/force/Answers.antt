@@ -1,11 +1,11 @@
 use Rattle.std.proofs.Common.{◌≡◌, ℕ, ◌+◌, ◌≤◌, List, length, sym, ◌∙◌, ap, subst, arith, IsTrue}
 use Rattle.tm_disk.specs.Disk.{Image, Within, Follows, Only}
-use Rattle.log_sectors.proofs.Links.{at_ok}
 use Rattle.log_writer.specs.Writer.{Writer}
 use Rattle.log_writer.specs.Log.{sectors_of, pieces, Lays, HasLaid, IsReady, IsAtEnd, AddsFront, AddsAll}
 use Rattle.log_writer.proofs.Adding.{at_of, sequence_of, count_of, payloads_of, room_for}
 use Rattle.log_writer.proofs.Calls.{front_within, front_synced, all_shown, all_follows, all_ready}
 use Rattle.log_writer.proofs.log_writer.LogWriter.force.Goals as goal
+use Rattle.tm_disk.proofs.States.{at_ok}
 
 pub returns-then-is_err-clause-any_moment : goal.returns-then-is_err-clause-any_moment
 returns-then-is_err-clause-any_moment g c =

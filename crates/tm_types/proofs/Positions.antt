@@ -1,17 +1,17 @@
--- The place of the first element that passes.
-use Rattle.std.proofs.Common.{◌≡◌, ℕ, suc, ◌+◌, Bool, true, false, List, ◌∷◌, length, ap, ◌∙◌, arith, Some, None, cond, nat_lt}
-use Rattle.std.specs.Prelude.{position}
-use Rattle.std.specs.Option.{option_map}
-use Rattle.std.specs.List.{position_or_len}
+-- The first place of a list at which a test holds.
+use Rattle.std.proofs.Common.{◌+◌, ◌∙◌, ◌∷◌, ◌≡◌, Bool, List, None, Some, ap, arith, cond, false, length, nat_lt, suc, true, ℕ}
 use Rattle.std.proofs.lemmas.Bool.Decides.{nat_tests}
+use Rattle.std.specs.List.{position_or_len}
+use Rattle.std.specs.Option.{option_map}
+use Rattle.std.specs.Prelude.{position}
 
-less_more : (k n : ℕ) → nat_lt (1 + k) (suc n) ≡ nat_lt k n
+pub less_more : (k n : ℕ) → nat_lt (1 + k) (suc n) ≡ nat_lt k n
 less_more k n = grind (arith, nat_tests)
 
-zero_less : (n : ℕ) → nat_lt 0 (suc n) ≡ true
+pub zero_less : (n : ℕ) → nat_lt 0 (suc n) ≡ true
 zero_less n = grind (arith, nat_tests)
 
-found : (a b : Bool) (k : ℕ) → a ≡ b → cond a (Some (1 + k)) None ≡ option_map (λ n. suc n) (cond b (Some k) None)
+pub found : (a b : Bool) (k : ℕ) → a ≡ b → cond a (Some (1 + k)) None ≡ option_map (λ n. suc n) (cond b (Some k) None)
 found a true k is = ap (λ (t : Bool). cond t (Some (1 + k)) None) is ∙ ap (λ (n : ℕ). Some n) (omega arith)
 found a false k is = ap (λ (t : Bool). cond t (Some (1 + k)) None) is
 
