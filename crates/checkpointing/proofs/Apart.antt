@@ -5,8 +5,8 @@ use Rattle.std.specs.Str.{bytes_eq}
 use Rattle.std.proofs.lemmas.Option.{none-some, same_Some}
 use Rattle.model_system.specs.declared.code.Code.{Code}
 use Rattle.model_system.specs.System.{System}
-use Rattle.system_types.specs.Valid.{IsSystem}
-use Rattle.checkpointing.specs.Records.{AreApart}
+use Rattle.system_types.specs.ValidSystem.{IsSystem}
+use Rattle.checkpointing.specs.SnapshotRecords.{AreApart}
 use Rattle.checkpointing.proofs.Named.{position_map}
 use Rattle.model_image.specs.Snapshot.{code_names}
 

@@ -4,7 +4,7 @@ use Rattle.std.specs.Prelude.{Option, slice_get, slice_set, position}
 use Rattle.std.specs.Option.{option_map, option_map_or}
 use Rattle.std.specs.Str.{bytes_eq}
 use Rattle.model_system.specs.Lists.{change_at}
-use Rattle.checkpointing.specs.Records.{AreApart}
+use Rattle.checkpointing.specs.SnapshotRecords.{AreApart}
 use Rattle.tm_types.proofs.Positions.{found, position_more}
 
 -- ---- places

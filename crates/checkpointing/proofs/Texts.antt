@@ -4,16 +4,16 @@ use Rattle.tm_disk.specs.Disk.{Image, sector_at}
 use Rattle.restart_data.specs.declared.restart.RestartSector.{RestartSector}
 use Rattle.restart_data.specs.Restart.{restart_of, restart_in}
 use Rattle.log_writer.specs.Writer.{Writer}
-use Rattle.log_writer.specs.Log.{AddsFront, AddsAll}
-use Rattle.seg_store.specs.Changed.{AllStores}
+use Rattle.log_writer.specs.ForcedLog.{AddsFront, AddsAll}
+use Rattle.seg_store.specs.ChangedSlots.{AllStores}
 use Rattle.model_image.specs.Areas.{snapshot_area}
 use Rattle.model_image.specs.Text.{bytes_from, text_in}
 use Rattle.model_image.proofs.Places.{log_above, snapshot_below}
-use Rattle.checkpointing.specs.Parts.{CheckpointParts, next_restart}
-use Rattle.checkpointing.specs.Written.{DirtyAt}
-use Rattle.checkpointing.specs.Checkpoint.{InArea, IsWritten, IsCheckpointed}
-use Rattle.checkpointing.specs.Steps.{Then, ChangesUnread, Prepares}
-use Rattle.checkpointing.specs.Texts.{KeepsText}
+use Rattle.checkpointing.specs.CheckpointParts.{CheckpointParts, next_restart}
+use Rattle.checkpointing.specs.DirtySlots.{DirtyAt}
+use Rattle.checkpointing.specs.Checkpoint.{InArea, IsCheckpointWritten, IsCheckpointed}
+use Rattle.checkpointing.specs.CheckpointSteps.{Then, ChangesUnread, Prepares}
+use Rattle.checkpointing.specs.DefinitionText.{KeepsText}
 use Rattle.checkpointing.proofs.Keeping.{Stands, dirty_above}
 use Rattle.checkpointing.proofs.Counted.{one_restart}
 
@@ -58,7 +58,7 @@ module _ (parts : CheckpointParts) (log : Writer) (stores : AllStores) (a : Imag
   written_low e done k some low =
       ⊎_elim
       (λ same. same)
-      (λ (written : IsWritten parts log stores k).
+      (λ (written : IsCheckpointWritten parts log stores k).
       ⊎_elim
       (λ first. absurd (omega (arith, some, first)))
       (λ further. ⊎_elim

@@ -7,9 +7,9 @@ use Rattle.tm_disk.specs.Sector.{zeros}
 use Rattle.restart_data.specs.Fields.{number2_at, are_zeros}
 use Rattle.restart_data.proofs.Zeros.{are_zeros-zeros}
 use Rattle.seg_store.specs.DataSectors.{data_sector}
-use Rattle.model_image.specs.Slots.{used_in, bytes_in, is_wrong_length}
+use Rattle.model_image.specs.Slots.{used_in, slot_bytes_in, is_wrong_length}
 use Rattle.model_image.specs.Slots.Source.{Spelled}
-use Rattle.model_image.specs.Holding.{HoldsBytes}
+use Rattle.model_image.specs.HeldStores.{HoldsBytes}
 
 pub used_is : (bytes : List ℕ) → length bytes ≤ 4000 → used_in (data_sector bytes) ≡ length bytes
 unfolding data_sector number2_at
@@ -19,7 +19,7 @@ pub behind_two : (bytes : List ℕ) → drop 2 (data_sector bytes) ≡ bytes ++ 
 unfolding data_sector
 behind_two bytes = refl
 
-pub bytes_are : (bytes : List ℕ) → length bytes ≤ 4000 → bytes_in (data_sector bytes) ≡ bytes
+pub bytes_are : (bytes : List ℕ) → length bytes ≤ 4000 → slot_bytes_in (data_sector bytes) ≡ bytes
 bytes_are bytes fits =
     ap (λ n. take n (drop 2 (data_sector bytes))) (used_is bytes fits)
     ∙ ap (λ (l : List ℕ). take (length bytes) l) (behind_two bytes)

@@ -2,7 +2,7 @@
 use Rattle.std.proofs.Common.{◌≡◌, ℕ, zero, suc, ◌+◌, List, [], ◌∷◌, ◌++◌, length, refl, ◌∙◌, ap, subst, sym, arith, Some}
 use Rattle.std.specs.Prelude.{slice_get}
 use Rattle.image_records.specs.declared.slots.NamedSlot.{NamedSlot}
-use Rattle.image_reading.specs.Giving.{of_database, AreNamedBytes}
+use Rattle.image_reading.specs.NamedBytes.{of_database, AreNamedBytes}
 
 -- an element of a list with one more is one before, or the last
 at_last : {X : Type 0} (P : ℕ → X → Type 0) (xs : List X) (x : X) → ((i : ℕ) (y : X) → slice_get xs i ≡ Some y → P i y) → P (length xs) x → (i : ℕ) (y : X) → slice_get (xs ++ x ∷ []) i ≡ Some y → P i y

@@ -17,8 +17,8 @@ use Rattle.model_machine.specs.declared.lasting.CodeSetting.{CodeSetting}
 use Rattle.model_machine.specs.Machine.{LastingState, terminal_place, empty_state, first_setting, fresh_terminal_state}
 use Rattle.log_records.specs.declared.record.Record.{Record}
 use Rattle.log_records.specs.declared.record.Record.TheVariants.{Input, Command, Reply, Discarded, Completed, Acknowledged, SyncPoint, Checkpoint, Terminal, Code as CodeRecord, Change}
-use Rattle.model_image.specs.Snapshot.{code_names, told, with_kept}
-use Rattle.image_records.specs.Telling.{AreNamed, of_state, of_output, of_conversation, of_setting}
+use Rattle.model_image.specs.Snapshot.{code_names, with_record_told, with_kept}
+use Rattle.image_records.specs.ChangeRecords.{AreNamesKept, of_state, of_output, of_conversation, of_setting}
 use Rattle.tm_types.proofs.Positions.{found, position_more}
 
 -- ---- places
@@ -85,7 +85,7 @@ change_names {X} name f same xs (Some k) = by (slice_get xs k) refl where
 
 pub output_names : (n : List ℕ) (f : TerminalReplies → TerminalReplies) → ((t : TerminalReplies) → of_output (f t) ≡ of_output t) → (ts : List TerminalReplies) → map of_output (outputs.with_terminal n f ts) ≡ map of_output ts
 output_names n f same [] = refl
-output_names n f same (t ∷ ts) = by (outputs.is_of n t) (output_names n f same ts) where
+output_names n f same (t ∷ ts) = by (outputs.are_replies_of n t) (output_names n f same ts) where
   by : (b : Bool) → map of_output (outputs.with_terminal n f ts) ≡ map of_output ts → map of_output (cond b (f t ∷ ts) (t ∷ outputs.with_terminal n f ts)) ≡ map of_output (t ∷ ts)
   by true rec = ap (λ (m : List ℕ). m ∷ map of_output ts) (same t)
   by false rec = ap (λ (l : List (List ℕ)). of_output t ∷ l) rec
@@ -93,13 +93,13 @@ output_names n f same (t ∷ ts) = by (outputs.is_of n t) (output_names n f same
 pub conversation_names : (n : List ℕ) (f : TerminalConversation → TerminalConversation) → ((t : TerminalConversation) → of_conversation (f t) ≡ of_conversation t) → (ts : List TerminalConversation)
     → map of_conversation (conversations.with_terminal n f ts) ≡ map of_conversation ts
 conversation_names n f same [] = refl
-conversation_names n f same (t ∷ ts) = by (conversations.is_of n t) (conversation_names n f same ts) where
+conversation_names n f same (t ∷ ts) = by (conversations.is_conversation_of n t) (conversation_names n f same ts) where
   by : (b : Bool) → map of_conversation (conversations.with_terminal n f ts) ≡ map of_conversation ts → map of_conversation (cond b (f t ∷ ts) (t ∷ conversations.with_terminal n f ts)) ≡ map of_conversation (t ∷ ts)
   by true rec = ap (λ (m : List ℕ). m ∷ map of_conversation ts) (same t)
   by false rec = ap (λ (l : List (List ℕ)). of_conversation t ∷ l) rec
 
-same_named : (system : System) (old new : LastingState) → AreNamed system old → map of_state new.terminals ≡ map of_state old.terminals → map of_output new.outputs ≡ map of_output old.outputs
-    → map of_conversation new.conversations ≡ map of_conversation old.conversations → map of_setting new.codes ≡ map of_setting old.codes → AreNamed system new
+same_named : (system : System) (old new : LastingState) → AreNamesKept system old → map of_state new.terminals ≡ map of_state old.terminals → map of_output new.outputs ≡ map of_output old.outputs
+    → map of_conversation new.conversations ≡ map of_conversation old.conversations → map of_setting new.codes ≡ map of_setting old.codes → AreNamesKept system new
 same_named system old new named terminals outputs conversations codes = record {
   terminals = terminals ∙ named.terminals;
   outputs = outputs ∙ named.outputs;
@@ -107,22 +107,22 @@ same_named system old new named terminals outputs conversations codes = record {
   codes = codes ∙ named.codes;
 }
 
-pub told_named : (system : System) (r : Record) (old : LastingState) → AreNamed system old → AreNamed system (told r old)
+pub told_named : (system : System) (r : Record) (old : LastingState) → AreNamesKept system old → AreNamesKept system (with_record_told r old)
 told_named system (Checkpoint checkpoint next_id next_unit steps) old named =
-    same_named system old (told (Checkpoint checkpoint next_id next_unit steps) old) named refl refl refl refl
+    same_named system old (with_record_told (Checkpoint checkpoint next_id next_unit steps) old) named refl refl refl refl
 told_named system (Terminal name last next stopped conversation) old named =
-    same_named system old (told (Terminal name last next stopped conversation) old) named
+    same_named system old (with_record_told (Terminal name last next stopped conversation) old) named
     (change_names of_state (λ t. record t { last = last; stopped = stopped }) (λ t. refl) old.terminals (terminal_place old.terminals name))
     (output_names name (λ t. record t { next = next }) (λ t. refl) old.outputs)
     (conversation_names name (conversations.with_conversation conversation) (λ t. refl) old.conversations)
     refl
 told_named system (CodeRecord name stopped class priority) old named =
-    same_named system old (told (CodeRecord name stopped class priority) old) named refl refl refl
+    same_named system old (with_record_told (CodeRecord name stopped class priority) old) named refl refl refl
     (change_names of_setting (λ c. record c { stopped = stopped; class = class; priority = priority }) (λ c. refl) old.codes (position (λ code. bytes_eq code.code name) old.codes))
 told_named system (Input unit id origin code number conversation segments) old named =
-    same_named system old (told (Input unit id origin code number conversation segments) old) named refl refl refl refl
+    same_named system old (with_record_told (Input unit id origin code number conversation segments) old) named refl refl refl refl
 told_named system (Reply unit terminal number segments) old named =
-    same_named system old (told (Reply unit terminal number segments) old) named refl
+    same_named system old (with_record_told (Reply unit terminal number segments) old) named refl
     (output_names terminal (with_kept number segments) (λ t. refl) old.outputs) refl refl
 told_named system (Command text) old named = named
 told_named system (Discarded unit id abend number) old named = named
@@ -131,8 +131,8 @@ told_named system (Acknowledged terminal number) old named = named
 told_named system (SyncPoint unit pad) old named = named
 told_named system (Change unit database slot before after) old named = named
 
-pub named_told : (system : System) (r : Record) (old new : LastingState) → AreNamed system old → new ≡ told r old → AreNamed system new
-named_told system r old new named is = subst (AreNamed system) (sym is) (told_named system r old named)
+pub named_told : (system : System) (r : Record) (old new : LastingState) → AreNamesKept system old → new ≡ with_record_told r old → AreNamesKept system new
+named_told system r old new named is = subst (AreNamesKept system) (sym is) (told_named system r old named)
 
 -- ---- the empty state
 
@@ -144,7 +144,7 @@ codes_again : (codes : List Code) → map of_setting (map first_setting codes) �
 codes_again [] = refl
 codes_again (c ∷ codes) = ap (λ (l : List (List ℕ)). c.transaction.code ∷ l) (codes_again codes)
 
-pub empty_named : (system : System) → AreNamed system (empty_state system)
+pub empty_named : (system : System) → AreNamesKept system (empty_state system)
 empty_named system = record {
   terminals = again of_state fresh_terminal_state (λ n. refl) system.terminals;
   outputs = again of_output outputs.fresh_terminal (λ n. refl) system.terminals;
@@ -152,5 +152,5 @@ empty_named system = record {
   codes = codes_again system.codes;
 }
 
-pub named_empty : (system : System) (lasting : LastingState) → lasting ≡ empty_state system → AreNamed system lasting
-named_empty system lasting is = subst (AreNamed system) (sym is) (empty_named system)
+pub named_empty : (system : System) (lasting : LastingState) → lasting ≡ empty_state system → AreNamesKept system lasting
+named_empty system lasting is = subst (AreNamesKept system) (sym is) (empty_named system)

@@ -2,7 +2,7 @@
 ghost use Rattle.std.specs.Prelude.{◌≡◌, ◌+◌, ◌==◌, length, slice_get};
 ghost use Rattle.std.specs.List.{suffix_len};
 ghost use Rattle.std.specs.Option.{option_and_then};
-ghost use Rattle.model_messages.specs.Calls.{destination_named, switched_to, without_blanks};
+ghost use Rattle.model_messages.specs.MessageCalls.{destination_named, switched_to, without_blanks};
 
 use model_system::Code;
 use system_types::System;

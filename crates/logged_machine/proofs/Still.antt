@@ -6,8 +6,8 @@ use Rattle.model_machine.specs.declared.entry.ControlCall.TheVariants.{Input, Re
 use Rattle.model_machine.specs.declared.entry.Entry.{Entry}
 use Rattle.model_machine.specs.declared.entry.Entry.TheVariants.{Accept, Show, Acked, Commanded, Checked, Turn as TurnEntry}
 use Rattle.tm_machine.specs.Parts.{PartsState}
-use Rattle.logged_machine.specs.Taking.{settled_parts}
-use Rattle.logged_machine.specs.Calls.{ChangesBy, Does, DoesTo, may_change, own_records}
+use Rattle.logged_machine.specs.UntakenCheckpoint.{settled_parts}
+use Rattle.logged_machine.specs.ToldCalls.{ChangesBy, DoesCall, DoesTo, may_change, own_records}
 use Rattle.logged_machine.proofs.Behind.{answered_settled, databases_settled}
 use Rattle.tm_types.proofs.Truths.{apart}
 
@@ -36,8 +36,8 @@ no_changes units (Checked freeze answer) parts none = tt
 no_changes units (TurnEntry region answer) parts none = absurd (apart none)
 
 -- it did so on parts where no slot counts as changed
-pub does_settled : (units : List ℕ) (entry : Entry) (parts made parts' : PartsState) → may_change (call_of entry) ≡ false → parts' ≡ settled_parts made → Does units entry parts made
-    → Does units entry (settled_parts parts) parts'
+pub does_settled : (units : List ℕ) (entry : Entry) (parts made parts' : PartsState) → may_change (call_of entry) ≡ false → parts' ≡ settled_parts made → DoesCall units entry parts made
+    → DoesCall units entry (settled_parts parts) parts'
 does_settled units entry parts made parts' none is d = record {
   answered = answered_settled parts made parts' entry is d.answered;
   no_fault = d.no_fault;

@@ -48,9 +48,8 @@ mod checking;
 mod due;
 mod forcing;
 mod logged;
-mod logged_machine_opening;
 mod looking;
-mod machine_due_writing;
+mod machine_opening;
 mod names;
 mod opening;
 mod refreshing;
@@ -60,6 +59,7 @@ mod snapshots;
 mod spending;
 mod step;
 mod telling;
+mod told_checkpoints;
 mod units;
 mod writing;
 

@@ -6,7 +6,7 @@ use Rattle.model_data.specs.declared.request.Holder.{Holder}
 use Rattle.model_data.specs.declared.request.Request.{Request}
 use Rattle.model_data.specs.Modes.{holder_cmp}
 use Rattle.model_data.specs.Table.{is_asker}
-use Rattle.model_data.specs.Ask.{asker}
+use Rattle.model_data.specs.EnqueueRequests.{asker}
 use Rattle.tm_types.proofs.Ordered.{eqb_back}
 use Rattle.model_data.proofs.Holders.{holder_total, resource_back, holder_ties}
 

@@ -6,8 +6,8 @@ use Rattle.std.specs.Str.{bytes_eq}
 use Rattle.std.proofs.lemmas.Bool.Decides.{nat_tests}
 use Rattle.std.proofs.lemmas.List.{reverse-append}
 use Rattle.model_system.specs.declared.device_field.DeviceField.{DeviceField}
-use Rattle.model_system.specs.Breaks.{clash, overlap, clashing_field, line_if}
-use Rattle.model_system.specs.Showing.{covers}
+use Rattle.model_system.specs.FormatRule.{clash, overlap, clashing_field, line_if}
+use Rattle.model_system.specs.ScreenPage.{covers}
 use Rattle.mfs_edit.proofs.Rules.{not_if}
 use Rattle.tm_types.proofs.Truths.{both_true, parts_true, neither}
 

@@ -3,9 +3,9 @@ use Rattle.std.proofs.Common.{◌≤◌, arith}
 use Rattle.std.specs.Option.{option_map_or}
 use Rattle.std.specs.Prelude.{None, Option, Some}
 use Rattle.model_machine.specs.History.{after_entry, call_of}
-use Rattle.model_machine.specs.Lasting.{LastingStep, applied}
+use Rattle.model_machine.specs.LastingSteps.{LastingStep, applied}
 use Rattle.model_machine.specs.Machine.{LastingState, Moment}
-use Rattle.model_machine.specs.Steps.{lasting_step}
+use Rattle.model_machine.specs.MachineCalls.{lasting_step}
 use Rattle.model_machine.specs.declared.entry.Entry.{Entry}
 use Rattle.model_system.specs.System.{System}
 

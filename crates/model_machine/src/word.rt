@@ -1,6 +1,6 @@
 //! The word of an input that names its code.
 ghost use Rattle.std.specs.Prelude.{◌≡◌};
-ghost use Rattle.model_machine.specs.Lasting.{code_word};
+ghost use Rattle.model_machine.specs.LastingSteps.{code_word};
 
 use tm_types::{Segments, first_word};
 

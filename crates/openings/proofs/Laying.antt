@@ -5,7 +5,7 @@ use Rattle.std.proofs.lemmas.List.{get_or-set_same, get_or-set_other}
 use Rattle.tm_disk.specs.Disk.{Image, DiskState, sector_at, with_sector, Follows, Within, ChangesOnly}
 use Rattle.tm_disk.specs.Sector.{zeros, blank}
 use Rattle.restart_data.proofs.Laying.{changes_none, changes_write}
-use Rattle.openings.specs.Filling.{Fills, KeepsRestart}
+use Rattle.openings.specs.ColdWrites.{Fills, KeepsRestart}
 use Rattle.tm_disk.proofs.Words.{follows_on, within_within, follows_same}
 use Rattle.tm_disk.proofs.Zeros.{blank_is, drop-zeros}
 

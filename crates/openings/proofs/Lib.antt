@@ -3,7 +3,7 @@ pub mod ThreeSteps
 pub mod Emptied
 pub mod FirstSnapshot
 pub mod FirstWritten
-pub mod OpeningPartsMade
+pub mod StoresMade
 pub mod Opened
 pub mod Walked
 pub mod Reading

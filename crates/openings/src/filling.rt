@@ -2,7 +2,7 @@
 ghost use Rattle.std.specs.Prelude.{◌≡◌, ◌+◌, ◌≤◌, ◌<◌, length, IsTrue, OnOk, OnErr};
 ghost use Rattle.tm_disk.specs.Disk.{Stays, Within, Follows, WritesAtMost, FailedSince, ChangesOnly};
 ghost use Rattle.tm_disk.specs.Sector.{blank};
-ghost use Rattle.openings.specs.Filling.{Fills, text_sectors, text_piece, text_sector};
+ghost use Rattle.openings.specs.ColdWrites.{Fills, text_sectors, text_piece, text_sector};
 
 use tm_disk::{Disk, DiskFault, SECTOR_BYTES, Sector};
 

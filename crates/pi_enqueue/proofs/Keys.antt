@@ -14,7 +14,7 @@ use Rattle.model_data.specs.declared.request.Holder.{Holder}
 use Rattle.model_data.specs.declared.request.Request.{Request}
 use Rattle.model_data.specs.Modes.{excludes, resource_cmp, holder_cmp}
 use Rattle.model_data.specs.Table.{holds_of, is_asker, mode_held, holders_against}
-use Rattle.model_data.specs.Ask.{asker}
+use Rattle.model_data.specs.EnqueueRequests.{asker}
 use Rattle.pi_enqueue.specs.Lists.{IsUpTo}
 use Rattle.tm_types.proofs.Ordered.{less_from, equal_from, greater_from, eqb_back, is_equal}
 use Rattle.model_data.proofs.Holders.{resource_ties, resource_back, resource_same, holder_ties}

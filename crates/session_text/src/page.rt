@@ -2,7 +2,7 @@
 ghost use Rattle.std.specs.Prelude.{◌≡◌, ◌≤◌, ◌<◌, ◌+◌, ◌*◌, ◌++◌, ◌==◌, length};
 ghost use Rattle.std.specs.List.{suffix_len};
 ghost use Rattle.model_system.specs.Pages.{IsPage};
-ghost use Rattle.model_messages.specs.Calls.{without_blanks};
+ghost use Rattle.model_messages.specs.MessageCalls.{without_blanks};
 ghost use Rattle.model_session.specs.Text as text;
 
 use crate::Printed;

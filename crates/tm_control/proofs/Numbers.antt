@@ -8,10 +8,10 @@ use Rattle.model_machine.specs.declared.entry.Entry.TheVariants.{Accept, Show, A
 use Rattle.model_machine.specs.History.{AscendAbove}
 use Rattle.tm_disk.specs.Disk.{DiskState}
 use Rattle.model_system.specs.System.{System}
-use Rattle.disk_law.specs.Journal.{JournalState}
+use Rattle.disk_law.specs.JournalState.{JournalState}
 use Rattle.openings.specs.Faults.{fault_in}
-use Rattle.logged_machine.specs.Taken.{IsTaken}
-use Rattle.tm_control.specs.Inside.{last_checked}
+use Rattle.logged_machine.specs.TakenCheckpoint.{IsTaken}
+use Rattle.tm_control.specs.ControlParts.{last_checked}
 use Rattle.tm_control.proofs.Closing.{none_some}
 
 pub ascend_more : (least : ℕ) (entries more : List Entry) → AscendAbove least entries → AscendAbove (last_checked least entries) more → AscendAbove least (entries ++ more)

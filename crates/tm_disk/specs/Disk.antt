@@ -126,17 +126,17 @@ abbrev pub NoMore : DiskState → DiskState → Type 0
 NoMore old new = (image : Image) → new.may_leave image → old.may_leave image
 
 -- the disk has stopped
-abbrev pub is_stopped : Option ℕ → Bool
-is_stopped None = false
-is_stopped (Some zero) = true
-is_stopped (Some (suc n)) = false
+abbrev pub is_disk_stopped : Option ℕ → Bool
+is_disk_stopped None = false
+is_disk_stopped (Some zero) = true
+is_disk_stopped (Some (suc n)) = false
 
 -- the disk has stopped, or stops at the next write
-abbrev pub is_due : Option ℕ → Bool
-is_due None = false
-is_due (Some zero) = true
-is_due (Some (suc zero)) = true
-is_due (Some (suc (suc n))) = false
+abbrev pub is_stop_due : Option ℕ → Bool
+is_stop_due None = false
+is_stop_due (Some zero) = true
+is_stop_due (Some (suc zero)) = true
+is_stop_due (Some (suc (suc n))) = false
 
 -- the writes left after one more
 abbrev pub one_less : Option ℕ → Option ℕ

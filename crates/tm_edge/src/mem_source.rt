@@ -2,7 +2,7 @@
 ghost use Rattle.std.specs.Prelude.{◌≡◌, ◌+◌, ◌-◌, ◌^◌, ◌<◌, ◌≤◌, ◌↔◌, min, Some, length, take, drop, IfOk, OnOk, OnErr, IsErr, IsTrue, if◌then◌else◌};
 ghost use Rattle.std.specs.Io.KnownBytes.{prepend_known, IsAtEnd};
 ghost use Rattle.tm_edge.specs.Fault.{HasRisen};
-ghost use Rattle.tm_edge.specs.Feed.{Fails};
+ghost use Rattle.tm_edge.specs.Feed.{EdgeFails};
 
 use crate::{Failed, Source, TextSource};
 use std::marker::Model;
@@ -47,7 +47,7 @@ impl MemSource {
 
     // Counts a call, and says whether it is to fail.
     fn fails(&mut self) -> bool
-        ensures fails { IsTrue result ↔ Fails self.old.calls self.old.fail_at }
+        ensures fails { IsTrue result ↔ EdgeFails self.old.calls self.old.fail_at }
         ensures left { self.new.left ≡ self.old.left }
         ensures fail_at { self.new.fail_at ≡ self.old.fail_at }
         ensures calls { self.new.calls ≡ min (self.old.calls + 1) (2 ^ 64 - 1) }
@@ -80,7 +80,7 @@ impl Source for MemSource {
         ensures failed { OnErr result (HasRisen self.old.faults self.new.faults) }
 
         // It fails at the listed calls and at no others, and gives as much as the buffer takes.
-        ensures listed { IsErr result ↔ Fails self.old.calls self.old.fail_at }
+        ensures listed { IsErr result ↔ EdgeFails self.old.calls self.old.fail_at }
         ensures filled { IfOk result (λ n. n ≡ min (length into.new) (length self.old.left)) }
         ensures list { self.new.fail_at ≡ self.old.fail_at }
         ensures calls { self.new.calls ≡ min (self.old.calls + 1) (2 ^ 64 - 1) }

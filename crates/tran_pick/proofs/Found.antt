@@ -14,7 +14,7 @@ use Rattle.model_messages.specs.Queue.{AreInOrder, ids_of, has_id, queued_at, is
 use Rattle.model_system.specs.declared.code.Code.{Code}
 use Rattle.model_system.specs.declared.code_state.CodeState.{CodeState}
 use Rattle.model_system.specs.Codes.{code_at}
-use Rattle.model_machine.specs.Pick.{Candidate, candidate_by, candidate_of, is_served, goes_first, better, best_of, pick_among}
+use Rattle.model_machine.specs.Pick.{Candidate, candidate_by, candidate_of, is_code_served, goes_first, better, best_of, pick_among}
 use Rattle.tm_types.proofs.Ordered.{equal_from}
 
 -- ---- the message
@@ -128,7 +128,7 @@ first_code code codes =
 
 candidate_code : (waits : List ℕ → Option ℕ) (class : ℕ) (code : Code) (codes : List Code) (state : CodeState)
     → IfSome (candidate_of waits class code state) (IsOf (code ∷ codes))
-candidate_code waits class code codes state = by (is_served class code state) (waits code.transaction.code)
+candidate_code waits class code codes state = by (is_code_served class code state) (waits code.transaction.code)
   where
     by : (b : Bool) (first : Option ℕ) → IfSome (cond b (candidate_by code state first) None) (IsOf (code ∷ codes))
     by false first = tt

@@ -132,7 +132,7 @@ fn ends_block(count: u32, number: u32) -> bool
 #[tactic(auto, using(crate::proofs::Numbers::reply_steps))]
 fn add_replies(out: &mut Bytes, terminal: &[u8], first: u32, past: u32) -> Result<(), Memory>
     requires { first ≤ past }
-    ensures { OnOk result (out.new ≡ out.old ++ spec.replies terminal.now first past) }
+    ensures { OnOk result (out.new ≡ out.old ++ spec.reply_requests terminal.now first past) }
 {
     for number in first..past {
         add_reply(out, terminal, number)?;

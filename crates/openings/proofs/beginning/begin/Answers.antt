@@ -1,6 +1,6 @@
 use Rattle.std.proofs.Common.{◌<◌, sym, arith, IsTrue}
 use Rattle.tm_disk.specs.Disk.{Follows, Only}
-use Rattle.openings.specs.Filling.{Clears, IsLaid}
+use Rattle.openings.specs.ColdWrites.{Clears, IsLaid}
 use Rattle.openings.proofs.ThreeSteps.{begins_second, prepared, begins_third, written_all, on_ok}
 use Rattle.openings.proofs.beginning.begin.Goals as goal
 use Rattle.tm_disk.proofs.States.{at_ok}

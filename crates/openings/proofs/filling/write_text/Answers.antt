@@ -2,7 +2,7 @@ use Rattle.std.proofs.Common.{◌≡◌, ◌+◌, length, refl, sym, ◌∙◌, 
 use Rattle.tm_disk.specs.Disk.{HasWritten}
 use Rattle.tm_disk.proofs.Words.{stays_on}
 use Rattle.restart_data.proofs.Laying.{changes_follows, changes_within}
-use Rattle.openings.specs.Filling.{text_sectors, text_sector}
+use Rattle.openings.specs.ColdWrites.{text_sectors, text_sector}
 use Rattle.openings.proofs.Laying.{fills_step}
 use Rattle.openings.proofs.filling.write_text.Goals as goal
 use Rattle.tm_disk.proofs.States.{at_ok}
