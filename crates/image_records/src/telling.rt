@@ -24,8 +24,8 @@ pub struct Told {
 
 /// What these records, which are taken over, tell of behind the empty state. `Memory` is the only refusal.
 pub fn tell_all(alloc: Global, system: &System, records: Vec<Record>) -> Result<Told, Memory>
-    ensures lasting { IfOk result (λ with_record_told. with_record_told.lasting ≡ snapshot_state system.now records.items) }
-    ensures changes { IfOk result (λ with_record_told. with_record_told.changes.items ≡ filter tells_change records.items) }
+    ensures lasting { IfOk result (λ told. told.lasting ≡ snapshot_state system.now records.items) }
+    ensures changes { IfOk result (λ told. told.changes.items ≡ filter tells_change records.items) }
 {
     let empty = empty_lasting(alloc, system)?;
     tell_behind(alloc, system, empty, records)
@@ -40,8 +40,8 @@ fn tell_behind(
     records: Vec<Record>,
 ) -> Result<Told, Memory>
     requires { AreNamesKept system.now lasting }
-    ensures lasting { IfOk result (λ with_record_told. with_record_told.lasting ≡ with_records_told records.items lasting) }
-    ensures changes { IfOk result (λ with_record_told. with_record_told.changes.items ≡ filter tells_change records.items) }
+    ensures lasting { IfOk result (λ told. told.lasting ≡ with_records_told records.items lasting) }
+    ensures changes { IfOk result (λ told. told.changes.items ≡ filter tells_change records.items) }
 {
     let mut lasting = lasting;
     let mut changes = Vec::new(alloc);

@@ -265,7 +265,7 @@ module _ (system : System) (valid : IsSystem system) (n : ℕ) (moment : Moment)
         let asking =
         stays_as system moment.lasting (without_victims (v ∷ others) moment.slots) (without_victims (v ∷ others) moment.slots) (after_victims (v ∷ others) moment.enqueues) (after_victims (v ∷ others) asked) new
         (without_units (v ∷ others) units) next up.behind up.is
-        (λ other dbd image alone. victims_leave (v ∷ others) moment.enqueues asked (λ one resource held_mode. asks_leave region one (slot_requests system moment.lasting region slot) moment.enqueues resource held_mode) other (resource_of dbd image) alone)
+        (λ other dbd image alone. victims_leave (v ∷ others) moment.enqueues asked (λ one resource held. asks_leave region one (slot_requests system moment.lasting region slot) moment.enqueues resource held) other (resource_of dbd image) alone)
         up.is.numbers in
         no_step [] (without_units (v ∷ others) units) next (nothing_told quiet)
         (carried [] moment.lasting (without_victims (v ∷ others) moment.slots) (after_victims (v ∷ others) asked) (without_units (v ∷ others) units) next a slots_are d

@@ -107,11 +107,11 @@ content_again (Change unit database slot before after) rest h = change_again (un
 equal_numbers : (a b : ℕ) → a ≡ b → eqb a b ≡ true
 equal_numbers a b e = grind (arith, nat_tests)
 
-named_length : (n whole rest tail record_content : ℕ) → n + rest ≡ whole → whole ≡ 2 + tail → tail ≡ record_content + rest → n ≡ 2 + record_content
-named_length n whole rest tail record_content same first second = omega arith
+named_length : (n whole rest tail content : ℕ) → n + rest ≡ whole → whole ≡ 2 + tail → tail ≡ content + rest → n ≡ 2 + content
+named_length n whole rest tail content same first second = omega arith
 
-left_over : (record_content rest whole : ℕ) → whole ≡ 2 + (record_content + rest) → (2 + record_content) + rest ≡ whole
-left_over record_content rest whole e = omega arith
+left_over : (content rest whole : ℕ) → whole ≡ 2 + (content + rest) → (2 + content) + rest ≡ whole
+left_over content rest whole e = omega arith
 
 -- ---- Records
 

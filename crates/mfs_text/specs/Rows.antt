@@ -18,14 +18,14 @@ use Rattle.mfs_text.specs.Values.{screen_place_of, direction_of, justify_of, fil
 
 -- DFLD NAME, POS, LTH; the field ends in its row, else rule 6
 abbrev pub within_row : Result ((ℕ × ℕ) × ℕ) ℕ → Result ((ℕ × ℕ) × ℕ) ℕ
-within_row (Ok ((format_macro_row, column), width)) = if nat_le (column + width) 81 then Ok ((format_macro_row, column), width) else Err 6
+within_row (Ok ((row, column), width)) = if nat_le (column + width) 81 then Ok ((row, column), width) else Err 6
 within_row (Err rule) = Err rule
 
 unfoldable pub extent_part : List (List ℕ) → Result ((ℕ × ℕ) × ℕ) ℕ
 extent_part ops = within_row (both (needed (codes "POS") screen_place_of ops) (needed (codes "LTH") (number_between 1 80) ops))
 
 abbrev pub field_made : ℕ → Result (List ℕ × ((ℕ × ℕ) × ℕ)) ℕ → Result FormatLine ℕ
-field_made number (Ok (name, ((format_macro_row, column), width))) = Ok (line.Field (record { number = number; name = name; row = format_macro_row; column = column; width = width }))
+field_made number (Ok (name, ((row, column), width))) = Ok (line.Field (record { number = number; name = name; row = row; column = column; width = width }))
 field_made number (Err rule) = Err rule
 
 unfoldable pub field_row : ℕ → List (List ℕ) → Result FormatLine ℕ

@@ -142,5 +142,5 @@ is_session_stopped (Down outage) = outage.stopped
 -- the count rose, or stands at the last value that it can have.
 abbrev pub AreStops : ℕ → List Stop → ℕ → Type 0
 AreStops low [] high = low ≤ high
-AreStops low ((began, life_ended) ∷ stops) high =
-    (low ≤ began) × (began ≤ life_ended) × ((began + 1 ≤ life_ended) ⊎ (18446744073709551615 ≤ life_ended)) × AreStops life_ended stops high
+AreStops low ((began, ended) ∷ stops) high =
+    (low ≤ began) × (began ≤ ended) × ((began + 1 ≤ ended) ⊎ (18446744073709551615 ≤ ended)) × AreStops ended stops high

@@ -11,7 +11,7 @@ use Rattle.model_system.specs.declared.statement.Comparison.TheVariants.{Equal, 
 -- the byte before the first piece
 abbrev pub with_front_byte : ℕ → List (List ℕ) → List (List ℕ)
 with_front_byte byte [] = (byte ∷ []) ∷ []
-with_front_byte byte (piece ∷ blank_pieces) = (byte ∷ piece) ∷ blank_pieces
+with_front_byte byte (piece ∷ pieces) = (byte ∷ piece) ∷ pieces
 
 -- a text cut at each blank: one piece more than there are blanks, and some may be empty
 abbrev pub blank_pieces : List ℕ → List (List ℕ)

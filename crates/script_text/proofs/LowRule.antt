@@ -82,9 +82,9 @@ with_text_low : (read : Result (Text × List Text) ℕ) → IsLow read → IsLow
 with_text_low (Ok texts) h = tt
 with_text_low (Err rule) h = h
 
-texts_low : (script_words : List (List ℕ)) → IsLow (read_texts script_words)
+texts_low : (words : List (List ℕ)) → IsLow (read_texts words)
 texts_low [] = tt
-texts_low (word ∷ script_words) = with_text_low (both (read_text_of word) (read_texts script_words)) (both_low (read_text_of word) (read_texts script_words) (text_low word) (texts_low script_words))
+texts_low (word ∷ words) = with_text_low (both (read_text_of word) (read_texts words)) (both_low (read_text_of word) (read_texts words) (text_low word) (texts_low words))
 
 or_number_low : (read : Result ℕ ℕ) → IsLow (or_wrong_number read)
 or_number_low (Ok number) = tt
@@ -148,9 +148,9 @@ with_ssa_low : (read : Result (ScriptSsa × List ScriptSsa) ℕ) → IsLow read 
 with_ssa_low (Ok ssas) h = tt
 with_ssa_low (Err rule) h = h
 
-ssas_low : (script_words : List (List ℕ)) → IsLow (ssas_of script_words)
+ssas_low : (words : List (List ℕ)) → IsLow (ssas_of words)
 ssas_low [] = tt
-ssas_low (word ∷ script_words) = with_ssa_low (both (ssa_of word) (ssas_of script_words)) (both_low (ssa_of word) (ssas_of script_words) (ssa_low word) (ssas_low script_words))
+ssas_low (word ∷ words) = with_ssa_low (both (ssa_of word) (ssas_of words)) (both_low (ssa_of word) (ssas_of words) (ssa_low word) (ssas_low words))
 
 function_low : (word : List ℕ) → IsLow (function_of word)
 unfolding function_of
@@ -165,27 +165,27 @@ label_at_low : (places : List ℕ → Option ℕ) (here : ℕ) (name : Result (L
 label_at_low places here (Ok name) = if_low (stands_at (places name) here) (Ok (line.Label name)) (Err 6) tt (lit≤ tt)
 label_at_low places here (Err rule) = lit≤ tt
 
-label_low : (places : List ℕ → Option ℕ) (here : ℕ) (script_words : List (List ℕ)) → IsLow (label_of places here script_words)
+label_low : (places : List ℕ → Option ℕ) (here : ℕ) (words : List (List ℕ)) → IsLow (label_of places here words)
 unfolding label_of
 label_low places here [] = lit≤ tt
 label_low places here (name ∷ []) = label_at_low places here (name_of name)
-label_low places here (name ∷ other ∷ script_words) = lit≤ tt
+label_low places here (name ∷ other ∷ words) = lit≤ tt
 
 set_made_low : (read : Result (ℕ × List Text) ℕ) → IsLow read → IsLow (set_made read)
 set_made_low (Ok read) h = tt
 set_made_low (Err rule) h = h
 
-set_low : (script_words : List (List ℕ)) → IsLow (set_of script_words)
+set_low : (words : List (List ℕ)) → IsLow (set_of words)
 unfolding set_of
 set_low [] = lit≤ tt
 set_low (x ∷ []) = lit≤ tt
-set_low (x ∷ word ∷ script_words) = set_made_low (both (variable_of x) (read_texts (word ∷ script_words))) (both_low (variable_of x) (read_texts (word ∷ script_words)) (variable_low x) (texts_low (word ∷ script_words)))
+set_low (x ∷ word ∷ words) = set_made_low (both (variable_of x) (read_texts (word ∷ words))) (both_low (variable_of x) (read_texts (word ∷ words)) (variable_low x) (texts_low (word ∷ words)))
 
 word_made_low : (read : Result (ℕ × (ℕ × ℕ)) ℕ) → IsLow read → IsLow (word_made read)
 word_made_low (Ok read) h = tt
 word_made_low (Err rule) h = h
 
-word_low : (script_words : List (List ℕ)) → IsLow (word_of script_words)
+word_low : (words : List (List ℕ)) → IsLow (word_of words)
 unfolding word_of
 word_low [] = lit≤ tt
 word_low (x ∷ []) = lit≤ tt
@@ -193,13 +193,13 @@ word_low (x ∷ y ∷ []) = lit≤ tt
 word_low (x ∷ y ∷ number ∷ []) =
     word_made_low (both (variable_of x) (both (variable_of y) (operand_number 1 100 number)))
     (both_low (variable_of x) (both (variable_of y) (operand_number 1 100 number)) (variable_low x) (both_low (variable_of y) (operand_number 1 100 number) (variable_low y) (number_low 1 100 number)))
-word_low (x ∷ y ∷ number ∷ other ∷ script_words) = lit≤ tt
+word_low (x ∷ y ∷ number ∷ other ∷ words) = lit≤ tt
 
 cut_made_low : (read : Result ((ℕ × ℕ) × (ℕ × ℕ)) ℕ) → IsLow read → IsLow (cut_made read)
 cut_made_low (Ok read) h = tt
 cut_made_low (Err rule) h = h
 
-cut_low : (script_words : List (List ℕ)) → IsLow (read_cut script_words)
+cut_low : (words : List (List ℕ)) → IsLow (read_cut words)
 unfolding read_cut
 cut_low [] = lit≤ tt
 cut_low (x ∷ []) = lit≤ tt
@@ -209,25 +209,25 @@ cut_low (x ∷ y ∷ start ∷ count ∷ []) =
     cut_made_low (both (both (variable_of x) (variable_of y)) (both (operand_number 1 1996 start) (operand_number 1 1996 count)))
     (both_low (both (variable_of x) (variable_of y)) (both (operand_number 1 1996 start) (operand_number 1 1996 count)) (both_low (variable_of x) (variable_of y) (variable_low x) (variable_low y))
     (both_low (operand_number 1 1996 start) (operand_number 1 1996 count) (number_low 1 1996 start) (number_low 1 1996 count)))
-cut_low (x ∷ y ∷ start ∷ count ∷ other ∷ script_words) = lit≤ tt
+cut_low (x ∷ y ∷ start ∷ count ∷ other ∷ words) = lit≤ tt
 
 pad_made_low : (read : Result (ℕ × ℕ) ℕ) → IsLow read → IsLow (pad_made read)
 pad_made_low (Ok read) h = tt
 pad_made_low (Err rule) h = h
 
-pad_low : (script_words : List (List ℕ)) → IsLow (read_pad script_words)
+pad_low : (words : List (List ℕ)) → IsLow (read_pad words)
 unfolding read_pad
 pad_low [] = lit≤ tt
 pad_low (x ∷ []) = lit≤ tt
 pad_low (x ∷ width ∷ []) = pad_made_low (both (variable_of x) (operand_number 1 18 width)) (both_low (variable_of x) (operand_number 1 18 width) (variable_low x) (number_low 1 18 width))
-pad_low (x ∷ width ∷ other ∷ script_words) = lit≤ tt
+pad_low (x ∷ width ∷ other ∷ words) = lit≤ tt
 
-pair_low : (script_words : List (List ℕ)) → IsLow (pair_of script_words)
+pair_low : (words : List (List ℕ)) → IsLow (pair_of words)
 unfolding pair_of
 pair_low [] = lit≤ tt
 pair_low (x ∷ []) = lit≤ tt
 pair_low (x ∷ y ∷ []) = both_low (variable_of x) (variable_of y) (variable_low x) (variable_low y)
-pair_low (x ∷ y ∷ other ∷ script_words) = lit≤ tt
+pair_low (x ∷ y ∷ other ∷ words) = lit≤ tt
 
 add_low : (read : Result (ℕ × ℕ) ℕ) → IsLow read → IsLow (add_made read)
 add_low (Ok read) h = tt
@@ -244,7 +244,7 @@ if_made_low (Err rule) h = h
 two_low : (comparison : List ℕ) → IsLow (also {A = Statement} (Err 2) (comparison_of comparison))
 two_low comparison = also_low {A = Statement} (Err 2) (comparison_of comparison) (lit≤ tt) (comparison_low comparison)
 
-if_statement_low : (places : List ℕ → Option ℕ) (script_words : List (List ℕ)) → IsLow (if_of places script_words)
+if_statement_low : (places : List ℕ → Option ℕ) (words : List (List ℕ)) → IsLow (if_of places words)
 unfolding if_of
 if_statement_low places [] = lit≤ tt
 if_statement_low places (left ∷ []) = lit≤ tt
@@ -257,17 +257,17 @@ if_statement_low places (left ∷ comparison ∷ right ∷ goto ∷ label ∷ []
     (both_low (both (read_text_of left) (comparison_of comparison)) (both (read_text_of right) (read_target places label))
     (both_low (read_text_of left) (comparison_of comparison) (text_low left) (comparison_low comparison)) (both_low (read_text_of right) (read_target places label) (text_low right) (target_low places label))))
     (goto_word_low goto)
-if_statement_low places (left ∷ comparison ∷ right ∷ goto ∷ label ∷ other ∷ script_words) = also_low (also {A = Statement} (Err 2) (comparison_of comparison)) (goto_word goto) (two_low comparison) (goto_word_low goto)
+if_statement_low places (left ∷ comparison ∷ right ∷ goto ∷ label ∷ other ∷ words) = also_low (also {A = Statement} (Err 2) (comparison_of comparison)) (goto_word goto) (two_low comparison) (goto_word_low goto)
 
 goto_made_low : (read : Result Target ℕ) → IsLow read → IsLow (goto_made read)
 goto_made_low (Ok read) h = tt
 goto_made_low (Err rule) h = h
 
-goto_low : (places : List ℕ → Option ℕ) (script_words : List (List ℕ)) → IsLow (goto_of places script_words)
+goto_low : (places : List ℕ → Option ℕ) (words : List (List ℕ)) → IsLow (goto_of places words)
 unfolding goto_of
 goto_low places [] = lit≤ tt
 goto_low places (label ∷ []) = goto_made_low (read_target places label) (target_low places label)
-goto_low places (label ∷ other ∷ script_words) = lit≤ tt
+goto_low places (label ∷ other ∷ words) = lit≤ tt
 
 on_pcb_low : (function : Function) (pcb : Result ℕ ℕ) → IsLow pcb → IsLow (on_pcb function pcb)
 on_pcb_low function (Ok pcb) h = if_low (is_function_of pcb function) (Ok pcb) (Err 10) tt (lit≤ tt)
@@ -277,75 +277,75 @@ with_area_low : (read : Result (ℕ × List ScriptSsa) ℕ) → IsLow read → I
 with_area_low (Ok read) h = tt
 with_area_low (Err rule) h = h
 
-area_taken_low : (ssas : Bool) (script_words : List (List ℕ)) → IsLow (area_taken ssas script_words)
+area_taken_low : (ssas : Bool) (words : List (List ℕ)) → IsLow (area_taken ssas words)
 area_taken_low ssas [] = lit≤ tt
-area_taken_low ssas (x ∷ script_words) =
-    if_low (is_empty script_words || ssas) (with_area (both (variable_of x) (ssas_of script_words))) (Err 2)
-    (with_area_low (both (variable_of x) (ssas_of script_words)) (both_low (variable_of x) (ssas_of script_words) (variable_low x) (ssas_low script_words))) (lit≤ tt)
+area_taken_low ssas (x ∷ words) =
+    if_low (is_empty words || ssas) (with_area (both (variable_of x) (ssas_of words))) (Err 2)
+    (with_area_low (both (variable_of x) (ssas_of words)) (both_low (variable_of x) (ssas_of words) (variable_low x) (ssas_low words))) (lit≤ tt)
 
-no_area_low : (script_words : List (List ℕ)) → IsLow (no_area script_words)
+no_area_low : (words : List (List ℕ)) → IsLow (no_area words)
 no_area_low [] = tt
-no_area_low (word ∷ script_words) = lit≤ tt
+no_area_low (word ∷ words) = lit≤ tt
 
-area_low : (function : Function) (above : Bool) (script_words : List (List ℕ)) → IsLow (area_of function above script_words)
-area_low function above script_words = if_low (takes_area function) (area_taken (takes_ssas function && above) script_words) (no_area script_words) (area_taken_low (takes_ssas function && above) script_words) (no_area_low script_words)
+area_low : (function : Function) (above : Bool) (words : List (List ℕ)) → IsLow (area_of function above words)
+area_low function above words = if_low (takes_area function) (area_taken (takes_ssas function && above) words) (no_area words) (area_taken_low (takes_ssas function && above) words) (no_area_low words)
 
 call_made_low : (function : Function) (read : Result (ℕ × (Option ℕ × List ScriptSsa)) ℕ) → IsLow read → IsLow (call_made function read)
 call_made_low function (Ok read) h = tt
 call_made_low function (Err rule) h = h
 
-call_with_low : (function : Result Function ℕ) (pcb : Result ℕ ℕ) (above : Bool) (script_words : List (List ℕ)) → IsLow function → IsLow pcb → IsLow (call_with function pcb above script_words)
-call_with_low (Ok function) pcb above script_words h k =
-    call_made_low function (both (on_pcb function pcb) (area_of function above script_words)) (both_low (on_pcb function pcb) (area_of function above script_words) (on_pcb_low function pcb k) (area_low function above script_words))
-call_with_low (Err rule) pcb above script_words h k = also_low {A = Statement} (Err rule) pcb h k
+call_with_low : (function : Result Function ℕ) (pcb : Result ℕ ℕ) (above : Bool) (words : List (List ℕ)) → IsLow function → IsLow pcb → IsLow (call_with function pcb above words)
+call_with_low (Ok function) pcb above words h k =
+    call_made_low function (both (on_pcb function pcb) (area_of function above words)) (both_low (on_pcb function pcb) (area_of function above words) (on_pcb_low function pcb k) (area_low function above words))
+call_with_low (Err rule) pcb above words h k = also_low {A = Statement} (Err rule) pcb h k
 
-call_low : (script_words : List (List ℕ)) → IsLow (read_call script_words)
+call_low : (words : List (List ℕ)) → IsLow (read_call words)
 unfolding read_call
 call_low [] = lit≤ tt
 call_low (word ∷ []) = lit≤ tt
-call_low (word ∷ number ∷ script_words) = call_with_low (function_of word) (operand_number 0 8 number) (is_above_0 number) script_words (function_low word) (number_low 0 8 number)
+call_low (word ∷ number ∷ words) = call_with_low (function_of word) (operand_number 0 8 number) (is_above_0 number) words (function_low word) (number_low 0 8 number)
 
 abend_made_low : (read : Result ℕ ℕ) → IsLow read → IsLow (abend_made read)
 abend_made_low (Ok read) h = tt
 abend_made_low (Err rule) h = h
 
-abend_low : (script_words : List (List ℕ)) → IsLow (read_abend script_words)
+abend_low : (words : List (List ℕ)) → IsLow (read_abend words)
 unfolding read_abend
 abend_low [] = lit≤ tt
 abend_low (number ∷ []) = abend_made_low (operand_number 1 4095 number) (number_low 1 4095 number)
-abend_low (number ∷ other ∷ script_words) = lit≤ tt
+abend_low (number ∷ other ∷ words) = lit≤ tt
 
-nothing_low : (script_words : List (List ℕ)) → IsLow (nothing_behind script_words)
+nothing_low : (words : List (List ℕ)) → IsLow (nothing_behind words)
 unfolding nothing_behind
 nothing_low [] = tt
-nothing_low (word ∷ script_words) = lit≤ tt
+nothing_low (word ∷ words) = lit≤ tt
 
 ended_low : (nothing : Result (Unit {0}) ℕ) → IsLow nothing → IsLow (line_ended nothing)
 ended_low (Ok _) h = tt
 ended_low (Err rule) h = h
 
-by_word_low : (word : LineWord) (places : List ℕ → Option ℕ) (here : ℕ) (script_words : List (List ℕ)) → IsLow (by_word word places here script_words)
-by_word_low Label places here script_words = label_low places here script_words
-by_word_low Set places here script_words = set_low script_words
-by_word_low Word places here script_words = word_low script_words
-by_word_low Cut places here script_words = cut_low script_words
-by_word_low Pad places here script_words = pad_low script_words
-by_word_low Add places here script_words = add_low (pair_of script_words) (pair_low script_words)
-by_word_low Less places here script_words = less_low (pair_of script_words) (pair_low script_words)
-by_word_low If places here script_words = if_statement_low places script_words
-by_word_low Goto places here script_words = goto_low places script_words
-by_word_low Call places here script_words = call_low script_words
-by_word_low Abend places here script_words = abend_low script_words
-by_word_low End places here script_words = ended_low (nothing_behind script_words) (nothing_low script_words)
+by_word_low : (word : LineWord) (places : List ℕ → Option ℕ) (here : ℕ) (words : List (List ℕ)) → IsLow (by_word word places here words)
+by_word_low Label places here words = label_low places here words
+by_word_low Set places here words = set_low words
+by_word_low Word places here words = word_low words
+by_word_low Cut places here words = cut_low words
+by_word_low Pad places here words = pad_low words
+by_word_low Add places here words = add_low (pair_of words) (pair_low words)
+by_word_low Less places here words = less_low (pair_of words) (pair_low words)
+by_word_low If places here words = if_statement_low places words
+by_word_low Goto places here words = goto_low places words
+by_word_low Call places here words = call_low words
+by_word_low Abend places here words = abend_low words
+by_word_low End places here words = ended_low (nothing_behind words) (nothing_low words)
 
-known_low : (word : Option LineWord) (places : List ℕ → Option ℕ) (here : ℕ) (script_words : List (List ℕ)) → IsLow (known_word word places here script_words)
-known_low (Some word) places here script_words = by_word_low word places here script_words
-known_low None places here script_words = lit≤ tt
+known_low : (word : Option LineWord) (places : List ℕ → Option ℕ) (here : ℕ) (words : List (List ℕ)) → IsLow (known_word word places here words)
+known_low (Some word) places here words = by_word_low word places here words
+known_low None places here words = lit≤ tt
 
-statement_low : (places : List ℕ → Option ℕ) (here : ℕ) (script_words : List (List ℕ)) → IsLow (statement_of places here script_words)
+statement_low : (places : List ℕ → Option ℕ) (here : ℕ) (words : List (List ℕ)) → IsLow (statement_of places here words)
 unfolding statement_of
 statement_low places here [] = lit≤ tt
-statement_low places here (word ∷ script_words) = known_low (line_word word) places here script_words
+statement_low places here (word ∷ words) = known_low (line_word word) places here words
 
 printable_low : (line : List ℕ) → IsLow (printable_line line)
 unfolding printable_line

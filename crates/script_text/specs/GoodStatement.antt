@@ -20,7 +20,7 @@ abbrev pub places_in : BTreeMap (List ℕ) ℕ → List ℕ → Option ℕ
 places_in labels name = get label_name_cmp labels name
 
 abbrev pub are_all_printable : List (List ℕ) → Bool
-are_all_printable script_words = list_all (list_all is_printable) script_words
+are_all_printable words = list_all (list_all is_printable) words
 
 abbrev pub label_name : Statement → Option (List ℕ)
 label_name (Label name) = Some name
@@ -42,8 +42,8 @@ is_unlabelled _ = true
 
 -- The statement of some words: it is allowed where they are printable, it stands where the labels say
 -- so, and whether it is a label, and which.
-pub record IsGood (places : List ℕ → Option ℕ) (here : ℕ) (script_words : List (List ℕ)) (labels : Bool) (label : Option (List ℕ)) (statement : Statement) : Type 0 where
-  pub allowed : IsTrue (are_all_printable script_words) → IsTrue (is_statement statement)
+pub record IsGood (places : List ℕ → Option ℕ) (here : ℕ) (words : List (List ℕ)) (labels : Bool) (label : Option (List ℕ)) (statement : Statement) : Type 0 where
+  pub allowed : IsTrue (are_all_printable words) → IsTrue (is_statement statement)
   pub placed : IsPlaced places here statement
   pub kind : is_label statement ≡ labels
   pub label_is : label_name statement ≡ label
