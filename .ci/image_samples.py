@@ -388,7 +388,7 @@ RULES = {
     13: (SNAPSHOT_B, {"messages": [message(5)]}),
     14: (SNAPSHOT_B, {"messages": [message(4, origin=b"T3")]}),
     15: (SNAPSHOT_B, {"replies": [sent(0, 1, b"HI", b"T3")]}),
-    16: (SNAPSHOT_B, {"messages": [long_message(number) for number in (1, 2, 3, 4)]}),
+    16: (SNAPSHOT_B, {"messages": [long_message(number) for number in range(4)]}),
     17: (SNAPSHOT_B, {"changes": [Change(8, 1, 3, b"", b"")]}),
     18: (LOG_B, [UNKNOWN]),
     19: (LOG_B, [COUNTS]),
