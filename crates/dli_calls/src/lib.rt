@@ -1,15 +1,19 @@
-//! Database calls on the rows of a database, however they are kept.
+//! Database calls on the rows of a database, however they are kept, and why each depends on its footprint alone.
 //!
-//! A call comes to what `model_dli` defines: its status, its data, where its PCB then stands, and the
-//! record that it sets. Planning a call changes nothing; what it changes is one image of one record.
-//! What a call needs before it is made is its footprint: what it answers and changes depends on nothing
-//! else of the rows.
+//! `calls` plans a call and makes it, by what it gets (`get`), inserts or changes (`edit`, `inserting`, `change`);
+//! `footprint` and `need_list` tell what it needs before it is made.
 //!
-//! Why a database call depends on its footprint alone.
+//! Proved: the plan of a call on any rows has the status, the data, the position and the record to be set that
+//! `model_data` defines on the whole list of rows, and the call is refused exactly by the limit that this record
+//! passes. A call that is made answers and leaves the same; where it is refused, or for want of memory, nothing has
+//! changed. What a get gives is the text of a segment. What a call needs before it is made is told exactly by its
+//! footprint, over any rows and in its order.
 //!
-//! Laws over the definitions of `model_dli`, and no code. Where two databases agree on the records that a
-//! call looks at, it answers the same on both and changes the same, and its next footprint is the same
-//! too. Program isolation rests on it: what a region enqueued is all that its call may depend on.
+//! Laws over the definitions (proofs/Same, Front, Changes, Kept, Keys), on which program isolation rests: on two lists
+//! of rows that agree on what a call needs, the call needs the same, answers the same, and changes the same record to
+//! the same rows, all others staying. What it needs up to the first that is blocked is the same where they agree on
+//! what isn't blocked. The record that it changes it needs alone, and the sequence too where a root comes or goes. It
+//! leaves rows of the database. Rows are determined by their records.
 #![tactic(auto)]
 
 mod calls;

@@ -1,44 +1,11 @@
-//! `conversation`: a conversation that begins, goes on and ends.
-ghost use Rattle.std.specs.Prelude.{◌≡◌, ◌<◌, IfOk, is_some};
-ghost use Rattle.model_messages.specs.Room.{message_bytes};
+//! `conversation`: a scratch pad that is given back.
+ghost use Rattle.std.specs.Prelude.{◌≡◌, is_some};
 ghost use Rattle.model_messages.specs.Terminals.{conversation_at};
 
-use conversation::{Busy, Conversations, PadRefused};
-use msg_queues::Queues;
+use conversation::{Conversations, PadRefused};
 use std::alloc::Global;
 use std::test::Fail;
-use tm_types::{Message, Name, Segment, Segments};
-
-/// A message of T1's conversation.
-fn message(alloc: Global, terminal: Name, code: Name) -> Result<Message, Fail>
-    ensures bytes { IfOk result (λ m. message_bytes m < 4096) }
-{
-    let mut segments = Segments::new(alloc);
-    segments.push(Segment::make(alloc, b"HI")?)?;
-    Ok(Message {
-        id: 7,
-        origin: terminal,
-        code,
-        conversation: true,
-        segments,
-    })
-}
-
-/// Whether the terminal's next input goes to this code.
-fn goes_to(table: &Conversations, terminal: &Name, queues: &Queues, code: &[u8]) -> bool {
-    match table.input(terminal, queues) {
-        Ok(Some(name)) => name.as_bytes() == code,
-        _ => false,
-    }
-}
-
-/// The message for which the terminal's next input is refused.
-fn busy(table: &Conversations, terminal: &Name, queues: &Queues) -> Option<u64> {
-    match table.input(terminal, queues) {
-        Err(Busy { id }) => Some(id),
-        _ => None,
-    }
-}
+use tm_types::Name;
 
 /// Whether this is the terminal's pad.
 fn has_pad(table: &Conversations, terminal: &Name, text: &[u8]) -> bool {
@@ -78,19 +45,12 @@ fn updated(table: &mut Conversations, terminal: &Name, text: &[u8]) -> u8 {
 }
 
 #[test]
-fn a_conversation_from_its_beginning_to_its_end(rt: HostRuntime) -> Result<(), Fail> {
+fn pads_that_are_given_back(rt: HostRuntime) -> Result<(), Fail> {
     let alloc = rt.alloc();
     let first = Name::read(b"T1").ok_or("no name")?;
     let second = Name::read(b"T2").ok_or("no name")?;
     let code = Name::read(b"CONV").ok_or("no name")?;
-    let mut queues = Queues::new(alloc, 131_072);
-    let before = Conversations::none(alloc, &[first, second])?;
-    assert!(rt; before.pad(&first).is_none());
     let mut table = begun(alloc, &first, &second, &code)?;
-    assert!(rt; has_pad(&table, &first, b"CONV          "));
-    assert!(rt; table.pad(&second).is_none());
-    assert!(rt; goes_to(&table, &first, &queues, b"CONV"));
-    assert!(rt; matches!(table.input(&second, &queues), Ok(None)));
     let texts: [(&[u8], u8, &[u8]); 4] = [
         (b"CONV    AB", 0, b"CONV    AB    "),
         (b"CONV   ", 1, b"CONV    AB    "),
@@ -101,25 +61,8 @@ fn a_conversation_from_its_beginning_to_its_end(rt: HostRuntime) -> Result<(), F
         assert_eq!(rt; updated(&mut table, &first, text), rule);
         assert!(rt; has_pad(&table, &first, pad));
     }
-    queues.add(message(alloc, first, code)?)?;
-    assert_eq!(rt; busy(&table, &first, &queues), Some(7));
-    assert!(rt; matches!(table.input(&second, &queues), Ok(None)));
-    table.end(&first);
+    // Blanks in the place of the code end the conversation.
+    assert_eq!(rt; updated(&mut table, &first, b"        AB"), 0);
     assert!(rt; table.pad(&first).is_none());
-    assert!(rt; matches!(table.input(&first, &queues), Ok(None)));
-    Ok(())
-}
-
-// Blanks in the place of the code end a conversation.
-#[test]
-fn a_conversation_that_blanks_end(rt: HostRuntime) -> Result<(), Fail> {
-    let alloc = rt.alloc();
-    let first = Name::read(b"T1").ok_or("no name")?;
-    let second = Name::read(b"T2").ok_or("no name")?;
-    let code = Name::read(b"CONV").ok_or("no name")?;
-    let mut table = begun(alloc, &second, &first, &code)?;
-    assert!(rt; has_pad(&table, &second, b"CONV          "));
-    assert_eq!(rt; updated(&mut table, &second, b"        AB"), 0);
-    assert!(rt; table.pad(&second).is_none());
     Ok(())
 }

@@ -1,12 +1,8 @@
-//! `tm_edge`: lines through its sources, and what the standard library's readers and writers pass on.
+//! `tm_edge`: lines through a source of which calls fail.
 use std::alloc::Global;
-use std::io;
-use std::io::Read;
 use std::process::Abort;
 use std::test::Fail;
-use tm_edge::{
-    Failed, Line, LineFault, Lines, MemSink, MemSource, Sink, Source, StdSink, StdSource,
-};
+use tm_edge::{Line, LineFault, Lines, MemSource};
 
 // The lines of these bytes, from a source whose listed calls fail; the faults are passed over.
 fn lines_of(
@@ -53,32 +49,5 @@ fn cuts_at_lf(rt: HostRuntime) -> Result<(), Fail> {
             assert_eq!(rt; line.bytes(), *text);
         }
     }
-    Ok(())
-}
-
-// A reader that fails.
-#[derive(Drop)]
-struct Broken;
-
-impl Read for Broken {
-    fn read(&mut self, _buf: &mut [u8]) -> io::Result<usize> {
-        Err(io::Error::from(io::ErrorKind::Other))
-    }
-}
-
-#[test]
-fn passes_std_on(rt: HostRuntime) -> Result<(), Fail> {
-    let mut source = StdSource::new(b"two bytes".as_slice());
-    let mut buffer = [0; 4];
-    assert_eq!(rt; source.take(&mut buffer), Ok(4));
-    assert_eq!(rt; &buffer, b"two ");
-    assert_eq!(rt; StdSource::new(Broken).take(&mut buffer), Err(Failed));
-
-    let mut sink = StdSink::new(Vec::new(rt.alloc()));
-    assert_eq!(rt; sink.put(b"one"), Ok(()));
-    let mut sink = MemSink::new(rt.alloc(), Vec::new(rt.alloc()));
-    sink.reserve(4)?;
-    sink.put(Line::make(rt.alloc(), b"one")?.bytes())?;
-    assert_eq!(rt; sink.bytes(), b"one".as_slice());
     Ok(())
 }

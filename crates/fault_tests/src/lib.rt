@@ -1,10 +1,16 @@
-//! Tests of the low crates through their public calls: what no clause says, as worked rows and printed texts.
+//! Tests of what no session reaches, through public calls: devices and sources that fail at a given call, and calls that the program
+//! itself doesn't make, each once where it goes well.
 //!
-//! They stand beside those crates, which so are proved once. A module has the tests of one crate.
+//! They stand beside those crates, which so are proved once. A module has the tests of one crate. What a session can show stands in the
+//! tables of `.ci/tables`.
 #![tactic(auto)]
 
 #[cfg(test)]
 mod conversations;
+#[cfg(test)]
+mod database_calls;
+#[cfg(test)]
+mod databases;
 #[cfg(test)]
 mod disk_images;
 #[cfg(test)]
@@ -14,24 +20,12 @@ mod enqueue_rings;
 #[cfg(test)]
 mod forced_logs;
 #[cfg(test)]
-mod message_calls;
-#[cfg(test)]
-mod operator_commands;
-#[cfg(test)]
-mod queue_room;
+mod record_bytes;
 #[cfg(test)]
 mod record_layouts;
 #[cfg(test)]
-mod reply_queues;
-#[cfg(test)]
-mod script_lines;
-#[cfg(test)]
-mod script_runs;
-#[cfg(test)]
 mod sector_chains;
 #[cfg(test)]
-mod segment_lists;
+mod unit_ends;
 #[cfg(test)]
-mod text_pieces;
-#[cfg(test)]
-mod workload_texts;
+mod units;

@@ -1,13 +1,8 @@
 //! `log_records`: records as they are laid out, and faults by their rules and places.
-use log_records::{
-    DecodeFault, PadChange, Record, append_acknowledged, append_change, append_command,
-    append_completed, append_discarded, append_input, append_reply, append_sync_point, decode,
-    encode,
-};
+use log_records::{DecodeFault, decode, encode};
 use std::alloc::Global;
 use std::process::Abort;
 use std::test::Fail;
-use tm_types::{AbendCode, Name, Segment, Segments};
 
 // The length of the record that the bytes begin with, under rule 0; or the rule and the place of
 // the fault. What is decoded is encoded again as it was.
@@ -25,47 +20,9 @@ fn outcome(rt: &impl Abort, alloc: Global, bytes: &[u8]) -> Result<(u8, usize), 
 }
 
 #[test]
-fn an_acknowledged_reply(rt: HostRuntime) -> Result<(), Fail> {
-    let bytes = b"\x00\x0f\x36\x01\x02T1\0\0\0\0\0\0\0\x01";
-    let (record, length) = decode(rt.alloc(), bytes)?;
-    assert_eq!(rt; length, 15);
-    match record {
-        Record::Acknowledged { terminal, number } => {
-            assert_eq!(rt; terminal.as_bytes(), b"T1".as_slice());
-            assert_eq!(rt; number, 1);
-        }
-        _ => return Err(Fail::from("another record")),
-    }
-    assert_eq!(rt; outcome(&rt, rt.alloc(), bytes)?, (0, 15));
-    assert_eq!(rt; outcome(&rt, rt.alloc(), &bytes[..14])?, (1, 14));
-    Ok(())
-}
-
-#[test]
-fn an_input(rt: HostRuntime) -> Result<(), Fail> {
-    let mut segments = Segments::new(rt.alloc());
-    segments.push(Segment::make(rt.alloc(), b"HI")?)?;
-    let record = Record::Input {
-        unit: 0x0102,
-        id: 3,
-        origin: Name::read(b"T1").ok_or("a name")?,
-        code: Name::read(b"ECHO").ok_or("a name")?,
-        number: 4,
-        conversation: true,
-        segments,
-    };
-    let mut out = Vec::new(rt.alloc());
-    encode(rt.alloc(), &record, &mut out)?;
-    assert_eq!(rt;
-        out.as_slice(),
-        b"\0\x29\x01\0\0\0\0\0\0\x01\x02\0\0\0\0\0\0\0\x03\x02T1\x04ECHO\0\0\0\0\0\0\0\x04\x01\x01\0\x02HI".as_slice()
-    );
-    Ok(())
-}
-
-#[test]
 fn each_layout_and_its_boundaries(rt: HostRuntime) -> Result<(), Fail> {
-    let records: [(&[u8], usize); 14] = [
+    let records: [(&[u8], usize); 15] = [
+        (b"\x00\x0f\x36\x01\x02T1\0\0\0\0\0\0\0\x01", 15),
         (
             b"\0\x29\x01\0\0\0\0\0\0\0\0\0\0\0\0\0\0\0\x01\x02T1\x04ECHO\0\0\0\0\0\0\0\x01\0\x01\0\x02HIrest",
             41,
@@ -105,7 +62,8 @@ fn each_layout_and_its_boundaries(rt: HostRuntime) -> Result<(), Fail> {
     for (bytes, length) in &records {
         assert_eq!(rt; outcome(&rt, rt.alloc(), bytes)?, (0, *length));
     }
-    let faults: [(&[u8], u8, usize); 7] = [
+    let faults: [(&[u8], u8, usize); 8] = [
+        (b"\x00\x0f\x36\x01\x02T1\0\0\0\0\0\0\0", 1, 14),
         (b"", 1, 0),
         (b"\0\x05\x04\0\0", 2, 2),
         (b"\0\x09\x40\x03\x01C\0\xff\0", 2, 3),
@@ -121,38 +79,5 @@ fn each_layout_and_its_boundaries(rt: HostRuntime) -> Result<(), Fail> {
     for (bytes, rule, place) in &faults {
         assert_eq!(rt; outcome(&rt, rt.alloc(), bytes)?, (*rule, *place));
     }
-    Ok(())
-}
-
-#[test]
-fn borrowed_parts_are_spelled_as_records_are(rt: HostRuntime) -> Result<(), Fail> {
-    let mut segments = Segments::new(rt.alloc());
-    segments.push(Segment::make(rt.alloc(), b"HI")?)?;
-    let terminal = Name::read(b"T1").ok_or("a name")?;
-    let code = Name::read(b"ECHO").ok_or("a name")?;
-    let mut out = Vec::new(rt.alloc());
-    append_input(&mut out, 0, 1, &terminal, &code, 1, false, &segments)?;
-    append_reply(&mut out, 7, &terminal, 1, &segments)?;
-    append_discarded(&mut out, 1, 2, AbendCode { number: 4095 }, 3)?;
-    append_completed(&mut out, 1, 2)?;
-    append_acknowledged(&mut out, &terminal, 1)?;
-    append_sync_point(&mut out, 1, &PadChange::Stays)?;
-    append_change(&mut out, 1, 1, 2, &[], &[])?;
-    append_command(&mut out, b"/STOP LTERM T2")?;
-    let parts: [&[u8]; 8] = [
-        b"\0\x29\x01\0\0\0\0\0\0\0\0\0\0\0\0\0\0\0\x01\x02T1\x04ECHO\0\0\0\0\0\0\0\x01\0\x01\0\x02HI",
-        b"\0\x1b\x03\0\0\0\0\0\0\0\x07\x02T1\0\0\0\0\0\0\0\x01\x01\0\x02HI",
-        b"\0\x1d\x07\0\0\0\0\0\0\0\x01\0\0\0\0\0\0\0\x02\x0f\xff\0\0\0\0\0\0\0\x03",
-        b"\0\x14\x36\0\0\0\0\0\0\0\0\x01\0\0\0\0\0\0\0\x02",
-        b"\0\x0f\x36\x01\x02T1\0\0\0\0\0\0\0\x01",
-        b"\0\x0e\x37\0\0\0\0\0\0\0\x01\0\0\0",
-        b"\0\x12\x50\0\0\0\0\0\0\0\x01\x01\0\x02\0\0\0\0",
-        b"\0\x13\x02\0\x0e/STOP LTERM T2",
-    ];
-    let mut expected = Vec::new(rt.alloc());
-    for part in &parts {
-        expected.extend_from_slice(part)?;
-    }
-    assert_eq!(rt; out.as_slice(), expected.as_slice());
     Ok(())
 }

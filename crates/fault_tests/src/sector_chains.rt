@@ -1,8 +1,8 @@
-//! `log_sectors`: a chain that is read, and a sector as it is laid out.
-use log_sectors::{read_chain, seal, unseal};
+//! `log_sectors`: a chain that is read.
+use log_sectors::{read_chain, seal};
 use std::alloc::Global;
 use std::test::Fail;
-use tm_disk::{Disk, MemDisk, Sector};
+use tm_disk::{Disk, MemDisk};
 
 // A disk of 6 sectors whose sectors from 2 on have these epochs, sequences and payloads.
 fn disk_with(alloc: Global, sectors: &[(u64, u64, &[u8])]) -> Result<MemDisk, Fail> {
@@ -55,24 +55,5 @@ fn a_chain_ends_where_the_epoch_or_the_sequence_is_another(rt: HostRuntime) -> R
         assert_eq!(rt; bytes.as_slice(), payload);
         assert_eq!(rt; read_sectors, length);
     }
-    Ok(())
-}
-
-#[test]
-fn a_sector_is_spelled_as_it_is_laid_out(rt: HostRuntime) -> Result<(), Fail> {
-    let sector = seal(258, 3, b"xyz");
-    let bytes = sector.bytes();
-    assert_eq!(rt; bytes.len(), 4096);
-    assert_eq!(rt;
-        &bytes[..16],
-        b"IMSL\0\0\0\0\0\0\0\0\0\0\x01\x02".as_slice()
-    );
-    assert_eq!(rt;
-        &bytes[16..36],
-        b"\0\0\0\0\0\0\0\x03\0\x03\0\0\0\0\0\0xyz\0".as_slice()
-    );
-    assert_eq!(rt; unseal(&sector, 258, 3), Some(b"xyz".as_slice()));
-    assert_eq!(rt; unseal(&sector, 258, 4), None);
-    assert_eq!(rt; unseal(&Sector::blank(), 258, 3), None);
     Ok(())
 }

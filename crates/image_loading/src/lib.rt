@@ -1,22 +1,20 @@
-//! Where the areas of a system's disk stand, as `specs/Areas` of `model_image` says it.
+//! Where the areas of a system's disk stand, and its databases, loaded from their sectors and from what their slots are
+//! given.
 //!
-//! The restart sector, 64 sectors of the definition's text, two areas for snapshots, two for logs and a
-//! sector for each slot of each database follow each other. Their lengths come from the definition
-//! alone, and a checked system's limits keep each place small, as the clauses say.
+//! The restart sector, 64 sectors of the definition's text, two areas for snapshots, two for logs and a sector for each
+//! slot of each database follow each other. Their lengths come from the definition alone (specs/Areas of
+//! `model_image`), and a checked system's limits keep each place small.
 //!
-//! The slots of a database, from a disk and onto it.
-//!
-//! A restart takes the slots that its records name from these, and all others from their data sectors. What a
-//! sector spells, and which rules it may break, stands in `model_image`.
-//!
-//! All databases of an image are loaded, from their data sectors and from what their slots are given.
-//!
-//! The lowest rule goes over all of them, so each is loaded also where one before it breaks a rule.
+//! Proved: a database is loaded with each record in its slot: from the bytes that are given for a slot, and else from
+//! its sector, which is read once. It is refused by the lowest rule that is broken, and of it by the lowest sector;
+//! over all databases it is the lowest of any, so each is loaded also where one before it breaks a rule. Nothing is
+//! written by that. Given slots are written, each with its bytes (`writing`); whenever a crash comes each such sector
+//! is as before or has them.
 #![tactic(auto)]
 
 mod building;
+mod databases;
 mod fault;
-mod image_loading_loading;
 mod judging;
 mod loading;
 mod reading;
@@ -27,8 +25,8 @@ mod writing;
 ghost use Rattle.std.specs.Prelude.{◌≡◌, ◌≤◌, length, sum_by};
 ghost use Rattle.model_image.specs.Areas as areas;
 
+pub use databases::{Loaded, load_all};
 pub use fault::LoadFault;
-pub use image_loading_loading::{Loaded, load_all};
 pub use judging::{bytes_in, image_of};
 pub use loading::{load, load_store};
 pub use slots::Slots;

@@ -1,14 +1,14 @@
-//! What the records of a snapshot tell of what lasts, and two of the rules of an image.
+//! The records of an image: what those of a snapshot tell of, and the rules of an image on them.
 //!
-//! A snapshot's records are taken over one after another, each changing the state as the definition of an image (specs of
-//! `model_image`) says. How long that takes goes by the records and the terminals.
+//! `cutting` cuts bytes into records; `telling` takes a snapshot's records over one after another, each changing the
+//! state as the definition of an image says; `order`, `rules`, `judging`, `images` and `weighing` judge; `reading` does
+//! it all.
 //!
-//! The records of an image, judged by the rules of an image.
-//!
-//! Bytes are cut into records; their order, the terminals and codes of a snapshot, and the numbers, messages and replies of
-//! what lasts are judged as the definition of an image says (specs of `model_image`). `read_records` reads a snapshot whole: it
-//! answers the tables of what lasts, or the lowest rule that is broken. What doing the log again answers stands in
-//! specs/Answers, and `log_replay` does it.
+//! Proved: what the records of a snapshot tell of behind the empty state is what the definition says; names are looked
+//! up by the index of the system. Rules 16 and 17 are judged exactly, whatever the bytes of messages and replies come
+//! to. A snapshot is read whole (`read_records`): of any bytes the answer is the tables of what lasts, the changes of
+//! open units and the next unit, or the lowest rule of 10 to 17 that is broken; what is kept breaks no rule of a state.
+//! What doing a log again is to answer is stated here (specs/RecordAnswers); `log_replay` does it.
 #![tactic(auto)]
 
 mod cutting;

@@ -1,19 +1,22 @@
-//! The life on its disk goes with the machine: laws over the definitions, and no code.
+//! What a control region keeps of its disk, and why the life on its disk goes with the machine.
 //!
-//! `specs/Carried` says what a life on its disk has of the machine that goes on, its open units among it; `specs/Turning`
-//! which numbers the units of the regions take; and `specs/Going` how it goes on with a call of the machine: by a step of the
-//! life, or by changes of slots that are appended. A checkpoint takes the open units of the regions (`specs/Opens`).
+//! `Journal` (module `journal`) has the calls that write: how many bytes may be appended before a checkpoint is due,
+//! and at all, is told exactly. What was appended is exchanged for bytes that were told behind it, without memory. It
+//! is forced with a step: whichever of its sectors a stop kept, the image recovers to the state before the step or to
+//! the one with it, and once it has answered each image is one of the life behind it. A checkpoint of any life whose
+//! snapshot is given leaves what lasts and the definition's text at any moment, and then each image is one of the life
+//! behind it; meanwhile a front of its steps was done. `insert` (module `inserting`) puts an open unit among others
+//! that stand by their numbers, at its place, for a snapshot.
 //!
-//! The open units of regions, by their numbers, as a snapshot has them.
-//!
-//! A unit of work is a region's: the images of the records that it changed, from before its first change.
-//! `insert` puts one where its number says, among those of lower and higher ones; what they tell of is
-//! what `snapshot_records` spells.
-//!
-//! What a control region keeps of its disk, and the calls by which it writes there.
-//!
-//! Records are told behind what was appended before a call changes anything, and forced with a lasting step. Whichever of its sectors a
-//! stop kept, the image recovers to the state before the step or to the one with it.
+//! Laws: a life goes with a machine (`IsCarriedBy` of specs/CarriedLife) where it has the machine's system and what
+//! lasts, its slots are those of the stores, its committed slots those that are committed, and its open units those of
+//! the regions, each with a number of its own (specs/UnitNumbers). Then each call that is answered leaves a life that
+//! goes with the machine behind it (specs/LifeByCall): an input that is kept, a reply that is acknowledged, a command
+//! that lasts and a message that is completed or discarded are a lasting step of it, by the records that are told; a
+//! call on the databases is changes of its slots, also one that rolls back; victims end their units; all else leaves it
+//! (proofs/Answered, Commanding, Turns). A checkpoint of the machine is one of the life (specs/OpenUnits,
+//! proofs/Checkpoints), and a life that an opening leaves goes with the machine as it starts (proofs/Openings). A
+//! unit's slot stays its own while its region holds the record that stood there, or the sequence where it was free.
 #![tactic(auto)]
 
 mod inserting;

@@ -1,16 +1,13 @@
-//! What an operator's commands change: whether a terminal or a code is stopped, and the replies of a terminal.
+//! Changes of what lasts that a running machine and a recovery do alike, each by a definition of `model_machine`.
 //!
-//! Each change by a name does nothing where there is no such terminal or code. None takes memory.
-//!
-//! What lasts of the empty machine.
-//!
-//! All is made of the definition: no messages, rows and conversations, numbers that begin, and codes as the definition has
-//! them.
-//!
-//! Parts of a step that lasts, which a running machine and a recovery do alike: the text of an abend, the bytes that a message counts,
-//! and what becomes of conversations.
-//!
-//! Each carries out a definition of model_machine.
+//! - A step's parts (`abend`, `sizes`, `pads`): the text of an abend is the one of the rules, in one segment; the bytes
+//!   that are told of a message or a reply are those that it counts, and are within the limit of all counts, and none
+//!   are told only of one that is past it; a conversation begins at a terminal, and its pad stays, is replaced or ends.
+//! - An operator's commands (`stopping`, `dequeuing`): a terminal or a code is stopped or started, a terminal's first
+//!   reply or all of them go. Each changes that and nothing else, and nothing at all where there is no such name. None
+//!   takes memory.
+//! - The empty machine (`empty`): what lasts of it is the empty state of the definition: no message, row or
+//!   conversation, numbers that begin, codes as they are defined. `Memory` is the only refusal.
 #![tactic(auto)]
 
 mod abend;

@@ -1,8 +1,10 @@
 //! The records of the log and of a snapshot, and how each is spelled in bytes.
 //!
-//! Each record has one spelling (specs/Spelling), and no spelling begins another. What was encoded is
-//! decoded again, whatever follows it (specs/Decoding); bytes that begin with no record are refused
-//! with the first rule that they break, and where (specs/Reading).
+//! Proved: each record has one spelling (specs/RecordSpelling), and no spelling begins another. What was encoded is
+//! decoded again, whatever follows it (specs/DecodedRecord). Bytes are refused exactly where no front of them is a
+//! record, with the first fault that reading meets, and where (specs/RecordReader). A record is spelled from borrowed
+//! parts too, without a copy of them: whole, or where there is no memory not at all. What is told behind others stays
+//! exactly where it is whole and fits the room (specs/ToldRecords).
 #![tactic(auto)]
 
 pub use appending::{

@@ -1,8 +1,7 @@
-//! The log on sectors: a sector is sealed with the epoch and the sequence that belong to it, and a chain of them is
-//! read up to the first that isn't.
+//! The log on sectors: a sector is sealed with the epoch and the sequence that belong to it (specs/SealedSector), and a
+//! chain of them (specs/Chain) is read up to the first sector that isn't of it.
 //!
-//! Sectors are spelled by specs/Sealed, and what is read of an area is the chain of specs/Chain. A fault of the disk is
-//! told as such, and want of memory hides none.
+//! Proved: that reading is exact; each fault of the disk is told as such, and want of memory hides none.
 #![tactic(auto)]
 
 mod chain;

@@ -1,7 +1,7 @@
 //! The writer of a log area: bytes are appended, and forced to the disk in sectors of their own.
 //!
-//! Whenever a crash comes, the chain of the area has gained a front of what was appended; once a force has answered, all of
-//! it (specs/Log). A fault of the disk is told, and no force that answers has met one.
+//! Proved: whenever a crash comes during a force, the chain of the area has gained a front of what was appended; once a
+//! force has answered, all of it (specs/ForcedLog). A fault of the disk is told, and no force that answers has met one.
 #![tactic(auto)]
 
 mod lay;

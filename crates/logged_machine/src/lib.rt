@@ -1,38 +1,43 @@
-//! Calls of a machine whose records are told behind what was appended to a log.
+//! A machine with its log on a disk: what lasts of a call stands in the log, synced, before the call is answered.
 //!
-//! Inputs, acknowledgements, commands and turns are values that promise alike (`Call`): what they do and tell is said by their entry
-//! in a life's history (specs/Calls). A call changes nothing where its records don't fit the room that it may take (specs/Telling).
-//! Beside it the numbers of the regions' units, which go on with turns.
+//! - `call`, `calls`, `telling`: an input, an acknowledgement, a command and a turn are values that promise alike
+//!   (`Call`). Each is answered as the machine says, and the records of what lasts of it, with a turn's changes of
+//!   slots, are appended behind what was: they fit the log's area, and without memory, or room, nothing has changed and
+//!   nothing is told. `rooms` tells how much may be told so that 32 sectors of the area stay free; `units` numbers the
+//!   regions' units as the machine's turns say.
+//! - `snapshots`, `writing`: a checkpoint of the machine's parts. Its snapshot has what lasts and, of each region that
+//!   has a unit, what the unit touched. Want of memory comes before any write and changes nothing; `Disk` comes exactly
+//!   where the disk failed. Whenever a crash comes, the image recovers to what lasts. Once it has answered, the machine
+//!   stands where it stood, no slot counts as changed, the restart sector has the next number, the log is empty, and a
+//!   life is on the disk that goes with the machine (specs/UntakenCheckpoint).
+//! - `due`: a call with a checkpoint before it (specs/ToldCheckpoint). It takes all memory first: the snapshot is
+//!   spelled, the machine does the call with its records told apart from the journal, and only then is the checkpoint
+//!   written, as all stood before the call, with the call's records behind it. The only other refusal is a disk that
+//!   failed.
+//! - `opening`, `looking`: the parts of an empty machine are opened with what the disk recovers to, or cold. A refusal
+//!   has its cause in the image, has written nothing unless the disk failed, and leaves the parts as they were.
+//!   Whenever a crash comes, the image recovers as before, and in a cold start so or to the empty state. Once it has
+//!   answered, the machine stands where that state begins, and a life is on the disk that goes with it
+//!   (specs/MachineOpening).
+//! - `logged`, `step`, `forcing`, `checking`, `refreshing`, `spending`: `LoggedMachine`. While calls are served, each
+//!   image that a crash may leave is of the definition's text and recovers to what lasts; at any moment of a call it
+//!   recovers to what lasted before, or to that with the call's step (specs/CallOutcome). Once the disk has failed,
+//!   nothing is served any more, and what a crash leaves is still one of the two. Want of memory has changed nothing
+//!   and written nothing, also where a checkpoint was due. A freeze that a region's work forbids has changed nothing
+//!   and written nothing. The first counter that is spent is told exactly.
 //!
-//! Checkpoints of a machine with its log.
+//! How much is written (specs/CheckpointDue): no checkpoint is due before a call that has no records of its own, or
+//! leaves 32 sectors of the area free with them: it writes to the log alone, and only where a step lasts of it. Any
+//! other takes one checkpoint, and from there does the same, or the disk failed in the checkpoint, which writes no more
+//! sectors than those of what was appended, one of each slot that counts as changed, those of a snapshot's area and the
+//! restart sector. Where the machine's own counters (the epoch, the log's next sequence, the checkpoint, the next unit)
+//! stand up to a bound, whatever a crash leaves at any moment of a call counts further by twice the sectors of a log
+//! area at most.
 //!
-//! What lasts, with the units that are open, is spelled to the snapshot area that isn't in use, and the
-//! databases' changed slots are written; the restart sector that names both comes last, behind a sync. A
-//! stop before that finds the old snapshot with its log, one behind it the new one: the state is the
-//! same (`checkpoint_law`). Want of memory comes before the first write.
-//!
-//! Calls before which a checkpoint is due.
-//!
-//! A call takes all its memory before anything is written: the snapshot is spelled, the machine does the call with its records
-//! told apart from the journal, and only then is the checkpoint written, as all stood before the call, with the call's records
-//! behind it. So want of memory has changed nothing and written nothing.
-//!
-//! A machine with its log is opened.
-//!
-//! A cold start begins with what the definition says, a restart with what the image recovers to
-//! (`tm_restart`), and what the opening wrote recovers to the same. Each refusal says why, and has
-//! written nothing (`opening_answers`).
-//!
-//! A machine with its log on a disk.
-//!
-//! What lasts of a call stands in the log, synced, before the call is answered. Whenever a crash comes, what the disk has
-//! recovers to what lasted before the call or to that with its step (specs/Goes). Once the disk has failed, nothing is
-//! served any more.
-//!
-//! The life on its disk goes with the parts of a control region: laws over the definitions, and no code.
-//!
-//! `specs/Carried` says that a life is that of a control region's parts. What each call of the parts promises gives that the life
-//! takes a step or goes on (`proofs/Turning`, `proofs/Answering`).
+//! Laws (`IsCarried` of specs/CarriedParts; proofs/Turning, Answering, Closing, Storing): a life goes with the
+//! machine's parts where it goes with their machine and slots. What the parts promise of each call carries it on: by a
+//! lasting step exactly where the answer tells of one. Records that a call tells are of its region's unit or of none,
+//! so no record on the disk is of a unit to come.
 #![tactic(auto)]
 
 mod beginning;
@@ -43,9 +48,8 @@ mod checking;
 mod due;
 mod forcing;
 mod logged;
-mod logged_machine_opening;
 mod looking;
-mod machine_due_writing;
+mod machine_opening;
 mod names;
 mod opening;
 mod refreshing;
@@ -55,6 +59,7 @@ mod snapshots;
 mod spending;
 mod step;
 mod telling;
+mod told_checkpoints;
 mod units;
 mod writing;
 

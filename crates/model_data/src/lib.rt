@@ -1,18 +1,16 @@
-//! The rows of a database: paths in hierarchic order, segments, records, and the spelling of a
-//! record, as every layer that works with databases speaks of them.
+//! The definitions of data: rows, database calls, and what regions hold and wait for.
 //!
-//! The definitions are specs/Path, Row, Record, Rows and Reading; what follows from them stands in
-//! proofs/. The code is the path of a segment and its row alone.
+//! The crate holds definitions and the small types that they speak of, and almost no code.
 //!
-//! Database calls, as every layer that works with databases speaks of them: what a call asks for,
-//! where a PCB stands, what a call answers and leaves, and what it needs before it is made.
+//! - Rows: paths in hierarchic order, segments, records, and the spelling of a record (specs/Path, PathOrder, Row,
+//!   Record, Rows, RowsOfBytes).
+//! - Database calls, over the whole list of a database's rows: what a call asks for, where a PCB stands, what a call
+//!   answers and leaves, what it needs before it is made, and the abends at the limits (specs/DatabaseCalls, GetCalls,
+//!   Search, ChangeCalls, Data, Footprint).
+//! - Enqueues: the enqueue table, what a request and a release make of it, who blocks whom, and how a ring of waiting
+//!   regions is broken (specs/Table, EnqueueRequests, Cycle).
 //!
-//! The definitions are over the whole list of a database's rows. The crate has no code.
-//!
-//! What regions hold and wait for: the enqueue table, what a request and a release make of it, who
-//! blocks whom, and how a ring of waiting regions is broken.
-//!
-//! The crate holds definitions and the small types that they speak of, and no code.
+//! Proved: paths are ordered as defined, which is a total order.
 #![tactic(auto)]
 
 pub mod abends;

@@ -1,17 +1,16 @@
-//! What the queues hold: messages in the order of their ids, each with the region that has it, the
-//! replies of each terminal, and the room that messages, replies and busy regions take.
+//! The definitions of messages: queues, conversations, and the calls on messages.
 //!
-//! The crate holds definitions and the small types that they speak of, and no code.
+//! The crate holds definitions, the small types that they speak of, and what is asked of a pad's bytes.
 //!
-//! What a conversation is: a code, a terminal, and a scratch pad that lasts from one input to the next.
+//! - Queues: messages in the order of their ids, each with the region that has it, the replies of each terminal, and
+//!   the room that messages, replies and busy regions take (specs/Queue, Outputs, Room).
+//! - Conversations: a code, a terminal, and a scratch pad that lasts from one input to the next (specs/Terminals,
+//!   Waiting, Pads, ConversationInput).
+//! - Message calls: what a program is answered by the calls on PCB 0 and on its output PCBs, and what is sent at the
+//!   end (specs/MessageWork, MessageCalls).
 //!
-//! The crate holds definitions, the small types that they speak of, and what is asked of a pad's bytes. What lasts
-//! of the machine has the conversations of all terminals; `io_pcb` gives a pad to a program and takes it back by
-//! these definitions.
-//!
-//! Message calls: what a program is answered by the calls on PCB 0 and on its output PCBs.
-//!
-//! The crate holds definitions and the small types that they speak of, and no code.
+//! Proved: of a pad's bytes it is told exactly whether they may be given back; a reply that was added and taken back
+//! leaves what was there (proofs/TakenBack).
 #![tactic(auto)]
 
 pub mod abends;

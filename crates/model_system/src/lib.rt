@@ -1,18 +1,18 @@
-//! Scripts: what the lines of a program are, what each of them does, and what a script needs next.
-//!
-//! The crate holds these definitions, specs/Programs, specs/Texts, specs/Arithmetic and specs/Script,
-//! and the small types that they speak of. A `Program` keeps by its type that it breaks no rule.
-//!
-//! Message formats: what the lines of a format are, which rule one breaks by itself, and what each
-//! says of a screen: the segments that go in, and the page that is shown.
+//! The definitions of a system: its record, its programs' scripts, and its message formats.
 //!
 //! The crate holds definitions and the small types that they speak of, and almost no code.
 //!
-//! The types of a system as its definition gives it, and the record as which contracts see it.
+//! - Systems: codes, programs, databases, terminals, classes and screens stand in the definition's order
+//!   (specs/System); what a code's job is and what state each code is in (specs/Jobs, Codes, CodeStates). Which of
+//!   these records are systems, with all limits, `system_types` says, and carries the record out.
+//! - Scripts: what the lines of a program are, what each of them does, and what a script needs next (specs/Programs,
+//!   Texts, Arithmetic, Script). A `Program` keeps by its type that it breaks no rule.
+//! - Formats: what the lines of a format are, which rule one breaks by itself, what a screen's fields become as an
+//!   input, and what a reply becomes as a page (specs/FormatLines, FormatRule, ValidFormat, ScreenInput, FittedValues,
+//!   Pages, ScreenPage).
 //!
-//! Codes, programs, databases, terminals, classes and screens stand in the definition's order. What a
-//! code's job is, what state each code is in and which segments an edit may give are in `specs/`. Which
-//! of these records are systems, with all limits, `system_types` says, and carries the record out.
+//! Proved: where a step of a script goes on both settle alike, and where it needs something it has settled
+//! (proofs/Settled).
 #![tactic(auto)]
 
 pub mod abends;

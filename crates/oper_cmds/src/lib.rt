@@ -1,6 +1,7 @@
-//! Reads an operator's commands and prints what they are answered, by the definitions of `model_command`.
+//! Reads an operator's commands and prints what they are answered, by the definitions of `model_machine`.
 //!
-//! `read_command` answers by `command_of` and `answer_text` prints by `answer_text` (its specs/Commands, specs/Answers).
+//! Proved: a text is read as the command that the definition gives, or refused with the lowest rule that it breaks.
+//! What is printed for an answer is its text; want of memory prints nothing.
 #![tactic(auto)]
 
 pub use printing::answer_text;

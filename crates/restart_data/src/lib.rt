@@ -1,7 +1,10 @@
 //! The restart sector and the snapshots of a disk: one sector says which snapshot and which log area hold.
 //!
-//! What was written is read, and anything else is refused by the lowest rule that it breaks, and of it the lowest sector
-//! (specs/Restart, specs/Snapshot). A fault of the disk is told as such, and want of memory hides none.
+//! Proved: what was written is read again. Sector 0 and a snapshot are refused exactly where they break a rule, with
+//! the lowest rule and of it the lowest sector (specs/Restart, Snapshot). Whenever a crash comes while the restart
+//! sector is written, it is the one before or the new one, whole; once it is written, each image has the new one. A
+//! snapshot's writing touches its own sectors alone, and neither takes anything from the other. A fault of the disk is
+//! told as such, and want of memory hides none.
 #![tactic(auto)]
 
 mod fields;

@@ -1,8 +1,9 @@
 //! The machine that runs a script: from call to call, in place.
 //!
-//! What it needs next, and where it stands once that was answered, is what the definition of scripts
-//! says (specs/Script of `model_script`). Want of memory changes nothing, and what stands in a variable
-//! is always the text of a segment.
+//! Proved: a running script needs next just what its lines, its limit of statements and the answers so far say
+//! (specs/Script of `model_system`): a call with the texts of its variables, the end, or an abend. After want of memory
+//! it stands where it stood. An answer whose text is taken over needs none, nor does a call that is taken back. What
+//! stands in a variable is always the text of a segment.
 #![tactic(auto)]
 
 pub use machine::Machine;

@@ -1,7 +1,10 @@
 //! The scripts of programs: their grammar, and the reader that names the first rule broken.
 //!
-//! A line is a word and its operands, parted by blanks. Lines that are empty or begin with `*` are
-//! passed over. A program ends at its line ENDPROG.
+//! A line is a word and its operands, parted by blanks. Lines that are empty or begin with `*` are passed over. A
+//! program ends at its line ENDPROG.
+//!
+//! Proved: the answer is the program exactly where no line breaks a rule; else the lowest line that breaks one with its
+//! lowest rule.
 #![tactic(auto)]
 
 pub use lines::is_last;

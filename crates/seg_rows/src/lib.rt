@@ -1,7 +1,8 @@
-//! Records of a database: their images, their bytes, and the rows that a database holds.
+//! Records of a database: their images, their bytes, and the rows that a database holds, by the definitions of
+//! `model_data`.
 //!
-//! Bytes are read exactly where they spell a record, and rows stay those of a database whatever is set
-//! in them. The definitions are those of `model_rows`.
+//! Proved: a record has one spelling, and what is no record is refused at the end of the longest one among its
+//! prefixes. Setting a record changes no other, and rows stay those of a database whatever is set in them.
 #![tactic(auto)]
 
 pub use decode::{DecodeFault, decode_record};

@@ -1,8 +1,12 @@
-//! The rows of a database by slots: a store keeps the image of each record in a slot of its own.
+//! The rows of a database by slots: a store keeps the image of each record in a slot of its own. After `empty` nothing
+//! takes memory.
 //!
-//! Each record keeps its slot while it is there, a new one takes the lowest free slot, and the rows of
-//! all slots are at any time those of a database, as `model_rows` defines them. After `empty` nothing
-//! takes memory. A store knows which slots were changed since they were written to its data sectors.
+//! Proved: a new record takes the lowest free slot, a record keeps its slot, and a removed one can be put back into its
+//! slot without memory; the rows of all slots are at any time those of a database. A store knows which slots were
+//! changed since they were last written, and `write_changed` writes each of them once, in ascending order: where the
+//! disk fails, those in front are written and none behind. Whenever a crash comes, such a sector is as before or holds
+//! its record, and no other sector changes. A checkpoint lends the stores while it writes, and `settle` counts the
+//! slots as written behind its sync. A copy of a store, or of all of them, is the same, with the same slots changed.
 #![tactic(auto)]
 
 pub use data_sectors::seal_bytes;

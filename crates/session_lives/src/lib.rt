@@ -1,8 +1,13 @@
 //! Where a session stands, over lives, stops and restarts: one block served.
 //!
-//! `ask` asks a control region that is up for what a block asks for (specs/Asking.antt). `open` begins a life, and `serve_block`
-//! leads by the definition of a session in `model_session` (specs/Session.antt) from one state of it to another. What is so
-//! between two blocks, of the disk too, is said in specs/Running.antt. `close` ends a session (specs/Closing.antt).
+//! `ask` asks a control region that is up for what a block asks for (`asking`, `turns`; specs/AskedControl). `open`
+//! begins a life (`opening`), and `serve_block` (`serve`, `place`) leads by the definition of a session in
+//! `model_session` (specs/Session) from one state of it to another. What is so between two blocks, of the disk too, is
+//! said in specs/RunningSession. `close` ends a session (specs/ClosedSession).
+//!
+//! Proved: a block of lines leads from one state of a session to another as the definition says, whatever disk was
+//! handed in, with the text that is printed for it. What the disk then holds is what the new state allows.
+//! docs/PROVED.md says it clause by clause.
 #![tactic(auto)]
 
 pub use called::{Opening, Served, Undone};

@@ -1,8 +1,9 @@
-//! What a session prints: a text with room that was taken beforehand, the line of each answer, and the
-//! lines of a reply and of a page.
+//! What a session prints: a text with room that was taken beforehand, the line of each answer, and the lines of a reply
+//! and of a page.
 //!
-//! Each function adds the text that the definitions of `model_session` (specs/Text.antt) name. Where the
-//! room is there, printing takes no memory; only the lines of a reply, which may be long, take their own.
+//! Proved: each function adds the text that the definitions of `model_session` (specs/Text) name, so the text of an
+//! answer is that of its entry. Where the room is there, printing takes no memory; only the lines of a reply, which may
+//! be long, take their own.
 #![tactic(auto)]
 
 pub use commands::command_text;

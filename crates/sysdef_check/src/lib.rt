@@ -1,7 +1,8 @@
 //! The system that a definition defines, where its macros keep the rules among each other.
 //!
-//! `check` answers the system exactly where no rule is broken, else the lowest rule that is, with its
-//! first line. `specs/Systems.antt` has what the macros define; the rules are those of `sysdef_rules`.
+//! Proved: `check` answers the system that the macros define (specs/Systems) exactly where they break no rule among
+//! each other, and such a system is valid; else the lowest rule that is broken, with its first line. The rules are
+//! those of `sysdef_rules`.
 #![tactic(auto)]
 
 pub use sysdef_rules::{CallRule, CrossRefused, CrossRule, SegmentRule};

@@ -1,7 +1,7 @@
 //! The rules that the macros of a system definition keep among each other.
 //!
-//! `cross_rules` tells the lowest rule that is broken, with its first line. `specs/Cross.antt` has the
-//! rules in the order of their numbers.
+//! Proved: `cross_rules` tells the lowest rule that is broken, with its first line. `specs/Cross` has the rules in the
+//! order of their numbers.
 #![tactic(auto)]
 
 pub use calls::CallRule;

@@ -1,8 +1,9 @@
 //! A system as its definition gives it, and the states of its codes.
 //!
-//! `System` keeps the facts that the rules on a definition give, so that no layer above tests them
-//! again: they stand in `specs/Valid.antt`. It finds a code, a terminal, its format, and what serves a code by name,
-//! and a code and a terminal by any word.
+//! Proved: `System` keeps what its definition's rules give, so that no layer above tests it again (specs/ValidSystem):
+//! its limits, a program for each code, a database for each PCB on one, and calls that their PCBs have, with arguments
+//! in order. The program and the PCBs of a code are found by an index, and a code that is there has them; codes and
+//! terminals are found so by any word, and codes have names.
 #![tactic(auto)]
 
 pub use codes::Codes;

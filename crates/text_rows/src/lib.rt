@@ -1,8 +1,9 @@
-//! What the readers of the definition's texts share: pieces of a line, names and numbers, and the
-//! lowest rule that a line breaks.
+//! What the readers of the definition's texts share: pieces of a line, names and numbers, and the lowest rule that a
+//! line breaks.
 //!
-//! A line that breaks several rules is answered with the lowest, whichever part of it was read first:
-//! `both` and `also` join what two parts say. `specs/` has what a piece, a name and a number are.
+//! Proved: a line is cut into pieces, and names, numbers and lists are read, as specs/ defines. A line that breaks
+//! several rules is answered with the lowest, whichever part of it was read first: `both` and `also` join what two
+//! parts say.
 #![tactic(auto)]
 
 pub use lines::{is_passed_over, printable_line, split_at};

@@ -1,8 +1,9 @@
 //! The control region on a disk: a machine with its history and its log.
 //!
-//! Each call that is answered adds one entry, which is the machine's answer at its place; what lasts of it stands in the log,
-//! synced, before it is answered. Whenever a crash comes, what the disk has recovers to what lasted before the call or to that
-//! with its step. After a disk fault the control region isn't up, and its last entry has the fault in place of its answer.
+//! Proved: each call that is answered adds one entry, which is the machine's answer at its place; what lasts of it
+//! stands in the log, synced, before it is answered. Whatever a crash might have left since the call began recovers to
+//! what lasted before it, or to that with its step. After a disk fault the control region isn't up, and its last entry
+//! has the fault in place of its answer. docs/PROVED.md says it clause by clause.
 #![tactic(auto)]
 
 pub use closed::Closed;

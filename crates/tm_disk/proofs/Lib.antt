@@ -5,3 +5,6 @@ pub mod Keeping
 pub mod Past
 pub mod States
 pub mod Numbers
+pub mod Padding
+pub mod Recording
+pub mod Zeros

@@ -1,12 +1,12 @@
 -- The steps of the loops over the writes of a disk in memory.
-use Rattle.std.proofs.Common.{◌≡◌, ℕ, suc, zero, ◌+◌, ◌/◌, ◌%◌, ◌<◌, ◌≤◌, List, [], ◌∷◌, ◌++◌, length, refl, sym, ◌∙◌, ap, ⊎_elim, arith, get_or}
+use Rattle.std.proofs.Common.{◌≡◌, ℕ, suc, zero, ◌+◌, ◌/◌, ◌%◌, ◌<◌, ◌≤◌, List, [], ◌∷◌, ◌++◌, length, take, refl, sym, ◌∙◌, ap, subst, ⊎_elim, arith, get_or, set}
 use Rattle.std.proofs.lemmas.Bool.{cases_eq}
-use Rattle.std.proofs.lemmas.List.{length_push}
+use Rattle.std.proofs.lemmas.List.{length_push, length-take, take_more, get_or-set_same, get_or-set_other}
 use Rattle.tm_disk.specs.Disk.{Image, sector_at}
 use Rattle.tm_disk.specs.Moments.{writes_to, picked, digits}
 use Rattle.tm_disk.specs.MomentLaws.{writes_to-same, writes_to-other}
 use Rattle.tm_disk.proofs.Crash.{writes_to-push-same, writes_to-push-other}
-use Rattle.tm_disk.specs.declared.record.Written.{Written}
+use Rattle.tm_disk.specs.Written.{Written}
 
 -- where no sector is written, a pick leaves what was synced
 pub picked_none : (pick from : ℕ) (writes : List Written) (image : Image) → ((k : ℕ) → from ≤ k → writes_to k writes ≡ []) → picked pick from writes image ≡ image
@@ -53,3 +53,27 @@ count-within (write ∷ writes) k =
 pub length-digits : (pick : ℕ) (counts : List ℕ) → length (digits pick counts) ≡ length counts
 length-digits pick [] = refl
 length-digits pick (count ∷ counts) = ap suc (length-digits (pick / (count + 1)) counts)
+
+-- a sector's count behind one write more to it
+module _ (counts : List ℕ) (since : List Written) (i a n now : ℕ) (d : Written) (lt : i < length since) (at_is : a ≡ (get_or since i d).at) (size : length counts ≡ n) (within : a < n) (now_is : get_or counts a 0 ≡ now)
+    (are : (k : ℕ) → k < n → get_or counts k 0 ≡ length (writes_to k (take i since))) where
+  counted-more : take (i + 1) since ≡ take i since ++ get_or since i d ∷ []
+  counted-more = take_more since i d lt
+
+  pub counted-few : now ≤ i
+  counted-few = omega (arith, now_is, are a within, count-within (take i since) a, length-take i since)
+
+  pub counted : (k : ℕ) → k < n → get_or (set counts a (now + 1)) k 0 ≡ length (writes_to k (take (i + 1) since))
+  counted k inside =
+      subst (λ (l : List Written). get_or (set counts a (now + 1)) k 0 ≡ length (writes_to k l)) (sym counted-more)
+      (⊎_elim
+      (λ (e : a ≡ k).
+      ap (λ j. get_or (set counts a (now + 1)) j 0) (sym e)
+      ∙ get_or-set_same counts a (now + 1) 0 (omega (arith, within, size))
+      ∙ ap (λ m. m + 1) (sym now_is ∙ are a within ∙ ap (λ j. length (writes_to j (take i since))) e)
+      ∙ sym (count-more (take i since) (get_or since i d) k (sym at_is ∙ e)))
+      (λ ne.
+      get_or-set_other counts a k (now + 1) 0 (λ e. ne (sym e))
+      ∙ are k inside
+      ∙ sym (count-other (take i since) (get_or since i d) k (λ e. ne (at_is ∙ e))))
+      (cases_eq a k))

@@ -1,19 +1,21 @@
 //! What syncs and cuts do to the sectors of a disk in memory. Each is kept as the number of the write that made it.
 ghost use Rattle.std.specs.Prelude.{◌≡◌, ◌↔◌, ℕ, ◌-◌, ◌<◌, ◌≤◌, [], ◌∷◌, length, drop, All, IsTrue, slice_index, slice_index_or, slice_set};
 ghost use Rattle.tm_disk.specs.Moments.{writes_to, picked, digits};
-ghost use Rattle.tm_disk.specs.Numbered.{made_by, image_by, chosen_by};
+ghost use Rattle.tm_disk.specs.NumberedSectors.{made_by, image_by, chosen_by};
 
-use crate::record::Written;
+use crate::record::Record;
 
-// Takes the sectors that were written from another image.
-pub fn take_over(numbers: &mut Vec<u32>, from: &[u32], writes: &[Written])
-    requires in_range { All (λ w. w.at < length numbers.old.items) writes.now }
+// Takes the sectors that were written, behind the writes that are settled, from another image.
+pub fn take_over(numbers: &mut Vec<u32>, from: &[u32], writes: &Record, settled: usize)
+    requires in_range { All (λ w. w.at < length numbers.old.items) writes.now.items }
     requires size { length numbers.old.items ≡ length from.now }
-    requires others { (k : ℕ) → writes_to k writes.now ≡ [] → slice_index_or numbers.old.items k 0 ≡ slice_index_or from.now k 0 }
+    requires settled_in { settled ≤ length writes.now.items }
+    requires others { (k : ℕ) → writes_to k (drop settled writes.now.items) ≡ [] → slice_index_or numbers.old.items k 0 ≡ slice_index_or from.now k 0 }
     ensures { numbers.new.items ≡ from.now }
 {
-    for write in writes {
-        numbers[write.at as usize] = from[write.at as usize];
+    for place in settled..writes.len() {
+        let at = writes.at(place) as usize;
+        numbers[at] = from[at];
     }
 }
 
@@ -26,16 +28,17 @@ fn clear(counts: &mut Vec<u32>)
     }
 }
 
-// How often each sector was written.
-fn count(counts: &mut Vec<u32>, writes: &[Written])
-    requires in_range { All (λ w. w.at < length counts.old.items) writes.now }
-    requires few { length writes.now ≤ 262144 }
+// How often each sector was written, behind the writes that are settled.
+fn count(counts: &mut Vec<u32>, writes: &Record, settled: usize)
+    requires in_range { All (λ w. w.at < length counts.old.items) writes.now.items }
+    requires few { length writes.now.items ≤ 262144 }
+    requires settled_in { settled ≤ length writes.now.items }
     ensures size { length counts.new.items ≡ length counts.old.items }
-    ensures counts { (k : ℕ) → k < length counts.old.items → slice_index counts.new.items k ≡ length (writes_to k writes.now) }
+    ensures counts { (k : ℕ) → k < length counts.old.items → slice_index counts.new.items k ≡ length (writes_to k (drop settled writes.now.items)) }
 {
     clear(counts);
-    for write in writes {
-        counts[write.at as usize] += 1;
+    for index in 0..writes.len() - settled {
+        counts[writes.at(settled + index) as usize] += 1;
     }
 }
 
@@ -78,19 +81,19 @@ fn choose_one(numbers: &mut Vec<u32>, left: &mut Vec<u32>, at: usize, number: u3
 }
 
 // Makes of the writes to each sector, behind those that are settled, the one that is so many on.
-fn make_chosen(numbers: &mut Vec<u32>, left: &mut Vec<u32>, writes: &[Written], settled: usize)
-    requires in_range { All (λ w. w.at < length numbers.old.items) writes.now }
-    requires few { length writes.now ≤ 262144 }
-    requires settled_in { settled ≤ length writes.now }
+fn make_chosen(numbers: &mut Vec<u32>, left: &mut Vec<u32>, writes: &Record, settled: usize)
+    requires in_range { All (λ w. w.at < length numbers.old.items) writes.now.items }
+    requires few { length writes.now.items ≤ 262144 }
+    requires settled_in { settled ≤ length writes.now.items }
     requires same_size { length left.old.items ≡ length numbers.old.items }
     ensures size { length numbers.new.items ≡ length numbers.old.items }
     ensures left { length left.new.items ≡ length left.old.items }
-    ensures chosen { (k : ℕ) → k < length numbers.old.items → made_by writes.now (slice_index numbers.new.items k) ≡ slice_index_or (made_by writes.now (slice_index numbers.old.items k) ∷ writes_to k (drop settled writes.now)) (slice_index left.old.items k) (made_by writes.now (slice_index numbers.old.items k)) }
-    ensures others { (k : ℕ) → writes_to k (drop settled writes.now) ≡ [] → slice_index numbers.new.items k ≡ slice_index numbers.old.items k }
-    ensures within { All (λ n. n ≤ length writes.now) numbers.old.items → All (λ n. n ≤ length writes.now) numbers.new.items }
+    ensures chosen { (k : ℕ) → k < length numbers.old.items → made_by writes.now.items (slice_index numbers.new.items k) ≡ slice_index_or (made_by writes.now.items (slice_index numbers.old.items k) ∷ writes_to k (drop settled writes.now.items)) (slice_index left.old.items k) (made_by writes.now.items (slice_index numbers.old.items k)) }
+    ensures others { (k : ℕ) → writes_to k (drop settled writes.now.items) ≡ [] → slice_index numbers.new.items k ≡ slice_index numbers.old.items k }
+    ensures within { All (λ n. n ≤ length writes.now.items) numbers.old.items → All (λ n. n ≤ length writes.now.items) numbers.new.items }
 {
     for place in settled..writes.len() {
-        let at = writes[place].at as usize;
+        let at = writes.at(place) as usize;
         choose_one(numbers, left, at, place as u32 + 1);
     }
 }
@@ -99,21 +102,21 @@ fn make_chosen(numbers: &mut Vec<u32>, left: &mut Vec<u32>, writes: &[Written], 
 pub fn choose(
     numbers: &mut Vec<u32>,
     counts: &mut Vec<u32>,
-    writes: &[Written],
+    writes: &Record,
     settled: usize,
     pick: u64,
 )
-    requires in_range { All (λ w. w.at < length numbers.old.items) writes.now }
-    requires few { length writes.now ≤ 262144 }
-    requires settled_in { settled ≤ length writes.now }
+    requires in_range { All (λ w. w.at < length numbers.old.items) writes.now.items }
+    requires few { length writes.now.items ≤ 262144 }
+    requires settled_in { settled ≤ length writes.now.items }
     requires same_size { length counts.old.items ≡ length numbers.old.items }
-    ensures picked { image_by writes.now numbers.new.items ≡ picked pick 0 (drop settled writes.now) (image_by writes.now numbers.old.items) }
-    ensures others { (k : ℕ) → writes_to k (drop settled writes.now) ≡ [] → slice_index numbers.new.items k ≡ slice_index numbers.old.items k }
-    ensures within { All (λ n. n ≤ length writes.now) numbers.old.items → All (λ n. n ≤ length writes.now) numbers.new.items }
+    ensures picked { image_by writes.now.items numbers.new.items ≡ picked pick 0 (drop settled writes.now.items) (image_by writes.now.items numbers.old.items) }
+    ensures others { (k : ℕ) → writes_to k (drop settled writes.now.items) ≡ [] → slice_index numbers.new.items k ≡ slice_index numbers.old.items k }
+    ensures within { All (λ n. n ≤ length writes.now.items) numbers.old.items → All (λ n. n ≤ length writes.now.items) numbers.new.items }
     ensures size { length numbers.new.items ≡ length numbers.old.items }
     ensures counts { length counts.new.items ≡ length counts.old.items }
 {
-    count(counts, &writes[settled..]);
+    count(counts, writes, settled);
     draw(counts, pick);
     make_chosen(numbers, counts, writes, settled);
 }

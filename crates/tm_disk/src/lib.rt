@@ -1,14 +1,15 @@
-//! A disk of sectors as contracts see it: what a read shows, and what a crash at some moment leaves.
+//! A disk of sectors: as contracts see it, in memory, and in a file.
 //!
-//! Of the writes that no sync has followed any may be on the disk after a stop, or none, each sector whole;
-//! one that was synced stays. The words stand in `specs/Disk`, and what follows from them alone in `proofs/`.
-//! There is no code here: `tm_disk` carries the definition out, in memory and in a file.
+//! `specs/Disk` says what a read shows and what a crash at some moment leaves: of the writes that no sync has followed
+//! any may be on the disk after a stop, or none, each sector whole; one that was synced stays. What follows from these
+//! words alone stands in proofs/. `disk` has the trait, `mem_disk` the disk in memory, which fails and is cut off as it
+//! is told (`plan`), and keeps each write in a record (`record`, `images`); `file_disk` has the one in a file, which
+//! tells nothing of its contents and is trusted.
 //!
-//! A disk of sectors: the trait, a disk in memory that fails and is cut off as it is told, and a disk in a file.
-//!
-//! What each call shows and what a crash at any moment leaves is said in the words of `model_disk`. A call fails exactly
-//! where the count of faults rose. The disk in memory leaves what specs/Moments says and fails where it is told, full
-//! or without memory; the disk in a file tells nothing of its contents and is trusted.
+//! Proved: a call fails exactly where the count of faults rose. The disk in memory is such a disk, exactly
+//! (specs/Moments): a failed write is among what a crash may leave, and on a stopped disk nothing more is; to arm it
+//! changes nothing else; only growths that were refused count as starved. Its reads and syncs fail exactly where they
+//! are told to; its writes there, where its record is full, and for want of memory.
 #![tactic(auto)]
 
 mod contents;

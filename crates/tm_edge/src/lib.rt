@@ -1,12 +1,15 @@
 //! The edge of the transaction manager: where bytes come from and go to, and lines cut from them.
 //!
-//! A source and a sink count their faults: `Failed` comes exactly where the count rose. The lines are
-//! those of specs/Lines, each served once; a fault, a line that is too long and want of memory are
-//! told apart, and none of them loses a byte.
+//! `source` and `sink` have the traits, which count their faults; `std_edge` the standard streams, which are trusted;
+//! `lines` and `buffer` cut lines of bytes (specs/Lines). A source over a text in memory and a sink that keeps what is
+//! written make a session between two texts; a further pair for tests fails where it is told to.
 //!
-//! A source over a text in memory, and a sink that keeps what is written: a session between two texts.
-//!
-//! The source never fails. The sink fails where it finds no memory, and then keeps what it had.
+//! Proved: each call of `Lines` serves the first line of the bytes that lie before the reader and leaves those behind
+//! it; after an error none is lost. A line is too long exactly from 4,097 bytes on. A read fault comes only where the
+//! source counted one. A call over a source or a sink that answers Ok met no fault in it, and want of memory hides
+//! neither a fault nor a line that is too long. The source over a text gives its bytes from the front, and never fails.
+//! The sink that keeps a text keeps just what is written; it fails only where its count rose, for want of memory, and
+//! then keeps what it had.
 #![tactic(auto)]
 
 mod buffer;
@@ -17,8 +20,8 @@ mod sink;
 mod source;
 mod std_edge;
 mod steps;
-mod text_edge_sink;
-mod text_edge_source;
+mod text_sink;
+mod text_source;
 
 pub use lines::{LINE_LIMIT, Line, LineFault, Lines};
 pub use mem_sink::MemSink;
@@ -26,5 +29,5 @@ pub use mem_source::MemSource;
 pub use sink::Sink;
 pub use source::{Failed, Source};
 pub use std_edge::{StdSink, StdSource};
-pub use text_edge_sink::TextSink;
-pub use text_edge_source::TextSource;
+pub use text_sink::TextSink;
+pub use text_source::TextSource;

@@ -10,31 +10,19 @@ ghost use Rattle.std.specs.Prelude.{◌≡◌};
 ghost use Rattle.tm_disk.specs.Disk.{Only};
 ghost use Rattle.tm_prog.specs.Status.{status_number};
 
-#[cfg(test)]
-mod command_tests;
-#[cfg(test)]
-mod conversation_tests;
-#[cfg(test)]
-mod database_tests;
-#[cfg(test)]
-mod isolation_tests;
-#[cfg(test)]
-mod outage_tests;
 mod run;
-#[cfg(test)]
-mod screen_tests;
-#[cfg(test)]
-mod sector_tests;
 mod summed;
+#[cfg(test)]
+mod test_faults;
 #[cfg(test)]
 mod test_runs;
 #[cfg(test)]
-mod test_texts;
+mod test_system;
 #[cfg(test)]
 mod tests;
 mod words;
 #[cfg(test)]
-mod workload_tests;
+mod worked_rows;
 
 use run::{print_last, run};
 use std::alloc::Global;

@@ -1,125 +1,61 @@
-//! Worked sessions, words, definitions, faults and limits.
+//! The worked rows, and what no session reaches: calls that fail, and lives that are told.
 
-use crate::test_runs::{DRILL, expect, expect_each, expect_source, told};
-use crate::test_texts::{FIRST, FIRST_PRINTED, PROGRAMS, SYSTEM, joined, system_from};
+use crate::test_faults::{
+    ANSWERS, CALLS, ENDS, READS, RESTARTED, SHORT, SMALL, STOPPED, THERE, THERE_PRINTED, TURNS,
+    TURNS_PRINTED,
+};
+use crate::test_runs::{DRILL, compare, disk_of, expect, joined, told};
+use crate::test_system::{BEHIND_QUEUES, SYSTEM};
+use crate::worked_rows::{
+    ACCOUNT_ROWS, HALF, HALF_PRINTED, OPENED, OPENED_PRINTED, ROWS, TAKEN_BACK, TAKEN_BACK_PRINTED,
+    WORDS,
+};
 use std::alloc::{AllocError, Global};
 use std::test::Fail;
-
-const SYSTEM_SESSIONS: &[(&[u8], &[u8])] = &[
-    (FIRST, FIRST_PRINTED),
-    // No line, no answer.
-    (b"", b""),
-    // The same input twice is accepted once, and one reply is kept.
-    (
-        b"IN T1 1 ECHO HELLO\nIN T1 1 ECHO HELLO\nQUIET 100\nRECV T1\nACK T1 1\nRECV T1\n",
-        b"ACK T1 1\nALREADY T1 1\nQUIET 7\nOUT T1 1 ECHO HELLO\nACKED T1 1\nNONE T1\n",
-    ),
-    // A number too high.
-    (
-        b"IN T1 1 ECHO A\nIN T1 3 ECHO B\n",
-        b"ACK T1 1\nREFUSED T1 3 EXPECTED 2\n",
-    ),
-    // A reply is shown again until it is acknowledged; one acknowledged ahead is refused.
-    (
-        b"IN T1 1 ECHO HELLO\nTURN 1\nTURN 1\nTURN 1\nTURN 1\nRECV T1\nRECV T1\nACK T1 2\nACK T1 1\nACK T1 1\nRECV T1\n",
-        b"ACK T1 1\nR1 SCHEDULED ECHO 1\nR1 GU 0 OK\nR1 ISRT 0 OK\nR1 DONE ECHO 1\nOUT T1 1 ECHO HELLO\nOUT T1 1 ECHO HELLO\nREFUSED T1 2 FIRST 1\nACKED T1 1\nALREADY T1 1\nNONE T1\n",
-    ),
-    // The first class goes before the priority.
-    (
-        b"IN T1 1 LOOP A\nIN T2 1 ECHO B\nTURN 1\n",
-        b"ACK T1 1\nACK T2 1\nR1 SCHEDULED ECHO 2\n",
-    ),
-    // The limit priority counts from the limit count on, until no message waits.
-    (
-        b"IN T1 1 SEGS X\nIN T2 1 ECHO A\nIN T2 2 ECHO B\nTURN 1\nIN T1 2 SEGS Y\nIN T2 3 ECHO C\nTURN 2\nTURN 2\nTURN 2\nTURN 2\nTURN 2\nTURN 2\nTURN 2\nTURN 2\nTURN 2\nTURN 2\nTURN 2\nTURN 2\nTURN 2\n",
-        b"ACK T1 1\nACK T2 1\nACK T2 2\nR1 SCHEDULED SEGS 1\nACK T1 2\nACK T2 3\nR2 SCHEDULED ECHO 2\nR2 GU 0 OK\nR2 ISRT 0 OK\nR2 DONE ECHO 2\nR2 SCHEDULED ECHO 3\nR2 GU 0 OK\nR2 ISRT 0 OK\nR2 DONE ECHO 3\nR2 SCHEDULED ECHO 5\nR2 GU 0 OK\nR2 ISRT 0 OK\nR2 DONE ECHO 5\nR2 SCHEDULED SEGS 4\n",
-    ),
-    // One message of a scheduling.
-    (
-        b"IN T1 1 LOOP A\nIN T1 2 LOOP B\nTURN 1\nTURN 1\nTURN 1\nTURN 1\nTURN 1\n",
-        b"ACK T1 1\nACK T1 2\nR1 SCHEDULED LOOP 1\nR1 GU 0 OK\nR1 ISRT 0 OK\nR1 QC LOOP 1\nR1 SCHEDULED LOOP 2\n",
-    ),
-];
+use tm_disk::{Disk, MemDisk, Sector};
 
 #[test]
-fn sessions(rt: HostRuntime) -> Result<(), Fail> {
-    expect_each(&rt, rt.alloc(), &[SYSTEM, PROGRAMS], SYSTEM_SESSIONS)
+fn worked_rows(rt: HostRuntime) -> Result<(), Fail> {
+    let alloc = rt.alloc();
+    for (shows, lines, printed) in ROWS {
+        expect(alloc, shows, &[lines], (0, &[printed]))?;
+    }
+    for (shows, lines, printed) in ACCOUNT_ROWS {
+        expect(
+            alloc,
+            shows,
+            &[OPENED, lines],
+            (0, &[OPENED_PRINTED, printed]),
+        )?;
+    }
+    for (words, printed) in WORDS {
+        let disk = disk_of(alloc, 0, &[])?;
+        let report = told(alloc, words, b"", (&[1], &[]), disk)?;
+        compare("words", &report, (1, printed))?;
+    }
+    Ok(())
 }
 
-const BLOCK_SESSIONS: &[(&[u8], &[u8])] = &[
-    // An input with its `+` lines has one answer, also where lines stand between that are passed over.
-    (
-        b"IN T1 1 SEGS A\n+ B\n\n* a comment\n+ C\nTURN 1\n",
-        b"ACK T1 1\nR1 SCHEDULED SEGS 1\n",
-    ),
-    // It is served at the end of the source too, and at the next line that is none.
-    (b"IN T1 1 ECHO A\n+ B", b"ACK T1 1\n"),
-    (
-        b"IN T1 1 ECHO A\n+ B\nIN T1 2 ECHO C\n+\n+ D\nHELP\n+ E\n+\n+x\n",
-        b"ACK T1 1\nBAD LINE 2\nBAD LINE 1\nBAD LINE 5\nBAD LINE 2\nBAD LINE 1\n",
-    ),
-    // The lowest rule over all lines of an input.
-    (
-        b"IN T1 x ECHO\n+ \x7f\nIN T1 1 ECHO A\n+ \x7f\nIN t1 x ECHO\nIN t1 1 ECHO\nIN T1 1\n+ A\nin T1 1 ECHO\n",
-        b"BAD LINE 3\nBAD LINE 6\nBAD LINE 3\nBAD LINE 4\nBAD LINE 2\nBAD LINE 1\n",
-    ),
-    // Seventeen segments are too many.
-    (
-        b"IN T1 1 ECHO\n+ \n+ \n+ \n+ \n+ \n+ \n+ \n+ \n+ \n+ \n+ \n+ \n+ \n+ \n+ \n+ \n",
-        b"REFUSED T1 1 SEGMENTS 17 16\n",
-    ),
-    // Each QUIET begins with the first region.
-    (
-        b"IN T1 1 ECHO A\nQUIET 3\nQUIET 100\nQUIET 1\n",
-        b"ACK T1 1\nTURNS SPENT 3\nQUIET 3\nQUIET 0\n",
-    ),
-];
-
+/// A checkpoint with an open unit makes five writes. Whichever of them fails, and whatever is left of it, the unit is taken back and its
+/// message is there. A sixth isn't made.
 #[test]
-fn blocks(rt: HostRuntime) -> Result<(), Fail> {
-    expect_each(&rt, rt.alloc(), &[SYSTEM, PROGRAMS], BLOCK_SESSIONS)
-}
-
-const LINE_SESSIONS: &[(&[u8], &[u8])] = &[
-    (b"HELP", b"BAD LINE 1\n"),
-    (b"POWER", b"BAD LINE 2\n"),
-    (b"POWER IN 0 1", b"BAD LINE 3\n"),
-    (b" TURN 1", b"BAD LINE 1\n"),
-    (b"TURN", b"BAD LINE 2\n"),
-    (b"TURN 1 ", b"BAD LINE 2\n"),
-    (b"TURN ", b"BAD LINE 3\n"),
-    (b"TURN 0", b"BAD LINE 3\n"),
-    (b"TURN 3", b"BAD LINE 3\n"),
-    (b"TURN 02", b"R2 IDLE\n"),
-    (b"TURN 00000000000000000001", b"R1 IDLE\n"),
-    (b"TURN 000000000000000000001", b"BAD LINE 3\n"),
-    (b"QUIET 0", b"BAD LINE 3\n"),
-    (b"QUIET 1000001", b"BAD LINE 3\n"),
-    (b"QUIET 1000000", b"QUIET 0\n"),
-    (b"RECV", b"BAD LINE 2\n"),
-    (b"RECV T1 ", b"BAD LINE 2\n"),
-    (b"RECV ", b"BAD LINE 4\n"),
-    (b"RECV t1", b"BAD LINE 4\n"),
-    (b"RECV T12345678", b"BAD LINE 4\n"),
-    (b"RECV T5", b"REFUSED T5 TERMINAL\n"),
-    (b"RECV T9", b"NONE T9\n"),
-    (b"ACK T1", b"BAD LINE 2\n"),
-    (b"ACK T1 1 ", b"BAD LINE 2\n"),
-    (b"ACK t1 0", b"BAD LINE 3\n"),
-    (b"ACK T1 1000000000000", b"BAD LINE 3\n"),
-    (b"ACK t1 1", b"BAD LINE 4\n"),
-    (b"ACK T5 1", b"REFUSED T5 1 TERMINAL\n"),
-    (b"ACK T1 999999999999", b"REFUSED T1 999999999999 FIRST 1\n"),
-    (b"IN T1 1 ", b"REFUSED T1 1 CODE -\n"),
-    (b"IN T1 1  ECHO A", b"REFUSED T1 1 CODE -\n"),
-    (b"IN T1 1 OTHERCODES B", b"REFUSED T1 1 CODE OTHERCOD\n"),
-    (b"IN T5 1 ECHO A", b"REFUSED T5 1 TERMINAL\n"),
-    (b"IN T1 001 ECHO", b"ACK T1 1\n"),
-];
-
-#[test]
-fn bad_lines_and_refusals(rt: HostRuntime) -> Result<(), Fail> {
-    expect_each(&rt, rt.alloc(), &[SYSTEM, PROGRAMS], LINE_SESSIONS)
+fn cut_checkpoints(rt: HostRuntime) -> Result<(), Fail> {
+    let alloc = rt.alloc();
+    for write in 1..6u8 {
+        for pick in 0..9u8 {
+            let (write, pick) = (b'0' + write % 10, b'0' + pick % 10);
+            let power = [
+                b'P', b'O', b'W', b'E', b'R', b' ', b'I', b'N', b' ', write, b' ', pick, b'\n',
+            ];
+            let armed = [b'A', b'R', b'M', b'E', b'D', b' ', write, b'\n'];
+            let lines = &[OPENED, HALF, &power, TAKEN_BACK];
+            let printed = &[OPENED_PRINTED, HALF_PRINTED, &armed, TAKEN_BACK_PRINTED];
+            expect(alloc, "a checkpoint is cut", lines, (0, printed))?;
+        }
+    }
+    let lines: &[&[u8]] = &[OPENED, HALF, b"POWER IN 6 0\n/CHECKPOINT\n"];
+    let printed: &[&[u8]] = &[OPENED_PRINTED, HALF_PRINTED, b"ARMED 6\nCHECKPOINT 2\n"];
+    expect(alloc, "a checkpoint of five writes", lines, (0, printed))
 }
 
 /// An input of so many segments of so many bytes each, the first beginning with a code.
@@ -145,170 +81,274 @@ fn long_input(
     Ok(lines)
 }
 
+/// A queue that is full to its last byte, a disk that is too small, one with another system's image, and a workload.
 #[test]
-fn room(rt: HostRuntime) -> Result<(), Fail> {
+fn rooms_and_sums(rt: HostRuntime) -> Result<(), Fail> {
     let alloc = rt.alloc();
-    let system = system_from(alloc, b"IMSCTRL QBYTES=131072,LOGS=256\n")?;
+    let behind = joined(alloc, BEHIND_QUEUES)?;
     let first = long_input(alloc, b"IN T1 1 ", 16, 1996)?;
     let second = long_input(alloc, b"IN T1 2 ", 16, 1996)?;
     let over = long_input(alloc, b"IN T1 3 ", 1, 1389)?;
     let fits = long_input(alloc, b"IN T1 3 ", 1, 1388)?;
-    let turns = b"TURN 1\nTURN 2\n";
+    let line: &[u8] = b"IMSCTRL QBYTES=131072,LOGS=256\n";
+    let turns: &[u8] = b"TURN 1\nTURN 2\n";
     let source = joined(
         alloc,
-        &[&system, PROGRAMS, &first, &second, &over, &fits, turns],
+        &[line, &behind, &first, &second, &over, &fits, turns],
+    )?;
+    let report = told(
+        alloc,
+        DRILL,
+        &source,
+        (&[], &[]),
+        disk_of(alloc, 1517, &[])?,
     )?;
     let printed =
         b"ACK T1 1\nACK T1 2\nREFUSED T1 3 QUEUE FULL 131073 131072\nACK T1 3\nR1 SCHEDULED ECHO 1\nR2 HELD 196608 131072\n";
-    expect(&rt, alloc, DRILL, &source, (&[], &[]), (0, printed))?;
+    compare("a full queue", &report, (0, printed))?;
 
-    // A segment that is too long is refused before the number is looked at, and behind the terminal.
-    let long = long_input(alloc, b"IN T1 7 ", 1, 1997)?;
-    let unknown = long_input(alloc, b"IN T5 7 ", 2, 1998)?;
-    let source = joined(alloc, &[SYSTEM, PROGRAMS, &long, &unknown])?;
-    let printed = b"REFUSED T1 7 LENGTH 1997 1996\nREFUSED T5 7 TERMINAL\n";
-    expect_source(&rt, alloc, &source, printed)
+    let system = joined(alloc, SYSTEM)?;
+    let report = told(
+        alloc,
+        DRILL,
+        &system,
+        (&[], &[]),
+        disk_of(alloc, 1000, &[])?,
+    )?;
+    let small: &[u8] = b"STATUS 6 SIZE 1517 1000\n";
+    compare("a small disk", &report, (6, small))?;
+
+    let begun = told(
+        alloc,
+        DRILL,
+        &system,
+        (&[], &[]),
+        disk_of(alloc, 1517, &[])?,
+    )?;
+    compare("an empty session", &begun, (0, b""))?;
+    let line: &[u8] = b"IMSCTRL QBYTES=1048577,LOGS=256\n";
+    let other = joined(alloc, &[line, &behind])?;
+    let report = told(alloc, DRILL, &other, (&[], &[]), begun.disk)?;
+    compare("another text", &report, (6, b"STATUS 6 TEXT 21\n"))?;
+
+    let words = &["workload", "7", "2000"];
+    let sum = told(alloc, words, b"", (&[1], &[]), disk_of(alloc, 16384, &[])?)?;
+    let front: &[u8] = b"WORKLOAD 7 2000\nACCEPTED 2101\nDONE 2101\nABENDED 0\nU0777 ";
+    if !sum.printed.starts_with(front) || !sum.printed.ends_with(b"\nSUM 00100000\n") {
+        return Err("a workload".into());
+    }
+    let again = told(alloc, words, b"", (&[1], &[]), disk_of(alloc, 16384, &[])?)?;
+    compare("a workload again", &again, (0, &sum.printed))
 }
 
+/// What is told of lives: none without a definition, one with an empty history without a line; and behind a cold start that broke off
+/// the three steps that were answered, whether the restart finds them or the empty machine.
 #[test]
 fn lives(rt: HostRuntime) -> Result<(), Fail> {
     let alloc = rt.alloc();
-    // No line leaves a life with an empty history; no definition leaves none.
-    for (source, lives) in [
-        (joined(alloc, &[SYSTEM, PROGRAMS])?, 1),
-        (Vec::new(alloc), 0),
-    ] {
-        let report = told(alloc, DRILL, &source, (&[], &[]), (4096, &[]))?;
-        assert_eq!(rt; report.lives.len(), lives);
-        for (history, kept) in &report.lives {
-            assert_eq!(rt; *history, 0);
-            assert_eq!(rt; *kept, 0);
-        }
+    let report = told(alloc, DRILL, b"", (&[], &[]), disk_of(alloc, 1517, &[])?)?;
+    assert!(rt; report.lives.is_empty());
+    let system = joined(alloc, SYSTEM)?;
+    let report = told(
+        alloc,
+        DRILL,
+        &system,
+        (&[], &[]),
+        disk_of(alloc, 1517, &[])?,
+    )?;
+    assert_eq!(rt; report.lives.len(), 1);
+    for (history, kept) in &report.lives {
+        assert_eq!(rt; *history, 0);
+        assert_eq!(rt; *kept, 0);
     }
-    Ok(())
-}
-
-#[test]
-fn words(rt: HostRuntime) -> Result<(), Fail> {
-    let table: [(&[&str], &[u8]); 12] = [
-        (&[], b"STATUS 1 WORD 1 RULE 2\n"),
-        (&["drll", "MEM", "9"], b"STATUS 1 WORD 1 RULE 1\n"),
-        (&["drill"], b"STATUS 1 WORD 2 RULE 2\n"),
-        (&["drill", "DISK", "9"], b"STATUS 1 WORD 2 RULE 1\n"),
-        (&["drill", "MEM"], b"STATUS 1 WORD 3 RULE 2\n"),
-        (&["drill", "MEM", "x", "9"], b"STATUS 1 WORD 3 RULE 4\n"),
-        (&["drill", "MEM", "0"], b"STATUS 1 WORD 3 RULE 4\n"),
-        (&["drill", "MEM", "65537"], b"STATUS 1 WORD 3 RULE 4\n"),
-        (&["drill", "MEM", "9", "9"], b"STATUS 1 WORD 4 RULE 3\n"),
-        (&["drill", "FILE"], b"STATUS 1 WORD 3 RULE 2\n"),
-        (&["drill", "FILE", "disk"], b"STATUS 1 WORD 4 RULE 2\n"),
-        (
-            &["drill", "FILE", "disk", "9", "9"],
-            b"STATUS 1 WORD 5 RULE 3\n",
-        ),
+    let there: &[u8] = b"LTERM T1 IN 1 OUT 1 KEPT 0 STARTED\n";
+    let empty: &[u8] = b"LTERM T1 IN 0 OUT 0 KEPT 0 STARTED\n";
+    let table: [(&[u8], &[u8]); 3] = [
+        (b"POWER IN 3 0\n", there),
+        (b"POWER IN 3 1\n", empty),
+        (b"POWER IN 4 0\n", empty),
     ];
-    for (words, printed) in &table {
-        expect(&rt, rt.alloc(), words, FIRST, (&[], &[]), (1, printed))?;
-    }
-    Ok(())
-}
-
-const FAULTY_DEFINITIONS: &[(&[u8], &[u8])] = &[
-    // END is missing one past the last line.
-    (b"", b"STATUS 2 LINE 1 RULE 13\n"),
-    (
-        b"IMSCTRL\nPROGRAM A\nEND\nENDPROG\n",
-        b"STATUS 2 LINE 5 RULE 13\n",
-    ),
-    // A fault within a program.
-    (
-        b"IMSCTRL\nPROGRAM A\nCALL GU 0 A\nGO L\nEND\nENDPROG\nEND\n",
-        b"STATUS 2 LINE 4 RULE 21\n",
-    ),
-    // Nothing is judged but the lines up to END.
-    (
-        b"IMSCTRL\nREGION CLASS=(1)\nEND\nNAME LTERM=T1\n",
-        b"STATUS 2 LINE 3 CROSS 17\n",
-    ),
-    // END ends the text, also where it breaks a rule; a line with a fault doesn't.
-    (
-        b"IMSCTRL\nNAME LTERM=t1\nEND X\nTURN 1\n",
-        b"STATUS 2 LINE 2 RULE 7\n",
-    ),
-    (b"IMSCTRL\nEND X\nTURN 1\n", b"STATUS 2 LINE 2 RULE 2\n"),
-    // A CR at the end of a last line without LF is a byte of the line.
-    (b"IMSCTRL\nEND\r", b"STATUS 2 LINE 2 RULE 1\n"),
-];
-
-#[test]
-fn definitions(rt: HostRuntime) -> Result<(), Fail> {
-    let alloc = rt.alloc();
-    for (source, printed) in FAULTY_DEFINITIONS {
-        expect(&rt, alloc, DRILL, source, (&[], &[]), (2, printed))?;
-    }
-    // A definition has 262,144 bytes at most: 8 of the first line, and 1,024 of each further one.
-    let mut long = b"IMSCTRL\n".to_vec(alloc)?;
-    for _ in 0..300u16 {
-        for _ in 0..1023u16 {
-            long.push(b'*')?;
-        }
-        long.push(b'\n')?;
-    }
-    let printed = b"STATUS 2 LINE 257 RULE 12\n";
-    expect(&rt, alloc, DRILL, &long, (&[], &[]), (2, printed))
-}
-
-#[test]
-fn faults(rt: HostRuntime) -> Result<(), Fail> {
-    let alloc = rt.alloc();
-    let source = joined(alloc, &[SYSTEM, PROGRAMS, FIRST])?;
-    // The first `take` fails, and then the second, which asks for the end.
-    let read = b"STATUS 4 READ\n";
-    expect(&rt, alloc, DRILL, &source, (&[1], &[]), (4, read))?;
-    let all = joined(alloc, &[FIRST_PRINTED, read])?;
-    expect(&rt, alloc, DRILL, &source, (&[2], &[]), (4, &all))?;
-    // An input that may still have `+` lines is not served where reading fails.
-    let open = joined(alloc, &[SYSTEM, PROGRAMS, b"IN T1 1 ECHO A\n+ B\n"])?;
-    expect(&rt, alloc, DRILL, &open, (&[2], &[]), (4, read))?;
-    // The k-th `put` fails: the lines before it were written.
-    for (k, end) in [
-        (1u64, 0usize),
-        (2, 9),
-        (3, 29),
-        (4, 40),
-        (5, 53),
-        (6, 68),
-        (7, 88),
-    ] {
-        let Some(before) = FIRST_PRINTED.get(..end) else {
-            return Err(Fail::from("the places are wrong"));
+    for (power, shown) in &table {
+        let before: &[u8] = b"IN T1 1 ECHO A\nQUIET 100\nRECV T1\nACK T1 1\n";
+        let behind: &[u8] =
+            b"/CHECKPOINT FREEZE\n/NRESTART CHECKPOINT 0\n/ERESTART\n/DISPLAY LTERM T1\n";
+        let source = joined(alloc, &[&system, before, power, behind])?;
+        let report = told(
+            alloc,
+            DRILL,
+            &source,
+            (&[], &[]),
+            disk_of(alloc, 1517, &[])?,
+        )?;
+        assert_eq!(rt; report.status, 0);
+        assert!(rt; report.printed.ends_with(shown));
+        let Some((_, kept)) = report.lives.first() else {
+            return Err("no life is told".into());
         };
-        expect(&rt, alloc, DRILL, &source, (&[], &[k]), (5, before))?;
+        assert_eq!(rt; *kept, 3);
+        assert_eq!(rt; report.stops, 1);
     }
     Ok(())
 }
 
+/// Whether a session ends so, over a disk of which this call fails, a read, a write or a sync.
+fn ends_at(alloc: Global, call: u64, wanted: (u8, &[u8])) -> Result<bool, Fail> {
+    let restarts = b"POWER 0\n/ERESTART\n/ERESTART\n";
+    let source = joined(alloc, &[SMALL, SHORT, restarts, SHORT, THERE])?;
+    let disk = disk_of(alloc, 455, &[call])?;
+    let report = told(alloc, DRILL, &source, (&[], &[]), disk)?;
+    Ok(report.status == wanted.0 && report.printed.as_slice() == wanted.1 && report.stops == 1)
+}
+
+/// Each call of the disk fails in turn: nothing that was acknowledged is lost, and what was not is as if it had not been sent. Behind the
+/// calls up to the second opening come those of that opening, until one fails in the session behind it, which ends while it is down.
 #[test]
-fn limits(rt: HostRuntime) -> Result<(), Fail> {
+fn failing_calls(rt: HostRuntime) -> Result<(), Fail> {
     let alloc = rt.alloc();
-    let mut long = Vec::new(alloc);
-    for _ in 0..4097u16 {
-        long.push(b'x')?;
+    let mut call = 0u64;
+    for (calls, front) in CALLS {
+        let wanted = joined(alloc, &[front, THERE_PRINTED])?;
+        for _ in 0..*calls {
+            call = call.saturating_add(1);
+            assert!(rt; ends_at(alloc, call, (0, &wanted))?);
+        }
     }
-    // A line that is too long, in a definition and in a session, where it leaves an input unserved.
-    let limit = b"STATUS 9 LIMIT 4097\n";
-    let source = joined(alloc, &[SYSTEM, &long])?;
-    expect(&rt, alloc, DRILL, &source, (&[], &[]), (9, limit))?;
-    let lines = b"TURN 1\nIN T1 1 ECHO A\n";
-    let source = joined(alloc, &[SYSTEM, PROGRAMS, lines, &long])?;
-    let printed = b"R1 IDLE\nSTATUS 9 LIMIT 4097\n";
-    expect(&rt, alloc, DRILL, &source, (&[], &[]), (9, printed))?;
-    // The lines of the definition count.
-    let definition = joined(alloc, &[SYSTEM, PROGRAMS])?;
-    let many = vec![in alloc; b'\n'; 999_972]?;
-    let source = joined(alloc, &[&definition, &many])?;
-    expect(&rt, alloc, DRILL, &source, (&[], &[]), (0, b""))?;
-    let source = joined(alloc, &[&definition, &many, b"\n"])?;
-    let printed = b"STATUS 9 LIMIT 1000001\n";
-    expect(&rt, alloc, DRILL, &source, (&[], &[]), (9, printed))
+    for call in 151..1000u64 {
+        if !ends_at(alloc, call, (0, RESTARTED))? {
+            // It has read all of both log areas, and written a snapshot and the restart sector.
+            assert!(rt; call > 151 + 128 + 2);
+            assert!(rt; ends_at(alloc, call, (3, STOPPED))?);
+            return Ok(());
+        }
+    }
+    Err("no session ends while it is down".into())
+}
+
+/// Whether three restarts behind a stop end so, over a disk of which these calls fail. An account was opened, and no checkpoint taken.
+fn restarts_so(alloc: Global, calls: &[u64], restarted: &[u8]) -> Result<bool, Fail> {
+    let lines =
+        b"IN T9 1 OPEN 0001 1000\nQUIET 100\nRECV T9\nACK T9 1\nPOWER 0\n/ERESTART\n/ERESTART\n/ERESTART\n";
+    let before = b"ACK T9 1\nQUIET 5\nOUT T9 1 OPENED 0001\nACKED T9 1\nPOWER\n";
+    let source = joined(alloc, &[SMALL, lines, THERE])?;
+    let wanted = joined(alloc, &[before, restarted, THERE_PRINTED])?;
+    let disk = disk_of(alloc, 455, calls)?;
+    let report = told(alloc, DRILL, &source, (&[], &[]), disk)?;
+    Ok(report.status == 0 && report.printed.as_slice() == wanted.as_slice())
+}
+
+/// A restart whose log names a slot writes and syncs the slot, the snapshot and the restart sector. Whichever of these six calls fails,
+/// and whichever of the next restart, what was acknowledged is there behind the third.
+#[test]
+fn failing_restarts(rt: HostRuntime) -> Result<(), Fail> {
+    let alloc = rt.alloc();
+    // The first opening makes 138 calls, and three steps make two each.
+    let mut end = 145u64;
+    while end < 1000 && restarts_so(alloc, &[end], b"STOPPED\nRESTARTED\nUP\n")? {
+        end = end.saturating_add(1);
+    }
+    assert!(rt; end > 145 + 128 + 6 && end < 1000);
+    for back in 1..7u64 {
+        let call = end.saturating_sub(back);
+        for again in 0..6u64 {
+            let second = call.saturating_add(end).saturating_sub(145 + again);
+            assert!(rt; restarts_so(alloc, &[call, second], b"STOPPED\nSTOPPED\nRESTARTED\n")?);
+        }
+    }
+    Ok(())
+}
+
+/// The first byte of a sector; 0 where there is none.
+fn first_byte(disk: &mut MemDisk, at: u32) -> u8 {
+    let mut sector = Sector::blank();
+    if at < disk.sectors() && disk.read(at, &mut sector).is_ok() {
+        sector.bytes().first().copied().unwrap_or(0)
+    } else {
+        0
+    }
+}
+
+/// No sync stands between the text and the snapshot of a first opening, and one stands between the snapshot and the restart sector: what
+/// is left of the text, of the snapshot and of the restart sector where this call fails.
+#[test]
+fn failing_openings(rt: HostRuntime) -> Result<(), Fail> {
+    let alloc = rt.alloc();
+    for (call, text, snapshot) in [
+        (135, 0, 0),
+        (136, 0, 0),
+        (137, b'I', b'I'),
+        (138u64, b'I', b'I'),
+    ] {
+        let disk = disk_of(alloc, 455, &[call])?;
+        let report = told(alloc, DRILL, SMALL, (&[], &[]), disk)?;
+        compare("an opening fails", &report, (3, b"STATUS 3 DOWN\n"))?;
+        let mut disk = report.disk;
+        assert_eq!(rt; first_byte(&mut disk, 0), 0);
+        assert_eq!(rt; first_byte(&mut disk, 1), text);
+        assert_eq!(rt; first_byte(&mut disk, 65), snapshot);
+    }
+    Ok(())
+}
+
+/// Sources and sinks that fail. Where an answer can't be written the program ends, and what it answered is there: sent again, all of it
+/// stands once.
+#[test]
+fn failing_sources_and_sinks(rt: HostRuntime) -> Result<(), Fail> {
+    let alloc = rt.alloc();
+    for (lines, call, printed) in READS {
+        let source = joined(alloc, &[SMALL, lines])?;
+        let report = told(
+            alloc,
+            DRILL,
+            &source,
+            (&[*call], &[]),
+            disk_of(alloc, 455, &[])?,
+        )?;
+        compare("a source that fails", &report, (4, printed))?;
+    }
+    let source = joined(alloc, &[SMALL, SHORT])?;
+    let again = joined(alloc, &[SMALL, SHORT, THERE])?;
+    let mut put = 1u64;
+    for (before, behind) in ANSWERS {
+        let report = told(
+            alloc,
+            DRILL,
+            &source,
+            (&[], &[put]),
+            disk_of(alloc, 455, &[])?,
+        )?;
+        compare("an answer that can't be written", &report, (5, before))?;
+        let wanted = joined(alloc, &[behind, THERE_PRINTED])?;
+        let report = told(alloc, DRILL, &again, (&[], &[]), report.disk)?;
+        compare("what is sent again", &report, (0, &wanted))?;
+        put = put.saturating_add(1);
+    }
+    for (put, end) in ENDS {
+        let source = joined(alloc, &[SMALL, TURNS])?;
+        let Some(before) = TURNS_PRINTED.get(..*end) else {
+            return Err("the places are wrong".into());
+        };
+        let report = told(
+            alloc,
+            DRILL,
+            &source,
+            (&[], &[*put]),
+            disk_of(alloc, 455, &[])?,
+        )?;
+        compare("a turn that can't be written", &report, (5, before))?;
+    }
+    // A workload whose session can't be run to its end, or whose summary can't be written. The first cause that is met counts.
+    let words = &["workload", "7", "1"];
+    let none: &[u8] = b"WORKLOAD 7 1\nACCEPTED 0\nDONE 0\nABENDED 0\nU0777 0\n";
+    let report = told(alloc, words, b"", (&[1], &[]), disk_of(alloc, 16384, &[1])?)?;
+    assert_eq!(rt; report.status, 3);
+    assert!(rt; report.printed.starts_with(none));
+    assert!(rt; report.printed.ends_with(b"\nSTATUS 3 DOWN\n"));
+    let report = told(alloc, words, b"", (&[1], &[]), disk_of(alloc, 1000, &[])?)?;
+    assert_eq!(rt; report.status, 6);
+    assert!(rt; report.printed.starts_with(none));
+    assert!(rt; report.printed.ends_with(b"\nSTATUS 6 SIZE 1775 1000\n"));
+    let report = told(alloc, words, b"", (&[1], &[1]), disk_of(alloc, 16384, &[])?)?;
+    compare("a workload that can't be told", &report, (5, b""))?;
+    let report = told(alloc, words, b"", (&[1], &[1]), disk_of(alloc, 1000, &[])?)?;
+    compare("a small disk that can't be told", &report, (6, b""))
 }

@@ -1,8 +1,12 @@
-//! The small types and functions that every crate of the transaction manager speaks of: names, keys,
-//! segments, messages and replies, segment search arguments, status codes, words and digits.
+//! The small types and functions that every crate of the transaction manager speaks of: names, keys, segments, messages
+//! and replies, segment search arguments, status codes, commands that last, words and digits.
 //!
-//! A value of such a type keeps its rule by itself: a text that breaks it is refused, with the place.
-//! The rules are the definitions in specs/, one file a type; each call answers what they say.
+//! A value of such a type keeps its rule by itself: a text that breaks it is refused, with the place. The rules are the
+//! definitions in specs/, one file a type.
+//!
+//! Proved: a name is read exactly where the bytes are one, and so is a key. A segment is made of a text, or refused
+//! with its length or the place of its first bad byte, in that order. A text is read as a command that lasts exactly
+//! where it spells that one (proofs/Commands).
 #![tactic(auto)]
 
 pub use abend::AbendCode;

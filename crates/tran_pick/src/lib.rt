@@ -1,7 +1,8 @@
 //! Scheduling: which message a region takes.
 //!
-//! `pick` answers what `specs/Pick.antt` of model_machine says of the states of the codes and of the
-//! messages that wait. `specs/Picked.antt` says the same in the words of the rule, and the answer is
+//! Proved: `pick` answers what specs/Pick of `model_machine` says of the states of the codes and of the messages that
+//! wait: the first class with an eligible code, in it the highest priority that counts, on a tie the lowest id; none
+//! exactly where no code is eligible. `specs/RegionPick` says the same in the words of the rule, and the answer is
 //! proved to be that too.
 #![tactic(auto)]
 

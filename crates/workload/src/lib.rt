@@ -1,13 +1,12 @@
-//! A workload: the text of a definition and of a session that moves money between accounts, made from a
-//! seed. The same seed and count give the same text.
+//! For the words `workload seed n`: the text of a definition and of a session that moves money between accounts, made
+//! from a seed, and what a session is summed up in.
 //!
-//! The text is the definition `workload_text` (specs/Workload.antt).
-//!
-//! What a session is summed up in: how many inputs were accepted, completed and abended, how often a region gave way, and the
-//! reply that was shown last.
-//!
-//! The counts are taken from the entries of the session's lives (specs/Counts.antt), and the reply from what was printed
-//! (specs/Shown.antt). The text is the definition `summary_text` (specs/Summary.antt).
+//! Proved: the text is the one that the definition gives for the seed and the count of transfers, in full
+//! (`workload_text` of specs/Workload): the definition (`definition`, `programs`), the inputs with what takes their
+//! replies (`session`), the draws in their order (`draws`). The counts are those of the entries of the session's lives
+//! (`counts`, specs/Counts): inputs accepted as new ones, completions, at the end of a script and at a further GU,
+//! abends, and regions that gave way, which are neither. The last reply is the one on the last line of the transcript
+//! that shows one (`shown`, specs/ShownReply). The text of a summary is the lines of these (`text`, specs/Summary).
 #![tactic(auto)]
 
 mod counts;

@@ -1,10 +1,9 @@
-use Rattle.std.proofs.Common.{◌≡◌, ℕ, ◌+◌, ◌-◌, ◌<◌, List, [], ◌∷◌, length, take, drop, get_or, sym, ◌∙◌, ap, arith}
-use Rattle.std.proofs.lemmas.List.{ext_get_or, take_rest}
+use Rattle.std.proofs.Common.{◌≡◌, ℕ, ◌+◌, ◌<◌, List, [], ◌∷◌, length, drop, get_or, sym, ◌∙◌, ap, arith}
+use Rattle.std.proofs.lemmas.List.{ext_get_or}
 use Rattle.tm_disk.specs.Disk.{sector_at}
 use Rattle.tm_disk.specs.Moments.{writes_to, picked, digits}
 use Rattle.tm_disk.specs.MomentLaws.{length-picked}
-use Rattle.tm_disk.specs.Numbered.{image_by}
-use Rattle.tm_disk.specs.declared.record.Written.{Written}
+use Rattle.tm_disk.specs.NumberedSectors.{image_by}
 use Rattle.tm_disk.proofs.Numbers.{length_image_by, sector_at-image_by}
 use Rattle.tm_disk.proofs.Picks.{picked-digits, length-digits}
 use Rattle.tm_disk.proofs.images.choose.Goals as goal
@@ -14,13 +13,12 @@ make_chosen-requires-clause-same_size c = ap (length {A = ℕ}) c.draw.ensures �
 
 pub returns-clause-picked : goal.returns-clause-picked
 returns-clause-picked c =
-    let writes = c.args.writes.now in
+    let writes = c.args.writes.now.items in
     let since = drop c.args.settled writes in
     let old = c.args.numbers.now.items in
     let new = c.make_chosen.new.numbers.items in
     let image = image_by writes old in
     let counts = c.count.new.counts.items in
-    let rest : take (length writes - c.args.settled) since ≡ since = take_rest writes c.args.settled in
     let size : length counts ≡ length image = c.count.ensures.size ∙ c.requires.same_size ∙ sym (length_image_by writes old) in
     let sizes : length (image_by writes new) ≡ length image = length_image_by writes new ∙ c.make_chosen.ensures.size ∙ sym (length_image_by writes old) in
     ext_get_or [] (image_by writes new) (picked c.args.pick 0 since image) (sizes ∙ sym (length-picked c.args.pick 0 since image))
@@ -35,7 +33,7 @@ returns-clause-picked c =
     ∙ ap (λ (l : List ℕ). get_or (sector_at image k ∷ writes_to k since) (get_or l k 0) (sector_at image k)) c.draw.ensures
     ∙ ap (λ j. get_or (sector_at image k ∷ writes_to j since) (get_or (digits c.args.pick counts) k 0) (sector_at image k)) (zero k)
     ∙ sym (picked-digits c.args.pick 0 k since image counts size
-    (λ x less. c.count.ensures.counts x (omega (arith, less, c.count.ensures.size)) ∙ ap (λ (l : List Written). length (writes_to x l)) rest ∙ ap (λ j. length (writes_to j since)) (zero x)) within))
+    (λ x less. c.count.ensures.counts x (omega (arith, less, c.count.ensures.size)) ∙ ap (λ j. length (writes_to j since)) (zero x)) within))
 
 pub returns-clause-counts : goal.returns-clause-counts
 returns-clause-counts c = c.make_chosen.ensures.left ∙ ap (length {A = ℕ}) c.draw.ensures ∙ length-digits c.args.pick c.count.new.counts.items ∙ c.count.ensures.size

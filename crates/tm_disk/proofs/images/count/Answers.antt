@@ -1,48 +1,31 @@
-use Rattle.std.proofs.Common.{◌≡◌, ℕ, ◌+◌, ◌<◌, List, [], ◌∷◌, ◌++◌, length, take, get_or, set, arith, sym, ◌∙◌, ap, subst, ⊎_elim}
-use Rattle.std.proofs.lemmas.Bool.{cases_eq}
-use Rattle.std.proofs.lemmas.List.{take_more, length-take, length-set, get_or-set_same, get_or-set_other, get_or_read}
-use Rattle.tm_disk.specs.Moments.{writes_to}
-use Rattle.tm_disk.specs.declared.record.Written.{Written}
-use Rattle.tm_disk.proofs.Picks.{count-more, count-other, count-within}
+use Rattle.std.proofs.Common.{◌≡◌, ℕ, ◌+◌, ◌<◌, List, length, drop, get_or, arith, sym, ◌∙◌, ap}
+use Rattle.std.proofs.lemmas.List.{length-set, length-drop, get_or-drop, get_or_read}
+use Rattle.tm_disk.specs.Record.{nothing_written}
+use Rattle.tm_disk.specs.Written.{Written}
+use Rattle.tm_disk.proofs.Picks.{counted, counted-few}
 use Rattle.tm_disk.proofs.images.count.Goals as goal
-
-in_range : (writes : List Written) (n i : ℕ) (write : Written) → ((k : ℕ) (d : Written) → k < length writes → (get_or writes k d).at < n) → i < length writes → write ≡ get_or writes i write → write.at < n
-in_range writes n i write all lt is = subst (λ (w : Written). w.at < n) (sym is) (all i write lt)
 
 pub overflow_add-index_mut : goal.overflow_add-index_mut
 overflow_add-index_mut c =
-    let write = c.write-item.result in
-    let i = c.loop-write.write-index in
-    let before = take i c.args.writes.now in
-    let lt : write.at < length c.args.counts.now.items = in_range c.args.writes.now (length c.args.counts.now.items) i write c.requires.in_range c.loop-write-test.true c.write-item.is in
-    let now : c.index_mut.result.now ≡ length (writes_to write.at before) =
-    get_or_read c.loop-write.counts.items write.at c.index_mut.result.now (omega (arith, lt, c.loop-write.invariant.size)) c.index_mut.ensures.value 0 ∙ c.loop-write.invariant.counts write.at lt in
-    omega (arith, count-within before write.at, length-take i c.args.writes.now)
+    let writes : List Written = c.args.writes.now.items in
+    let since : List Written = drop c.args.settled writes in
+    let i : ℕ = c.loop-index.index in
+    let is : c.at.result ≡ (get_or since i nothing_written).at = c.at.ensures ∙ ap (λ (w : Written). w.at) (sym (get_or-drop c.args.settled writes i nothing_written)) in
+    let lt : i < length since = omega (arith, c.loop-index-test.true, c.len.ensures, length-drop c.args.settled writes, c.requires.settled_in) in
+    let within : c.at.result < length c.args.counts.now.items = omega (arith, c.at.ensures, c.requires.in_range (c.args.settled + i) nothing_written (omega (arith, lt, length-drop c.args.settled writes))) in
+    let now : get_or c.loop-index.counts.items c.at.result 0 ≡ c.index_mut.result.now = sym (get_or_read c.loop-index.counts.items c.at.result c.index_mut.result.now (omega (arith, within, c.loop-index.invariant.size)) c.index_mut.ensures.value 0) in
+    omega (arith, counted-few c.loop-index.counts.items since i c.at.result (length c.args.counts.now.items) c.index_mut.result.now nothing_written lt is c.loop-index.invariant.size within now c.loop-index.invariant.counts, lt, c.requires.few, length-drop c.args.settled writes)
 
-pub loop-write-preserved : goal.loop-write-preserved
-loop-write-preserved c =
-    let write = c.write-item.result in
-    let i = c.loop-write.write-index in
-    let counts = c.loop-write.counts.items in
-    let before = take i c.args.writes.now in
-    let lt : write.at < length c.args.counts.now.items = in_range c.args.writes.now (length c.args.counts.now.items) i write c.requires.in_range c.loop-write-test.true c.write-item.is in
-    let now : c.index_mut.result.now ≡ length (writes_to write.at before) =
-    get_or_read c.loop-write.counts.items write.at c.index_mut.result.now (omega (arith, lt, c.loop-write.invariant.size)) c.index_mut.ensures.value 0 ∙ c.loop-write.invariant.counts write.at lt in
-    let more : take (i + 1) c.args.writes.now ≡ before ++ write ∷ [] =
-    take_more c.args.writes.now i write c.loop-write-test.true ∙ ap (λ (w : Written). before ++ w ∷ []) (sym c.write-item.is) in
+pub loop-index-preserved : goal.loop-index-preserved
+loop-index-preserved c =
+    let writes : List Written = c.args.writes.now.items in
+    let since : List Written = drop c.args.settled writes in
+    let i : ℕ = c.loop-index.index in
+    let is : c.at.result ≡ (get_or since i nothing_written).at = c.at.ensures ∙ ap (λ (w : Written). w.at) (sym (get_or-drop c.args.settled writes i nothing_written)) in
+    let lt : i < length since = omega (arith, c.loop-index-test.true, c.len.ensures, length-drop c.args.settled writes, c.requires.settled_in) in
+    let within : c.at.result < length c.args.counts.now.items = omega (arith, c.at.ensures, c.requires.in_range (c.args.settled + i) nothing_written (omega (arith, lt, length-drop c.args.settled writes))) in
+    let now : get_or c.loop-index.counts.items c.at.result 0 ≡ c.index_mut.result.now = sym (get_or_read c.loop-index.counts.items c.at.result c.index_mut.result.now (omega (arith, within, c.loop-index.invariant.size)) c.index_mut.ensures.value 0) in
     record {
-      size = length-set counts write.at (c.index_mut.result.now + 1) ∙ c.loop-write.invariant.size;
-      counts = λ k within.
-          subst (λ (l : List Written). get_or (set counts write.at (c.index_mut.result.now + 1)) k 0 ≡ length (writes_to k l)) (sym more)
-          (⊎_elim
-          (λ (e : write.at ≡ k).
-          ap (λ j. get_or (set counts write.at (c.index_mut.result.now + 1)) j 0) (sym e)
-          ∙ get_or-set_same counts write.at (c.index_mut.result.now + 1) 0 (omega (arith, lt, c.loop-write.invariant.size))
-          ∙ ap (λ n. n + 1) (now ∙ ap (λ j. length (writes_to j before)) e)
-          ∙ sym (count-more before write k e))
-          (λ ne.
-          get_or-set_other counts write.at k (c.index_mut.result.now + 1) 0 (λ e. ne (sym e))
-          ∙ c.loop-write.invariant.counts k within
-          ∙ sym (count-other before write k ne))
-          (cases_eq write.at k));
+      size = length-set c.loop-index.counts.items c.at.result (c.index_mut.result.now + 1) ∙ c.loop-index.invariant.size;
+      counts = counted c.loop-index.counts.items since i c.at.result (length c.args.counts.now.items) c.index_mut.result.now nothing_written lt is c.loop-index.invariant.size within now c.loop-index.invariant.counts;
     }

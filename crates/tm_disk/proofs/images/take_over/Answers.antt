@@ -5,5 +5,5 @@ use Rattle.tm_disk.proofs.images.take_over.Goals as goal
 
 pub returns : goal.returns
 returns c =
-    let none = drop_all c.loop-write.write-index c.args.writes.now (omega arith) in
-    ext_get_or 0 c.loop-write.numbers.items c.args.from.now (omega arith) (λ k lt. c.loop-write.invariant.others k (ap (λ l. writes_to k l) none))
+    let none = drop_all c.loop-place.place c.args.writes.now.items (omega arith) in
+    ext_get_or 0 c.loop-place.numbers.items c.args.from.now (omega arith) (λ k lt. c.loop-place.invariant.others k (ap (λ l. writes_to k l) none))
