@@ -199,6 +199,10 @@ def sent(unit, number, text, terminal=T1):
     return Reply(unit, terminal, number, [text])
 
 
+def message(id_, text=b"HI", unit=0, origin=T1, code=ECHO, number=0, flag=0):
+    return Message(unit, id_, origin, code, number, flag, [text])
+
+
 def input_of(number, terminal=T2):
     return Message(0, number + 4, terminal, ECHO, number, 0, [b"ECHO B"])
 
@@ -218,6 +222,7 @@ DOINGS = [
     ([[Message(0, 5, T1, TALK, 3, 1, [b"HELLO"])]], (6, 7, 3, 2, 1, PAD, [3, 4, 5])),
     ([[Acknowledged(T1, 1)]], (5, 7, 2, 2, 1, PAD, [3, 4])),
     ([[sent(9, 2, b"OK")], [Message(9, 5, T1, ECHO, 0, 0, [b"ECHO C"])], [Completed(9, 3)], [end(9)]], (6, 7, 2, 3, 1, PAD, [4, 5])),
+    ([[sent(9, 2, b"OK"), sent(9, 3, b"OK"), message(5, unit=9), message(6, unit=9)], [Completed(9, 3), end(9)]], (7, 7, 2, 4, 1, PAD, [4, 5, 6])),
     ([[Completed(9, 4)], [end(9)]], (5, 7, 2, 2, 1, PAD, [3])),
     ([[Completed(9, 4)], [end(9, 1, b"TALK    GHIJKL")]], (5, 7, 2, 2, 1, b"TALK    GHIJKL", [3])),
     ([[Completed(9, 4)], [end(9, 2)]], (5, 7, 2, 2, 1, None, [3])),
@@ -269,10 +274,6 @@ def hostile():
 
 def counts(**values):
     return {"counts": [COUNTS._replace(**values)]}
-
-
-def message(id_, text=b"HI", unit=0, origin=T1, code=ECHO, number=0, flag=0):
-    return Message(unit, id_, origin, code, number, flag, [text])
 
 
 def long_message(id_, number=0):
@@ -343,6 +344,7 @@ LOGS = [
     *((19, [Change(9, *at, b"", after)]) for at, after in (((1, 3), b""), ((3, 0), b""), ((1, 0), b"\2"), ((2, 0), ONE))),
     *((19, [Acknowledged(*at)]) for at in ((T1, 2), (T2, 1), (b"T3", 1))),
     (19, [sent(9, 3, b"OK"), end(9)]),
+    (19, [sent(9, 3, b"OK"), sent(9, 2, b"OK"), end(9)]),
     (19, [sent(9, 1, b"OK", b"T3")]),
     *((19, [Discarded(9, *at)]) for at in ((4, 100, 2), (3, 100, 3), (3, 100, 1))),
     (19, [Completed(9, 4), end(9)]),
@@ -386,7 +388,7 @@ RULES = {
     13: (SNAPSHOT_B, {"messages": [message(5)]}),
     14: (SNAPSHOT_B, {"messages": [message(4, origin=b"T3")]}),
     15: (SNAPSHOT_B, {"replies": [sent(0, 1, b"HI", b"T3")]}),
-    16: (SNAPSHOT_B, {"messages": [long_message(number) for number in (1, 2, 3, 4)]}),
+    16: (SNAPSHOT_B, {"messages": [long_message(number) for number in range(4)]}),
     17: (SNAPSHOT_B, {"changes": [Change(8, 1, 3, b"", b"")]}),
     18: (LOG_B, [UNKNOWN]),
     19: (LOG_B, [COUNTS]),
