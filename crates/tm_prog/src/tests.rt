@@ -12,6 +12,7 @@ use crate::worked_rows::{
 };
 use std::alloc::{AllocError, Global};
 use std::test::Fail;
+use tm_disk::{Disk, MemDisk, Sector};
 
 #[test]
 fn worked_rows(rt: HostRuntime) -> Result<(), Fail> {
@@ -203,6 +204,71 @@ fn failing_calls(rt: HostRuntime) -> Result<(), Fail> {
         }
     }
     Err("no session ends while it is down".into())
+}
+
+/// Whether three restarts behind a stop end so, over a disk of which these calls fail. An account was opened, and no checkpoint taken.
+fn restarts_so(alloc: Global, calls: &[u64], restarted: &[u8]) -> Result<bool, Fail> {
+    let lines =
+        b"IN T9 1 OPEN 0001 1000\nQUIET 100\nRECV T9\nACK T9 1\nPOWER 0\n/ERESTART\n/ERESTART\n/ERESTART\n";
+    let before = b"ACK T9 1\nQUIET 5\nOUT T9 1 OPENED 0001\nACKED T9 1\nPOWER\n";
+    let source = joined(alloc, &[SMALL, lines, THERE])?;
+    let wanted = joined(alloc, &[before, restarted, THERE_PRINTED])?;
+    let disk = disk_of(alloc, 455, calls)?;
+    let report = told(alloc, DRILL, &source, (&[], &[]), disk)?;
+    Ok(report.status == 0 && report.printed.as_slice() == wanted.as_slice())
+}
+
+/// A restart whose log names a slot writes and syncs the slot, the snapshot and the restart sector. Whichever of these six calls fails,
+/// and whichever of the next restart, what was acknowledged is there behind the third.
+#[test]
+fn failing_restarts(rt: HostRuntime) -> Result<(), Fail> {
+    let alloc = rt.alloc();
+    // The first opening makes 138 calls, and three steps make two each.
+    let mut end = 145u64;
+    while end < 1000 && restarts_so(alloc, &[end], b"STOPPED\nRESTARTED\nUP\n")? {
+        end = end.saturating_add(1);
+    }
+    assert!(rt; end > 145 + 128 + 6 && end < 1000);
+    for back in 1..7u64 {
+        let call = end.saturating_sub(back);
+        for again in 0..6u64 {
+            let second = call.saturating_add(end).saturating_sub(145 + again);
+            assert!(rt; restarts_so(alloc, &[call, second], b"STOPPED\nSTOPPED\nRESTARTED\n")?);
+        }
+    }
+    Ok(())
+}
+
+/// The first byte of a sector; 0 where there is none.
+fn first_byte(disk: &mut MemDisk, at: u32) -> u8 {
+    let mut sector = Sector::blank();
+    if at < disk.sectors() && disk.read(at, &mut sector).is_ok() {
+        sector.bytes().first().copied().unwrap_or(0)
+    } else {
+        0
+    }
+}
+
+/// No sync stands between the text and the snapshot of a first opening, and one stands between the snapshot and the restart sector: what
+/// is left of the text, of the snapshot and of the restart sector where this call fails.
+#[test]
+fn failing_openings(rt: HostRuntime) -> Result<(), Fail> {
+    let alloc = rt.alloc();
+    for (call, text, snapshot) in [
+        (135, 0, 0),
+        (136, 0, 0),
+        (137, b'I', b'I'),
+        (138u64, b'I', b'I'),
+    ] {
+        let disk = disk_of(alloc, 455, &[call])?;
+        let report = told(alloc, DRILL, SMALL, (&[], &[]), disk)?;
+        compare("an opening fails", &report, (3, b"STATUS 3 DOWN\n"))?;
+        let mut disk = report.disk;
+        assert_eq!(rt; first_byte(&mut disk, 0), 0);
+        assert_eq!(rt; first_byte(&mut disk, 1), text);
+        assert_eq!(rt; first_byte(&mut disk, 65), snapshot);
+    }
+    Ok(())
 }
 
 /// Sources and sinks that fail. Where an answer can't be written the program ends, and what it answered is there: sent again, all of it
