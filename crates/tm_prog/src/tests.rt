@@ -4,11 +4,11 @@ use crate::test_faults::{
     ANSWERS, CALLS, ENDS, READS, RESTARTED, SHORT, SMALL, STOPPED, THERE, THERE_PRINTED, TURNS,
     TURNS_PRINTED,
 };
-use crate::test_runs::{DRILL, compare, disk_of, expect, joined, told};
+use crate::test_runs::{DRILL, compare, disk_of, expect, joined, told, told_new};
 use crate::test_system::{BEHIND_QUEUES, SYSTEM};
 use crate::worked_rows::{
-    ACCOUNT_ROWS, HALF, HALF_PRINTED, OPENED, OPENED_PRINTED, ROWS, TAKEN_BACK, TAKEN_BACK_PRINTED,
-    WORDS,
+    ACCOUNT_ROWS, BROKEN_COLD, COLD_STARTS, HALF, HALF_PRINTED, ONE_ECHO, OPENED, OPENED_PRINTED,
+    ROWS, TAKEN_BACK, TAKEN_BACK_PRINTED, WORDS,
 };
 use std::alloc::{AllocError, Global};
 use std::test::Fail;
@@ -81,9 +81,9 @@ fn long_input(
     Ok(lines)
 }
 
-/// A queue that is full to its last byte, a disk that is too small, one with another system's image, and a workload.
+/// A queue that is full to its last byte, a disk that is too small, and one with another system's image.
 #[test]
-fn rooms_and_sums(rt: HostRuntime) -> Result<(), Fail> {
+fn rooms(rt: HostRuntime) -> Result<(), Fail> {
     let alloc = rt.alloc();
     let behind = joined(alloc, BEHIND_QUEUES)?;
     let first = long_input(alloc, b"IN T1 1 ", 16, 1996)?;
@@ -129,8 +129,14 @@ fn rooms_and_sums(rt: HostRuntime) -> Result<(), Fail> {
     let line: &[u8] = b"IMSCTRL QBYTES=1048577,LOGS=256\n";
     let other = joined(alloc, &[line, &behind])?;
     let report = told(alloc, DRILL, &other, (&[], &[]), begun.disk)?;
-    compare("another text", &report, (6, b"STATUS 6 TEXT 21\n"))?;
+    compare("another text", &report, (6, b"STATUS 6 TEXT 21\n"))
+}
 
+/// The same words give the same summary: each input is accepted and completed, and no money comes or goes. How often a region gives way isn't
+/// told beforehand.
+#[test]
+fn workloads(rt: HostRuntime) -> Result<(), Fail> {
+    let alloc = rt.alloc();
     let words = &["workload", "7", "2000"];
     let sum = told(alloc, words, b"", (&[1], &[]), disk_of(alloc, 16384, &[])?)?;
     let front: &[u8] = b"WORKLOAD 7 2000\nACCEPTED 2101\nDONE 2101\nABENDED 0\nU0777 ";
@@ -148,38 +154,14 @@ fn lives(rt: HostRuntime) -> Result<(), Fail> {
     let alloc = rt.alloc();
     let report = told(alloc, DRILL, b"", (&[], &[]), disk_of(alloc, 1517, &[])?)?;
     assert!(rt; report.lives.is_empty());
-    let system = joined(alloc, SYSTEM)?;
-    let report = told(
-        alloc,
-        DRILL,
-        &system,
-        (&[], &[]),
-        disk_of(alloc, 1517, &[])?,
-    )?;
+    let report = told_new(alloc, &[])?;
     assert_eq!(rt; report.lives.len(), 1);
     for (history, kept) in &report.lives {
         assert_eq!(rt; *history, 0);
         assert_eq!(rt; *kept, 0);
     }
-    let there: &[u8] = b"LTERM T1 IN 1 OUT 1 KEPT 0 STARTED\n";
-    let empty: &[u8] = b"LTERM T1 IN 0 OUT 0 KEPT 0 STARTED\n";
-    let table: [(&[u8], &[u8]); 3] = [
-        (b"POWER IN 3 0\n", there),
-        (b"POWER IN 3 1\n", empty),
-        (b"POWER IN 4 0\n", empty),
-    ];
-    for (power, shown) in &table {
-        let before: &[u8] = b"IN T1 1 ECHO A\nQUIET 100\nRECV T1\nACK T1 1\n";
-        let behind: &[u8] =
-            b"/CHECKPOINT FREEZE\n/NRESTART CHECKPOINT 0\n/ERESTART\n/DISPLAY LTERM T1\n";
-        let source = joined(alloc, &[&system, before, power, behind])?;
-        let report = told(
-            alloc,
-            DRILL,
-            &source,
-            (&[], &[]),
-            disk_of(alloc, 1517, &[])?,
-        )?;
+    for (power, shown) in COLD_STARTS {
+        let report = told_new(alloc, &[ONE_ECHO, power, BROKEN_COLD])?;
         assert_eq!(rt; report.status, 0);
         assert!(rt; report.printed.ends_with(shown));
         let Some((_, kept)) = report.lives.first() else {
