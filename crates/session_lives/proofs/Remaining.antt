@@ -3,7 +3,7 @@ use Rattle.std.proofs.Common.{◌≡◌, ℕ, Bool, true, false, List, [], ◌�
 use Rattle.std.proofs.lemmas.List.{append-nil, map-append}
 use Rattle.std.specs.Prelude.{Option, Some, None, Ok}
 use Rattle.std.specs.Option.{option_map, is_some}
-use Rattle.tm_disk.specs.Disk.{Image, DiskState}
+use Rattle.tm_disk.specs.Disk.{Image, DiskState, IsSameDisk}
 use Rattle.model_system.specs.System.{System}
 use Rattle.model_machine.specs.Machine.{start_of}
 use Rattle.model_machine.specs.History.{moment_after, control_moment}
@@ -40,6 +40,7 @@ module _ {D : Type 0} (state : D → DiskState) (system : System) (source : List
         lives_are = record { count = kept_steps idle.last; answered = sound.answered; are = all };
         legal = subst (λ l. AreLegal system l) (sym all) (legal_with system (map life_of kept.lives.items) (option_map last_life_of idle.last) (kept_steps idle.last) (kept_steps idle.last) sound.legal sound.answered);
         stops_are = over.stops_are;
+        same = subst (λ d. IsSameDisk (state handed) (state d)) (sym over.disk_is) sound.same;
         counted = subst (λ d. AreStops (state handed).faults stops (state d).faults) (sym over.disk_is)
             (subst (λ s. AreStops (state handed).faults s (state idle.disk).faults) (sym over.stops_are) sound.stops);
         images = λ image left. sound.images image (subst (λ d. (state d).may_leave image) over.disk_is left);
@@ -69,6 +70,7 @@ module _ {D : Type 0} (state : D → DiskState) (system : System) (source : List
         lives_are = record { count = over.life.kept; answered = answered; are = all };
         legal = subst (λ l. AreLegal system l) (sym all) (legal_with system (map life_of kept.lives.items) (Some (last_up control)) over.life.kept over.life.kept sound.legal answered);
         stops_are = over.stops_are;
+        same = subst (λ d. IsSameDisk (state handed) (state d)) (sym over.closes.disk_is) sound.same;
         counted = subst (λ d. AreStops (state handed).faults stops (state d).faults) (sym over.closes.disk_is)
             (subst (λ s. AreStops (state handed).faults s (state control.disk).faults) (sym over.stops_are)
             (stops_higher (state handed).faults control.began (state control.disk).faults kept.stops.items sound.stops sound.began));

@@ -1,7 +1,7 @@
 -- What a session has come to.
 use Rattle.std.specs.Prelude.{◌≡◌, ℕ, ◌<◌, ◌≤◌, ◌++◌, true, List, [], ◌∷◌, map, Option, Some, None}
 use Rattle.std.specs.Option.{is_some}
-use Rattle.tm_disk.specs.Disk.{Image, DiskState}
+use Rattle.tm_disk.specs.Disk.{Image, DiskState, IsSameDisk}
 use Rattle.model_system.specs.System.{System}
 use Rattle.model_session.specs.Lives.{AreLegal}
 use Rattle.model_session.specs.SessionState.{SessionState, Stop, AreAllLives, AreStops, last_life}
@@ -50,11 +50,13 @@ IsClosedAt state Moved kept disk lives stops = ⊥
 abbrev pub IsSessionClosed : {D : Type 0} → (D → DiskState) → Session D → D → List Life → List Stop → Type 0
 IsSessionClosed state session disk lives stops = IsClosedAt state session.place session.kept disk lives stops
 
--- What is left of a session that stood so at its end, and what was kept of it. Where a life has begun, the disk has sectors enough.
+-- What is left of a session that stood so at its end, and what was kept of it. The disk is the one that was handed in. Where a life
+-- has begun, it has sectors enough.
 pub record Remains {D : Type 0} (state : D → DiskState) (system : System) (source : List ℕ) (handed disk : D) (last : SessionState) (lives : List Life) (stops : List Stop) : Type 0 where
   pub lives_are : AreAllLives system last (map life_of lives)
   pub legal : AreLegal system (map life_of lives)
   pub stops_are : stops ≡ last.stops
+  pub same : IsSameDisk (state handed) (state disk)
   pub counted : AreStops (state handed).faults stops (state disk).faults
   pub images : (image : Image) → (state disk).may_leave image → HoldsSession state system source handed last.standing image
   pub enough : is_some (last_life last.standing) ≡ true → HasSectors system (state handed)

@@ -287,6 +287,7 @@ module _ {D : Type 0} (state : D → DiskState) (system : System) (source : List
     lives_are = rest.lives_are;
     legal = rest.legal;
     stops_are = rest.stops_are;
+    same = rest.same;
     counted = rest.counted;
     images = rest.images;
     by = by_is stopped ended last.standing driven.not_down is;

@@ -2,7 +2,7 @@
 use Rattle.std.specs.Prelude.{◌≡◌, ◌≢◌, ◌⊎◌, ℕ, ◌≤◌, true, Option, IfSome, Ok, Err, List, [], length, map, IsTrue}
 use Rattle.std.specs.Option.{is_some}
 use Rattle.std.specs.List.{AllByRecursion}
-use Rattle.tm_disk.specs.Disk.{Image, DiskState}
+use Rattle.tm_disk.specs.Disk.{Image, DiskState, IsSameDisk}
 use Rattle.model_system.specs.System.{System}
 use Rattle.system_types.specs.ValidSystem.{IsSystem}
 use Rattle.model_machine.specs.Machine.{LastingState}
@@ -59,7 +59,8 @@ AskNoColdStart system blocks = AllByRecursion (λ (block : Block). asked_of syst
 
 -- A session of the system over the disk that was handed in. It begins with an opening of the disk, which could be opened where
 -- a life began so. Once a life has begun the disk has sectors enough, and where no cold start was asked for, the first life began with
--- what the disk held, whatever openings had failed before. Blocks of lines were
+-- what the disk held, whatever openings had failed before. The disk that is handed back is the one that was handed in: its size, whether
+-- it tells its contents and whether it can be armed are the same, and its counts haven't fallen. Blocks of lines were
 -- served, each the source's next one, and what is printed for them, and nothing else, was written. They led through the lives
 -- and the stops that are told, and each image that a crash of the disk may leave as it is handed back recovers to what the
 -- session's standing allows: the state after a front of the last life's lasting steps that has all that were answered, and
@@ -87,6 +88,7 @@ pub record HasLived {D : Type 0} (state : D → DiskState) (system : System) (so
   pub lives_are : AreAllLives system last lives
   pub legal : AreLegal system lives
   pub stops_are : stops ≡ last.stops
+  pub same : IsSameDisk (state handed) (state disk)
   pub counted : AreStops (state handed).faults stops (state disk).faults
   pub images : (image : Image) → (state disk).may_leave image → HoldsSession state system source handed last.standing image
   pub by : IsBy ended last.standing
