@@ -1,7 +1,7 @@
 -- Openings, the ends of lives, and what serving a block comes to.
 use Rattle.std.specs.Prelude.{◌≡◌, ℕ, ◌+◌, ◌-◌, ◌<◌, ◌≤◌, max, ◌++◌, Bool, true, false, if◌then◌else◌, List, [], ◌∷◌, length, Option, Some, None, IsTrue, vec_len, vec_capacity}
 use Rattle.std.specs.Option.{is_some}
-use Rattle.tm_disk.specs.Disk.{DiskState, IsSameDisk, Within, NoMore, Only, IsCut}
+use Rattle.tm_disk.specs.Disk.{DiskState, IsSameDisk, Stays, FailedSince, Within, NoMore, Only, IsCut}
 use Rattle.model_system.specs.System.{System}
 use Rattle.model_session.specs.declared.asked.Asked.{Asked}
 use Rattle.model_session.specs.declared.asked.Asked.TheVariants.{Power as AskedPower, PowerIn, Restart, ColdStart}
@@ -24,6 +24,7 @@ use Rattle.openings.specs.declared.refusals.OpenError.TheVariants.{BadImage, Wro
 use Rattle.tm_control.specs.ControlOnDisk.{ControlOnDisk, Lasts}
 use Rattle.openings.specs.OpenedImage.{WroteNothing}
 use Rattle.tm_control.specs.ClosedControl.{OpensControl, Closes}
+use Rattle.tm_control.specs.ControlCalls.{StaysSo}
 use Rattle.openings.specs.LifeBeginning.{Refuses}
 use Rattle.openings.specs.LifeBeginning.{HandsBack}
 use Rattle.openings.specs.declared.life.Life.{Life}
@@ -42,7 +43,7 @@ use Rattle.session_lives.specs.declared.place.Kept.{Kept}
 use Rattle.session_lives.specs.declared.place.Session.{Session}
 use Rattle.session_law.specs.SpentCounters.{IsSpentAt}
 use Rattle.session_lives.specs.RunningSession.{IsDownReady, error_of}
-use Rattle.session_lives.specs.AskedControl.{LooksAtCounters}
+use Rattle.session_lives.specs.AskedControl.{AskedFails, Freezes, LooksAtCounters}
 
 -- ---- the end of a life
 
@@ -287,17 +288,62 @@ IsServedSo asked text Printed setting old new = IsBlockServed asked setting old 
 IsServedSo asked text Broke setting old new = IsBlockServed asked setting old new broken_text
 IsServedSo asked text (NotServed undone) setting old new = IsBegunBy asked setting.system old old.standing new × UndoneBy undone asked setting new
 
--- POWER leaves of the disk what its pick chooses.
-abbrev pub IsCutAt : {D : Type 0} → (D → DiskState) → ℕ → D → Place D → Type 0
-IsCutAt state pick disk (Up control) = ⊥
-IsCutAt state pick disk (Down idle) = IsCut pick (state disk) (state idle.disk)
-IsCutAt state pick disk Moved = ⊥
+-- ---- what the disk is cut with
 
-abbrev pub CutsAt : {D : Type 0} → (D → DiskState) → Block → Place D → Served → Place D → Type 0
-CutsAt state block (Up control) Printed new = (pick : ℕ) → asked_of control.control.system block ≡ AskedPower pick → IsCutAt state pick control.disk new
-CutsAt state block (Up control) _ new = Unit {0}
-CutsAt state block (Down idle) served new = Unit {0}
-CutsAt state block Moved served new = ⊥
+-- The disk failed in a call, and is cut as the call has left it.
+pub record IsCutBehind {D : Type 0} (state : D → DiskState) (asked : Asked) (pick : ℕ) (control : ControlOnDisk D) (idle : Idle D) : Type 0 where
+  pub behind : ControlOnDisk D
+  pub fails : AskedFails state asked control behind
+  pub stays : StaysSo state control behind
+  pub cut : IsCut pick (state behind.disk) (state idle.disk)
+
+-- A freeze was answered, and the disk is laid down as the call has left it.
+pub record IsLaidBehind {D : Type 0} (state : D → DiskState) (asked : Asked) (control : ControlOnDisk D) (idle : Idle D) : Type 0 where
+  pub behind : ControlOnDisk D
+  pub text : List ℕ
+  pub freezes : Freezes state asked control behind text
+  pub stays : StaysSo state control behind
+  pub same : idle.disk ≡ behind.disk
+
+-- a life ends without a fault by POWER, which leaves of the disk what its pick chooses of it as it stood; or by a freeze
+abbrev pub LeavesOff : {D : Type 0} → (D → DiskState) → Asked → ControlOnDisk D → Idle D → Type 0
+LeavesOff state (AskedPower pick) control idle = IsCut pick (state control.disk) (state idle.disk)
+LeavesOff state asked control idle = IsLaidBehind state asked control idle
+
+-- with POWER it doesn't go on
+abbrev pub MayGoOn : Asked → Type 0
+MayGoOn (AskedPower pick) = ⊥
+MayGoOn _ = Unit {0}
+
+-- What a block cuts the disk with while the system is up; this pick was kept for a stop.
+abbrev pub CutsUp : {D : Type 0} → (D → DiskState) → Asked → ℕ → ControlOnDisk D → Served → Place D → Type 0
+CutsUp state asked picked control Printed (Up after) = MayGoOn asked
+CutsUp state asked picked control Printed (Down idle) = LeavesOff state asked control idle
+CutsUp state asked picked control Printed Moved = ⊥
+CutsUp state asked picked control Broke (Up after) = ⊥
+CutsUp state asked picked control Broke (Down idle) = IsCutBehind state asked picked control idle
+CutsUp state asked picked control Broke Moved = ⊥
+CutsUp state asked picked control (NotServed undone) new = Unit {0}
+
+-- The disk failed in an opening, and is cut as that has left it.
+pub record IsCutOpening {D : Type 0} (state : D → DiskState) (pick : ℕ) (idle after : Idle D) : Type 0 where
+  pub disk : D
+  pub stays : Stays (state idle.disk) (state disk)
+  pub failed : FailedSince (state idle.disk) (state disk)
+  pub cut : IsCut pick (state disk) (state after.disk)
+
+-- so it is while the system is down
+abbrev pub CutsDown : {D : Type 0} → (D → DiskState) → ℕ → Idle D → Served → Place D → Type 0
+CutsDown state picked idle Printed new = Unit {0}
+CutsDown state picked idle Broke (Up after) = ⊥
+CutsDown state picked idle Broke (Down after) = IsCutOpening state picked idle after
+CutsDown state picked idle Broke Moved = ⊥
+CutsDown state picked idle (NotServed undone) new = Unit {0}
+
+abbrev pub CutsAt : {D : Type 0} → (D → DiskState) → Block → Place D → ℕ → Served → Place D → Type 0
+CutsAt state block (Up control) picked served new = CutsUp state (asked_of control.control.system block) picked control served new
+CutsAt state block (Down idle) picked served new = CutsDown state picked idle served new
+CutsAt state block Moved picked served new = ⊥
 
 -- The pick that a stop is cut with, behind a block: that of the last POWER IN which armed the disk. A cut takes it.
 abbrev pub pick_up : Served → Asked → Bool → ℕ → ℕ

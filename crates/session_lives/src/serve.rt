@@ -5,7 +5,7 @@ ghost use Rattle.session_lives.specs.declared.called.Called.TheVariants.{Frozen}
 ghost use Rattle.session_lives.specs.ControlCounts.{KeepsPace};
 ghost use Rattle.session_lives.specs.AskedControl.{IsAsked, StaysBy, pick_by};
 ghost use Rattle.session_lives.specs.RunningSession.{IsSessionReady, IsPlaceDown, IsDownReady, Leads, session_down};
-ghost use Rattle.session_lives.specs.Openings.{IsServedSo, IsCallSettled, IsAloneAt, MayEnd, EndsLife, CutsAt, PicksAt, IsRestartedSo, IsOpeningTold, IsRefusalTold, asked_restart, pick_down};
+ghost use Rattle.session_lives.specs.Openings.{IsServedSo, IsCallSettled, IsAloneAt, MayEnd, EndsLife, CutsAt, CutsDown, PicksAt, IsRestartedSo, IsOpeningTold, IsRefusalTold, asked_restart, pick_down};
 
 use crate::asking::ask;
 use crate::called::{Called, Opening, Served, Undone};
@@ -33,7 +33,7 @@ pub fn serve_block<D: Disk>(
     ensures ready { IsSessionReady D.state session.new }
 
     // POWER cuts the disk with its pick, and a stop with that of the last POWER IN, or with 0.
-    ensures power { CutsAt D.state block.now session.old.place result session.new.place }
+    ensures power { CutsAt D.state block.now session.old.place session.old.kept.pick result session.new.place }
     ensures pick { PicksAt D.state block.now session.old.place result session.old.kept.pick session.new.kept.pick }
 {
     printed.clear();
@@ -128,6 +128,7 @@ fn serve_down<D: Disk>(
     requires empty { printed.old.text ≡ [] }
     ensures served { Leads D.state (λ setting old new. IsServedSo (asked_of setting.system block.now) printed.new.text result setting old new) session.old session.new }
     ensures ready { IsSessionReady D.state session.new }
+    ensures power { CutsAt D.state block.now session.old.place session.old.kept.pick result session.new.place }
     ensures pick { session.new.kept.pick ≡ pick_down result session.old.kept.pick }
 {
     let idle = take_down(&mut session.place);
@@ -151,6 +152,7 @@ fn serve_idle<D: Disk>(
     requires empty { printed.old.text ≡ [] }
     ensures served { Leads D.state (λ setting old new. IsServedSo (asked_of setting.system block.now) printed.new.text result.1 setting old new) (session_down idle kept) result.0 }
     ensures ready { IsSessionReady D.state result.0 }
+    ensures power { CutsDown D.state kept.pick idle result.1 result.0.place }
     ensures pick { result.0.kept.pick ≡ pick_down result.1 kept.pick }
 {
     let Ok(asked) = read_block(alloc, &idle.system, block) else {
@@ -172,6 +174,7 @@ fn serve_asked<D: Disk>(
     requires empty { printed.old.text ≡ [] }
     ensures served { Leads D.state (λ setting old new. IsServedSo asked.now printed.new.text result.1 setting old new) (session_down idle kept) result.0 }
     ensures ready { IsSessionReady D.state result.0 }
+    ensures power { CutsDown D.state kept.pick idle result.1 result.0.place }
     ensures pick { result.0.kept.pick ≡ pick_down result.1 kept.pick }
 {
     if printed.make_room(ANSWER_ROOM).is_err() {

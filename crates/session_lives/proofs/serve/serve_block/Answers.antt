@@ -32,9 +32,10 @@ settle-requires-clause-alone g c =
 
 pub returns-in-Up-clause-power : goal.returns-in-Up-clause-power
 returns-in-Up-clause-power g c =
-    subst (λ p. CutsAt g.D.Disk.state c.args.block.now p c.settle.result c.settle.new.session.place) (sym c.in-Up.is)
+    subst (λ p. CutsAt g.D.Disk.state c.args.block.now p c.args.session.now.kept.pick c.settle.result c.settle.new.session.place) (sym c.in-Up.is)
     (cuts_up g.D.Disk.state c.in-Up.control c.ask_block-called.new.control (record { lives = c.args.session.now.kept.lives; stops = c.args.session.now.kept.stops; pick = c.ask_block-called.new.picked })
-    c.settle.new.session c.ask_block-called.new.printed.text c.args.block.now c.ask_block-called.result c.settle.result c.ask_block-called.ensures.asked c.settle.ensures)
+    c.settle.new.session c.ask_block-called.new.printed.text (asked_of c.in-Up.control.control.system c.args.block.now) c.ask_block-called.result c.settle.result
+    (g.D.Disk.state c.in-Up.control.disk).can_arm c.args.session.now.kept.pick c.ask_block-called.ensures.asked c.ask_block-called.ensures.stays c.ask_block-called.ensures.picks c.settle.ensures)
 
 pub returns-in-Up-clause-pick : goal.returns-in-Up-clause-pick
 returns-in-Up-clause-pick g c =
@@ -42,9 +43,6 @@ returns-in-Up-clause-pick g c =
     (picks_up g.D.Disk.state c.in-Up.control c.ask_block-called.new.control (record { lives = c.args.session.now.kept.lives; stops = c.args.session.now.kept.stops; pick = c.ask_block-called.new.picked })
     c.settle.new.session c.ask_block-called.new.printed.text (asked_of c.in-Up.control.control.system c.args.block.now) c.ask_block-called.result c.settle.result
     (g.D.Disk.state c.in-Up.control.disk).can_arm c.args.session.now.kept.pick c.ask_block-called.ensures.asked c.ask_block-called.ensures.picks c.settle.ensures)
-
-pub returns-in-Down-clause-power : goal.returns-in-Down-clause-power
-returns-in-Down-clause-power g c = subst (λ p. CutsAt g.D.Disk.state c.args.block.now p c.serve_down.result c.serve_down.new.session.place) (sym c.in-Down.is) tt
 
 pub returns-in-Down-clause-pick : goal.returns-in-Down-clause-pick
 returns-in-Down-clause-pick g c =
